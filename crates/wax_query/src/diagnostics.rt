@@ -1,0 +1,50 @@
+//! Places in an expression, and the two ways in which a build gives nothing.
+
+ghost use Rattle.std.specs.Prelude.{◌≡◌};
+
+use std::alloc::AllocError;
+use thiserror::Error;
+
+/// A part of an expression: the first byte, and the number of bytes.
+pub type Span = (usize, usize);
+
+/// Memory was asked for and refused (refusal 10).
+#[derive(Clone, Copy, Debug, Error)]
+#[error("no memory")]
+pub struct NoMemory;
+
+impl From<AllocError> for NoMemory {
+    fn from(_: AllocError) -> Self {
+        NoMemory
+    }
+}
+
+/// Why a build gave nothing: it was refused for the stated reason, or memory was (refusal 10).
+#[derive(Debug, Drop, Error)]
+#[error_bound(E: std::fmt::Display)]
+pub enum Refusal<E> {
+    #[error("{0}")]
+    Refused(E),
+    #[error("no memory")]
+    Memory,
+}
+
+impl<E> From<AllocError> for Refusal<E> {
+    ghost use Rattle.wax_query.specs.declared.diagnostics.Refusal.TheVariants.{Memory};
+
+    ghost from_gives = { λ _ r. r ≡ Memory };
+
+    fn from(_: AllocError) -> Self {
+        Refusal::Memory
+    }
+}
+
+impl<E> From<NoMemory> for Refusal<E> {
+    ghost use Rattle.wax_query.specs.declared.diagnostics.Refusal.TheVariants.{Memory};
+
+    ghost from_gives = { λ _ r. r ≡ Memory };
+
+    fn from(_: NoMemory) -> Self {
+        Refusal::Memory
+    }
+}
