@@ -1,4 +1,4 @@
-use Rattle.std.specs.Prelude.{ℕ, Bool, true, false, List, [], ◌∷◌, Option}
+use Rattle.std.specs.Prelude.{◌≡◌, ℕ, Bool, true, false, List, [], ◌∷◌, Option}
 use Rattle.wax_token.specs.Syntax.{Leaf, Tree, leaf, alternation, concatenation, repetition, Trees, none, more}
 
 abbrev pub trees : {A : Type 0} → List (Tree A) → Trees A
@@ -21,6 +21,14 @@ members (leaf a l) = more (leaf a l) none
 members (alternation a ts) = more (alternation a ts) none
 members (concatenation a ts) = ts
 members (repetition a t low high) = more (repetition a t low high) none
+
+abbrev pub AreLeaves : {A : Type 0} → Trees A → Type 0
+AreLeaves none = Unit {0}
+AreLeaves (more t ts) = (is_leaf_tree t ≡ true) × AreLeaves ts
+
+-- a tree without branches but for the glob itself
+abbrev pub IsFlat : {A : Type 0} → Tree A → Type 0
+IsFlat t = AreLeaves (members t)
 
 abbrev pub annotation_of : {A : Type 0} → Tree A → A
 annotation_of (leaf a l) = a

@@ -9,6 +9,7 @@ use std::borrow::CowStr;
 use std::marker::Model;
 use wax_query::diagnostics::Span;
 
+mod members;
 mod made;
 
 pub use made::{new_branch, new_leaf};

@@ -1,0 +1,32 @@
+-- Which texts a program accepts.
+use Rattle.std.specs.Prelude.{◌≡◌, ◌≢◌, ℕ, zero, suc, ◌+◌, ◌-◌, true, ◌⊎◌, List, [], ◌∷◌, Some, slice_get}
+use Rattle.wax_match.specs.declared.encode.instruction.Test.{Test}
+use Rattle.wax_match.specs.declared.encode.instruction.Test.TheVariants.{Char, Folded, Class, NotSlash, Any, Never}
+use Rattle.wax_token.specs.Meaning.{SameFold, in_class}
+use Rattle.wax_match.specs.declared.encode.instruction.Instruction.{Instruction}
+use Rattle.wax_match.specs.declared.encode.instruction.Instruction.TheVariants.{Check, Fork, Jump, Back, Match}
+
+abbrev pub Passes : Test → ℕ → Type 0
+Passes (Char d) c = c ≡ d
+Passes (Folded d) c = SameFold d c
+Passes (Class k) c = in_class k.0 k.1 c ≡ true
+Passes NotSlash c = c ≢ 47
+Passes Any c = Unit {0}
+Passes Never c = ⊥
+
+-- one instruction at pc, where `Then` says what is accepted from a place on
+abbrev pub Moves : Instruction → (ℕ → List ℕ → Type 0) → ℕ → List ℕ → Type 0
+Moves (Check t) Then pc [] = ⊥
+Moves (Check t) Then pc (c ∷ s) = Passes t c × Then (pc + 1) s
+Moves (Fork n) Then pc s = Then (pc + 1) s ⊎ Then (pc + 1 + n) s
+Moves (Jump n) Then pc s = Then (pc + 1 + n) s
+Moves (Back n) Then pc s = Then (pc - n) s
+Moves Match Then pc s = s ≡ []
+
+-- from pc on the text is accepted in fewer than n instructions
+abbrev pub AcceptsIn : List Instruction → ℕ → ℕ → List ℕ → Type 0
+AcceptsIn code zero pc s = ⊥
+AcceptsIn code (suc n) pc s = (i : Instruction) × (slice_get code pc ≡ Some i) × Moves i (AcceptsIn code n) pc s
+
+abbrev pub Accepts : List Instruction → ℕ → List ℕ → Type 0
+Accepts code pc s = (n : ℕ) × AcceptsIn code n pc s
