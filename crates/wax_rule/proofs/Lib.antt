@@ -1,0 +1,6 @@
+pub mod Texts
+pub mod Runs
+pub mod Classes
+pub mod Leaves
+pub mod Places
+pub mod Tokens

@@ -1,3 +1,5 @@
 pub mod Accepted
 pub mod Rules
 pub mod FirstBreak
+pub mod Parser
+pub mod Reading

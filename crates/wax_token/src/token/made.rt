@@ -1,9 +1,22 @@
 //! How tokens are made.
-ghost use Rattle.std.specs.Prelude.{◌≡◌};
-ghost use Rattle.wax_token.specs.Syntax.{leaf};
+ghost use Rattle.std.specs.Prelude.{◌≡◌, false, []};
+ghost use Rattle.wax_token.specs.Syntax.{leaf, literal};
 ghost use Rattle.wax_token.specs.View.{leaf_of, branch_tree};
 
-use super::{BranchKind, LeafKind, Token, Topology};
+use super::{BranchKind, LeafKind, Literal, Token, Topology};
+use std::borrow::CowStr;
+
+impl<'t, A> Token<'t, A> {
+    /// The token of the empty expression: a literal without characters.
+    pub fn empty(annotation: A) -> Self
+        ensures { result ≡ leaf annotation (literal false []) }
+    {
+        new_leaf(
+            LeafKind::Literal(Literal::new(CowStr::Borrowed(""), false)),
+            annotation,
+        )
+    }
+}
 
 /// A leaf with its annotation.
 pub fn new_leaf<'t, A>(kind: LeafKind<'t>, annotation: A) -> Token<'t, A>
