@@ -4,3 +4,4 @@ pub mod Classes
 pub mod Leaves
 pub mod Places
 pub mod Tokens
+pub mod Breaks

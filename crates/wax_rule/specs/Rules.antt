@@ -1,5 +1,5 @@
 -- The breaks of the rules, in order.
-use Rattle.std.specs.Prelude.{ℕ, ◌+◌, ◌-◌, max, min, Bool, true, false, ◌&&◌, List, [], ◌∷◌, ◌++◌, if◌then◌else◌, Option, Some, None}
+use Rattle.std.specs.Prelude.{ℕ, ◌+◌, ◌-◌, max, min, Bool, true, false, ◌&&◌, List, [], ◌∷◌, ◌++◌, if◌then◌else◌, Option, Some, None, slice_get}
 use Rattle.wax_rule.specs.declared.rule.RuleErrorKind.{RuleErrorKind}
 use Rattle.wax_rule.specs.declared.rule.RuleErrorKind.TheVariants.{AdjacentBoundary}
 use Rattle.wax_token.specs.Syntax.{Leaf, literal, class, separator, one, zero_or_more, tree, Tree, leaf, alternation, concatenation, repetition, Trees, none, more}
@@ -31,17 +31,41 @@ is_boundary (alternation a ts) = false
 is_boundary (concatenation a ts) = false
 is_boundary (repetition a t low high) = false
 
-abbrev pub adjacent_boundary : Tree Span → Tree Span → List Break
-adjacent_boundary t u =
-    if is_boundary t && is_boundary u
-    then record { kind = AdjacentBoundary; span = span_union (annotation_of t) (annotation_of u); correlated = [] } ∷ []
-    else []
+-- the span of two tokens that are both boundaries
+abbrev pub adjacent_span : Tree Span → Tree Span → Option Span
+adjacent_span t u = if is_boundary t && is_boundary u then Some (span_union (annotation_of t) (annotation_of u)) else None
+
+abbrev pub adjacent_to : Tree Span → Option (Tree Span) → Option Span
+adjacent_to t None = None
+adjacent_to t (Some u) = adjacent_span t u
+
+abbrev pub adjacent_after : Option (Tree Span) → Option (Tree Span) → Option Span
+adjacent_after None o = None
+adjacent_after (Some t) o = adjacent_to t o
+
+-- the span of the token at the index and the next one
+abbrev pub adjacent_at : List (Tree Span) → ℕ → Option Span
+adjacent_at ts i = adjacent_after (slice_get ts i) (slice_get ts (i + 1))
+
+abbrev pub boundary_break : Option Span → List Break
+boundary_break None = []
+boundary_break (Some s) = record { kind = AdjacentBoundary; span = s; correlated = [] } ∷ []
+
+abbrev pub first_some : Option Span → Option Span → Option Span
+first_some None o = o
+first_some (Some s) o = Some s
 
 -- the neighbours of a concatenation that are both boundaries
 abbrev pub adjacent_boundaries : Trees Span → List Break
 adjacent_boundaries none = []
 adjacent_boundaries (more t none) = []
-adjacent_boundaries (more t (more u us)) = adjacent_boundary t u ++ adjacent_boundaries (more u us)
+adjacent_boundaries (more t (more u us)) = boundary_break (adjacent_span t u) ++ adjacent_boundaries (more u us)
+
+-- the span of the first of them
+abbrev pub first_adjacent : Trees Span → Option Span
+first_adjacent none = None
+first_adjacent (more t none) = None
+first_adjacent (more t (more u us)) = first_some (adjacent_span t u) (first_adjacent (more u us))
 
 -- two rows of levels, side by side
 abbrev pub beside : {A : Type 0} → List (List A) → List (List A) → List (List A)

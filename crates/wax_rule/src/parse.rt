@@ -1,5 +1,5 @@
 //! From an expression to its tokens.
-ghost use Rattle.std.specs.Prelude.{◌≡◌, ◌≤◌, ◌-◌, ◌∷◌, ◌++◌, [], IfOk, OnOk, chars};
+ghost use Rattle.std.specs.Prelude.{◌≡◌, ◌≤◌, ◌<◌, ◌+◌, ◌-◌, ◌^◌, ◌∷◌, ◌++◌, [], IfOk, OnOk, chars};
 ghost use Rattle.std.specs.Cow.{cow_str_bytes};
 ghost use Rattle.wax_query.specs.Outcome.{MatchBuild};
 ghost use Rattle.wax_token.specs.Syntax.{Tree, leaf};
@@ -115,6 +115,7 @@ fn push_leaf<'t>(
     kind: LeafKind<'t>,
     span: Span,
 ) -> Result<(), AllocError>
+    requires { span.0 + span.1 < 2 ^ 64 }
     ensures { OnOk result (tokens.new.items ≡ tokens.old.items ++ leaf span (leaf_of kind.entry) ∷ []) }
 {
     tokens.push(new_leaf(kind, ExpressionMetadata::new(span)))?;
@@ -125,7 +126,8 @@ fn push_leaf<'t>(
 fn span_of(expression: &str, from: &str, to: &str) -> Span
     requires from { utf8_len (chars from.now) ≤ utf8_len (chars expression.now) }
     requires to { utf8_len (chars to.now) ≤ utf8_len (chars from.now) }
-    ensures { result ≡ (utf8_len (chars expression.now) - utf8_len (chars from.now), utf8_len (chars from.now) - utf8_len (chars to.now)) }
+    ensures span { result ≡ (utf8_len (chars expression.now) - utf8_len (chars from.now), utf8_len (chars from.now) - utf8_len (chars to.now)) }
+    ensures fits { result.0 + result.1 < 2 ^ 64 }
 {
     (expression.len() - from.len(), from.len() - to.len())
 }

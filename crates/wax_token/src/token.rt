@@ -1,5 +1,5 @@
 //! The tokens of a glob.
-ghost use Rattle.std.specs.Prelude.{◌≡◌, ◌↔◌, ℕ, Bool, List, IsSome, IfSome, true, false, [], ◌∷◌};
+ghost use Rattle.std.specs.Prelude.{◌≡◌, ◌↔◌, ◌+◌, ◌^◌, ◌<◌, ℕ, Bool, List, IsSome, IfSome, true, false, [], ◌∷◌};
 ghost use Rattle.std.specs.Str.{chars};
 ghost use Rattle.std.specs.Cow.{cow_str_bytes};
 ghost use Rattle.wax_token.specs.Syntax.{leaf};
@@ -208,15 +208,21 @@ pub struct ExpressionMetadata {
 }
 
 impl Model for ExpressionMetadata {
+    ghost use Rattle.std.specs.Prelude.{ℕ, ◌+◌, ◌^◌, ◌<◌};
+
     ghost Value = { ℕ × ℕ };
 
     ghost view = { λ m. m.span };
+
+    ghost invariant = { λ m. m.span.0 + m.span.1 < 2 ^ 64 };
 
     ghost inverse = { λ s. record { span = s } };
 }
 
 impl ExpressionMetadata {
+    /// The metadata of a token with this span.
     pub fn new(span: Span) -> Self
+        requires { span.0 + span.1 < 2 ^ 64 }
         ensures { result ≡ span }
     {
         ExpressionMetadata { span }
@@ -224,7 +230,8 @@ impl ExpressionMetadata {
 
     /// The token's bytes, from its flags on.
     pub fn span(&self) -> Span
-        ensures { result ≡ self.now }
+        ensures span { result ≡ self.now }
+        ensures fits { self.now.0 + self.now.1 < 2 ^ 64 }
     {
         self.span
     }
