@@ -33,7 +33,7 @@ found_first f a j (t ∷ []) h =
 found_first f a j (t ∷ u ∷ us) h =
     let here : f a ≡ adjacent_span t u = (let e : a ≡ a + 0 = omega arith in ap f e) ∙ h 0 in
     let later : found (find_at is_some (j + 1) (map f (range_with_len (a + 1) (length (u ∷ us))))) ≡ first_adjacent (trees (u ∷ us)) =
-        found_first f (a + 1) (j + 1) (u ∷ us) (λ k. (let e : a + 1 + k ≡ a + suc k = omega arith in ap f e) ∙ h (suc k) ∙ adjacent_shift t (u ∷ us) k) in
+    found_first f (a + 1) (j + 1) (u ∷ us) (λ k. (let e : a + 1 + k ≡ a + suc k = omega arith in ap f e) ∙ h (suc k) ∙ adjacent_shift t (u ∷ us) k) in
     elim (adjacent_span t u) as (λ o. f a ≡ o → found (find_at is_some j (f a ∷ map f (range_with_len (a + 1) (length (u ∷ us))))) ≡ first_some o (first_adjacent (more u (trees us)))) [
       | None ↦ λ e. rw e later
       | Some s ↦ λ e. rw e refl

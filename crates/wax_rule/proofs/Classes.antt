@@ -81,9 +81,11 @@ GoodArchetype p (Some r) = (p ≡ archetype_text r.0 ++ r.1) × IsPlainArchetype
 
 range_sound : (c : ℕ) (s : List ℕ) (o : Option (ℕ × List ℕ)) → (c ≡ 92 → ⊥) → GoodCharacter s o → GoodArchetype (spelled class_escapable c ++ 45 ∷ s) (range_to c o)
 range_sound c s None h g = tt
-range_sound c s (Some r) h g =
-    (ap (λ z. spelled class_escapable c ++ 45 ∷ z) g.0
-    ∙ sym (append_assoc (spelled class_escapable c ++ codes "-") (spelled class_escapable r.0) r.1 ∙ append_assoc (spelled class_escapable c) (codes "-") (spelled class_escapable r.0 ++ r.1)), (h, g.1))
+range_sound c s (Some r) h g = (
+  ap (λ z. spelled class_escapable c ++ 45 ∷ z) g.0
+      ∙ sym (append_assoc (spelled class_escapable c ++ codes "-") (spelled class_escapable r.0) r.1 ∙ append_assoc (spelled class_escapable c) (codes "-") (spelled class_escapable r.0 ++ r.1)),
+  (h, g.1),
+)
 
 of_sound : (c : ℕ) (s : List ℕ) → (c ≡ 92 → ⊥) → GoodArchetype (spelled class_escapable c ++ s) (archetype_of c s)
 of_sound c [] h = (refl, h)

@@ -331,7 +331,6 @@ leaf_complete first (tree true) p q h =
 leaf_complete first (tree false) p q h =
     ap (λ b. read_leaf b p) h.0 ∙ ap (first_leaf p) (stars_complete p q h.1)
 
-
 -- ---- a leaf takes some characters
 abbrev pub Takes : List ℕ → List ℕ → Type 0
 Takes p q = (x : List ℕ) × (p ≡ x ++ q) × (0 < length x)

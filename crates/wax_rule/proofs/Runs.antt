@@ -106,12 +106,12 @@ stops : (q : List ℕ) → StopsPlain q → strip 92 q ≡ None → literal_step
 stops [] h e = refl
 stops (c ∷ s) h e = elim (92 == c) as (λ b. (if b then Some s else None) ≡ None → not (b || is_one_of (47 ∷ escapable) c) ≡ false →
     (if b then escaped_step escapable s else one_step c s (is_one_of (47 ∷ escapable) c)) ≡ None) [
-  | true ↦ λ g k. absurd (none_some s (sym g))
-  | false ↦ λ g k. elim (is_one_of (47 ∷ escapable) c) as (λ b. not b ≡ false → one_step c s b ≡ None) [
-    | true ↦ λ m. refl
-    | false ↦ λ m. absurd (true_false m)
-  ] k
-] e h
+      | true ↦ λ g k. absurd (none_some s (sym g))
+      | false ↦ λ g k. elim (is_one_of (47 ∷ escapable) c) as (λ b. not b ≡ false → one_step c s b ≡ None) [
+        | true ↦ λ m. refl
+        | false ↦ λ m. absurd (true_false m)
+      ] k
+    ] e h
 
 pub run_borrowed : (whole t q : List ℕ) → whole ≡ t ++ q → is_plain t ≡ true → StopsPlain q → strip 92 q ≡ None → literal_run whole ≡ (t, q)
 run_borrowed whole t q e f g h =
@@ -188,10 +188,12 @@ pub class_more : (whole : Option (List Archetype × List ℕ)) (xs : List Archet
     (m : ℕ) × (length q ≤ m) × (whole ≡ prefixed (xs ++ a ∷ []) (class_run m q))
 class_more whole xs n [] q a e f h w = absurd (let x : Archetype × List ℕ = (a, q) in none_some x f)
 class_more whole xs zero (c ∷ s) q a e f h w = absurd (omega (arith, h))
-class_more whole xs (suc n) (c ∷ s) q a e f h w =
-    (n, (let k : length q < length (c ∷ s) = subst (Shrinks (c ∷ s)) f (archetype_step_shrinks (c ∷ s)) in omega (arith, k, h)),
-    w ∙ ap (λ b. prefixed xs (class_choice s (go_on (class_run n) (archetype_step (c ∷ s))) b)) (not_closed c s e)
-    ∙ ap (λ o. prefixed xs (go_on (class_run n) o)) f ∙ prefixed_put xs a (class_run n q))
+class_more whole xs (suc n) (c ∷ s) q a e f h w = (
+  n,
+  (let k : length q < length (c ∷ s) = subst (Shrinks (c ∷ s)) f (archetype_step_shrinks (c ∷ s)) in omega (arith, k, h)),
+  w ∙ ap (λ b. prefixed xs (class_choice s (go_on (class_run n) (archetype_step (c ∷ s))) b)) (not_closed c s e)
+      ∙ ap (λ o. prefixed xs (go_on (class_run n) o)) f ∙ prefixed_put xs a (class_run n q),
+)
 
 pub class_stop : (whole : Option (List Archetype × List ℕ)) (xs : List Archetype) (n : ℕ) (p : List ℕ) → strip 93 p ≡ None →
     archetype_step p ≡ None → whole ≡ prefixed xs (class_run n p) → whole ≡ None

@@ -54,7 +54,7 @@ nothing_left size first c s none q e f h = cons_nil ((let z : c ∷ s ≡ q.rest
     cons_nil e = cc
 nothing_left size first c s (more (leaf a l) vs) q e f h =
     let k : (read_leaf first (c ∷ s) ≡ Some (l, h.0.0.rest)) × (h.0.0.insensitive ≡ false) =
-        leaf_read first l (start (c ∷ s)) h.0.0 refl (subst (λ z. ReadsLeaf NoFlags whole first l z h.0.0) (sym h.0.1.1) h.0.1.2) in
+    leaf_read first l (start (c ∷ s)) h.0.0 refl (subst (λ z. ReadsLeaf NoFlags whole first l z h.0.0) (sym h.0.1.1) h.0.1.2) in
     let r : Leaf × List ℕ = (l, h.0.0.rest) in none_some r (sym f ∙ k.0)
 nothing_left size first c s (more (alternation a ts) vs) q e f h = absurd (true_false (sym h.1.0))
 nothing_left size first c s (more (concatenation a ts) vs) q e f h = absurd (true_false (sym h.1.0))
@@ -62,8 +62,9 @@ nothing_left size first c s (more (repetition a t low high) vs) q e f h = absurd
 
 span_from : (size : ℕ) (s : Span) (p q : List ℕ) (m : Place) → m.rest ≡ q → IsSpan NoFlags size s (start p) m → s ≡ (size - utf8_len p, utf8_len p - utf8_len q)
 span_from size s p q m e h = λ i. (
-    (let u : s.0 ≡ size - utf8_len p = omega (arith, h.0) in u) i,
-    (let v : s.1 ≡ utf8_len p - utf8_len q = omega (arith, h.1, ap utf8_len e) in v) i)
+  (let u : s.0 ≡ size - utf8_len p = omega (arith, h.0) in u) i,
+  (let v : s.1 ≡ utf8_len p - utf8_len q = omega (arith, h.1, ap utf8_len e) in v) i,
+)
 
 -- where a leaf is read, it is the next one
 next_left : (size : ℕ) (first : Bool) (p r : List ℕ) (l : Leaf) (vs : Trees Span) (q : Place) → p ≢ [] → q.rest ≡ [] → read_leaf first p ≡ Some (l, r) → Left size first p vs q →
@@ -71,7 +72,7 @@ next_left : (size : ℕ) (first : Bool) (p r : List ℕ) (l : Leaf) (vs : Trees 
 next_left size first p r l none q some e f h = absurd (some ((let z : p ≡ q.rest = ap (λ z. z.rest) h.0 in z) ∙ e))
 next_left size first p r l (more (leaf a m) vs) q some e f h =
     let k : (read_leaf first p ≡ Some (m, h.0.0.rest)) × (h.0.0.insensitive ≡ false) =
-        leaf_read first m (start p) h.0.0 refl (subst (λ z. ReadsLeaf NoFlags whole first m z h.0.0) (sym h.0.1.1) h.0.1.2) in
+    leaf_read first m (start p) h.0.0 refl (subst (λ z. ReadsLeaf NoFlags whole first m z h.0.0) (sym h.0.1.1) h.0.1.2) in
     let x : Leaf × List ℕ = (m, h.0.0.rest) in let y : Leaf × List ℕ = (l, r) in
     let xy : x ≡ y = same_some x y (sym k.0 ∙ f) in
     let same : (m ≡ l) × (h.0.0.rest ≡ r) = (ap (λ z. z.0) xy, ap (λ z. z.1) xy) in
@@ -101,9 +102,12 @@ reading_complete : (e : List ℕ) (ts : List (Tree Span)) (p r : List ℕ) (l : 
 reading_complete e ts p r l some f g us q leaves h end =
     let t : Tree Span = leaf (utf8_len e - utf8_len p, utf8_len p - utf8_len r) l in
     let k : (vs : Trees Span) × (us ≡ onto ts vs) × ReadsTokens NoFlags (utf8_len e) vs whole (is_nil ts) (start p) q × AreLeaves vs = g.complete us q leaves h end in
-    let n : (ws : Trees Span) × (k.0 ≡ more t ws) × Left (utf8_len e) false r ws q = next_left (utf8_len e) (is_nil ts) p r l k.0 q some end f (k.2, k.3) in
-    (n.0, k.1 ∙ ap (onto ts) n.1 ∙ onto-more ts t n.0,
-    subst (λ b. ReadsTokens NoFlags (utf8_len e) n.0 whole b (start r) q) (sym (is_nil-push ts t)) n.2.0, n.2.1)
+    let n : (ws : Trees Span) × (k.0 ≡ more t ws) × Left (utf8_len e) false r ws q = next_left (utf8_len e) (is_nil ts) p r l k.0 q some end f (k.2, k.3) in (
+      n.0,
+      k.1 ∙ ap (onto ts) n.1 ∙ onto-more ts t n.0,
+      subst (λ b. ReadsTokens NoFlags (utf8_len e) n.0 whole b (start r) q) (sym (is_nil-push ts t)) n.2.0,
+      n.2.1,
+    )
 
 pub reading_step : (e : List ℕ) (ts : List (Tree Span)) (p r : List ℕ) (l : Leaf) → p ≢ [] → read_leaf (is_nil ts) p ≡ Some (l, r) → Reading e ts p →
     Reading e (ts ++ leaf (utf8_len e - utf8_len p, utf8_len p - utf8_len r) l ∷ []) r
@@ -147,7 +151,7 @@ reading_fails (d ∷ e) ts (c ∷ s) some f g (alternation a us) h = h.0.2
 reading_fails (d ∷ e) ts (c ∷ s) some f g (repetition a t low high) h = h.0.2
 reading_fails (d ∷ e) ts (c ∷ s) some f g (concatenation a us) h =
     let k : (vs : Trees Span) × (us ≡ onto ts vs) × ReadsTokens NoFlags (utf8_len (d ∷ e)) vs whole (is_nil ts) (start (c ∷ s)) h.0.1 × AreLeaves vs =
-        g.complete us h.0.1 h.1 h.0.2.1 h.0.2.3 in
+    g.complete us h.0.1 h.1 h.0.2.1 h.0.2.3 in
     nothing_left (utf8_len (d ∷ e)) (is_nil ts) c s k.0 h.0.1 h.0.2.3 f (k.2, k.3)
 
 -- where it stopped is a place

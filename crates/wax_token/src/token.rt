@@ -9,8 +9,8 @@ use std::borrow::CowStr;
 use std::marker::Model;
 use wax_query::diagnostics::Span;
 
-mod members;
 mod made;
+mod members;
 
 pub use made::{new_branch, new_leaf};
 

@@ -22,10 +22,7 @@ fn read_archetype(text: &str) -> Option<(Archetype, &str)>
 }
 
 /// The archetypes up to the closing bracket, and the text after it.
-fn read_archetypes(
-    alloc: Global,
-    text: &str,
-) -> Result<Option<(Vec<Archetype>, &str)>, AllocError>
+fn read_archetypes(alloc: Global, text: &str) -> Result<Option<(Vec<Archetype>, &str)>, AllocError>
     ensures { IfOk result (λ r. MatchOption r (class_run (length (chars text.now)) (chars text.now) ≡ None)
         (λ a. class_run (length (chars text.now)) (chars text.now) ≡ Some (a.0.items, chars a.1.now))) }
 {

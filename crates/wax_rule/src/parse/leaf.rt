@@ -31,10 +31,7 @@ fn is_before_wildcard(rest: &str) -> bool
 }
 
 /// `*` or `$`, after it, where neither follows.
-fn read_zero_or_more(
-    evaluation: Evaluation,
-    rest: &str,
-) -> Option<(LeafKind<'static>, &str)>
+fn read_zero_or_more(evaluation: Evaluation, rest: &str) -> Option<(LeafKind<'static>, &str)>
     ensures { MatchOption result (zero_or_more_leaf evaluation (chars rest.now) ≡ None)
         (λ l. zero_or_more_leaf evaluation (chars rest.now) ≡ Some (leaf_of l.0, chars l.1.now)) }
 {

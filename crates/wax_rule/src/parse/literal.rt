@@ -39,10 +39,7 @@ fn push_run<'t>(literal: &mut String, text: &'t str) -> Result<&'t str, AllocErr
 
 /// The longest run of a literal's characters without their escapes, borrowed where there are none,
 /// and the text after it.
-fn literal_text<'t>(
-    alloc: Global,
-    text: &'t str,
-) -> Result<(CowStr<'t>, &'t str), AllocError>
+fn literal_text<'t>(alloc: Global, text: &'t str) -> Result<(CowStr<'t>, &'t str), AllocError>
     ensures { IfOk result (λ r. literal_run (chars text.now) ≡ (chars (cow_str_bytes r.0), chars r.1.now)) }
 {
     let (plain, rest) = split_plain(text);

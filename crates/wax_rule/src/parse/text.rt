@@ -28,13 +28,7 @@ pub(super) fn after_tree(text: &str) -> Option<&str>
     let rest = strip(rest, '*')?;
     match split_first(rest) {
         None => Some(rest),
-        Some((c, after)) => {
-            if c == '/' {
-                Some(after)
-            } else {
-                None
-            }
-        }
+        Some((c, after)) => { if c == '/' { Some(after) } else { None } }
     }
 }
 

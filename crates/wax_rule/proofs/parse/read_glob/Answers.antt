@@ -8,10 +8,10 @@ pub returns-then-is_empty : goal.returns-then-is_empty
 returns-then-is_empty c =
     let span : c.new-annotation.result ≡ (0, utf8_len (chars c.args.expression.now)) = c.new-annotation.ensures ∙ (λ i. (0, bytes_len c.args.expression.now c.utf8.expression i)) in
     spells_empty (chars c.args.expression.now) c.empty.result c.new-annotation.result
-        (chars_if_empty c.args.expression.now c.args.expression.now c.is_empty.result refl c.is_empty.ensures c.if-is_empty.true) span c.empty.ensures
+    (chars_if_empty c.args.expression.now c.args.expression.now c.is_empty.result refl c.is_empty.ensures c.if-is_empty.true) span c.empty.ensures
 
 pub returns : goal.returns
 returns c =
     let span : c.new-annotation.result ≡ (0, utf8_len (chars c.args.expression.now)) = c.new-annotation.ensures ∙ (λ i. (0, bytes_len c.args.expression.now c.utf8.expression i)) in
     spells_done (chars c.args.expression.now) c.in_ok-tokens.tokens.items c.new_branch.result c.new-annotation.result
-        (chars_unless_empty c.args.expression.now c.args.expression.now c.is_empty.result c.utf8.expression refl c.is_empty.ensures c.if-is_empty.false) span c.new_branch.ensures c.in_ok-tokens.ensures
+    (chars_unless_empty c.args.expression.now c.args.expression.now c.is_empty.result c.utf8.expression refl c.is_empty.ensures c.if-is_empty.false) span c.new_branch.ensures c.in_ok-tokens.ensures

@@ -18,11 +18,12 @@ place_of-place-requires c = reading_within (chars c.args.expression.now) c.loop-
 pub returns-in_default : goal.returns-in_default
 returns-in_default c =
     let first : c.is_empty-in-loop-rest.result ≡ is_nil c.loop-rest.tokens.items = nil_asked c.loop-rest.tokens.items c.is_empty-in-loop-rest.result (c.is_empty-in-loop-rest.ensures ∙ ap (λ n. n == 0) (let e : vec_len c.loop-rest.tokens ≡ length c.loop-rest.tokens.items = search rules in e)) in
-    let read : read_leaf c.is_empty-in-loop-rest.result (chars c.loop-rest.rest.now) ≡ None = rw c.in_default.is at c.in_ok-kind.ensures in
-    (reading_fails (chars c.args.expression.now) c.loop-rest.tokens.items (chars c.loop-rest.rest.now)
-        (chars_unless_empty c.loop-rest.rest.now c.loop-rest.rest.now c.is_empty.result c.loop-rest.invariant.0 refl c.is_empty.ensures c.loop-rest-test.true)
-        (ap (λ b. read_leaf b (chars c.loop-rest.rest.now)) (sym first) ∙ read) c.loop-rest.invariant.1,
-    reading_place (chars c.args.expression.now) c.loop-rest.tokens.items (chars c.loop-rest.rest.now) c.place_of-place.result c.place_of-place.ensures c.loop-rest.invariant.1)
+    let read : read_leaf c.is_empty-in-loop-rest.result (chars c.loop-rest.rest.now) ≡ None = rw c.in_default.is at c.in_ok-kind.ensures in (
+      reading_fails (chars c.args.expression.now) c.loop-rest.tokens.items (chars c.loop-rest.rest.now)
+          (chars_unless_empty c.loop-rest.rest.now c.loop-rest.rest.now c.is_empty.result c.loop-rest.invariant.0 refl c.is_empty.ensures c.loop-rest-test.true)
+          (ap (λ b. read_leaf b (chars c.loop-rest.rest.now)) (sym first) ∙ read) c.loop-rest.invariant.1,
+      reading_place (chars c.args.expression.now) c.loop-rest.tokens.items (chars c.loop-rest.rest.now) c.place_of-place.result c.place_of-place.ensures c.loop-rest.invariant.1,
+    )
 
 pub span_of-requires-clause-from : goal.span_of-requires-clause-from
 span_of-requires-clause-from c = reading_within (chars c.args.expression.now) c.loop-rest.tokens.items (chars c.loop-rest.rest.now) c.loop-rest.invariant.1
@@ -38,11 +39,13 @@ loop-rest-smaller c =
 pub loop-rest-preserved : goal.loop-rest-preserved
 loop-rest-preserved c =
     let first : c.is_empty-in-loop-rest.result ≡ is_nil c.loop-rest.tokens.items = nil_asked c.loop-rest.tokens.items c.is_empty-in-loop-rest.result (c.is_empty-in-loop-rest.ensures ∙ ap (λ n. n == 0) (let e : vec_len c.loop-rest.tokens ≡ length c.loop-rest.tokens.items = search rules in e)) in
-    let read : read_leaf c.is_empty-in-loop-rest.result (chars c.loop-rest.rest.now) ≡ Some (leaf_of c.in-Some.kind, chars c.in-Some.next.now) = rw c.in-Some.is at c.in_ok-kind.ensures in
-    (search rules, reading_pushed (chars c.args.expression.now) c.loop-rest.tokens.items c.push_leaf.new.tokens.items (chars c.loop-rest.rest.now) (chars c.in-Some.next.now) (leaf_of c.in-Some.kind)
-        c.span_of.result c.in_ok-push_leaf.ensures c.span_of.ensures.span
-        (chars_unless_empty c.loop-rest.rest.now c.loop-rest.rest.now c.is_empty.result c.loop-rest.invariant.0 refl c.is_empty.ensures c.loop-rest-test.true)
-        (ap (λ b. read_leaf b (chars c.loop-rest.rest.now)) (sym first) ∙ read) c.loop-rest.invariant.1)
+    let read : read_leaf c.is_empty-in-loop-rest.result (chars c.loop-rest.rest.now) ≡ Some (leaf_of c.in-Some.kind, chars c.in-Some.next.now) = rw c.in-Some.is at c.in_ok-kind.ensures in (
+      search rules,
+      reading_pushed (chars c.args.expression.now) c.loop-rest.tokens.items c.push_leaf.new.tokens.items (chars c.loop-rest.rest.now) (chars c.in-Some.next.now) (leaf_of c.in-Some.kind)
+          c.span_of.result c.in_ok-push_leaf.ensures c.span_of.ensures.span
+          (chars_unless_empty c.loop-rest.rest.now c.loop-rest.rest.now c.is_empty.result c.loop-rest.invariant.0 refl c.is_empty.ensures c.loop-rest-test.true)
+          (ap (λ b. read_leaf b (chars c.loop-rest.rest.now)) (sym first) ∙ read) c.loop-rest.invariant.1,
+    )
 
 pub returns : goal.returns
 returns c = subst (Reading (chars c.args.expression.now) c.loop-rest.tokens.items) (chars_if_empty c.loop-rest.rest.now c.loop-rest.rest.now c.is_empty.result refl c.is_empty.ensures c.loop-rest-test.false) c.loop-rest.invariant.1
