@@ -1,0 +1,11 @@
+pub mod Bits
+pub mod Compiled
+pub mod Fragments
+pub mod Lengths
+pub mod Rounds
+pub mod Rows
+pub mod Sequences
+pub mod Sets
+pub mod Sizes
+pub mod Tails
+pub mod Whole

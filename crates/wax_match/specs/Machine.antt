@@ -6,6 +6,7 @@ use Rattle.wax_token.specs.Meaning.{SameFold, in_class}
 use Rattle.wax_match.specs.declared.encode.instruction.Instruction.{Instruction}
 use Rattle.wax_match.specs.declared.encode.instruction.Instruction.TheVariants.{Check, Fork, Jump, Back, Match}
 
+-- the character passes the test
 abbrev pub Passes : Test → ℕ → Type 0
 Passes (Char d) c = c ≡ d
 Passes (Folded d) c = SameFold d c
@@ -23,10 +24,11 @@ Moves (Jump n) Then pc s = Then (pc + 1 + n) s
 Moves (Back n) Then pc s = Then (pc - n) s
 Moves Match Then pc s = s ≡ []
 
--- from pc on the text is accepted in fewer than n instructions
+-- from pc on the text is accepted by reading at most n instructions
 abbrev pub AcceptsIn : List Instruction → ℕ → ℕ → List ℕ → Type 0
 AcceptsIn code zero pc s = ⊥
 AcceptsIn code (suc n) pc s = (i : Instruction) × (slice_get code pc ≡ Some i) × Moves i (AcceptsIn code n) pc s
 
+-- from pc on the text is accepted
 abbrev pub Accepts : List Instruction → ℕ → List ℕ → Type 0
 Accepts code pc s = (n : ℕ) × AcceptsIn code n pc s

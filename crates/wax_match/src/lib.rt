@@ -2,3 +2,5 @@
 #![tactic(auto)]
 
 pub mod encode;
+#[cfg(test)]
+mod tests;

@@ -17,13 +17,16 @@ pub enum Test {
     Class(Class),
     /// Any character but `/`.
     NotSlash,
+    /// Any character.
     Any,
+    /// No character.
     Never,
 }
 
 /// One instruction. A test goes on with the next one.
 #[derive(Drop)]
 pub enum Instruction {
+    /// Takes a character that passes the test.
     Check(Test),
     /// Goes on both with the next one and past as many more.
     Fork(usize),
@@ -36,6 +39,7 @@ pub enum Instruction {
 }
 
 impl Test {
+    /// Whether the character passes. A class is searched from its first archetype on.
     pub fn passes(&self, c: char) -> bool
         ensures { IsTrue result ↔ Passes self.now c }
     {
@@ -56,4 +60,3 @@ fn have_same_fold(c: char, d: char) -> bool
 {
     simple_fold(c) == simple_fold(d)
 }
-

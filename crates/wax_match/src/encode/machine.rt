@@ -1,6 +1,6 @@
 //! Programs and the meter without which none of their instructions can be read.
-ghost use Rattle.std.specs.Prelude.{◌≡◌, ◌≤◌, ℕ, length};
-ghost use Rattle.wax_match.specs.Meter.{most_ticks};
+ghost use Rattle.std.specs.Prelude.{◌≡◌, ◌^◌, ◌<◌, ◌≤◌, ℕ, Some, length, slice_get};
+ghost use Rattle.wax_match.specs.Meter.{Ticked, most_ticks};
 
 use crate::encode::instruction::Instruction;
 use std::marker::Model;
@@ -36,6 +36,12 @@ impl Meter {
     {
         self.ticks
     }
+
+    fn tick(&mut self)
+        ensures { Ticked self.old self.new }
+    {
+        self.ticks = self.ticks.saturating_add(1);
+    }
 }
 
 /// A compiled pattern: its instructions and its length, and nothing else.
@@ -66,5 +72,32 @@ impl Program {
         ensures { result ≡ self.now.1 }
     {
         self.len
+    }
+
+    /// The program of these instructions, of this length.
+    pub(super) fn new(instructions: Vec<Instruction>, len: usize) -> Program
+        requires { length instructions.items ≤ len }
+        ensures { result ≡ (instructions.items, len) }
+    {
+        Program { instructions, len }
+    }
+
+    /// How many instructions it has.
+    pub(super) fn size(&self) -> usize
+        ensures size { result ≡ length self.now.0 }
+        ensures few { length self.now.0 ≤ self.now.1 }
+    {
+        self.instructions.len()
+    }
+
+    /// Reads an instruction. There is no other way to read one.
+    pub(super) fn fetch(&self, at: usize, meter: &mut Meter) -> &Instruction
+        requires { at < length self.now.0 }
+        ensures instruction { slice_get self.now.0 at ≡ Some result.now }
+        ensures small { length self.now.0 < 2 ^ 64 }
+        ensures ticked { Ticked meter.old meter.new }
+    {
+        meter.tick();
+        &self.instructions[at]
     }
 }

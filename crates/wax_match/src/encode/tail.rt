@@ -1,0 +1,68 @@
+//! A program that is written from its end on, so that most offsets are known when they are written.
+ghost use Rattle.std.specs.Prelude.{◌≡◌, ◌+◌, ◌-◌, ◌<◌, [], ◌∷◌, List, OnOk, length, slice_set};
+
+use crate::encode::instruction::Instruction;
+use std::alloc::{AllocError, Global};
+use std::marker::Model;
+
+/// The instructions from a place to the program's end. Contracts see them in their order.
+#[derive(Drop)]
+pub struct Tail {
+    reversed: Vec<Instruction>,
+}
+
+impl Model for Tail {
+    ghost use Rattle.std.specs.Prelude.{List, reverse};
+    ghost use Rattle.wax_match.specs.declared.encode.instruction.Instruction.{Instruction};
+    ghost use Rattle.wax_match.specs.contracts.encode.instruction.Instruction as instruction;
+    ghost use Rattle.std.specs.Coded.{coded_list};
+
+    ghost Value = { List Instruction };
+
+    ghost coded = { coded_list instruction.the_row.coded };
+
+    ghost view = { λ t. reverse t.reversed.items };
+}
+
+impl Tail {
+    pub fn new(alloc: Global) -> Tail
+        ensures { result ≡ [] }
+    {
+        Tail {
+            reversed: Vec::new(alloc),
+        }
+    }
+
+    pub fn len(&self) -> usize
+        ensures { result ≡ length self.now }
+    {
+        self.reversed.len()
+    }
+
+    /// Writes the instruction before the others.
+    pub fn put(&mut self, instruction: Instruction) -> Result<(), AllocError>
+        ensures { OnOk result (self.new ≡ instruction ∷ self.old) }
+    {
+        self.reversed.push(instruction)?;
+        Ok(())
+    }
+
+    /// Writes the instruction over the one that stands after `by` others.
+    pub fn replace(&mut self, by: usize, instruction: Instruction)
+        requires { by < length self.old }
+        ensures { self.new ≡ slice_set self.old by instruction }
+    {
+        let at = self.reversed.len() - 1 - by;
+        self.reversed[at] = instruction;
+    }
+
+    /// The instructions in their order.
+    pub fn into_instructions(self) -> Vec<Instruction>
+        ensures { result.items ≡ self }
+    {
+        let Tail { reversed } = self;
+        let mut instructions = reversed;
+        instructions.reverse();
+        instructions
+    }
+}
