@@ -1,0 +1,25 @@
+//! The program `globs`.
+#![tactic(auto)]
+
+use std::process::ExitCode;
+use wax::Counted;
+
+mod run;
+#[cfg(test)]
+mod tests;
+mod words;
+
+pub use run::run_globs;
+use words::words;
+
+fn main(rt: HostRuntime) -> ExitCode {
+    let alloc = rt.alloc();
+    let Ok(words) = words(&rt, alloc) else {
+        let _ = eprintln!(rt; "globs: no memory");
+        return ExitCode::FAILURE;
+    };
+    let mut input = Counted::new(rt.stdin());
+    let mut output = Counted::new(rt.stdout());
+    let status = run_globs(alloc, &words, &mut input, &mut output, &mut rt.stderr());
+    ExitCode::from(status)
+}

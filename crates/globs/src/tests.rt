@@ -1,0 +1,92 @@
+use crate::{run_globs, words};
+use std::alloc::{AllocError, Global};
+use std::env::FillError;
+use std::rt::Env;
+use std::test::*;
+use wax::Counted;
+
+const USAGE: &[u8] = b"usage: globs match EXPR
+       globs captures EXPR
+       globs query EXPR
+       globs walk START EXPR [not EXPR].. [min N] [max N]
+";
+
+fn words_of(alloc: Global, texts: &[&str]) -> Result<Vec<Option<String>>, AllocError> {
+    let mut words = Vec::new(alloc);
+    for text in texts {
+        words.push(Some(String::from_str(alloc, *text)?))?;
+    }
+    Ok(words)
+}
+
+#[test]
+fn wrong_words_give_the_usage_text(rt: HostRuntime) -> Result<(), Fail> {
+    let cases: [&[&str]; 6] = [
+        &[],
+        &["match"],
+        &["match", "a", "b"],
+        &["captures", "a"],
+        &["Match", "a"],
+        &["", ""],
+    ];
+    for texts in cases {
+        let words = words_of(rt.alloc(), texts)?;
+        let mut input = Counted::new(b"a\n".as_slice());
+        let mut output = Counted::new(Vec::new(rt.alloc()));
+        let mut faults = Vec::new(rt.alloc());
+        let status = run_globs(rt.alloc(), &words, &mut input, &mut output, &mut faults);
+        assert_eq!(rt; status, 2);
+        assert_eq!(rt; input.calls(), 0);
+        assert_eq!(rt; output.calls(), 0);
+        assert_eq!(rt; faults.as_slice(), USAGE);
+    }
+    Ok(())
+}
+
+#[test]
+fn a_word_that_is_not_text_is_wrong(rt: HostRuntime) -> Result<(), Fail> {
+    let mut words = words_of(rt.alloc(), &["match"])?;
+    words.push(None)?;
+    let mut input = Counted::new(b"a\n".as_slice());
+    let mut output = Counted::new(Vec::new(rt.alloc()));
+    let mut faults = Vec::new(rt.alloc());
+    let status = run_globs(rt.alloc(), &words, &mut input, &mut output, &mut faults);
+    assert_eq!(rt; status, 2);
+    assert_eq!(rt; faults.as_slice(), USAGE);
+    Ok(())
+}
+
+// A program called with a long word and with one that isn't text.
+struct Called;
+
+impl Env for Called {
+    fn arg(&self, i: usize, buf: &mut [u8]) -> Result<usize, FillError> {
+        let words: [&[u8]; 4] = [b"globs", b"match", &[b'a'; 300], b"\xff"];
+        let Some(word) = words.get(i) else {
+            return Err(FillError::NotPresent);
+        };
+        if buf.len() < word.len() {
+            return Err(FillError::TooLong);
+        }
+        buf[..word.len()].copy_from_slice(word);
+        Ok(word.len())
+    }
+
+    fn var(&self, _name: &str, _buf: &mut [u8]) -> Result<usize, FillError> {
+        Err(FillError::NotPresent)
+    }
+
+    fn var_at(&self, _i: usize, _buf: &mut [u8]) -> Result<usize, FillError> {
+        Err(FillError::NotPresent)
+    }
+}
+
+#[test]
+fn words_follow_the_name(rt: HostRuntime) -> Result<(), Fail> {
+    let words = words(&Called, rt.alloc())?;
+    assert_eq!(rt; words.len(), 3);
+    assert_eq!(rt; words[0].as_deref(), Some("match"));
+    assert_eq!(rt; words[1].as_deref().map(|word| word.len()), Some(300));
+    assert_eq!(rt; words[2].as_deref(), None);
+    Ok(())
+}

@@ -1,0 +1,5 @@
+pub mod Cuts
+pub mod Sifting
+pub mod Counting
+pub mod Runs
+pub mod Whole

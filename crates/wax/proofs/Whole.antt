@@ -1,0 +1,50 @@
+-- A glob's tokens mean and cost what its tree does.
+use Rattle.std.proofs.Common.{◌≡◌, ◌↔◌, ℕ, ◌+◌, Bool, false, List, [], ◌∷◌, refl, sym, ap, ◌∙◌, subst, add-zero}
+use Rattle.wax_match.specs.Machine.{Accepts}
+use Rattle.wax_match.specs.declared.encode.instruction.Instruction.{Instruction}
+use Rattle.wax_rule.specs.Accepted.{Spells}
+use Rattle.wax_token.specs.Cost.{cost, costs}
+use Rattle.wax_token.specs.Meaning.{Means, MeansEach}
+use Rattle.wax_token.specs.Reads.{Span}
+use Rattle.wax_token.specs.Syntax.{Tree, leaf, alternation, concatenation, repetition, literal, Trees}
+use Rattle.wax_token.specs.Words.{members}
+use Rattle.wax.specs.Build.{IsEmptyGlob}
+use Rattle.wax.specs.GlobView.{GlobView, IsCompiled}
+
+means_members : {A : Type 0} (t : Tree A) (before after : Bool) (s : List ℕ) → MeansEach (members t) before after s ↔ Means t before after s
+means_members (leaf a l) before after s = (λ h. h, λ h. h)
+means_members (alternation a ts) before after s = (λ h. h, λ h. h)
+means_members (concatenation a ts) before after s = (λ h. h, λ h. h)
+means_members (repetition a t low high) before after s = (λ h. h, λ h. h)
+
+costs_members : {A : Type 0} (t : Tree A) → costs (members t) ≡ cost t
+costs_members (leaf a l) = add-zero _
+costs_members (alternation a ts) = add-zero _
+costs_members (concatenation a ts) = refl
+costs_members (repetition a t low high) = add-zero _
+
+-- what was compiled from a tree's tokens
+pub is_compiled : (t : Tree Span) (ts : Trees Span) (program : List Instruction × ℕ) → ts ≡ members t
+    → ((s : List ℕ) → Accepts program.0 0 s ↔ MeansEach ts false false s) → program.1 ≡ costs ts + 1 → IsCompiled t program
+is_compiled t ts program same accepts len = record {
+  accepts = λ s.
+      let whole = subst (λ z. Accepts program.0 0 s ↔ MeansEach z false false s) same (accepts s) in
+      let parts = means_members t false false s in
+      (λ h. parts.0 (whole.0 h), λ h. whole.1 (parts.1 h));
+  len = len ∙ ap (λ z. costs z + 1) same ∙ ap (λ n. n + 1) (costs_members t);
+}
+
+-- an empty literal means the empty text
+abbrev nothing : Tree Span
+nothing = leaf (0, 0) (literal false [])
+
+means_nothing : (s : List ℕ) → Means nothing false false s ↔ (s ≡ [])
+means_nothing [] = (λ h. refl, λ e. tt)
+means_nothing (c ∷ s) = (λ h. absurd h, λ e. cc)
+
+pub is_empty_glob : (g : GlobView) → g.expression ≡ [] → Spells [] g.tree → IsEmptyGlob g
+is_empty_glob g e h = record {
+  expression = e;
+  tree = h.0;
+  means = λ s. subst (λ t. Means t false false s ↔ (s ≡ [])) (sym h.0) (means_nothing s);
+}

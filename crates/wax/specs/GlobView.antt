@@ -1,0 +1,29 @@
+-- What contracts see of a glob.
+use Rattle.std.specs.Prelude.{◌≡◌, ◌↔◌, ℕ, false, List, refl}
+use Rattle.std.specs.Coded.{Coded, code_by, coded×, coded_list, coded_ℕ}
+use Rattle.wax_match.specs.Machine.{Accepts}
+use Rattle.wax_match.specs.declared.encode.instruction.Instruction.{Instruction}
+use Rattle.wax_token.specs.Cost.{program_length}
+use Rattle.wax_token.specs.Meaning.{Means}
+use Rattle.wax_token.specs.Reads.{Span}
+use Rattle.wax_token.specs.Syntax.{Tree}
+use Rattle.wax_token.specs.TreeCode.{tree_code}
+
+-- the characters of the expression, and the tree that they spell
+pub record GlobView : Type 0 where
+  pub expression : List ℕ
+  pub tree : Tree Span
+
+-- it is stored as the pair of its fields
+abbrev pub glob_code : Coded GlobView
+glob_code = code_by (List ℕ × Tree Span) (coded× (coded_list coded_ℕ) (tree_code (coded× coded_ℕ coded_ℕ)))
+    (λ g. (g.expression, g.tree)) (λ p. record { expression = p.0; tree = p.1 }) (λ _. refl)
+
+-- The program accepts what the tree means with nothing around it, and has the length of the tree's cost.
+pub record IsCompiled (t : Tree Span) (program : List Instruction × ℕ) : Type 0 where
+  pub accepts : (text : List ℕ) → Accepts program.0 0 text ↔ Means t false false text
+  pub len : program.1 ≡ program_length t
+
+-- the glob means the text, with nothing around it
+abbrev pub IsMeant : GlobView → List ℕ → Type 0
+IsMeant g text = Means g.tree false false text

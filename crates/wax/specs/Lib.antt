@@ -1,0 +1,6 @@
+pub mod Build
+pub mod Counts
+pub mod GlobView
+pub mod Lines
+pub mod Progress
+pub mod Sifted

@@ -1,0 +1,100 @@
+//! A glob: an expression with its tokens and its program.
+ghost use Rattle.std.specs.Prelude.{◌≡◌, ◌≤◌, ◌↔◌, ◌+◌, ◌*◌, [], ℕ, List, IsTrue, IfOk, Some, chars, encode_utf8_all, length, false};
+ghost use Rattle.wax_token.specs.Cost.{program_length};
+ghost use Rattle.wax.specs.GlobView.{IsMeant};
+
+use crate::build_error::BuildError;
+use crate::candidate::CandidatePath;
+use crate::program::Program;
+use std::alloc::Global;
+use std::fmt;
+use std::marker::Model;
+use wax_match::encode;
+use wax_match::encode::Meter;
+use wax_query::diagnostics::NoMemory;
+use wax_rule::parse::parse;
+use wax_rule::rule::check;
+use wax_token::token::{ExpressionMetadata, Tokenized};
+
+/// A glob. Contracts see the characters of its expression and its tree.
+#[derive(Drop)]
+pub struct Glob<'t> {
+    tokenized: Tokenized<'t, ExpressionMetadata>,
+    program: encode::Program,
+}
+
+impl<'t> Model for Glob<'t> {
+    ghost use Rattle.std.specs.Str.{chars};
+    ghost use Rattle.std.specs.Cow.{cow_str_bytes};
+    ghost use Rattle.wax.specs.GlobView.{GlobView, glob_code, IsCompiled};
+
+    ghost Value = { GlobView };
+
+    ghost coded = { glob_code };
+
+    ghost view = { λ g. record { expression = chars (cow_str_bytes g.tokenized.expression); tree = g.tokenized.token } };
+
+    ghost invariant = { λ g. IsCompiled g.tokenized.token g.program };
+}
+
+impl<'t> Glob<'t> {
+    ghost use Rattle.wax.specs.Build.{MatchGlob, IsEmptyGlob};
+
+    /// The glob of an expression. Refused with 1 where the expression isn't one of the language, with
+    /// 2 to 8 where it breaks a rule, with 9 where its cost plus 1 is above 1,048,576, and with 10
+    /// where memory is.
+    pub fn new(alloc: Global, expression: &'t str) -> Result<Glob<'t>, BuildError>
+        ensures { MatchGlob (chars expression.now) result }
+    {
+        let tokenized = parse(alloc, expression)?;
+        let tokenized = check(tokenized)?;
+        let program = encode::compile(alloc, tokenized.token.concatenation(), false, false)?;
+        Ok(Glob { tokenized, program })
+    }
+
+    /// The expression that it was built from.
+    pub fn expression(&self) -> &str
+        ensures { chars result.now ≡ self.now.expression }
+    {
+        self.tokenized.expression.as_str()
+    }
+}
+
+impl Glob<'static> {
+    ghost use Rattle.wax.specs.Build.{IsEmptyGlob};
+
+    /// The glob of the empty expression, which means the empty text alone. Refused with 10 where
+    /// memory is.
+    pub fn empty(alloc: Global) -> Result<Glob<'static>, NoMemory>
+        ensures { IfOk result IsEmptyGlob }
+    {
+        match Glob::new(alloc, "") {
+            Ok(glob) => Ok(glob),
+            Err(_) => Err(NoMemory),
+        }
+    }
+}
+
+impl fmt::Display for Glob<'_> {
+    ghost output = { λ glob. Some (encode_utf8_all glob.expression) };
+
+    fn fmt<W: fmt::Write>(&self, f: &mut fmt::Formatter<W>) -> fmt::Result {
+        fmt::Display::fmt(self.expression(), f)
+    }
+}
+
+impl Program for Glob<'_> {
+    ghost means = { IsMeant };
+
+    ghost program_length = { λ glob. program_length glob.tree };
+
+    fn is_match_counted(
+        &self,
+        alloc: Global,
+        path: &CandidatePath<'_>,
+    ) -> Result<(bool, u128), NoMemory> {
+        let mut meter = Meter::new();
+        let answer = encode::run(alloc, &self.program, path.as_str(), &mut meter)?;
+        Ok((answer, meter.ticks()))
+    }
+}

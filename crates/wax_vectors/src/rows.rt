@@ -1,0 +1,110 @@
+//! Rows of answers: an expression, with a path or alone, and what the Rust crate answers.
+
+use std::alloc::{AllocError, Global};
+use std::fmt;
+use wax::rule::RuleErrorKind;
+use wax::{BuildError, CandidatePath, Glob, Program};
+
+/// How many rows have the same answer here, and how many another.
+#[derive(Drop)]
+pub struct Tally {
+    same: u64,
+    other: u64,
+}
+
+impl Tally {
+    pub fn new() -> Tally {
+        Tally { same: 0, other: 0 }
+    }
+
+    pub fn add(&mut self, is_same: bool) {
+        if is_same {
+            self.same = self.same.saturating_add(1);
+        } else {
+            self.other = self.other.saturating_add(1);
+        }
+    }
+}
+
+impl fmt::Display for Tally {
+    fn fmt<W: fmt::Write>(&self, f: &mut fmt::Formatter<W>) -> fmt::Result {
+        let same = self.same;
+        let other = self.other;
+        write!(f, "{same} the same, {other} other")
+    }
+}
+
+/// Whether the row that was made here is the row of the file.
+pub fn compare(row: &str, made: Result<String, AllocError>) -> bool {
+    match made {
+        Ok(made) => made.as_str() == row,
+        Err(_) => false,
+    }
+}
+
+/// The field of a row at the index; no text where there is none.
+fn field(row: &str, index: usize) -> &str {
+    row.split('\t').nth(index).unwrap_or("")
+}
+
+/// The number of a refusal.
+fn number(error: &BuildError) -> u8 {
+    match error {
+        BuildError::Parse(_) => 1,
+        BuildError::Rule(error) => match error.kind {
+            RuleErrorKind::AdjacentBoundary => 2,
+            RuleErrorKind::IncompatibleBounds => 3,
+            RuleErrorKind::SingularTree => 4,
+            RuleErrorKind::AdjacentZeroOrMore => 5,
+            RuleErrorKind::RootedSubGlob => 6,
+            RuleErrorKind::SingularZeroOrMore => 7,
+            RuleErrorKind::OversizedInvariant => 8,
+        },
+        BuildError::Compile(_) => 9,
+        BuildError::Memory => 10,
+    }
+}
+
+/// Why the expression is refused, if it is.
+fn refusal(alloc: Global, expression: &str) -> Option<BuildError> {
+    Glob::new(alloc, expression).err()
+}
+
+/// The expression, 0 or the number of its refusal, and the span of a broken rule.
+pub fn accept_row(alloc: Global, row: &str) -> Result<String, AllocError> {
+    let expression = field(row, 0);
+    match refusal(alloc, expression) {
+        None => format!(in alloc; "{expression}\t0\t-\t-"),
+        Some(error) => refused_row(alloc, expression, error),
+    }
+}
+
+/// The row of a refused expression.
+fn refused_row(alloc: Global, expression: &str, error: BuildError) -> Result<String, AllocError> {
+    let number = number(&error);
+    match error {
+        BuildError::Rule(broken) => {
+            let start = broken.span.0;
+            let len = broken.span.1;
+            format!(in alloc; "{expression}\t{number}\t{start}\t{len}")
+        }
+        _ => format!(in alloc; "{expression}\t{number}\t-\t-"),
+    }
+}
+
+/// Whether the glob means the path; `None` where it doesn't build or memory is refused.
+pub fn is_meant(alloc: Global, expression: &str, path: &str) -> Option<bool> {
+    let glob = Glob::new(alloc, expression).ok()?;
+    glob.is_match(alloc, &CandidatePath::from(path)).ok()
+}
+
+/// The expression, the path, and 1 where the one means the other, else 0.
+pub fn match_row(alloc: Global, row: &str) -> Result<String, AllocError> {
+    let expression = field(row, 0);
+    let path = field(row, 1);
+    match is_meant(alloc, expression, path) {
+        Some(true) => format!(in alloc; "{expression}\t{path}\t1"),
+        Some(false) => format!(in alloc; "{expression}\t{path}\t0"),
+        None => format!(in alloc; "{expression}\t{path}\t?"),
+    }
+}
