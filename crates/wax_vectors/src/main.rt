@@ -6,8 +6,7 @@ mod rows;
 mod worked;
 
 use rows::{Tally, accept_row, compare, match_row};
-use std::fs;
-use std::io;
+use std::{fs, io};
 
 fn main(rt: HostRuntime) -> io::Result<()> {
     let accept = fs::read_to_string(&rt, "accept.tsv")?;

@@ -19,7 +19,11 @@ mod tests {
             ("a\\*b", "a*b", true),
             ("a\\*b", "axb", false),
         ] {
-            assert_eq!(rt; is_meant(rt.alloc(), expression, path), Some(answer), "{expression} on {path}");
+            assert_eq!(rt;
+                is_meant(rt.alloc(), expression, path),
+                Some(answer),
+                "{expression} on {path}"
+            );
         }
     }
 
@@ -43,7 +47,11 @@ mod tests {
             ("a/**/b", "a", false),
             ("**", "", true),
         ] {
-            assert_eq!(rt; is_meant(rt.alloc(), expression, path), Some(answer), "{expression} on {path}");
+            assert_eq!(rt;
+                is_meant(rt.alloc(), expression, path),
+                Some(answer),
+                "{expression} on {path}"
+            );
         }
     }
 
@@ -67,7 +75,11 @@ mod tests {
             ("a?b", "a\nb", true),
             ("a[!x]b", "a\nb", true),
         ] {
-            assert_eq!(rt; is_meant(rt.alloc(), expression, path), Some(answer), "{expression} on {path}");
+            assert_eq!(rt;
+                is_meant(rt.alloc(), expression, path),
+                Some(answer),
+                "{expression} on {path}"
+            );
         }
     }
 
