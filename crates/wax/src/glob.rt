@@ -5,6 +5,7 @@ ghost use Rattle.wax.specs.GlobView.{IsMeant};
 
 use crate::build_error::BuildError;
 use crate::candidate::CandidatePath;
+use crate::endings::can_end;
 use crate::program::Program;
 use std::alloc::Global;
 use std::fmt;
@@ -93,6 +94,9 @@ impl Program for Glob<'_> {
         alloc: Global,
         path: &CandidatePath<'_>,
     ) -> Result<(bool, u128), NoMemory> {
+        if !can_end(self.tokenized.token.concatenation(), path.as_str()) {
+            return Ok((false, 0));
+        }
         let mut meter = Meter::new();
         let answer = encode::run(alloc, &self.program, path.as_str(), &mut meter)?;
         Ok((answer, meter.ticks()))

@@ -4,6 +4,7 @@
 mod build_error;
 mod candidate;
 mod counted;
+mod endings;
 mod glob;
 mod lines;
 mod program;
