@@ -1,14 +1,13 @@
 -- The breaks of a glob without branches.
-use Rattle.std.proofs.Common.{◌≡◌, ℕ, suc, zero, ◌+◌, Bool, true, false, List, [], ◌∷◌, ◌++◌, map, length, Option, Some, None, slice_get, refl, sym, ◌∙◌, ap, subst, arith, append-nil}
+use Rattle.std.proofs.Common.{◌≡◌, ℕ, suc, ◌+◌, true, false, List, [], ◌∷◌, ◌++◌, map, length, Option, Some, None, slice_get, refl, sym, ◌∙◌, ap, subst, arith, append-nil}
 use Rattle.std.specs.Option.{is_some}
 use Rattle.std.specs.List.{range_with_len}
 use Rattle.itertools.specs.Consumer.{find_at}
-use Rattle.wax_rule.specs.declared.rule.RuleError.{RuleError}
 use Rattle.wax_rule.specs.declared.rule.RuleErrorKind.TheVariants.{AdjacentBoundary}
 use Rattle.wax_token.specs.Syntax.{Tree, leaf, alternation, concatenation, repetition, Trees, none, more}
-use Rattle.wax_token.specs.Words.{trees, members, is_leaf_tree, AreLeaves, IsFlat}
+use Rattle.wax_token.specs.Words.{trees, members, AreLeaves, IsFlat}
 use Rattle.wax_token.specs.Reads.{Span}
-use Rattle.wax_rule.specs.Rules.{Break, adjacent_span, adjacent_after, adjacent_at, boundary_break, first_some, first_adjacent, adjacent_boundaries, beside, levels, all_levels, joined, breaks_in, boundary_breaks, broken}
+use Rattle.wax_rule.specs.Rules.{adjacent_span, adjacent_after, adjacent_at, boundary_break, first_some, first_adjacent, adjacent_boundaries, beside, all_levels, joined, breaks_in, boundary_breaks, broken}
 use Rattle.wax_rule.specs.FirstBreak.{IsFirst}
 use Rattle.wax_rule.proofs.Runs.{none_some}
 

@@ -1,12 +1,10 @@
 -- The classes that the parser reads are those that are spelled.
-use Rattle.std.proofs.Common.{◌≡◌, ◌≢◌, ℕ, zero, suc, ◌+◌, ◌<◌, ◌≤◌, Bool, true, false, ◌||◌, List, [], ◌∷◌, ◌++◌, length, Option, Some, None, if◌then◌else◌, ◌==◌, codes, refl, sym, ◌∙◌, ap, subst, arith, rules, length-append, append_assoc, eqb-true, inl, inr}
-use Rattle.std.specs.List.{list_any}
+use Rattle.std.proofs.Common.{◌≡◌, ℕ, zero, suc, ◌<◌, ◌≤◌, Bool, true, false, ◌||◌, List, [], ◌∷◌, ◌++◌, length, Option, Some, None, if◌then◌else◌, ◌==◌, codes, refl, sym, ◌∙◌, ap, subst, arith, length-append, append_assoc, eqb-true, inl, inr}
 use Rattle.std.proofs.lemmas.Bool.Decides.{eqb_tells}
 use Rattle.wax_token.specs.declared.token.Archetype.{Archetype}
 use Rattle.wax_token.specs.declared.token.Archetype.TheVariants.{Character, Range}
-use Rattle.wax_token.specs.Syntax.{Leaf, class}
 use Rattle.wax_token.specs.Reads.{is_one_of, starts_in, class_escapable, spelled, archetype_text, archetypes_text, IsPlainArchetype, AllPlain}
-use Rattle.wax_rule.specs.Parser.{strip, escaped_step, class_step, range_to, archetype_of, archetype_after, archetype_step, put_some, go_on, class_run, class_leaf, read_class}
+use Rattle.wax_rule.specs.Parser.{strip, escaped_step, class_step, range_to, archetype_of, archetype_after, archetype_step, put_some, go_on, class_run}
 use Rattle.wax_rule.proofs.Runs.{none_some, or_false}
 
 pub true_false : true ≡ false → ⊥

@@ -1,33 +1,21 @@
 -- The leaves that the parser reads are those that are spelled.
-use Rattle.std.proofs.Common.{◌≡◌, ◌≢◌, ℕ, zero, suc, ◌+◌, ◌-◌, ◌<◌, ◌≤◌, ◌⊎◌, ◌||◌, ◌&&◌, Bool, true, false, List, [], ◌∷◌, ◌++◌, length, Option, Some, None, if◌then◌else◌, ◌==◌, codes, refl, sym, ◌∙◌, ap, subst, inl, inr, arith, rules, length-append, append_assoc, append-nil, eqb-true}
+use Rattle.std.proofs.Common.{◌≡◌, ◌≢◌, ℕ, ◌<◌, ◌||◌, Bool, true, false, List, [], ◌∷◌, ◌++◌, length, Option, Some, None, if◌then◌else◌, ◌==◌, codes, refl, sym, ◌∙◌, ap, subst, inl, inr, arith, append_assoc, eqb-true}
 use Rattle.std.specs.List.{list_any}
 use Rattle.wax_token.specs.declared.token.Archetype.{Archetype}
 use Rattle.wax_token.specs.declared.token.Evaluation.{Evaluation}
 use Rattle.wax_token.specs.declared.token.Evaluation.TheVariants.{Eager, Lazy}
 use Rattle.wax_token.specs.Syntax.{Leaf, literal, class, separator, one, zero_or_more, tree}
-use Rattle.wax_token.specs.Reads.{is_one_of, starts_in, escapable, class_escapable, spelled, all_spelled, IsLiteralText, NoLiteralFollows, evaluation_text, archetypes_text, class_text, AllPlain}
-use Rattle.wax_rule.specs.Parser.{put, literal_run, literal_leaf, after_tree, boundary_leaf, zero_or_more_leaf, inner_leaf, first_leaf, read_leaf, class_run, class_leaf, read_class}
-use Rattle.wax_rule.proofs.Runs.{none_some, or_false, and_true}
+use Rattle.wax_token.specs.Reads.{is_one_of, starts_in, escapable, all_spelled, NoLiteralFollows, archetypes_text, class_text, AllPlain, Place, Past, whole, no_flags, NoWildcardFollows, TreeCloses, TreeFollows, ReadsLeaf}
+use Rattle.wax_rule.specs.Parser.{at, flags_end, with_flag, after_star, star_after, put, literal_run, literal_leaf, after_tree, boundary_leaf, zero_or_more_leaf, inner_leaf, first_leaf, read_leaf, class_run, class_leaf, read_class}
+use Rattle.wax_rule.proofs.Runs.{none_some, or_false}
 use Rattle.wax_rule.proofs.Classes.{true_false, outside, not_member, closing, class_run_complete, class_run_sound, GoodRun}
+use Rattle.wax_rule.proofs.Flags.{flags_text}
+use Rattle.wax_rule.proofs.Trees.{TreeFrom, TreeIf, tree_sound, tree_complete, follows_sound, follows_complete, no_wildcard_sound, no_wildcard_complete}
 
--- ---- leaves over lists of characters: from p to q
--- `**`, with the `/` after it or at the end
-abbrev pub Closes : List ℕ → List ℕ → Type 0
-Closes p q = (p ≡ codes "**/" ++ q) ⊎ ((p ≡ codes "**") × (q ≡ []))
-
-abbrev pub LeafFrom : Bool → Leaf → List ℕ → List ℕ → Type 0
-LeafFrom first (literal insensitive t) p q = (insensitive ≡ false) × IsLiteralText t × (p ≡ all_spelled escapable t ++ q) × NoLiteralFollows q
-LeafFrom first (class negated xs) p q =
-    (xs ≢ []) × AllPlain xs × (p ≡ class_text negated xs ++ q) × (negated ≡ false → starts_in (codes "!") (archetypes_text xs) ≡ false)
-LeafFrom first separator p q = (p ≡ codes "/" ++ q) × ((r : List ℕ) → Closes q r → ⊥)
-LeafFrom first one p q = p ≡ codes "?" ++ q
-LeafFrom first (zero_or_more evaluation) p q = (p ≡ evaluation_text evaluation ++ q) × (starts_in (codes "*$") q ≡ false)
-LeafFrom first (tree true) p q = (m : List ℕ) × (p ≡ codes "/" ++ m) × Closes m q
-LeafFrom first (tree false) p q = (first ≡ true) × Closes p q
-
-abbrev pub Good : Bool → List ℕ → Option (Leaf × List ℕ) → Type 0
+-- a leaf that is read is one of the grammar
+abbrev pub Good : Bool → Place → Option (Leaf × Place) → Type 0
 Good first p None = Unit {0}
-Good first p (Some r) = LeafFrom first r.0 p r.1
+Good first p (Some r) = ReadsLeaf whole first r.0 p r.1
 
 -- ---- the run of a literal
 abbrev as_spelled : ℕ → Bool → List ℕ
@@ -121,55 +109,21 @@ run_complete (c ∷ t) q clean stop =
       | false ↦ λ e. run_plain c (all_spelled escapable t ++ q) m (rw (k.0, e) refl) ∙ ap (put c) r
     ] refl
 
--- ---- `**` and what closes it
-stars_complete : (p q : List ℕ) → Closes p q → after_tree p ≡ Some q
-stars_complete p q (inl e) = ap after_tree e
-stars_complete p q (inr h) = ap after_tree h.0 ∙ ap (λ z. Some z) (sym h.1)
+-- ---- no `**`
+not_star : (b : Bool) (c : ℕ) (s : List ℕ) → (42 == c) ≡ false → after_tree (at b (c ∷ s)) ≡ None
+not_star b c s e = ap (λ z. star_after b (if z then Some s else None)) e
 
-abbrev StarsGood : List ℕ → Option (List ℕ) → Type 0
-StarsGood p None = Unit {0}
-StarsGood p (Some q) = Closes p q
-
-stars_sound : (p : List ℕ) → StarsGood p (after_tree p)
-stars_sound [] = tt
-stars_sound (a ∷ []) = tt
-stars_sound (a ∷ b ∷ []) =
-    elim (42 == a) as (λ z. (42 == a) ≡ z → StarsGood (a ∷ b ∷ []) (if z then (if 42 == b then Some [] else None) else None)) [
-      | true ↦ λ e. elim (42 == b) as (λ z. (42 == b) ≡ z → StarsGood (a ∷ b ∷ []) (if z then Some [] else None)) [
-        | true ↦ λ f. inr ((λ i. sym (eqb-true 42 a e) i ∷ sym (eqb-true 42 b f) i ∷ []), refl)
-        | false ↦ λ f. tt
-      ] refl
-      | false ↦ λ e. tt
-    ] refl
-stars_sound (a ∷ b ∷ c ∷ s) =
-    elim (42 == a) as (λ z. (42 == a) ≡ z → StarsGood (a ∷ b ∷ c ∷ s) (if z then (if 42 == b then (if 47 == c then Some s else None) else None) else None)) [
-      | true ↦ λ e. elim (42 == b) as (λ z. (42 == b) ≡ z → StarsGood (a ∷ b ∷ c ∷ s) (if z then (if 47 == c then Some s else None) else None)) [
-        | true ↦ λ f. elim (47 == c) as (λ z. (47 == c) ≡ z → StarsGood (a ∷ b ∷ c ∷ s) (if z then Some s else None)) [
-          | true ↦ λ g. inl (λ i. sym (eqb-true 42 a e) i ∷ sym (eqb-true 42 b f) i ∷ sym (eqb-true 47 c g) i ∷ s)
-          | false ↦ λ g. tt
-        ] refl
-        | false ↦ λ f. tt
-      ] refl
-      | false ↦ λ e. tt
-    ] refl
-
-not_star : (c : ℕ) (s : List ℕ) → (42 == c) ≡ false → after_tree (c ∷ s) ≡ None
-not_star c [] e = refl
-not_star c (b ∷ []) e = ap (λ z. if z then (if 42 == b then Some [] else None) else None) e
-not_star c (b ∷ d ∷ s) e = ap (λ z. if z then (if 42 == b then (if 47 == d then Some s else None) else None) else None) e
-
-one_star : (s : List ℕ) → starts_in (codes "*$") s ≡ false → after_tree (42 ∷ s) ≡ None
-one_star [] e = refl
-one_star (b ∷ []) e = ap (λ z. if z then Some [] else None) (or_false (42 == b) (is_one_of (36 ∷ []) b) e).0
-one_star (b ∷ d ∷ s) e = ap (λ z. if z then (if 47 == d then Some s else None) else None) (or_false (42 == b) (is_one_of (36 ∷ []) b) e).0
+one_star : (b : Bool) (s : List ℕ) → starts_in (codes "*$") s ≡ false → after_tree (at b (42 ∷ s)) ≡ None
+one_star b [] e = refl
+one_star b (c ∷ s) e = ap (λ z. after_star b (if z then Some s else None)) (or_false (42 == c) (is_one_of (36 ∷ []) c) e).0
 
 -- ---- a token that was read is one of the grammar
-good_literal : (first : Bool) (p t q : List ℕ) → Run p (t, q) → Good first p (literal_leaf (t, q))
-good_literal first p [] q h = tt
-good_literal first p (c ∷ t) q h =
-    elim (starts_in (92 ∷ []) q) as (λ b. starts_in (92 ∷ []) q ≡ b → Good first p (if b then None else Some (literal false (c ∷ t), q))) [
+good_literal : (first b : Bool) (p t q : List ℕ) → Run p (t, q) → Good first (at b p) (with_flag b (literal_leaf b (t, q)))
+good_literal first b p [] q h = tt
+good_literal first b p (c ∷ t) q h =
+    elim (starts_in (92 ∷ []) q) as (λ z. starts_in (92 ∷ []) q ≡ z → Good first (at b p) (with_flag b (if z then None else Some (literal b (c ∷ t), q)))) [
       | true ↦ λ e. tt
-      | false ↦ λ e. (refl, ((λ z. cons_nil c t z), h.1), h.0, stop q h.2 e)
+      | false ↦ λ e. (refl, ((λ z. cons_nil c t z), h.1), (h.0, refl), stop q h.2 e)
     ] refl
   where
     cons_nil : (c : ℕ) (t : List ℕ) → c ∷ t ≡ [] → ⊥
@@ -179,48 +133,48 @@ good_literal first p (c ∷ t) q h =
     stop [] h e = tt
     stop (d ∷ q) h e = let g : (92 == d) ≡ false = (or_false (92 == d) false e).0 in sym (ap (λ z. z || is_one_of (47 ∷ escapable) d) g) ∙ h
 
-good_slash : (first : Bool) (s : List ℕ) → Good first (47 ∷ s) (Some (boundary_leaf s (after_tree s)))
-good_slash first s = elim (after_tree s) as (λ o. after_tree s ≡ o → StarsGood s o → Good first (47 ∷ s) (Some (boundary_leaf s o))) [
-  | None ↦ λ e g. (refl, λ r f. none_some r (sym e ∙ stars_complete s r f))
-  | Some q ↦ λ e g. (s, refl, g)
-] refl (stars_sound s)
-  where
-    none_some : (r : List ℕ) → None ≡ Some r → ⊥
-    none_some r e = cc
+good_slash : (first b : Bool) (s : List ℕ) → Good first (at b (47 ∷ s)) (Some (boundary_leaf (at b s) (after_tree (flags_end (at b s)))))
+good_slash first b s = let p : Place = flags_end (at b s) in
+    elim (after_tree p) as (λ o. after_tree p ≡ o → TreeIf p o → Good first (at b (47 ∷ s)) (Some (boundary_leaf (at b s) o))) [
+      | None ↦ λ e g. ((refl, refl), λ r f. none_some r (sym e ∙ follows_complete (at b s) r f))
+      | Some q ↦ λ e g. (at b s, (refl, refl), follows_sound (at b s) q g)
+    ] refl (tree_sound p)
 
 -- a choice by one character
-by_char : (first : Bool) (k c : ℕ) (s : List ℕ) (x y : Option (Leaf × List ℕ)) → Good first (k ∷ s) x → Good first (c ∷ s) y →
-    Good first (c ∷ s) (if k == c then x else y)
-by_char first k c s x y f g = elim (k == c) as (λ b. (k == c) ≡ b → Good first (c ∷ s) (if b then x else y)) [
-  | true ↦ λ e. subst (λ z. Good first (z ∷ s) x) (eqb-true k c e) f
+by_char : (first b : Bool) (k c : ℕ) (s : List ℕ) (x y : Option (Leaf × Place)) → Good first (at b (k ∷ s)) x → Good first (at b (c ∷ s)) y →
+    Good first (at b (c ∷ s)) (if k == c then x else y)
+by_char first b k c s x y f g = elim (k == c) as (λ z. (k == c) ≡ z → Good first (at b (c ∷ s)) (if z then x else y)) [
+  | true ↦ λ e. subst (λ z. Good first (at b (z ∷ s)) x) (eqb-true k c e) f
   | false ↦ λ e. g
 ] refl
 
-good_star : (first : Bool) (s : List ℕ) → Good first (42 ∷ s) (if starts_in (codes "*$") s then None else Some (zero_or_more Eager, s))
-good_star first s = elim (starts_in (codes "*$") s) as (λ b. starts_in (codes "*$") s ≡ b → Good first (42 ∷ s) (if b then None else Some (zero_or_more Eager, s))) [
-  | true ↦ λ e. tt
-  | false ↦ λ e. (refl, e)
-] refl
+good_star : (first b : Bool) (s : List ℕ) → Good first (at b (42 ∷ s)) (zero_or_more_leaf Eager (at b s))
+good_star first b s = let p : Place = at b s in
+    elim (starts_in (codes "*$") (flags_end p).rest) as (λ z. starts_in (codes "*$") (flags_end p).rest ≡ z → Good first (at b (42 ∷ s)) (if z then None else Some (zero_or_more Eager, p))) [
+      | true ↦ λ e. tt
+      | false ↦ λ e. ((refl, refl), no_wildcard_sound p e)
+    ] refl
 
-good_dollar : (first : Bool) (s : List ℕ) → Good first (36 ∷ s) (if starts_in (codes "*$") s then None else Some (zero_or_more Lazy, s))
-good_dollar first s = elim (starts_in (codes "*$") s) as (λ b. starts_in (codes "*$") s ≡ b → Good first (36 ∷ s) (if b then None else Some (zero_or_more Lazy, s))) [
-  | true ↦ λ e. tt
-  | false ↦ λ e. (refl, e)
-] refl
+good_dollar : (first b : Bool) (s : List ℕ) → Good first (at b (36 ∷ s)) (zero_or_more_leaf Lazy (at b s))
+good_dollar first b s = let p : Place = at b s in
+    elim (starts_in (codes "*$") (flags_end p).rest) as (λ z. starts_in (codes "*$") (flags_end p).rest ≡ z → Good first (at b (36 ∷ s)) (if z then None else Some (zero_or_more Lazy, p))) [
+      | true ↦ λ e. tt
+      | false ↦ λ e. ((refl, refl), no_wildcard_sound p e)
+    ] refl
 
 -- the text of a class, as its bracket, its mark and the rest
 class_opened : (negated : Bool) (xs : List Archetype) (q : List ℕ) → class_text negated xs ++ q ≡ (if negated then 91 ∷ 33 ∷ closing xs q else 91 ∷ closing xs q)
 class_opened true xs q = ap (λ z. 91 ∷ 33 ∷ z) (append_assoc (archetypes_text xs) (codes "]") q)
 class_opened false xs q = ap (λ z. 91 ∷ z) (append_assoc (archetypes_text xs) (codes "]") q)
 
-good_class_leaf : (first negated : Bool) (s : List ℕ) (p : List ℕ) (o : Option (List Archetype × List ℕ)) → GoodRun s o →
+good_class_leaf : (first b negated : Bool) (s : List ℕ) (p : List ℕ) (o : Option (List Archetype × List ℕ)) → GoodRun s o →
     ((xs : List Archetype) (q : List ℕ) → xs ≢ [] → s ≡ closing xs q → (p ≡ class_text negated xs ++ q) × (negated ≡ false → starts_in (codes "!") (archetypes_text xs) ≡ false)) →
-    Good first p (class_leaf negated o)
-good_class_leaf first negated s p None g h = tt
-good_class_leaf first negated s p (Some ([], q)) g h = tt
-good_class_leaf first negated s p (Some (a ∷ xs, q)) g h =
+    Good first (at b p) (with_flag b (class_leaf negated o))
+good_class_leaf first b negated s p None g h = tt
+good_class_leaf first b negated s p (Some ([], q)) g h = tt
+good_class_leaf first b negated s p (Some (a ∷ xs, q)) g h =
     let some : a ∷ xs ≢ [] = cons_nil a xs in let k : (p ≡ class_text negated (a ∷ xs) ++ q) × (negated ≡ false → starts_in (codes "!") (archetypes_text (a ∷ xs)) ≡ false) = h (a ∷ xs) q some g.0 in
-    (some, g.1, k.0, k.1)
+    (some, g.1, (k.0, refl), k.1)
   where
     cons_nil : (a : Archetype) (xs : List Archetype) → a ∷ xs ≡ [] → ⊥
     cons_nil a xs z = cc
@@ -232,52 +186,57 @@ no_mark xs c s q e h some = go (archetypes_text xs) (ap (starts_in (codes "!")) 
     go [] e = refl
     go (d ∷ t) e = e
 
-good_class : (first : Bool) (s : List ℕ) → Good first (91 ∷ s) (read_class s)
-good_class first [] = tt
-good_class first (c ∷ s) = elim (33 == c) as (λ b. (33 == c) ≡ b → Good first (91 ∷ c ∷ s) (if b then class_leaf true (class_run (length s) s) else class_leaf false (class_run (length (c ∷ s)) (c ∷ s)))) [
-  | true ↦ λ e. good_class_leaf first true s (91 ∷ c ∷ s) (class_run (length s) s) (class_run_sound (length s) s)
+good_class : (first b : Bool) (s : List ℕ) → Good first (at b (91 ∷ s)) (with_flag b (read_class s))
+good_class first b [] = tt
+good_class first b (c ∷ s) = elim (33 == c) as (λ z. (33 == c) ≡ z → Good first (at b (91 ∷ c ∷ s)) (with_flag b (if z then class_leaf true (class_run (length s) s) else class_leaf false (class_run (length (c ∷ s)) (c ∷ s))))) [
+  | true ↦ λ e. good_class_leaf first b true s (91 ∷ c ∷ s) (class_run (length s) s) (class_run_sound (length s) s)
       (λ xs q some h. (ap (λ z. 91 ∷ z ∷ s) (sym (eqb-true 33 c e)) ∙ ap (λ z. 91 ∷ 33 ∷ z) h ∙ sym (class_opened true xs q), λ f. absurd (true_false f)))
-  | false ↦ λ e. good_class_leaf first false (c ∷ s) (91 ∷ c ∷ s) (class_run (length (c ∷ s)) (c ∷ s)) (class_run_sound (length (c ∷ s)) (c ∷ s))
+  | false ↦ λ e. good_class_leaf first b false (c ∷ s) (91 ∷ c ∷ s) (class_run (length (c ∷ s)) (c ∷ s)) (class_run_sound (length (c ∷ s)) (c ∷ s))
       (λ xs q some h. (ap (λ z. 91 ∷ z) h ∙ sym (class_opened false xs q), λ f. no_mark xs c s q e h some))
 ] refl
 
-good_inner : (first : Bool) (p : List ℕ) → Good first p (inner_leaf p)
-good_inner first [] = tt
-good_inner first (c ∷ s) =
-    by_char first 47 c s _ _ (good_slash first s)
-    (by_char first 63 c s _ _ (let e : 63 ∷ s ≡ codes "?" ++ s = refl in e)
-    (by_char first 42 c s _ _ (good_star first s)
-    (by_char first 36 c s _ _ (good_dollar first s)
-    (by_char first 91 c s _ _ (good_class first s)
-    (good_literal first (c ∷ s) (literal_run (c ∷ s)).0 (literal_run (c ∷ s)).1 (run_sound (c ∷ s)))))))
+good_inner : (first b : Bool) (p : List ℕ) → Good first (at b p) (inner_leaf b p)
+good_inner first b [] = tt
+good_inner first b (c ∷ s) =
+    by_char first b 47 c s _ _ (good_slash first b s)
+    (by_char first b 63 c s _ _ (let e : Past (codes "?") (at b (63 ∷ s)) (at b s) = (refl, refl) in e)
+    (by_char first b 42 c s _ _ (good_star first b s)
+    (by_char first b 36 c s _ _ (good_dollar first b s)
+    (by_char first b 91 c s _ _ (good_class first b s)
+    (good_literal first b (c ∷ s) (literal_run (c ∷ s)).0 (literal_run (c ∷ s)).1 (run_sound (c ∷ s)))))))
 
-pub leaf_sound : (first : Bool) (p : List ℕ) → Good first p (read_leaf first p)
-leaf_sound false p = good_inner false p
-leaf_sound true p = elim (after_tree p) as (λ o. StarsGood p o → Good true p (first_leaf p o)) [
-  | None ↦ λ g. good_inner true p
-  | Some q ↦ λ g. (refl, g)
-] (stars_sound p)
+pub leaf_sound : (first : Bool) (p : Place) → Good first p (read_leaf first p)
+leaf_sound false p = good_inner false p.insensitive p.rest
+leaf_sound true p = elim (after_tree p) as (λ o. TreeIf p o → Good true p (first_leaf p o)) [
+  | None ↦ λ g. good_inner true p.insensitive p.rest
+  | Some q ↦ λ g. (refl, g.0, g.1, g.2)
+] (tree_sound p)
 
 -- ---- and each of the grammar's tokens is read
-no_stars : (s : List ℕ) → ((r : List ℕ) → Closes s r → ⊥) → after_tree s ≡ None
-no_stars s h = elim (after_tree s) as (λ o. StarsGood s o → o ≡ None) [ None ↦ λ g. refl | Some q ↦ λ g. absurd (h q g) ] (stars_sound s)
+no_tree : (p : Place) → ((r : Place) → TreeFollows whole p r → ⊥) → after_tree (flags_end p) ≡ None
+no_tree p h = elim (after_tree (flags_end p)) as (λ o. TreeIf (flags_end p) o → o ≡ None) [ None ↦ λ g. refl | Some q ↦ λ g. absurd (h q (follows_sound p q g)) ] (tree_sound (flags_end p))
 
-inner_is : (first : Bool) (p : List ℕ) → after_tree p ≡ None → read_leaf first p ≡ inner_leaf p
+inner_is : (first : Bool) (p : Place) → after_tree p ≡ None → read_leaf first p ≡ inner_leaf p.insensitive p.rest
 inner_is false p e = refl
 inner_is true p e = ap (first_leaf p) e
 
-other_char : (c : ℕ) (s : List ℕ) → (47 == c) ≡ false → (63 == c) ≡ false → (42 == c) ≡ false → (36 == c) ≡ false → (91 == c) ≡ false →
-    inner_leaf (c ∷ s) ≡ literal_leaf (literal_run (c ∷ s))
-other_char c s e f g h k = rw (e, f, g, h, k) refl
+other_char : (b : Bool) (c : ℕ) (s : List ℕ) → (47 == c) ≡ false → (63 == c) ≡ false → (42 == c) ≡ false → (36 == c) ≡ false → (91 == c) ≡ false →
+    inner_leaf b (c ∷ s) ≡ with_flag b (literal_leaf b (literal_run (c ∷ s)))
+other_char b c s e f g h k = rw (e, f, g, h, k) refl
 
-literal_head : (first : Bool) (c : ℕ) (t q : List ℕ) → is_unclean (c ∷ t) ≡ false →
-    read_leaf first (all_spelled escapable (c ∷ t) ++ q) ≡ literal_leaf (literal_run (all_spelled escapable (c ∷ t) ++ q))
-literal_head first c t q clean =
+-- what a literal's reading depends on
+abbrev as_literal : Bool → List ℕ → Option (Leaf × Place)
+as_literal b p = with_flag b (literal_leaf b (literal_run p))
+
+literal_head : (first b : Bool) (c : ℕ) (t q : List ℕ) → is_unclean (c ∷ t) ≡ false →
+    read_leaf first (at b (all_spelled escapable (c ∷ t) ++ q)) ≡ as_literal b (all_spelled escapable (c ∷ t) ++ q)
+literal_head first b c t q clean =
     let h : (is_one_of (47 ∷ 92 ∷ []) c ≡ false) × (is_unclean t ≡ false) = or_false (is_one_of (47 ∷ 92 ∷ []) c) (is_unclean t) clean in
-    elim (is_one_of escapable c) as (λ b. is_one_of escapable c ≡ b → read_leaf first (((if b then 92 ∷ c ∷ [] else c ∷ []) ++ all_spelled escapable t) ++ q) ≡ literal_leaf (literal_run (((if b then 92 ∷ c ∷ [] else c ∷ []) ++ all_spelled escapable t) ++ q))) [
-      | true ↦ λ e. inner_is first (92 ∷ c ∷ (all_spelled escapable t ++ q)) (not_star 92 (c ∷ (all_spelled escapable t ++ q)) refl) ∙ other_char 92 (c ∷ (all_spelled escapable t ++ q)) refl refl refl refl refl
-      | false ↦ λ e. inner_is first (c ∷ (all_spelled escapable t ++ q)) (not_star c (all_spelled escapable t ++ q) (not_member escapable 42 c refl e))
-          ∙ other_char c (all_spelled escapable t ++ q) (not_member (47 ∷ 92 ∷ []) 47 c refl h.0) (not_member escapable 63 c refl e) (not_member escapable 42 c refl e) (not_member escapable 36 c refl e) (not_member escapable 91 c refl e)
+    let r : List ℕ = all_spelled escapable t ++ q in
+    elim (is_one_of escapable c) as (λ z. is_one_of escapable c ≡ z → read_leaf first (at b ((as_spelled c z ++ all_spelled escapable t) ++ q)) ≡ as_literal b ((as_spelled c z ++ all_spelled escapable t) ++ q)) [
+      | true ↦ λ e. inner_is first (at b (92 ∷ c ∷ r)) (not_star b 92 (c ∷ r) refl) ∙ other_char b 92 (c ∷ r) refl refl refl refl refl
+      | false ↦ λ e. inner_is first (at b (c ∷ r)) (not_star b c r (not_member escapable 42 c refl e))
+          ∙ other_char b c r (not_member (47 ∷ 92 ∷ []) 47 c refl h.0) (not_member escapable 63 c refl e) (not_member escapable 42 c refl e) (not_member escapable 36 c refl e) (not_member escapable 91 c refl e)
     ] refl
 
 no_backslash : (q : List ℕ) → NoLiteralFollows q → starts_in (92 ∷ []) q ≡ false
@@ -300,36 +259,66 @@ unmarked xs q plain some e = go (closing xs q) (mark (archetypes_text xs) e)
     go [] e = refl
     go (c ∷ s) e = ap (λ b. if b then class_leaf true (class_run (length s) s) else class_leaf false (class_run (length (c ∷ s)) (c ∷ s))) (or_false (33 == c) false e).0
 
-class_complete : (first negated : Bool) (xs : List Archetype) (q : List ℕ) → xs ≢ [] → AllPlain xs → (negated ≡ false → starts_in (codes "!") (archetypes_text xs) ≡ false) →
-    read_leaf first (if negated then 91 ∷ 33 ∷ closing xs q else 91 ∷ closing xs q) ≡ Some (class negated xs, q)
-class_complete first true xs q some plain mark =
-    inner_is first (91 ∷ 33 ∷ closing xs q) (not_star 91 (33 ∷ closing xs q) refl)
-    ∙ ap (class_leaf true) (class_run_complete (length (closing xs q)) xs q plain (omega arith)) ∙ class_leaf_some true xs q some
-class_complete first false xs q some plain mark =
-    inner_is first (91 ∷ closing xs q) (not_star 91 (closing xs q) refl)
-    ∙ unmarked xs q plain some (mark refl)
-    ∙ ap (class_leaf false) (class_run_complete (length (closing xs q)) xs q plain (omega arith)) ∙ class_leaf_some false xs q some
+class_complete : (first b negated : Bool) (xs : List Archetype) (q : List ℕ) → xs ≢ [] → AllPlain xs → (negated ≡ false → starts_in (codes "!") (archetypes_text xs) ≡ false) →
+    read_leaf first (at b (if negated then 91 ∷ 33 ∷ closing xs q else 91 ∷ closing xs q)) ≡ Some (class negated xs, at b q)
+class_complete first b true xs q some plain mark =
+    inner_is first (at b (91 ∷ 33 ∷ closing xs q)) (not_star b 91 (33 ∷ closing xs q) refl)
+    ∙ ap (λ o. with_flag b (class_leaf true o)) (class_run_complete (length (closing xs q)) xs q plain (omega arith)) ∙ ap (with_flag b) (class_leaf_some true xs q some)
+class_complete first b false xs q some plain mark =
+    inner_is first (at b (91 ∷ closing xs q)) (not_star b 91 (closing xs q) refl)
+    ∙ ap (with_flag b) (unmarked xs q plain some (mark refl))
+    ∙ ap (λ o. with_flag b (class_leaf false o)) (class_run_complete (length (closing xs q)) xs q plain (omega arith)) ∙ ap (with_flag b) (class_leaf_some false xs q some)
 
-pub leaf_complete : (first : Bool) (l : Leaf) (p q : List ℕ) → LeafFrom first l p q → read_leaf first p ≡ Some (l, q)
+literal_complete : (first b : Bool) (c : ℕ) (t q : List ℕ) → is_unclean (c ∷ t) ≡ false → NoLiteralFollows q →
+    read_leaf first (at b (all_spelled escapable (c ∷ t) ++ q)) ≡ Some (literal b (c ∷ t), at b q)
+literal_complete first b c t q clean stop =
+    literal_head first b c t q clean
+    ∙ ap (λ r. with_flag b (literal_leaf b r)) (run_complete (c ∷ t) q clean stop)
+    ∙ ap (λ z. with_flag b (if z then None else Some (literal b (c ∷ t), q))) (no_backslash q stop)
+
+zero_or_more_complete : (evaluation : Evaluation) (q : Place) → NoWildcardFollows q → zero_or_more_leaf evaluation q ≡ Some (zero_or_more evaluation, q)
+zero_or_more_complete evaluation q h = ap (λ z. if z then None else Some (zero_or_more evaluation, q)) (no_wildcard_complete q h)
+
+-- a leaf that is read from the text of a place, up to the same flag
+from_text : (first : Bool) (l : Leaf) (cs : List ℕ) (p q : Place) → Past cs p q → read_leaf first (at p.insensitive (cs ++ q.rest)) ≡ Some (l, at p.insensitive q.rest) →
+    read_leaf first p ≡ Some (l, q)
+from_text first l cs p q h e = ap (λ t. read_leaf first (at p.insensitive t)) h.0 ∙ e ∙ ap (λ b. Some (l, at b q.rest)) (sym h.1)
+
+-- the place that the same flag leads to
+past_is : (cs : List ℕ) (p q : Place) → Past cs p q → q ≡ at p.insensitive q.rest
+past_is cs p q h = ap (λ b. at b q.rest) h.1
+
+pub leaf_complete : (first : Bool) (l : Leaf) (p q : Place) → ReadsLeaf whole first l p q → read_leaf first p ≡ Some (l, q)
 leaf_complete first (literal b []) p q h = absurd (h.1.0 refl)
 leaf_complete first (literal b (c ∷ t)) p q h =
-    ap (read_leaf first) h.2 ∙ literal_head first c t q h.1.1
-    ∙ ap literal_leaf (run_complete (c ∷ t) q h.1.1 h.3)
-    ∙ ap (λ z. if z then None else Some (literal false (c ∷ t), q)) (no_backslash q h.3)
-    ∙ ap (λ z. Some (literal z (c ∷ t), q)) (sym h.0)
+    from_text first (literal b (c ∷ t)) (all_spelled escapable (c ∷ t)) p q h.2
+    (literal_complete first p.insensitive c t q.rest h.1.1 h.3 ∙ ap (λ z. Some (literal z (c ∷ t), at p.insensitive q.rest)) (sym h.0))
 leaf_complete first (class negated xs) p q h =
-    ap (read_leaf first) (h.2 ∙ class_opened negated xs q) ∙ class_complete first negated xs q h.0 h.1 h.3
+    from_text first (class negated xs) (class_text negated xs) p q h.2
+    (ap (λ t. read_leaf first (at p.insensitive t)) (class_opened negated xs q.rest) ∙ class_complete first p.insensitive negated xs q.rest h.0 h.1 h.3)
 leaf_complete first separator p q h =
-    ap (read_leaf first) h.0 ∙ inner_is first (47 ∷ q) (not_star 47 q refl) ∙ ap (λ o. Some (boundary_leaf q o)) (no_stars q h.1)
-leaf_complete first one p q h = ap (read_leaf first) h ∙ inner_is first (63 ∷ q) (not_star 63 q refl)
+    let b : Bool = p.insensitive in
+    from_text first separator (codes "/") p q h.0
+    (inner_is first (at b (47 ∷ q.rest)) (not_star b 47 q.rest refl)
+    ∙ ap (λ o. Some (boundary_leaf (at b q.rest) o)) (no_tree (at b q.rest) (λ r k. h.1 r (subst (λ z. TreeFollows whole z r) (sym (past_is (codes "/") p q h.0)) k))))
+leaf_complete first one p q h = from_text first one (codes "?") p q h (inner_is first (at p.insensitive (63 ∷ q.rest)) (not_star p.insensitive 63 q.rest refl))
 leaf_complete first (zero_or_more Eager) p q h =
-    ap (read_leaf first) h.0 ∙ inner_is first (42 ∷ q) (one_star q h.1) ∙ ap (λ b. if b then None else Some (zero_or_more Eager, q)) h.1
+    let b : Bool = p.insensitive in
+    from_text first (zero_or_more Eager) (codes "*") p q h.0
+    (inner_is first (at b (42 ∷ q.rest)) (one_star b q.rest (h.1 q no_flags))
+    ∙ zero_or_more_complete Eager (at b q.rest) (subst NoWildcardFollows (past_is (codes "*") p q h.0) h.1))
 leaf_complete first (zero_or_more Lazy) p q h =
-    ap (read_leaf first) h.0 ∙ inner_is first (36 ∷ q) (not_star 36 q refl) ∙ ap (λ b. if b then None else Some (zero_or_more Lazy, q)) h.1
+    let b : Bool = p.insensitive in
+    from_text first (zero_or_more Lazy) (codes "$") p q h.0
+    (inner_is first (at b (36 ∷ q.rest)) (not_star b 36 q.rest refl)
+    ∙ zero_or_more_complete Lazy (at b q.rest) (subst NoWildcardFollows (past_is (codes "$") p q h.0) h.1))
 leaf_complete first (tree true) p q h =
-    ap (read_leaf first) h.1 ∙ inner_is first (47 ∷ h.0) (not_star 47 h.0 refl) ∙ ap (λ o. Some (boundary_leaf h.0 o)) (stars_complete h.0 q h.2)
+    let b : Bool = p.insensitive in
+    ap (λ t. read_leaf first (at b t)) h.1.0 ∙ inner_is first (at b (47 ∷ h.0.rest)) (not_star b 47 h.0.rest refl)
+    ∙ ap (λ z. Some (boundary_leaf z (after_tree (flags_end z)))) (sym (past_is (codes "/") p h.0 h.1))
+    ∙ ap (λ o. Some (boundary_leaf h.0 o)) (follows_complete h.0 q h.2)
 leaf_complete first (tree false) p q h =
-    ap (λ b. read_leaf b p) h.0 ∙ ap (first_leaf p) (stars_complete p q h.1)
+    ap (λ b. read_leaf b p) h.0 ∙ ap (first_leaf p) (tree_complete p q (h.1, h.2, h.3))
 
 -- ---- a leaf takes some characters
 abbrev pub Takes : List ℕ → List ℕ → Type 0
@@ -343,22 +332,52 @@ class_some : (negated : Bool) (xs : List Archetype) → 0 < length (class_text n
 class_some true xs = omega arith
 class_some false xs = omega arith
 
-closes_takes : (p q : List ℕ) → Closes p q → Takes p q
-closes_takes p q (inl e) = (codes "**/", e, omega arith)
-closes_takes p q (inr h) = (codes "**", h.0 ∙ ap (λ z. codes "**" ++ z) (sym h.1), omega arith)
+closes_takes : (n q : Place) → TreeCloses whole n q → (x : List ℕ) × (n.rest ≡ x ++ q.rest)
+closes_takes n q (inl h) = let k : (x : List ℕ) × (n.rest ≡ x ++ h.0.rest) = flags_text n h.0 h.1 in
+    (k.0 ++ codes "/", k.1 ∙ ap (λ z. k.0 ++ z) h.2.0 ∙ sym (append_assoc k.0 (codes "/") q.rest))
+closes_takes n q (inr h) = ([], ap (λ z. z.rest) h.0)
 
-takes : (first : Bool) (l : Leaf) (p q : List ℕ) → LeafFrom first l p q → Takes p q
-takes first (literal b t) p q h = (all_spelled escapable t, h.2, spelled_some t h.1.0)
-takes first (class negated xs) p q h = (class_text negated xs, h.2, class_some negated xs)
-takes first separator p q h = (codes "/", h.0, omega arith)
-takes first one p q h = (codes "?", h, omega arith)
-takes first (zero_or_more Eager) p q h = (codes "*", h.0, omega arith)
-takes first (zero_or_more Lazy) p q h = (codes "$", h.0, omega arith)
-takes first (tree true) p q h = let k : Takes h.0 q = closes_takes h.0 q h.2 in (47 ∷ k.0, h.1 ∙ ap (λ z. 47 ∷ z) k.1, omega arith)
-takes first (tree false) p q h = closes_takes p q h.1
+tree_takes : (p q : Place) → TreeFrom p q → Takes p.rest q.rest
+tree_takes p q h = let k : (x : List ℕ) × (h.0.rest ≡ x ++ q.rest) = closes_takes h.0 q h.2 in
+    (codes "**" ++ k.0, h.1.0 ∙ ap (λ z. codes "**" ++ z) k.1, omega arith)
 
-pub leaf_takes : (first : Bool) (l : Leaf) (p q : List ℕ) → read_leaf first p ≡ Some (l, q) → Takes p q
+follows_takes : (p q : Place) → TreeFollows whole p q → (x : List ℕ) × (p.rest ≡ x ++ q.rest)
+follows_takes p q h =
+    let f : (x : List ℕ) × (p.rest ≡ x ++ h.0.rest) = flags_text p h.0 h.2 in
+    let t : Takes h.0.rest q.rest = tree_takes h.0 q (h.1, h.3, h.4) in
+    (f.0 ++ t.0, f.1 ∙ ap (λ z. f.0 ++ z) t.1 ∙ sym (append_assoc f.0 t.0 q.rest))
+
+takes : (first : Bool) (l : Leaf) (p q : Place) → ReadsLeaf whole first l p q → Takes p.rest q.rest
+takes first (literal b t) p q h = (all_spelled escapable t, h.2.0, spelled_some t h.1.0)
+takes first (class negated xs) p q h = (class_text negated xs, h.2.0, class_some negated xs)
+takes first separator p q h = (codes "/", h.0.0, omega arith)
+takes first one p q h = (codes "?", h.0, omega arith)
+takes first (zero_or_more Eager) p q h = (codes "*", h.0.0, omega arith)
+takes first (zero_or_more Lazy) p q h = (codes "$", h.0.0, omega arith)
+takes first (tree true) p q h = let k : (x : List ℕ) × (h.0.rest ≡ x ++ q.rest) = follows_takes h.0 q h.2 in (47 ∷ k.0, h.1.0 ∙ ap (λ z. 47 ∷ z) k.1, omega arith)
+takes first (tree false) p q h = tree_takes p q (h.1, h.2, h.3)
+
+pub leaf_takes : (first : Bool) (l : Leaf) (p q : Place) → read_leaf first p ≡ Some (l, q) → Takes p.rest q.rest
 leaf_takes first l p q e = takes first l p q (subst (Good first p) e (leaf_sound first p))
 
-pub leaf_shorter : (first : Bool) (l : Leaf) (p q : List ℕ) → read_leaf first p ≡ Some (l, q) → length q < length p
-leaf_shorter first l p q e = let k : Takes p q = leaf_takes first l p q e in omega (arith, ap length k.1, length-append k.0 q, k.2)
+-- ---- no leaf begins as a flag group does
+literal_no_flag : (t q : List ℕ) → t ≢ [] → starts_in (40 ∷ []) (all_spelled escapable t ++ q) ≡ false
+literal_no_flag [] q h = absurd (h refl)
+literal_no_flag (c ∷ t) q h = elim (is_one_of escapable c) as (λ z. is_one_of escapable c ≡ z → starts_in (40 ∷ []) ((as_spelled c z ++ all_spelled escapable t) ++ q) ≡ false) [
+  | true ↦ λ e. refl
+  | false ↦ λ e. ap (λ z. z || false) (not_member escapable 40 c refl e)
+] refl
+
+class_no_flag : (negated : Bool) (xs : List Archetype) (q : List ℕ) → starts_in (40 ∷ []) (class_text negated xs ++ q) ≡ false
+class_no_flag true xs q = refl
+class_no_flag false xs q = refl
+
+pub leaf_no_flag : (first : Bool) (l : Leaf) (p q : Place) → ReadsLeaf whole first l p q → starts_in (40 ∷ []) p.rest ≡ false
+leaf_no_flag first (literal b t) p q h = ap (starts_in (40 ∷ [])) h.2.0 ∙ literal_no_flag t q.rest h.1.0
+leaf_no_flag first (class negated xs) p q h = ap (starts_in (40 ∷ [])) h.2.0 ∙ class_no_flag negated xs q.rest
+leaf_no_flag first separator p q h = ap (starts_in (40 ∷ [])) h.0.0
+leaf_no_flag first one p q h = ap (starts_in (40 ∷ [])) h.0
+leaf_no_flag first (zero_or_more Eager) p q h = ap (starts_in (40 ∷ [])) h.0.0
+leaf_no_flag first (zero_or_more Lazy) p q h = ap (starts_in (40 ∷ [])) h.0.0
+leaf_no_flag first (tree true) p q h = ap (starts_in (40 ∷ [])) h.1.0
+leaf_no_flag first (tree false) p q h = ap (starts_in (40 ∷ [])) h.2.0

@@ -1,6 +1,8 @@
 pub mod Texts
 pub mod Runs
 pub mod Classes
+pub mod Flags
+pub mod Trees
 pub mod Leaves
 pub mod Places
 pub mod Tokens

@@ -1,7 +1,7 @@
 -- Runs of characters and of archetypes, step by step.
-use Rattle.std.proofs.Common.{◌≡◌, ◌≢◌, ℕ, zero, suc, ◌+◌, ◌<◌, ◌≤◌, Bool, true, false, not, ◌||◌, ◌&&◌, List, [], ◌∷◌, ◌++◌, length, Option, Some, None, if◌then◌else◌, ◌==◌, codes, refl, sym, ◌∙◌, ap, subst, arith, rules, append_assoc, append-nil, eqb-true}
+use Rattle.std.proofs.Common.{◌≡◌, ℕ, zero, suc, ◌<◌, ◌≤◌, Bool, true, false, not, ◌||◌, ◌&&◌, List, [], ◌∷◌, ◌++◌, length, Option, Some, None, if◌then◌else◌, ◌==◌, refl, sym, ◌∙◌, ap, subst, arith, append_assoc, append-nil}
 use Rattle.wax_token.specs.declared.token.Archetype.{Archetype}
-use Rattle.wax_token.specs.declared.token.Archetype.TheVariants.{Character, Range}
+use Rattle.wax_token.specs.declared.token.Archetype.TheVariants.{Character}
 use Rattle.wax_token.specs.Syntax.{literal}
 use Rattle.wax_token.specs.Reads.{is_one_of, starts_in, escapable, class_escapable}
 use Rattle.wax_rule.specs.Parser.{strip, escaped_step, literal_step, put, literal_run, literal_leaf, is_plain_character, is_plain, StopsPlain, class_step, range_to, archetype_of, archetype_after, archetype_step, put_some, go_on, class_run, prefixed}
@@ -121,27 +121,27 @@ pub run_owned : (whole t q u v : List ℕ) → whole ≡ t ++ q → is_plain t �
 run_owned whole t q u v e f g h = ap literal_run e ∙ run_plain t q f ∙ (λ i. (sym g i, sym h i))
 
 -- ---- the leaf of a run
-pub leaf_empty : (t q : List ℕ) → t ≡ [] → literal_leaf (t, q) ≡ None
-leaf_empty t q e = ap (λ z. literal_leaf (z, q)) e
+pub leaf_empty : (b : Bool) (t q : List ℕ) → t ≡ [] → literal_leaf b (t, q) ≡ None
+leaf_empty b t q e = ap (λ z. literal_leaf b (z, q)) e
 
 escape_starts : (q s : List ℕ) → strip 92 q ≡ Some s → starts_in (92 ∷ []) q ≡ true
 escape_starts [] s e = absurd (none_some s e)
 escape_starts (c ∷ q) s e = elim (92 == c) as (λ b. (if b then Some q else None) ≡ Some s → (b || false) ≡ true) [ true ↦ λ f. refl | false ↦ λ f. absurd (none_some s f) ] e
 
-pub leaf_escape : (t q s : List ℕ) → strip 92 q ≡ Some s → literal_leaf (t, q) ≡ None
-leaf_escape [] q s e = refl
-leaf_escape (c ∷ t) q s e = ap (λ b. if b then None else Some (literal false (c ∷ t), q)) (escape_starts q s e)
+pub leaf_escape : (b : Bool) (t q s : List ℕ) → strip 92 q ≡ Some s → literal_leaf b (t, q) ≡ None
+leaf_escape b [] q s e = refl
+leaf_escape b (c ∷ t) q s e = ap (λ z. if z then None else Some (literal b (c ∷ t), q)) (escape_starts q s e)
 
 no_escape : (q : List ℕ) → strip 92 q ≡ None → starts_in (92 ∷ []) q ≡ false
 no_escape [] e = refl
 no_escape (c ∷ q) e = elim (92 == c) as (λ b. (if b then Some q else None) ≡ None → (b || false) ≡ false) [ true ↦ λ f. absurd (none_some q (sym f)) | false ↦ λ f. refl ] e
 
-leaf_plain : (t q : List ℕ) → (t ≡ [] → ⊥) → strip 92 q ≡ None → literal_leaf (t, q) ≡ Some (literal false t, q)
-leaf_plain [] q e f = absurd (e refl)
-leaf_plain (c ∷ t) q e f = ap (λ b. if b then None else Some (literal false (c ∷ t), q)) (no_escape q f)
+leaf_plain : (b : Bool) (t q : List ℕ) → (t ≡ [] → ⊥) → strip 92 q ≡ None → literal_leaf b (t, q) ≡ Some (literal b t, q)
+leaf_plain b [] q e f = absurd (e refl)
+leaf_plain b (c ∷ t) q e f = ap (λ z. if z then None else Some (literal b (c ∷ t), q)) (no_escape q f)
 
-pub leaf_some : (l : Bool × List ℕ) (t q : List ℕ) → l ≡ (false, t) → (t ≡ [] → ⊥) → strip 92 q ≡ None → literal_leaf (t, q) ≡ Some (literal l.0 l.1, q)
-leaf_some l t q made e f = leaf_plain t q e f ∙ ap (λ z. Some (literal z.0 z.1, q)) (sym made)
+pub leaf_some : (l : Bool × List ℕ) (b : Bool) (t q : List ℕ) → l ≡ (b, t) → (t ≡ [] → ⊥) → strip 92 q ≡ None → literal_leaf b (t, q) ≡ Some (literal l.0 l.1, q)
+leaf_some l b t q made e f = leaf_plain b t q e f ∙ ap (λ z. Some (literal z.0 z.1, q)) (sym made)
 
 -- ---- the run of a class by its steps
 abbrev Shrinks : {A : Type 0} → List ℕ → Option (A × List ℕ) → Type 0

@@ -1,5 +1,5 @@
 -- Texts as bytes and as characters.
-use Rattle.std.proofs.Common.{◌≡◌, ◌==◌, Bool, true, false, eqb-true, ℕ, ◌+◌, ◌-◌, ◌<◌, ◌≤◌, List, [], ◌∷◌, ◌++◌, length, take, drop, chars, encode_utf8, encode_utf8_all, refl, sym, ◌∙◌, ap, subst, arith, rules, length-append, append_assoc, append-nil}
+use Rattle.std.proofs.Common.{◌≡◌, ◌==◌, Bool, true, false, eqb-true, ℕ, ◌+◌, ◌-◌, List, [], ◌∷◌, ◌++◌, length, take, chars, encode_utf8, encode_utf8_all, refl, sym, ◌∙◌, ap, subst, arith, length-append, append_assoc, append-nil}
 use Rattle.std.specs.Str.{IsUtf8, IsCharBoundary}
 use Rattle.std.specs.Char.{IsScalar}
 use Rattle.std.proofs.lemmas.Str.{encodes-chars, encodes-append, encodes_same, chars-append, chars_past_char, chars-nil, length-encode, IsUtf8-encode, IsCharBoundary-at_seam}

@@ -1,13 +1,13 @@
--- The part of the language that the parser reads so far: no branches and no flag groups.
+-- The part of the language that the parser reads so far: no branches.
 use Rattle.std.specs.Prelude.{◌≡◌, ℕ, List, [], ◌∷◌, ◌++◌}
 use Rattle.std.specs.Char.{len_utf8}
 use Rattle.wax_token.specs.Syntax.{Tree}
 use Rattle.wax_token.specs.Words.{IsFlat}
-use Rattle.wax_token.specs.Reads.{Span, ReadsWith, NoFlags, utf8_len}
+use Rattle.wax_token.specs.Reads.{Span, Reads, utf8_len}
 
--- the expression spells the tree, without branches and flag groups
+-- the expression spells the tree, without branches
 abbrev pub Spells : List ℕ → Tree Span → Type 0
-Spells e t = ReadsWith NoFlags e t × IsFlat t
+Spells e t = Reads e t × IsFlat t
 
 abbrev pub first_len : List ℕ → ℕ
 first_len [] = 0

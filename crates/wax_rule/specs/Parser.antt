@@ -1,12 +1,13 @@
 -- How the parser reads: what its private functions answer. No part of the language's definition.
-use Rattle.std.specs.Prelude.{ℕ, zero, suc, Bool, true, false, List, [], ◌∷◌, ◌++◌, length, Option, Some, None, codes, ◌==◌, ◌≡◌, not, if◌then◌else◌}
+use Rattle.std.specs.Prelude.{chars, ℕ, zero, suc, Bool, true, false, List, [], ◌∷◌, ◌++◌, length, Option, Some, None, codes, ◌==◌, ◌≡◌, not, if◌then◌else◌}
 use Rattle.std.specs.List.{list_all}
 use Rattle.wax_token.specs.declared.token.Archetype.{Archetype}
 use Rattle.wax_token.specs.declared.token.Archetype.TheVariants.{Character, Range}
 use Rattle.wax_token.specs.declared.token.Evaluation.{Evaluation}
 use Rattle.wax_token.specs.declared.token.Evaluation.TheVariants.{Eager, Lazy}
 use Rattle.wax_token.specs.Syntax.{Leaf, literal, class, separator, one, zero_or_more, tree}
-use Rattle.wax_token.specs.Reads.{is_one_of, starts_in, escapable, class_escapable}
+use Rattle.wax_rule.specs.declared.parse.flags.Cursor.{Cursor}
+use Rattle.wax_token.specs.Reads.{Place, is_one_of, starts_in, escapable, class_escapable}
 
 abbrev pub strip : ℕ → List ℕ → Option (List ℕ)
 strip c [] = None
@@ -52,9 +53,9 @@ literal_run (c ∷ d ∷ s) =
     if 92 == c then (if is_one_of escapable d then put d (literal_run s) else ([], c ∷ d ∷ s))
     else if is_one_of (47 ∷ escapable) c then ([], c ∷ d ∷ s) else put c (literal_run (d ∷ s))
 
-abbrev pub literal_leaf : List ℕ × List ℕ → Option (Leaf × List ℕ)
-literal_leaf ([], q) = None
-literal_leaf (c ∷ t, q) = if starts_in (92 ∷ []) q then None else Some (literal false (c ∷ t), q)
+abbrev pub literal_leaf : Bool → List ℕ × List ℕ → Option (Leaf × List ℕ)
+literal_leaf b ([], q) = None
+literal_leaf b (c ∷ t, q) = if starts_in (92 ∷ []) q then None else Some (literal b (c ∷ t), q)
 
 -- ---- classes
 abbrev pub range_to : ℕ → Option (ℕ × List ℕ) → Option (Archetype × List ℕ)
@@ -102,36 +103,112 @@ abbrev pub read_class : List ℕ → Option (Leaf × List ℕ)
 read_class [] = None
 read_class (c ∷ s) = if 33 == c then class_leaf true (class_run (length s) s) else class_leaf false (class_run (length (c ∷ s)) (c ∷ s))
 
+-- ---- flag groups
+abbrev pub at : Bool → List ℕ → Place
+at b s = record { insensitive = b; rest = s }
+
+-- where a cursor stands
+abbrev pub place : Cursor → Place
+place c = at c.is_case_insensitive (chars c.rest.now)
+
+-- `i` after a dash
+abbrev pub toggle_off : Option (List ℕ) → Option (Bool × List ℕ)
+toggle_off None = None
+toggle_off (Some s) = Some (false, s)
+
+-- a toggle, and the text after it
+abbrev pub toggle_step : List ℕ → Option (Bool × List ℕ)
+toggle_step [] = None
+toggle_step (c ∷ s) = if 105 == c then Some (true, s) else if 45 == c then toggle_off (strip 105 s) else None
+
+-- the place after the toggles and their `)`, where the toggle b was the last one
+abbrev mutual
+  pub group_end : Bool → List ℕ → Option Place
+  group_end b [] = None
+  group_end b (c ∷ s) = if 41 == c then Some (at b s) else if 105 == c then group_end true s else if 45 == c then dash_end s else None
+
+  pub dash_end : List ℕ → Option Place
+  dash_end [] = None
+  dash_end (c ∷ s) = if 105 == c then group_end false s else None
+
+abbrev pub first_toggle : Option (Bool × List ℕ) → Option Place
+first_toggle None = None
+first_toggle (Some r) = group_end r.0 r.1
+
+abbrev pub after_question : Option (List ℕ) → Option Place
+after_question None = None
+after_question (Some s) = first_toggle (toggle_step s)
+
+abbrev pub after_parenthesis : Option (List ℕ) → Option Place
+after_parenthesis None = None
+after_parenthesis (Some s) = after_question (strip 63 s)
+
+-- the place after a flag group
+abbrev pub group_step : List ℕ → Option Place
+group_step p = after_parenthesis (strip 40 p)
+
+abbrev pub flags_on : (Place → Place) → Place → Option Place → Place
+flags_on again p None = p
+flags_on again p (Some q) = again q
+
+-- the place after at most n flag groups
+abbrev pub flags_run : ℕ → Place → Place
+flags_run zero p = p
+flags_run (suc n) p = flags_on (flags_run n) p (group_step p.rest)
+
+-- the place after all flag groups
+abbrev pub flags_end : Place → Place
+flags_end p = flags_run (length p.rest) p
+
 -- ---- the other leaves
--- the text after `**` and its `/`
-abbrev pub after_tree : List ℕ → Option (List ℕ)
-after_tree [] = None
-after_tree (a ∷ []) = None
-after_tree (a ∷ b ∷ []) = if 42 == a then (if 42 == b then Some [] else None) else None
-after_tree (a ∷ b ∷ c ∷ s) = if 42 == a then (if 42 == b then (if 47 == c then Some s else None) else None) else None
+abbrev pub after_slash : Bool → Option (List ℕ) → Option Place
+after_slash b None = None
+after_slash b (Some s) = Some (at b s)
 
-abbrev pub boundary_leaf : List ℕ → Option (List ℕ) → Leaf × List ℕ
-boundary_leaf s None = (separator, s)
-boundary_leaf s (Some q) = (tree true, q)
+-- after `**`: the place after flag groups and the `/`, or the end
+abbrev pub after_stars : Bool → List ℕ → Option Place
+after_stars b [] = Some (at b [])
+after_stars b (c ∷ s) = let p : Place = flags_end (at b (c ∷ s)) in after_slash p.insensitive (strip 47 p.rest)
 
-abbrev pub zero_or_more_leaf : Evaluation → List ℕ → Option (Leaf × List ℕ)
-zero_or_more_leaf evaluation s = if starts_in (codes "*$") s then None else Some (zero_or_more evaluation, s)
+abbrev pub after_star : Bool → Option (List ℕ) → Option Place
+after_star b None = None
+after_star b (Some s) = after_stars b s
+
+abbrev pub star_after : Bool → Option (List ℕ) → Option Place
+star_after b None = None
+star_after b (Some s) = after_star b (strip 42 s)
+
+-- the place after `**` and what closes it
+abbrev pub after_tree : Place → Option Place
+after_tree p = star_after p.insensitive (strip 42 p.rest)
+
+abbrev pub boundary_leaf : Place → Option Place → Leaf × Place
+boundary_leaf p None = (separator, p)
+boundary_leaf p (Some q) = (tree true, q)
+
+abbrev pub zero_or_more_leaf : Evaluation → Place → Option (Leaf × Place)
+zero_or_more_leaf evaluation p = if starts_in (codes "*$") (flags_end p).rest then None else Some (zero_or_more evaluation, p)
+
+-- a leaf before which and after which literals are the same
+abbrev pub with_flag : Bool → Option (Leaf × List ℕ) → Option (Leaf × Place)
+with_flag b None = None
+with_flag b (Some r) = Some (r.0, at b r.1)
 
 -- a leaf that isn't a `**` at the beginning of the glob
-abbrev pub inner_leaf : List ℕ → Option (Leaf × List ℕ)
-inner_leaf [] = None
-inner_leaf (c ∷ s) =
-    if 47 == c then Some (boundary_leaf s (after_tree s))
-    else if 63 == c then Some (one, s)
-    else if 42 == c then zero_or_more_leaf Eager s
-    else if 36 == c then zero_or_more_leaf Lazy s
-    else if 91 == c then read_class s
-    else literal_leaf (literal_run (c ∷ s))
+abbrev pub inner_leaf : Bool → List ℕ → Option (Leaf × Place)
+inner_leaf b [] = None
+inner_leaf b (c ∷ s) =
+    if 47 == c then Some (boundary_leaf (at b s) (after_tree (flags_end (at b s))))
+    else if 63 == c then Some (one, at b s)
+    else if 42 == c then zero_or_more_leaf Eager (at b s)
+    else if 36 == c then zero_or_more_leaf Lazy (at b s)
+    else if 91 == c then with_flag b (read_class s)
+    else with_flag b (literal_leaf b (literal_run (c ∷ s)))
 
-abbrev pub first_leaf : List ℕ → Option (List ℕ) → Option (Leaf × List ℕ)
-first_leaf p None = inner_leaf p
+abbrev pub first_leaf : Place → Option Place → Option (Leaf × Place)
+first_leaf p None = inner_leaf p.insensitive p.rest
 first_leaf p (Some q) = Some (tree false, q)
 
-abbrev pub read_leaf : Bool → List ℕ → Option (Leaf × List ℕ)
-read_leaf false p = inner_leaf p
+abbrev pub read_leaf : Bool → Place → Option (Leaf × Place)
+read_leaf false p = inner_leaf p.insensitive p.rest
 read_leaf true p = first_leaf p (after_tree p)

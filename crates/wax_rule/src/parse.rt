@@ -1,5 +1,5 @@
 //! From an expression to its tokens.
-ghost use Rattle.std.specs.Prelude.{◌≡◌, ◌≤◌, ◌<◌, ◌+◌, ◌-◌, ◌^◌, ◌∷◌, ◌++◌, [], IfOk, OnOk, chars};
+ghost use Rattle.std.specs.Prelude.{◌≡◌, ◌≤◌, ◌<◌, ◌+◌, ◌-◌, ◌^◌, ◌∷◌, ◌++◌, [], Bool, IfOk, OnOk, chars};
 ghost use Rattle.std.specs.Cow.{cow_str_bytes};
 ghost use Rattle.wax_query.specs.Outcome.{MatchBuild};
 ghost use Rattle.wax_token.specs.Syntax.{Tree, leaf};
@@ -7,12 +7,15 @@ ghost use Rattle.wax_token.specs.View.{leaf_of};
 ghost use Rattle.wax_token.specs.Reads.{Span, utf8_len};
 ghost use Rattle.wax_rule.specs.Accepted.{Spells, IsPlace, first_len};
 ghost use Rattle.wax_rule.specs.Reading.{Reading};
+ghost use Rattle.wax_rule.specs.Parser.{at};
 
 mod class;
+mod flags;
 mod leaf;
 mod literal;
 mod text;
 
+use crate::parse::flags::{Cursor, read_flags};
 use crate::parse::leaf::read_leaf;
 use crate::parse::text::split_first;
 use std::alloc::{AllocError, Global};
@@ -88,23 +91,31 @@ fn read_glob<'t>(
     ))
 }
 
-/// The tokens from left to right.
+/// The tokens from left to right, each with the flag groups before it.
 fn read_tokens<'t>(
     alloc: Global,
     expression: &'t str,
 ) -> Result<Vec<Token<'t, ExpressionMetadata>>, Refusal<ParseError>>
-    ensures { MatchBuild result (λ v. Reading (chars expression.now) v.items [])
+    ensures { MatchBuild result (λ v. (b : Bool) × Reading (chars expression.now) v.items (at b []))
         (λ e. ((t : Tree Span) → Spells (chars expression.now) t → ⊥) × IsPlace (chars expression.now) e) }
 {
     let mut tokens = Vec::new(alloc);
-    let mut rest = expression;
-    while !rest.is_empty() {
-        let Some((kind, next)) = read_leaf(alloc, tokens.is_empty(), rest)? else {
-            let place = place_of(expression, rest);
+    let mut cursor = Cursor {
+        is_case_insensitive: false,
+        rest: expression,
+    };
+    while !cursor.rest.is_empty() {
+        let from = read_flags(cursor);
+        let Some((kind, next)) = read_leaf(alloc, tokens.is_empty(), from)? else {
+            let place = place_of(expression, from.rest);
             return Err(Refusal::Refused(ParseError { place }));
         };
-        push_leaf(&mut tokens, kind, span_of(expression, rest, next))?;
-        rest = next;
+        push_leaf(
+            &mut tokens,
+            kind,
+            span_of(expression, cursor.rest, next.rest),
+        )?;
+        cursor = next;
     }
     Ok(tokens)
 }

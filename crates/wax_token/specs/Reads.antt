@@ -1,5 +1,5 @@
 -- Which expressions spell which token trees. A place is what is still to come, so a span is a difference of lengths.
-use Rattle.std.specs.Prelude.{◌≡◌, ◌≢◌, ℕ, zero, suc, ◌+◌, ◌*◌, ◌-◌, ◌^◌, ◌<◌, ◌≤◌, max, Bool, true, false, not, ◌||◌, ◌⊎◌, List, [], ◌∷◌, ◌++◌, Option, Some, None, Contains, All, codes, ◌==◌, if◌then◌else◌}
+use Rattle.std.specs.Prelude.{◌≡◌, ◌≢◌, ℕ, ◌+◌, ◌*◌, ◌-◌, ◌^◌, ◌<◌, ◌≤◌, max, Bool, true, false, ◌⊎◌, List, [], ◌∷◌, ◌++◌, Option, Some, None, codes, ◌==◌, if◌then◌else◌}
 use Rattle.std.specs.List.{list_any, list_all}
 use Rattle.std.specs.Char.{len_utf8, is_ascii_digit}
 use Rattle.wax_token.specs.declared.token.Archetype.{Archetype}
@@ -127,71 +127,69 @@ abbrev pub evaluation_text : Evaluation → List ℕ
 evaluation_text Eager = codes "*"
 evaluation_text Lazy = codes "$"
 
--- `Groups` says what may stand where the language allows flag groups
-module _ (Groups : Place → Place → Type 0) where
-  -- no flag groups and then `*` or `$` follow
-  abbrev pub NoWildcardFollows : Place → Type 0
-  NoWildcardFollows q = (m : Place) → Groups q m → starts_in (codes "*$") m.rest ≡ false
+-- no flag groups and then `*` or `$` follow
+abbrev pub NoWildcardFollows : Place → Type 0
+NoWildcardFollows q = (m : Place) → Flags q m → starts_in (codes "*$") m.rest ≡ false
 
-  -- after `**`: flag groups and `/`, or the end of the sub-glob
-  abbrev pub TreeCloses : Around → Place → Place → Type 0
-  TreeCloses around p q = ((m : Place) × Groups p m × Past (codes "/") m q) ⊎ ((p ≡ q) × IsEnd around q)
+-- after `**`: flag groups and `/`, or the end of the sub-glob
+abbrev pub TreeCloses : Around → Place → Place → Type 0
+TreeCloses around p q = ((m : Place) × Flags p m × Past (codes "/") m q) ⊎ ((p ≡ q) × IsEnd around q)
 
-  -- flag groups and then `**`, closed
-  abbrev pub TreeFollows : Around → Place → Place → Type 0
-  TreeFollows around p q = (m n : Place) × Groups p m × Past (codes "**") m n × TreeCloses around n q
+-- flag groups and then `**`, closed
+abbrev pub TreeFollows : Around → Place → Place → Type 0
+TreeFollows around p q = (m n : Place) × Flags p m × Past (codes "**") m n × TreeCloses around n q
 
-  -- a leaf from p, after its flags, to q; `first` says that it is the first token of its sub-glob
-  abbrev pub ReadsLeaf : Around → Bool → Leaf → Place → Place → Type 0
-  ReadsLeaf around first (literal insensitive t) p q =
-      (insensitive ≡ p.insensitive) × IsLiteralText t × Past (all_spelled escapable t) p q × NoLiteralFollows q.rest
-  ReadsLeaf around first (class negated xs) p q =
-      (xs ≢ []) × AllPlain xs × Past (class_text negated xs) p q
-      × (negated ≡ false → starts_in (codes "!") (archetypes_text xs) ≡ false)
-  ReadsLeaf around first separator p q =
-      Past (codes "/") p q × ((r : Place) → TreeFollows around q r → ⊥)
-  ReadsLeaf around first one p q = Past (codes "?") p q
-  ReadsLeaf around first (zero_or_more evaluation) p q = Past (evaluation_text evaluation) p q × NoWildcardFollows q
-  ReadsLeaf around first (tree true) p q = (m : Place) × Past (codes "/") p m × TreeFollows around m q
-  ReadsLeaf around first (tree false) p q = (first ≡ true) × (n : Place) × Past (codes "**") p n × TreeCloses around n q
+-- a leaf from p, after its flags, to q; `first` says that it is the first token of its sub-glob
+abbrev pub ReadsLeaf : Around → Bool → Leaf → Place → Place → Type 0
+ReadsLeaf around first (literal insensitive t) p q =
+    (insensitive ≡ p.insensitive) × IsLiteralText t × Past (all_spelled escapable t) p q × NoLiteralFollows q.rest
+ReadsLeaf around first (class negated xs) p q =
+    (xs ≢ []) × AllPlain xs × Past (class_text negated xs) p q
+    × (negated ≡ false → starts_in (codes "!") (archetypes_text xs) ≡ false)
+ReadsLeaf around first separator p q =
+    Past (codes "/") p q × ((r : Place) → TreeFollows around q r → ⊥)
+ReadsLeaf around first one p q = Past (codes "?") p q
+ReadsLeaf around first (zero_or_more evaluation) p q = Past (evaluation_text evaluation) p q × NoWildcardFollows q
+ReadsLeaf around first (tree true) p q = (m : Place) × Past (codes "/") p m × TreeFollows around m q
+ReadsLeaf around first (tree false) p q = (first ≡ true) × (n : Place) × Past (codes "**") p n × TreeCloses around n q
 
-  -- in an expression of so many bytes
-  module _ (size : ℕ) where
-    -- a span from p to q
-    abbrev pub IsSpan : Span → Place → Place → Type 0
-    IsSpan s p q = (s.0 + utf8_len p.rest ≡ size) × (s.1 + utf8_len q.rest ≡ utf8_len p.rest)
+-- in an expression of so many bytes
+module _ (size : ℕ) where
+  -- a span from p to q
+  abbrev pub IsSpan : Span → Place → Place → Type 0
+  IsSpan s p q = (s.0 + utf8_len p.rest ≡ size) × (s.1 + utf8_len q.rest ≡ utf8_len p.rest)
 
-    abbrev mutual
-      -- one token of a concatenation, from its flags on
-      pub ReadsToken : Tree Span → Around → Bool → Place → Place → Type 0
-      ReadsToken (leaf s l) around first p q = (m : Place) × Groups p m × ReadsLeaf around first l m q × IsSpan s p q
-      ReadsToken (alternation s ts) around first p q =
-          (m n k : Place) × Groups p m × Past (codes "{") m n × ReadsBranches ts n k × Past (codes "}") k q × IsSpan s p q
-      ReadsToken (repetition s t low high) around first p q =
-          (m n k : Place) × (cs : List ℕ) × Groups p m × Past (codes "<") m n × ReadsGlob t in_repetition n k
-          × Bounds cs low high × Past (cs ++ codes ">") k q × IsSpan s p q
-      ReadsToken (concatenation s ts) around first p q = ⊥
+  abbrev mutual
+    -- one token of a concatenation, from its flags on
+    pub ReadsToken : Tree Span → Around → Bool → Place → Place → Type 0
+    ReadsToken (leaf s l) around first p q = (m : Place) × Flags p m × ReadsLeaf around first l m q × IsSpan s p q
+    ReadsToken (alternation s ts) around first p q =
+        (m n k : Place) × Flags p m × Past (codes "{") m n × ReadsBranches ts n k × Past (codes "}") k q × IsSpan s p q
+    ReadsToken (repetition s t low high) around first p q =
+        (m n k : Place) × (cs : List ℕ) × Flags p m × Past (codes "<") m n × ReadsGlob t in_repetition n k
+        × Bounds cs low high × Past (cs ++ codes ">") k q × IsSpan s p q
+    ReadsToken (concatenation s ts) around first p q = ⊥
 
-      -- the tokens of a concatenation
-      pub ReadsTokens : Trees Span → Around → Bool → Place → Place → Type 0
-      ReadsTokens none around first p q = p ≡ q
-      ReadsTokens (more t ts) around first p q =
-          (m : Place) × ReadsToken t around first p m × ReadsTokens ts around false m q
+    -- the tokens of a concatenation
+    pub ReadsTokens : Trees Span → Around → Bool → Place → Place → Type 0
+    ReadsTokens none around first p q = p ≡ q
+    ReadsTokens (more t ts) around first p q =
+        (m : Place) × ReadsToken t around first p m × ReadsTokens ts around false m q
 
-      -- a glob or a sub-glob, up to what ends it
-      pub ReadsGlob : Tree Span → Around → Place → Place → Type 0
-      ReadsGlob (concatenation s ts) around p q =
-          (q.rest ≢ p.rest) × ReadsTokens ts around true p q × IsSpan s p q × IsEnd around q
-      ReadsGlob (leaf s l) around p q = ⊥
-      ReadsGlob (alternation s ts) around p q = ⊥
-      ReadsGlob (repetition s t low high) around p q = ⊥
+    -- a glob or a sub-glob, up to what ends it
+    pub ReadsGlob : Tree Span → Around → Place → Place → Type 0
+    ReadsGlob (concatenation s ts) around p q =
+        (q.rest ≢ p.rest) × ReadsTokens ts around true p q × IsSpan s p q × IsEnd around q
+    ReadsGlob (leaf s l) around p q = ⊥
+    ReadsGlob (alternation s ts) around p q = ⊥
+    ReadsGlob (repetition s t low high) around p q = ⊥
 
-      -- the branches of an alternation
-      pub ReadsBranches : Trees Span → Place → Place → Type 0
-      ReadsBranches none p q = ⊥
-      ReadsBranches (more t none) p q = ReadsGlob t in_alternation p q
-      ReadsBranches (more t (more u us)) p q =
-          (m n : Place) × ReadsGlob t in_alternation p m × Past (codes ",") m n × ReadsBranches (more u us) n q
+    -- the branches of an alternation
+    pub ReadsBranches : Trees Span → Place → Place → Type 0
+    ReadsBranches none p q = ⊥
+    ReadsBranches (more t none) p q = ReadsGlob t in_alternation p q
+    ReadsBranches (more t (more u us)) p q =
+        (m n : Place) × ReadsGlob t in_alternation p m × Past (codes ",") m n × ReadsBranches (more u us) n q
 
 -- how deep sub-globs nest
 abbrev mutual
@@ -209,14 +207,6 @@ abbrev pub start : List ℕ → Place
 start e = record { insensitive = false; rest = e }
 
 -- the expression e spells the tree t
-abbrev pub ReadsWith : (Place → Place → Type 0) → List ℕ → Tree Span → Type 0
-ReadsWith Groups [] t = t ≡ leaf (0, 0) (literal false [])
-ReadsWith Groups (c ∷ cs) t = (nesting t ≤ 128) × (q : Place) × ReadsGlob Groups (utf8_len (c ∷ cs)) t whole (start (c ∷ cs)) q
-
--- in the whole language
 abbrev pub Reads : List ℕ → Tree Span → Type 0
-Reads e t = ReadsWith Flags e t
-
--- in the language without flag groups
-abbrev pub NoFlags : Place → Place → Type 0
-NoFlags p q = p ≡ q
+Reads [] t = t ≡ leaf (0, 0) (literal false [])
+Reads (c ∷ cs) t = (nesting t ≤ 128) × (q : Place) × ReadsGlob (utf8_len (c ∷ cs)) t whole (start (c ∷ cs)) q

@@ -84,6 +84,27 @@ mod tests {
     }
 
     #[test]
+    fn flags(rt: HostRuntime) {
+        for (expression, path, answer) in [
+            ("(?i)k", "\u{212a}", true),
+            ("(?i)[k]", "K", false),
+            ("(?i)**/A", "x/a", true),
+            ("(?i)a(?-i)b", "Ab", true),
+            ("(?i)a(?-i)b", "AB", false),
+            ("(?i)\u{17f}", "S", true),
+            ("(?i)\u{df}", "\u{1e9e}", true),
+            ("(?i)\u{df}", "ss", false),
+            ("(?i)\u{1c6}", "\u{1c5}", true),
+        ] {
+            assert_eq!(rt;
+                is_meant(rt.alloc(), expression, path),
+                Some(answer),
+                "{expression} on {path}"
+            );
+        }
+    }
+
+    #[test]
     fn refusals(rt: HostRuntime) -> Result<(), Fail> {
         for (expression, answer) in [
             ("[a", "[a\t1\t-\t-"),
@@ -96,6 +117,7 @@ mod tests {
             ("(?)a", "(?)a\t1\t-\t-"),
             ("*(?i)*", "*(?i)*\t1\t-\t-"),
             ("(?i", "(?i\t1\t-\t-"),
+            ("a(?i)**", "a(?i)**\t1\t-\t-"),
             ("{a", "{a\t1\t-\t-"),
             ("<a:2", "<a:2\t1\t-\t-"),
             ("a//b", "a//b\t2\t1\t2"),

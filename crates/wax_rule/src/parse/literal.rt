@@ -54,10 +54,11 @@ fn literal_text<'t>(alloc: Global, text: &'t str) -> Result<(CowStr<'t>, &'t str
 /// A literal that the text begins with, and the text after it.
 pub(super) fn read_literal<'t>(
     alloc: Global,
+    is_case_insensitive: bool,
     text: &'t str,
 ) -> Result<Option<(LeafKind<'t>, &'t str)>, AllocError>
-    ensures { IfOk result (λ r. MatchOption r (literal_leaf (literal_run (chars text.now)) ≡ None)
-        (λ l. literal_leaf (literal_run (chars text.now)) ≡ Some (leaf_of l.0, chars l.1.now))) }
+    ensures { IfOk result (λ r. MatchOption r (literal_leaf is_case_insensitive (literal_run (chars text.now)) ≡ None)
+        (λ l. literal_leaf is_case_insensitive (literal_run (chars text.now)) ≡ Some (leaf_of l.0, chars l.1.now))) }
 {
     let (literal, rest) = literal_text(alloc, text)?;
     if literal.as_str().is_empty() {
@@ -65,6 +66,9 @@ pub(super) fn read_literal<'t>(
     }
     match strip(rest, '\\') {
         Some(_) => Ok(None),
-        None => Ok(Some((LeafKind::Literal(Literal::new(literal, false)), rest))),
+        None => Ok(Some((
+            LeafKind::Literal(Literal::new(literal, is_case_insensitive)),
+            rest,
+        ))),
     }
 }

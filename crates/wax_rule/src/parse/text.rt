@@ -1,7 +1,7 @@
 //! Beginnings of texts.
 ghost use Rattle.std.specs.Prelude.{◌≡◌, ◌∷◌, ◌++◌, [], List, ℕ, chars, MatchOption, Some, None, not};
 ghost use Rattle.wax_token.specs.Reads.{is_one_of, escapable, class_escapable};
-ghost use Rattle.wax_rule.specs.Parser.{strip, after_tree, literal_step, class_step, is_plain_character};
+ghost use Rattle.wax_rule.specs.Parser.{strip, literal_step, class_step, is_plain_character};
 
 /// The first character, and the text after it.
 pub(super) fn split_first(text: &str) -> Option<(char, &str)>
@@ -18,18 +18,6 @@ pub(super) fn strip(text: &str, first: char) -> Option<&str>
 {
     let (c, rest) = split_first(text)?;
     if first == c { Some(rest) } else { None }
-}
-
-/// The text after `**` and its `/`, or after `**` at the end.
-pub(super) fn after_tree(text: &str) -> Option<&str>
-    ensures { MatchOption result (after_tree (chars text.now) ≡ None) (λ r. after_tree (chars text.now) ≡ Some (chars r.now)) }
-{
-    let rest = strip(text, '*')?;
-    let rest = strip(rest, '*')?;
-    match split_first(rest) {
-        None => Some(rest),
-        Some((c, after)) => { if c == '/' { Some(after) } else { None } }
-    }
 }
 
 /// The part of the text that stands before its end `rest`.

@@ -1,4 +1,4 @@
-use Rattle.std.proofs.Common.{◌≡◌, ◌-◌, ℕ, length, chars, ap, arith}
+use Rattle.std.proofs.Common.{◌-◌, arith}
 use Rattle.wax_rule.proofs.Texts.{bytes_len}
 use Rattle.wax_rule.proofs.parse.place_of.Goals as goal
 

@@ -1,4 +1,4 @@
-use Rattle.std.proofs.Common.{◌≡◌, ◌-◌, ℕ, length, chars, ap, arith}
+use Rattle.std.proofs.Common.{◌≡◌, ◌-◌, length, chars, arith}
 use Rattle.wax_token.specs.Reads.{utf8_len}
 use Rattle.wax_rule.proofs.Texts.{bytes_len}
 use Rattle.wax_rule.proofs.parse.span_of.Goals as goal

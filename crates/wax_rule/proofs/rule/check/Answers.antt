@@ -1,5 +1,4 @@
-use Rattle.std.proofs.Common.{◌≡◌, ℕ, Option, ap, ◌∙◌}
-use Rattle.wax_token.specs.Reads.{Span}
+use Rattle.std.proofs.Common.{ap, ◌∙◌}
 use Rattle.wax_rule.proofs.Breaks.{found, kept_unbroken, first_broken}
 use Rattle.wax_rule.proofs.rule.check.Goals as goal
 use Rattle.wax_rule.proofs.rule.check.Goals.{in-Some+in_default-found, in_default}

@@ -1,6 +1,5 @@
-use Rattle.std.proofs.Common.{rules, ◌≡◌, ◌-◌, ℕ, Bool, List, Option, map, length, refl, arith}
+use Rattle.std.proofs.Common.{rules, Bool, Option, length, refl, arith}
 use Rattle.std.specs.Option.{is_some}
-use Rattle.std.specs.List.{range_with_len}
 use Rattle.std.proofs.lemmas.Iterator.{YieldsList-from_range, YieldsList-from_map}
 use Rattle.std.proofs.lemmas.Iterator.Consumers.{YieldsList-at}
 use Rattle.itertools.proofs.ConsumerLemmas.{find_at-of-run}

@@ -1,6 +1,5 @@
-use Rattle.std.proofs.Common.{rules, ◌≡◌, ◌++◌, ◌∷◌, [], ap, ◌∙◌, sym}
-use Rattle.wax_rule.specs.Parser.{prefixed, class_run}
-use Rattle.wax_rule.proofs.Runs.{class_more, class_stop, class_end, class_start}
+use Rattle.std.proofs.Common.{rules}
+use Rattle.wax_rule.proofs.Runs.{class_more, class_start}
 use Rattle.wax_rule.proofs.parse.class.read_archetypes.Goals as goal
 
 pub loop-after-init : goal.loop-after-init

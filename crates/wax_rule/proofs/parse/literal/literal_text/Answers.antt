@@ -1,4 +1,4 @@
-use Rattle.std.proofs.Common.{rules, ◌≡◌, ◌++◌, chars, string_bytes, sym, ◌∙◌, ap, None}
+use Rattle.std.proofs.Common.{rules, ◌≡◌, ◌++◌, chars, string_bytes, ◌∙◌, ap, None}
 use Rattle.wax_rule.specs.Parser.{literal_run, strip}
 use Rattle.wax_rule.proofs.Runs.{run_borrowed, run_owned}
 use Rattle.wax_rule.proofs.parse.literal.literal_text.Goals as goal

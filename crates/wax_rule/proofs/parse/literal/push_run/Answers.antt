@@ -1,4 +1,4 @@
-use Rattle.std.proofs.Common.{rules, ◌≡◌, ◌++◌, ◌∷◌, [], chars, string_bytes}
+use Rattle.std.proofs.Common.{rules, ◌++◌, ◌∷◌, [], chars, string_bytes}
 use Rattle.std.specs.Char.{IsScalar}
 use Rattle.std.proofs.lemmas.Str.{IsUtf8-string_bytes}
 use Rattle.wax_rule.proofs.Runs.{run_more}

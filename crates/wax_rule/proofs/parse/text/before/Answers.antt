@@ -1,4 +1,4 @@
-use Rattle.std.proofs.Common.{rules, ◌≡◌, ◌+◌, ◌-◌, length, arith}
+use Rattle.std.proofs.Common.{arith}
 use Rattle.wax_rule.proofs.Texts.{seam_len, seam_boundary, seam_front}
 use Rattle.wax_rule.proofs.parse.text.before.Goals as goal
 

@@ -1,4 +1,4 @@
-use Rattle.std.proofs.Common.{rules, ◌≡◌, ◌∷◌, [], chars, sym}
+use Rattle.std.proofs.Common.{rules}
 use Rattle.std.proofs.lemmas.Str.{chars_past_char}
 use Rattle.wax_rule.proofs.parse.text.split_first.Goals as goal
 
