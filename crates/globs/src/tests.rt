@@ -90,3 +90,56 @@ fn words_follow_the_name(rt: HostRuntime) -> Result<(), Fail> {
     assert_eq!(rt; words[2].as_deref(), None);
     Ok(())
 }
+
+#[test]
+fn refused_builds_print_their_reason(rt: HostRuntime) -> Result<(), Fail> {
+    let cases: [(&str, &str); 11] = [
+        ("***", "failed to parse glob expression"),
+        ("[a", "failed to parse glob expression"),
+        (
+            "a//b",
+            "malformed glob expression: adjacent component boundaries `/` or `**`",
+        ),
+        (
+            "</a/:1,>",
+            "malformed glob expression: adjacent component boundaries `/` or `**`",
+        ),
+        (
+            "<a/:10,9>",
+            "malformed glob expression: incompatible repetition bounds",
+        ),
+        (
+            "{a,**}",
+            "malformed glob expression: singular tree wildcard `**` in branch",
+        ),
+        (
+            "*{a,*}",
+            "malformed glob expression: adjacent zero-or-more wildcards `*` or `$`",
+        ),
+        (
+            "{a,/b}",
+            "malformed glob expression: uncertain or overlapping roots in branch",
+        ),
+        (
+            "<*:1,>",
+            "malformed glob expression: singular zero-or-more wildcard `*` or `$` in branch",
+        ),
+        (
+            "<a:65536>",
+            "malformed glob expression: oversized invariant expression",
+        ),
+        ("<a*:174763>", "failed to compile glob: oversized program"),
+    ];
+    for (expression, text) in cases {
+        let words = words_of(rt.alloc(), &["match", expression])?;
+        let mut input = Counted::new(b"a\n".as_slice());
+        let mut output = Counted::new(Vec::new(rt.alloc()));
+        let mut faults = Vec::new(rt.alloc());
+        let status = run_globs(rt.alloc(), &words, &mut input, &mut output, &mut faults);
+        assert_eq!(rt; status, 1);
+        assert_eq!(rt; input.calls(), 0);
+        let line = format!(in rt.alloc(); "globs: {text}\n")?;
+        assert_eq!(rt; faults.as_slice(), line.as_bytes());
+    }
+    Ok(())
+}

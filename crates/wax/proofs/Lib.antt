@@ -3,4 +3,4 @@ pub mod Sifting
 pub mod Counting
 pub mod Runs
 pub mod Whole
-pub mod MeantEnds
+pub mod MeantEdges

@@ -1,5 +1,5 @@
 -- What the sieve of a filter of lines holds after each step.
-use Rattle.std.proofs.Common.{◌≡◌, ◌≢◌, ℕ, ◌+◌, List, [], ◌∷◌, ◌++◌, refl, sym, ◌∙◌, ap, subst, append_assoc, append-nil, Result, Ok, Err, OnErr, IfErr, IsErrAnd, length, true, false, ◌==◌, eqb-true}
+use Rattle.std.proofs.Common.{true≢false, ◌≡◌, ◌≢◌, ℕ, ◌+◌, List, [], ◌∷◌, ◌++◌, refl, sym, ◌∙◌, ap, subst, append_assoc, append-nil, Result, Ok, Err, OnErr, IfErr, IsErrAnd, length, true, false, ◌==◌, eqb-true}
 use Rattle.std.proofs.lemmas.List.Elements.{All-nil, All-append, All-cons}
 use Rattle.std.proofs.lemmas.List.{nil_from_length}
 use Rattle.wax.specs.Lines.{lines, whole_lines, Gives, Filters}
@@ -126,10 +126,7 @@ pub empty_items : (n : ℕ) (xs : List ℕ) → n ≡ length xs → true ≡ (n 
 empty_items n xs e t = nil_from_length xs (sym e ∙ eqb-true n 0 (sym t))
 
 pub filled_items : (n : ℕ) (xs : List ℕ) → n ≡ length xs → false ≡ (n == 0) → xs ≢ []
-filled_items n xs e t nil = absurd (true_false (sym (ap (λ k. k == 0) (e ∙ ap length nil)) ∙ sym t))
-  where
-    true_false : true ≡ false → ⊥
-    true_false e = cc
+filled_items n xs e t nil = absurd (true≢false (sym (ap (λ k. k == 0) (e ∙ ap length nil)) ∙ sym t))
 
 -- what the exit of a `?` returns
 pub if_err : {T E : Type 0} {Q : E → Type 0} (P : E → Type 0) (r : Result T E) → IsErrAnd r Q → ((e : E) → Q e → P e) → IfErr r P

@@ -2,7 +2,7 @@
 use Rattle.std.proofs.Common.{◌≡◌, ◌↔◌, ℕ, ◌+◌, Bool, false, List, [], ◌∷◌, refl, sym, ap, ◌∙◌, subst, add-zero}
 use Rattle.wax_match.specs.Machine.{Accepts}
 use Rattle.wax_match.specs.declared.encode.instruction.Instruction.{Instruction}
-use Rattle.wax_rule.specs.Accepted.{Spells}
+use Rattle.wax_token.specs.Reads.{Reads}
 use Rattle.wax_token.specs.Cost.{cost, costs}
 use Rattle.wax_token.specs.Meaning.{Means, MeansEach}
 use Rattle.wax_token.specs.Reads.{Span}
@@ -42,9 +42,9 @@ means_nothing : (s : List ℕ) → Means nothing false false s ↔ (s ≡ [])
 means_nothing [] = (λ h. refl, λ e. tt)
 means_nothing (c ∷ s) = (λ h. absurd h, λ e. cc)
 
-pub is_empty_glob : (g : GlobView) → g.expression ≡ [] → Spells [] g.tree → IsEmptyGlob g
+pub is_empty_glob : (g : GlobView) → g.expression ≡ [] → Reads [] g.tree → IsEmptyGlob g
 is_empty_glob g e h = record {
   expression = e;
-  tree = h.0;
-  means = λ s. subst (λ t. Means t false false s ↔ (s ≡ [])) (sym h.0) (means_nothing s);
+  tree = h;
+  means = λ s. subst (λ t. Means t false false s ↔ (s ≡ [])) (sym h) (means_nothing s);
 }

@@ -3,14 +3,13 @@ use Rattle.std.specs.Prelude.{◌≡◌, ◌↔◌, ◌<◌, ◌≤◌, ℕ, fal
 use Rattle.wax_match.specs.declared.encode.CompileError.{CompileError}
 use Rattle.wax_query.specs.declared.diagnostics.Refusal.{Refusal}
 use Rattle.wax_query.specs.declared.diagnostics.Refusal.TheVariants as refusal
-use Rattle.wax_rule.specs.declared.parse.ParseError.{ParseError}
-use Rattle.wax_rule.specs.declared.rule.RuleError.{RuleError}
-use Rattle.wax_rule.specs.Accepted.{Spells, IsPlace}
-use Rattle.wax_rule.specs.FirstBreak.{IsFirst}
+use Rattle.wax_parse.specs.declared.parse.ParseError.{ParseError}
+use Rattle.wax_parse.specs.Accepted.{IsPlace}
+use Rattle.wax_rule.specs.FirstBreak.{ErrorView, IsFirst}
 use Rattle.wax_rule.specs.Rules.{broken}
 use Rattle.wax_token.specs.Cost.{program_length}
 use Rattle.wax_token.specs.Meaning.{Means}
-use Rattle.wax_token.specs.Reads.{Span}
+use Rattle.wax_token.specs.Reads.{Reads, Span}
 use Rattle.wax_token.specs.Syntax.{Tree, leaf, literal}
 use Rattle.wax.specs.GlobView.{GlobView}
 use Rattle.wax.specs.declared.build_error.BuildError.{BuildError}
@@ -20,9 +19,13 @@ abbrev pub parse_refusal : Refusal ParseError → BuildError
 parse_refusal (refusal.Refused e) = Parse e
 parse_refusal refusal.Memory = Memory
 
-abbrev pub rule_refusal : Refusal RuleError → BuildError
-rule_refusal (refusal.Refused e) = Rule e
-rule_refusal refusal.Memory = Memory
+-- the refusal of the rules, or want of memory
+abbrev pub IsRuleRefusal : Refusal ErrorView → BuildError → Type 0
+IsRuleRefusal (refusal.Refused e) (Rule f) = f ≡ e
+IsRuleRefusal refusal.Memory (Rule f) = ⊥
+IsRuleRefusal r (Parse p) = ⊥
+IsRuleRefusal r (Compile d) = ⊥
+IsRuleRefusal r Memory = Unit {0}
 
 abbrev pub compile_refusal : Refusal CompileError → BuildError
 compile_refusal (refusal.Refused e) = Compile e
@@ -31,22 +34,22 @@ compile_refusal refusal.Memory = Memory
 -- a glob of the expression e
 pub record IsGlob (e : List ℕ) (g : GlobView) : Type 0 where
   pub expression : g.expression ≡ e
-  pub spells : Spells e g.tree
+  pub spells : Reads e g.tree
   pub keeps_rules : broken g.tree ≡ []
   pub fits : program_length g.tree ≤ 1048576
 
 -- a tree of the expression e that breaks no rule costs too much
 pub record IsOversized (e : List ℕ) : Type 0 where
   pub tree : Tree Span
-  pub spells : Spells e tree
+  pub spells : Reads e tree
   pub keeps_rules : broken tree ≡ []
   pub oversized : 1048576 < program_length tree
 
 -- what a build of the expression e answers: a glob, or the first reason against one; nothing is said where memory was refused
 abbrev pub MatchGlob : List ℕ → Result GlobView BuildError → Type 0
 MatchGlob e (Ok g) = IsGlob e g
-MatchGlob e (Err (Parse place)) = ((t : Tree Span) → Spells e t → ⊥) × IsPlace e place
-MatchGlob e (Err (Rule error)) = (t : Tree Span) × Spells e t × IsFirst (broken t) error
+MatchGlob e (Err (Parse place)) = ((t : Tree Span) → Reads e t → ⊥) × IsPlace e place
+MatchGlob e (Err (Rule error)) = (t : Tree Span) × Reads e t × IsFirst (broken t) error × (error.expression ≡ e)
 MatchGlob e (Err (Compile _)) = IsOversized e
 MatchGlob e (Err Memory) = Unit {0}
 

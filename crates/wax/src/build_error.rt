@@ -1,19 +1,22 @@
 //! Why a glob is not built.
+ghost use Rattle.wax.specs.Build.{IsRuleRefusal};
+
+use std::alloc::Global;
 use thiserror::Error;
 use wax_match::encode::CompileError;
+use wax_parse::parse::ParseError;
 use wax_query::diagnostics::Refusal;
-use wax_rule::parse::ParseError;
 use wax_rule::rule::RuleError;
 
 /// Why a glob is not built.
-#[derive(Clone, Copy, Debug, Error)]
+#[derive(Debug, Drop, Error)]
 pub enum BuildError {
     /// The expression isn't one of the language (refusal 1).
     #[error("{0}")]
     Parse(ParseError),
     /// The expression breaks a rule (refusals 2 to 8).
     #[error("{0}")]
-    Rule(RuleError),
+    Rule(RuleError<'static>),
     /// The expression's cost plus 1 is above 1,048,576 (refusal 9).
     #[error("{0}")]
     Compile(CompileError),
@@ -36,20 +39,6 @@ impl From<Refusal<ParseError>> for BuildError {
     }
 }
 
-impl From<Refusal<RuleError>> for BuildError {
-    ghost use Rattle.std.specs.Prelude.{◌≡◌};
-    ghost use Rattle.wax.specs.Build.{rule_refusal};
-
-    ghost from_gives = { λ refusal error. error ≡ rule_refusal refusal };
-
-    fn from(refusal: Refusal<RuleError>) -> Self {
-        match refusal {
-            Refusal::Refused(error) => BuildError::Rule(error),
-            Refusal::Memory => BuildError::Memory,
-        }
-    }
-}
-
 impl From<Refusal<CompileError>> for BuildError {
     ghost use Rattle.std.specs.Prelude.{◌≡◌};
     ghost use Rattle.wax.specs.Build.{compile_refusal};
@@ -61,5 +50,18 @@ impl From<Refusal<CompileError>> for BuildError {
             Refusal::Refused(error) => BuildError::Compile(error),
             Refusal::Memory => BuildError::Memory,
         }
+    }
+}
+
+/// Why the rules refused, with a copy of the expression.
+pub(crate) fn rule_refused(alloc: Global, refusal: Refusal<RuleError<'_>>) -> BuildError
+    ensures { IsRuleRefusal refusal.entry result }
+{
+    match refusal {
+        Refusal::Refused(error) => match error.into_owned(alloc) {
+            Ok(error) => BuildError::Rule(error),
+            Err(_) => BuildError::Memory,
+        },
+        Refusal::Memory => BuildError::Memory,
     }
 }

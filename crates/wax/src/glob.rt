@@ -3,17 +3,17 @@ ghost use Rattle.std.specs.Prelude.{◌≡◌, ◌≤◌, ◌↔◌, ◌+◌, �
 ghost use Rattle.wax_token.specs.Cost.{program_length};
 ghost use Rattle.wax.specs.GlobView.{IsMeant};
 
-use crate::build_error::BuildError;
+use crate::build_error::{BuildError, rule_refused};
 use crate::candidate::CandidatePath;
-use crate::endings::can_end;
+use crate::edges::can_be_meant;
 use crate::program::Program;
 use std::alloc::Global;
 use std::fmt;
 use std::marker::Model;
 use wax_match::encode;
 use wax_match::encode::Meter;
+use wax_parse::parse::parse;
 use wax_query::diagnostics::NoMemory;
-use wax_rule::parse::parse;
 use wax_rule::rule::check;
 use wax_token::token::{ExpressionMetadata, Tokenized};
 
@@ -48,7 +48,10 @@ impl<'t> Glob<'t> {
         ensures { MatchGlob (chars expression.now) result }
     {
         let tokenized = parse(alloc, expression)?;
-        let tokenized = check(tokenized)?;
+        let tokenized = match check(alloc, tokenized) {
+            Ok(checked) => checked.release(),
+            Err(refusal) => return Err(rule_refused(alloc, refusal)),
+        };
         let program = encode::compile(alloc, tokenized.token.concatenation(), false, false)?;
         Ok(Glob { tokenized, program })
     }
@@ -94,11 +97,13 @@ impl Program for Glob<'_> {
         alloc: Global,
         path: &CandidatePath<'_>,
     ) -> Result<(bool, u128), NoMemory> {
-        if !can_end(self.tokenized.token.concatenation(), path.as_str()) {
+        let tokens = self.tokenized.token.concatenation();
+        let text = path.as_str();
+        if !can_be_meant(tokens, text) {
             return Ok((false, 0));
         }
         let mut meter = Meter::new();
-        let answer = encode::run(alloc, &self.program, path.as_str(), &mut meter)?;
+        let answer = encode::run(alloc, &self.program, text, &mut meter)?;
         Ok((answer, meter.ticks()))
     }
 }

@@ -1,7 +1,11 @@
 ghost use Rattle.std.specs.Prelude.{◌≡◌, ◌==◌, nat_eq, true, codes, encode_utf8_all};
 ghost use Rattle.std.specs.List.{ends_with};
 
-use crate::{CandidatePath, Counted, LinesError, NoMemory, Program, filter_lines};
+use crate::diagnostics::LocatedError;
+use crate::encode::CompileError;
+use crate::{
+    BuildError, CandidatePath, Counted, Glob, LinesError, NoMemory, Program, filter_lines,
+};
 use std::alloc::Global;
 use std::io;
 use std::io::{Read, Write};
@@ -84,6 +88,27 @@ fn candidates_print_their_text(rt: HostRuntime) -> Result<(), Fail> {
     assert!(rt; Pictures.is_match(rt.alloc(), &path)?);
     assert_eq!(rt; Pictures.is_match_counted(rt.alloc(), &path)?, (true, 7));
     assert!(rt; !Pictures.is_match(rt.alloc(), &CandidatePath::from("png"))?);
+    Ok(())
+}
+
+#[test]
+fn refused_builds_tell_their_place(rt: HostRuntime) -> Result<(), Fail> {
+    let cases = [
+        ("a//b", "here", (1, 2)),
+        ("\u{e9}//**/a", "here", (2, 5)),
+        ("***", "unexpected expression", (0, 1)),
+        ("a[b", "unexpected expression", (1, 1)),
+    ];
+    for (expression, text, span) in cases {
+        let Err(error) = Glob::new(rt.alloc(), expression) else {
+            return Err("built")?;
+        };
+        let location = error.locations().ok_or("no place")?;
+        assert_eq!(rt; location.to_string(rt.alloc())?.as_str(), text);
+        assert_eq!(rt; location.span(), span);
+    }
+    assert!(rt; BuildError::Memory.locations().is_none());
+    assert!(rt; BuildError::Compile(CompileError).locations().is_none());
     Ok(())
 }
 

@@ -1,15 +1,14 @@
 -- The instructions of a token tree lead through exactly the texts that the tree means.
 use Rattle.std.proofs.Common.{◌≡◌, ℕ, zero, suc, ◌+◌, ◌-◌, ◌<◌, ◌≤◌, ◌⊎◌, ◌||◌, Bool, true, false, List, [], ◌∷◌, ◌++◌, Option, Some, None, nat_le, if◌then◌else◌, refl, sym, ◌∙◌, ap, subst, inl, inr, arith, rules, append_assoc, append-nil}
-use Rattle.wax_match.specs.declared.encode.instruction.Test.{Test}
 use Rattle.wax_match.specs.declared.encode.instruction.Test.TheVariants.{Char, Folded, Class, NotSlash, Any, Never}
 use Rattle.wax_match.specs.declared.encode.instruction.Instruction.{Instruction}
-use Rattle.wax_match.specs.declared.encode.instruction.Instruction.TheVariants.{Check}
+use Rattle.wax_match.specs.declared.encode.instruction.Instruction.TheVariants.{Repeat, Components}
+use Rattle.unicode.specs.CaseFolding.{simple_fold}
 use Rattle.wax_token.specs.Syntax.{Leaf, literal, class, separator, one, zero_or_more, tree, Tree, leaf, alternation, concatenation, repetition, Trees, none, more}
-use Rattle.wax_token.specs.Meaning.{Begins, Ends, TreeMeans, HasNoSlash, SameText, LeafMeans, Copies, AtMost, Means, MeansSome, MeansEach}
+use Rattle.wax_token.specs.Meaning.{Begins, Ends, TreeMeans, HasNoSlash, SameFold, SameText, LeafMeans, Copies, AtMost, Means, MeansSome, MeansEach}
 use Rattle.wax_token.specs.Cost.{is_tree, holds_tree, some_holds_tree}
-use Rattle.wax_match.specs.Machine.{Passes}
-use Rattle.wax_match.specs.Code.{slash, never, loop, skip, choose, literal_code, wildcard_code, leaf_code, copies_code, up_to_code, counted_code, many_code, copied_code, tree_code, branches_code, sequence_code}
-use Rattle.wax_match.proofs.Fragments.{Spells, OneOf, OneThen, Many, AnyNumber, spells_empty, spells_test, spells_append, spells_same, spells_loop, spells_skip, spells_choose}
+use Rattle.wax_match.specs.Code.{slash, never, skip, choose, literal_code, wildcard_code, leaf_code, copies_code, up_to_code, counted_code, many_code, copied_code, tree_code, branches_code, sequence_code}
+use Rattle.wax_match.proofs.Fragments.{Spells, OneOf, OneThen, Many, AnyNumber, spells_empty, spells_test, spells_repeat, spells_components, spells_append, spells_same, spells_loop, spells_skip, spells_choose}
 
 pub spells_slash : Spells slash (λ s. s ≡ 47 ∷ [])
 spells_slash = spells_same (λ s h. h.1 ∙ ap (λ c. c ∷ []) h.2) (λ s h. (47, h, refl)) (spells_test (Char 47))
@@ -17,32 +16,13 @@ spells_slash = spells_same (λ s h. h.1 ∙ ap (λ c. c ∷ []) h.2) (λ s h. (4
 pub spells_never : Spells never (λ s. ⊥)
 spells_never = spells_same (λ s h. h.2) (λ s h. absurd h) (spells_test Never)
 
--- a loop of one test
-module _ (t : Test) (W : List ℕ → Type 0) (nil : W []) (put : (c : ℕ) (s : List ℕ) → Passes t c → W s → W (c ∷ s)) where
-  each_of_many : (k : ℕ) (s : List ℕ) → Many (OneOf t) k s → W s
-  each_of_many zero s h = subst W (sym h) nil
-  each_of_many (suc k) s h = subst W (sym (h.2 ∙ ap (λ x. x ++ h.1) h.3.1)) (put h.3.0 h.1 h.3.2 (each_of_many k h.1 h.4))
+pub spells_any : Spells (Repeat Any ∷ []) (λ s. Unit {0})
+spells_any = spells_repeat Any (λ s. Unit {0}) tt (λ c s h k. tt) (λ c s h. (tt, tt))
 
-  module _ (take : (c : ℕ) (s : List ℕ) → W (c ∷ s) → Passes t c × W s) where
-    many_of_each : (s : List ℕ) → W s → AnyNumber (OneOf t) s
-    many_of_each [] h = (0, refl)
-    many_of_each (c ∷ s) h =
-        let r : AnyNumber (OneOf t) s = many_of_each s (take c s h).1 in
-        (suc r.0, (c ∷ [], s, refl, (c, refl, (take c s h).0), r.1))
+pub spells_star : Spells (Repeat NotSlash ∷ []) HasNoSlash
+spells_star = spells_repeat NotSlash HasNoSlash tt (λ c s h k. (h, k)) (λ c s h. h)
 
-    spells_each : Spells (loop (Check t ∷ [])) W
-    spells_each = spells_same (λ s h. each_of_many h.0 s h.1) many_of_each (spells_loop (spells_test t))
-
-pub spells_any : Spells (loop (Check Any ∷ [])) (λ s. Unit {0})
-spells_any = spells_each Any (λ s. Unit {0}) tt (λ c s h k. tt) (λ c s h. (tt, tt))
-
-pub spells_star : Spells (loop (Check NotSlash ∷ [])) HasNoSlash
-spells_star = spells_each NotSlash HasNoSlash tt (λ c s h k. (h, k)) (λ c s h. h)
-
-any_then_slash : Spells (loop (Check Any ∷ []) ++ slash) Ends
-any_then_slash = spells_same (λ s h. (h.0, h.2 ∙ ap (λ z. h.0 ++ z) h.4)) (λ s h. (h.0, 47 ∷ [], h.1, tt, refl)) (spells_append spells_any spells_slash)
-
-slash_then_any : Spells (slash ++ loop (Check Any ∷ [])) Begins
+slash_then_any : Spells (slash ++ Repeat Any ∷ []) Begins
 slash_then_any = spells_same (λ s h. (h.1, h.2 ∙ ap (λ z. z ++ h.1) h.3)) (λ s h. (47 ∷ [], h.0, h.1, refl, tt)) (spells_append spells_slash spells_any)
 
 both_from : (s x y : List ℕ) → s ≡ x ++ y → x ≡ 47 ∷ [] → (y ≡ []) ⊎ Ends y → Begins s × Ends s
@@ -53,13 +33,13 @@ both_to : (s t u : List ℕ) → s ≡ 47 ∷ t → s ≡ u ++ 47 ∷ [] → One
 both_to s t [] e f = (47 ∷ [], t, e, refl, inl (let g : t ≡ [] = cc in g))
 both_to s t (c ∷ u) e f = (47 ∷ [], t, e, refl, inr (u, (let g : t ≡ u ++ 47 ∷ [] = cc in g)))
 
-spells_both : Spells (slash ++ skip (loop (Check Any ∷ []) ++ slash)) (λ s. Begins s × Ends s)
-spells_both = spells_same (λ s h. both_from s h.0 h.1 h.2 h.3 h.4) (λ s h. both_to s h.0.0 h.1.0 h.0.1 h.1.1) (spells_append spells_slash (spells_skip any_then_slash))
+spells_both : Spells (slash ++ skip (Components ∷ [])) (λ s. Begins s × Ends s)
+spells_both = spells_same (λ s h. both_from s h.0 h.1 h.2 h.3 h.4) (λ s h. both_to s h.0.0 h.1.0 h.0.1 h.1.1) (spells_append spells_slash (spells_skip spells_components))
 
 pub spells_wildcard : (before after rooted : Bool) → Spells (wildcard_code before after rooted) (TreeMeans before after rooted)
 spells_wildcard false false false = spells_any
 spells_wildcard false false true = slash_then_any
-spells_wildcard false true false = spells_skip any_then_slash
+spells_wildcard false true false = spells_skip spells_components
 spells_wildcard false true true = spells_both
 spells_wildcard true true rooted = spells_both
 spells_wildcard true false rooted = spells_skip slash_then_any
@@ -82,17 +62,19 @@ plain_take : (c : ℕ) (t s : List ℕ) → SameText false (c ∷ t) s → OneTh
 plain_take c t [] h = absurd h
 plain_take c t (d ∷ s) h = (d ∷ [], s, refl, (d, refl, sym h.0), h.1)
 
-folded_put : (c : ℕ) (t s : List ℕ) → OneThen (OneOf (Folded c)) (SameText true t) s → SameText true (c ∷ t) s
+folded_put : (c : ℕ) (t s : List ℕ) → OneThen (OneOf (Folded (simple_fold c))) (SameText true t) s → SameText true (c ∷ t) s
+unfolding SameFold
 folded_put c t s h = subst (SameText true (c ∷ t)) (sym (h.2 ∙ ap (λ z. z ++ h.1) h.3.1)) (h.3.2, h.4)
 
-folded_take : (c : ℕ) (t s : List ℕ) → SameText true (c ∷ t) s → OneThen (OneOf (Folded c)) (SameText true t) s
+folded_take : (c : ℕ) (t s : List ℕ) → SameText true (c ∷ t) s → OneThen (OneOf (Folded (simple_fold c))) (SameText true t) s
+unfolding SameFold
 folded_take c t [] h = absurd h
 folded_take c t (d ∷ s) h = (d ∷ [], s, refl, (d, refl, h.0), h.1)
 
 pub spells_literal : (b : Bool) (t : List ℕ) → Spells (literal_code b t) (SameText b t)
 spells_literal b [] = spells_same (nil-SameText b) (SameText-nil b) spells_empty
 spells_literal false (c ∷ t) = spells_same (plain_put c t) (plain_take c t) (spells_append (spells_test (Char c)) (spells_literal false t))
-spells_literal true (c ∷ t) = spells_same (folded_put c t) (folded_take c t) (spells_append (spells_test (Folded c)) (spells_literal true t))
+spells_literal true (c ∷ t) = spells_same (folded_put c t) (folded_take c t) (spells_append (spells_test (Folded (simple_fold c))) (spells_literal true t))
 
 pub spells_leaf : (l : Leaf) (before after : Bool) → Spells (leaf_code l before after) (LeafMeans l before after)
 spells_leaf (literal b t) before after = spells_literal b t

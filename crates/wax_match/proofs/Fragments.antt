@@ -1,10 +1,12 @@
 -- Pieces of a program, and which texts lead through them.
 use Rattle.std.proofs.Common.{◌≡◌, ℕ, zero, suc, ◌+◌, ◌-◌, ◌≤◌, ◌⊎◌, List, [], ◌∷◌, ◌++◌, length, Some, slice_get, refl, sym, ◌∙◌, ap, subst, inl, inr, arith, length-append, append_assoc}
+use Rattle.std.proofs.lemmas.Option.{slice_get_within}
 use Rattle.wax_match.specs.declared.encode.instruction.Test.{Test}
 use Rattle.wax_match.specs.declared.encode.instruction.Instruction.{Instruction}
-use Rattle.wax_match.specs.declared.encode.instruction.Instruction.TheVariants.{Check, Fork, Jump, Back}
+use Rattle.wax_match.specs.declared.encode.instruction.Instruction.TheVariants.{Check, Repeat, Components, Fork, Jump, Back}
 use Rattle.wax_match.specs.Machine.{Passes, Moves, AcceptsIn, Accepts}
 use Rattle.wax_match.specs.Code.{loop, skip, choose}
+use Rattle.wax_token.specs.Meaning.{Ends}
 
 -- these instructions stand in the code from a place on
 abbrev pub Stands : List Instruction → ℕ → List Instruction → Type 0
@@ -30,7 +32,8 @@ pub record Spells (piece : List Instruction) (P : List ℕ → Type 0) : Type 0 
 
 -- the instruction at a place is known
 pub at_instruction : (code : List Instruction) (pc n : ℕ) (i : Instruction) (s : List ℕ) → slice_get code pc ≡ Some i → AcceptsIn code (suc n) pc s → Moves i (AcceptsIn code n) pc s
-at_instruction code pc n i s is h = let e : h.0 ≡ i = same (sym h.1 ∙ is) in subst (λ j. Moves j (AcceptsIn code n) pc s) e h.2
+at_instruction code pc n i s is (inl h) = absurd (omega (arith, h.0, slice_get_within code pc i is))
+at_instruction code pc n i s is (inr h) = let e : h.0 ≡ i = same (sym h.1 ∙ is) in subst (λ j. Moves j (AcceptsIn code n) pc s) e h.2
   where
     same : {j : Instruction} → Some j ≡ Some i → j ≡ i
     same e = cc
@@ -66,23 +69,84 @@ test_sound t code at end (suc n) (c ∷ s) st e h =
 
 -- one step of a test
 pub after_test : (t : Test) (code : List Instruction) (at : ℕ) (c : ℕ) (s : List ℕ) → slice_get code at ≡ Some (Check t) → Passes t c → Accepts code (at + 1) s → Accepts code at (c ∷ s)
-after_test t code at c s st p h = (suc h.0, (Check t, st, (p, h.1)))
+after_test t code at c s st p h = (suc h.0, inr (Check t, st, (p, h.1)))
 
 pub after_fork : (n : ℕ) (code : List Instruction) (at : ℕ) (s : List ℕ) → slice_get code at ≡ Some (Fork n) → Accepts code (at + 1) s ⊎ Accepts code (at + 1 + n) s → Accepts code at s
-after_fork n code at s st (inl h) = (suc h.0, (Fork n, st, inl h.1))
-after_fork n code at s st (inr h) = (suc h.0, (Fork n, st, inr h.1))
+after_fork n code at s st (inl h) = (suc h.0, inr (Fork n, st, inl h.1))
+after_fork n code at s st (inr h) = (suc h.0, inr (Fork n, st, inr h.1))
 
 pub after_jump : (n : ℕ) (code : List Instruction) (at : ℕ) (s : List ℕ) → slice_get code at ≡ Some (Jump n) → Accepts code (at + 1 + n) s → Accepts code at s
-after_jump n code at s st h = (suc h.0, (Jump n, st, h.1))
+after_jump n code at s st h = (suc h.0, inr (Jump n, st, h.1))
 
 pub after_back : (n : ℕ) (code : List Instruction) (at : ℕ) (s : List ℕ) → slice_get code at ≡ Some (Back n) → Accepts code (at - n) s → Accepts code at s
-after_back n code at s st h = (suc h.0, (Back n, st, h.1))
+after_back n code at s st h = (suc h.0, inr (Back n, st, h.1))
+
+-- past a test that is repeated, and once more
+pub after_last : (t : Test) (code : List Instruction) (at : ℕ) (s : List ℕ) → slice_get code at ≡ Some (Repeat t) → Accepts code (at + 1) s → Accepts code at s
+after_last t code at [] st h = (suc h.0, inr (Repeat t, st, h.1))
+after_last t code at (c ∷ s) st h = (suc h.0, inr (Repeat t, st, inl h.1))
+
+pub after_one : (t : Test) (code : List Instruction) (at c : ℕ) (s : List ℕ) → slice_get code at ≡ Some (Repeat t) → Passes t c → Accepts code at s → Accepts code at (c ∷ s)
+after_one t code at c s st p h = (suc h.0, inr (Repeat t, st, inr (p, h.1)))
+
+-- one character of components, and the last one
+pub after_any : (code : List Instruction) (at c : ℕ) (s : List ℕ) → slice_get code at ≡ Some Components → Accepts code at s → Accepts code at (c ∷ s)
+after_any code at c s st h = (suc h.0, inr (Components, st, inl h.1))
+
+pub after_slash : (code : List Instruction) (at c : ℕ) (s : List ℕ) → slice_get code at ≡ Some Components → c ≡ 47 → Accepts code (at + 1) s → Accepts code at (c ∷ s)
+after_slash code at c s st e h = (suc h.0, inr (Components, st, inr (e, h.1)))
 
 pub spells_test : (t : Test) → Spells (Check t ∷ []) (OneOf t)
 spells_test t = record {
   sound = λ code at end n s st e h. test_sound t code at end n s st.0 e h;
   complete = λ code at end x y st e p h.
       subst (λ z. Accepts code at (z ++ y)) (sym p.1) (after_test t code at p.0 y st.0 p.2 (moved_to code end (at + 1) y e h));
+}
+
+-- a repeated test: W holds of no character, and of one that passes before a text of which it holds
+module _ (t : Test) (W : List ℕ → Type 0) (nil : W []) (put : (c : ℕ) (s : List ℕ) → Passes t c → W s → W (c ∷ s)) (take : (c : ℕ) (s : List ℕ) → W (c ∷ s) → Passes t c × W s) where
+  module _ (code : List Instruction) (at end : ℕ) (st : slice_get code at ≡ Some (Repeat t)) (e : end ≡ at + 1) where
+    repeat_sound : (n : ℕ) (s : List ℕ) → AcceptsIn code n at s → Through W code end n s
+    repeat_sound zero s h = absurd h
+    repeat_sound (suc n) [] h =
+        let r : AcceptsIn code n (at + 1) [] = at_instruction code at n (Repeat t) [] st h in
+        record { front = []; back = []; left = n; splits = refl; meant = nil; fewer = omega arith; on = moved code (at + 1) end n [] (sym e) r }
+    repeat_sound (suc n) (c ∷ s) h = elim (at_instruction code at n (Repeat t) (c ∷ s) st h) [
+      | inl g ↦ record { front = []; back = c ∷ s; left = n; splits = refl; meant = nil; fewer = omega arith; on = moved code (at + 1) end n (c ∷ s) (sym e) g }
+      | inr g ↦ (let r : Through W code end n s = repeat_sound n s g.1 in
+          record { front = c ∷ r.front; back = r.back; left = r.left; splits = ap (λ z. c ∷ z) r.splits; meant = put c r.front g.0 r.meant; fewer = omega (arith, r.fewer); on = r.on })
+    ]
+
+    repeat_complete : (x y : List ℕ) → W x → Accepts code end y → Accepts code at (x ++ y)
+    repeat_complete [] y p h = after_last t code at y st (moved_to code end (at + 1) y e h)
+    repeat_complete (c ∷ x) y p h =
+        let q : Passes t c × W x = take c x p in
+        after_one t code at c (x ++ y) st q.0 (repeat_complete x y q.1 h)
+
+  pub spells_repeat : Spells (Repeat t ∷ []) W
+  spells_repeat = record {
+    sound = λ code at end n s st e h. repeat_sound code at end st.0 e n s h;
+    complete = λ code at end x y st e p h. repeat_complete code at end st.0 e x y p h;
+  }
+
+module _ (code : List Instruction) (at end : ℕ) (st : slice_get code at ≡ Some Components) (e : end ≡ at + 1) where
+  components_sound : (n : ℕ) (s : List ℕ) → AcceptsIn code n at s → Through Ends code end n s
+  components_sound zero s h = absurd h
+  components_sound (suc n) [] h = absurd (at_instruction code at n Components [] st h)
+  components_sound (suc n) (c ∷ s) h = elim (at_instruction code at n Components (c ∷ s) st h) [
+    | inl g ↦ (let r : Through Ends code end n s = components_sound n s g in
+        record { front = c ∷ r.front; back = r.back; left = r.left; splits = ap (λ z. c ∷ z) r.splits; meant = (c ∷ r.meant.0, ap (λ z. c ∷ z) r.meant.1); fewer = omega (arith, r.fewer); on = r.on })
+    | inr g ↦ record { front = c ∷ []; back = s; left = n; splits = refl; meant = ([], ap (λ z. z ∷ []) g.0); fewer = omega arith; on = moved code (at + 1) end n s (sym e) g.1 }
+  ]
+
+  components_complete : (x y : List ℕ) → Accepts code end y → Accepts code at ((x ++ 47 ∷ []) ++ y)
+  components_complete [] y h = after_slash code at 47 y st refl (moved_to code end (at + 1) y e h)
+  components_complete (c ∷ x) y h = after_any code at c ((x ++ 47 ∷ []) ++ y) st (components_complete x y h)
+
+pub spells_components : Spells (Components ∷ []) Ends
+spells_components = record {
+  sound = λ code at end n s st e h. components_sound code at end st.0 e n s h;
+  complete = λ code at end x y st e p h. subst (λ z. Accepts code at (z ++ y)) (sym p.1) (components_complete code at end st.0 e p.0 y h);
 }
 
 abbrev pub OneThen : (List ℕ → Type 0) → (List ℕ → Type 0) → List ℕ → Type 0

@@ -1,5 +1,6 @@
 pub mod Bits
 pub mod Compiled
+pub mod Folding
 pub mod Fragments
 pub mod Lengths
 pub mod Rounds
@@ -9,3 +10,4 @@ pub mod Sets
 pub mod Sizes
 pub mod Tails
 pub mod Whole
+pub mod Words

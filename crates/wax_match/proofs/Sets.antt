@@ -2,7 +2,7 @@
 use Rattle.std.proofs.Common.{◌≡◌, ℕ, zero, suc, ◌+◌, ◌<◌, ◌≤◌, ◌⊎◌, inl, inr, Bool, true, false, List, [], ◌∷◌, length, set, refl, sym, ◌∙◌, arith, true≢false, get_or-set_same, get_or-set_other, length-set}
 use Rattle.std.proofs.lemmas.Bool.{cases_eq, cases_lt}
 use Rattle.std.proofs.lemmas.List.{get_or_past}
-use Rattle.wax_match.specs.Threads.{Has, Within, members}
+use Rattle.wax_match.specs.Threads.{AreRows, Has, IsEmpty, Taken, Within, members}
 
 -- a set whose places are below a number has at most that many
 pub members_within : (n : ℕ) (flags : List Bool) → Within n flags → members flags ≤ n
@@ -17,6 +17,15 @@ members_within zero (false ∷ flags) h = members_within zero flags (λ k g. abs
     no_place k e = omega (arith, e)
 members_within (suc n) (true ∷ flags) h = omega (arith, members_within n flags (λ k g. let e : suc k < suc n = h (suc k) g in omega (arith, e)))
 members_within (suc n) (false ∷ flags) h = omega (arith, members_within n flags (λ k g. let e : suc k < suc n = h (suc k) g in omega (arith, e)))
+
+pub members_none : (flags : List Bool) → IsEmpty flags → members flags ≡ 0
+members_none flags none = omega (arith, members_within 0 flags (λ k h. absurd (none k h)))
+
+pub members_some : (flags : List Bool) (k : ℕ) → Has flags k → 1 ≤ members flags
+members_some [] k h = absurd (true≢false (sym h))
+members_some (true ∷ flags) k h = omega arith
+members_some (false ∷ flags) zero h = absurd (true≢false (sym h))
+members_some (false ∷ flags) (suc k) h = members_some flags k h
 
 -- a new place counts one more
 pub members_set : (flags : List Bool) (at : ℕ) → at < length flags → (Has flags at → ⊥) → members (set flags at true) ≡ members flags + 1
@@ -59,3 +68,33 @@ module _ (flags : List Bool) (k : ℕ) where
     ]
     | inr other ↦ sym (get_or-set_other flags k x false false other) ∙ h
   ]
+
+-- the lowest place that is still to be read counts as read
+module _ (size first : ℕ) (pending read next : List Bool) (rows : AreRows size first pending read next) where
+  pub reads_few : members read ≤ size
+  reads_few = members_within size read rows.read_within
+
+  module _ (at : ℕ) (held : Has pending at) (lt : at < size) (lowest : (k : ℕ) → Has pending k → at ≤ k) where
+    room : at < length read
+    room = omega (arith, lt, rows.read_room)
+
+    pub takes_few : members (set read at true) ≤ size
+    takes_few = members_within size (set read at true) (λ x h. elim (added_only read at x h) [
+      | inl g ↦ rows.read_within x g
+      | inr same ↦ rw same lt
+    ])
+
+    pub takes : Taken (record { size = size; pending = pending; read = read; next = next }) (record { size = size; pending = set pending at false; read = set read at true; next = next }) at
+    takes = record {
+      size = refl;
+      below = lt;
+      next = refl;
+      held = held;
+      lowest = lowest;
+      others = removed_others pending at;
+      fewer = removed_fewer pending at;
+      reads = has_added read at room;
+      keeps = added_keeps read at;
+      only = added_only read at;
+      counted = members_set read at room (rows.apart at held);
+    }

@@ -1,9 +1,10 @@
 -- The instructions of a token tree. This mirrors the code that writes them, and is no part of what a
 -- tree means: only private functions cite it.
 use Rattle.std.specs.Prelude.{ℕ, zero, suc, ◌+◌, ◌-◌, Bool, true, false, List, [], ◌∷◌, ◌++◌, length, Option, Some, None, nat_le, if◌then◌else◌}
+use Rattle.unicode.specs.CaseFolding.{simple_fold}
 use Rattle.wax_match.specs.declared.encode.instruction.Test.TheVariants.{Char, Folded, Class, NotSlash, Any, Never}
 use Rattle.wax_match.specs.declared.encode.instruction.Instruction.{Instruction}
-use Rattle.wax_match.specs.declared.encode.instruction.Instruction.TheVariants.{Check, Fork, Jump, Back}
+use Rattle.wax_match.specs.declared.encode.instruction.Instruction.TheVariants.{Check, Repeat, Components, Fork, Jump, Back}
 use Rattle.wax_token.specs.Syntax.{Leaf, literal, class, separator, one, zero_or_more, tree, Tree, leaf, alternation, concatenation, repetition, Trees, none, more}
 use Rattle.wax_token.specs.Cost.{holds_tree}
 
@@ -31,16 +32,16 @@ choose a b = Fork (length a + 1) ∷ (a ++ Jump (length b) ∷ b)
 abbrev pub literal_code : Bool → List ℕ → List Instruction
 literal_code insensitive [] = []
 literal_code false (c ∷ t) = Check (Char c) ∷ literal_code false t
-literal_code true (c ∷ t) = Check (Folded c) ∷ literal_code true t
+literal_code true (c ∷ t) = Check (Folded (simple_fold c)) ∷ literal_code true t
 
 -- a tree wildcard: whether something is before it, whether something is after it, whether it is rooted
 abbrev pub wildcard_code : Bool → Bool → Bool → List Instruction
-wildcard_code false false false = loop (Check Any ∷ [])
-wildcard_code false false true = slash ++ loop (Check Any ∷ [])
-wildcard_code false true false = skip (loop (Check Any ∷ []) ++ slash)
-wildcard_code false true true = slash ++ skip (loop (Check Any ∷ []) ++ slash)
-wildcard_code true true rooted = slash ++ skip (loop (Check Any ∷ []) ++ slash)
-wildcard_code true false rooted = skip (slash ++ loop (Check Any ∷ []))
+wildcard_code false false false = Repeat Any ∷ []
+wildcard_code false false true = slash ++ Repeat Any ∷ []
+wildcard_code false true false = skip (Components ∷ [])
+wildcard_code false true true = slash ++ skip (Components ∷ [])
+wildcard_code true true rooted = slash ++ skip (Components ∷ [])
+wildcard_code true false rooted = skip (slash ++ Repeat Any ∷ [])
 
 -- a leaf
 abbrev pub leaf_code : Leaf → Bool → Bool → List Instruction
@@ -48,7 +49,7 @@ leaf_code (literal insensitive t) before after = literal_code insensitive t
 leaf_code (class negated xs) before after = Check (Class (negated, xs)) ∷ []
 leaf_code separator before after = slash
 leaf_code one before after = Check NotSlash ∷ []
-leaf_code (zero_or_more _) before after = loop (Check NotSlash ∷ [])
+leaf_code (zero_or_more _) before after = Repeat NotSlash ∷ []
 leaf_code (tree rooted) before after = wildcard_code before after rooted
 
 -- n times a

@@ -1,5 +1,5 @@
 //! Calls that take memory, once with enough of it, and how many visits a run takes.
-use crate::encode::{Meter, compile, run};
+use crate::encode::{Meter, case_folded_eq, compile, run};
 use std::alloc::{AllocError, Global};
 use std::borrow::CowStr;
 use std::test::Fail;
@@ -17,6 +17,14 @@ fn text(characters: &'static str) -> Token<'static, ()> {
 
 fn wildcard(wildcard: Wildcard) -> Token<'static, ()> {
     new_leaf(LeafKind::Wildcard(wildcard), ())
+}
+
+/// How long the tokens' program is.
+fn length(alloc: Global, tokens: &[Token<'static, ()>]) -> Result<usize, AllocError> {
+    match compile(alloc, tokens, false, false) {
+        Ok(program) => Ok(program.len()),
+        Err(_) => Err(AllocError),
+    }
 }
 
 /// The answer of the tokens' program on the text, and how many visits it takes.
@@ -150,6 +158,96 @@ fn refuses_what_is_too_long(rt: HostRuntime) -> Result<(), Fail> {
             refusal.to_string(alloc)?.as_str(),
             "failed to compile glob: oversized program"
         ),
+    }
+    Ok(())
+}
+
+#[test]
+fn takes_a_literal_of_more_than_one_word(rt: HostRuntime) -> Result<(), Fail> {
+    let alloc = rt.alloc();
+    let letters = "aaaaaaaaaaaaaaaaaaaaaaaaaaaaaaaaaaaaaaaaaaaaaaaaaaaaaaaaaaaaaaaa";
+    let shorter = "aaaaaaaaaaaaaaaaaaaaaaaaaaaaaaaaaaaaaaaaaaaaaaaaaaaaaaaaaaaaaaa";
+    let tokens = vec![in alloc; text(letters)]?;
+    assert_eq!(rt; length(alloc, &tokens)?, 65);
+    let (is_accepted, visits) = answer(alloc, &tokens, letters)?;
+    assert_eq!(rt; is_accepted, true);
+    assert!(rt; visits <= 4_225);
+    assert_eq!(rt; answer(alloc, &tokens, shorter)?.0, false);
+    let tokens = vec![in alloc; text(shorter)]?;
+    assert_eq!(rt; length(alloc, &tokens)?, 64);
+    assert_eq!(rt; answer(alloc, &tokens, shorter)?.0, true);
+    assert_eq!(rt; answer(alloc, &tokens, letters)?.0, false);
+    Ok(())
+}
+
+#[test]
+fn goes_back_over_more_than_one_word(rt: HostRuntime) -> Result<(), Fail> {
+    let alloc = rt.alloc();
+    let once = "abcdefghijklmnopqrstuvwxyzabcdefghijklmnopqrstuvwxyzabcdefghijklmnopqrs";
+    let twice =
+        "abcdefghijklmnopqrstuvwxyzabcdefghijklmnopqrstuvwxyzabcdefghijklmnopqrsabcdefghijklmnopqrstuvwxyzabcdefghijklmnopqrstuvwxyzabcdefghijklmnopqrs";
+    let body = vec![in alloc; text(once)]?;
+    let tokens = vec![in alloc; repetition(alloc, body, 0, None)?]?;
+    for (path, want) in [("", true), (once, true), (twice, true), ("ab", false)] {
+        assert_eq!(rt; answer(alloc, &tokens, path)?.0, want, "at {path}");
+    }
+    Ok(())
+}
+
+#[test]
+fn tells_how_long_programs_are(rt: HostRuntime) -> Result<(), Fail> {
+    let alloc = rt.alloc();
+    let a = vec![in alloc; text("a")]?;
+    assert_eq!(rt; length(alloc, &a)?, 2);
+    let tree = vec![in alloc; wildcard(Wildcard::Tree { has_root: false })]?;
+    assert_eq!(rt; length(alloc, &tree)?, 7);
+    let between = vec![in alloc;
+        text("a"),
+        wildcard(Wildcard::Tree { has_root: true }),
+        text("b"),
+    ]?;
+    assert_eq!(rt; length(alloc, &between)?, 9);
+    let copies = vec![in alloc; repetition(alloc, vec![in alloc; text("ab")]?, 2, Some(3))?]?;
+    assert_eq!(rt; length(alloc, &copies)?, 15);
+    let separator = new_leaf(LeafKind::Separator(Separator), ());
+    let body = vec![in alloc; text("a"), separator]?;
+    let endless = vec![in alloc; repetition(alloc, body, 0, None)?]?;
+    assert_eq!(rt; length(alloc, &endless)?, 7);
+    Ok(())
+}
+
+#[test]
+fn runs_through_nested_repetitions(rt: HostRuntime) -> Result<(), Fail> {
+    let alloc = rt.alloc();
+    let mut token = text("a");
+    for _depth in 0..128 {
+        token = repetition(alloc, vec![in alloc; token]?, 0, None)?;
+    }
+    let tokens = vec![in alloc; token]?;
+    assert_eq!(rt; length(alloc, &tokens)?, 514);
+    let (is_accepted, visits) = answer(alloc, &tokens, "aaaaaaaaaaaaaaaaaaaaaaaaaaaaaaaaaaaaaaaa")?;
+    assert_eq!(rt; is_accepted, true);
+    assert!(rt; visits >= 40);
+    assert!(rt; visits <= 514 * 41);
+    assert_eq!(rt; answer(alloc, &tokens, "aab")?.0, false);
+    Ok(())
+}
+
+#[test]
+fn compares_without_case(rt: HostRuntime) -> Result<(), Fail> {
+    let alloc = rt.alloc();
+    for (left, right, want) in [
+        ("", "", true),
+        ("Straße", "sTRAẞE", true),
+        ("straße", "strasse", false),
+        ("K", "k", true),
+        ("a", "ab", false),
+        ("ab", "ac", false),
+    ] {
+        let Ok(is_equal) = case_folded_eq(alloc, left, right) else {
+            return Err(Fail::from(AllocError));
+        };
+        assert_eq!(rt; is_equal, want, "at {left} and {right}");
     }
     Ok(())
 }

@@ -1,1 +1,4 @@
+pub mod Labels
+pub mod Lending
 pub mod Outcome
+pub mod Spans

@@ -5,8 +5,11 @@ ghost use Rattle.std.specs.Prelude.{◌≡◌};
 use std::alloc::AllocError;
 use thiserror::Error;
 
-/// A part of an expression: the first byte, and the number of bytes.
-pub type Span = (usize, usize);
+mod located;
+mod span;
+
+pub use located::{CompositeSpan, CorrelatedSpan, LocatedError};
+pub use span::{Span, SpanExt, Spanned};
 
 /// Memory was asked for and refused (refusal 10).
 #[derive(Clone, Copy, Debug, Error)]

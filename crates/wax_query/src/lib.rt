@@ -2,3 +2,5 @@
 #![tactic(auto)]
 
 pub mod diagnostics;
+#[cfg(test)]
+mod tests;

@@ -1,9 +1,7 @@
-pub mod Texts
-pub mod Runs
-pub mod Classes
-pub mod Flags
-pub mod Trees
-pub mod Leaves
-pub mod Places
-pub mod Tokens
-pub mod Breaks
+pub mod Adjacent
+pub mod Digits
+pub mod Examples
+pub mod Firsts
+pub mod Levels
+pub mod Rows
+pub mod Terminals

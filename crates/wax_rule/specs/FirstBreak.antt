@@ -1,9 +1,70 @@
 -- The error that answers a list of breaks.
-use Rattle.std.specs.Prelude.{◌≡◌, List, [], ◌∷◌}
-use Rattle.wax_rule.specs.declared.rule.RuleError.{RuleError}
-use Rattle.wax_rule.specs.Rules.{Break}
+use Rattle.std.specs.Prelude.{◌≡◌, ℕ, ◌+◌, Bool, List, [], ◌∷◌, ◌++◌, Option, Some, None, slice_get}
+use Rattle.wax_query.specs.Labels.{Composite}
+use Rattle.wax_rule.specs.declared.rule.Break.{Break}
+use Rattle.wax_rule.specs.declared.rule.RuleErrorKind.{RuleErrorKind}
+use Rattle.std.specs.List.{flat_map}
+use Rattle.std.specs.Option.{is_some}
+use Rattle.wax_rule.specs.declared.rule.Rule.{Rule}
+use Rattle.wax_rule.specs.declared.rule.Rule.TheVariants.{Boundary, Bounds, Branch}
+use Rattle.wax_rule.specs.Situated.{Situated}
+use Rattle.wax_rule.specs.Rules.{adjacent_span, boundary_breaks, bounds_breaks, branch_breaks, size_breaks}
+use Rattle.wax_token.specs.Reads.{Span}
+use Rattle.wax_token.specs.Syntax.{Tree, Trees, none, more}
+
+-- What contracts see of an error: the rule, where it is broken, and the characters of the expression.
+pub record ErrorView : Type 0 where
+  pub kind : RuleErrorKind
+  pub location : Composite
+  pub expression : List ℕ
 
 -- the error tells the first of the breaks
-abbrev pub IsFirst : List Break → RuleError → Type 0
+abbrev pub IsFirst : List Break → ErrorView → Type 0
 IsFirst [] e = ⊥
-IsFirst (b ∷ bs) e = (e.kind ≡ b.kind) × (e.span ≡ b.span)
+IsFirst (b ∷ bs) e = (e.kind ≡ b.kind) × (e.location ≡ b.location)
+
+abbrev pub first_of : {A : Type 0} → List A → Option A
+first_of [] = None
+first_of (x ∷ xs) = Some x
+
+abbrev pub adjacent_to : Tree Span → Option (Tree Span) → Option Span
+adjacent_to t None = None
+adjacent_to t (Some u) = adjacent_span t u
+
+abbrev pub adjacent_after : Option (Tree Span) → Option (Tree Span) → Option Span
+adjacent_after None o = None
+adjacent_after (Some t) o = adjacent_to t o
+
+-- the span of the token at the index and the next one
+abbrev pub adjacent_at : List (Tree Span) → ℕ → Option Span
+adjacent_at ts i = adjacent_after (slice_get ts i) (slice_get ts (i + 1))
+
+abbrev pub first_some : {A : Type 0} → Option A → Option A → Option A
+first_some None o = o
+first_some (Some s) o = Some s
+
+-- the span of the first neighbours that are both boundaries
+abbrev pub first_adjacent : Trees Span → Option Span
+first_adjacent none = None
+first_adjacent (more t none) = None
+first_adjacent (more t (more u us)) = first_some (adjacent_span t u) (first_adjacent (more u us))
+
+abbrev pub breaks_of : Rule → Situated → List Break
+breaks_of Boundary s = boundary_breaks s.token
+breaks_of Bounds s = bounds_breaks s.token
+breaks_of Branch s = branch_breaks s.left s.right s.token
+
+abbrev pub first_in : Rule → Option Situated → Option Break
+first_in rule None = None
+first_in rule (Some s) = first_of (breaks_of rule s)
+
+-- the token at the index breaks the rule
+abbrev pub is_broken_at : Rule → List Situated → ℕ → Bool
+is_broken_at rule row i = is_some (first_in rule (slice_get row i))
+
+-- the breaks of all but sizes
+abbrev pub breaks_beside : List Situated → List Break
+breaks_beside row = flat_map (breaks_of Boundary) row ++ flat_map (breaks_of Bounds) row ++ flat_map (breaks_of Branch) row
+
+abbrev pub oversized : List Situated → List Break
+oversized row = flat_map (λ s. size_breaks s.token) row

@@ -1,5 +1,6 @@
-pub mod Accepted
-pub mod Rules
 pub mod FirstBreak
-pub mod Parser
-pub mod Reading
+pub mod Naturals
+pub mod Queue
+pub mod Rules
+pub mod Situated
+pub mod Sizes

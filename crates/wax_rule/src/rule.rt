@@ -1,18 +1,34 @@
 //! The rules that tell expressions apart whose meaning would surprise.
-ghost use Rattle.std.specs.Prelude.{◌≡◌, IfOk, [], map, length};
-ghost use Rattle.wax_query.specs.Outcome.{MatchBuild};
-ghost use Rattle.wax_token.specs.View.{leaf_of};
-ghost use Rattle.wax_rule.specs.Rules.{broken, is_boundary_leaf, is_boundary, span_union, adjacent_span, adjacent_at};
+ghost use Rattle.std.specs.Prelude.{◌≡◌, ◌∷◌, ◌++◌, ◌<◌, [], ℕ, Bool, IfOk, None, chars, codes, encode_utf8_all, length, map, slice_get};
+ghost use Rattle.std.specs.Cow.{cow_str_bytes};
+ghost use Rattle.std.specs.List.{flat_map, range_with_len};
 ghost use Rattle.itertools.specs.Consumer.{find_at};
-ghost use Rattle.std.specs.Option.{is_some};
-ghost use Rattle.std.specs.List.{range_with_len};
-ghost use Rattle.wax_rule.specs.FirstBreak.{IsFirst};
-ghost use Rattle.wax_token.specs.Words.{IsFlat};
+ghost use Rattle.wax_query.specs.Outcome.{MatchBuild};
+ghost use Rattle.wax_rule.specs.Situated.{breadth_first};
+ghost use Rattle.wax_rule.specs.Rules.{broken, break_here, breaks_among, size_breaks};
+ghost use Rattle.wax_rule.specs.FirstBreak.{IsFirst, first_of, breaks_of, breaks_beside, oversized, first_in, is_broken_at};
 
+mod boundary;
+mod bounds;
+mod branch;
+mod leaf;
+mod natural;
+mod situated;
+mod size;
+
+use crate::rule::boundary::boundary_break;
+use crate::rule::bounds::bounds_break;
+use crate::rule::branch::branch_break;
+use crate::rule::situated::{Situated, breadth_first};
+use crate::rule::size::is_oversized;
 use itertools::Itertools;
+use std::alloc::{AllocError, Global};
+use std::borrow::CowStr;
+use std::fmt::{self, Display, Formatter};
+use std::marker::Model;
 use thiserror::Error;
-use wax_query::diagnostics::{Refusal, Span};
-use wax_token::token::{ExpressionMetadata, LeafKind, Token, Tokenized, Topology, Wildcard};
+use wax_query::diagnostics::{CompositeSpan, NoMemory, Refusal, Span};
+use wax_token::token::{ExpressionMetadata, Token, Tokenized};
 
 /// Which rule is broken.
 #[derive(Clone, Copy, Debug, PartialEq, Eq, Error)]
@@ -40,90 +56,228 @@ pub enum RuleErrorKind {
     OversizedInvariant,
 }
 
-/// The first rule that an expression breaks, and where (refusals 2 to 8).
-#[derive(Clone, Copy, Debug, Error)]
-#[error("{kind}")]
-pub struct RuleError {
-    pub kind: RuleErrorKind,
-    pub span: Span,
+/// The first rule that an expression breaks, and where (refusals 2 to 8). It prints the rule.
+/// Contracts see the rule, the place and the characters of the expression.
+#[derive(Debug, Drop)]
+pub struct RuleError<'t> {
+    expression: CowStr<'t>,
+    kind: RuleErrorKind,
+    location: CompositeSpan,
 }
 
-/// Whether the leaf is `/` or `**`.
-fn is_boundary_leaf(leaf: &LeafKind<'_>) -> bool
-    ensures { result ≡ is_boundary_leaf (leaf_of leaf.now) }
-{
-    match leaf {
-        LeafKind::Separator(_) => true,
-        LeafKind::Wildcard(wildcard) => matches!(wildcard, Wildcard::Tree { has_root: _ }),
-        _ => false,
+impl<'t> Model for RuleError<'t> {
+    ghost use Rattle.std.specs.Str.{chars};
+    ghost use Rattle.std.specs.Cow.{cow_str_bytes};
+    ghost use Rattle.wax_rule.specs.FirstBreak.{ErrorView};
+
+    ghost Value = { ErrorView };
+
+    ghost view = { λ e. record { kind = e.kind; location = e.location; expression = chars (cow_str_bytes e.expression) } };
+}
+
+impl<'t> RuleError<'t> {
+    /// Which rule is broken.
+    pub fn kind(&self) -> RuleErrorKind
+        ensures { result ≡ self.now.kind }
+    {
+        self.kind
+    }
+
+    /// The place where it is broken: one, with the places that explain it.
+    pub fn locations(&self) -> &[CompositeSpan]
+        ensures { result.now ≡ self.now.location ∷ [] }
+    {
+        std::slice::from_ref(&self.location)
+    }
+
+    /// The expression that breaks it.
+    pub fn expression(&self) -> &str
+        ensures { chars result.now ≡ self.now.expression }
+    {
+        self.expression.as_str()
+    }
+
+    /// The same error with an expression of its own. Refused with 10 where memory is.
+    pub fn into_owned(self, alloc: Global) -> Result<RuleError<'static>, NoMemory>
+        ensures { IfOk result (λ e. e ≡ self.entry) }
+    {
+        let expression = self.expression.into_owned(alloc)?;
+        Ok(RuleError {
+            expression: CowStr::Owned(expression),
+            kind: self.kind,
+            location: self.location,
+        })
     }
 }
 
-/// Whether the token is a separator or a tree wildcard.
-fn is_boundary<'t>(token: &Token<'t, ExpressionMetadata>) -> bool
-    ensures { result ≡ is_boundary token.now }
-{
-    match token.topology() {
-        Topology::Branch(_) => false,
-        Topology::Leaf(leaf) => is_boundary_leaf(leaf),
+impl Display for RuleError<'_> {
+    fn fmt<W: fmt::Write>(&self, f: &mut Formatter<W>) -> fmt::Result {
+        Display::fmt(&self.kind, f)
     }
 }
 
-/// The least span that holds both.
-fn union(left: &ExpressionMetadata, right: &ExpressionMetadata) -> Span
-    ensures { result ≡ span_union left.now right.now }
-{
-    let (left, right) = (left.span(), right.span());
-    let start = left.0.min(right.0);
-    let end = (left.0 + left.1).max(right.0 + right.1);
-    (start, end - start)
+/// What keeps all rules. Contracts see it as what it holds.
+#[derive(Drop)]
+pub struct Checked<T> {
+    inner: T,
 }
 
-/// The span of two neighbours that are both boundaries.
-fn adjacent_span<'t>(
-    left: &Token<'t, ExpressionMetadata>,
-    right: &Token<'t, ExpressionMetadata>,
-) -> Option<Span>
-    ensures { result ≡ adjacent_span left.now right.now }
-{
-    if is_boundary(left) && is_boundary(right) {
-        return Some(union(left.annotation(), right.annotation()));
+impl<T> Model for Checked<T> {
+    ghost Value = { T };
+
+    ghost view = { λ c. c.inner };
+}
+
+impl<T> Checked<T> {
+    /// What was checked.
+    pub fn release(self) -> T
+        ensures { result ≡ self }
+    {
+        self.inner
     }
-    None
 }
 
-/// The same of the token at the index and the next one.
-fn adjacent_span_at<'t>(tokens: &[Token<'t, ExpressionMetadata>], index: usize) -> Option<Span>
-    ensures { result ≡ adjacent_at tokens.now index }
-{
-    let left = tokens.get(index)?;
-    let right = tokens.get(index.checked_add(1)?)?;
-    adjacent_span(left, right)
+/// A rule that is broken, and where.
+#[derive(Drop)]
+struct Break {
+    kind: RuleErrorKind,
+    location: CompositeSpan,
 }
 
-/// The first two neighbours that are both boundaries: the index of the left one, and their span.
-fn find_adjacent<'t>(tokens: &[Token<'t, ExpressionMetadata>]) -> Option<(usize, Option<Span>)>
-    ensures { result ≡ find_at is_some 0 (map (adjacent_at tokens.now) (range_with_len 0 (length tokens.now))) }
+/// A break at one place.
+fn break_here(kind: RuleErrorKind, span: Span) -> Break
+    ensures { result ≡ break_here kind span }
 {
-    let mut spans = (0..tokens.len()).map(|index| adjacent_span_at(tokens, index));
-    spans.find_position(|span| span.is_some())
+    Break {
+        kind,
+        location: CompositeSpan::spanned("here", span),
+    }
 }
 
-/// The tokens as they were given, where they break no rule, else the first break.
-pub fn check<'t>(
-    tokenized: Tokenized<'t, ExpressionMetadata>,
-) -> Result<Tokenized<'t, ExpressionMetadata>, Refusal<RuleError>>
-    requires { IsFlat tokenized.token }
-    ensures kept { IfOk result (λ t. t ≡ tokenized.entry) }
-    ensures rules { MatchBuild result (λ t. broken t.token ≡ []) (IsFirst (broken tokenized.entry.token)) }
+/// One of the rules.
+#[derive(Clone, Copy)]
+enum Rule {
+    Boundary,
+    Bounds,
+    Branch,
+}
+
+/// The first break of a rule in a token.
+fn first_break(rule: Rule, token: &Situated<'_, '_>) -> Option<Break>
+    ensures { result ≡ first_of (breaks_of rule token.now) }
 {
-    if let Some((_, found)) = find_adjacent(tokenized.token.concatenation()) {
-        if let Some(span) = found {
-            return Err(Refusal::Refused(RuleError {
-                kind: RuleErrorKind::AdjacentBoundary,
-                span,
-            }));
+    match rule {
+        Rule::Boundary => boundary_break(token.token()),
+        Rule::Bounds => bounds_break(token.token()),
+        Rule::Branch => branch_break(token),
+    }
+}
+
+/// The same of the token at the index.
+fn first_break_at(rule: Rule, row: &[Situated<'_, '_>], index: usize) -> Option<Break>
+    ensures { result ≡ first_in rule (slice_get row.now index) }
+{
+    match row.get(index) {
+        Some(token) => first_break(rule, token),
+        None => None,
+    }
+}
+
+/// Whether there is one.
+fn is_broken_at(rule: Rule, row: &[Situated<'_, '_>], index: usize) -> bool
+    ensures { result ≡ is_broken_at rule row.now index }
+{
+    first_break_at(rule, row, index).is_some()
+}
+
+/// The first token that breaks the rule: twice its index.
+fn find_broken(rule: Rule, row: &[Situated<'_, '_>]) -> Option<(usize, usize)>
+    ensures { result ≡ find_at (is_broken_at rule row.now) 0 (range_with_len 0 (length row.now)) }
+{
+    (0..row.len()).find_position(|index| is_broken_at(rule, row, *index))
+}
+
+/// The first break of the rule.
+fn find_break(rule: Rule, row: &[Situated<'_, '_>]) -> Option<Break>
+    ensures { result ≡ first_of (flat_map (breaks_of rule) row.now) }
+{
+    let (_, index) = find_broken(rule, row)?;
+    first_break_at(rule, row, index)
+}
+
+/// The first break of the rules that look at tokens and their neighbours.
+fn find_beside(row: &[Situated<'_, '_>]) -> Option<Break>
+    ensures { result ≡ first_of (breaks_beside row.now) }
+{
+    find_break(Rule::Boundary, row)
+        .or(find_break(Rule::Bounds, row))
+        .or(find_break(Rule::Branch, row))
+}
+
+/// Whether the token has a fixed size of 65,536 or more.
+fn size_break<'t>(
+    alloc: Global,
+    token: &Token<'t, ExpressionMetadata>,
+) -> Result<Option<Break>, AllocError>
+    ensures { IfOk result (λ found. found ≡ first_of (size_breaks token.now)) }
+{
+    if is_oversized(alloc, token)? {
+        let span = token.annotation().span();
+        return Ok(Some(break_here(RuleErrorKind::OversizedInvariant, span)));
+    }
+    Ok(None)
+}
+
+/// The first token of such a size.
+fn find_oversized(alloc: Global, row: &[Situated<'_, '_>]) -> Result<Option<Break>, AllocError>
+    ensures { IfOk result (λ found. found ≡ first_of (oversized row.now)) }
+{
+    for token in row {
+        if let Some(found) = size_break(alloc, token.token())? {
+            return Ok(Some(found));
         }
     }
-    Ok(tokenized)
+    Ok(None)
+}
+
+/// The first break of all rules.
+fn find_among(alloc: Global, row: &[Situated<'_, '_>]) -> Result<Option<Break>, AllocError>
+    ensures { IfOk result (λ found. found ≡ first_of (breaks_among row.now)) }
+{
+    match find_beside(row) {
+        Some(found) => Ok(Some(found)),
+        None => find_oversized(alloc, row),
+    }
+}
+
+/// The first break of all rules in a token.
+fn find_first<'t>(
+    alloc: Global,
+    token: &Token<'t, ExpressionMetadata>,
+) -> Result<Option<Break>, AllocError>
+    ensures { IfOk result (λ found. found ≡ first_of (broken token.now)) }
+{
+    let row = breadth_first(alloc, token)?;
+    find_among(alloc, row.as_slice())
+}
+
+/// The tokens as they were given, where they break no rule; else refused with the number of the first
+/// rule that is broken, 2 to 8, at its first place. Takes memory for a list of the tokens, and time in
+/// proportion to them and to how deep they nest.
+pub fn check<'t>(
+    alloc: Global,
+    tokenized: Tokenized<'t, ExpressionMetadata>,
+) -> Result<Checked<Tokenized<'t, ExpressionMetadata>>, Refusal<RuleError<'t>>>
+    ensures kept { IfOk result (λ t. t ≡ tokenized.entry) }
+    ensures rules { MatchBuild result (λ t. broken t.token ≡ []) (IsFirst (broken tokenized.entry.token)) }
+    ensures expression { MatchBuild result (λ _. Unit {0}) (λ e. e.expression ≡ chars (cow_str_bytes tokenized.entry.expression)) }
+{
+    match find_first(alloc, &tokenized.token)? {
+        None => Ok(Checked { inner: tokenized }),
+        Some(found) => Err(Refusal::Refused(RuleError {
+            expression: tokenized.expression,
+            kind: found.kind,
+            location: found.location,
+        })),
+    }
 }

@@ -2,8 +2,9 @@
 
 use std::alloc::{AllocError, Global};
 use std::fmt;
+use wax::diagnostics::{CompositeSpan, LocatedError};
 use wax::rule::RuleErrorKind;
-use wax::{BuildError, CandidatePath, Glob, Program};
+use wax::{BuildError, CandidatePath, Glob, NoMemory, Program};
 
 /// How many rows have the same answer here, and how many another.
 #[derive(Drop)]
@@ -34,8 +35,24 @@ impl fmt::Display for Tally {
     }
 }
 
-/// Whether the row that was made here is the row of the file.
-pub fn compare(row: &str, made: Result<String, AllocError>) -> bool {
+/// What the rows of a file tell.
+#[derive(Clone, Copy)]
+pub enum Kind {
+    /// An expression, 0 or the number of its refusal, and start and length of the first label.
+    Accept,
+    /// An expression, the number of its refusal, and all labels of a broken rule with their spans.
+    Labels,
+    /// An expression, a path, and whether the one means the other.
+    Match,
+}
+
+/// Whether the row, made anew, is that of the file.
+pub fn is_same(alloc: Global, kind: Kind, row: &str) -> bool {
+    let made = match kind {
+        Kind::Accept => accept_row(alloc, row),
+        Kind::Labels => labels_row(alloc, row),
+        Kind::Match => match_row(alloc, row),
+    };
     match made {
         Ok(made) => made.as_str() == row,
         Err(_) => false,
@@ -48,10 +65,10 @@ fn field(row: &str, index: usize) -> &str {
 }
 
 /// The number of a refusal.
-fn number(error: &BuildError) -> u8 {
+pub fn number(error: &BuildError) -> u8 {
     match error {
         BuildError::Parse(_) => 1,
-        BuildError::Rule(error) => match error.kind {
+        BuildError::Rule(error) => match error.kind() {
             RuleErrorKind::AdjacentBoundary => 2,
             RuleErrorKind::IncompatibleBounds => 3,
             RuleErrorKind::SingularTree => 4,
@@ -71,11 +88,11 @@ fn refusal(alloc: Global, expression: &str) -> Option<BuildError> {
 }
 
 /// The expression, 0 or the number of its refusal, and the span of a broken rule.
-pub fn accept_row(alloc: Global, row: &str) -> Result<String, AllocError> {
+fn accept_row(alloc: Global, row: &str) -> Result<String, NoMemory> {
     let expression = field(row, 0);
     match refusal(alloc, expression) {
-        None => format!(in alloc; "{expression}\t0\t-\t-"),
-        Some(error) => refused_row(alloc, expression, error),
+        None => Ok(format!(in alloc; "{expression}\t0\t-\t-")?),
+        Some(error) => Ok(refused_row(alloc, expression, error)?),
     }
 }
 
@@ -83,13 +100,46 @@ pub fn accept_row(alloc: Global, row: &str) -> Result<String, AllocError> {
 fn refused_row(alloc: Global, expression: &str, error: BuildError) -> Result<String, AllocError> {
     let number = number(&error);
     match error {
-        BuildError::Rule(broken) => {
-            let start = broken.span.0;
-            let len = broken.span.1;
-            format!(in alloc; "{expression}\t{number}\t{start}\t{len}")
-        }
+        BuildError::Rule(broken) => match broken.locations().first() {
+            Some(place) => {
+                let (start, len) = place.span();
+                format!(in alloc; "{expression}\t{number}\t{start}\t{len}")
+            }
+            None => format!(in alloc; "{expression}\t{number}\t-\t-"),
+        },
         _ => format!(in alloc; "{expression}\t{number}\t-\t-"),
     }
+}
+
+/// The expression, the number of its refusal, and each label of a broken rule with its span.
+fn labels_row(alloc: Global, row: &str) -> Result<String, NoMemory> {
+    let expression = field(row, 0);
+    match refusal(alloc, expression) {
+        Some(error) => labelled_row(alloc, expression, &error),
+        None => Ok(format!(in alloc; "{expression}\t0")?),
+    }
+}
+
+/// The row of a refused expression with its labels.
+fn labelled_row(alloc: Global, expression: &str, error: &BuildError) -> Result<String, NoMemory> {
+    let number = number(error);
+    let mut row = format!(in alloc; "{expression}\t{number}")?;
+    if let BuildError::Rule(broken) = error {
+        for place in broken.locations() {
+            push_labels(alloc, &mut row, place)?;
+        }
+    }
+    Ok(row)
+}
+
+/// Adds each label of a place, with its span.
+fn push_labels(alloc: Global, row: &mut String, place: &CompositeSpan) -> Result<(), NoMemory> {
+    for (label, span) in place.labels(alloc)? {
+        let (start, len) = span;
+        let field = format!(in alloc; "\t{label} {start} {len}")?;
+        row.push_str(field.as_str())?;
+    }
+    Ok(())
 }
 
 /// Whether the glob means the path; `None` where it doesn't build or memory is refused.
@@ -99,12 +149,12 @@ pub fn is_meant(alloc: Global, expression: &str, path: &str) -> Option<bool> {
 }
 
 /// The expression, the path, and 1 where the one means the other, else 0.
-pub fn match_row(alloc: Global, row: &str) -> Result<String, AllocError> {
+fn match_row(alloc: Global, row: &str) -> Result<String, NoMemory> {
     let expression = field(row, 0);
     let path = field(row, 1);
     match is_meant(alloc, expression, path) {
-        Some(true) => format!(in alloc; "{expression}\t{path}\t1"),
-        Some(false) => format!(in alloc; "{expression}\t{path}\t0"),
-        None => format!(in alloc; "{expression}\t{path}\t?"),
+        Some(true) => Ok(format!(in alloc; "{expression}\t{path}\t1")?),
+        Some(false) => Ok(format!(in alloc; "{expression}\t{path}\t0")?),
+        None => Ok(format!(in alloc; "{expression}\t{path}\t?")?),
     }
 }

@@ -1,30 +1,13 @@
 //! How the instructions of leaves are written, from the last one to the first.
 ghost use Rattle.std.specs.Prelude.{◌≡◌, ◌++◌, ◌∷◌, ℕ, List, [], OnOk, IfOk, chars};
-ghost use Rattle.wax_match.specs.Code.{leaf_code, literal_code, loop, skip, slash, wildcard_code};
+ghost use Rattle.wax_match.specs.Code.{leaf_code, literal_code, skip, slash, wildcard_code};
 ghost use Rattle.wax_token.specs.View.{leaf_of};
 
 use crate::encode::instruction::{Instruction, Test};
 use crate::encode::tail::Tail;
 use std::alloc::{AllocError, Global};
+use unicode::case::simple_fold;
 use wax_token::token::{Class, LeafKind, Literal, Wildcard};
-
-/// One test, any number of times.
-fn put_loop(tail: &mut Tail, test: Test) -> Result<(), AllocError>
-    ensures { OnOk result (tail.new ≡ loop (Instruction.Check test ∷ []) ++ tail.old) }
-{
-    tail.put(Instruction::Back(2))?;
-    tail.put(Instruction::Check(test))?;
-    tail.put(Instruction::Fork(2))?;
-    Ok(())
-}
-
-/// Any text.
-fn put_any(tail: &mut Tail) -> Result<(), AllocError>
-    ensures { OnOk result (tail.new ≡ loop (Instruction.Check Test.Any ∷ []) ++ tail.old) }
-{
-    put_loop(tail, Test::Any)?;
-    Ok(())
-}
 
 fn put_slash(tail: &mut Tail) -> Result<(), AllocError>
     ensures { OnOk result (tail.new ≡ slash ++ tail.old) }
@@ -35,19 +18,18 @@ fn put_slash(tail: &mut Tail) -> Result<(), AllocError>
 
 /// A text that ends with `/`, or none.
 fn put_components(tail: &mut Tail) -> Result<(), AllocError>
-    ensures { OnOk result (tail.new ≡ skip (loop (Instruction.Check Test.Any ∷ []) ++ slash) ++ tail.old) }
+    ensures { OnOk result (tail.new ≡ skip (Instruction.Components ∷ []) ++ tail.old) }
 {
-    put_slash(tail)?;
-    put_any(tail)?;
-    tail.put(Instruction::Fork(4))?;
+    tail.put(Instruction::Components)?;
+    tail.put(Instruction::Fork(1))?;
     Ok(())
 }
 
 /// A text that begins with `/`.
 fn put_rest(tail: &mut Tail) -> Result<(), AllocError>
-    ensures { OnOk result (tail.new ≡ slash ++ loop (Instruction.Check Test.Any ∷ []) ++ tail.old) }
+    ensures { OnOk result (tail.new ≡ slash ++ Instruction.Repeat Test.Any ∷ tail.old) }
 {
-    put_any(tail)?;
+    tail.put(Instruction::Repeat(Test::Any))?;
     put_slash(tail)?;
     Ok(())
 }
@@ -62,14 +44,14 @@ fn put_wildcard(
 {
     if before && !after {
         put_rest(tail)?;
-        tail.put(Instruction::Fork(4))?;
+        tail.put(Instruction::Fork(2))?;
         return Ok(());
     }
     if !before && !after {
         if has_root {
             put_rest(tail)?;
         } else {
-            put_any(tail)?;
+            tail.put(Instruction::Repeat(Test::Any))?;
         }
         return Ok(());
     }
@@ -86,7 +68,7 @@ fn test_of(is_case_insensitive: bool, c: char) -> Test
         ≡ Instruction.Check result ∷ literal_code is_case_insensitive t }
 {
     if is_case_insensitive {
-        Test::Folded(c)
+        Test::Folded(simple_fold(c))
     } else {
         Test::Char(c)
     }
@@ -105,7 +87,7 @@ fn put_literal(alloc: Global, tail: &mut Tail, literal: &Literal<'_>) -> Result<
     Ok(())
 }
 
-fn characters(alloc: Global, text: &str) -> Result<Vec<char>, AllocError>
+pub fn characters(alloc: Global, text: &str) -> Result<Vec<char>, AllocError>
     ensures { IfOk result (λ v. v.items ≡ chars text.now) }
 {
     text.chars().collect(alloc)
@@ -137,7 +119,7 @@ pub fn put_leaf(
         LeafKind::Separator(_) => put_slash(tail)?,
         LeafKind::Wildcard(wildcard) => match wildcard {
             Wildcard::One => tail.put(Instruction::Check(Test::NotSlash))?,
-            Wildcard::ZeroOrMore(_) => put_loop(tail, Test::NotSlash)?,
+            Wildcard::ZeroOrMore(_) => tail.put(Instruction::Repeat(Test::NotSlash))?,
             Wildcard::Tree { has_root } => put_wildcard(tail, before, after, *has_root)?,
         },
     }

@@ -21,12 +21,12 @@ impl Model for Set {
 }
 
 impl Set {
-    /// The empty set, with room for the places below `size`.
-    pub fn new(alloc: Global, size: usize) -> Result<Set, AllocError>
-        ensures room { IfOk result (λ s. size ≤ length s) }
+    /// The empty set, with room for the places up to `last`.
+    pub fn new(alloc: Global, last: usize) -> Result<Set, AllocError>
+        ensures room { IfOk result (λ s. last < length s) }
         ensures empty { IfOk result (λ s. IsEmpty s) }
     {
-        let words = vec![in alloc; 0u64; size.div_ceil(64)]?;
+        let words = vec![in alloc; 0u64; last / 64 + 1]?;
         Ok(Set { words })
     }
 

@@ -1,7 +1,7 @@
-use Rattle.std.proofs.Common.{rules, ◌≡◌, ◌++◌, chars, encode_utf8_all, sym, ◌∙◌, ap, true}
+use Rattle.std.proofs.Common.{rules, ◌≡◌, ◌++◌, encode_utf8_all, sym, ◌∙◌, ap, true}
 use Rattle.std.proofs.lemmas.Bool.Decides.{Decides-eqb}
 use Rattle.std.proofs.lemmas.Slice.Eq.{ends_is}
-use Rattle.wax.proofs.MeantEnds.{bytes_end}
+use Rattle.wax.proofs.MeantEdges.{bytes_end}
 use Rattle.wax.proofs.endings.ends_with.Goals as goal
 
 pub returns-else-is_case_insensitive-clause-plain : goal.returns-else-is_case_insensitive-clause-plain

@@ -1,5 +1,4 @@
-use Rattle.std.proofs.Common.{◌≡◌, ◌++◌, ◌∷◌, [], length, length-append, arith, rules, sym, ap, subst}
-use Rattle.wax_match.specs.declared.encode.instruction.Instruction.TheVariants.{Match}
+use Rattle.std.proofs.Common.{◌≡◌, ◌++◌, [], length, arith, rules, sym, ap, subst, append-nil, ◌∙◌}
 use Rattle.wax_match.specs.Code.{sequence_code}
 use Rattle.wax_match.specs.Machine.{Accepts}
 use Rattle.wax_token.specs.Words.{trees}
@@ -11,13 +10,16 @@ use Rattle.wax_match.proofs.encode.compile.Goals as goal
 pub new-requires : goal.new-requires
 new-requires g c =
     let ts = trees c.args.tokens.now in
-    let e : c.into_instructions.result.items ≡ sequence_code ts c.args.before c.args.after ++ Match ∷ [] = search rules in
-    omega (arith, ap length e, length-append (sequence_code ts c.args.before c.args.after) (Match ∷ []), length-sequence ts c.args.before c.args.after, c.weigh_all-cost.ensures.cost, c.if-cost-ge-LONGEST.false)
+    let e : c.into_instructions.result.items ≡ sequence_code ts c.args.before c.args.after ++ [] = search rules in
+    let n : length c.into_instructions.result.items ≡ length (sequence_code ts c.args.before c.args.after) = ap length (e ∙ append-nil (sequence_code ts c.args.before c.args.after)) in
+    omega (arith, n, length-sequence ts c.args.before c.args.after, c.weigh_all-cost.ensures.cost, c.if-cost-ge-LONGEST.false)
 
 pub returns-clause-means : goal.returns-clause-means
 returns-clause-means g c =
     let ts = trees c.args.tokens.now in
-    let e : c.new.result.0 ≡ sequence_code ts c.args.before c.args.after ++ Match ∷ [] = search rules in
+    let code = sequence_code ts c.args.before c.args.after in
+    let b : c.new.result.0 ≡ code ++ [] = search rules in
+    let e : c.new.result.0 ≡ code = b ∙ append-nil code in
     λ s. (
       (λ h. program_sound (compiled_sequence ts c.args.before c.args.after) s (subst (λ z. Accepts z 0 s) e h)),
       (λ h. subst (λ z. Accepts z 0 s) (sym e) (program_complete (compiled_sequence ts c.args.before c.args.after) s h)),

@@ -1,24 +1,48 @@
-use Rattle.std.proofs.Common.{◌≡◌, ◌+◌, ◌∙◌, arith, ap}
-use Rattle.wax_match.specs.Threads.{IsEmpty, Followed, Round, Taken, members}
-use Rattle.wax_match.proofs.Rounds.{round_step, round_end}
+use Rattle.std.proofs.Common.{◌≡◌, ◌+◌, ◌≤◌, ◌∙◌, arith, ap, sym}
+use Rattle.wax_match.specs.Threads.{Followed, IsDone, Round, Taken, members}
+use Rattle.wax_match.proofs.Rounds.{read_one, round_start, round_step, round_end}
+use Rattle.wax_match.proofs.Sets.{members_none}
 use Rattle.wax_match.proofs.encode.rounds.advance.Goals as goal
 
+pub loop-at-init : goal.loop-at-init
+loop-at-init g c = record {
+  size = c.requires.size;
+  round = round_start c.args.program.now.0 c.args.c (g.R.Rows.position c.args.rows.now) c.requires.read c.requires.next;
+  visits = omega (arith, c.new-visits.ensures, members_none (g.R.Rows.position c.args.rows.now).read c.requires.read);
+  few = omega arith;
+}
+
 pub loop-at-preserved : goal.loop-at-preserved
-loop-at-preserved c =
-    let t : Taken c.loop-at.rows c.take.new.self c.in-Some.at = c.in-Some.ensures.taken in
-    let f : Followed c.args.program.now.0 c.args.c c.in-Some.at c.take.new.self c.follow.new.rows = c.follow.ensures.followed in
-    let n : members c.follow.new.rows.read ≡ members c.loop-at.rows.read + 1 = ap members f.read ∙ t.counted in
+loop-at-preserved g c =
+    let p = g.R.Rows.position c.loop-at.rows in
+    let q = g.R.Rows.position c.take.new.self in
+    let r = g.R.Rows.position c.follow.new.rows in
+    let t : Taken p q c.in-Some.at = c.in-Some.ensures.taken in
+    let f : Followed c.args.program.now.0 c.args.c c.in-Some.at q r = c.follow.ensures.followed in
+    let n : members r.read ≡ members p.read + 1 = ap members f.read ∙ t.counted in
+    let same : members q.read ≡ members r.read = sym (ap members f.read) in
     record {
       size = f.size ∙ t.size ∙ c.loop-at.invariant.size;
-      round = round_step c.args.program.now.0 c.args.c c.args.rows.now.pending c.loop-at.rows c.take.new.self c.follow.new.rows c.in-Some.at t f c.loop-at.invariant.round;
-      above = omega (arith, n, c.loop-at.invariant.above, c.follow.ensures.ticked);
-      steady = omega (arith, c.loop-at.invariant.steady, c.follow.ensures.ticked);
-      below = λ k h. omega (arith, c.loop-at.invariant.steady, c.follow.ensures.ticked);
+      round = round_step c.args.program.now.0 c.args.c (g.R.Rows.position c.args.rows.now).pending p q r c.in-Some.at t f c.loop-at.invariant.round;
+      visits = omega (arith, n, c.loop-at.invariant.visits, c.follow.ensures.ticked);
+      few = omega (arith, n, same, c.loop-at.invariant.visits, c.follow.ensures.ticked, c.take.ensures.few, t.size, c.loop-at.invariant.size);
     }
 
 pub returns-clause-advances : goal.returns-clause-advances
-returns-clause-advances c =
-    let same : c.take.new.self ≡ c.loop-at.rows = c.in_default.ensures.taken.0 in
-    let none : IsEmpty c.take.new.self.pending = c.in_default.ensures.taken.1 in
-    let round : Round c.args.program.now.0 c.args.c c.args.rows.now.pending c.take.new.self = rw same c.loop-at.invariant.round in
-    round_end c.args.program.now.0 c.args.c c.args.rows.now.pending c.take.new.self (ap (λ p. p.size) same ∙ c.loop-at.invariant.size) none round
+returns-clause-advances g c =
+    let p = g.R.Rows.position c.loop-at.rows in
+    let q = g.R.Rows.position c.take.new.self in
+    let same : q ≡ p = c.in_default.ensures.taken.0 in
+    let done : IsDone q = c.in_default.ensures.taken.1 in
+    let round : Round c.args.program.now.0 c.args.c (g.R.Rows.position c.args.rows.now).pending q = rw same c.loop-at.invariant.round in
+    round_end c.args.program.now.0 c.args.c (g.R.Rows.position c.args.rows.now).pending q (ap (λ p. p.size) same ∙ c.loop-at.invariant.size) done round
+
+pub returns-clause-below : goal.returns-clause-below
+returns-clause-below g c = λ k h lt.
+    let p = g.R.Rows.position c.loop-at.rows in
+    let q = g.R.Rows.position c.take.new.self in
+    let same : q ≡ p = c.in_default.ensures.taken.0 in
+    let done : IsDone q = c.in_default.ensures.taken.1 in
+    let round : Round c.args.program.now.0 c.args.c (g.R.Rows.position c.args.rows.now).pending q = rw same c.loop-at.invariant.round in
+    let some : 1 ≤ members q.read = read_one c.args.program.now.0 c.args.c (g.R.Rows.position c.args.rows.now).pending q (ap (λ p. p.size) same ∙ c.loop-at.invariant.size) done round k h lt in
+    omega (arith, some, ap (λ p. members p.read) same, c.loop-at.invariant.visits, c.add.ensures.counted)

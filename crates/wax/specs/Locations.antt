@@ -1,0 +1,12 @@
+-- Where a build was refused.
+use Rattle.std.specs.Prelude.{Option, Some, None, codes}
+use Rattle.wax_query.specs.Labels.{Label}
+use Rattle.wax.specs.declared.build_error.BuildError.{BuildError}
+use Rattle.wax.specs.declared.build_error.BuildError.TheVariants.{Parse, Rule, Compile, Memory}
+
+-- what is printed of the place, and its span
+abbrev pub location_of : BuildError → Option Label
+location_of (Parse place) = Some (codes "unexpected expression", place)
+location_of (Rule error) = Some (error.location.label, error.location.span)
+location_of (Compile error) = None
+location_of Memory = None

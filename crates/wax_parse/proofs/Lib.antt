@@ -1,0 +1,12 @@
+pub mod Bounds
+pub mod Classes
+pub mod Flags
+pub mod Leaves
+pub mod Outcomes
+pub mod Places
+pub mod Readings
+pub mod Rows
+pub mod Runs
+pub mod Texts
+pub mod Trees
+pub mod Wholes

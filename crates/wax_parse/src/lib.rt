@@ -1,0 +1,4 @@
+//! The parser of expressions.
+#![tactic(auto)]
+
+pub mod parse;

@@ -1,0 +1,102 @@
+//! From an expression to its tokens.
+ghost use Rattle.std.specs.Prelude.{◌≡◌, IfOk, chars};
+ghost use Rattle.std.specs.Cow.{cow_str_bytes};
+ghost use Rattle.wax_query.specs.Outcome.{MatchBuild};
+ghost use Rattle.wax_token.specs.Syntax.{Tree};
+ghost use Rattle.wax_token.specs.Reads.{Reads, Span};
+ghost use Rattle.wax_parse.specs.Accepted.{IsPlace};
+
+mod bounds;
+mod class;
+mod error;
+mod flags;
+mod glob;
+mod leaf;
+mod literal;
+mod surroundings;
+mod text;
+
+use crate::parse::flags::Cursor;
+use crate::parse::glob::read_glob;
+use crate::parse::surroundings::{Around, Scope};
+pub use error::ErrorEntry;
+use std::alloc::Global;
+use std::borrow::CowStr;
+use std::marker::Model;
+use thiserror::Error;
+use wax_query::diagnostics::{Refusal, Span};
+use wax_token::token::{ExpressionMetadata, Token, Tokenized};
+
+/// The expression isn't one of the language (refusal 1). Contracts see the place.
+#[derive(Clone, Copy, Debug, Error)]
+#[error("failed to parse glob expression")]
+pub struct ParseError {
+    place: Span,
+}
+
+impl Model for ParseError {
+    ghost use Rattle.std.specs.Prelude.{ℕ};
+
+    ghost Value = { ℕ × ℕ };
+
+    ghost view = { λ e. e.place };
+
+    ghost inverse = { λ s. record { place = s } };
+}
+
+impl ParseError {
+    /// The character that no token begins with or goes on with, and its number of bytes; 0 bytes at
+    /// the end of the expression.
+    pub fn place(&self) -> Span
+        ensures { result ≡ self.now }
+    {
+        self.place
+    }
+}
+
+/// How deep globs may nest in an expression.
+const DEEPEST: usize = 128;
+
+/// The tokens that an expression spells, each with its span; refused with 1 where it spells none.
+/// Takes memory for the tokens and for literals that hold an escape. Recursion goes down 128 globs at
+/// most, whatever the expression.
+pub fn parse<'t>(
+    alloc: Global,
+    expression: &'t str,
+) -> Result<Tokenized<'t, ExpressionMetadata>, Refusal<ParseError>>
+    ensures expression { IfOk result (λ t. cow_str_bytes t.expression ≡ expression.now) }
+    ensures reads { MatchBuild result (λ t. Reads (chars expression.now) t.token)
+        (λ _. (t : Tree Span) → Reads (chars expression.now) t → ⊥) }
+    ensures only { IfOk result (λ t. (u : Tree Span) → Reads (chars expression.now) u → u ≡ t.token) }
+    ensures place { MatchBuild result (λ _. Unit {0}) (λ e. IsPlace (chars expression.now) e) }
+{
+    let token = read_expression(alloc, expression)?;
+    Ok(Tokenized {
+        expression: CowStr::Borrowed(expression),
+        token,
+    })
+}
+
+/// The token of the whole: a literal without characters, or a glob.
+fn read_expression<'t>(
+    alloc: Global,
+    expression: &'t str,
+) -> Result<Token<'t, ExpressionMetadata>, Refusal<ParseError>>
+    ensures { MatchBuild result (λ t. Reads (chars expression.now) t × ((u : Tree Span) → Reads (chars expression.now) u → u ≡ t))
+        (λ e. ((t : Tree Span) → Reads (chars expression.now) t → ⊥) × IsPlace (chars expression.now) e) }
+{
+    if expression.is_empty() {
+        return Ok(Token::empty(ExpressionMetadata::new((0, 0))));
+    }
+    let scope = Scope {
+        expression,
+        around: Around::Whole,
+        depth: DEEPEST,
+    };
+    let start = Cursor {
+        is_case_insensitive: false,
+        rest: expression,
+    };
+    let (token, _) = read_glob(alloc, scope, start)?;
+    Ok(token)
+}

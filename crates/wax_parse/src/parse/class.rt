@@ -1,0 +1,74 @@
+//! Classes.
+ghost use Rattle.std.specs.Prelude.{◌≡◌, IfOk, MatchOption, Some, None, chars, length};
+ghost use Rattle.wax_token.specs.View.{leaf_of};
+ghost use Rattle.wax_parse.specs.Parser.{archetype_step, class_run, class_leaf, read_class};
+
+use crate::parse::text::{class_character, strip};
+use std::alloc::{AllocError, Global};
+use wax_token::token::{Archetype, Class, LeafKind};
+
+/// A character or a range of a class, and the text after it.
+fn read_archetype(text: &str) -> Option<(Archetype, &str)>
+    ensures { MatchOption result (archetype_step (chars text.now) ≡ None) (λ r. archetype_step (chars text.now) ≡ Some (r.0, chars r.1.now)) }
+{
+    let (first, rest) = class_character(text)?;
+    match strip(rest, '-') {
+        None => Some((Archetype::Character(first), rest)),
+        Some(after) => {
+            let (last, rest) = class_character(after)?;
+            Some((Archetype::Range(first, last), rest))
+        }
+    }
+}
+
+/// The archetypes up to the closing bracket, and the text after it.
+fn read_archetypes(alloc: Global, text: &str) -> Result<Option<(Vec<Archetype>, &str)>, AllocError>
+    ensures { IfOk result (λ r. MatchOption r (class_run (length (chars text.now)) (chars text.now) ≡ None)
+        (λ a. class_run (length (chars text.now)) (chars text.now) ≡ Some (a.0.items, chars a.1.now))) }
+{
+    let mut archetypes = Vec::new(alloc);
+    let mut rest = text;
+    loop {
+        if let Some(after) = strip(rest, ']') {
+            return Ok(Some((archetypes, after)));
+        }
+        let Some((archetype, next)) = read_archetype(rest) else {
+            return Ok(None);
+        };
+        archetypes.push(archetype)?;
+        rest = next;
+    }
+}
+
+/// The leaf of a class, and the text after its closing bracket.
+fn class_of<'t>(
+    alloc: Global,
+    is_negated: bool,
+    text: &'t str,
+) -> Result<Option<(LeafKind<'static>, &'t str)>, AllocError>
+    ensures { IfOk result (λ r. MatchOption r (class_leaf is_negated (class_run (length (chars text.now)) (chars text.now)) ≡ None)
+        (λ l. class_leaf is_negated (class_run (length (chars text.now)) (chars text.now)) ≡ Some (leaf_of l.0, chars l.1.now))) }
+{
+    match read_archetypes(alloc, text)? {
+        None => Ok(None),
+        Some((archetypes, rest)) => {
+            if archetypes.is_empty() {
+                return Ok(None);
+            }
+            Ok(Some((LeafKind::Class(Class::new(is_negated, archetypes)), rest)))
+        }
+    }
+}
+
+/// A class, after its opening bracket, and the text after its closing one.
+pub(super) fn read_class<'t>(
+    alloc: Global,
+    text: &'t str,
+) -> Result<Option<(LeafKind<'static>, &'t str)>, AllocError>
+    ensures { IfOk result (λ r. MatchOption r (read_class (chars text.now) ≡ None) (λ l. read_class (chars text.now) ≡ Some (leaf_of l.0, chars l.1.now))) }
+{
+    match strip(text, '!') {
+        Some(rest) => class_of(alloc, true, rest),
+        None => class_of(alloc, false, text),
+    }
+}

@@ -1,0 +1,207 @@
+//! Globs with their branches, read from left to right and downwards.
+ghost use Rattle.std.specs.Prelude.{◌≡◌, ◌≤◌, ◌<◌, ◌+◌, ◌-◌, ◌^◌, ◌∷◌, ◌++◌, [], Bool, IfOk, OnOk, chars};
+ghost use Rattle.wax_query.specs.Outcome.{MatchBuild};
+ghost use Rattle.wax_token.specs.Reads.{in_alternation, in_repetition, utf8_len};
+ghost use Rattle.wax_token.specs.Words.{trees};
+ghost use Rattle.wax_parse.specs.Accepted.{IsPlace, first_len};
+ghost use Rattle.wax_parse.specs.Reading.{Beyond, BranchesAt, GlobAt, IsRefusal, Sole, Taken, TokenAt, Unreadable, Within};
+ghost use Rattle.wax_parse.specs.Parser.{around_of, flags_end, place, at};
+
+use super::ParseError;
+use crate::parse::bounds::read_bounds;
+use crate::parse::flags::{Cursor, read_flags};
+use crate::parse::leaf::read_leaf;
+use crate::parse::surroundings::{Around, Scope};
+use crate::parse::text::{split_first, strip};
+use std::alloc::{AllocError, Global};
+use wax_query::diagnostics::{Refusal, Span};
+use wax_token::token::{
+    Alternation, BranchKind, Concatenation, ExpressionMetadata, LeafKind, Repetition, Token,
+    new_branch, new_leaf,
+};
+
+/// A token with its place in the expression.
+type ReadToken<'t> = Token<'t, ExpressionMetadata>;
+
+/// The glob up to what ends it.
+#[cycle(read)]
+pub(super) fn read_glob<'t>(
+    alloc: Global,
+    scope: Scope<'t>,
+    from: Cursor<'t>,
+) -> Result<(ReadToken<'t>, Cursor<'t>), Refusal<ParseError>>
+    requires { Within scope from }
+    ensures { MatchBuild result
+        (λ r. Sole (GlobAt scope.entry from.entry) r.0 (place r.1) × Beyond (chars from.entry.rest.now) (chars r.1.rest.now))
+        (λ e. Unreadable (GlobAt scope.entry from.entry) × IsPlace (chars scope.entry.expression.now) e) }
+{
+    let mut tokens = Vec::new(alloc);
+    let mut cursor = from;
+    while !scope.around.is_end(cursor.rest) {
+        let (token, next) = read_token(alloc, scope, tokens.is_empty(), cursor)?;
+        push(&mut tokens, token)?;
+        cursor = next;
+    }
+    if cursor.rest.len() == from.rest.len() {
+        return Err(refusal(scope.expression, from.rest));
+    }
+    let annotation = metadata(scope.expression, from.rest, cursor.rest);
+    let glob = new_branch(
+        BranchKind::Concatenation(Concatenation { tokens }),
+        annotation,
+    );
+    Ok((glob, cursor))
+}
+
+/// A token, with the flag groups before it.
+#[cycle(read)]
+fn read_token<'t>(
+    alloc: Global,
+    scope: Scope<'t>,
+    is_first: bool,
+    from: Cursor<'t>,
+) -> Result<(ReadToken<'t>, Cursor<'t>), Refusal<ParseError>>
+    requires { Within scope from }
+    ensures { MatchBuild result
+        (λ r. Sole (TokenAt scope.entry is_first from.entry) r.0 (place r.1) × Taken (chars from.entry.rest.now) (chars r.1.rest.now))
+        (λ e. Unreadable (TokenAt scope.entry is_first from.entry) × IsPlace (chars scope.entry.expression.now) e) }
+{
+    let start = read_flags(from);
+    if let Some(rest) = strip(start.rest, '{') {
+        return read_alternation(alloc, scope, from, Cursor { rest, ..start });
+    }
+    if let Some(rest) = strip(start.rest, '<') {
+        return read_repetition(alloc, scope, from, Cursor { rest, ..start });
+    }
+    let Some((kind, next)) = read_leaf(alloc, scope.around, is_first, start)? else {
+        return Err(refusal(scope.expression, start.rest));
+    };
+    let annotation = metadata(scope.expression, from.rest, next.rest);
+    Ok((new_leaf(kind, annotation), next))
+}
+
+/// An alternation from its flag groups on, after its opening brace.
+#[cycle(read)]
+fn read_alternation<'t>(
+    alloc: Global,
+    scope: Scope<'t>,
+    flags: Cursor<'t>,
+    from: Cursor<'t>,
+) -> Result<(ReadToken<'t>, Cursor<'t>), Refusal<ParseError>>
+    requires within { Within scope flags }
+    requires opened { flags_end (place flags) ≡ at from.is_case_insensitive (123 ∷ chars from.rest.now) }
+    ensures { (first : Bool) → MatchBuild result
+        (λ r. Sole (TokenAt scope.entry first flags.entry) r.0 (place r.1) × Taken (chars flags.entry.rest.now) (chars r.1.rest.now))
+        (λ e. Unreadable (TokenAt scope.entry first flags.entry) × IsPlace (chars scope.entry.expression.now) e) }
+{
+    let Some(inner) = scope.inside(Around::InAlternation) else {
+        return Err(refusal(scope.expression, from.rest));
+    };
+    let (tokens, next) = read_branches(alloc, inner, from)?;
+    let annotation = metadata(scope.expression, flags.rest, next.rest);
+    let alternation = new_branch(BranchKind::Alternation(Alternation { tokens }), annotation);
+    Ok((alternation, next))
+}
+
+/// The branches of an alternation, and what comes after its closing brace.
+#[cycle(read)]
+fn read_branches<'t>(
+    alloc: Global,
+    scope: Scope<'t>,
+    from: Cursor<'t>,
+) -> Result<(Vec<ReadToken<'t>>, Cursor<'t>), Refusal<ParseError>>
+    requires within { Within scope from }
+    requires around { around_of scope.around ≡ in_alternation }
+    ensures { MatchBuild result
+        (λ r. Sole (BranchesAt scope.entry from.entry) (trees r.0.items) (place r.1) × Beyond (chars from.entry.rest.now) (chars r.1.rest.now))
+        (λ e. Unreadable (BranchesAt scope.entry from.entry) × IsPlace (chars scope.entry.expression.now) e) }
+{
+    let mut branches = Vec::new(alloc);
+    let mut cursor = from;
+    loop {
+        let (branch, next) = read_glob(alloc, scope, cursor)?;
+        push(&mut branches, branch)?;
+        if let Some(rest) = strip(next.rest, '}') {
+            return Ok((branches, Cursor { rest, ..next }));
+        }
+        let Some(rest) = strip(next.rest, ',') else {
+            return Err(refusal(scope.expression, next.rest));
+        };
+        cursor = Cursor { rest, ..next };
+    }
+}
+
+/// A repetition from its flag groups on, after its opening bracket.
+#[cycle(read)]
+fn read_repetition<'t>(
+    alloc: Global,
+    scope: Scope<'t>,
+    flags: Cursor<'t>,
+    from: Cursor<'t>,
+) -> Result<(ReadToken<'t>, Cursor<'t>), Refusal<ParseError>>
+    requires within { Within scope flags }
+    requires opened { flags_end (place flags) ≡ at from.is_case_insensitive (60 ∷ chars from.rest.now) }
+    ensures { (first : Bool) → MatchBuild result
+        (λ r. Sole (TokenAt scope.entry first flags.entry) r.0 (place r.1) × Taken (chars flags.entry.rest.now) (chars r.1.rest.now))
+        (λ e. Unreadable (TokenAt scope.entry first flags.entry) × IsPlace (chars scope.entry.expression.now) e) }
+{
+    let Some(inner) = scope.inside(Around::InRepetition) else {
+        return Err(refusal(scope.expression, from.rest));
+    };
+    let (body, next) = read_glob(alloc, inner, from)?;
+    let Some(((lower, upper), rest)) = read_bounds(next.rest) else {
+        return Err(refusal(scope.expression, next.rest));
+    };
+    let annotation = metadata(scope.expression, flags.rest, rest);
+    let repetition = Repetition {
+        token: boxed(alloc, body)?,
+        lower,
+        upper,
+    };
+    let after = Cursor { rest, ..next };
+    Ok((
+        new_branch(BranchKind::Repetition(repetition), annotation),
+        after,
+    ))
+}
+
+fn push<'t>(tokens: &mut Vec<ReadToken<'t>>, token: ReadToken<'t>) -> Result<(), AllocError>
+    ensures { OnOk result (tokens.new.items ≡ tokens.old.items ++ token.entry ∷ []) }
+{
+    tokens.push(token)?;
+    Ok(())
+}
+
+fn boxed<'t>(alloc: Global, token: ReadToken<'t>) -> Result<Box<ReadToken<'t>>, AllocError>
+    ensures { IfOk result (λ b. b.value ≡ token.entry) }
+{
+    Ok(Box::new(alloc, token)?)
+}
+
+/// The metadata of what stands between two ends of the expression.
+fn metadata(expression: &str, from: &str, to: &str) -> ExpressionMetadata
+    requires from { utf8_len (chars from.now) ≤ utf8_len (chars expression.now) }
+    requires to { utf8_len (chars to.now) ≤ utf8_len (chars from.now) }
+    ensures { result ≡ (utf8_len (chars expression.now) - utf8_len (chars from.now), utf8_len (chars from.now) - utf8_len (chars to.now)) }
+{
+    ExpressionMetadata::new((expression.len() - from.len(), from.len() - to.len()))
+}
+
+/// The refusal that names the first character of an end of the expression.
+fn refusal(expression: &str, rest: &str) -> Refusal<ParseError>
+    requires { Beyond (chars expression.now) (chars rest.now) }
+    ensures { IsRefusal (IsPlace (chars expression.now)) result }
+{
+    let place = (expression.len() - rest.len(), first_width(rest));
+    Refusal::Refused(ParseError { place })
+}
+
+/// How many bytes the first character has, 0 where there is none.
+fn first_width(text: &str) -> usize
+    ensures { result ≡ first_len (chars text.now) }
+{
+    match split_first(text) {
+        None => 0,
+        Some((c, _)) => c.len_utf8(),
+    }
+}

@@ -1,6 +1,0 @@
-use Rattle.std.proofs.Common.{rules}
-use Rattle.std.proofs.lemmas.Str.{chars_past_char}
-use Rattle.wax_rule.proofs.parse.text.split_first.Goals as goal
-
-pub returns : goal.returns
-returns c = search (rules, chars_past_char)

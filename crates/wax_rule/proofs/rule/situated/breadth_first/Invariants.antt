@@ -1,0 +1,14 @@
+use Rattle.std.proofs.Common.{◌≡◌, ◌≤◌, ◌++◌, length, take, drop}
+use Rattle.std.specs.List.{flat_map}
+use Rattle.wax_rule.specs.Situated.{breadth_first}
+use Rattle.wax_rule.specs.Queue.{all_levels}
+use Rattle.wax_rule.proofs.rule.situated.breadth_first.Given as goal
+
+abbrev pub invariant-loop-from : goal.invariant-loop-from
+invariant-loop-from l = record {
+  within : l.from ≤ length l.row.items;
+  row : take l.from l.row.items ++ flat_map (λ level. level) (all_levels (drop l.from l.row.items)) ≡ breadth_first l.whole;
+}
+
+abbrev pub decreases-loop-from : goal.decreases-loop-from
+decreases-loop-from l = length (all_levels (drop l.from l.row.items))

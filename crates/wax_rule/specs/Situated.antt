@@ -1,0 +1,103 @@
+-- The tokens of a tree, breadth first, each with what stands beside it.
+use Rattle.std.specs.Prelude.{Bool, true, false, ◌||◌, List, [], ◌∷◌, ◌++◌, Option, Some, None}
+use Rattle.std.specs.List.{flat_map}
+use Rattle.wax_rule.specs.declared.rule.situated.Side.{Side}
+use Rattle.wax_token.specs.Reads.{Span}
+use Rattle.wax_token.specs.Syntax.{Leaf, literal, class, separator, one, zero_or_more, tree, Tree, leaf, alternation, concatenation, repetition, Trees, none, more}
+use Rattle.wax_token.specs.Words.{annotation_of}
+
+abbrev pub is_boundary_leaf : Leaf → Bool
+is_boundary_leaf (literal b t) = false
+is_boundary_leaf (class b xs) = false
+is_boundary_leaf separator = true
+is_boundary_leaf one = false
+is_boundary_leaf (zero_or_more e) = false
+is_boundary_leaf (tree rooted) = true
+
+abbrev pub is_zero_or_more_leaf : Leaf → Bool
+is_zero_or_more_leaf (literal b t) = false
+is_zero_or_more_leaf (class b xs) = false
+is_zero_or_more_leaf separator = false
+is_zero_or_more_leaf one = false
+is_zero_or_more_leaf (zero_or_more e) = true
+is_zero_or_more_leaf (tree rooted) = false
+
+-- such a leaf is reached through first tokens of concatenations, bodies of repetitions and all branches of alternations
+abbrev mutual
+  pub starts_in : {A : Type 0} → (Leaf → Bool) → Tree A → Bool
+  starts_in such (leaf a l) = such l
+  starts_in such (alternation a ts) = some_starts_in such ts
+  starts_in such (concatenation a ts) = first_starts_in such ts
+  starts_in such (repetition a t low high) = starts_in such t
+
+  pub some_starts_in : {A : Type 0} → (Leaf → Bool) → Trees A → Bool
+  some_starts_in such none = false
+  some_starts_in such (more t ts) = starts_in such t || some_starts_in such ts
+
+  pub first_starts_in : {A : Type 0} → (Leaf → Bool) → Trees A → Bool
+  first_starts_in such none = false
+  first_starts_in such (more t ts) = starts_in such t
+
+-- the same through last tokens
+abbrev mutual
+  pub ends_in : {A : Type 0} → (Leaf → Bool) → Tree A → Bool
+  ends_in such (leaf a l) = such l
+  ends_in such (alternation a ts) = some_ends_in such ts
+  ends_in such (concatenation a ts) = last_ends_in such ts
+  ends_in such (repetition a t low high) = ends_in such t
+
+  pub some_ends_in : {A : Type 0} → (Leaf → Bool) → Trees A → Bool
+  some_ends_in such none = false
+  some_ends_in such (more t ts) = ends_in such t || some_ends_in such ts
+
+  pub last_ends_in : {A : Type 0} → (Leaf → Bool) → Trees A → Bool
+  last_ends_in such none = false
+  last_ends_in such (more t none) = ends_in such t
+  last_ends_in such (more t (more u us)) = last_ends_in such (more u us)
+
+-- what a token shows to the one after it: its span, and whether it has a boundary, or a `*` or `$`, at that side
+abbrev pub end_of : Tree Span → Side
+end_of t = record { span = annotation_of t; has_boundary = ends_in is_boundary_leaf t; has_zero_or_more = ends_in is_zero_or_more_leaf t }
+
+-- what it shows to the one before it
+abbrev pub start_of : Tree Span → Side
+start_of t = record { span = annotation_of t; has_boundary = starts_in is_boundary_leaf t; has_zero_or_more = starts_in is_zero_or_more_leaf t }
+
+-- A token with its neighbours: those beside it in its concatenation, else those of the branch around it, each side by itself.
+pub record Situated : Type 0 where
+  pub token : Tree Span
+  pub left : Option Side
+  pub right : Option Side
+
+-- the neighbour on the right of a token that these come after
+abbrev pub right_of : Trees Span → Option Side → Option Side
+right_of none outer = outer
+right_of (more t ts) outer = Some (start_of t)
+
+-- two rows of levels, side by side
+abbrev pub beside : {A : Type 0} → List (List A) → List (List A) → List (List A)
+beside [] ys = ys
+beside (x ∷ xs) [] = x ∷ xs
+beside (x ∷ xs) (y ∷ ys) = (x ++ y) ∷ beside xs ys
+
+-- the tokens of a tree by level, between two neighbours: itself, its tokens, their tokens, and so on
+abbrev mutual
+  pub levels : Option Side → Option Side → Tree Span → List (List Situated)
+  levels left right (leaf a l) = (record { token = leaf a l; left = left; right = right } ∷ []) ∷ []
+  levels left right (alternation a ts) = (record { token = alternation a ts; left = left; right = right } ∷ []) ∷ branch_levels left right ts
+  levels left right (concatenation a ts) = (record { token = concatenation a ts; left = left; right = right } ∷ []) ∷ member_levels left right ts
+  levels left right (repetition a t low high) = (record { token = repetition a t low high; left = left; right = right } ∷ []) ∷ levels left right t
+
+  -- the branches of an alternation have its neighbours
+  pub branch_levels : Option Side → Option Side → Trees Span → List (List Situated)
+  branch_levels left right none = []
+  branch_levels left right (more t ts) = beside (levels left right t) (branch_levels left right ts)
+
+  -- the tokens of a concatenation are one another's neighbours
+  pub member_levels : Option Side → Option Side → Trees Span → List (List Situated)
+  member_levels left right none = []
+  member_levels left right (more t ts) = beside (levels left (right_of ts right) t) (member_levels (Some (end_of t)) right ts)
+
+-- all tokens of a glob, breadth first
+abbrev pub breadth_first : Tree Span → List Situated
+breadth_first t = flat_map (λ level. level) (levels None None t)

@@ -1,0 +1,35 @@
+//! Incompatible bounds: of a repetition, the upper bound is below the lower one, or both are zero.
+ghost use Rattle.std.specs.Prelude.{◌≡◌};
+ghost use Rattle.wax_rule.specs.Rules.{are_incompatible, bounds_breaks};
+ghost use Rattle.wax_rule.specs.FirstBreak.{first_of};
+
+use super::{Break, RuleErrorKind, break_here};
+use wax_token::token::{BranchKind, ExpressionMetadata, Token, Topology};
+
+fn are_incompatible(lower: usize, upper: Option<usize>) -> bool
+    ensures { result ≡ are_incompatible lower upper }
+{
+    match upper {
+        None => false,
+        Some(upper) => upper < lower || lower == 0 && upper == 0,
+    }
+}
+
+/// Whether the token is a repetition with such bounds.
+pub(super) fn bounds_break<'t>(token: &Token<'t, ExpressionMetadata>) -> Option<Break>
+    ensures { result ≡ first_of (bounds_breaks token.now) }
+{
+    match token.topology() {
+        Topology::Branch(branch) => match branch {
+            BranchKind::Repetition(r) => {
+                if are_incompatible(r.lower, r.upper) {
+                    let span = token.annotation().span();
+                    return Some(break_here(RuleErrorKind::IncompatibleBounds, span));
+                }
+                None
+            }
+            _ => None,
+        },
+        Topology::Leaf(_) => None,
+    }
+}

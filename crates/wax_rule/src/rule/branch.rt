@@ -1,0 +1,310 @@
+//! What a sub-glob makes of the branch around it and of the branch's neighbours.
+ghost use Rattle.std.specs.Prelude.{◌≡◌};
+ghost use Rattle.std.specs.Option.{option_or};
+ghost use Rattle.wax_token.specs.Words.{trees};
+ghost use Rattle.wax_rule.specs.Rules.{terminal_of, has_boundary, has_zero_or_more, split_from, shared_rows, alternation_rows, repetition_rows, own_rows, first_that_holds, rows_of, sub_glob_breaks, alternative_breaks, branch_breaks, label_of};
+ghost use Rattle.wax_rule.specs.FirstBreak.{first_of};
+
+use super::situated::{Side, Situated};
+use super::{Break, RuleErrorKind, leaf};
+use wax_query::diagnostics::{CompositeSpan, CorrelatedSpan, Span};
+use wax_token::token::{BranchKind, ExpressionMetadata, Token, Topology};
+
+/// The kind of a branch; of a repetition, its lower bound.
+#[derive(Clone, Copy)]
+enum Sort {
+    Alternation,
+    Repetition(usize),
+}
+
+/// The first or the last token of a sub-glob.
+#[derive(Clone, Copy)]
+struct Terminal {
+    span: Span,
+    is_boundary: bool,
+    is_separator: bool,
+    is_tree: bool,
+    is_rooting: bool,
+    is_zero_or_more: bool,
+}
+
+/// A case, whether it holds, and how it is refused: what is broken, and the places that explain it.
+#[derive(Clone, Copy)]
+struct Row {
+    holds: bool,
+    kind: RuleErrorKind,
+    correlated: CorrelatedSpan,
+}
+
+fn terminal_of<'t>(token: &Token<'t, ExpressionMetadata>) -> Terminal
+    ensures { result ≡ terminal_of token.now }
+{
+    let span = token.annotation().span();
+    match token.topology() {
+        Topology::Branch(_) => Terminal {
+            span,
+            is_boundary: false,
+            is_separator: false,
+            is_tree: false,
+            is_rooting: false,
+            is_zero_or_more: false,
+        },
+        Topology::Leaf(leaf) => Terminal {
+            span,
+            is_boundary: leaf::is_boundary(leaf),
+            is_separator: leaf::is_separator(leaf),
+            is_tree: leaf::is_tree(leaf),
+            is_rooting: leaf::is_rooting(leaf),
+            is_zero_or_more: leaf::is_zero_or_more(leaf),
+        },
+    }
+}
+
+/// Whether the neighbour has a boundary at its side.
+fn has_boundary(side: Option<Side>) -> bool
+    ensures { result ≡ has_boundary side }
+{
+    match side {
+        Some(side) => side.has_boundary,
+        None => false,
+    }
+}
+
+/// Whether the neighbour has a `*` or `$` at its side.
+fn has_zero_or_more(side: Option<Side>) -> bool
+    ensures { result ≡ has_zero_or_more side }
+{
+    match side {
+        Some(side) => side.has_zero_or_more,
+        None => false,
+    }
+}
+
+/// The neighbour, if there is one, and the token.
+fn split_from(side: Option<Side>, terminal: Terminal) -> CorrelatedSpan
+    ensures { result ≡ split_from side terminal }
+{
+    match side {
+        Some(side) => CorrelatedSpan::Split(side.span, terminal.span),
+        None => CorrelatedSpan::Contiguous(terminal.span),
+    }
+}
+
+/// What neither an alternation nor a repetition may hold: the sub-glob meets a boundary with a
+/// boundary, or a `*` or `$` with another, or is `**` alone.
+fn shared_rows(
+    left: Option<Side>,
+    right: Option<Side>,
+    first: Terminal,
+    last: Terminal,
+    several: bool,
+) -> [Row; 7]
+    ensures { result ≡ shared_rows left right first last several }
+{
+    [
+        // `a/{/b}`
+        Row {
+            holds: first.is_separator && has_boundary(left),
+            kind: RuleErrorKind::AdjacentBoundary,
+            correlated: split_from(left, first),
+        },
+        // `{a/}/b`
+        Row {
+            holds: last.is_separator && has_boundary(right),
+            kind: RuleErrorKind::AdjacentBoundary,
+            correlated: split_from(right, last),
+        },
+        // `{a,**}`
+        Row {
+            holds: !several && first.is_tree,
+            kind: RuleErrorKind::SingularTree,
+            correlated: CorrelatedSpan::Contiguous(first.span),
+        },
+        // `a/{**/b}`
+        Row {
+            holds: several && first.is_tree && has_boundary(left),
+            kind: RuleErrorKind::AdjacentBoundary,
+            correlated: split_from(left, first),
+        },
+        // `{a/**}/b`
+        Row {
+            holds: several && last.is_tree && has_boundary(right),
+            kind: RuleErrorKind::AdjacentBoundary,
+            correlated: split_from(right, last),
+        },
+        // `*{$a}`
+        Row {
+            holds: first.is_zero_or_more && has_zero_or_more(left),
+            kind: RuleErrorKind::AdjacentZeroOrMore,
+            correlated: split_from(left, first),
+        },
+        // `{a$}*`
+        Row {
+            holds: last.is_zero_or_more && has_zero_or_more(right),
+            kind: RuleErrorKind::AdjacentZeroOrMore,
+            correlated: split_from(right, last),
+        },
+    ]
+}
+
+/// What an alternation may not hold: a root, where nothing stands before it.
+fn alternation_rows(left: Option<Side>, first: Terminal) -> [Row; 1]
+    ensures { result ≡ alternation_rows left first }
+{
+    [
+        // `{/a,b}`
+        Row {
+            holds: left.is_none() && first.is_rooting,
+            kind: RuleErrorKind::RootedSubGlob,
+            correlated: CorrelatedSpan::Contiguous(first.span),
+        },
+    ]
+}
+
+/// What a repetition may not hold: a root that may be left out, and what two copies would make of
+/// boundaries, or of `*` and `$`.
+fn repetition_rows(
+    left: Option<Side>,
+    lower: usize,
+    first: Terminal,
+    last: Terminal,
+    several: bool,
+) -> [Row; 4]
+    ensures { result ≡ repetition_rows left lower first last several }
+{
+    [
+        // `</a>`
+        Row {
+            holds: left.is_none() && lower == 0 && first.is_rooting,
+            kind: RuleErrorKind::RootedSubGlob,
+            correlated: CorrelatedSpan::Contiguous(first.span),
+        },
+        // `</a/:1,>`
+        Row {
+            holds: several && first.is_boundary && last.is_boundary,
+            kind: RuleErrorKind::AdjacentBoundary,
+            correlated: CorrelatedSpan::Split(first.span, last.span),
+        },
+        // `a</:1,>`
+        Row {
+            holds: !several && first.is_separator,
+            kind: RuleErrorKind::AdjacentBoundary,
+            correlated: CorrelatedSpan::Contiguous(first.span),
+        },
+        // `<*:1,>`
+        Row {
+            holds: !several && first.is_zero_or_more,
+            kind: RuleErrorKind::SingularZeroOrMore,
+            correlated: CorrelatedSpan::Contiguous(first.span),
+        },
+    ]
+}
+
+/// The first row that holds.
+fn first_that_holds(rows: &[Row]) -> Option<Row>
+    ensures { result ≡ first_that_holds rows.now }
+{
+    for row in rows {
+        if row.holds {
+            return Some(*row);
+        }
+    }
+    None
+}
+
+/// The first row of all that hold for a sub-glob.
+fn find_row(
+    branch: Sort,
+    left: Option<Side>,
+    right: Option<Side>,
+    first: Terminal,
+    last: Terminal,
+    several: bool,
+) -> Option<Row>
+    ensures { result ≡ option_or (first_that_holds (shared_rows left right first last several)) (first_that_holds (own_rows branch left first last several)) }
+{
+    let shared = first_that_holds(&shared_rows(left, right, first, last, several));
+    let own = match branch {
+        Sort::Alternation => first_that_holds(&alternation_rows(left, first)),
+        Sort::Repetition(lower) => {
+            first_that_holds(&repetition_rows(left, lower, first, last, several))
+        }
+    };
+    shared.or(own)
+}
+
+/// The same for these tokens of a sub-glob.
+fn find_row_of<'t>(
+    branch: Sort,
+    left: Option<Side>,
+    right: Option<Side>,
+    tokens: &[Token<'t, ExpressionMetadata>],
+) -> Option<Row>
+    ensures { result ≡ first_that_holds (rows_of branch left right (trees tokens.now)) }
+{
+    let first = terminal_of(tokens.first()?);
+    let last = terminal_of(tokens.last()?);
+    find_row(branch, left, right, first, last, tokens.len() > 1)
+}
+
+fn label_of(branch: Sort) -> &'static str
+    ensures { result.now ≡ label_of branch }
+{
+    match branch {
+        Sort::Alternation => "in this alternation",
+        Sort::Repetition(_) => "in this repetition",
+    }
+}
+
+/// What a sub-glob breaks in a branch of this span.
+fn sub_glob_break<'t>(
+    branch: Sort,
+    span: Span,
+    left: Option<Side>,
+    right: Option<Side>,
+    sub_glob: &Token<'t, ExpressionMetadata>,
+) -> Option<Break>
+    ensures { result ≡ first_of (sub_glob_breaks branch span left right sub_glob.now) }
+{
+    let row = find_row_of(branch, left, right, sub_glob.concatenation())?;
+    Some(Break {
+        kind: row.kind,
+        location: CompositeSpan::correlated(label_of(branch), span, row.correlated),
+    })
+}
+
+/// What the first of some branches of an alternation breaks.
+fn alternative_break<'t>(
+    span: Span,
+    left: Option<Side>,
+    right: Option<Side>,
+    branches: &[Token<'t, ExpressionMetadata>],
+) -> Option<Break>
+    ensures { result ≡ first_of (alternative_breaks span left right (trees branches.now)) }
+{
+    for sub_glob in branches {
+        if let Some(found) = sub_glob_break(Sort::Alternation, span, left, right, sub_glob) {
+            return Some(found);
+        }
+    }
+    None
+}
+
+/// What the first of a branch's sub-globs breaks.
+pub(super) fn branch_break(token: &Situated<'_, '_>) -> Option<Break>
+    ensures { result ≡ first_of (branch_breaks token.now.left token.now.right token.now.token) }
+{
+    let (left, right) = (token.left(), token.right());
+    let token = token.token();
+    let span = token.annotation().span();
+    match token.topology() {
+        Topology::Branch(branch) => match branch {
+            BranchKind::Alternation(a) => alternative_break(span, left, right, a.tokens.as_slice()),
+            BranchKind::Repetition(r) => {
+                sub_glob_break(Sort::Repetition(r.lower), span, left, right, &r.token)
+            }
+            BranchKind::Concatenation(_) => None,
+        },
+        Topology::Leaf(_) => None,
+    }
+}

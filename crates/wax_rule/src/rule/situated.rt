@@ -1,0 +1,292 @@
+//! The tokens of a glob in a row, breadth first, each with what stands beside it.
+ghost use Rattle.std.specs.Prelude.{◌≡◌, ◌++◌, ◌∷◌, [], Bool, IfOk, OnOk, Option, Some, None, drop, ◌<◌, ◌≤◌, length};
+ghost use Rattle.std.specs.List.{flat_map};
+ghost use Rattle.wax_token.specs.View.{leaf_of};
+ghost use Rattle.wax_token.specs.Words.{trees, annotation_of};
+ghost use Rattle.wax_rule.specs.Situated.{is_boundary_leaf, is_zero_or_more_leaf, starts_in, some_starts_in, ends_in, some_ends_in, end_of, start_of, right_of, breadth_first};
+ghost use Rattle.wax_rule.specs.Queue.{branches, siblings, children, children_at};
+
+use super::leaf;
+use std::alloc::{AllocError, Global};
+use std::marker::Model;
+use wax_query::diagnostics::Span;
+use wax_token::token::{BranchKind, ExpressionMetadata, LeafKind, Token, Topology};
+
+/// What a token shows to the one beside it: its span, and whether it has a boundary, or a `*` or
+/// `$`, at that side.
+#[derive(Clone, Copy)]
+pub(super) struct Side {
+    pub span: Span,
+    pub has_boundary: bool,
+    pub has_zero_or_more: bool,
+}
+
+/// A token, and what its neighbours show to it.
+#[derive(Drop)]
+pub(super) struct Situated<'i, 't> {
+    token: &'i Token<'t, ExpressionMetadata>,
+    left: Option<Side>,
+    right: Option<Side>,
+}
+
+impl<'i, 't> Model for Situated<'i, 't> {
+    ghost use Rattle.wax_rule.specs.Situated.{Situated as ASituated};
+    ghost use Rattle.wax_rule.specs.Queue.{situated_code};
+
+    ghost Value = { ASituated };
+
+    ghost coded = { situated_code };
+
+    ghost view = { λ s. record { token = s.token.now; left = s.left; right = s.right } };
+}
+
+impl<'i, 't> Situated<'i, 't> {
+    pub fn token(&self) -> &'i Token<'t, ExpressionMetadata>
+        ensures { result.now ≡ self.now.token }
+    {
+        self.token
+    }
+
+    pub fn left(&self) -> Option<Side>
+        ensures { result ≡ self.now.left }
+    {
+        self.left
+    }
+
+    pub fn right(&self) -> Option<Side>
+        ensures { result ≡ self.now.right }
+    {
+        self.right
+    }
+}
+
+/// Whether a boundary is there, and whether a `*` or `$`.
+#[derive(Clone, Copy)]
+struct Found {
+    boundary: bool,
+    zero_or_more: bool,
+}
+
+fn found_in_leaf(leaf: &LeafKind<'_>) -> Found
+    ensures boundary { result.boundary ≡ is_boundary_leaf (leaf_of leaf.now) }
+    ensures zero_or_more { result.zero_or_more ≡ is_zero_or_more_leaf (leaf_of leaf.now) }
+{
+    Found {
+        boundary: leaf::is_boundary(leaf),
+        zero_or_more: leaf::is_zero_or_more(leaf),
+    }
+}
+
+/// What is reached through first tokens.
+#[cycle(found_at_start)]
+fn found_at_start<'t>(token: &Token<'t, ExpressionMetadata>) -> Found
+    ensures boundary { result.boundary ≡ starts_in is_boundary_leaf token.now }
+    ensures zero_or_more { result.zero_or_more ≡ starts_in is_zero_or_more_leaf token.now }
+{
+    match token.topology() {
+        Topology::Branch(branch) => match branch {
+            BranchKind::Alternation(a) => found_at_starts(a.tokens.as_slice()),
+            BranchKind::Concatenation(c) => match c.tokens.first() {
+                Some(first) => found_at_start(first),
+                None => Found {
+                    boundary: false,
+                    zero_or_more: false,
+                },
+            },
+            BranchKind::Repetition(r) => found_at_start(&r.token),
+        },
+        Topology::Leaf(leaf) => found_in_leaf(leaf),
+    }
+}
+
+/// The same of some of the tokens.
+#[cycle(found_at_start)]
+#[tactic(auto, using(crate::proofs::Rows::element_size))]
+fn found_at_starts<'t>(tokens: &[Token<'t, ExpressionMetadata>]) -> Found
+    ensures boundary { result.boundary ≡ some_starts_in is_boundary_leaf (trees tokens.now) }
+    ensures zero_or_more { result.zero_or_more ≡ some_starts_in is_zero_or_more_leaf (trees tokens.now) }
+{
+    let mut boundary = false;
+    let mut zero_or_more = false;
+    for token in tokens {
+        let found = found_at_start(token);
+        boundary = boundary || found.boundary;
+        zero_or_more = zero_or_more || found.zero_or_more;
+    }
+    Found {
+        boundary,
+        zero_or_more,
+    }
+}
+
+/// What is reached through last tokens.
+#[cycle(found_at_end)]
+fn found_at_end<'t>(token: &Token<'t, ExpressionMetadata>) -> Found
+    ensures boundary { result.boundary ≡ ends_in is_boundary_leaf token.now }
+    ensures zero_or_more { result.zero_or_more ≡ ends_in is_zero_or_more_leaf token.now }
+{
+    match token.topology() {
+        Topology::Branch(branch) => match branch {
+            BranchKind::Alternation(a) => found_at_ends(a.tokens.as_slice()),
+            BranchKind::Concatenation(c) => match c.tokens.last() {
+                Some(last) => found_at_end(last),
+                None => Found {
+                    boundary: false,
+                    zero_or_more: false,
+                },
+            },
+            BranchKind::Repetition(r) => found_at_end(&r.token),
+        },
+        Topology::Leaf(leaf) => found_in_leaf(leaf),
+    }
+}
+
+/// The same of some of the tokens.
+#[cycle(found_at_end)]
+#[tactic(auto, using(crate::proofs::Rows::element_size))]
+fn found_at_ends<'t>(tokens: &[Token<'t, ExpressionMetadata>]) -> Found
+    ensures boundary { result.boundary ≡ some_ends_in is_boundary_leaf (trees tokens.now) }
+    ensures zero_or_more { result.zero_or_more ≡ some_ends_in is_zero_or_more_leaf (trees tokens.now) }
+{
+    let mut boundary = false;
+    let mut zero_or_more = false;
+    for token in tokens {
+        let found = found_at_end(token);
+        boundary = boundary || found.boundary;
+        zero_or_more = zero_or_more || found.zero_or_more;
+    }
+    Found {
+        boundary,
+        zero_or_more,
+    }
+}
+
+fn start_of<'t>(token: &Token<'t, ExpressionMetadata>) -> Side
+    ensures { result ≡ start_of token.now }
+{
+    let found = found_at_start(token);
+    Side {
+        span: token.annotation().span(),
+        has_boundary: found.boundary,
+        has_zero_or_more: found.zero_or_more,
+    }
+}
+
+fn end_of<'t>(token: &Token<'t, ExpressionMetadata>) -> Side
+    ensures { result ≡ end_of token.now }
+{
+    let found = found_at_end(token);
+    Side {
+        span: token.annotation().span(),
+        has_boundary: found.boundary,
+        has_zero_or_more: found.zero_or_more,
+    }
+}
+
+/// What the token at the index shows to the one before it, or the other where there is none.
+fn right_of<'t>(
+    tokens: &[Token<'t, ExpressionMetadata>],
+    index: usize,
+    outer: Option<Side>,
+) -> Option<Side>
+    ensures { result ≡ right_of (trees (drop index tokens.now)) outer }
+{
+    match tokens.get(index) {
+        Some(token) => Some(start_of(token)),
+        None => outer,
+    }
+}
+
+/// Puts the tokens of a concatenation into the row.
+fn push_siblings<'i, 't>(
+    row: &mut Vec<Situated<'i, 't>>,
+    tokens: &'i [Token<'t, ExpressionMetadata>],
+    left: Option<Side>,
+    right: Option<Side>,
+) -> Result<(), AllocError>
+    ensures { OnOk result (row.new.items ≡ row.old.items ++ siblings left right (trees tokens.now)) }
+{
+    let mut before = left;
+    for index in 0..tokens.len() {
+        let token = &tokens[index];
+        row.push(Situated {
+            token,
+            left: before,
+            right: right_of(tokens, index + 1, right),
+        })?;
+        before = Some(end_of(token));
+    }
+    Ok(())
+}
+
+/// Puts the branches of an alternation into the row.
+fn push_branches<'i, 't>(
+    row: &mut Vec<Situated<'i, 't>>,
+    tokens: &'i [Token<'t, ExpressionMetadata>],
+    left: Option<Side>,
+    right: Option<Side>,
+) -> Result<(), AllocError>
+    ensures { OnOk result (row.new.items ≡ row.old.items ++ branches left right (trees tokens.now)) }
+{
+    for token in tokens {
+        row.push(Situated { token, left, right })?;
+    }
+    Ok(())
+}
+
+/// Puts the tokens that the one at the index holds into the row.
+fn push_children<'i, 't>(row: &mut Vec<Situated<'i, 't>>, index: usize) -> Result<(), AllocError>
+    requires { index < length row.old.items }
+    ensures { OnOk result (row.new.items ≡ row.old.items ++ children_at row.old.items index) }
+{
+    let here = &row[index];
+    let (token, left, right) = (here.token(), here.left(), here.right());
+    match token.topology() {
+        Topology::Branch(branch) => match branch {
+            BranchKind::Alternation(a) => push_branches(row, a.tokens.as_slice(), left, right),
+            BranchKind::Concatenation(c) => push_siblings(row, c.tokens.as_slice(), left, right),
+            BranchKind::Repetition(r) => {
+                row.push(Situated {
+                    token: &r.token,
+                    left,
+                    right,
+                })?;
+                Ok(())
+            }
+        },
+        Topology::Leaf(_) => Ok(()),
+    }
+}
+
+/// Puts the tokens that those from the index on hold into the row.
+fn push_level<'i, 't>(row: &mut Vec<Situated<'i, 't>>, from: usize) -> Result<(), AllocError>
+    requires { from ≤ length row.old.items }
+    ensures { OnOk result (row.new.items ≡ row.old.items ++ flat_map children (drop from row.old.items)) }
+{
+    for index in from..row.len() {
+        push_children(row, index)?;
+    }
+    Ok(())
+}
+
+/// All tokens, breadth first.
+pub(super) fn breadth_first<'i, 't>(
+    alloc: Global,
+    whole: &'i Token<'t, ExpressionMetadata>,
+) -> Result<Vec<Situated<'i, 't>>, AllocError>
+    ensures { IfOk result (λ row. row.items ≡ breadth_first whole.now) }
+{
+    let mut row = Vec::new(alloc);
+    row.push(Situated {
+        token: whole,
+        left: None,
+        right: None,
+    })?;
+    let mut from = 0;
+    while from < row.len() {
+        let to = row.len();
+        push_level(&mut row, from)?;
+        from = to;
+    }
+    Ok(row)
+}

@@ -1,0 +1,148 @@
+//! Fixed sizes of tokens.
+ghost use Rattle.std.specs.Prelude.{◌≡◌, IfOk, chars};
+ghost use Rattle.wax_token.specs.Reads.{utf8_len};
+ghost use Rattle.wax_token.specs.View.{leaf_of};
+ghost use Rattle.wax_token.specs.Words.{trees};
+ghost use Rattle.wax_rule.specs.Sizes.{are_of_size, common_size, fixed_size, is_oversized, leaf_size, size_of_copies, total_size};
+
+use super::natural::Natural;
+use std::alloc::{AllocError, Global};
+use wax_token::token::{BranchKind, ExpressionMetadata, LeafKind, Token, Topology, Wildcard};
+
+/// The least fixed size that is refused.
+const OVERSIZED: u64 = 65_536;
+
+/// Whether the token has a fixed size of 65,536 or more.
+pub(super) fn is_oversized<'t>(
+    alloc: Global,
+    token: &Token<'t, ExpressionMetadata>,
+) -> Result<bool, AllocError>
+    ensures { IfOk result (λ b. b ≡ is_oversized token.now) }
+{
+    match fixed_size(alloc, token)? {
+        None => Ok(false),
+        Some(size) => Ok(size.is_at_least(OVERSIZED)),
+    }
+}
+
+/// The fixed size of a token, if it has one.
+#[cycle(sizes)]
+fn fixed_size<'t>(
+    alloc: Global,
+    token: &Token<'t, ExpressionMetadata>,
+) -> Result<Option<Natural>, AllocError>
+    ensures { IfOk result (λ n. n ≡ fixed_size token.now) }
+{
+    match token.topology() {
+        Topology::Branch(branch) => match branch {
+            BranchKind::Alternation(a) => common_size(alloc, a.tokens.as_slice()),
+            BranchKind::Concatenation(c) => total_size(alloc, c.tokens.as_slice()),
+            BranchKind::Repetition(r) => {
+                let body = fixed_size(alloc, &r.token)?;
+                size_of_copies(alloc, r.lower, r.upper, body)
+            }
+        },
+        Topology::Leaf(leaf) => match leaf_size(leaf) {
+            None => Ok(None),
+            Some(size) => Ok(Some(Natural::new(alloc, size))),
+        },
+    }
+}
+
+/// The sum of the fixed sizes of tokens, if all have one.
+#[cycle(sizes)]
+#[tactic(auto, using(crate::proofs::Rows::element_size))]
+fn total_size<'t>(
+    alloc: Global,
+    tokens: &[Token<'t, ExpressionMetadata>],
+) -> Result<Option<Natural>, AllocError>
+    ensures { IfOk result (λ n. n ≡ total_size (trees tokens.now)) }
+{
+    let mut total = Natural::new(alloc, 0);
+    for token in tokens {
+        let Some(size) = fixed_size(alloc, token)? else {
+            return Ok(None);
+        };
+        total = size.times_plus(alloc, 1, &total)?;
+    }
+    Ok(Some(total))
+}
+
+/// The fixed size of branches, if there is one and all have the same.
+#[cycle(sizes)]
+fn common_size<'t>(
+    alloc: Global,
+    tokens: &[Token<'t, ExpressionMetadata>],
+) -> Result<Option<Natural>, AllocError>
+    ensures { IfOk result (λ n. n ≡ common_size (trees tokens.now)) }
+{
+    let Some((first, others)) = tokens.split_first() else {
+        return Ok(None);
+    };
+    let Some(common) = fixed_size(alloc, first)? else {
+        return Ok(None);
+    };
+    let agree = are_of_size(alloc, &common, others)?;
+    Ok(if agree { Some(common) } else { None })
+}
+
+/// Whether each of the tokens has the size.
+#[cycle(sizes)]
+#[tactic(auto, using(crate::proofs::Rows::element_size))]
+fn are_of_size<'t>(
+    alloc: Global,
+    size: &Natural,
+    tokens: &[Token<'t, ExpressionMetadata>],
+) -> Result<bool, AllocError>
+    ensures { IfOk result (λ b. b ≡ are_of_size size.now (trees tokens.now)) }
+{
+    for token in tokens {
+        let Some(other) = fixed_size(alloc, token)? else {
+            return Ok(false);
+        };
+        if !other.equals(size) {
+            return Ok(false);
+        }
+    }
+    Ok(true)
+}
+
+/// The fixed size of so many copies, from that of one.
+fn size_of_copies(
+    alloc: Global,
+    lower: usize,
+    upper: Option<usize>,
+    size: Option<Natural>,
+) -> Result<Option<Natural>, AllocError>
+    ensures { IfOk result (λ n. n ≡ size_of_copies lower upper size) }
+{
+    let Some(size) = size else {
+        return Ok(None);
+    };
+    if upper != Some(lower) {
+        return Ok(None);
+    }
+    let copies = size.times_plus(alloc, lower as u64, &Natural::new(alloc, 0))?;
+    Ok(Some(copies))
+}
+
+fn leaf_size(leaf: &LeafKind<'_>) -> Option<u64>
+    ensures { result ≡ leaf_size (leaf_of leaf.now) }
+{
+    match leaf {
+        LeafKind::Class(_) => Some(4),
+        LeafKind::Literal(literal) => Some(count_bytes(literal.text())),
+        LeafKind::Separator(_) => Some(1),
+        LeafKind::Wildcard(wildcard) => match wildcard {
+            Wildcard::One => Some(4),
+            Wildcard::ZeroOrMore(_) => None,
+            Wildcard::Tree { has_root: _ } => None,
+        },
+    }
+}
+
+fn count_bytes(text: &str) -> u64
+    ensures { result ≡ utf8_len (chars text.now) }
+{
+    text.len() as u64
+}
