@@ -1,0 +1,5 @@
+pub mod Leaving
+pub mod Separating
+pub mod Transposing
+pub mod Feeding
+pub mod Walking
