@@ -1,0 +1,37 @@
+-- What a directory answers.
+use Rattle.std.specs.Prelude.{◌≡◌, Option, Some, None, Result, Ok, Err, string_bytes}
+use Rattle.std.specs.Option.{option_map}
+use Rattle.wax_query.specs.declared.diagnostics.NoMemory.{NoMemory}
+use Rattle.wax_directory.specs.declared.directory.FileType.{FileType}
+use Rattle.wax_directory.specs.declared.directory.FileType.TheVariants as F
+use Rattle.wax_directory.specs.declared.directory.ListItem.{ListItem}
+use Rattle.wax_directory.specs.declared.directory.ListItem.TheVariants as I
+use Rattle.wax_directory.specs.declared.directory.DirectoryFault.{DirectoryFault}
+use Rattle.wax_directory.specs.declared.directory.DirectoryFault.TheVariants.{Failed, Memory}
+use Rattle.wax_directory.specs.Shown.{Items, Shown, a_leaf, a_folder, a_sealed, missing, failing, Listed, named, no_item, no_name, leaf_kind, first_of, rest_of}
+
+abbrev pub listed_of : ListItem → Listed
+listed_of (I.Name x kind) = named (string_bytes x) kind
+listed_of I.Failed = no_item
+listed_of I.NotText = no_name
+
+-- the answer to the question what stands there, unless memory was refused
+abbrev pub KindIs : Shown → Result (Option FileType) DirectoryFault → Type 0
+KindIs s (Err Memory) = Unit {0}
+KindIs (a_leaf link) r = r ≡ Ok (Some (leaf_kind link))
+KindIs (a_folder l) r = r ≡ Ok (Some F.Folder)
+KindIs a_sealed r = r ≡ Ok (Some F.Folder)
+KindIs missing r = r ≡ Ok None
+KindIs failing r = r ≡ Err Failed
+
+-- the answer where this is opened, unless memory was refused: a folder's items are to come, and nothing else can be opened
+abbrev pub Opens : {C : Type 0} → (C → Items → Type 0) → Shown → Result C DirectoryFault → Type 0
+Opens holds s (Err Memory) = Unit {0}
+Opens holds (a_folder l) (Ok cursor) = holds cursor l
+Opens holds (a_folder l) (Err Failed) = ⊥
+Opens holds s r = r ≡ Err Failed
+
+-- the answer where these items are to come, and then the others; all of them, where memory was refused
+abbrev pub NextIs : {C : Type 0} → (C → Items → Type 0) → Items → Result (Option ListItem) NoMemory → C → Type 0
+NextIs holds l (Ok answer) cursor = (option_map listed_of answer ≡ first_of l) × holds cursor (rest_of l)
+NextIs holds l (Err e) cursor = holds cursor l
