@@ -45,8 +45,8 @@ find_first rule row (s ∷ ss) a j h =
 
 pub found_first : (rule : Rule) (row : List Situated) (o : Option (ℕ × ℕ)) → o ≡ find_at (is_broken_at rule row) 0 (range_with_len 0 (length row)) →
     first_of (flat_map (breaks_of rule) row) ≡ first_found rule row o
-found_first rule row o e =
-    find_first rule row row 0 0 (λ k. (let n : 0 + k ≡ k = omega arith in ap (slice_get row) n)) ∙ ap (first_found rule row) (sym e)
+found_first rule tokens o e =
+    find_first rule tokens tokens 0 0 (λ k. (let n : 0 + k ≡ k = omega arith in ap (slice_get tokens) n)) ∙ ap (first_found rule tokens) (sym e)
 
 -- ---- all rules
 pub first_beside : (row : List Situated) (a b c o p : Option Break) →
