@@ -2,9 +2,9 @@
 use Rattle.std.specs.Prelude.{◌≡◌, ◌≢◌, ℕ, List, Option, Err, chars}
 use Rattle.wax.specs.Build.{IsGlob, MatchGlob}
 use Rattle.wax.specs.GlobView.{GlobView, IsMeant}
-use Rattle.wax.specs.Lines.{Filtered, Stopped}
+use Rattle.wax_lines.specs.Lines.{Filtered, Stopped}
 use Rattle.wax.specs.declared.build_error.BuildError.{BuildError}
-use Rattle.wax.specs.declared.lines.LinesError.{LinesError}
+use Rattle.wax_lines.specs.declared.lines.LinesError.{LinesError}
 
 -- The expression e was matched against the lines of the input. `left` is what the reader has left and `held` what the
 -- writer holds, before and after.

@@ -1,6 +1,2 @@
-pub mod Cuts
-pub mod Sifting
-pub mod Counting
-pub mod Runs
 pub mod Whole
 pub mod MeantEdges

@@ -4,12 +4,11 @@ ghost use Rattle.wax_token.specs.Cost.{program_length};
 ghost use Rattle.wax.specs.GlobView.{IsMeant};
 
 use crate::build_error::{BuildError, rule_refused};
-use crate::candidate::CandidatePath;
 use crate::edges::can_be_meant;
-use crate::program::Program;
 use std::alloc::Global;
 use std::fmt;
 use std::marker::Model;
+use wax_lines::{CandidatePath, Program};
 use wax_match::encode;
 use wax_match::encode::Meter;
 use wax_parse::parse::parse;

@@ -1,6 +1,6 @@
 use Rattle.std.proofs.Common.{refl, subst}
 use Rattle.wax.specs.GlobView.{IsMeant}
-use Rattle.wax.specs.Lines.{Filtered}
+use Rattle.wax_lines.specs.Lines.{Filtered}
 use Rattle.globs.specs.Endings.{done, not_text, stopped, refused}
 use Rattle.globs.proofs.run.run_match.Goals as goal
 

@@ -1,0 +1,62 @@
+-- How an input falls into lines.
+use Rattle.std.proofs.Common.{◌≡◌, ◌≢◌, ℕ, ◌+◌, false, List, [], ◌∷◌, ◌++◌, ◌==◌, if◌then◌else◌, All, refl, sym, ◌∙◌, ap, inl, inr, append_assoc, append-nil, arith}
+use Rattle.std.proofs.lemmas.Bool.Decides.{eqb_tells}
+use Rattle.std.proofs.lemmas.List.Elements.{All-head, All-tail}
+use Rattle.wax_lines.specs.Lines.{onto_lines, lines, onto_whole, whole_lines, Gives, Filters}
+use Rattle.wax_lines.specs.Sifted.{HasNoFeed, joined}
+
+is_no_feed : (b : ℕ) → b ≢ 10 → (b == 10) ≡ false
+is_no_feed b h = elim (eqb_tells b 10) [ inl e ↦ absurd (h e.1) | inr e ↦ e.0 ]
+
+lines-more : (b : ℕ) (bs : List ℕ) → b ≢ 10 → lines (b ∷ bs) ≡ onto_lines b (lines bs)
+lines-more b bs h = ap (λ t. if t then [] ∷ lines bs else onto_lines b (lines bs)) (is_no_feed b h)
+
+whole_lines-more : (b : ℕ) (bs : List ℕ) → b ≢ 10 → whole_lines (b ∷ bs) ≡ onto_whole b (whole_lines bs)
+whole_lines-more b bs h = ap (λ t. if t then [] ∷ whole_lines bs else onto_whole b (whole_lines bs)) (is_no_feed b h)
+
+lines_line : (line tail : List ℕ) → HasNoFeed line → lines (line ++ 10 ∷ tail) ≡ line ∷ lines tail
+lines_line [] tail h = refl
+lines_line (b ∷ line) tail h =
+    lines-more b (line ++ 10 ∷ tail) (All-head (λ x. x ≢ 10) b line h) ∙ ap (onto_lines b) (lines_line line tail (All-tail (λ x. x ≢ 10) b line h))
+
+whole_lines_line : (line tail : List ℕ) → HasNoFeed line → whole_lines (line ++ 10 ∷ tail) ≡ line ∷ whole_lines tail
+whole_lines_line [] tail h = refl
+whole_lines_line (b ∷ line) tail h =
+    whole_lines-more b (line ++ 10 ∷ tail) (All-head (λ x. x ≢ 10) b line h) ∙ ap (onto_whole b) (whole_lines_line line tail (All-tail (λ x. x ≢ 10) b line h))
+
+-- a last line without its end
+pub lines_open : (b : ℕ) (bs : List ℕ) → HasNoFeed (b ∷ bs) → lines (b ∷ bs) ≡ (b ∷ bs) ∷ []
+lines_open b [] h = lines-more b [] (All-head (λ x. x ≢ 10) b [] h)
+lines_open b (c ∷ cs) h =
+    lines-more b (c ∷ cs) (All-head (λ x. x ≢ 10) b (c ∷ cs) h) ∙ ap (onto_lines b) (lines_open c cs (All-tail (λ x. x ≢ 10) b (c ∷ cs) h))
+
+whole_lines_open : (bs : List ℕ) → HasNoFeed bs → whole_lines bs ≡ []
+whole_lines_open [] h = refl
+whole_lines_open (b ∷ bs) h =
+    whole_lines-more b bs (All-head (λ x. x ≢ 10) b bs h) ∙ ap (onto_whole b) (whole_lines_open bs (All-tail (λ x. x ≢ 10) b bs h))
+
+-- whole lines come first
+pub lines_joined : (whole : List (List ℕ)) (tail : List ℕ) → All HasNoFeed whole → lines (joined whole ++ tail) ≡ whole ++ lines tail
+lines_joined [] tail h = refl
+lines_joined (line ∷ rest) tail h =
+    ap lines (append_assoc line (10 ∷ joined rest) tail) ∙ lines_line line (joined rest ++ tail) (All-head HasNoFeed line rest h)
+    ∙ ap (λ z. line ∷ z) (lines_joined rest tail (All-tail HasNoFeed line rest h))
+
+pub whole_lines_joined : (whole : List (List ℕ)) (tail : List ℕ) → All HasNoFeed whole → HasNoFeed tail → whole_lines (joined whole ++ tail) ≡ whole
+whole_lines_joined [] tail h k = whole_lines_open tail k
+whole_lines_joined (line ∷ rest) tail h k =
+    ap whole_lines (append_assoc line (10 ∷ joined rest) tail) ∙ whole_lines_line line (joined rest ++ tail) (All-head HasNoFeed line rest h)
+    ∙ ap (λ z. line ∷ z) (whole_lines_joined rest tail (All-tail HasNoFeed line rest h) k)
+
+pub joined-append : (whole : List (List ℕ)) (line : List ℕ) → joined (whole ++ line ∷ []) ≡ joined whole ++ (line ++ 10 ∷ [])
+joined-append [] line = refl
+joined-append (first ∷ rest) line = ap (λ z. first ++ 10 ∷ z) (joined-append rest line) ∙ sym (append_assoc first (10 ∷ joined rest) (line ++ 10 ∷ []))
+
+-- one more line
+pub Filters-more : (Means : List ℕ → Type 0) (whole : List (List ℕ)) (line out more : List ℕ) (bad m : ℕ)
+    → Filters Means whole out bad → Gives Means line more m → Filters Means (whole ++ line ∷ []) (out ++ more) (bad + m)
+Filters-more Means [] line out more bad m h g =
+    (more, [], m, 0, g, (refl, refl), ap (λ z. z ++ more) h.0 ∙ sym (append-nil more), omega (arith, h.1))
+Filters-more Means (first ∷ rest) line out more bad m h g =
+    let (x, y, k, n, gives, filters, same, count) = h in
+    (x, y ++ more, k, n + m, gives, Filters-more Means rest line y more n m filters g, ap (λ z. z ++ more) same ∙ append_assoc x y more, omega (arith, count))

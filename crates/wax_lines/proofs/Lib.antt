@@ -1,0 +1,4 @@
+pub mod Cuts
+pub mod Sifting
+pub mod Counting
+pub mod Runs

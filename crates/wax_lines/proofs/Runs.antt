@@ -1,0 +1,205 @@
+-- How far a run of the filter has come after each step.
+use Rattle.std.proofs.Common.{◌≡◌, ℕ, List, [], ◌∷◌, ◌++◌, Option, Result, Ok, Err, OnOk, IfErr, refl, sym, ◌∙◌, ap, subst, append_assoc, append-nil}
+use Rattle.std.specs.Io.KnownBytes.{Consumes, Appends, IsAtEnd, Keeps}
+use Rattle.std.proofs.KnownBytes.{Consumes-nil, Consumes-trans, Consumes-kept, Appends-nil, Appends-trans}
+use Rattle.wax_lines.specs.declared.lines.LinesError.{LinesError}
+use Rattle.wax_lines.specs.declared.lines.LinesError.TheVariants.{Read, Write, Memory}
+use Rattle.wax_lines.specs.declared.lines.sieve.Sieve.{Sieve}
+use Rattle.wax_lines.specs.Sifted.{joined}
+use Rattle.wax_lines.specs.Lines.{lines, Filters, Filtered, StoppedReading, StoppedWriting, StoppedShort, Stopped}
+use Rattle.wax_lines.specs.Progress.{SieveSifted, TakesIn, TakesInPart, TakesLast, WritesPart, Came, CameShort, Finished, Halted}
+use Rattle.wax_lines.proofs.Sifting.{sifted_nothing, sifted_written, sifted_whole, sifted_front}
+
+module _ (Means : List ℕ → Type 0) where
+  -- nothing has happened yet
+  pub came_nowhere : (left held : Option (List ℕ)) (s : Sieve) → s.carry.items ≡ [] → s.kept.bytes.items ≡ [] → s.kept.not_text ≡ 0
+      → SieveSifted Means [] [] s
+  came_nowhere left held s e f g = rw (e, f, g) (sifted_nothing Means)
+
+  -- a chunk was read and taken in
+  pub Came-chunk : (left mid left' held held' : Option (List ℕ)) (old new : Sieve) (chunk : List ℕ)
+      → Came Means left mid held held' old → Consumes mid left' chunk → TakesIn Means chunk old new → Came Means left left' held held' new
+  Came-chunk left mid left' held held' old new chunk h read takes = record {
+    taken = h.taken ++ chunk;
+    written = h.written;
+    reads = Consumes-trans _ _ _ _ _ h.reads read;
+    writes = h.writes;
+    sifted = takes h.taken h.written h.sifted;
+  }
+
+  -- a chunk was read, and a beginning of it taken in
+  pub Came-part : (left mid left' held held' : Option (List ℕ)) (old new : Sieve) (chunk : List ℕ)
+      → Came Means left mid held held' old → Consumes mid left' chunk → TakesInPart Means chunk old new → CameShort Means left left' held held' new
+  Came-part left mid left' held held' old new chunk h read (front, rest, splits, takes) = record {
+    front = h.taken ++ front;
+    rest = rest;
+    written = h.written;
+    reads = subst (Consumes left left') (ap (λ z. h.taken ++ z) splits ∙ sym (append_assoc h.taken front rest)) (Consumes-trans _ _ _ _ _ h.reads read);
+    writes = h.writes;
+    sifted = takes h.taken h.written h.sifted;
+  }
+
+  -- a failed read
+  pub Came-kept : (left mid left' held held' : Option (List ℕ)) (s : Sieve)
+      → Came Means left mid held held' s → Keeps mid left' → Came Means left left' held held' s
+  Came-kept left mid left' held held' s h kept = record {
+    taken = h.taken;
+    written = h.written;
+    reads = Consumes-kept _ _ _ _ h.reads kept;
+    writes = h.writes;
+    sifted = h.sifted;
+  }
+
+  -- what waited was written
+  pub Came-written : (left left' held mid held' : Option (List ℕ)) (old new : Sieve)
+      → Came Means left left' held mid old → Appends mid held' old.kept.bytes.items
+      → new.carry ≡ old.carry → new.kept.bytes.items ≡ [] → new.kept.not_text ≡ old.kept.not_text → Came Means left left' held held' new
+  Came-written left left' held mid held' old new h written e f g = record {
+    taken = h.taken;
+    written = h.written ++ old.kept.bytes.items;
+    reads = h.reads;
+    writes = Appends-trans _ _ _ _ _ h.writes written;
+    sifted = rw (e, f, g) (sifted_written Means h.taken h.written old.carry.items old.kept.bytes.items old.kept.not_text h.sifted);
+  }
+
+  -- a beginning of what waited was written
+  pub Short-writing : (left left' held mid held' : Option (List ℕ)) (s : Sieve)
+      → CameShort Means left left' held mid s → WritesPart mid held' s.kept.bytes.items → StoppedWriting Means left left' held held'
+  Short-writing left left' held mid held' s h w = record {
+    front = joined h.sifted.whole;
+    rest = s.carry.items ++ h.rest;
+    out = h.written ++ w.front;
+    unwritten = w.rest;
+    bad = h.sifted.bad;
+    reads = subst (Consumes left left') (ap (λ z. z ++ h.rest) h.sifted.splits ∙ append_assoc (joined h.sifted.whole) s.carry.items h.rest) h.reads;
+    writes = Appends-trans _ _ _ _ _ h.writes w.writes;
+    filters = subst (λ z. Filters Means (lines (joined h.sifted.whole)) z h.sifted.bad)
+        (ap (λ z. h.written ++ z) w.splits ∙ sym (append_assoc h.written w.front w.rest))
+        (sifted_front Means h.front h.written s.carry.items s.kept.bytes.items s.kept.not_text h.sifted);
+  }
+
+  -- all that was read was taken in, so a beginning was
+  pub came_short : (left left' held held' : Option (List ℕ)) (s : Sieve) → Came Means left left' held held' s → CameShort Means left left' held held' s
+  came_short left left' held held' s h = record {
+    front = h.taken;
+    rest = [];
+    written = h.written;
+    reads = subst (Consumes left left') (sym (append-nil h.taken)) h.reads;
+    writes = h.writes;
+    sifted = h.sifted;
+  }
+
+  -- the end of the input, with the rest taken in
+  pub Came-finished : (left mid left' held held' : Option (List ℕ)) (old new : Sieve) (none : List ℕ)
+      → Came Means left mid held held' old → none ≡ [] → Consumes mid left' none → IsAtEnd left' → TakesLast Means old new → Finished Means left left' held held' new
+  Came-finished left mid left' held held' old new none h nil read end takes = record {
+    taken = h.taken;
+    written = h.written;
+    reads = subst (Consumes left left') (ap (λ z. h.taken ++ z) nil ∙ append-nil h.taken) (Consumes-trans _ _ _ _ _ h.reads read);
+    ends = end;
+    writes = h.writes;
+    sifted = takes h.taken h.written h.sifted;
+  }
+
+  -- the last writing, after all was read
+  pub Finished-written : (left left' held mid held' : Option (List ℕ)) (s : Sieve) (answer : ℕ)
+      → Finished Means left left' held mid s → Appends mid held' s.kept.bytes.items → answer ≡ s.kept.not_text → Filtered Means left left' held held' answer
+  Finished-written left left' held mid held' s answer h written e = record {
+    taken = h.taken;
+    out = h.written ++ s.kept.bytes.items;
+    bad = h.sifted.bad;
+    reads = h.reads;
+    ends = h.ends;
+    writes = Appends-trans _ _ _ _ _ h.writes written;
+    filters = h.sifted.filters;
+    answers = e ∙ h.sifted.counts;
+  }
+
+  pub Finished-writing : (left left' held mid held' : Option (List ℕ)) (s : Sieve)
+      → Finished Means left left' held mid s → WritesPart mid held' s.kept.bytes.items → StoppedWriting Means left left' held held'
+  Finished-writing left left' held mid held' s h w = record {
+    front = h.taken;
+    rest = [];
+    out = h.written ++ w.front;
+    unwritten = w.rest;
+    bad = h.sifted.bad;
+    reads = subst (Consumes left left') (sym (append-nil h.taken)) h.reads;
+    writes = Appends-trans _ _ _ _ _ h.writes w.writes;
+    filters = subst (λ z. Filters Means (lines h.taken) z h.sifted.bad)
+        (ap (λ z. h.written ++ z) w.splits ∙ sym (append_assoc h.written w.front w.rest)) h.sifted.filters;
+  }
+
+  -- the last writing, after a failed read
+  pub Came-stopped : (left left' held mid held' : Option (List ℕ)) (s : Sieve)
+      → Came Means left left' held mid s → Appends mid held' s.kept.bytes.items → StoppedReading Means left left' held held'
+  Came-stopped left left' held mid held' s h written = record {
+    taken = h.taken;
+    out = h.written ++ s.kept.bytes.items;
+    bad = h.sifted.bad;
+    reads = h.reads;
+    writes = Appends-trans _ _ _ _ _ h.writes written;
+    filters = sifted_whole Means h.taken h.written s.carry.items s.kept.bytes.items s.kept.not_text h.sifted;
+  }
+
+  -- the last writing, after want of memory
+  pub Short-stopped : (left left' held mid held' : Option (List ℕ)) (s : Sieve)
+      → CameShort Means left left' held mid s → Appends mid held' s.kept.bytes.items → StoppedShort Means left left' held held'
+  Short-stopped left left' held mid held' s h written = record {
+    front = h.front;
+    rest = h.rest;
+    out = h.written ++ s.kept.bytes.items;
+    bad = h.sifted.bad;
+    reads = h.reads;
+    writes = Appends-trans _ _ _ _ _ h.writes written;
+    filters = sifted_whole Means h.front h.written s.carry.items s.kept.bytes.items s.kept.not_text h.sifted;
+  }
+
+  -- want of memory before the first read
+  pub stopped_at_once : (left held : Option (List ℕ)) → StoppedShort Means left left held held
+  stopped_at_once left held = record {
+    front = [];
+    rest = [];
+    out = [];
+    bad = 0;
+    reads = Consumes-nil left;
+    writes = Appends-nil held;
+    filters = (refl, refl);
+  }
+
+  -- after a failed write nothing more is written
+  still_writing : (left left' held mid held' : Option (List ℕ)) (more : List ℕ)
+      → StoppedWriting Means left left' held mid → more ≡ [] → Appends mid held' more → StoppedWriting Means left left' held held'
+  still_writing left left' held mid held' more h nil w = record {
+    front = h.front;
+    rest = h.rest;
+    out = h.out;
+    unwritten = h.unwritten;
+    bad = h.bad;
+    reads = h.reads;
+    writes = subst (Appends held held') (ap (λ z. h.out ++ z) nil ∙ append-nil h.out) (Appends-trans _ _ _ _ _ h.writes w);
+    filters = h.filters;
+  }
+
+  -- the last writing, after an error
+  pub Halted-written : (left left' held mid held' : Option (List ℕ)) (s : Sieve) (e : LinesError)
+      → Halted Means left left' held mid s e → Appends mid held' s.kept.bytes.items → Stopped Means left left' held held' e
+  Halted-written left left' held mid held' s Read h w = Came-stopped left left' held mid held' s h w
+  Halted-written left left' held mid held' s Write h w = still_writing left left' held mid held' s.kept.bytes.items h.0 h.1 w
+  Halted-written left left' held mid held' s Memory h w = Short-stopped left left' held mid held' s h w
+
+  pub Halted-writing : (left left' held mid held' : Option (List ℕ)) (s : Sieve) (e : LinesError)
+      → Halted Means left left' held mid s e → WritesPart mid held' s.kept.bytes.items → StoppedWriting Means left left' held held'
+  Halted-writing left left' held mid held' s Read h w = Short-writing left left' held mid held' s (came_short left left' held mid s h) w
+  Halted-writing left left' held mid held' s Write h w = still_writing left left' held mid held' w.front h.0 (front_nil w.front w.rest (sym w.splits ∙ h.1)) w.writes
+    where
+      front_nil : (xs ys : List ℕ) → xs ++ ys ≡ [] → xs ≡ []
+      front_nil [] ys e = refl
+      front_nil (x ∷ xs) ys e = cc
+  Halted-writing left left' held mid held' s Memory h w = Short-writing left left' held mid held' s h w
+
+  -- the last writing, whatever came before
+  pub Ended-writing : (left left' held mid held' : Option (List ℕ)) (s : Sieve) (r : Result (Unit {0}) LinesError)
+      → OnOk r (Finished Means left left' held mid s) → IfErr r (Halted Means left left' held mid s)
+      → WritesPart mid held' s.kept.bytes.items → StoppedWriting Means left left' held held'
+  Ended-writing left left' held mid held' s (Ok x) h k w = Finished-writing left left' held mid held' s h w
+  Ended-writing left left' held mid held' s (Err e) h k w = Halted-writing left left' held mid held' s e k w

@@ -1,0 +1,86 @@
+-- The lines of an input, and what a filter of lines writes.
+use Rattle.std.specs.Prelude.{◌≡◌, ℕ, ◌+◌, ◌==◌, if◌then◌else◌, List, [], ◌∷◌, ◌++◌, Option, IsUtf8, chars}
+use Rattle.std.specs.Io.KnownBytes.{Consumes, Appends, IsAtEnd}
+use Rattle.std.specs.Io.Iter.{u64_saturate}
+use Rattle.wax_lines.specs.declared.lines.LinesError.{LinesError}
+use Rattle.wax_lines.specs.declared.lines.LinesError.TheVariants.{Read, Write, Memory}
+
+-- a byte that is no line feed, before these lines
+abbrev pub onto_lines : ℕ → List (List ℕ) → List (List ℕ)
+onto_lines b [] = (b ∷ []) ∷ []
+onto_lines b (line ∷ rest) = (b ∷ line) ∷ rest
+
+-- the pieces that end at a line feed, and a last piece that is not empty
+abbrev pub lines : List ℕ → List (List ℕ)
+lines [] = []
+lines (b ∷ bs) = if b == 10 then [] ∷ lines bs else onto_lines b (lines bs)
+
+-- a byte that is no line feed, before these lines, each of which ends at one
+abbrev pub onto_whole : ℕ → List (List ℕ) → List (List ℕ)
+onto_whole b [] = []
+onto_whole b (line ∷ rest) = (b ∷ line) ∷ rest
+
+-- the pieces that end at a line feed
+abbrev pub whole_lines : List ℕ → List (List ℕ)
+whole_lines [] = []
+whole_lines (b ∷ bs) = if b == 10 then [] ∷ whole_lines bs else onto_whole b (whole_lines bs)
+
+-- what one line gives: the bytes that are written, and 1 where it is no text
+pub data Gives (Means : List ℕ → Type 0) (line out : List ℕ) (bad : ℕ) : Type 0 where
+  meant : IsUtf8 line → Means (chars line) → out ≡ line ++ 10 ∷ [] → bad ≡ 0 → Gives Means line out bad
+  not_meant : IsUtf8 line → (Means (chars line) → ⊥) → out ≡ [] → bad ≡ 0 → Gives Means line out bad
+  no_text : (IsUtf8 line → ⊥) → out ≡ [] → bad ≡ 1 → Gives Means line out bad
+
+-- what lines give, one after another, and how many are no text
+abbrev pub Filters : (List ℕ → Type 0) → List (List ℕ) → List ℕ → ℕ → Type 0
+Filters Means [] out bad = (out ≡ []) × (bad ≡ 0)
+Filters Means (line ∷ rest) out bad =
+    (x y : List ℕ) × (m n : ℕ) × Gives Means line x m × Filters Means rest y n × (out ≡ x ++ y) × (bad ≡ m + n)
+
+-- All was read, and what its lines give was written. `left` is what the reader has left and `held` what the writer
+-- holds, before and after.
+pub record Filtered (Means : List ℕ → Type 0) (left left' held held' : Option (List ℕ)) (answer : ℕ) : Type 0 where
+  pub taken : List ℕ
+  pub out : List ℕ
+  pub bad : ℕ
+  pub reads : Consumes left left' taken
+  pub ends : IsAtEnd left'
+  pub writes : Appends held held' out
+  pub filters : Filters Means (lines taken) out bad
+  pub answers : answer ≡ u64_saturate bad
+
+-- what the whole lines of the bytes that were read give was written
+pub record StoppedReading (Means : List ℕ → Type 0) (left left' held held' : Option (List ℕ)) : Type 0 where
+  pub taken : List ℕ
+  pub out : List ℕ
+  pub bad : ℕ
+  pub reads : Consumes left left' taken
+  pub writes : Appends held held' out
+  pub filters : Filters Means (whole_lines taken) out bad
+
+-- a beginning was written of what the lines of a beginning of the read bytes give
+pub record StoppedWriting (Means : List ℕ → Type 0) (left left' held held' : Option (List ℕ)) : Type 0 where
+  pub front : List ℕ
+  pub rest : List ℕ
+  pub out : List ℕ
+  pub unwritten : List ℕ
+  pub bad : ℕ
+  pub reads : Consumes left left' (front ++ rest)
+  pub writes : Appends held held' out
+  pub filters : Filters Means (lines front) (out ++ unwritten) bad
+
+-- what the whole lines of a beginning of the read bytes give was written
+pub record StoppedShort (Means : List ℕ → Type 0) (left left' held held' : Option (List ℕ)) : Type 0 where
+  pub front : List ℕ
+  pub rest : List ℕ
+  pub out : List ℕ
+  pub bad : ℕ
+  pub reads : Consumes left left' (front ++ rest)
+  pub writes : Appends held held' out
+  pub filters : Filters Means (whole_lines front) out bad
+
+-- how it stands after an error
+abbrev pub Stopped : (List ℕ → Type 0) → (left left' held held' : Option (List ℕ)) → LinesError → Type 0
+Stopped Means left left' held held' Read = StoppedReading Means left left' held held'
+Stopped Means left left' held held' Write = StoppedWriting Means left left' held held'
+Stopped Means left left' held held' Memory = StoppedShort Means left left' held held'

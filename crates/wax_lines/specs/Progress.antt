@@ -1,0 +1,70 @@
+-- How far a filter of lines has come. Only private functions cite this file.
+use Rattle.std.specs.Prelude.{◌≡◌, ℕ, List, [], ◌++◌, Option}
+use Rattle.std.specs.Io.KnownBytes.{Consumes, Appends, IsAtEnd}
+use Rattle.std.specs.Io.Iter.{u64_saturate}
+use Rattle.wax_lines.specs.declared.lines.LinesError.{LinesError}
+use Rattle.wax_lines.specs.declared.lines.LinesError.TheVariants.{Read, Write, Memory}
+use Rattle.wax_lines.specs.declared.lines.sieve.Sieve.{Sieve}
+use Rattle.wax_lines.specs.Lines.{Filters, lines, StoppedWriting}
+use Rattle.wax_lines.specs.Sifted.{Sifted}
+
+abbrev pub SieveSifted : (List ℕ → Type 0) → List ℕ → List ℕ → Sieve → Type 0
+SieveSifted Means taken written s = Sifted Means taken written s.carry.items s.kept.bytes.items s.kept.not_text
+
+-- these bytes were taken in
+abbrev pub TakesIn : (List ℕ → Type 0) → List ℕ → Sieve → Sieve → Type 0
+TakesIn Means bytes old new =
+    (taken written : List ℕ) → SieveSifted Means taken written old → SieveSifted Means (taken ++ bytes) written new
+
+-- a beginning of these bytes was taken in
+abbrev pub TakesInPart : (List ℕ → Type 0) → List ℕ → Sieve → Sieve → Type 0
+TakesInPart Means bytes old new = (front rest : List ℕ) × (bytes ≡ front ++ rest) × TakesIn Means front old new
+
+-- what all lines give, the last one too, was written or waits
+pub record AllSifted (Means : List ℕ → Type 0) (taken written : List ℕ) (s : Sieve) : Type 0 where
+  pub bad : ℕ
+  pub filters : Filters Means (lines taken) (written ++ s.kept.bytes.items) bad
+  pub counts : s.kept.not_text ≡ u64_saturate bad
+
+-- the rest was taken in as the last line
+abbrev pub TakesLast : (List ℕ → Type 0) → Sieve → Sieve → Type 0
+TakesLast Means old new = (taken written : List ℕ) → SieveSifted Means taken written old → AllSifted Means taken written new
+
+-- a beginning of these bytes was written
+pub record WritesPart (held held' : Option (List ℕ)) (bytes : List ℕ) : Type 0 where
+  pub front : List ℕ
+  pub rest : List ℕ
+  pub splits : bytes ≡ front ++ rest
+  pub writes : Appends held held' front
+
+-- all that was read was taken in
+pub record Came (Means : List ℕ → Type 0) (left left' held held' : Option (List ℕ)) (s : Sieve) : Type 0 where
+  pub taken : List ℕ
+  pub written : List ℕ
+  pub reads : Consumes left left' taken
+  pub writes : Appends held held' written
+  pub sifted : SieveSifted Means taken written s
+
+-- a beginning of what was read was taken in
+pub record CameShort (Means : List ℕ → Type 0) (left left' held held' : Option (List ℕ)) (s : Sieve) : Type 0 where
+  pub front : List ℕ
+  pub rest : List ℕ
+  pub written : List ℕ
+  pub reads : Consumes left left' (front ++ rest)
+  pub writes : Appends held held' written
+  pub sifted : SieveSifted Means front written s
+
+-- all was read and taken in
+pub record Finished (Means : List ℕ → Type 0) (left left' held held' : Option (List ℕ)) (s : Sieve) : Type 0 where
+  pub taken : List ℕ
+  pub written : List ℕ
+  pub reads : Consumes left left' taken
+  pub ends : IsAtEnd left'
+  pub writes : Appends held held' written
+  pub sifted : AllSifted Means taken written s
+
+-- how it stands after an error, before what waits is written; after a failed write nothing waits
+abbrev pub Halted : (List ℕ → Type 0) → (left left' held held' : Option (List ℕ)) → Sieve → LinesError → Type 0
+Halted Means left left' held held' s Read = Came Means left left' held held' s
+Halted Means left left' held held' s Write = StoppedWriting Means left left' held held' × (s.kept.bytes.items ≡ [])
+Halted Means left left' held held' s Memory = CameShort Means left left' held held' s

@@ -1,0 +1,27 @@
+-- How far a filter of lines has come. Only private functions cite this file.
+use Rattle.std.specs.Prelude.{◌≡◌, ◌≢◌, ℕ, ◌+◌, List, [], ◌∷◌, ◌++◌, All}
+use Rattle.std.specs.Io.Iter.{u64_saturate}
+use Rattle.wax_lines.specs.Lines.{Filters}
+
+-- no line feed is among the bytes
+abbrev pub HasNoFeed : List ℕ → Type 0
+HasNoFeed bytes = All (λ b. b ≢ 10) bytes
+
+-- each line and its line feed
+abbrev pub joined : List (List ℕ) → List ℕ
+joined [] = []
+joined (line ∷ rest) = line ++ 10 ∷ joined rest
+
+-- a count that stays at the greatest u64 grew by m
+abbrev pub CountsMore : ℕ → ℕ → ℕ → Type 0
+CountsMore old new m = (n : ℕ) → old ≡ u64_saturate n → new ≡ u64_saturate (n + m)
+
+-- What was taken is whole lines and the carry, and what the lines give is what was written and what waits.
+pub record Sifted (Means : List ℕ → Type 0) (taken written carry waiting : List ℕ) (counted : ℕ) : Type 0 where
+  pub whole : List (List ℕ)
+  pub bad : ℕ
+  pub splits : taken ≡ joined whole ++ carry
+  pub are_lines : All HasNoFeed whole
+  pub is_open : HasNoFeed carry
+  pub filters : Filters Means whole (written ++ waiting) bad
+  pub counts : counted ≡ u64_saturate bad

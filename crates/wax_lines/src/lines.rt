@@ -1,0 +1,123 @@
+//! The filter of lines.
+ghost use Rattle.std.specs.Prelude.{◌≡◌, ◌≤◌, ◌<◌, ◌+◌, ◌⊎◌, [], length, IfOk, IfErr, OnOk, IsErrOf};
+ghost use Rattle.wax_lines.specs.Counts.{greatest_count};
+ghost use Rattle.wax_lines.specs.Lines.{Filtered, Stopped};
+ghost use Rattle.wax_lines.specs.Progress.{Finished, Halted, SieveSifted};
+
+use crate::counted::Counted;
+use crate::program::Program;
+use std::alloc::{AllocError, Global};
+use std::io::{Read, Write};
+use thiserror::Error;
+use wax_query::diagnostics::NoMemory;
+
+mod sieve;
+
+use sieve::Sieve;
+
+/// How many bytes are read at once, and how many wait at most before they are written.
+const CHUNK: usize = 65536;
+
+/// Why a filter of lines stopped.
+#[derive(Clone, Copy, Debug, PartialEq, Eq, Error)]
+pub enum LinesError {
+    /// A read failed, or the reader's calls can't be counted any further (refusal 18).
+    #[error("read failed")]
+    Read,
+    /// A write failed or took nothing (refusal 19).
+    #[error("write failed")]
+    Write,
+    /// Memory was asked for and refused (refusal 10).
+    #[error("no memory")]
+    Memory,
+}
+
+impl From<NoMemory> for LinesError {
+    ghost use Rattle.std.specs.Prelude.{◌≡◌};
+    ghost use Rattle.wax_lines.specs.declared.lines.LinesError.TheVariants.{Memory};
+
+    ghost from_gives = { λ _ error. error ≡ Memory };
+
+    fn from(_: NoMemory) -> Self {
+        LinesError::Memory
+    }
+}
+
+impl From<AllocError> for LinesError {
+    ghost use Rattle.std.specs.Prelude.{◌≡◌};
+    ghost use Rattle.wax_lines.specs.declared.lines.LinesError.TheVariants.{Memory};
+
+    ghost from_gives = { λ _ error. error ≡ Memory };
+
+    fn from(_: AllocError) -> Self {
+        LinesError::Memory
+    }
+}
+
+/// Writes each line of the input that is text and that the program means, with one line feed, and
+/// answers how many lines are no text; nothing is written for these. That number stays at the greatest
+/// u64. A line ends at a line feed or, if it isn't empty, at the end of the input.
+///
+/// Refused with 18 where a read fails or the reader's count of calls stands at the greatest u64 before
+/// a read, and with 10 where memory is: the lines that were read before were written. Refused with 19
+/// where a write fails or takes nothing: a beginning of the output was written. Takes memory for the
+/// longest line and a few chunks of 65,536 bytes.
+pub fn filter_lines<R: Read, W: Write, P: Program>(
+    alloc: Global,
+    input: &mut Counted<R>,
+    output: &mut Counted<W>,
+    program: &P,
+) -> Result<u64, LinesError>
+    ensures done { IfOk result (Filtered (P.means program.now) (R.remaining input.old.inner) (R.remaining input.new.inner)
+        (W.contents output.old.inner) (W.contents output.new.inner)) }
+    ensures stopped { IfErr result (Stopped (P.means program.now) (R.remaining input.old.inner) (R.remaining input.new.inner)
+        (W.contents output.old.inner) (W.contents output.new.inner)) }
+    ensures read_failed { IsErrOf result LinesError.Read →
+        (input.old.failures < input.new.failures) ⊎ (input.new.calls ≡ greatest_count) }
+    ensures write_failed { IsErrOf result LinesError.Write →
+        (output.old.failures < output.new.failures) ⊎ (output.new.failures ≡ greatest_count) }
+{
+    let mut chunk = vec![in alloc; 0u8; CHUNK]?;
+    let mut sieve = Sieve::new(alloc);
+    let taken = take_all(alloc, input, output, program, &mut chunk, &mut sieve);
+    sieve.write_out(output)?;
+    taken?;
+    Ok(sieve.not_text())
+}
+
+// Takes the whole input into the sieve, and writes what waits once it is long.
+fn take_all<R: Read, W: Write, P: Program>(
+    alloc: Global,
+    input: &mut Counted<R>,
+    output: &mut Counted<W>,
+    program: &P,
+    chunk: &mut [u8],
+    sieve: &mut Sieve,
+) -> Result<(), LinesError>
+    requires room { 0 < length chunk.old }
+    requires fresh { SieveSifted (P.means program.now) [] [] sieve.old }
+    ensures done { OnOk result (Finished (P.means program.now) (R.remaining input.old.inner) (R.remaining input.new.inner)
+        (W.contents output.old.inner) (W.contents output.new.inner) sieve.new) }
+    ensures stopped { IfErr result (Halted (P.means program.now) (R.remaining input.old.inner) (R.remaining input.new.inner)
+        (W.contents output.old.inner) (W.contents output.new.inner) sieve.new) }
+    ensures read_failed { IsErrOf result LinesError.Read →
+        (input.old.failures < input.new.failures) ⊎ (input.new.calls ≡ greatest_count) }
+    ensures write_failed { IsErrOf result LinesError.Write →
+        (output.old.failures < output.new.failures) ⊎ (output.new.failures ≡ greatest_count) }
+    ensures steady { output.old.failures ≤ output.new.failures }
+{
+    while input.calls() < u64::MAX {
+        let Ok(count) = input.read(chunk) else {
+            return Err(LinesError::Read);
+        };
+        if count == 0 {
+            sieve.take_last(alloc, program)?;
+            return Ok(());
+        }
+        sieve.take(alloc, program, &chunk[..count])?;
+        if sieve.waiting() >= CHUNK {
+            sieve.write_out(output)?;
+        }
+    }
+    Err(LinesError::Read)
+}

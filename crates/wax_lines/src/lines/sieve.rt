@@ -1,0 +1,189 @@
+//! What a filter of lines keeps between two chunks.
+ghost use Rattle.std.specs.Prelude.{◌≡◌, ◌≤◌, ◌<◌, ◌+◌, ◌⊎◌, ℕ, List, [], ◌∷◌, ◌++◌, vec_len, length, IfOk, IfErr, OnOk, OnErr, MatchOption};
+ghost use Rattle.std.specs.Io.KnownBytes.{Appends};
+ghost use Rattle.wax_lines.specs.Counts.{greatest_count};
+ghost use Rattle.wax_lines.specs.Lines.{Gives};
+ghost use Rattle.wax_lines.specs.Sifted.{HasNoFeed, CountsMore};
+ghost use Rattle.wax_lines.specs.Progress.{SieveSifted, TakesIn, TakesInPart, TakesLast, WritesPart};
+
+use super::LinesError;
+use crate::candidate::CandidatePath;
+use crate::counted::Counted;
+use crate::program::Program;
+use std::alloc::{AllocError, Global};
+use std::io::Write;
+use wax_query::diagnostics::NoMemory;
+
+/// The output that waits to be written, and how many lines were no text.
+#[derive(Drop)]
+pub struct Kept {
+    bytes: Vec<u8>,
+    not_text: u64,
+}
+
+/// The rest of a line that has no end yet, and what earlier lines gave.
+#[derive(Drop)]
+pub struct Sieve {
+    carry: Vec<u8>,
+    kept: Kept,
+}
+
+impl Kept {
+    // One line, without its line feed.
+    fn add_line<P: Program>(
+        &mut self,
+        alloc: Global,
+        program: &P,
+        line: &[u8],
+    ) -> Result<(), NoMemory>
+        ensures ok { OnOk result ((out : List ℕ) × (bad : ℕ) × Gives (P.means program.now) line.now out bad
+            × (self.new.bytes.items ≡ self.old.bytes.items ++ out) × CountsMore self.old.not_text self.new.not_text bad) }
+        ensures bytes { OnErr result (self.new.bytes.items ≡ self.old.bytes.items) }
+        ensures not_text { OnErr result (self.new.not_text ≡ self.old.not_text) }
+    {
+        let Ok(text) = str::from_utf8(line) else {
+            self.not_text = self.not_text.saturating_add(1);
+            return Ok(());
+        };
+        if program.is_match(alloc, &CandidatePath::from(text))? {
+            self.add_text(line)?;
+        }
+        Ok(())
+    }
+
+    // A line and its line feed, or nothing.
+    fn add_text(&mut self, line: &[u8]) -> Result<(), AllocError>
+        ensures ok { OnOk result (self.new.bytes.items ≡ self.old.bytes.items ++ (line.now ++ 10 ∷ [])) }
+        ensures err { OnErr result (self.new.bytes.items ≡ self.old.bytes.items) }
+        ensures not_text { self.new.not_text ≡ self.old.not_text }
+    {
+        self.bytes.reserve(line.len() + 1)?;
+        self.bytes.extend_from_slice(line)?;
+        self.bytes.push(b'\n')?;
+        Ok(())
+    }
+}
+
+impl Sieve {
+    /// Nothing was taken yet.
+    pub fn new(alloc: Global) -> Self
+        ensures carry { result.carry.items ≡ [] }
+        ensures bytes { result.kept.bytes.items ≡ [] }
+        ensures not_text { result.kept.not_text ≡ 0 }
+    {
+        Sieve {
+            carry: Vec::new(alloc),
+            kept: Kept {
+                bytes: Vec::new(alloc),
+                not_text: 0,
+            },
+        }
+    }
+
+    /// How many lines were no text.
+    pub fn not_text(&self) -> u64
+        ensures { result ≡ self.now.kept.not_text }
+    {
+        self.kept.not_text
+    }
+
+    /// How many bytes wait to be written.
+    pub fn waiting(&self) -> usize
+        ensures { result ≡ length self.now.kept.bytes.items }
+    {
+        self.kept.bytes.len()
+    }
+
+    /// Takes the next bytes of the input, or a beginning of them where memory is refused.
+    pub fn take<P: Program>(
+        &mut self,
+        alloc: Global,
+        program: &P,
+        chunk: &[u8],
+    ) -> Result<(), NoMemory>
+        ensures ok { OnOk result (TakesIn (P.means program.now) chunk.now self.old self.new) }
+        ensures err { OnErr result (TakesInPart (P.means program.now) chunk.now self.old self.new) }
+    {
+        let mut rest = chunk;
+        while let Some((line, after)) = split_line(rest) {
+            self.take_line(alloc, program, line)?;
+            rest = after;
+        }
+        self.carry.extend_from_slice(rest)?;
+        Ok(())
+    }
+
+    // The end of a line, without its line feed.
+    fn take_line<P: Program>(
+        &mut self,
+        alloc: Global,
+        program: &P,
+        end: &[u8],
+    ) -> Result<(), NoMemory>
+        requires { HasNoFeed end.now }
+        ensures ok { OnOk result (TakesIn (P.means program.now) (end.now ++ 10 ∷ []) self.old self.new) }
+        ensures err { OnErr result (TakesInPart (P.means program.now) end.now self.old self.new) }
+    {
+        if self.carry.is_empty() {
+            return self.kept.add_line(alloc, program, end);
+        }
+        self.carry.extend_from_slice(end)?;
+        self.kept.add_line(alloc, program, &self.carry)?;
+        self.carry.clear();
+        Ok(())
+    }
+
+    /// The end of the input: the rest is a line too, if there is one.
+    pub fn take_last<P: Program>(&mut self, alloc: Global, program: &P) -> Result<(), NoMemory>
+        ensures ok { OnOk result (TakesLast (P.means program.now) self.old self.new) }
+        ensures err { OnErr result (TakesIn (P.means program.now) [] self.old self.new) }
+    {
+        if self.carry.is_empty() {
+            return Ok(());
+        }
+        self.kept.add_line(alloc, program, &self.carry)
+    }
+
+    /// Writes what waits, which then waits no more. Refused with 19 where a write fails or takes nothing:
+    /// a beginning was written.
+    pub fn write_out<W: Write>(&mut self, output: &mut Counted<W>) -> Result<(), LinesError>
+        ensures ok { OnOk result (Appends (W.contents output.old.inner) (W.contents output.new.inner) self.old.kept.bytes.items) }
+        ensures empty { self.new.kept.bytes.items ≡ [] }
+        ensures carry { self.new.carry ≡ self.old.carry }
+        ensures not_text { self.new.kept.not_text ≡ self.old.kept.not_text }
+        ensures err { IfErr result (λ e. (e ≡ LinesError.Write)
+            × WritesPart (W.contents output.old.inner) (W.contents output.new.inner) self.old.kept.bytes.items) }
+        ensures failed { OnErr result ((output.old.failures < output.new.failures) ⊎ (output.new.failures ≡ greatest_count)) }
+        ensures steady { output.old.failures ≤ output.new.failures }
+    {
+        let written = write_whole(output, &self.kept.bytes);
+        self.kept.bytes.clear();
+        written
+    }
+}
+
+// The bytes before the first line feed, and those after it.
+fn split_line(bytes: &[u8]) -> Option<(&[u8], &[u8])>
+    ensures { MatchOption result (HasNoFeed bytes.now) (λ parts.
+        (bytes.now ≡ parts.0.now ++ 10 ∷ parts.1.now) × HasNoFeed parts.0.now) }
+{
+    let at = bytes.iter().position(|b| *b == b'\n')?;
+    Some((&bytes[..at], &bytes[at + 1..]))
+}
+
+fn write_whole<W: Write>(output: &mut Counted<W>, bytes: &[u8]) -> Result<(), LinesError>
+    ensures ok { OnOk result (Appends (W.contents output.old.inner) (W.contents output.new.inner) bytes.now) }
+    ensures err { IfErr result (λ e. (e ≡ LinesError.Write)
+        × WritesPart (W.contents output.old.inner) (W.contents output.new.inner) bytes.now) }
+    ensures failed { OnErr result ((output.old.failures < output.new.failures) ⊎ (output.new.failures ≡ greatest_count)) }
+    ensures steady { output.old.failures ≤ output.new.failures }
+{
+    let mut rest = bytes;
+    while !rest.is_empty() {
+        match output.write(rest) {
+            Ok(0) | Err(_) => return Err(LinesError::Write),
+            Ok(taken) => rest = &rest[taken..],
+        }
+    }
+    Ok(())
+}
