@@ -7,8 +7,6 @@ mod edges;
 mod endings;
 mod glob;
 mod location;
-#[cfg(test)]
-mod tests;
 
 pub use build_error::BuildError;
 pub use glob::Glob;

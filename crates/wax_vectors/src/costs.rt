@@ -2,7 +2,7 @@
 
 #[cfg(test)]
 mod tests {
-    use crate::rows::number;
+    use crate::rows::{is_meant, number};
     use std::alloc::{AllocError, Global};
     use std::test::Fail;
     use wax::parse::parse;
@@ -33,6 +33,23 @@ mod tests {
         Some(program.len())
     }
 
+    /// The letter a, within so many brackets.
+    fn nested(alloc: Global, opening: &str, closing: &str) -> Result<String, AllocError> {
+        let mut whole = repeated(alloc, opening, 128)?;
+        whole.push('a')?;
+        let end = repeated(alloc, closing, 128)?;
+        whole.push_str(end.as_str())?;
+        Ok(whole)
+    }
+
+    /// Whether the glob means so many letters a, and its visits; `None` where it doesn't build.
+    fn visits(alloc: Global, expression: &str, count: usize) -> Option<(bool, u128)> {
+        let glob = Glob::new(alloc, expression).ok()?;
+        let path = repeated(alloc, "a", count).ok()?;
+        let candidate = CandidatePath::from(path.as_str());
+        glob.is_match_counted(alloc, &candidate).ok()
+    }
+
     #[test]
     fn program_lengths(rt: HostRuntime) {
         for (expression, len) in [
@@ -56,12 +73,28 @@ mod tests {
     fn longest_program(rt: HostRuntime) -> Result<(), Fail> {
         let expression = repeated(rt.alloc(), "*/", 262_143)?;
         assert_eq!(rt; length(rt.alloc(), expression.as_str()), Some(1_048_573));
-        let glob = Glob::new(rt.alloc(), expression.as_str())?;
+        assert_eq!(rt;
+            is_meant(rt.alloc(), expression.as_str(), "a/"),
+            Some(false)
+        );
+        Ok(())
+    }
+
+    #[test]
+    fn longest_program_and_its_text(rt: HostRuntime) -> Result<(), Fail> {
+        let expression = repeated(rt.alloc(), "*/", 262_143)?;
         let path = repeated(rt.alloc(), "/", 262_143)?;
-        assert!(rt; glob.is_match(rt.alloc(), &CandidatePath::from(path.as_str()))?);
-        assert!(rt; !glob.is_match(rt.alloc(), &CandidatePath::from("a/"))?);
-        let longer = repeated(rt.alloc(), "*/", 262_144)?;
-        assert_eq!(rt; refusal(rt.alloc(), longer.as_str()), 9);
+        assert_eq!(rt;
+            is_meant(rt.alloc(), expression.as_str(), path.as_str()),
+            Some(true)
+        );
+        Ok(())
+    }
+
+    #[test]
+    fn one_longer_than_the_longest(rt: HostRuntime) -> Result<(), Fail> {
+        let expression = repeated(rt.alloc(), "*/", 262_144)?;
+        assert_eq!(rt; refusal(rt.alloc(), expression.as_str()), 9);
         Ok(())
     }
 
@@ -92,26 +125,19 @@ mod tests {
     }
 
     #[test]
-    fn nested_alternations(rt: HostRuntime) -> Result<(), Fail> {
-        let opening = repeated(rt.alloc(), "{", 128)?;
-        let closing = repeated(rt.alloc(), "}", 128)?;
-        let expression = format!(in rt.alloc(); "{opening}a{closing}")?;
-        assert_eq!(rt; length(rt.alloc(), expression.as_str()), Some(386));
-        let glob = Glob::new(rt.alloc(), expression.as_str())?;
-        assert!(rt; glob.is_match(rt.alloc(), &CandidatePath::from("a"))?);
+    fn nested_branches(rt: HostRuntime) -> Result<(), Fail> {
+        for (opening, closing, len) in [("{", "}", 386), ("<", ">", 514)] {
+            let expression = nested(rt.alloc(), opening, closing)?;
+            assert_eq!(rt; length(rt.alloc(), expression.as_str()), Some(len));
+            assert_eq!(rt; is_meant(rt.alloc(), expression.as_str(), "a"), Some(true));
+        }
         Ok(())
     }
 
     #[test]
     fn nested_repetitions(rt: HostRuntime) -> Result<(), Fail> {
-        let opening = repeated(rt.alloc(), "<", 128)?;
-        let closing = repeated(rt.alloc(), ">", 128)?;
-        let expression = format!(in rt.alloc(); "{opening}a{closing}")?;
-        assert_eq!(rt; length(rt.alloc(), expression.as_str()), Some(514));
-        let glob = Glob::new(rt.alloc(), expression.as_str())?;
-        let letters = repeated(rt.alloc(), "a", 1_000)?;
-        let path = CandidatePath::from(letters.as_str());
-        let (answer, visits) = glob.is_match_counted(rt.alloc(), &path)?;
+        let expression = nested(rt.alloc(), "<", ">")?;
+        let (answer, visits) = visits(rt.alloc(), expression.as_str(), 1_000).ok_or("refused")?;
         assert!(rt; answer);
         assert!(rt; 1_000 <= visits && visits <= 514_514, "{visits} visits");
         Ok(())
@@ -122,15 +148,21 @@ mod tests {
         for (count, most) in [(63, 4_096), (64, 4_225)] {
             let letters = repeated(rt.alloc(), "a", count)?;
             assert_eq!(rt; length(rt.alloc(), letters.as_str()), Some(count + 1));
-            let glob = Glob::new(rt.alloc(), letters.as_str())?;
-            let path = CandidatePath::from(letters.as_str());
-            let (answer, visits) = glob.is_match_counted(rt.alloc(), &path)?;
-            assert!(rt; answer);
-            assert!(rt; visits <= most, "{visits} visits");
-            let fewer = repeated(rt.alloc(), "a", count - 1)?;
-            assert!(rt; !glob.is_match(rt.alloc(), &CandidatePath::from(fewer.as_str()))?);
-            let more = repeated(rt.alloc(), "a", count + 1)?;
-            assert!(rt; !glob.is_match(rt.alloc(), &CandidatePath::from(more.as_str()))?);
+            let found = visits(rt.alloc(), letters.as_str(), count);
+            assert!(rt;
+                found.is_some_and(|found| found.0 && found.1 <= most),
+                "{count} letters"
+            );
+        }
+        Ok(())
+    }
+
+    #[test]
+    fn other_counts_of_letters(rt: HostRuntime) -> Result<(), Fail> {
+        for (count, other) in [(63, 62), (63, 64), (64, 63), (64, 65)] {
+            let letters = repeated(rt.alloc(), "a", count)?;
+            let found = visits(rt.alloc(), letters.as_str(), other);
+            assert!(rt; found.is_some_and(|found| !found.0), "{count} letters");
         }
         Ok(())
     }

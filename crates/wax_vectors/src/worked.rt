@@ -3,8 +3,11 @@
 #[cfg(test)]
 mod tests {
     use crate::rows::is_meant;
+    use std::alloc::Global;
     use std::test::Fail;
-    use wax::{CandidatePath, Glob, Program};
+    use wax::diagnostics::{LocatedError, Span};
+    use wax::encode::CompileError;
+    use wax::{BuildError, CandidatePath, Glob, Program};
 
     #[test]
     fn line_feeds_are_characters(rt: HostRuntime) {
@@ -22,6 +25,35 @@ mod tests {
         }
     }
 
+    /// What is printed of the place where the expression is refused, and its span; `None` where there is none.
+    fn place(alloc: Global, expression: &str) -> Option<(String, Span)> {
+        let location = Glob::new(alloc, expression).err()?.locations()?;
+        let text = location.to_string(alloc).ok()?;
+        Some((text, location.span()))
+    }
+
+    #[test]
+    fn refused_builds_tell_their_place(rt: HostRuntime) {
+        for (expression, text, span) in [
+            ("a//b", "here", (1, 2)),
+            ("\u{e9}//**/a", "here", (2, 5)),
+            ("***", "unexpected expression", (0, 1)),
+            ("a[b", "unexpected expression", (1, 1)),
+        ] {
+            let found = place(rt.alloc(), expression);
+            assert!(rt;
+                found.is_some_and(|found| found.0.as_str() == text && found.1 == span),
+                "{expression}"
+            );
+        }
+    }
+
+    #[test]
+    fn other_refusals_have_no_place(rt: HostRuntime) {
+        assert!(rt; BuildError::Memory.locations().is_none());
+        assert!(rt; BuildError::Compile(CompileError).locations().is_none());
+    }
+
     #[test]
     fn visits_stay_within_the_bound(rt: HostRuntime) -> Result<(), Fail> {
         let glob = Glob::new(rt.alloc(), "a/**/b")?;
@@ -35,7 +67,12 @@ mod tests {
     #[test]
     fn glob_prints_its_expression(rt: HostRuntime) -> Result<(), Fail> {
         let glob = Glob::new(rt.alloc(), "a/*")?;
-        assert_eq!(rt; format!(in rt.alloc(); "{glob}")?.as_str(), "a/*");
+        assert_eq!(rt; glob.to_string(rt.alloc())?.as_str(), "a/*");
+        Ok(())
+    }
+
+    #[test]
+    fn empty_glob_means_no_character(rt: HostRuntime) -> Result<(), Fail> {
         let empty = Glob::empty(rt.alloc())?;
         assert!(rt; empty.is_match(rt.alloc(), &CandidatePath::from(""))?);
         assert!(rt; !empty.is_match(rt.alloc(), &CandidatePath::from("a"))?);
