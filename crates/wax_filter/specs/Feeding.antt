@@ -1,6 +1,7 @@
 -- What a filter gives, call by call.
-use Rattle.std.specs.Prelude.{◌≡◌, Option, Some, None, List, [], ◌∷◌}
-use denote.Ref.{Bor}
+use Rattle.std.specs.Prelude.{◌≡◌, ◌⊎◌, Option, Some, None, List, [], ◌∷◌}
+use denote.Ref.{Bor, MutBor}
+use Rattle.wax_filter.specs.declared.filter.cancel.WalkCancellation.{WalkCancellation}
 use Rattle.wax_filter.specs.declared.filter.product.Product.{Product}
 use Rattle.wax_filter.specs.declared.filter.product.kind.ResidueKind.{ResidueKind}
 use Rattle.wax_filter.specs.declared.filter.separation.Separation.{Separation}
@@ -41,6 +42,21 @@ SaysAt step f None r g = (r ≡ None) × (g ≡ f)
 abbrev pub ByEntry : {I E G F R A : Type 0} → (E → Bor A → Option (TreeResidue (Unit {0})) → E → Type 0) → (Separation G F (TreeResidue R) → Option A)
     → (F → R → Type 0) → (I → I → Type 0) → I → E → Separation G F (TreeResidue R) → Separation G F (TreeResidue R) → I → E → Type 0
 ByEntry step shown makes cancels u f x y j g = (said : Option (TreeResidue (Unit {0}))) × SaysAt step f (shown x) said g × SeparatesBy makes said x y × CancelsBy cancels said x u j
+
+-- the walk is as it was, or cancelled
+abbrev pub AtMostCancels : {I : Type 0} → (I → I → Type 0) → I → I → Type 0
+AtMostCancels cancels u j = (j ≡ u) ⊎ cancels u j
+
+-- a closure that is lent a walk cancels it or leaves it, and does nothing else to it
+abbrev pub OnlyCancels : {I E A B : Type 0} → (E → MutBor (WalkCancellation I) → A → B → MutBor (WalkCancellation I) → E → Type 0) → (I → I → Type 0) → Type 0
+OnlyCancels {I = I} {E = E} {A = A} {B = B} step cancels = (f : E) (w : MutBor (WalkCancellation I)) (x : A) (y : B) (v : MutBor (WalkCancellation I)) (g : E)
+    → step f w x y v g → (v.now.0.ghost_name ≡ w.now.0.ghost_name) × AtMostCancels cancels w.now.0.now v.now.0.now
+
+-- an item becomes what the closure makes of it, and the walk is what it was lent, or cancelled
+abbrev pub ByItem : {I E A B : Type 0} → (E → MutBor (WalkCancellation I) → A → B → MutBor (WalkCancellation I) → E → Type 0)
+    → (I → I → Type 0) → I → E → A → B → I → E → Type 0
+ByItem {I = I} step cancels u f x y j g = (w : MutBor (WalkCancellation I)) × (v : MutBor (WalkCancellation I))
+    × (w.now.0.now ≡ u) × step f w x y v g × (v.now.0.now ≡ j) × AtMostCancels cancels u j
 
 -- the iterator's answer, kept
 abbrev pub KeepsAll : {I G F R : Type 0} → (I → Option F → I → Type 0) → I → Option (Separation G F R) → I → Type 0

@@ -4,6 +4,7 @@ ghost use Rattle.std.specs.Iterator.{at_most};
 ghost use Rattle.std.proofs.Common.{ap, ◌∙◌};
 ghost use Rattle.std.proofs.Math.Nat.{le_of_eq};
 ghost use Rattle.wax_filter.specs.Walking.{entry_of};
+ghost use Rattle.wax_filter.specs.Feeding.{AtMostCancels};
 
 use crate::filter::{
     CancelWalk, Feed, Filtrate, HierarchicalIterator, Isomeric, Product, Residue,
@@ -202,6 +203,29 @@ fn a_node_that_is_left_out_is_left_out_alone(rt: HostRuntime) {
         assert_eq!(rt; kept.next().map(|x| x.name), Some(name));
     }
     assert!(rt; kept.next().is_none());
+}
+
+// Cancels what lies below, if told so.
+fn cancel_if<I>(cancellation: &mut WalkCancellation<I>, cancels: bool)
+where
+    I: CancelWalk,
+    ensures same { cancellation.new.0.ghost_name ≡ cancellation.old.0.ghost_name }
+    ensures cancels { AtMostCancels I.cancels cancellation.old.0.now cancellation.new.0.now }
+{
+    if cancels {
+        cancellation.cancel_walk_tree();
+    }
+}
+
+#[test]
+fn a_closure_turns_items_and_cancels(rt: HostRuntime) {
+    let mut kept = walk().filter_map_tree(|cancellation, item: Separation<Entries>| {
+        cancel_if(cancellation, item.substituent(|x| x.name) == Some('b'));
+        item.map_filtrate(|x| x.name)
+    });
+    assert_eq!(rt; kept.next(), Some('a'));
+    assert_eq!(rt; kept.next(), Some('b'));
+    assert_eq!(rt; kept.next(), Some('d'));
 }
 
 #[test]

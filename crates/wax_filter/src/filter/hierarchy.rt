@@ -8,6 +8,7 @@ ghost use Rattle.wax_filter.specs.Feeding.{Feeds, SaysAt, ByEntry, NextFiltrate}
 
 use crate::filter::cancel::{CancelWalk, SeparatingFilter, WalkCancellation};
 use crate::filter::layers::filtrate;
+use crate::filter::map_tree::FilterMapTree;
 use crate::filter::separation::{Feed, Isomeric, Separation, separated_by};
 use crate::filter::tree_residue::TreeResidue;
 
@@ -122,6 +123,19 @@ pub trait HierarchicalIterator: CancelWalk
         ensures f { result.f ≡ f }
     {
         FilterTreeBySubstituent::new(self, f)
+    }
+
+    /// Turns each item, kept or left out, into what `f` makes of it. `f` is lent the walk for
+    /// cancelling what lies below the item.
+    final fn filter_map_tree<S, F>(self, f: F) -> FilterMapTree<Self, S, F>
+    where
+        Self: Sized,
+        S: Feed,
+        F: FnMut(&mut WalkCancellation<Self>, Separation<Self::Feed>) -> Separation<S>,
+        ensures input { result.input ≡ self }
+        ensures f { result.f ≡ f }
+    {
+        FilterMapTree::new(self, f)
     }
 }
 
