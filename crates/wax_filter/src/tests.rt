@@ -1,15 +1,17 @@
 //! Each call at concrete types, on a walk of five items.
-ghost use Rattle.std.specs.Prelude.{◌≡◌, Some, length, true};
+ghost use Rattle.std.specs.Prelude.{◌≡◌, Some, fold, length, true};
 ghost use Rattle.std.specs.Iterator.{at_most};
 ghost use Rattle.std.proofs.Common.{ap, ◌∙◌};
 ghost use Rattle.std.proofs.Math.Nat.{le_of_eq};
 ghost use Rattle.wax_filter.specs.Walking.{entry_of};
 ghost use Rattle.wax_filter.specs.Feeding.{AtMostCancels};
+ghost use Rattle.std.specs.Hash.DefaultHasher as sip;
 
 use crate::filter::{
     CancelWalk, Feed, Filtrate, HierarchicalIterator, Isomeric, Product, Residue,
     SeparatingFilterInput, Separation, TreeResidue, WalkCancellation, filtrate,
 };
+use std::hash::{DefaultHasher, Hash, Hasher};
 use std::test::Fail;
 
 #[derive(Clone, Copy, Debug, Drop, Eq, PartialEq)]
@@ -100,6 +102,37 @@ fn items_with_a_mark(rt: HostRuntime) -> Result<(), Fail> {
     let node = kept.filter_map_node(|x| x / 3);
     assert_eq!(rt; *node.get(), TreeResidue::Node(1));
     Ok(())
+}
+
+fn hash_of<T: Hash>(value: &T) -> u64
+    ensures { result ≡ sip.finish (fold sip.write sip.initial (T.hash_input value.now)) }
+{
+    let mut state = DefaultHasher::new();
+    value.hash(&mut state);
+    state.finish()
+}
+
+// Equal items with a mark hash alike.
+fn items_hash_alike<K, T: Hash>(first: &Product<K, T>, second: &Product<K, T>) -> bool
+    ensures { result ≡ true }
+{
+    *first != *second || hash_of(first) == hash_of(second)
+}
+
+// Equal items that are left out alone, or with what lies below, hash alike.
+fn residues_hash_alike<T: Hash>(first: &TreeResidue<T>, second: &TreeResidue<T>) -> bool
+    ensures { result ≡ true }
+{
+    *first != *second || hash_of(first) == hash_of(second)
+}
+
+#[test]
+fn equal_values_hash_alike(rt: HostRuntime) {
+    let kept: Filtrate<u8> = Product::new(3);
+    assert!(rt; items_hash_alike(&kept, &Product::new(3)));
+    let tree: TreeResidue<u8> = TreeResidue::Tree(3);
+    assert!(rt; residues_hash_alike(&tree, &TreeResidue::Tree(3)));
+    assert_ne!(rt; hash_of(&tree), hash_of(&TreeResidue::Node(3u8)));
 }
 
 #[test]
