@@ -7,6 +7,7 @@ mod edges;
 mod endings;
 mod glob;
 mod location;
+mod needles;
 
 pub use build_error::BuildError;
 pub use glob::Glob;
