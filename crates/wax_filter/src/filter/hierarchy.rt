@@ -125,8 +125,8 @@ pub trait HierarchicalIterator: CancelWalk
         FilterTreeBySubstituent::new(self, f)
     }
 
-    /// Turns each item, kept or left out, into what `f` makes of it. `f` is lent the walk for
-    /// cancelling what lies below the item.
+    /// Turns each item, kept or left out, into what `f` makes of it, by one call for each. `f` is
+    /// lent the walk for cancelling what lies below the item.
     final fn filter_map_tree<S, F>(self, f: F) -> FilterMapTree<Self, S, F>
     where
         Self: Sized,
