@@ -1,7 +1,7 @@
 -- A glob's tokens mean and cost what its tree does.
 use Rattle.std.proofs.Common.{◌≡◌, ◌↔◌, ℕ, ◌+◌, Bool, false, List, [], ◌∷◌, refl, sym, ap, ◌∙◌, subst, add-zero}
-use Rattle.wax_match.specs.Machine.{Accepts}
-use Rattle.wax_match.specs.declared.encode.instruction.Instruction.{Instruction}
+use Rattle.wax_program.specs.Machine.{Accepts}
+use Rattle.wax_program.specs.declared.instruction.Instruction.{Instruction}
 use Rattle.wax_token.specs.Reads.{Reads}
 use Rattle.wax_token.specs.Cost.{cost, costs}
 use Rattle.wax_token.specs.Meaning.{Means, MeansEach}

@@ -1,8 +1,8 @@
 -- What contracts see of a glob.
 use Rattle.std.specs.Prelude.{◌≡◌, ◌↔◌, ℕ, false, List, refl}
 use Rattle.std.specs.Coded.{Coded, code_by, coded×, coded_list, coded_ℕ}
-use Rattle.wax_match.specs.Machine.{Accepts}
-use Rattle.wax_match.specs.declared.encode.instruction.Instruction.{Instruction}
+use Rattle.wax_program.specs.Machine.{Accepts}
+use Rattle.wax_program.specs.declared.instruction.Instruction.{Instruction}
 use Rattle.wax_token.specs.Cost.{program_length}
 use Rattle.wax_token.specs.Meaning.{Means}
 use Rattle.wax_token.specs.Reads.{Span}

@@ -1,10 +1,11 @@
 -- Pieces of a program, and which texts lead through them.
 use Rattle.std.proofs.Common.{◌≡◌, ℕ, zero, suc, ◌+◌, ◌-◌, ◌≤◌, ◌⊎◌, List, [], ◌∷◌, ◌++◌, length, Some, slice_get, refl, sym, ◌∙◌, ap, subst, inl, inr, arith, length-append, append_assoc}
 use Rattle.std.proofs.lemmas.Option.{slice_get_within}
-use Rattle.wax_match.specs.declared.encode.instruction.Test.{Test}
-use Rattle.wax_match.specs.declared.encode.instruction.Instruction.{Instruction}
-use Rattle.wax_match.specs.declared.encode.instruction.Instruction.TheVariants.{Check, Repeat, Components, Fork, Jump, Back}
-use Rattle.wax_match.specs.Machine.{Passes, Moves, AcceptsIn, Accepts}
+use Rattle.wax_program.specs.declared.instruction.Test.{Test}
+use Rattle.wax_program.specs.declared.instruction.Instruction.{Instruction}
+use Rattle.wax_program.specs.declared.instruction.Instruction.TheVariants.{Check, Repeat, Components, Fork, Jump, Back}
+use Rattle.wax_program.specs.Machine.{Passes, Moves, AcceptsIn, Accepts}
+use Rattle.wax_program.proofs.Steps.{after_test, after_fork, after_jump, after_back, after_last, after_one, after_any, after_slash}
 use Rattle.wax_match.specs.Code.{loop, skip, choose}
 use Rattle.wax_token.specs.Meaning.{Ends}
 
@@ -66,35 +67,6 @@ test_sound t code at end (suc n) [] st e h = absurd (at_instruction code at n (C
 test_sound t code at end (suc n) (c ∷ s) st e h =
     let r : Passes t c × AcceptsIn code n (at + 1) s = at_instruction code at n (Check t) (c ∷ s) st h in
     record { front = c ∷ []; back = s; left = n; splits = refl; meant = (c, refl, r.0); fewer = omega arith; on = moved code (at + 1) end n s (sym e) r.1 }
-
--- one step of a test
-pub after_test : (t : Test) (code : List Instruction) (at : ℕ) (c : ℕ) (s : List ℕ) → slice_get code at ≡ Some (Check t) → Passes t c → Accepts code (at + 1) s → Accepts code at (c ∷ s)
-after_test t code at c s st p h = (suc h.0, inr (Check t, st, (p, h.1)))
-
-pub after_fork : (n : ℕ) (code : List Instruction) (at : ℕ) (s : List ℕ) → slice_get code at ≡ Some (Fork n) → Accepts code (at + 1) s ⊎ Accepts code (at + 1 + n) s → Accepts code at s
-after_fork n code at s st (inl h) = (suc h.0, inr (Fork n, st, inl h.1))
-after_fork n code at s st (inr h) = (suc h.0, inr (Fork n, st, inr h.1))
-
-pub after_jump : (n : ℕ) (code : List Instruction) (at : ℕ) (s : List ℕ) → slice_get code at ≡ Some (Jump n) → Accepts code (at + 1 + n) s → Accepts code at s
-after_jump n code at s st h = (suc h.0, inr (Jump n, st, h.1))
-
-pub after_back : (n : ℕ) (code : List Instruction) (at : ℕ) (s : List ℕ) → slice_get code at ≡ Some (Back n) → Accepts code (at - n) s → Accepts code at s
-after_back n code at s st h = (suc h.0, inr (Back n, st, h.1))
-
--- past a test that is repeated, and once more
-pub after_last : (t : Test) (code : List Instruction) (at : ℕ) (s : List ℕ) → slice_get code at ≡ Some (Repeat t) → Accepts code (at + 1) s → Accepts code at s
-after_last t code at [] st h = (suc h.0, inr (Repeat t, st, h.1))
-after_last t code at (c ∷ s) st h = (suc h.0, inr (Repeat t, st, inl h.1))
-
-pub after_one : (t : Test) (code : List Instruction) (at c : ℕ) (s : List ℕ) → slice_get code at ≡ Some (Repeat t) → Passes t c → Accepts code at s → Accepts code at (c ∷ s)
-after_one t code at c s st p h = (suc h.0, inr (Repeat t, st, inr (p, h.1)))
-
--- one character of components, and the last one
-pub after_any : (code : List Instruction) (at c : ℕ) (s : List ℕ) → slice_get code at ≡ Some Components → Accepts code at s → Accepts code at (c ∷ s)
-after_any code at c s st h = (suc h.0, inr (Components, st, inl h.1))
-
-pub after_slash : (code : List Instruction) (at c : ℕ) (s : List ℕ) → slice_get code at ≡ Some Components → c ≡ 47 → Accepts code (at + 1) s → Accepts code at (c ∷ s)
-after_slash code at c s st e h = (suc h.0, inr (Components, st, inr (e, h.1)))
 
 pub spells_test : (t : Test) → Spells (Check t ∷ []) (OneOf t)
 spells_test t = record {

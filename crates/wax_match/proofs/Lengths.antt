@@ -1,7 +1,7 @@
 -- The instructions of a token tree are no more than its cost.
 use Rattle.std.proofs.Common.{◌≡◌, ℕ, zero, suc, ◌+◌, ◌-◌, ◌*◌, ◌≤◌, Bool, true, false, List, [], ◌∷◌, ◌++◌, length, Option, Some, None, nat_le, if◌then◌else◌, refl, ap, arith, length-append}
-use Rattle.wax_match.specs.declared.encode.instruction.Instruction.{Instruction}
-use Rattle.wax_match.specs.declared.encode.instruction.Instruction.TheVariants.{Jump, Back}
+use Rattle.wax_program.specs.declared.instruction.Instruction.{Instruction}
+use Rattle.wax_program.specs.declared.instruction.Instruction.TheVariants.{Jump, Back}
 use Rattle.wax_token.specs.Syntax.{Leaf, literal, class, separator, one, zero_or_more, tree, Tree, leaf, alternation, concatenation, repetition, Trees, none, more}
 use Rattle.wax_token.specs.Cost.{leaf_cost, holds_tree, copies_of, cost, costs, branches_cost}
 use Rattle.wax_match.specs.Code.{never, loop, choose, literal_code, wildcard_code, leaf_code, copies_code, up_to_code, counted_code, many_code, copied_code, tree_code, branches_code, sequence_code}

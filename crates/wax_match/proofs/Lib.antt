@@ -1,13 +1,9 @@
-pub mod Bits
 pub mod Compiled
 pub mod Folding
 pub mod Fragments
 pub mod Lengths
-pub mod Rounds
 pub mod Rows
 pub mod Sequences
-pub mod Sets
 pub mod Sizes
 pub mod Tails
 pub mod Whole
-pub mod Words

@@ -2,7 +2,7 @@
 use Rattle.std.proofs.Common.{◌≡◌, ℕ, zero, suc, ◌-◌, ◌<◌, ◌≤◌, ◌||◌, Bool, true, false, List, [], ◌∷◌, ◌++◌, length, get_or, drop, drop-cons, ltb, nat_le, rules, Option, Some, if◌then◌else◌, refl, sym, ◌∙◌, ap, inl, inr, arith, append-nil, append_assoc}
 use Rattle.std.proofs.lemmas.Bool.{cases_lt, lt-ltb, le-ltb}
 use Rattle.std.proofs.lemmas.List.{drop_all}
-use Rattle.wax_match.specs.declared.encode.instruction.Instruction.{Instruction}
+use Rattle.wax_program.specs.declared.instruction.Instruction.{Instruction}
 use Rattle.wax_match.specs.Code.{copied_code, copies_code, counted_code, never, repeated_code, sequence_code, tree_code, up_to_code}
 use Rattle.wax_token.specs.Cost.{holds_tree}
 use Rattle.wax_token.specs.Syntax.{Tree}

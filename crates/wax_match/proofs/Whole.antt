@@ -1,8 +1,8 @@
 -- A piece that is a whole program accepts exactly the texts that lead through it.
 use Rattle.std.proofs.Common.{◌≡◌, ℕ, zero, suc, ◌+◌, List, [], ◌∷◌, ◌++◌, length, Some, slice_get, refl, sym, ◌∙◌, ap, subst, inl, inr, arith, append_assoc, append-nil, length-append}
 use Rattle.std.proofs.lemmas.Option.{slice_get_within}
-use Rattle.wax_match.specs.declared.encode.instruction.Instruction.{Instruction}
-use Rattle.wax_match.specs.Machine.{AcceptsIn, Accepts}
+use Rattle.wax_program.specs.declared.instruction.Instruction.{Instruction}
+use Rattle.wax_program.specs.Machine.{AcceptsIn, Accepts}
 use Rattle.wax_match.proofs.Fragments.{Stands, Through, Spells}
 
 get_seam : (pre : List Instruction) (i : Instruction) (post : List Instruction) → slice_get (pre ++ i ∷ post) (length pre) ≡ Some i

@@ -1,14 +1,14 @@
 //! How the instructions of tokens are written, from the last one to the first.
 ghost use Rattle.std.specs.Prelude.{◌≡◌, ◌<◌, ◌++◌, OnOk, List, Some, length};
-ghost use Rattle.wax_match.specs.declared.encode.instruction.Instruction.{Instruction};
+ghost use Rattle.wax_program.specs.declared.instruction.Instruction.{Instruction};
 ghost use Rattle.wax_match.specs.Code.{branches_code, choose, copied_code, copies_code, counted_code, loop, many_code, repeated_code, sequence_code, tree_code, up_to_code};
 ghost use Rattle.wax_token.specs.Words.{trees};
 
 use crate::encode::cost::weigh;
-use crate::encode::instruction::{Instruction, Test};
 use crate::encode::leaves::put_leaf;
 use crate::encode::tail::Tail;
 use std::alloc::{AllocError, Global};
+use wax_program::instruction::{Instruction, Test};
 use wax_token::token::{BranchKind, Token, Topology};
 
 /// Writes a token.

@@ -3,10 +3,10 @@ ghost use Rattle.std.specs.Prelude.{◌≡◌, ◌++◌, ◌∷◌, ℕ, List, [
 ghost use Rattle.wax_match.specs.Code.{leaf_code, literal_code, skip, slash, wildcard_code};
 ghost use Rattle.wax_token.specs.View.{leaf_of};
 
-use crate::encode::instruction::{Instruction, Test};
 use crate::encode::tail::Tail;
 use std::alloc::{AllocError, Global};
 use unicode::case::simple_fold;
+use wax_program::instruction::{Instruction, Test};
 use wax_token::token::{Class, LeafKind, Literal, Wildcard};
 
 fn put_slash(tail: &mut Tail) -> Result<(), AllocError>

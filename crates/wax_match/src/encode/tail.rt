@@ -1,9 +1,9 @@
 //! A program that is written from its end on, so that most offsets are known when they are written.
 ghost use Rattle.std.specs.Prelude.{◌≡◌, ◌+◌, ◌-◌, ◌<◌, [], ◌∷◌, List, OnOk, length, slice_set};
 
-use crate::encode::instruction::Instruction;
 use std::alloc::{AllocError, Global};
 use std::marker::Model;
+use wax_program::instruction::Instruction;
 
 /// The instructions from a place to the program's end. Contracts see them in their order.
 #[derive(Drop)]
@@ -13,8 +13,8 @@ pub struct Tail {
 
 impl Model for Tail {
     ghost use Rattle.std.specs.Prelude.{List, reverse};
-    ghost use Rattle.wax_match.specs.declared.encode.instruction.Instruction.{Instruction};
-    ghost use Rattle.wax_match.specs.contracts.encode.instruction.Instruction as instruction;
+    ghost use Rattle.wax_program.specs.declared.instruction.Instruction.{Instruction};
+    ghost use Rattle.wax_program.specs.contracts.instruction.Instruction as instruction;
     ghost use Rattle.std.specs.Coded.{coded_list};
 
     ghost Value = { List Instruction };

@@ -1,0 +1,65 @@
+-- Sets of places that most characters leave as they are.
+use Rattle.std.specs.Prelude.{◌≡◌, ◌≢◌, ◌<◌, ◌⊎◌, ◌↔◌, ℕ, Bool, List, Option, Some, IsTrue, length, slice_get}
+use Rattle.wax_program.specs.declared.instruction.Test.{Test}
+use Rattle.wax_program.specs.declared.instruction.Test.TheVariants.{Char, NotSlash, Any}
+use Rattle.wax_program.specs.declared.instruction.Instruction.{Instruction}
+use Rattle.wax_program.specs.declared.instruction.Instruction.TheVariants.{Check, Repeat, Components, Fork, Jump, Back}
+use Rattle.wax_program.specs.declared.steady.Steady.{Steady}
+use Rattle.wax_program.specs.declared.steady.Watch.{Watch}
+use Rattle.wax_program.specs.declared.steady.Watch.TheVariants.{Nothing, Place, Lost}
+use Rattle.wax_program.specs.Bits.{places_of}
+use Rattle.wax_program.specs.Machine.{Passes}
+use Rattle.wax_program.specs.Threads.{Advances}
+
+-- no check that stands at the place takes the character
+abbrev pub Misses : List Instruction → ℕ → ℕ → Type 0
+Misses code k c = (t : Test) → slice_get code k ≡ Some (Check t) → Passes t c → ⊥
+
+-- the set leads to itself by each character but `/` that the check at `watch` doesn't take
+abbrev pub IsSteady : List Instruction → List Bool → ℕ → Type 0
+IsSteady code set watch = (d : ℕ) → d ≢ 47 → Misses code watch d → Advances code d set set
+
+-- such a set of the program
+abbrev pub IsKnown : List Instruction → Steady → Type 0
+IsKnown code s = (s.watch < length code) × IsSteady code (places_of s.word) s.watch × (IsTrue s.by_slash → Advances code 47 (places_of s.word) (places_of s.word))
+
+-- the instruction does the same by both characters
+abbrev pub Alike : Instruction → ℕ → ℕ → Type 0
+Alike (Check t) c d = Passes t c ↔ Passes t d
+Alike (Repeat t) c d = Passes t c ↔ Passes t d
+Alike Components c d = (c ≡ 47) ↔ (d ≡ 47)
+Alike (Fork n) c d = Unit {0}
+Alike (Jump n) c d = Unit {0}
+Alike (Back n) c d = Unit {0}
+
+-- the watched check doesn't take the character
+abbrev pub Lets : List Instruction → Watch → ℕ → Type 0
+Lets code Nothing d = Unit {0}
+Lets code (Place k) d = Misses code k d
+Lets code Lost d = ⊥
+
+-- the instruction at k does by each such character what it does by c
+abbrev pub Covers : List Instruction → ℕ → Watch → ℕ → Type 0
+Covers code c watch k = (i : Instruction) → slice_get code k ≡ Some i → (d : ℕ) → c ≢ 47 → d ≢ 47 → Lets code watch d → Alike i c d
+
+-- the instruction at k was read, and what was watched still is
+pub record Noted (code : List Instruction) (c k : ℕ) (old new : Watch) : Type 0 where
+  pub stricter : (d : ℕ) → Lets code new d → Lets code old d
+  pub covers : Covers code c new k
+
+-- a check at k that doesn't take the round's character is watched, if it asks for more than `/`
+abbrev pub NotedMiss : Watch → Watch → ℕ → Test → Type 0
+NotedMiss old new k t = ((new ≡ old) × (t ≡ Char 47)) ⊎ ((new ≡ Lost) ⊎ ((old ≡ Nothing) × (new ≡ Place k)))
+
+-- a repeated test is one that takes each character but `/`, or it isn't known any more what is watched
+abbrev pub NotedRepeat : Watch → Watch → Test → Type 0
+NotedRepeat old new t = ((new ≡ old) × ((t ≡ NotSlash) ⊎ (t ≡ Any))) ⊎ (new ≡ Lost)
+
+-- a round by c with that watch led from the set back to it
+pub record Comes (code : List Instruction) (c : ℕ) (next : List Bool) (here : Option ℕ) (watch : Watch) (s : Steady) : Type 0 where
+  pub other : c ≢ 47
+  pub back : next ≡ places_of s.word
+  pub began : here ≡ Some s.word
+  pub below : s.watch < length code
+  pub lets : (d : ℕ) → Misses code s.watch d → Lets code watch d
+  pub not_by_slash : IsTrue s.by_slash → ⊥

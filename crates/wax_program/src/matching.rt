@@ -1,0 +1,59 @@
+//! How a program is run over a text.
+ghost use Rattle.std.specs.Prelude.{◌≡◌, ◌+◌, ◌*◌, ◌<◌, ◌≤◌, ◌↔◌, IsTrue, IfOk, chars, length, min};
+ghost use Rattle.wax_program.specs.Machine.{Accepts};
+ghost use Rattle.wax_program.specs.Meter.{most_ticks};
+ghost use Rattle.wax_program.specs.Threads.{IsEmpty};
+
+use crate::machine::{Meter, Program};
+use crate::narrow::Narrow;
+use crate::rounds::{finish, step};
+use crate::rows::Rows;
+use crate::wide::Wide;
+use std::alloc::Global;
+use wax_query::diagnostics::NoMemory;
+
+/// Whether the program accepts the text. It reads at most `program.len()` instructions a character and
+/// as many at the end, each of which the meter counts, and stops once no text with this beginning is
+/// accepted. Three bits an instruction are its only memory, taken at the start; a program of fewer than
+/// 64 instructions takes none. Where memory is refused, so is the call (refusal 10).
+pub fn run(
+    alloc: Global,
+    program: &Program,
+    text: &str,
+    meter: &mut Meter,
+) -> Result<bool, NoMemory>
+    ensures decides { IfOk result (λ b. IsTrue b ↔ Accepts program.now.0 0 (chars text.now)) }
+    ensures above { meter.new ≤ meter.old + program.now.1 * (length (chars text.now) + 1) }
+    ensures below { IfOk result (λ b. IsTrue b → min (meter.old + length (chars text.now)) most_ticks ≤ meter.new) }
+    ensures steady { meter.old ≤ meter.new }
+{
+    let size = program.size();
+    if size < 64 {
+        let mut rows = Narrow::new(size);
+        return Ok(run_over(program, text, &mut rows, meter));
+    }
+    let mut rows = Wide::new(alloc, size)?;
+    Ok(run_over(program, text, &mut rows, meter))
+}
+
+/// The same, over empty rows.
+fn run_over<R: Rows>(program: &Program, text: &str, rows: &mut R, meter: &mut Meter) -> bool
+    requires size { (R.position rows.old).size ≡ length program.now.0 }
+    requires few { length program.now.0 < program.now.1 }
+    requires pending { IsEmpty (R.position rows.old).pending }
+    requires read { IsEmpty (R.position rows.old).read }
+    requires next { IsEmpty (R.position rows.old).next }
+    ensures decides { IsTrue result ↔ Accepts program.now.0 0 (chars text.now) }
+    ensures above { meter.new ≤ meter.old + program.now.1 * (length (chars text.now) + 1) }
+    ensures below { IsTrue result → min (meter.old + length (chars text.now)) most_ticks ≤ meter.new }
+    ensures steady { meter.old ≤ meter.new }
+{
+    rows.insert(0);
+    let mut steady = None;
+    for c in text.chars() {
+        if !step(program, c, rows, &mut steady, meter) {
+            return false;
+        }
+    }
+    finish(program, rows, meter)
+}

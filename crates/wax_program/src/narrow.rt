@@ -1,0 +1,121 @@
+//! The places that a run has reached, for programs of fewer than 64 instructions.
+ghost use Rattle.std.specs.Prelude.{◌≡◌, ◌<◌};
+ghost use Rattle.wax_program.specs.Threads.{IsEmpty};
+
+use crate::rows::Rows;
+use crate::word::Word;
+use std::marker::Model;
+use std::mem;
+
+/// Three sets of one word each. They take no memory but their own.
+#[derive(Drop)]
+pub struct Narrow {
+    /// How many instructions the program has. Places past it are never inserted.
+    size: usize,
+    /// What is still to be read here.
+    pending: Word,
+    /// What was read here.
+    read: Word,
+    /// What is to be read at the next position.
+    next: Word,
+}
+
+impl Model for Narrow {
+    ghost use Rattle.wax_program.specs.Threads.{Position, AreRows};
+
+    ghost Value = { Position };
+
+    ghost view = { λ r. record { size = r.size; pending = r.pending; read = r.read; next = r.next } };
+
+    ghost invariant = { λ r. AreRows r.size 0 r.pending r.read r.next };
+}
+
+impl Narrow {
+    /// Empty rows for a program of `size` instructions.
+    #[inline]
+    pub fn new(size: usize) -> Narrow
+        requires { size < 64 }
+        ensures size { result.size ≡ size }
+        ensures pending { IsEmpty result.pending }
+        ensures read { IsEmpty result.read }
+        ensures next { IsEmpty result.next }
+    {
+        let pending = Word::new();
+        let read = Word::new();
+        let next = Word::new();
+        Narrow {
+            size,
+            pending,
+            read,
+            next,
+        }
+    }
+}
+
+impl Rows for Narrow {
+    ghost position = { λ r. r };
+
+    #[inline]
+    fn is_done(&self) -> bool {
+        self.pending.first() >= self.size
+    }
+
+    #[inline]
+    fn word(&self) -> Option<u64> {
+        Some(self.pending.bits())
+    }
+
+    #[inline]
+    fn is_at(&self, word: u64) -> bool {
+        self.pending.is(word)
+    }
+
+    #[inline]
+    fn leads_to(&self, word: u64) -> bool {
+        self.next.is(word)
+    }
+
+    #[inline]
+    fn take(&mut self) -> Option<usize> {
+        let at = self.pending.first();
+        if at >= self.size {
+            return None;
+        }
+        self.pending.remove(at);
+        self.read.insert(at);
+        Some(at)
+    }
+
+    #[inline]
+    fn insert(&mut self, at: usize) {
+        if at <= self.size && !self.read.contains(at) {
+            self.pending.insert(at);
+        }
+    }
+
+    #[inline]
+    fn insert_after(&mut self, at: usize, by: usize) {
+        if at <= self.size && by <= self.size - at {
+            self.insert(at + by);
+        }
+    }
+
+    #[inline]
+    fn insert_next(&mut self, at: usize) {
+        if at <= self.size {
+            self.next.insert(at);
+        }
+    }
+
+    #[inline]
+    fn turn(&mut self) {
+        mem::swap(&mut self.pending, &mut self.next);
+        self.next.clear();
+        self.read.clear();
+    }
+
+    #[inline]
+    fn ends(&self) -> bool {
+        self.pending.contains(self.size)
+    }
+}

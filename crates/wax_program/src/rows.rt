@@ -1,0 +1,60 @@
+//! The places of a program that a run has reached at a position of the text.
+ghost use Rattle.std.specs.Prelude.{◌≡◌, ◌+◌, ◌≤◌, ◌<◌, ◌^◌, ◌↔◌, ℕ, IfSome, IsTrue, MatchOption};
+ghost use Rattle.std.specs.Bool.{MatchBool};
+ghost use Rattle.wax_program.specs.Bits.{places_of};
+ghost use Rattle.wax_program.specs.Threads.{Has, Inserted, InsertedNext, IsDone, IsEmpty, Position, Taken, members};
+
+/// Three sets of places: those that are still to be read at a position of the text, those that were
+/// read there, and those of the next position. The place after the last instruction, where the program
+/// ends, is never taken.
+pub trait Rows {
+    // The sets, and how many instructions the program has.
+    ghost position: { Self → Position };
+
+    /// Whether no instruction is left to be read here.
+    fn is_done(&self) -> bool
+        ensures { MatchBool result (IsDone (position self.now))
+            ((k : ℕ) × Has (position self.now).pending k × (k < (position self.now).size)) };
+
+    /// The set that is to be read here, where it is held by a word.
+    fn word(&self) -> Option<u64>
+        ensures { IfSome result (λ word. (position self.now).pending ≡ places_of word) };
+
+    /// Whether the word's set is to be read here. It may deny it where sets aren't held by words.
+    fn is_at(&self, word: u64) -> bool
+        ensures { IsTrue result → (position self.now).pending ≡ places_of word };
+
+    /// Whether the word's set is to be read at the next position. It may deny it where sets aren't held by words.
+    fn leads_to(&self, word: u64) -> bool
+        ensures { IsTrue result → (position self.now).next ≡ places_of word };
+
+    /// The lowest instruction that is still to be read here. From now on it was read.
+    fn take(&mut self) -> Option<usize>
+        ensures few { members (position self.new).read ≤ (position self.new).size }
+        ensures small { (position self.old).size < 2 ^ 64 }
+        ensures taken { MatchOption result ((position self.new ≡ position self.old) × IsDone (position self.new))
+            (λ at. Taken (position self.old) (position self.new) at) };
+
+    /// The place is to be read here, unless it was.
+    fn insert(&mut self, at: usize)
+        ensures { Inserted (position self.old) (position self.new) at };
+
+    /// The place that is `by` after `at` is to be read here, unless it was.
+    fn insert_after(&mut self, at: usize, by: usize)
+        ensures { Inserted (position self.old) (position self.new) (at + by) };
+
+    /// The place is to be read at the next position.
+    fn insert_next(&mut self, at: usize)
+        ensures { InsertedNext (position self.old) (position self.new) at };
+
+    /// Goes on to the next position.
+    fn turn(&mut self)
+        ensures size { (position self.new).size ≡ (position self.old).size }
+        ensures pending { (position self.new).pending ≡ (position self.old).next }
+        ensures read { IsEmpty (position self.new).read }
+        ensures next { IsEmpty (position self.new).next };
+
+    /// Whether the program's end is reached here.
+    fn ends(&self) -> bool
+        ensures { IsTrue result ↔ Has (position self.now).pending (position self.now).size };
+}

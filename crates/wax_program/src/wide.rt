@@ -1,0 +1,129 @@
+//! The places that a run has reached, for programs of any length.
+ghost use Rattle.std.specs.Prelude.{◌≡◌, IfOk};
+ghost use Rattle.wax_program.specs.Threads.{IsEmpty};
+
+use crate::rows::Rows;
+use crate::set::Set;
+use std::alloc::{AllocError, Global};
+use std::marker::Model;
+use std::mem;
+
+/// Three rows of words. They are allocated once a run.
+#[derive(Drop)]
+pub struct Wide {
+    /// How many instructions the program has. Places past it are never inserted.
+    size: usize,
+    /// No pending place lies below this word.
+    first: usize,
+    /// What is still to be read here.
+    pending: Set,
+    /// What was read here.
+    read: Set,
+    /// What is to be read at the next position.
+    next: Set,
+}
+
+impl Model for Wide {
+    ghost use Rattle.wax_program.specs.Threads.{Position, AreRows};
+
+    ghost Value = { Position };
+
+    ghost view = { λ r. record { size = r.size; pending = r.pending; read = r.read; next = r.next } };
+
+    ghost invariant = { λ r. AreRows r.size r.first r.pending r.read r.next };
+}
+
+impl Wide {
+    /// Empty rows for a program of `size` instructions.
+    pub fn new(alloc: Global, size: usize) -> Result<Wide, AllocError>
+        ensures size { IfOk result (λ r. r.size ≡ size) }
+        ensures pending { IfOk result (λ r. IsEmpty r.pending) }
+        ensures read { IfOk result (λ r. IsEmpty r.read) }
+        ensures next { IfOk result (λ r. IsEmpty r.next) }
+    {
+        let pending = Set::new(alloc, size)?;
+        let read = Set::new(alloc, size)?;
+        let next = Set::new(alloc, size)?;
+        Ok(Wide {
+            size,
+            first: 0,
+            pending,
+            read,
+            next,
+        })
+    }
+}
+
+impl Rows for Wide {
+    ghost position = { λ r. r };
+
+    #[inline]
+    fn is_done(&self) -> bool {
+        match self.pending.first_from(self.first) {
+            Some(at) => at >= self.size,
+            None => true,
+        }
+    }
+
+    #[inline]
+    fn word(&self) -> Option<u64> {
+        None
+    }
+
+    #[inline]
+    fn is_at(&self, _word: u64) -> bool {
+        false
+    }
+
+    #[inline]
+    fn leads_to(&self, _word: u64) -> bool {
+        false
+    }
+
+    #[inline]
+    fn take(&mut self) -> Option<usize> {
+        let at = self.pending.first_from(self.first)?;
+        if at >= self.size {
+            return None;
+        }
+        self.first = at / 64;
+        self.pending.remove(at);
+        self.read.insert(at);
+        Some(at)
+    }
+
+    #[inline]
+    fn insert(&mut self, at: usize) {
+        if at <= self.size && !self.read.contains(at) {
+            self.first = self.first.min(at / 64);
+            self.pending.insert(at);
+        }
+    }
+
+    #[inline]
+    fn insert_after(&mut self, at: usize, by: usize) {
+        if at <= self.size && by <= self.size - at {
+            self.insert(at + by);
+        }
+    }
+
+    #[inline]
+    fn insert_next(&mut self, at: usize) {
+        if at <= self.size {
+            self.next.insert(at);
+        }
+    }
+
+    #[inline]
+    fn turn(&mut self) {
+        mem::swap(&mut self.pending, &mut self.next);
+        self.next.clear();
+        self.read.clear();
+        self.first = 0;
+    }
+
+    #[inline]
+    fn ends(&self) -> bool {
+        self.pending.contains(self.size)
+    }
+}
