@@ -1,0 +1,3 @@
+pub mod PathNames
+pub mod Finding
+pub mod Cursors

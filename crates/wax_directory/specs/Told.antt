@@ -49,3 +49,7 @@ with_item r t = t
 pub record Stays {D C : Type 0} (shows : D → List ℕ → Shown → Type 0) (holds : D → C → Items → Type 0) (old new : D) : Type 0 where
   pub shown : (path : List ℕ) (s : Shown) → shows old path s → shows new path s
   pub held : (cursor : C) (l : Items) → holds old cursor l → holds new cursor l
+
+-- no folder was opened, and no item given
+abbrev pub no_calls : Told
+no_calls = record { listed = []; asked = 0 }

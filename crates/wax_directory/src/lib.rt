@@ -2,5 +2,10 @@
 #![tactic(auto)]
 
 pub mod directory;
+pub mod failing;
+pub mod folders;
+pub mod starving;
 #[cfg(test)]
 mod tests;
+pub mod tree;
+mod turn;

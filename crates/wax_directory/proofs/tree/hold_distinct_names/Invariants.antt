@@ -1,0 +1,10 @@
+use Rattle.std.proofs.Common.{◌≡◌, ℕ, List, true, Bor, take}
+use Rattle.std.specs.List.{list_any}
+use Rattle.std.specs.Str.{bytes_eq}
+use Rattle.std.specs.HashSet.{contains_by}
+use Rattle.wax_directory.specs.Names.{are_distinct}
+use Rattle.wax_directory.specs.Nodes.{names_of}
+use Rattle.wax_directory.proofs.tree.hold_distinct_names.Given as goal
+
+abbrev pub invariant-loop-item : goal.invariant-loop-item
+invariant-loop-item l = ((q : Bor (List ℕ)) → contains_by (λ k. bytes_eq q.now k.now) l.seen ≡ list_any (λ x. bytes_eq q.now x) (names_of (take l.item-index l.items))) × (are_distinct (names_of (take l.item-index l.items)) ≡ true)

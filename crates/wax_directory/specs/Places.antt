@@ -1,0 +1,40 @@
+-- What a look-up in a tree answers.
+use Rattle.std.specs.Prelude.{◌≡◌, ℕ, Bool, true, false, List, Option, Some, None, Result, Ok, Err, Vec, string_bytes, slice_get}
+use Rattle.std.specs.Str.{bytes_eq}
+use Rattle.wax_directory.specs.declared.directory.DirectoryFault.{DirectoryFault}
+use Rattle.wax_directory.specs.declared.directory.DirectoryFault.TheVariants.{Failed, Memory}
+use Rattle.wax_directory.specs.declared.tree.Node.{Node}
+use Rattle.wax_directory.specs.declared.tree.TreeItem.{TreeItem}
+use Rattle.wax_directory.specs.declared.tree.Node.TheOpen.{TreeItem-F}
+use Rattle.wax_directory.specs.declared.tree.Node.TheOpen as O
+use Rattle.wax_directory.specs.declared.tree.Node.TheViews.{out-TreeItem}
+use Rattle.wax_directory.specs.Nodes.{node_at, child_at, entry_of, Reached, to_node, to_nothing, to_sealed}
+
+abbrev pub layer_has_name : List ℕ → TreeItem-F Node TreeItem → Bool
+layer_has_name x (O.Entry name node) = bytes_eq (string_bytes name) x
+layer_has_name x i = false
+
+abbrev pub has_name : List ℕ → TreeItem → Bool
+has_name x i = layer_has_name x (out-TreeItem i)
+
+abbrev pub to_reached : Option Node → Reached
+to_reached (Some n) = to_node n
+to_reached None = to_nothing
+
+-- what is reached by a place among items
+abbrev pub reached_place : List TreeItem → Option ℕ → Reached
+reached_place items (Some place) = to_reached (entry_of (slice_get items place))
+reached_place items None = to_nothing
+
+-- what is reached by this answer of one step
+abbrev pub reached_at : Node → Result (Option ℕ) DirectoryFault → Reached
+reached_at n (Ok (Some place)) = to_reached (child_at place n)
+reached_at n (Ok None) = to_nothing
+reached_at n (Err e) = to_sealed
+
+-- the answer tells where this is, unless memory was refused
+abbrev pub Locates : {Z : Type 0} → Reached → Node → Result (Option (Vec ℕ Z)) DirectoryFault → Type 0
+Locates r n (Ok (Some places)) = (m : Node) × (node_at places.items n ≡ Some m) × (r ≡ to_node m)
+Locates r n (Ok None) = r ≡ to_nothing
+Locates r n (Err Failed) = r ≡ to_sealed
+Locates r n (Err Memory) = Unit {0}

@@ -1,0 +1,156 @@
+//! The directory of the real system.
+
+use crate::directory::{Directory, DirectoryFault, FileType, ListItem};
+use std::alloc::Global;
+use std::fs::ReadDir;
+use std::io::ErrorKind;
+use std::{fs, io};
+use wax_query::diagnostics::NoMemory;
+
+/// The real file system. Links are not followed; the order is the system's. Each item costs one
+/// call of the system. Nothing is claimed of what it shows, only what it counts.
+#[derive(Drop)]
+pub struct Folders {
+    runtime: HostRuntime,
+    misses: u64,
+    failures: u64,
+}
+
+impl Folders {
+    /// Keeps what the runtime gives `main` for files. The working folder is the process's.
+    pub fn new(runtime: HostRuntime) -> Folders {
+        Folders {
+            runtime,
+            misses: 0,
+            failures: 0,
+        }
+    }
+}
+
+// the system knows no empty path
+fn system_path(path: &str) -> &str {
+    if path.is_empty() { "." } else { path }
+}
+
+fn type_of(kind: fs::FileType) -> FileType {
+    if kind.is_symlink() {
+        FileType::Link
+    } else if kind.is_dir() {
+        FileType::Folder
+    } else {
+        FileType::File
+    }
+}
+
+fn fault_of(error: &io::Error) -> DirectoryFault {
+    if error.kind() == ErrorKind::OutOfMemory {
+        DirectoryFault::Memory
+    } else {
+        DirectoryFault::Failed
+    }
+}
+
+// what stands at a path; nothing through a file
+fn kind_at(runtime: &HostRuntime, path: &str) -> Result<Option<FileType>, DirectoryFault> {
+    match fs::symlink_metadata(runtime, system_path(path)) {
+        Ok(metadata) => Ok(Some(type_of(metadata.file_type()))),
+        Err(error) => match error.kind() {
+            ErrorKind::NotFound | ErrorKind::NotADirectory => Ok(None),
+            _ => Err(fault_of(&error)),
+        },
+    }
+}
+
+fn opened_at(runtime: &HostRuntime, path: &str) -> Result<ReadDir, DirectoryFault> {
+    let Some(FileType::Folder) = kind_at(runtime, path)? else {
+        return Err(DirectoryFault::Failed);
+    };
+    match fs::read_dir(runtime, system_path(path)) {
+        Ok(cursor) => Ok(cursor),
+        Err(error) => Err(fault_of(&error)),
+    }
+}
+
+// an item that couldn't be read; a name that isn't text comes without a number of the system
+fn unread(error: &io::Error) -> Result<ListItem, NoMemory> {
+    match error.kind() {
+        ErrorKind::OutOfMemory => Err(NoMemory),
+        ErrorKind::InvalidFilename if error.raw_os_error().is_none() => Ok(ListItem::NotText),
+        _ => Ok(ListItem::Failed),
+    }
+}
+
+fn listed(alloc: Global, entry: io::Result<fs::DirEntry>) -> Result<ListItem, NoMemory> {
+    match entry {
+        Err(error) => unread(&error),
+        Ok(entry) => match entry.file_type() {
+            Err(error) => unread(&error),
+            Ok(kind) => Ok(ListItem::Name(
+                String::from_str(alloc, entry.file_name())?,
+                type_of(kind),
+            )),
+        },
+    }
+}
+
+impl Directory for Folders {
+    ghost use Rattle.std.specs.Prelude.{⊤};
+
+    type Cursor = ReadDir;
+
+    ghost shows = { λ _ _ _. ⊥ };
+
+    ghost holds = { λ _ _ _. ⊥ };
+
+    ghost tells = { λ _ _. ⊤ };
+
+    ghost missed = { λ s. s.misses };
+
+    ghost failed = { λ s. s.failures };
+
+    fn kind(&mut self, _alloc: Global, path: &str) -> Result<Option<FileType>, DirectoryFault> {
+        let answer = kind_at(&self.runtime, path);
+        let (missed, failed) = match answer {
+            Ok(None) => (1, 0),
+            Err(DirectoryFault::Failed) => (0, 1),
+            _ => (0, 0),
+        };
+        self.misses = self.misses.saturating_add(missed);
+        self.failures = self.failures.saturating_add(failed);
+        answer
+    }
+
+    fn open(&mut self, _alloc: Global, path: &str) -> Result<ReadDir, DirectoryFault> {
+        let answer = opened_at(&self.runtime, path);
+        let failed = match answer {
+            Err(DirectoryFault::Failed) => 1,
+            _ => 0,
+        };
+        self.failures = self.failures.saturating_add(failed);
+        answer
+    }
+
+    fn next(&mut self, alloc: Global, cursor: &mut ReadDir) -> Result<Option<ListItem>, NoMemory> {
+        let failures = self.failures;
+        let Some(entry) = cursor.next() else {
+            return Ok(None);
+        };
+        let item = listed(alloc, entry)?;
+        let failed = match item {
+            ListItem::Failed | ListItem::NotText => 1,
+            ListItem::Name(..) => 0,
+        };
+        self.failures = failures.saturating_add(failed);
+        Ok(Some(item))
+    }
+
+    fn misses(&self) -> u64 {
+        self.misses
+    }
+
+    fn failures(&self) -> u64 {
+        self.failures
+    }
+
+    ghost inner = { λ d path l h. elim h [ ] };
+}

@@ -1,0 +1,83 @@
+//! A directory that lacks memory once.
+
+ghost use Rattle.std.specs.Prelude.{◌-◌, ◌^◌, min};
+
+use crate::directory::{Directory, DirectoryFault, FileType, ListItem};
+use crate::turn::Turn;
+use std::alloc::Global;
+use wax_query::diagnostics::NoMemory;
+
+/// Hands on each call of `kind`, `open` and `next` but one, which answers that memory was refused
+/// without asking. It shows what the directory inside shows, and counts and tells what that does.
+#[derive(Drop)]
+pub struct Starving<D> {
+    directory: D,
+    turn: Turn,
+}
+
+impl<D: Directory> Starving<D> {
+    /// Hands on the first `calls` calls, starves the next and hands on all later ones.
+    pub fn new(directory: D, calls: u64) -> Starving<D> {
+        Starving {
+            directory,
+            turn: Turn {
+                calls,
+                is_over: false,
+            },
+        }
+    }
+
+    /// The directory inside.
+    pub fn into_inner(self) -> D {
+        self.directory
+    }
+}
+
+impl<D: Directory> Directory for Starving<D> {
+    type Cursor = D::Cursor;
+
+    ghost shows = { λ s. D.shows s.directory };
+
+    ghost holds = { λ s. D.holds s.directory };
+
+    ghost tells = { λ s. D.tells s.directory };
+
+    ghost missed = { λ s. min (D.missed s.directory) (2 ^ 64 - 1) };
+
+    ghost failed = { λ s. min (D.failed s.directory) (2 ^ 64 - 1) };
+
+    fn kind(&mut self, alloc: Global, path: &str) -> Result<Option<FileType>, DirectoryFault> {
+        if self.turn.comes() {
+            return Err(DirectoryFault::Memory);
+        }
+        self.directory.kind(alloc, path)
+    }
+
+    fn open(&mut self, alloc: Global, path: &str) -> Result<D::Cursor, DirectoryFault> {
+        if self.turn.comes() {
+            return Err(DirectoryFault::Memory);
+        }
+        self.directory.open(alloc, path)
+    }
+
+    fn next(
+        &mut self,
+        alloc: Global,
+        cursor: &mut D::Cursor,
+    ) -> Result<Option<ListItem>, NoMemory> {
+        if self.turn.comes() {
+            return Err(NoMemory);
+        }
+        self.directory.next(alloc, cursor)
+    }
+
+    fn misses(&self) -> u64 {
+        self.directory.misses()
+    }
+
+    fn failures(&self) -> u64 {
+        self.directory.failures()
+    }
+
+    ghost inner = { λ s path l h. D.inner s.directory path l h };
+}

@@ -1,0 +1,422 @@
+//! A directory in memory.
+
+ghost use Rattle.std.specs.Prelude.{◌≡◌, ◌⊎◌, ◌<◌, ◌-◌, ◌^◌, ℕ, if◌then◌else◌, min, OnOk, List, Some, map, option_map, string_bytes, IfOk, IfErr, IfSome, MatchBool};
+ghost use Rattle.wax_directory.specs.declared.directory.DirectoryFault.TheVariants.{Failed};
+ghost use Rattle.wax_directory.specs.declared.tree.Node.TheViews.{out-Node};
+ghost use Rattle.wax_directory.specs.Answers.{listed_of, KindIs, Opens};
+ghost use Rattle.wax_directory.specs.Names.{names_in_path, is_rooted, are_distinct};
+ghost use Rattle.wax_directory.specs.Nodes.{node_at, child_at, held, entry_of, shown_of, listed_item, names_of, HasDistinctNames, HasDuplicateName, named_in, below_layer, reached};
+ghost use Rattle.wax_query.specs.declared.diagnostics.Refusal.TheVariants.{Refused, Memory};
+ghost use Rattle.wax_directory.specs.Told.{Told, no_calls};
+ghost use Rattle.wax_directory.specs.Trees.{tree_shows, tree_holds, tree_tells, tree_missed, tree_failed, tree_start, reached_in, shown_in, item_at};
+ghost use Rattle.wax_directory.specs.Places.{has_name, reached_place, reached_at, Locates};
+
+use crate::directory::{Directory, DirectoryFault, FileType, ListItem};
+use std::alloc::{AllocError, Global};
+use std::collections::HashSet;
+use thiserror::Error;
+use wax_query::diagnostics::{NoMemory, Refusal};
+
+/// What stands in a tree.
+#[cycle(tree)]
+#[derive(Drop)]
+pub enum Node {
+    File,
+    Link,
+    Folder(Vec<TreeItem>),
+    /// A folder that can't be listed.
+    Sealed,
+}
+
+/// What a folder of a tree holds, in the folder's order.
+#[cycle(tree)]
+#[derive(Drop)]
+pub enum TreeItem {
+    /// A name, as given, and what stands there.
+    Entry(String, Node),
+    /// An item that can't be read.
+    Failed,
+    /// An item whose name isn't text.
+    NotText,
+}
+
+/// A folder holds a name twice (refusal 20).
+#[derive(Clone, Copy, Debug, Error)]
+#[error("a folder holds a name twice")]
+pub struct DuplicateName;
+
+/// A lawful directory in memory. It tells which folders were opened, in order, and how many items
+/// were given.
+///
+/// Empty parts of a path are left out; `.` and `..` are names like others. Through a file or a link
+/// leads no path; what is below a folder that can't be listed can't be read. Dropping a tree takes
+/// stack for each level.
+#[derive(Drop)]
+pub struct Tree {
+    working: Node,
+    root: Node,
+    listed: Vec<String>,
+    asked: u64,
+    misses: u64,
+    failures: u64,
+}
+
+/// A folder of a tree that is being listed.
+#[derive(Drop)]
+pub struct TreeCursor {
+    is_rooted: bool,
+    places: Vec<usize>,
+    next: usize,
+}
+
+impl Node {
+    ghost use Rattle.wax_directory.specs.Nodes.{kind_of};
+
+    fn kind(&self) -> FileType
+        ensures { result ≡ kind_of (shown_of self.now) }
+    {
+        match self {
+            Node::File => FileType::File,
+            Node::Link => FileType::Link,
+            Node::Folder(_) | Node::Sealed => FileType::Folder,
+        }
+    }
+
+    // what a folder holds
+    fn held(&self) -> Option<&[TreeItem]>
+        ensures { option_map (λ items. items.now) result ≡ held self.now }
+    {
+        match self {
+            Node::Folder(items) => Some(items.as_slice()),
+            _ => None,
+        }
+    }
+
+    // what stands at the place of an item
+    fn child(&self, place: usize) -> Option<&Node>
+        ensures { option_map (λ n. n.now) result ≡ child_at place self.now }
+    {
+        self.held()?.get(place)?.node()
+    }
+
+    // the place of the entry of this name; `Failed` where the folder can't be listed
+    fn below(&self, name: &str) -> Result<Option<usize>, DirectoryFault>
+        ensures reaches { below_layer name.now (out-Node self.now) ≡ reached_at self.now result }
+        ensures failed { IfErr result (λ e. e ≡ Failed) }
+    {
+        match self {
+            Node::Folder(items) => Ok(place_of(items.as_slice(), name)),
+            Node::Sealed => Err(DirectoryFault::Failed),
+            Node::File | Node::Link => Ok(None),
+        }
+    }
+
+    // the places that lead to where these names lead
+    fn locate(&self, alloc: Global, names: &[&str]) -> Result<Option<Vec<usize>>, DirectoryFault>
+        ensures { Locates (reached (map (λ x. x.now) names.now) self.now) self.now result }
+    {
+        let mut node = self;
+        let mut places = Vec::new(alloc);
+        for name in names {
+            let Some(place) = node.below(name)? else {
+                return Ok(None);
+            };
+            let Some(inner) = node.child(place) else {
+                return Ok(None);
+            };
+            let Ok(()) = places.push(place) else {
+                return Err(DirectoryFault::Memory);
+            };
+            node = inner;
+        }
+        Ok(Some(places))
+    }
+
+    // no folder holds a name twice
+    fn has_distinct_names(&self, alloc: Global) -> Result<bool, AllocError>
+        ensures { IfOk result (λ r. MatchBool r (HasDistinctNames self.now) (HasDuplicateName self.now)) }
+    {
+        let Node::Folder(items) = self else {
+            return Ok(true);
+        };
+        if !hold_distinct_names(alloc, items.as_slice())? {
+            return Ok(false);
+        }
+        for item in items {
+            if let TreeItem::Entry(_, node) = item {
+                if !node.has_distinct_names(alloc)? {
+                    return Ok(false);
+                }
+            }
+        }
+        Ok(true)
+    }
+
+    // what stands below, from place to place
+    fn at(&self, places: &[usize]) -> Option<&Node>
+        ensures { option_map (λ n. n.now) result ≡ node_at places.now self.now }
+    {
+        let mut node = self;
+        for place in places {
+            let Some(inner) = node.child(*place) else {
+                return None;
+            };
+            node = inner;
+        }
+        Some(node)
+    }
+}
+
+impl TreeItem {
+    fn is_named(&self, name: &str) -> bool
+        ensures { result ≡ has_name name.now self.now }
+    {
+        match self {
+            TreeItem::Entry(own, _) => own.as_str() == name,
+            _ => false,
+        }
+    }
+
+    fn node(&self) -> Option<&Node>
+        ensures { option_map (λ n. n.now) result ≡ entry_of (Some self.now) }
+    {
+        match self {
+            TreeItem::Entry(_, node) => Some(node),
+            _ => None,
+        }
+    }
+
+    fn listed(&self, alloc: Global) -> Result<ListItem, AllocError>
+        ensures { IfOk result (λ r. listed_of r ≡ listed_item self.now) }
+    {
+        match self {
+            TreeItem::Failed => Ok(ListItem::Failed),
+            TreeItem::NotText => Ok(ListItem::NotText),
+            TreeItem::Entry(name, node) => {
+                let name = String::from_str(alloc, name.as_str())?;
+                Ok(ListItem::Name(name, node.kind()))
+            }
+        }
+    }
+}
+
+impl Tree {
+    /// A tree whose working folder is `working` and whose root is `root`, of which nothing was asked
+    /// yet; refused with 20 where a folder of either holds two equal names. Time is linear in the
+    /// number of items.
+    pub fn new(alloc: Global, working: Node, root: Node) -> Result<Tree, Refusal<DuplicateName>>
+        ensures distinct { OnOk result (HasDistinctNames working × HasDistinctNames root) }
+        ensures shows { IfOk result (λ t. (path : List ℕ) → tree_shows t path (shown_in working root path)) }
+        ensures untold { IfOk result (λ t. tree_tells t no_calls × (tree_missed t ≡ 0) × (tree_failed t ≡ 0)) }
+        ensures refused { IfErr result (λ e. (e ≡ Memory) ⊎ ((e ≡ Refused (record {})) × (HasDuplicateName working ⊎ HasDuplicateName root))) }
+    {
+        if !working.has_distinct_names(alloc)? || !root.has_distinct_names(alloc)? {
+            return Err(Refusal::Refused(DuplicateName));
+        }
+        Ok(Tree {
+            working,
+            root,
+            listed: Vec::new(alloc),
+            asked: 0,
+            misses: 0,
+            failures: 0,
+        })
+    }
+
+    /// The paths of the folders that were opened, in order, those that failed too.
+    pub fn listed(&self) -> &[String]
+        ensures { (t : Told) → tree_tells self.now t → map string_bytes result.now ≡ t.listed }
+    {
+        self.listed.as_slice()
+    }
+
+    /// How many items were given, at most the greatest u64.
+    pub fn asked(&self) -> u64
+        ensures { (t : Told) → tree_tells self.now t → result ≡ min t.asked (2 ^ 64 - 1) }
+    {
+        self.asked
+    }
+
+    fn start(&self, is_rooted: bool) -> &Node
+        ensures { result.now ≡ (if is_rooted then self.now.root else self.now.working) }
+    {
+        if is_rooted { &self.root } else { &self.working }
+    }
+
+    // the places that lead to where a path leads
+    fn find(&self, alloc: Global, path: &str) -> Result<Option<Vec<usize>>, DirectoryFault>
+        ensures { Locates (reached_in self.now.working self.now.root path.now) (tree_start self.now path.now) result }
+    {
+        let Ok(names) = names_in(alloc, path) else {
+            return Err(DirectoryFault::Memory);
+        };
+        self.start(begins_at_root(path))
+            .locate(alloc, names.as_slice())
+    }
+
+    // the kind of what a path leads to
+    fn look(&self, alloc: Global, path: &str) -> Result<Option<FileType>, DirectoryFault>
+        ensures { KindIs (shown_in self.now.working self.now.root path.now) result }
+    {
+        let Some(places) = self.find(alloc, path)? else {
+            return Ok(None);
+        };
+        match self.start(begins_at_root(path)).at(places.as_slice()) {
+            Some(node) => Ok(Some(node.kind())),
+            None => Ok(None),
+        }
+    }
+
+    // a cursor before the first item of the folder at a path
+    fn begin(&self, alloc: Global, path: &str) -> Result<TreeCursor, DirectoryFault>
+        ensures { Opens (tree_holds self.now) (shown_in self.now.working self.now.root path.now) result }
+    {
+        let Some(places) = self.find(alloc, path)? else {
+            return Err(DirectoryFault::Failed);
+        };
+        let is_rooted = begins_at_root(path);
+        match self.start(is_rooted).at(places.as_slice()) {
+            Some(Node::Folder(_)) => Ok(TreeCursor {
+                is_rooted,
+                places,
+                next: 0,
+            }),
+            _ => Err(DirectoryFault::Failed),
+        }
+    }
+
+    // the item that a cursor has next
+    fn item(&self, alloc: Global, cursor: &TreeCursor) -> Result<Option<ListItem>, AllocError>
+        ensures listed { IfOk result (λ r. option_map listed_of r ≡ option_map listed_item (item_at self.now cursor.now)) }
+        ensures small { IfOk result (λ r. IfSome r (λ x. cursor.now.next < 2 ^ 64 - 1)) }
+    {
+        let Some(node) = self.start(cursor.is_rooted).at(cursor.places.as_slice()) else {
+            return Ok(None);
+        };
+        let Some(items) = node.held() else {
+            return Ok(None);
+        };
+        match items.get(cursor.next) {
+            Some(item) => Ok(Some(item.listed(alloc)?)),
+            None => Ok(None),
+        }
+    }
+}
+
+impl Directory for Tree {
+    type Cursor = TreeCursor;
+
+    ghost use Rattle.wax_directory.specs.Trees.{tree_shows, tree_holds, tree_tells, tree_missed, tree_failed};
+    ghost use Rattle.wax_directory.specs.TreeLaw.{tree_inner};
+
+    ghost shows = { tree_shows };
+
+    ghost holds = { tree_holds };
+
+    ghost tells = { tree_tells };
+
+    ghost missed = { tree_missed };
+
+    ghost failed = { tree_failed };
+
+    fn kind(&mut self, alloc: Global, path: &str) -> Result<Option<FileType>, DirectoryFault> {
+        let answer = self.look(alloc, path);
+        let (missed, failed) = match answer {
+            Ok(None) => (1, 0),
+            Err(DirectoryFault::Failed) => (0, 1),
+            _ => (0, 0),
+        };
+        self.misses = self.misses.saturating_add(missed);
+        self.failures = self.failures.saturating_add(failed);
+        answer
+    }
+
+    fn open(&mut self, alloc: Global, path: &str) -> Result<TreeCursor, DirectoryFault> {
+        let failures = self.failures;
+        let Ok(told) = String::from_str(alloc, path) else {
+            return Err(DirectoryFault::Memory);
+        };
+        let answer = self.begin(alloc, path);
+        let failed = match answer {
+            Err(DirectoryFault::Memory) => return Err(DirectoryFault::Memory),
+            Err(DirectoryFault::Failed) => 1,
+            Ok(_) => 0,
+        };
+        let Ok(()) = self.listed.push(told) else {
+            return Err(DirectoryFault::Memory);
+        };
+        self.failures = failures.saturating_add(failed);
+        answer
+    }
+
+    fn next(
+        &mut self,
+        alloc: Global,
+        cursor: &mut TreeCursor,
+    ) -> Result<Option<ListItem>, NoMemory> {
+        let Some(item) = self.item(alloc, cursor)? else {
+            return Ok(None);
+        };
+        cursor.next += 1;
+        self.asked = self.asked.saturating_add(1);
+        let failed = match item {
+            ListItem::Failed | ListItem::NotText => 1,
+            ListItem::Name(..) => 0,
+        };
+        self.failures = self.failures.saturating_add(failed);
+        Ok(Some(item))
+    }
+
+    fn misses(&self) -> u64 {
+        self.misses
+    }
+
+    fn failures(&self) -> u64 {
+        self.failures
+    }
+
+    ghost inner = { λ d path l h. tree_inner d path l h };
+}
+
+// the place of the entry of this name
+fn place_of(items: &[TreeItem], name: &str) -> Option<usize>
+    ensures { named_in name.now items.now ≡ reached_place items.now result }
+{
+    for (place, item) in items.iter().enumerate() {
+        if item.is_named(name) {
+            return Some(place);
+        }
+    }
+    None
+}
+
+// no two entries have the same name
+fn hold_distinct_names(alloc: Global, items: &[TreeItem]) -> Result<bool, AllocError>
+    ensures { IfOk result (λ r. r ≡ are_distinct (names_of items.now)) }
+{
+    let mut seen: HashSet<&str> = HashSet::new(alloc);
+    for item in items {
+        if let TreeItem::Entry(name, _) = item {
+            if !seen.insert(name.as_str())? {
+                return Ok(false);
+            }
+        }
+    }
+    Ok(true)
+}
+
+// the names of a path
+fn names_in(alloc: Global, path: &str) -> Result<Vec<&str>, AllocError>
+    ensures { IfOk result (λ v. map (λ x. x.now) v.items ≡ names_in_path path.now) }
+{
+    path.split('/')
+        .filter(|name| !name.is_empty())
+        .collect(alloc)
+}
+
+// the path is taken from the root
+fn begins_at_root(path: &str) -> bool
+    ensures { result ≡ is_rooted path.now }
+{
+    path.starts_with('/')
+}
