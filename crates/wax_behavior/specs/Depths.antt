@@ -1,0 +1,43 @@
+-- The depths that a walk gives.
+use Rattle.std.specs.Prelude.{◌≡◌, ◌<◌, ◌⊎◌, ℕ, ◌+◌, ◌-◌, ◌^◌, min, Option, Some, None}
+use Rattle.std.specs.Int.NonZero.{non_zero_usize_get}
+use Rattle.wax_behavior.specs.declared.WalkBehavior.{WalkBehavior}
+use Rattle.wax_behavior.specs.declared.LinkBehavior.TheVariants.{ReadFile}
+use Rattle.wax_behavior.specs.declared.DepthBehavior.{DepthBehavior}
+use Rattle.wax_behavior.specs.declared.DepthBehavior.TheVariants.{Unbounded, Min, Max, MinMax}
+
+-- the least depth
+abbrev pub least : DepthBehavior → ℕ
+least Unbounded = 0
+least (Min d) = non_zero_usize_get d.0
+least (Max d) = 0
+least (MinMax d) = non_zero_usize_get d.min
+
+-- there is no greatest depth
+abbrev pub no_bound : Option ℕ
+no_bound = None
+
+-- the greatest depth, if there is one; a sum stays at the greatest that can be written
+abbrev pub greatest : DepthBehavior → Option ℕ
+greatest Unbounded = None
+greatest (Min d) = None
+greatest (Max d) = Some d.0
+greatest (MinMax d) = Some (min (non_zero_usize_get d.min + d.extent) (2 ^ 64 - 1))
+
+-- from the least to the greatest depth, either of which may be missing, there are no bounds
+abbrev pub IsUnbounded : Option ℕ → Option ℕ → Type 0
+IsUnbounded None None = Unit {0}
+IsUnbounded (Some p) None = p ≡ 0
+IsUnbounded None (Some q) = ⊥
+IsUnbounded (Some p) (Some q) = (p ≡ 0) ⊎ (q < p)
+
+-- these are the bounds
+abbrev pub Bounds : Option ℕ → Option ℕ → DepthBehavior → Type 0
+Bounds (Some p) None (Min d) = non_zero_usize_get d.0 ≡ p
+Bounds None (Some q) (Max d) = d.0 ≡ q
+Bounds (Some p) (Some q) (MinMax d) = (non_zero_usize_get d.min ≡ p) × (p + d.extent ≡ q)
+Bounds p q d = ⊥
+
+-- of these depths, with links as they are, and as many items as can be counted
+abbrev pub at_depth : DepthBehavior → WalkBehavior
+at_depth d = record { depth = d; link = ReadFile; budget = 2 ^ 32 - 1 }

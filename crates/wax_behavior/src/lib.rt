@@ -1,0 +1,294 @@
+//! How far a walk goes: the depths that it gives, and how many items it takes.
+#![tactic(auto)]
+
+ghost use Rattle.std.specs.Prelude.{◌≡◌, ℕ, Option, Some, MatchOption, min, max};
+ghost use Rattle.std.specs.Int.NonZero.{non_zero_usize_get};
+ghost use Rattle.wax_behavior.specs.Depths.{least, greatest, no_bound, Bounds, IsUnbounded, at_depth};
+ghost use Rattle.wax_behavior.specs.declared.DepthBehavior.TheVariants.{Unbounded, MinMax};
+
+use std::num::NonZeroUsize;
+
+/// Gives entries of at least this depth, which isn't 0.
+#[derive(Clone, Copy, Debug, Eq, PartialEq)]
+pub struct DepthMin(pub NonZeroUsize);
+
+impl DepthMin {
+    /// At least `min`; no bound where that is 0.
+    pub fn from_min_or_unbounded(min: usize) -> DepthBehavior
+        ensures least { least result ≡ min }
+        ensures greatest { greatest result ≡ no_bound }
+    {
+        match NonZeroUsize::new(min) {
+            Some(min) => DepthBehavior::Min(DepthMin(min)),
+            None => DepthBehavior::Unbounded,
+        }
+    }
+}
+
+impl From<NonZeroUsize> for DepthMin {
+    ghost from_gives = { λ x r. r ≡ record { 0 = x } };
+
+    fn from(min: NonZeroUsize) -> Self {
+        DepthMin(min)
+    }
+}
+
+impl From<DepthMin> for NonZeroUsize {
+    ghost from_gives = { λ x r. r ≡ x.0 };
+
+    fn from(min: DepthMin) -> Self {
+        min.0
+    }
+}
+
+impl TryFrom<usize> for DepthMin {
+    ghost use Rattle.std.specs.Prelude.{MatchResult};
+    ghost use Rattle.std.specs.Int.NonZero.{non_zero_usize_get};
+
+    type Error = ();
+
+    ghost try_from_gives = { λ n r. MatchResult r (λ d. non_zero_usize_get d.0 ≡ n) (λ _. n ≡ 0) };
+
+    fn try_from(min: usize) -> Result<Self, ()> {
+        match NonZeroUsize::new(min) {
+            Some(min) => Ok(DepthMin(min)),
+            None => Err(()),
+        }
+    }
+}
+
+/// Gives entries of at most this depth. A folder at this depth isn't listed.
+#[derive(Clone, Copy, Debug, Eq, PartialEq)]
+pub struct DepthMax(pub usize);
+
+impl From<usize> for DepthMax {
+    ghost from_gives = { λ n r. r ≡ record { 0 = n } };
+
+    fn from(max: usize) -> Self {
+        DepthMax(max)
+    }
+}
+
+impl From<DepthMax> for usize {
+    ghost from_gives = { λ d r. r ≡ d.0 };
+
+    fn from(max: DepthMax) -> Self {
+        max.0
+    }
+}
+
+/// Gives entries of at least the depth `min`, which isn't 0, and of at most `extent` more.
+#[derive(Clone, Copy, Debug, Eq, PartialEq)]
+pub struct DepthMinMax {
+    pub min: NonZeroUsize,
+    pub extent: usize,
+}
+
+impl DepthMinMax {
+    /// From the lesser depth to the greater; at most the greater where the lesser is 0.
+    pub fn from_depths_or_max(p: usize, q: usize) -> DepthBehavior
+        ensures least { least result ≡ min p q }
+        ensures greatest { greatest result ≡ Some (max p q) }
+    {
+        let (lesser, greater) = if p <= q { (p, q) } else { (q, p) };
+        match NonZeroUsize::new(lesser) {
+            Some(min) => DepthBehavior::MinMax(DepthMinMax {
+                min,
+                extent: greater - lesser,
+            }),
+            None => DepthBehavior::Max(DepthMax(greater)),
+        }
+    }
+
+    /// The greatest depth, at most the greatest `usize`.
+    pub fn max(&self) -> NonZeroUsize
+        ensures { Some (non_zero_usize_get result) ≡ greatest (MinMax self.now) }
+    {
+        self.min.saturating_add(self.extent)
+    }
+}
+
+/// The depths of the entries that a walk gives. An entry's depth is the number of names of its
+/// candidate.
+#[derive(Clone, Copy, Debug, Default, Eq, PartialEq)]
+pub enum DepthBehavior {
+    #[default]
+    Unbounded,
+    Min(DepthMin),
+    Max(DepthMax),
+    MinMax(DepthMinMax),
+}
+
+impl DepthBehavior {
+    /// From `min` to `max`, each of which may be missing. `None` where `min` is 0 or above `max`,
+    /// or both are missing.
+    pub fn bounded<P, Q>(min: P, max: Q) -> Option<Self>
+    where
+        P: Into<Option<usize>>,
+        Q: Into<Option<usize>>,
+        ensures { (p : Option ℕ) × (q : Option ℕ) × P.converts min p × Q.converts max q × MatchOption result (IsUnbounded p q) (Bounds p q) }
+    {
+        match (min.into(), max.into()) {
+            (Some(min), None) => Some(DepthBehavior::Min(DepthMin(NonZeroUsize::new(min)?))),
+            (None, Some(max)) => Some(DepthBehavior::Max(DepthMax(max))),
+            (Some(min), Some(max)) if min <= max => Some(DepthBehavior::MinMax(DepthMinMax {
+                min: NonZeroUsize::new(min)?,
+                extent: max - min,
+            })),
+            _ => None,
+        }
+    }
+
+    /// The least depth of an entry that is given.
+    pub fn least(&self) -> usize
+        ensures { result ≡ least self.now }
+    {
+        match self {
+            DepthBehavior::Unbounded | DepthBehavior::Max(_) => 0,
+            DepthBehavior::Min(min) => min.0.get(),
+            DepthBehavior::MinMax(bounds) => bounds.min.get(),
+        }
+    }
+
+    /// The greatest depth of an entry that is given, if there is one.
+    pub fn greatest(&self) -> Option<usize>
+        ensures { result ≡ greatest self.now }
+    {
+        match self {
+            DepthBehavior::Unbounded | DepthBehavior::Min(_) => None,
+            DepthBehavior::Max(max) => Some(max.0),
+            DepthBehavior::MinMax(bounds) => Some(bounds.max().get()),
+        }
+    }
+}
+
+impl From<DepthMin> for DepthBehavior {
+    ghost use Rattle.wax_behavior.specs.declared.DepthBehavior.TheVariants.{Min};
+
+    ghost from_gives = { λ d r. r ≡ Min d };
+
+    fn from(min: DepthMin) -> Self {
+        DepthBehavior::Min(min)
+    }
+}
+
+impl From<DepthMax> for DepthBehavior {
+    ghost use Rattle.wax_behavior.specs.declared.DepthBehavior.TheVariants.{Max};
+
+    ghost from_gives = { λ d r. r ≡ Max d };
+
+    fn from(max: DepthMax) -> Self {
+        DepthBehavior::Max(max)
+    }
+}
+
+impl From<DepthMinMax> for DepthBehavior {
+    ghost use Rattle.wax_behavior.specs.declared.DepthBehavior.TheVariants.{MinMax};
+
+    ghost from_gives = { λ d r. r ≡ MinMax d };
+
+    fn from(bounds: DepthMinMax) -> Self {
+        DepthBehavior::MinMax(bounds)
+    }
+}
+
+/// What a walk does at a link.
+#[derive(Clone, Copy, Debug, Default, Eq, PartialEq)]
+pub enum LinkBehavior {
+    /// A link is an entry, and isn't followed.
+    #[default]
+    ReadFile,
+}
+
+/// How a walk goes: the depths of the entries that it gives, what it does at a link, and how many
+/// items of folders it takes at most. The start of the walk isn't counted.
+#[derive(Clone, Copy, Debug, Eq, PartialEq)]
+pub struct WalkBehavior {
+    pub depth: DepthBehavior,
+    pub link: LinkBehavior,
+    pub budget: u32,
+}
+
+impl Default for WalkBehavior {
+    /// All depths, links as they are, and 4,294,967,295 items.
+    fn default() -> Self
+        ensures { result ≡ at_depth Unbounded }
+    {
+        WalkBehavior {
+            depth: DepthBehavior::Unbounded,
+            link: LinkBehavior::ReadFile,
+            budget: u32::MAX,
+        }
+    }
+}
+
+impl From<()> for WalkBehavior {
+    ghost use Rattle.wax_behavior.specs.Depths.{at_depth};
+    ghost use Rattle.wax_behavior.specs.declared.DepthBehavior.TheVariants.{Unbounded};
+
+    ghost from_gives = { λ _ r. r ≡ at_depth Unbounded };
+
+    fn from(_: ()) -> Self {
+        WalkBehavior::default()
+    }
+}
+
+impl From<DepthBehavior> for WalkBehavior {
+    ghost use Rattle.wax_behavior.specs.Depths.{at_depth};
+
+    ghost from_gives = { λ d r. r ≡ at_depth d };
+
+    fn from(depth: DepthBehavior) -> Self {
+        WalkBehavior {
+            depth,
+            ..WalkBehavior::default()
+        }
+    }
+}
+
+impl From<DepthMin> for WalkBehavior {
+    ghost use Rattle.wax_behavior.specs.Depths.{at_depth};
+    ghost use Rattle.wax_behavior.specs.declared.DepthBehavior.TheVariants.{Min};
+
+    ghost from_gives = { λ d r. r ≡ at_depth (Min d) };
+
+    fn from(min: DepthMin) -> Self {
+        WalkBehavior::from(DepthBehavior::from(min))
+    }
+}
+
+impl From<DepthMax> for WalkBehavior {
+    ghost use Rattle.wax_behavior.specs.Depths.{at_depth};
+    ghost use Rattle.wax_behavior.specs.declared.DepthBehavior.TheVariants.{Max};
+
+    ghost from_gives = { λ d r. r ≡ at_depth (Max d) };
+
+    fn from(max: DepthMax) -> Self {
+        WalkBehavior::from(DepthBehavior::from(max))
+    }
+}
+
+impl From<DepthMinMax> for WalkBehavior {
+    ghost use Rattle.wax_behavior.specs.Depths.{at_depth};
+    ghost use Rattle.wax_behavior.specs.declared.DepthBehavior.TheVariants.{MinMax};
+
+    ghost from_gives = { λ d r. r ≡ at_depth (MinMax d) };
+
+    fn from(bounds: DepthMinMax) -> Self {
+        WalkBehavior::from(DepthBehavior::from(bounds))
+    }
+}
+
+impl From<LinkBehavior> for WalkBehavior {
+    ghost use Rattle.wax_behavior.specs.Depths.{at_depth};
+    ghost use Rattle.wax_behavior.specs.declared.DepthBehavior.TheVariants.{Unbounded};
+
+    ghost from_gives = { λ l r. r ≡ record (at_depth Unbounded) { link = l } };
+
+    fn from(link: LinkBehavior) -> Self {
+        WalkBehavior {
+            link,
+            ..WalkBehavior::default()
+        }
+    }
+}
