@@ -1,0 +1,9 @@
+pub mod Filtering
+pub mod Collecting
+pub mod Stepping
+pub mod Saying
+pub mod Wanted
+pub mod Counting
+pub mod Asking
+pub mod Naming
+pub mod Making

@@ -1,0 +1,17 @@
+pub mod Forest
+pub mod Given
+pub mod Entries
+pub mod Said
+pub mod Laws
+pub mod Collected
+pub mod Plain
+pub mod Heads
+pub mod Asks
+pub mod Walking
+pub mod Lacking
+pub mod Fed
+pub mod WalkLaws
+pub mod Lead
+pub mod Says
+pub mod Counts
+pub mod Begins

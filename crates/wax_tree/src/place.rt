@@ -1,0 +1,41 @@
+//! Paths and names.
+
+ghost use Rattle.std.specs.Prelude.{◌≡◌, IfOk, string_bytes, true, false};
+ghost use Rattle.wax_directory.specs.Shown.{IsPlain};
+ghost use Rattle.wax_directory.specs.Shown.{is_open as is_open_path};
+ghost use Rattle.wax_directory.specs.Shown.{join as join_path};
+
+use std::alloc::{AllocError, Global};
+
+// A name may follow the path at once: it is empty or ends with `/`.
+fn is_open(path: &str) -> bool
+    ensures { result ≡ is_open_path path.now }
+{
+    match path.as_bytes().last() {
+        None => true,
+        Some(last) => *last == b'/',
+    }
+}
+
+/// The path of a name in a folder.
+pub(crate) fn join(alloc: Global, folder: &str, name: &str) -> Result<String, AllocError>
+    ensures { IfOk result (λ path. string_bytes path ≡ join_path folder.now name.now) }
+{
+    let mut path = String::from_str(alloc, folder)?;
+    if !is_open(folder) {
+        path.push('/')?;
+    }
+    path.push_str(name)?;
+    Ok(path)
+}
+
+/// A path can hold the name.
+pub(crate) fn is_plain(name: &str) -> bool
+    ensures plain { result ≡ true → IsPlain name.now }
+    ensures not_plain { result ≡ false → ¬ (IsPlain name.now) }
+{
+    match name.as_bytes() {
+        [] | [b'.'] | [b'.', b'.'] => false,
+        bytes => !bytes.contains(&b'/'),
+    }
+}

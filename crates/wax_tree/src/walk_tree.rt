@@ -1,0 +1,173 @@
+//! The plain walk.
+
+ghost use Rattle.std.specs.Prelude.{◌≡◌, string_bytes, IfOk};
+ghost use Rattle.wax_tree.specs.Begins.{Begins};
+ghost use Rattle.wax_tree.specs.Asks.{Lists};
+ghost use Rattle.wax_tree.specs.Entries.{entry_in, facts_of, answer_of};
+ghost use Rattle.wax_tree.specs.Fed.{Fed};
+ghost use Rattle.wax_tree.specs.Lacking.{MayCome, HasEnded, gives_at_most, asks_at_most};
+
+use crate::entry::TreeEntry;
+use crate::error::WalkError;
+use crate::iterator::FileIterator;
+use crate::steps::{Range, Steps};
+use std::alloc::{AllocError, Global};
+use wax_directory::directory::Directory;
+use wax_filter::filter::{
+    CancelWalk, Feed, Isomeric, Product, SeparatingFilter, Separation, TreeResidue, filtrate,
+};
+
+/// What a plain walk and each filter over it give.
+pub struct TreeFeed;
+
+impl Feed for TreeFeed {
+    type Filtrate = Result<TreeEntry, WalkError>;
+
+    type Residue = TreeResidue<TreeEntry>;
+}
+
+impl Isomeric for TreeFeed {
+    type Substituent = TreeEntry;
+
+    ghost shown = { λ x. entry_in x };
+
+    fn entry(separation: &Separation<TreeFeed>) -> Option<&TreeEntry> {
+        match separation {
+            Separation::Filtrate(filtrate) => match filtrate.get() {
+                Ok(entry) => Some(entry),
+                Err(_) => None,
+            },
+            Separation::Residue(residue) => Some(residue.get().get()),
+        }
+    }
+}
+
+/// The plain walk: each entry from a start on, a folder before what is in it, in the directory's
+/// order.
+#[derive(Drop)]
+pub struct WalkTree<D: Directory> {
+    steps: Steps<D>,
+    lacks_memory: bool,
+}
+
+// Two copies of a text.
+fn twice(alloc: Global, text: &str) -> Result<(String, String), AllocError>
+    ensures { IfOk result (λ r. (string_bytes r.0 ≡ text.now) × (string_bytes r.1 ≡ text.now)) }
+{
+    let one = String::from_str(alloc, text)?;
+    let other = String::from_str(alloc, text)?;
+    Ok((one, other))
+}
+
+impl<D: Directory> WalkTree<D> {
+    // The walk from a start, of the entries whose depth is from the least to the greatest.
+    pub(crate) fn with_range(alloc: Global, directory: D, start: &str, range: Range) -> WalkTree<D>
+        ensures { Begins D.shows D.tells D.holds directory start.now range.min range.max range.budget result }
+    {
+        match twice(alloc, start) {
+            Ok((first, root)) => WalkTree {
+                steps: Steps::new(alloc, directory, Some(first), root, range),
+                lacks_memory: false,
+            },
+            Err(_) => WalkTree {
+                steps: Steps::new(alloc, directory, None, String::new(alloc), range),
+                lacks_memory: true,
+            },
+        }
+    }
+}
+
+impl<D: Directory> SeparatingFilter for WalkTree<D> {
+    ghost use Rattle.std.specs.Iterator.{at_most};
+
+    type Feed = TreeFeed;
+
+    ghost feeds = { λ s r t. Fed D.tells D.missed D.failed (MayCome D.shows (Lists D.tells) D.holds s) (MayCome D.shows (Lists D.tells) D.holds t) s.steps.directory t.steps.directory (asks_at_most s) (asks_at_most t) (HasEnded s) (HasEnded t) (answer_of facts_of facts_of r) };
+
+    ghost left = { λ s. at_most (gives_at_most s) };
+
+    fn feed(&mut self) -> Option<Separation<TreeFeed>> {
+        if self.lacks_memory {
+            self.lacks_memory = false;
+            self.steps.has_ended = true;
+            return Some(Separation::Filtrate(Product::new(Err(WalkError::Memory))));
+        }
+        let item = self.steps.run()?;
+        Some(Separation::Filtrate(Product::new(item)))
+    }
+}
+
+impl<D: Directory> CancelWalk for WalkTree<D> {
+    ghost use Rattle.wax_tree.specs.WalkLaws.{uncancelled, cancel_once, cancel_no_longer};
+
+    ghost cancels = { λ s t. t ≡ uncancelled s };
+
+    fn cancel_walk_tree(&mut self) {
+        self.steps.entered = None;
+    }
+
+    ghost once = { λ s t u h k. cancel_once s t u h k };
+
+    ghost can_go_on = { λ s t h c. c };
+
+    ghost no_longer = { λ s t h e. (tt, cancel_no_longer s t h) };
+}
+
+impl<D: Directory> FileIterator for WalkTree<D> {
+    ghost use Rattle.wax_tree.specs.WalkLaws.{cancel_comes, cancel_ended, cancel_allows, comes_told};
+    ghost use Rattle.std.proofs.Common.{ap};
+
+    type Entry = TreeEntry;
+
+    type Residue = TreeEntry;
+
+    type Directory = D;
+
+    ghost walked = { λ s. s.steps.directory };
+
+    ghost comes = { MayCome D.shows (Lists D.tells) D.holds };
+
+    ghost ended = { HasEnded };
+
+    ghost allows = { asks_at_most };
+
+    fn directory(&self) -> &D {
+        &self.steps.directory
+    }
+
+    fn into_directory(self) -> D {
+        self.steps.into_directory()
+    }
+
+    ghost telling = { λ s p h. comes_told D.shows (Lists D.tells) D.holds s p h };
+
+    ghost same_facts = { λ e r h. ap facts_of h };
+
+    ghost gives = { λ s t r p f i. f.gives p i };
+
+    ghost ending = { λ s t r f. f.ends };
+
+    ghost counting = { λ s t r f. f.counts };
+
+    ghost asking = { λ s t r f. f.asks };
+
+    ghost staying = { λ s t h. ap (λ v. v.steps.directory) h };
+
+    ghost staying_ended = { λ s t h e. cancel_ended s t h e };
+
+    ghost allowing = { λ s t h. cancel_allows s t h };
+
+    ghost cancelling = { λ s t p h c. cancel_comes D.shows (Lists D.tells) D.holds s t p h c };
+}
+
+impl<D: Directory> Iterator for WalkTree<D> {
+    ghost use Rattle.std.specs.Iterator.{at_most};
+
+    type Item = Result<TreeEntry, WalkError>;
+
+    ghost remaining = { λ s. at_most (gives_at_most s) };
+
+    fn next(&mut self) -> Option<Result<TreeEntry, WalkError>> {
+        filtrate(self)
+    }
+}
