@@ -1,8 +1,8 @@
 -- What a look-up finds among the items of a folder, and what a visit of all folders tells.
-use Rattle.std.proofs.Common.{◌≡◌, ℕ, ◌+◌, ◌<◌, ◌≤◌, Bool, true, false, cond, List, [], ◌∷◌, ◌++◌, map, take, drop, get_or, length, Option, Some, None, Result, Ok, Err, Bor, string_bytes, slice_get, ◌||◌, below_more, refl, sym, ◌∙◌, ap, subst, inl, inr, append_assoc, append-nil, rules, arith}
+use Rattle.std.proofs.Common.{◌≡◌, ℕ, ◌+◌, ◌<◌, Bool, true, false, cond, List, [], ◌∷◌, ◌++◌, map, take, drop, get_or, length, Option, Some, None, Bor, string_bytes, slice_get, ◌||◌, below_more, refl, sym, ◌∙◌, ap, subst, append-nil, rules}
 use Rattle.std.specs.List.{list_any}
 use Rattle.std.specs.Str.{bytes_eq}
-use Rattle.std.proofs.lemmas.Bool.{cond-true, cond-false, false≢true, or_right, or_left, not-true, not-false}
+use Rattle.std.proofs.lemmas.Bool.{cond-true, false≢true, or_right, or_left}
 use Rattle.std.proofs.lemmas.List.{drop_more, take_more, take-append-drop}
 use Rattle.std.proofs.lemmas.Option.{slice_get-get_or, slice_get_within}
 use Rattle.std.proofs.lemmas.List.Folds.{list_any-append}
@@ -14,11 +14,11 @@ use Rattle.wax_directory.specs.declared.tree.Node.TheOpen as O
 use Rattle.wax_directory.specs.declared.tree.Node.TheViews as V
 use Rattle.wax_directory.specs.declared.tree.Node.TheViews.{out-Node, out-TreeItem, roll-Node, roll-TreeItem, roll-out-Node, roll-out-TreeItem, the_lemmas}
 use Rattle.wax_directory.specs.Names.{are_distinct}
-use Rattle.wax_directory.specs.Nodes.{entry_layer, entry_of, held_layer, held, held_of, child_of, child_at, and_below, node_at, name_before, names_of, HasDistinctNames, HasDuplicateName, Reached, to_node, to_nothing, to_sealed, named_before, named_in, below_layer, onward, reached}
-use Rattle.wax_directory.specs.Places.{layer_has_name, has_name, to_reached, reached_at}
+use Rattle.wax_directory.specs.Nodes.{entry_layer, entry_of, held_layer, held, held_of, child_of, child_at, and_below, node_at, name_before, names_of, HasDistinctNames, HasDuplicateName, Reached, to_node, named_before, named_in, below_layer, onward, reached}
+use Rattle.wax_directory.specs.Places.{layer_has_name, has_name, to_reached}
 use Rattle.wax_directory.specs.TreeLaw.{node_at-append}
 use Rattle.std.proofs.lemmas.Slice.Eq.{bytes_eq-Decides}
-use Rattle.wax_directory.proofs.PathNames.{bytes_eq-swap, distinct_push, distinct_twice}
+use Rattle.wax_directory.proofs.PathNames.{bytes_eq-swap, distinct_twice}
 
 pub out_entry : (name : _) (n : Node) → out-TreeItem (Entry name n) ≡ O.Entry name n
 out_entry name n = search (rules, the_lemmas)

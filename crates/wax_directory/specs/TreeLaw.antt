@@ -1,5 +1,5 @@
 -- What a folder of a tree holds is shown at its path.
-use Rattle.std.proofs.Common.{◌≡◌, ℕ, suc, Bool, true, false, not, cond, ◌&&◌, ◌||◌, ◌==◌, ◌⊎◌, List, [], ◌∷◌, ◌++◌, map, drop, filter, Option, Some, None, string_bytes, slice_get, slice_index_or, if◌then◌else◌, refl, sym, ◌∙◌, ap, subst, inl, inr, append_assoc, append-nil, arith, rules}
+use Rattle.std.proofs.Common.{◌≡◌, ℕ, suc, Bool, true, false, not, cond, ◌&&◌, ◌==◌, ◌⊎◌, List, [], ◌∷◌, ◌++◌, filter, Option, Some, None, string_bytes, slice_get, slice_index_or, if◌then◌else◌, refl, sym, ◌∙◌, ap, subst, inl, inr, append_assoc, append-nil}
 use Rattle.std.specs.List.{slice_split, onto_first, list_any, Contains, Any}
 use Rattle.std.specs.Str.{bytes_eq}
 use Rattle.std.proofs.lemmas.Bool.{and_parts, and_cases, or_parts, not-true, not-false, cond-true, cond-false, false≢true}
@@ -14,10 +14,10 @@ use Rattle.wax_directory.specs.declared.tree.Node.TheOpen.{Node-F, TreeItem-F}
 use Rattle.wax_directory.specs.declared.tree.Node.TheOpen as O
 use Rattle.wax_directory.specs.declared.tree.Node.TheViews.{out-Node, out-TreeItem, roll-Node, roll-TreeItem, roll-out-Node, roll-out-TreeItem}
 use Rattle.wax_directory.specs.declared.tree.Node.TheFolds.{fold-roll-Node, fold-roll-TreeItem}
-use Rattle.wax_directory.specs.Shown.{Items, end, leaf, folder, sealed, misnamed, unread, not_text, Shown, a_leaf, a_folder, a_sealed, missing, failing, IsPlain, is_open, join, ShowsIn}
+use Rattle.wax_directory.specs.Shown.{Items, end, misnamed, unread, not_text, Shown, a_leaf, a_folder, a_sealed, missing, failing, IsPlain, is_open, join, ShowsIn}
 use Rattle.wax_directory.specs.Names.{is_entry_name, is_plain, is_some_name, names_in_path, is_rooted, are_distinct}
-use Rattle.wax_directory.specs.Nodes.{kind_of, with_plain, with_entry, all_items, item_step, node_step, shown_of, item_shown, items_shown, entry_layer, entry_of, held_layer, held, held_of, child_of, child_at, and_below, node_at, name_before, names_of, HasDistinctNames, Reached, to_node, to_nothing, to_sealed, named_before, named_in, below_layer, onward, reached, shown_reached}
-use Rattle.wax_directory.specs.Trees.{tree_shows, reached_in, shown_in}
+use Rattle.wax_directory.specs.Nodes.{kind_of, with_plain, with_entry, item_step, node_step, shown_of, item_shown, items_shown, entry_layer, entry_of, held_layer, held, held_of, child_of, child_at, and_below, node_at, name_before, names_of, HasDistinctNames, Reached, to_node, to_nothing, to_sealed, named_before, named_in, below_layer, onward, reached, shown_reached}
+use Rattle.wax_directory.specs.Trees.{tree_shows, reached_in}
 
 -- ---- places
 

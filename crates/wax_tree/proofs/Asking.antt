@@ -1,5 +1,5 @@
 -- What a directory tells of a walk, call by call.
-use Rattle.std.proofs.Common.{◌≡◌, ℕ, ◌+◌, ◌≤◌, List, [], ◌∷◌, ◌++◌, refl, sym, ap, subst, arith}
+use Rattle.std.proofs.Common.{◌≡◌, ℕ, ◌≤◌, List, [], ◌∷◌, ◌++◌, refl, sym, ap, subst, arith}
 use Rattle.wax_directory.specs.Told.{Told, with_listing}
 use Rattle.std.specs.Prelude.{Option, Some, None}
 use Rattle.wax_tree.specs.Asks.{Lists, Asks}

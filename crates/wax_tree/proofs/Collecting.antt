@@ -1,6 +1,6 @@
 -- A loop that takes all that a walk gives.
 use Rattle.std.proofs.Common.{◌≡◌, ℕ, ◌+◌, ◌<◌, ◌≤◌, Bool, true, false, cond, length, length-append, List, [], ◌∷◌, ◌++◌, refl, sym, ap, subst, ◌∙◌, append_assoc, inl, inr, arith}
-use Rattle.std.specs.Prelude.{Option, Some, None, Result, Ok, Err, ◌⊎◌, filter}
+use Rattle.std.specs.Prelude.{Some, None, Result, Ok, Err, filter}
 use Rattle.std.proofs.lemmas.List.Elements.{filter-append}
 use Rattle.wax_directory.specs.Told.{Told}
 use Rattle.wax_filter.specs.declared.filter.tree_residue.TreeResidue.{TreeResidue}
@@ -12,9 +12,9 @@ use Rattle.wax_tree.specs.Counts.{CountsAll}
 use Rattle.wax_tree.specs.Entries.{given_outcome, given_residue}
 use Rattle.wax_tree.specs.Fed.{Fed}
 use Rattle.wax_tree.proofs.Counting.{counts_all_more, counts_all_end}
-use Rattle.wax_tree.specs.Forest.{Forest, nothing, item, lists, followed_by, Pending, pending, all_pending, FirstIs, Gives, preorder, listings}
+use Rattle.wax_tree.specs.Forest.{Forest, nothing, item, lists, followed_by, Pending, pending, all_pending, FirstIs, preorder, listings}
 use Rattle.wax_tree.specs.Given.{Given, Facts, entry, fault, no_memory, GivesOrFails}
-use Rattle.wax_tree.specs.Collected.{LacksMemory, GaveUpTo, Gave, GaveAll, Ends, Took, Lacks, is_kept}
+use Rattle.wax_tree.specs.Collected.{Gave, GaveAll, Ends, Took, Lacks, is_kept}
 
 append-nil : {A : Type 0} (xs : List A) → xs ++ [] ≡ xs
 append-nil [] = refl

@@ -1,7 +1,7 @@
-use Rattle.std.proofs.Common.{◌≡◌, ℕ, ◌+◌, ◌≤◌, ◌^◌, ◌-◌, min, arith, subst, sym, refl, List, [], ◌∷◌, ◌++◌}
+use Rattle.std.proofs.Common.{◌≡◌, ℕ, ◌+◌, ◌≤◌, ◌^◌, ◌-◌, min, arith, subst, sym, List, [], ◌∷◌, ◌++◌}
 use Rattle.std.specs.Prelude.{Option, Some, None}
 use Rattle.wax_tree.specs.Given.{Given, Mark, entry, fault, no_memory, with_mark}
-use Rattle.wax_tree.specs.Counts.{GrewBy, Counts, CountsAll, missing_in, failed_in, missing_all, failed_all}
+use Rattle.wax_tree.specs.Counts.{Counts, CountsAll, missing_in, failed_in, missing_all, failed_all}
 
 grew_more : (m n a b c limit : ℕ) → min (a + m) limit ≤ b → min (b + n) limit ≤ c → min (a + (m + n)) limit ≤ c
 grew_more m n a b c limit h k = omega arith

@@ -1,5 +1,5 @@
 -- What comes after a filter, from what comes before it.
-use Rattle.std.proofs.Common.{◌≡◌, ℕ, Bool, true, false, cond, List, [], ◌∷◌, ◌++◌, refl, sym, ap, subst, ◌∙◌}
+use Rattle.std.proofs.Common.{◌≡◌, ℕ, Bool, true, false, cond, List, [], ◌∷◌, ◌++◌, refl, ap, subst, ◌∙◌}
 use Rattle.std.specs.Prelude.{Option, Some, None}
 use Rattle.std.proofs.Common.{inl, inr}
 use Rattle.wax_tree.specs.Given.{Facts, Mark, Given, entry, fault, no_memory, GivesOrFails, FilteredComes, said, with_mark, is_cut, changed_by, cut_by}

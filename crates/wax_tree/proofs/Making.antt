@@ -1,22 +1,20 @@
 -- A walk, when it is made and where memory was wanted for its start.
-use Rattle.std.proofs.Common.{◌≡◌, ℕ, ◌+◌, ◌<◌, ◌≤◌, Bool, true, false, cond, List, [], refl, sym, ap, subst, ◌∙◌, arith, inl, inr, string_bytes}
-use Rattle.std.specs.Prelude.{Option, Some, None, String, Result, Ok, Err}
+use Rattle.std.proofs.Common.{◌≡◌, ℕ, ◌<◌, ◌≤◌, Bool, true, false, cond, List, [], refl, sym, ap, subst, ◌∙◌, arith, inl, string_bytes}
+use Rattle.std.specs.Prelude.{Option, Some, None, String}
 use Rattle.std.specs.declared.alloc.Global.{Global}
 use Rattle.wax_directory.specs.Shown.{Items, Shown}
 use Rattle.wax_directory.specs.Told.{Told}
-use Rattle.wax_tree.specs.declared.entry.TreeEntry.{TreeEntry}
-use Rattle.wax_tree.specs.declared.error.WalkError.{WalkError}
 use Rattle.wax_tree.specs.declared.steps.Steps.{Steps}
 use Rattle.wax_tree.specs.declared.walk_tree.WalkTree.{WalkTree}
 use Rattle.wax_tree.specs.Asks.{Lists, Asks}
 use Rattle.wax_tree.specs.Collected.{Ends}
 use Rattle.wax_tree.specs.Counts.{Counts}
 use Rattle.wax_tree.specs.Fed.{Fed}
-use Rattle.wax_tree.specs.Forest.{Forest, nothing, Pending, pending}
+use Rattle.wax_tree.specs.Forest.{nothing, Pending, pending}
 use Rattle.wax_tree.specs.Given.{Given, GivesOrFails, no_memory}
 use Rattle.wax_tree.specs.Lacking.{MayCome, lacks, goes, HasEnded, asks_at_most, gives_at_most}
 use Rattle.wax_tree.specs.Plain.{plain, count_shown}
-use Rattle.wax_tree.specs.Walking.{Comes, HasStopped, allowance}
+use Rattle.wax_tree.specs.Walking.{Comes, HasStopped}
 use Rattle.wax_tree.proofs.Filtering.{gives_said}
 
 module _ {D C : Type 0} (shows : D → List ℕ → Shown → Type 0) (tells : D → List (List ℕ) → Type 0) (holds : D → C → Items → Type 0) where

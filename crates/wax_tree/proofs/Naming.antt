@@ -1,9 +1,9 @@
 -- Names, and paths that a name may follow at once.
-use Rattle.std.proofs.Common.{◌≡◌, ℕ, ◌+◌, ◌-◌, ◌<◌, Bool, true, false, nat_eq, length, zero, suc, List, [], ◌∷◌, refl, sym, ap, ◌∙◌, arith}
-use Rattle.std.specs.Prelude.{Option, Some, None, ◌||◌, slice_index_or}
+use Rattle.std.proofs.Common.{◌≡◌, ℕ, ◌-◌, ◌<◌, Bool, true, false, nat_eq, length, zero, suc, List, [], ◌∷◌, refl, ap, arith}
+use Rattle.std.specs.Prelude.{Some, None, ◌||◌, slice_index_or}
 use Rattle.std.specs.List.{list_any, Contains, slice_get}
 use Rattle.std.proofs.lemmas.Bool.{eqb-true, eq-eqb}
-use Rattle.wax_directory.specs.Shown.{is_open, IsPlain}
+use Rattle.wax_directory.specs.Shown.{is_open}
 
 item_at : (xs : List ℕ) (k : ℕ) → k < length xs → None ≡ slice_get xs k → ⊥
 item_at [] k l h = omega (arith, l)

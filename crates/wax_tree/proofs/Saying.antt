@@ -1,5 +1,5 @@
-use Rattle.std.proofs.Common.{◌≡◌, List, [], ◌∷◌, refl, ap, sym}
-use Rattle.std.specs.Prelude.{Option, Some, None}
+use Rattle.std.proofs.Common.{◌≡◌, [], ◌∷◌, refl}
+use Rattle.std.specs.Prelude.{Option}
 use denote.Ref.{Bor}
 use Rattle.wax_tree.specs.declared.entry.TreeEntry.{TreeEntry}
 use Rattle.wax_tree.specs.declared.iterator.EntryResidue.{EntryResidue}

@@ -11,7 +11,7 @@ use Rattle.wax_directory.specs.Shown.{Items, end, leaf, folder, sealed, misnamed
 use Rattle.wax_directory.specs.Told.{Stays}
 use Rattle.wax_tree.specs.declared.entry.TreeEntry.{TreeEntry}
 use Rattle.wax_tree.specs.declared.error.WalkError.{WalkError}
-use Rattle.wax_tree.specs.declared.error.WalkError.TheVariants.{Fault, Memory}
+use Rattle.wax_tree.specs.declared.error.WalkError.TheVariants.{Memory}
 use Rattle.wax_tree.specs.declared.error.WalkErrorKind.{WalkErrorKind}
 use Rattle.wax_tree.specs.declared.error.WalkErrorKind.TheVariants.{NotFound, Listing, NotText, BadName}
 use Rattle.wax_tree.specs.declared.steps.Folder.{Folder}
@@ -20,7 +20,7 @@ use Rattle.wax_tree.specs.declared.steps.Steps.{Steps}
 use Rattle.wax_tree.specs.declared.steps.Step.{Step}
 use Rattle.wax_tree.specs.declared.steps.Step.TheVariants.{Gives, GoesOn, Ends}
 use Rattle.wax_tree.specs.Forest.{Forest, nothing, item, lists, followed_by, Pending, pending, all_pending, FirstIs}
-use Rattle.wax_tree.specs.Given.{Given, GivesOrFails, entry, fault, no_memory, kept}
+use Rattle.wax_tree.specs.Given.{Given, GivesOrFails, fault, no_memory}
 use Rattle.wax_tree.specs.Collected as E
 use Rattle.wax_tree.specs.Lead.{after_listing, LeadsTo}
 use Rattle.wax_tree.specs.Plain.{count, count_shown, at_depth, plain_entry, contents, found, plain, inside, unlisted}

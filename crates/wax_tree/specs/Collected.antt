@@ -1,6 +1,6 @@
 -- What a walk gave, to its end.
 use Rattle.std.specs.Prelude.{◌≡◌, List, [], ◌∷◌, ◌++◌, ◌⊎◌, Option, Some, None}
-use Rattle.wax_tree.specs.Forest.{Pending, pending, nothing, all_pending, preorder, listings}
+use Rattle.wax_tree.specs.Forest.{Pending, all_pending, preorder, listings}
 use Rattle.std.specs.Prelude.{ℕ, ◌+◌, ◌≤◌, length, Bool, true, false}
 use Rattle.wax_directory.specs.Told.{Told}
 use Rattle.wax_tree.specs.Asks.{Lists}

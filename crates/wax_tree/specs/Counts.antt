@@ -1,7 +1,7 @@
 -- Faults that a walk gives, and those that its directory counts.
-use Rattle.std.specs.Prelude.{◌≡◌, ℕ, ◌+◌, ◌≤◌, ◌^◌, ◌-◌, min, List, [], ◌∷◌, Option, Some, None}
+use Rattle.std.specs.Prelude.{ℕ, ◌+◌, ◌≤◌, ◌^◌, ◌-◌, min, List, [], ◌∷◌, Option, Some}
 use Rattle.wax_tree.specs.declared.error.WalkErrorKind.TheVariants.{NotFound, Listing, NotText}
-use Rattle.wax_tree.specs.Given.{Given, fault, entry, no_memory}
+use Rattle.wax_tree.specs.Given.{Given, fault}
 
 -- a count that stays at the greatest u64 grew by n at least
 abbrev pub GrewBy : ℕ → ℕ → ℕ → Type 0

@@ -1,5 +1,5 @@
 -- What contracts see of entries and of errors.
-use Rattle.std.specs.Prelude.{◌≡◌, List, ℕ, Option, Some, None, Result, Ok, Err, string_bytes}
+use Rattle.std.specs.Prelude.{List, ℕ, Option, Some, None, Result, Ok, Err, string_bytes}
 use Rattle.wax_filter.specs.declared.filter.separation.Separation.{Separation}
 use Rattle.wax_filter.specs.declared.filter.separation.Separation.TheVariants.{Filtrate, Residue}
 use Rattle.wax_filter.specs.declared.filter.tree_residue.TreeResidue.{TreeResidue}

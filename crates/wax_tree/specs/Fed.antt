@@ -1,5 +1,5 @@
 -- What a call of `feed` does.
-use Rattle.std.specs.Prelude.{◌≡◌, ℕ, Option}
+use Rattle.std.specs.Prelude.{ℕ, Option}
 use Rattle.wax_directory.specs.Told.{Told}
 use Rattle.wax_tree.specs.Forest.{Pending}
 use Rattle.wax_tree.specs.Given.{Given, GivesOrFails}

@@ -2,7 +2,7 @@
 use Rattle.std.specs.Prelude.{◌≡◌, ℕ, Bool, true, false, List, Option, Some, None, ◌⊎◌}
 use Rattle.wax_directory.specs.declared.directory.FileType.{FileType}
 use Rattle.wax_tree.specs.declared.error.WalkErrorKind.{WalkErrorKind}
-use Rattle.wax_tree.specs.Forest.{Forest, nothing, item, lists, Pending, Gives, filtered_pending}
+use Rattle.wax_tree.specs.Forest.{Pending, Gives, filtered_pending}
 
 -- an entry: its path, the start of its walk, the names from there joined by `/`, how many they are, and what stands there
 pub record Facts : Type 0 where

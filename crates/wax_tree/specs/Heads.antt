@@ -1,5 +1,5 @@
 -- The first item of a folder, and what it adds to a walk.
-use Rattle.std.specs.Prelude.{◌≡◌, ℕ, ◌+◌, ◌-◌, List}
+use Rattle.std.specs.Prelude.{ℕ, ◌-◌, List}
 use Rattle.wax_directory.specs.declared.directory.FileType.TheVariants.{Folder}
 use Rattle.wax_directory.specs.Shown.{Items, end, leaf, folder, sealed, misnamed, unread, not_text, a_leaf, a_folder, a_sealed, leaf_kind, join}
 use Rattle.wax_tree.specs.declared.error.WalkErrorKind.TheVariants.{Listing, BadName, NotText}

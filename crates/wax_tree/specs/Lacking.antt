@@ -1,5 +1,5 @@
 -- A walk for whose start there may have been no memory.
-use Rattle.std.specs.Prelude.{◌≡◌, ℕ, ◌+◌, cond, List, true, false, ◌⊎◌}
+use Rattle.std.specs.Prelude.{◌≡◌, ℕ, ◌+◌, cond, List, true, false}
 use Rattle.wax_directory.specs.Shown.{Items, Shown}
 use Rattle.wax_tree.specs.declared.walk_tree.WalkTree.{WalkTree}
 use Rattle.wax_tree.specs.Forest.{Pending}

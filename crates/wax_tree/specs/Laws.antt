@@ -1,8 +1,8 @@
 -- Proofs of laws that impls cite.
-use Rattle.std.specs.Prelude.{◌≡◌, refl, List, ℕ, Bool, true, ◌⊎◌}
+use Rattle.std.specs.Prelude.{◌≡◌, List, ℕ, Bool, true, ◌⊎◌}
 use Rattle.std.proofs.Common.{ap, subst, sym, ◌∙◌, inl, inr}
-use Rattle.wax_tree.specs.Forest.{Pending, cancelled, filtered_pending}
-use Rattle.wax_tree.specs.Given.{Given, Facts, Mark, FilteredComes, changed_by, cut_by}
+use Rattle.wax_tree.specs.Forest.{Pending, cancelled}
+use Rattle.wax_tree.specs.Given.{Given, Facts, Mark, FilteredComes}
 
 pub filtered_cancelling : (rule : Facts → Mark) (inner new : Pending Given → Type 0) (q : Pending Given)
     → ((p : Pending Given) → inner p → new (cancelled p)) → FilteredComes inner rule q → FilteredComes new rule (cancelled q)

@@ -1,11 +1,11 @@
 -- The plain walk of what a directory shows.
-use Rattle.std.specs.Prelude.{◌≡◌, ℕ, ◌+◌, ◌-◌, Bool, true, false, cond, List, [], ◌∷◌, ◌++◌, nat_lt}
+use Rattle.std.specs.Prelude.{ℕ, ◌+◌, ◌-◌, cond, List, [], nat_lt}
 use Rattle.wax_directory.specs.declared.directory.FileType.{FileType}
 use Rattle.wax_directory.specs.declared.directory.FileType.TheVariants.{Folder}
 use Rattle.wax_directory.specs.Shown.{Items, end, leaf, folder, sealed, misnamed, unread, not_text, Shown, a_leaf, a_folder, a_sealed, missing, failing, leaf_kind, join}
 use Rattle.wax_tree.specs.declared.error.WalkErrorKind.TheVariants.{NotFound, Listing, BadName, NotText}
 use Rattle.wax_tree.specs.Forest.{Forest, nothing, item, lists, followed_by}
-use Rattle.wax_tree.specs.Given.{Facts, Given, entry, fault, kept}
+use Rattle.wax_tree.specs.Given.{Given, entry, fault, kept}
 
 -- how many items there are in all
 abbrev pub count : Items → ℕ

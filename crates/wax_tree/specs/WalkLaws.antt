@@ -1,12 +1,12 @@
 -- Proofs of the laws of the plain walk.
-use Rattle.std.proofs.Common.{◌≡◌, ℕ, ◌+◌, ◌*◌, ◌≤◌, List, refl, sym, ap, subst, ◌∙◌, arith, inl, inr}
-use Rattle.std.specs.Prelude.{Option, Some, None}
+use Rattle.std.proofs.Common.{◌≡◌, ℕ, ◌≤◌, List, refl, sym, ap, subst, ◌∙◌, arith, inl, inr}
+use Rattle.std.specs.Prelude.{Some, None}
 use Rattle.wax_directory.specs.Shown.{Items, Shown}
 use Rattle.wax_tree.specs.declared.steps.Steps.{Steps}
 use Rattle.wax_tree.specs.declared.walk_tree.WalkTree.{WalkTree}
-use Rattle.wax_tree.specs.Forest.{nothing, Pending, pending, cancelled}
+use Rattle.wax_tree.specs.Forest.{Pending, cancelled}
 use Rattle.wax_tree.specs.Given.{Given}
-use Rattle.wax_tree.specs.Walking.{MatchOption', IsAlone, Comes, HasStopped}
+use Rattle.wax_tree.specs.Walking.{IsAlone, Comes}
 use Rattle.wax_tree.specs.Lacking.{MayCome, lacks, goes, HasEnded, gives_at_most, asks_at_most}
 
 module _ {D C : Type 0} where

@@ -1,5 +1,5 @@
 -- What a walk's state says of what is to come.
-use Rattle.std.specs.Prelude.{◌≡◌, ℕ, ◌+◌, ◌*◌, ◌-◌, ◌<◌, ◌≤◌, Bool, true, false, cond, length, List, [], ◌∷◌, ◌++◌, Option, Some, None, Result, Ok, Err, String, string_bytes, ◌⊎◌}
+use Rattle.std.specs.Prelude.{◌≡◌, ℕ, ◌+◌, ◌*◌, ◌-◌, ◌<◌, ◌≤◌, true, false, cond, length, List, [], ◌∷◌, ◌++◌, Option, Some, None, Result, String, string_bytes, ◌⊎◌}
 use Rattle.std.specs.declared.alloc.Global.{Global}
 use Rattle.wax_directory.specs.declared.directory.FileType.{FileType}
 use Rattle.wax_directory.specs.declared.directory.FileType.TheVariants as F
@@ -11,7 +11,7 @@ use Rattle.wax_tree.specs.declared.steps.Level.{Level}
 use Rattle.wax_tree.specs.declared.steps.Step.{Step}
 use Rattle.wax_tree.specs.declared.steps.Step.TheVariants.{Gives, GoesOn, Ends}
 use Rattle.wax_tree.specs.declared.steps.Steps.{Steps}
-use Rattle.wax_tree.specs.Forest.{Forest, nothing, lists, followed_by, Pending, pending, all_pending, FirstIs}
+use Rattle.wax_tree.specs.Forest.{Forest, nothing, lists, followed_by, Pending, all_pending, FirstIs}
 use Rattle.wax_tree.specs.Given.{Given, no_memory}
 use Rattle.wax_tree.specs.Entries.{facts_of, given_outcome}
 use Rattle.wax_tree.specs.Plain.{count, count_shown, inside, unlisted, plain}

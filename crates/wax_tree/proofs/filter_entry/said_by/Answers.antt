@@ -1,4 +1,4 @@
-use Rattle.std.proofs.Common.{◌∙◌, sym, refl, ap}
+use Rattle.std.proofs.Common.{◌∙◌, sym, ap}
 use Rattle.wax_filter.specs.Leaving.{residue_item}
 use Rattle.wax_tree.proofs.Saying.{says_now, said_residue}
 use Rattle.wax_tree.proofs.filter_entry.said_by.Goals as goal

@@ -2,7 +2,7 @@ use Rattle.std.proofs.Common.{rules}
 use Rattle.std.specs.Prelude.{Some, None}
 use Rattle.std.proofs.lemmas.List.{map-append}
 use Rattle.wax_tree.specs.Entries.{given_of}
-use Rattle.wax_tree.proofs.Collecting.{taking_none, taking_more, taking_end}
+use Rattle.wax_tree.proofs.Collecting.{taking_more, taking_end}
 use Rattle.wax_tree.proofs.gather.collect_feed.Goals as goal
 
 pub loop-item-preserved : goal.loop-item-preserved

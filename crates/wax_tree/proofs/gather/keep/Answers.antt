@@ -1,4 +1,4 @@
-use Rattle.std.proofs.Common.{refl, sym, ap, ◌∙◌}
+use Rattle.std.proofs.Common.{refl}
 use Rattle.std.proofs.lemmas.List.{map-append}
 use Rattle.wax_tree.proofs.Collecting.{outcome_kept, residue_left}
 use Rattle.wax_tree.proofs.gather.keep.Goals as goal

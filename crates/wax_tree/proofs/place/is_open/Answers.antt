@@ -1,4 +1,3 @@
-use Rattle.std.proofs.Common.{◌∙◌, sym}
 use Rattle.wax_tree.proofs.Naming.{open_none, open_some}
 use Rattle.wax_tree.proofs.place.is_open.Goals as goal
 

@@ -1,4 +1,4 @@
-use Rattle.std.proofs.Common.{◌≡◌, List, [], map, Some, Ok, ap, ◌∙◌}
+use Rattle.std.proofs.Common.{map, Ok, ap, ◌∙◌}
 use Rattle.wax_directory.specs.Places.{reached_at}
 use Rattle.wax_directory.specs.Nodes.{reached}
 use Rattle.wax_directory.proofs.Finding.{step_reached, step_placed}

@@ -1,7 +1,7 @@
 use Rattle.std.proofs.Common.{refl, arith}
 use Rattle.std.specs.Prelude.{Some, None}
-use Rattle.wax_tree.specs.Forest.{Pending, filtered_pending}
-use Rattle.wax_tree.specs.Given.{Given, FilteredComes, changed_by, cut_by}
+use Rattle.wax_tree.specs.Forest.{filtered_pending}
+use Rattle.wax_tree.specs.Given.{FilteredComes, changed_by, cut_by}
 use Rattle.wax_tree.specs.Entries.{given_of}
 use Rattle.wax_tree.proofs.Asking.{asks_marked}
 use Rattle.wax_tree.proofs.Counting.{counts_marked}

@@ -1,6 +1,6 @@
-use Rattle.std.proofs.Common.{inr, arith, refl, sym, subst, string_bytes, ◌≤◌, List, ℕ, []}
+use Rattle.std.proofs.Common.{inr, arith, refl, sym, subst, string_bytes, ◌≤◌}
 use Rattle.wax_tree.specs.Asks.{Lists}
-use Rattle.wax_tree.specs.Walking.{Comes, StepIs, allowance}
+use Rattle.wax_tree.specs.Walking.{Comes, StepIs}
 use Rattle.wax_tree.proofs.Asking.{lists_same, asks_failed}
 use Rattle.wax_tree.proofs.Stepping.{begins, begins_missing, begins_failing, rests_moved, comes_rest}
 use Rattle.wax_tree.proofs.steps.Steps.begin.Goals as goal

@@ -1,6 +1,5 @@
-use Rattle.std.proofs.Common.{inl, inr, arith, refl, sym, subst, string_bytes, ◌≤◌, List, ℕ}
+use Rattle.std.proofs.Common.{inl, inr, arith, refl, string_bytes}
 use Rattle.wax_tree.specs.Asks.{Lists}
-use Rattle.wax_tree.specs.Walking.{allowance}
 use Rattle.wax_tree.proofs.Asking.{lists_more, asks_listing, asks_failed}
 use Rattle.wax_tree.proofs.Stepping.{enters, enters_sealed, rests_moved}
 use Rattle.wax_tree.proofs.steps.Steps.enter.Goals as goal

@@ -1,4 +1,4 @@
-use Rattle.std.proofs.Common.{rules, ◌≡◌, ◌+◌, ◌∙◌, sym, subst, refl, arith, true}
+use Rattle.std.proofs.Common.{rules, ◌≡◌, ◌+◌, subst, refl}
 use Rattle.wax_directory.specs.declared.directory.FileType.TheVariants.{Folder}
 use Rattle.wax_tree.specs.Walking.{HasKind}
 use Rattle.wax_tree.proofs.Stepping.{enters_later}

@@ -1,4 +1,4 @@
-use Rattle.std.proofs.Common.{rules, inr, arith, ◌∙◌, ap, string_bytes}
+use Rattle.std.proofs.Common.{inr, arith, ◌∙◌, ap, string_bytes}
 use Rattle.wax_tree.specs.Asks.{Lists}
 use Rattle.wax_tree.proofs.Stepping.{goes_silently, gives_entry}
 use Rattle.wax_tree.proofs.steps.Steps.give.Goals as goal

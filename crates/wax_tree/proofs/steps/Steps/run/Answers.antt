@@ -1,4 +1,4 @@
-use Rattle.std.proofs.Common.{inl, inr, refl, arith, ◌≤◌}
+use Rattle.std.proofs.Common.{inr, refl, arith}
 use Rattle.wax_tree.specs.Asks.{Lists}
 use Rattle.wax_tree.specs.Walking.{Comes}
 use Rattle.wax_tree.proofs.Asking.{asks_then}

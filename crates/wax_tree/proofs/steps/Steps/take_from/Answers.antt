@@ -1,4 +1,4 @@
-use Rattle.std.proofs.Common.{arith, ap, string_bytes, ◌≡◌, ◌≤◌, ◌+◌, ◌∙◌, length-append, length, ◌-◌}
+use Rattle.std.proofs.Common.{arith, ap, string_bytes, ◌≡◌, ◌+◌, ◌∙◌, length-append, length, ◌-◌}
 use Rattle.wax_directory.specs.Answers.{listed_of}
 use Rattle.wax_directory.specs.Shown.{rest_of}
 use Rattle.wax_tree.specs.Asks.{Lists}

@@ -1,4 +1,4 @@
-use Rattle.std.proofs.Common.{arith, string_bytes, ◌≤◌, refl, sym}
+use Rattle.std.proofs.Common.{arith, string_bytes, ◌≤◌, refl}
 use Rattle.wax_tree.specs.Asks.{Lists}
 use Rattle.wax_tree.specs.Walking.{Comes}
 use Rattle.wax_tree.specs.declared.error.WalkErrorKind.TheVariants.{Listing, NotText, BadName}

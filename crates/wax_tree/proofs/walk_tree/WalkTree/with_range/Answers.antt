@@ -1,4 +1,4 @@
-use Rattle.std.proofs.Common.{refl, sym, ◌∙◌, ap, subst, arith, false}
+use Rattle.std.proofs.Common.{refl, arith, false}
 use Rattle.std.specs.Prelude.{Some, None}
 use Rattle.wax_tree.specs.Asks.{Lists}
 use Rattle.wax_tree.specs.Lacking.{goes, lacks}

@@ -1,5 +1,4 @@
-use Rattle.std.proofs.Common.{refl, arith}
-use Rattle.wax_tree.proofs.Making.{fed_on, fed_lacking, lacking_goes}
+use Rattle.wax_tree.proofs.Making.{fed_on, lacking_goes}
 use Rattle.wax_tree.proofs.walk_tree.WalkTreeSeparatingFilter.feed.Goals as goal
 
 pub returns-in_err-item-clause-steps : goal.returns-in_err-item-clause-steps
