@@ -1,0 +1,40 @@
+//! How a walk is printed.
+
+ghost use Rattle.std.specs.Iterator.{IsFinite};
+
+use std::io::{self, ErrorKind};
+use wax_directory::tree::Tree;
+use wax_tree::{Entry, FileIterator, TreeEntry, WalkError, collect};
+
+/// An entry by its path, an error in brackets.
+pub fn print_item<E: Entry>(rt: &HostRuntime, item: &Result<E, WalkError>) -> io::Result<()> {
+    match item {
+        Ok(entry) => print!(rt; " \"{}\"", entry.path()),
+        Err(error) => print!(rt; " [{error}; {}]", error.depth()),
+    }
+}
+
+fn print_tree(rt: &HostRuntime, tree: &Tree) -> io::Result<()> {
+    print!(rt; "; listed")?;
+    for path in tree.listed() {
+        print!(rt; " \"{path}\"")?;
+    }
+    println!(rt; "; asked {}", tree.asked())
+}
+
+/// All that is kept of a walk, and what its tree tells.
+pub fn print_walk<I>(rt: &HostRuntime, name: &str, walk: I) -> io::Result<()>
+where
+    I: FileIterator<Entry = TreeEntry, Residue = TreeEntry, Directory = Tree>,
+    requires can { I.can_feed walk }
+    requires ends { IsFinite (I.left walk) }
+{
+    let Ok((items, tree)) = collect(rt.alloc(), walk) else {
+        return Err(io::Error::from(ErrorKind::OutOfMemory));
+    };
+    print!(rt; "{name}:")?;
+    for item in &items {
+        print_item(rt, item)?;
+    }
+    print_tree(rt, &tree)
+}
