@@ -7,3 +7,4 @@ pub mod Counting
 pub mod Asking
 pub mod Naming
 pub mod Making
+pub mod Kept

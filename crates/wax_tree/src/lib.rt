@@ -8,6 +8,7 @@ mod gather;
 mod iterator;
 mod path_ext;
 mod place;
+mod plain;
 mod rule;
 mod steps;
 mod walk_tree;
@@ -18,6 +19,7 @@ pub use filter_entry::FilterEntry;
 pub use gather::{collect, collect_feed};
 pub use iterator::{EntryResidue, FileIterator};
 pub use path_ext::PathExt;
+pub use plain::entries;
 pub use rule::{Rule, Without};
 pub use walk_tree::{TreeFeed, WalkTree};
 pub use wax_behavior::{

@@ -47,7 +47,7 @@ fn greatest_or_all(depth: &DepthBehavior) -> usize
 }
 
 // The walk from a path.
-fn walk_from<D: Directory>(
+pub(crate) fn walk_from<D: Directory>(
     alloc: Global,
     directory: D,
     start: &str,
