@@ -1,6 +1,6 @@
 # make globs: proves and builds the program, and leaves it as ./globs
 # make test:  proves everything from nothing and runs all tests
-# make bench: times matches and ./globs beside grep on the paths of this machine (docs/BENCH.md)
+# make bench: times matches and ./globs beside grep, and walks beside find, on this machine (docs/BENCH.md)
 
 .PHONY: globs test bench
 
@@ -14,4 +14,6 @@ test:
 
 bench: globs
 	cd crates/wax_bench && rt run </dev/null
+	cd crates/wax_walk_bench && rt run </dev/null
 	bench/run
+	bench/walk

@@ -8,6 +8,9 @@ ghost use Rattle.wax_behavior.specs.declared.DepthBehavior.TheVariants.{Unbounde
 
 use std::num::NonZeroUsize;
 
+#[cfg(test)]
+mod tests;
+
 /// Gives entries of at least this depth, which isn't 0.
 #[derive(Clone, Copy, Debug, Eq, PartialEq)]
 pub struct DepthMin(pub NonZeroUsize);
