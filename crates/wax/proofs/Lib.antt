@@ -1,3 +1,4 @@
+pub mod AnyCase
 pub mod Whole
 pub mod MeantEdges
 pub mod MeantPieces

@@ -1,11 +1,11 @@
 -- How meant texts begin and end.
-use Rattle.std.proofs.Common.{◌≡◌, ℕ, zero, suc, ◌+◌, ◌-◌, ◌<◌, ◌≤◌, inl, inr, Bool, true, false, List, [], ◌∷◌, ◌++◌, length, drop, get_or, Option, Some, None, slice_get, chars, encode_utf8_all, refl, sym, ◌∙◌, ap, subst, arith, append_assoc, append-nil, drop-cons}
+use Rattle.std.proofs.Common.{◌≡◌, ℕ, zero, suc, ◌+◌, ◌-◌, ◌<◌, ◌≤◌, inl, inr, Bool, true, false, List, [], ◌∷◌, ◌++◌, length, drop, get_or, Some, None, slice_get, chars, encode_utf8_all, refl, sym, ◌∙◌, ap, subst, arith, append_assoc, append-nil, drop-cons}
 use Rattle.std.proofs.lemmas.List.{drop_all}
 use Rattle.std.specs.Str.{IsUtf8}
 use Rattle.std.proofs.lemmas.Str.{encodes-chars, encodes-append}
 use Rattle.wax_token.specs.Meaning.{Means, MeansEach, MeansSome, SameText}
 use Rattle.wax_token.specs.Reads.{Span}
-use Rattle.wax_token.specs.Syntax.{Tree, leaf, literal, tree_size, trees_size}
+use Rattle.wax_token.specs.Syntax.{Tree, tree_size, trees_size}
 use Rattle.wax_token.specs.Words.{trees}
 
 pub same_text : (t s : List ℕ) → SameText false t s → s ≡ t
@@ -13,6 +13,10 @@ same_text [] [] h = refl
 same_text [] (d ∷ s) h = absurd h
 same_text (c ∷ t) [] h = absurd h
 same_text (c ∷ t) (d ∷ s) h = λ i. sym h.0 i ∷ same_text t s h.1 i
+
+-- the same of a flag and a text that are seen otherwise
+pub as_seen : (b d : Bool) (t u s : List ℕ) → b ≡ d → u ≡ t → SameText b t s → SameText d u s
+as_seen b d t u s e f h = subst (λ v. SameText d v s) (sym f) (subst (λ v. SameText v t s) e h)
 
 same_some : (t u : Tree Span) → Some t ≡ Some u → t ≡ u
 same_some t u e = cc

@@ -1,9 +1,10 @@
 //! How meant texts begin, where nothing is written before them.
 ghost use Rattle.std.specs.Prelude.{◌≡◌, ℕ, Bool, IsTrue, List, ◌++◌, chars, true, false};
-ghost use Rattle.wax_token.specs.Meaning.{LeafMeans, Means, MeansEach, MeansSome};
+ghost use Rattle.wax_token.specs.Meaning.{LeafMeans, Means, MeansEach, MeansSome, SameText};
 ghost use Rattle.wax_token.specs.View.{leaf_of};
 ghost use Rattle.wax_token.specs.Words.{trees};
 
+use crate::any_case::begins_in_any_case;
 use wax_token::token::{
     BranchKind, ExpressionMetadata, LeafKind, Literal, Token, Topology, Wildcard,
 };
@@ -64,10 +65,13 @@ fn can_begin_with_leaf(leaf: &LeafKind<'_>, text: &str) -> bool
     }
 }
 
-/// Whether the text begins with the literal, if that is of one case.
+/// Whether the text begins with the literal.
 fn starts_with(text: &str, literal: &Literal<'_>) -> bool
-    ensures folded { literal.now.0 ≡ true → IsTrue result }
-    ensures plain { literal.now.0 ≡ false → (x : List ℕ) → chars text.now ≡ literal.now.1 ++ x → IsTrue result }
+    ensures { (x y : List ℕ) → chars text.now ≡ x ++ y → SameText literal.now.0 literal.now.1 x → IsTrue result }
 {
-    literal.is_case_insensitive() || text.as_bytes().starts_with(literal.text().as_bytes())
+    let beginning = literal.text();
+    if literal.is_case_insensitive() {
+        return begins_in_any_case(text, beginning);
+    }
+    text.as_bytes().starts_with(beginning.as_bytes())
 }

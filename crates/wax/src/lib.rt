@@ -1,6 +1,7 @@
 //! Globs: path expressions that are read, checked, compiled and matched.
 #![tactic(auto)]
 
+mod any_case;
 mod beginnings;
 mod build_error;
 mod edges;

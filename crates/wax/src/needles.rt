@@ -1,9 +1,10 @@
 //! What meant texts hold, wherever it stands in them.
 ghost use Rattle.std.specs.Prelude.{◌≡◌, ℕ, Bool, IsTrue, List, ◌++◌, chars, true, false};
-ghost use Rattle.wax_token.specs.Meaning.{LeafMeans, Means, MeansEach, MeansSome};
+ghost use Rattle.wax_token.specs.Meaning.{LeafMeans, Means, MeansEach, MeansSome, SameText};
 ghost use Rattle.wax_token.specs.View.{leaf_of};
 ghost use Rattle.wax_token.specs.Words.{trees};
 
+use crate::any_case::holds_in_any_case;
 use wax_token::token::{BranchKind, ExpressionMetadata, LeafKind, Literal, Token, Topology};
 
 /// Whether the text holds the literals of each text that the tokens mean, one after another, within it.
@@ -60,10 +61,13 @@ fn can_hold_leaf(leaf: &LeafKind<'_>, text: &str) -> bool
     }
 }
 
-/// Whether the text holds the literal, if that is of one case.
+/// Whether the text holds the literal.
 fn holds(text: &str, literal: &Literal<'_>) -> bool
-    ensures folded { literal.now.0 ≡ true → IsTrue result }
-    ensures plain { literal.now.0 ≡ false → (x z : List ℕ) → chars text.now ≡ x ++ (literal.now.1 ++ z) → IsTrue result }
+    ensures { (x y z : List ℕ) → chars text.now ≡ x ++ (y ++ z) → SameText literal.now.0 literal.now.1 y → IsTrue result }
 {
-    literal.is_case_insensitive() || text.contains(literal.text())
+    let held = literal.text();
+    if literal.is_case_insensitive() {
+        return holds_in_any_case(text, held);
+    }
+    text.contains(held)
 }

@@ -59,8 +59,9 @@ impl Test {
     }
 }
 
+/// Whether the simple folding of the character `c` is `d`.
 #[inline]
-fn folds_to(c: char, d: char) -> bool
+pub fn folds_to(c: char, d: char) -> bool
     ensures { IsTrue result ↔ (d ≡ simple_fold c) }
 {
     if c.is_ascii() {

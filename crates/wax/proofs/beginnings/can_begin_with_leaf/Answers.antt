@@ -1,19 +1,15 @@
-use Rattle.std.proofs.Common.{◌≡◌, ◌∙◌, ap, refl, rules, subst, Bool, true, false, List, ℕ, [], ◌∷◌, ◌++◌, encode_utf8_all, IsTrue}
+use Rattle.std.proofs.Common.{◌≡◌, ◌∙◌, rules, subst, Bool, true, false, List, ℕ, [], ◌∷◌, ◌++◌, encode_utf8_all}
 use Rattle.std.proofs.lemmas.Bool.Decides.{Decides-eqb}
 use Rattle.std.proofs.lemmas.Slice.Eq.{starts_is}
 use Rattle.wax_token.specs.Meaning.{Begins, LeafMeans, SameText, TreeMeans}
 use Rattle.wax_token.specs.View.{wildcard_leaf}
-use Rattle.wax.proofs.MeantEdges.{same_text, slash_begin}
+use Rattle.wax.proofs.MeantEdges.{slash_begin}
 use Rattle.wax.proofs.beginnings.can_begin_with_leaf.Goals as goal
 
 pub returns-in-Literal : goal.returns-in-Literal
 returns-in-Literal c = λ after x y e h.
     let m : SameText c.in-Literal.literal.0 c.in-Literal.literal.1 x = rw c.in-Literal.is at h in
-    let by : (b : Bool) → c.in-Literal.literal.0 ≡ b → SameText b c.in-Literal.literal.1 x → IsTrue c.starts_with.result = λ b. elim b as (λ b. c.in-Literal.literal.0 ≡ b → SameText b c.in-Literal.literal.1 x → IsTrue c.starts_with.result) [
-      | true ↦ λ q k. c.starts_with.ensures.folded q
-      | false ↦ λ q k. c.starts_with.ensures.plain q y (e ∙ ap (λ z. z ++ y) (same_text c.in-Literal.literal.1 x k))
-    ] in
-    by c.in-Literal.literal.0 refl m
+    c.starts_with.ensures x y e m
 
 pub returns-in-Separator : goal.returns-in-Separator
 returns-in-Separator c = λ after x y e h.
