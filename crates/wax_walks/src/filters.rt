@@ -6,7 +6,8 @@ use std::io;
 use wax_filter::filter::CancelWalk;
 use wax_tree::{Entry, EntryResidue, FileIterator, PathExt, TreeEntry};
 
-fn leaves_out(entry: &TreeEntry, path: &str, residue: EntryResidue) -> Option<EntryResidue> {
+/// Leaves out what stands at the path.
+pub fn leaves_out(entry: &TreeEntry, path: &str, residue: EntryResidue) -> Option<EntryResidue> {
     if entry.path() == path {
         Some(residue)
     } else {

@@ -3,6 +3,7 @@
 #![tactic(auto)]
 
 mod faults;
+mod feeds;
 mod filters;
 mod plain;
 mod printed;
@@ -19,5 +20,8 @@ fn main(rt: HostRuntime) -> io::Result<()> {
     faults::print_failing(&rt)?;
     faults::print_starving(&rt)?;
     filters::print_rows(&rt)?;
-    filters::print_cancelling(&rt)
+    filters::print_cancelling(&rt)?;
+    feeds::print_rows(&rt)?;
+    feeds::print_rules(&rt)?;
+    feeds::print_whole(&rt)
 }

@@ -14,7 +14,12 @@ pub fn print_item<E: Entry>(rt: &HostRuntime, item: &Result<E, WalkError>) -> io
     }
 }
 
-fn print_tree(rt: &HostRuntime, tree: &Tree) -> io::Result<()> {
+pub fn no_memory() -> io::Error {
+    io::Error::from(ErrorKind::OutOfMemory)
+}
+
+/// The paths that were listed, and how many items were asked for.
+pub fn print_tree(rt: &HostRuntime, tree: &Tree) -> io::Result<()> {
     print!(rt; "; listed")?;
     for path in tree.listed() {
         print!(rt; " \"{path}\"")?;
@@ -30,7 +35,7 @@ where
     requires ends { IsFinite (I.left walk) }
 {
     let Ok((items, tree)) = collect(rt.alloc(), walk) else {
-        return Err(io::Error::from(ErrorKind::OutOfMemory));
+        return Err(no_memory());
     };
     print!(rt; "{name}:")?;
     for item in &items {
