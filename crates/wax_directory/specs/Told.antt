@@ -1,5 +1,5 @@
 -- What a directory counts and tells of the calls that were made, and what no call changes.
-use Rattle.std.specs.Prelude.{◌≡◌, ℕ, ◌+◌, ◌^◌, ◌-◌, min, List, [], ◌∷◌, ◌++◌, Option, Some, None, Result, Ok, Err}
+use Rattle.std.specs.Prelude.{◌≡◌, ℕ, ◌+◌, ◌^◌, ◌-◌, min, List, [], ◌∷◌, ◌++◌, ◌⊎◌, Option, Some, None, Result, Ok, Err}
 use Rattle.wax_query.specs.declared.diagnostics.NoMemory.{NoMemory}
 use Rattle.wax_directory.specs.declared.directory.FileType.{FileType}
 use Rattle.wax_directory.specs.declared.directory.ListItem.{ListItem}
@@ -28,11 +28,6 @@ failed_item_in (Ok (Some I.Failed)) = 1
 failed_item_in (Ok (Some I.NotText)) = 1
 failed_item_in r = 0
 
--- memory wasn't refused
-abbrev pub IsAnswer : {A : Type 0} → Result A DirectoryFault → Type 0
-IsAnswer (Err Memory) = ⊥
-IsAnswer r = Unit {0}
-
 -- the folders that were opened, in order, and how many items were given
 pub record Told : Type 0 where
   pub listed : List (List ℕ)
@@ -40,6 +35,11 @@ pub record Told : Type 0 where
 
 abbrev pub with_listing : List ℕ → Told → Told
 with_listing path t = record { listed = t.listed ++ path ∷ []; asked = t.asked }
+
+-- after this answer to `open`, of what was told; where memory was refused, the folder may be told or not
+abbrev pub TellsOpened : {A : Type 0} → (Told → Type 0) → List ℕ → Result A DirectoryFault → Told → Type 0
+TellsOpened tells path (Err Memory) t = tells t ⊎ tells (with_listing path t)
+TellsOpened tells path r t = tells (with_listing path t)
 
 abbrev pub with_item : Result (Option ListItem) NoMemory → Told → Told
 with_item (Ok (Some x)) t = record { listed = t.listed; asked = t.asked + 1 }

@@ -50,7 +50,7 @@ pub enum ListItem {
 /// the counts alone.
 pub trait Directory: Drop {
     ghost use Rattle.wax_directory.specs.Answers.{KindIs, Opens, NextIs};
-    ghost use Rattle.wax_directory.specs.Told.{Grows, Stays, IsAnswer, missed_in, failed_in, failed_item_in, with_listing, with_item};
+    ghost use Rattle.wax_directory.specs.Told.{Grows, Stays, TellsOpened, missed_in, failed_in, failed_item_in, with_item};
 
     /// A folder that is being listed.
     type Cursor: Drop;
@@ -84,7 +84,7 @@ pub trait Directory: Drop {
     fn open(&mut self, alloc: Global, path: &str) -> Result<Self::Cursor, DirectoryFault>
         ensures opens { (s : Shown) → shows self.old path.now s → Opens (holds self.new) s result }
         ensures stays { Stays shows holds self.old self.new }
-        ensures told { (t : Told) → tells self.old t → IsAnswer result → tells self.new (with_listing path.now t) }
+        ensures told { (t : Told) → tells self.old t → TellsOpened (tells self.new) path.now result t }
         ensures missed { missed self.new ≡ missed self.old }
         ensures failed { Grows (failed_in result) (failed self.old) (failed self.new) };
 

@@ -13,8 +13,8 @@ use Rattle.wax_tree.specs.Entries.{given_outcome, given_residue}
 use Rattle.wax_tree.specs.Fed.{Fed}
 use Rattle.wax_tree.proofs.Counting.{counts_all_more, counts_all_end}
 use Rattle.wax_tree.specs.Forest.{Forest, nothing, item, lists, followed_by, Pending, pending, all_pending, FirstIs, preorder, listings}
-use Rattle.wax_tree.specs.Given.{Given, Facts, entry, fault, no_memory, GivesOrFails}
-use Rattle.wax_tree.specs.Collected.{Gave, GaveAll, Ends, Took, Lacks, is_kept}
+use Rattle.wax_tree.specs.Given.{Given, Facts, no_memory, GivesOrFails}
+use Rattle.wax_tree.specs.Collected.{Gave, GaveAll, Ends, Took, is_kept}
 
 append-nil : {A : Type 0} (xs : List A) → xs ++ [] ≡ xs
 append-nil [] = refl
@@ -95,24 +95,12 @@ not_ended x before after h b = let w : Some x ≡ None = (h.stays b).0 in cc
 
 -- ---- a loop over a walk
 
-lacks_before : (xs : List Given) (x : Given) → Lacks xs → Lacks (xs ++ x ∷ [])
-lacks_before [] x h = absurd h
-lacks_before (no_memory ∷ xs) x h = tt
-lacks_before (entry m f ∷ xs) x h = lacks_before xs x h
-lacks_before (fault kind path depth ∷ xs) x h = lacks_before xs x h
-
-lacks_last : (xs : List Given) (x : Given) → Some x ≡ Some no_memory → Lacks (xs ++ x ∷ [])
-lacks_last [] x h = let e : no_memory ≡ x = cc in subst (λ v. Lacks (v ∷ [])) e tt
-lacks_last (no_memory ∷ xs) x h = tt
-lacks_last (entry m f ∷ xs) x h = lacks_last xs x h
-lacks_last (fault kind path depth ∷ xs) x h = lacks_last xs x h
-
 -- these items were given, and `now` holds of what is to come
 pub record Taking {D : Type 0} (tells : D → Told → Type 0) (missed failed : D → ℕ) (comes now : Pending Given → Type 0) (ended : Type 0) (old new : D) (allowed left most less : ℕ) (xs : List Given) : Type 0 where
   pub gave : (p : Pending Given) → comes p → Gave now ended p xs
   pub few : length xs + less ≤ most
   pub counted : CountsAll missed failed old xs new
-  pub asked : (t : Told) → tells old t → ¬ (Lacks xs) → (u : Told) × tells new u × (u.asked + left ≤ t.asked + allowed)
+  pub asked : (t : Told) → tells old t → (u : Told) × tells new u × (u.asked + left ≤ t.asked + allowed)
 
 module _ {D : Type 0} (tells : D → Told → Type 0) (missed failed : D → ℕ) (comes before after : Pending Given → Type 0) (ended ended_now : Type 0) (old mid new : D) (allowed between left most less fewer : ℕ) (xs : List Given) where
   pub taking_more : (x : Given) → Taking tells missed failed comes before ended old mid allowed between most less xs → Fed tells missed failed before after mid new between left ended ended_now (Some x) → fewer < less
@@ -121,9 +109,9 @@ module _ {D : Type 0} (tells : D → Told → Type 0) (missed failed : D → ℕ
     gave = λ p c. gave_more before after ended ended_now p xs x (h.gave p c) (λ e. not_ended x ended ended_now f.ends e) (λ q i. f.gives q i) (λ e. f.ends.at_failure (ap Some e));
     few = let n = length-append xs (x ∷ []) in omega (arith, h.few, l, n);
     counted = counts_all_more missed failed old mid new xs x h.counted f.counts;
-    asked = λ t k n.
-        let u = h.asked t k (λ w. n (lacks_before xs x w)) in
-        let v = f.asks.asked u.0 u.1 (λ w. n (lacks_last xs x w)) in
+    asked = λ t k.
+        let u = h.asked t k in
+        let v = f.asks.asked u.0 u.1 in
         (v.0, v.1, omega (arith, u.2, v.2));
   }
 
@@ -133,9 +121,9 @@ module _ {D : Type 0} (tells : D → Told → Type 0) (missed failed : D → ℕ
     all = λ p c. gave_all before after (Lists tells new) ended p xs (h.gave p c) (λ q i. f.gives q i) t;
     few = omega (arith, h.few);
     counted = counts_all_end missed failed old mid new xs h.counted f.counts;
-    asked = λ t k n.
-        let u = h.asked t k n in
-        let v = f.asks.asked u.0 u.1 (λ w. (cc)) in
+    asked = λ t k.
+        let u = h.asked t k in
+        let v = f.asks.asked u.0 u.1 in
         (v.0, v.1, omega (arith, u.2, v.2));
   }
 
@@ -145,7 +133,7 @@ taking_none tells missed failed comes ended d allowed most = record {
   gave = λ p c. inr (p, (c, refl, refl));
   few = omega arith;
   counted = record { missed = omega arith; failed = omega arith };
-  asked = λ t k n. (t, k, omega arith);
+  asked = λ t k. (t, k, omega arith);
 }
 
 -- ---- what is kept of it

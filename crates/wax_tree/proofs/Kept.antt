@@ -1,13 +1,13 @@
 -- A plain walk leaves nothing out.
 use Rattle.std.specs.Prelude.{Result, Ok, Err, IfOk}
-use Rattle.std.proofs.Common.{◌≡◌, ℕ, ◌+◌, Bool, true, false, cond, List, [], ◌∷◌, ◌++◌, filter, nat_lt, refl, sym, ◌∙◌, ap, subst, ◌⊎◌, inl, inr}
+use Rattle.std.proofs.Common.{◌≡◌, ℕ, ◌+◌, Bool, true, false, cond, List, [], ◌∷◌, ◌++◌, filter, nat_lt, refl, sym, ◌∙◌, ap, subst, inl, inr}
 use Rattle.wax_directory.specs.Shown.{Items, end, leaf, folder, sealed, misnamed, unread, not_text, Shown, a_leaf, a_folder, a_sealed, missing, failing, leaf_kind, join}
 use Rattle.wax_directory.specs.declared.directory.FileType.{FileType}
 use Rattle.wax_directory.specs.declared.directory.FileType.TheVariants.{Folder}
-use Rattle.wax_tree.specs.Collected.{LacksMemory, GaveAll, is_kept}
+use Rattle.wax_tree.specs.Collected.{GaveAll, is_kept}
 use Rattle.wax_tree.specs.Forest.{Forest, nothing, item, lists, followed_by, preorder, Pending, pending, all_pending}
 use Rattle.wax_tree.specs.Given.{Given, no_memory}
-use Rattle.wax_tree.specs.Plain.{at_depth, below_max, unlisted, inside, contents, found, plain}
+use Rattle.wax_tree.specs.Plain.{at_depth, unlisted, inside, contents, found, plain}
 
 -- each item is kept
 abbrev pub AllKept : List Given → Type 0

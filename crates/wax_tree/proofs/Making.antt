@@ -15,6 +15,7 @@ use Rattle.wax_tree.specs.Given.{Given, GivesOrFails, no_memory}
 use Rattle.wax_tree.specs.Lacking.{MayCome, lacks, goes, HasEnded, asks_at_most, gives_at_most}
 use Rattle.wax_tree.specs.Plain.{plain, count_shown}
 use Rattle.wax_tree.specs.Walking.{Comes, HasStopped}
+use Rattle.wax_tree.proofs.Asking.{asks_same}
 use Rattle.wax_tree.proofs.Filtering.{gives_said}
 
 module _ {D C : Type 0} (shows : D → List ℕ → Shown → Type 0) (tells : D → List (List ℕ) → Type 0) (holds : D → C → Items → Type 0) where
@@ -65,6 +66,6 @@ module _ {D C : Type 0} (tells : D → Told → Type 0) (missed failed : D → �
   fed_lacking w v e d is n = record {
     gives = λ p i. inl refl;
     counts = record { missed = rw is (omega arith); failed = rw is (omega arith) };
-    asks = record { asked = λ t k a. absurd (a refl) };
+    asks = rw (is, n) (asks_same tells w.steps.directory (asks_at_most w) (Some no_memory) 0 (omega arith));
     ends = record { at_end = λ i. (d, inl n); at_failure = λ i. (d, inl n); stays = λ i. let x : true ≡ false = sym e ∙ i.0 in (cc) };
   }

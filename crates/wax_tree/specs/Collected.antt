@@ -34,16 +34,10 @@ is_kept (entry kept f) = true
 is_kept (entry m f) = false
 is_kept x = true
 
--- memory was wanted
-abbrev pub Lacks : List Given → Type 0
-Lacks [] = ⊥
-Lacks (no_memory ∷ xs) = Unit {0}
-Lacks (x ∷ xs) = Lacks xs
-
 -- a walk where `comes` holds of what was to come gave these items to its end: all that was to come, unless memory was wanted, and no more than so many;
--- the directory counted the faults, and no more items were taken from listings than were allowed, unless memory was wanted
+-- the directory counted the faults, and no more items were taken from listings than were allowed
 pub record Took {D : Type 0} (tells : D → Told → Type 0) (missed failed : D → ℕ) (comes : Pending Given → Type 0) (old new : D) (allowed most : ℕ) (xs : List Given) : Type 0 where
   pub all : (p : Pending Given) → comes p → GaveAll (Lists tells new) p xs
   pub few : length xs ≤ most
   pub counted : CountsAll missed failed old xs new
-  pub asked : (t : Told) → tells old t → ¬ (Lacks xs) → (u : Told) × tells new u × (u.asked ≤ t.asked + allowed)
+  pub asked : (t : Told) → tells old t → (u : Told) × tells new u × (u.asked ≤ t.asked + allowed)

@@ -78,7 +78,7 @@ pub trait FileIterator: CancelWalk<
     /// The directory counted the faults that were given.
     ghost counting: { (s t : Self) (r : Option (Separation Self.Feed (Result Self.Entry WalkError) (TreeResidue Self.Residue))) → Self.feeds s r t → Counts Self.Directory.missed Self.Directory.failed (walked s) (answer_of Self.Entry.facts Self.Residue.facts r) (walked t) };
 
-    /// The items that were taken from listings were allowed, unless memory was refused.
+    /// The items that were taken from listings were allowed.
     ghost asking: { (s t : Self) (r : Option (Separation Self.Feed (Result Self.Entry WalkError) (TreeResidue Self.Residue))) → Self.feeds s r t → Asks Self.Directory.tells (walked s) (allows s) (answer_of Self.Entry.facts Self.Residue.facts r) (walked t) (allows t) };
 
     /// Cancelling asks nothing.

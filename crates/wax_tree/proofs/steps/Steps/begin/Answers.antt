@@ -1,7 +1,7 @@
 use Rattle.std.proofs.Common.{inr, arith, refl, sym, subst, string_bytes, ◌≤◌}
 use Rattle.wax_tree.specs.Asks.{Lists}
 use Rattle.wax_tree.specs.Walking.{Comes, StepIs}
-use Rattle.wax_tree.proofs.Asking.{lists_same, asks_failed}
+use Rattle.wax_tree.proofs.Asking.{lists_same, asks_none}
 use Rattle.wax_tree.proofs.Stepping.{begins, begins_missing, begins_failing, rests_moved, comes_rest}
 use Rattle.wax_tree.proofs.steps.Steps.begin.Goals as goal
 
@@ -33,4 +33,4 @@ returns-in-Err-Failed-clause-step g c f n listed s r same h e =
     inr (rw (is, same) (refl, comes_rest g.D.Directory.shows tells g.D.Directory.holds (record c.args.self.now { directory = c.kind.new.self }) f n listed rest few))
 
 pub returns-in-Err-Memory-clause-asks : goal.returns-in-Err-Memory-clause-asks
-returns-in-Err-Memory-clause-asks g c = rw c.fail.ensures.memory (asks_failed _ _ _ _ _)
+returns-in-Err-Memory-clause-asks g c = rw c.fail.ensures.ended (asks_none _ _ _ _ _ _ c.in-Err-Memory.ensures.told (omega arith))
