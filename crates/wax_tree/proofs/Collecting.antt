@@ -1,19 +1,22 @@
 -- A loop that takes all that a walk gives.
 use Rattle.std.proofs.Common.{◌≡◌, ℕ, ◌+◌, ◌<◌, ◌≤◌, Bool, true, false, cond, length, length-append, List, [], ◌∷◌, ◌++◌, refl, sym, ap, subst, ◌∙◌, append_assoc, inl, inr, arith}
 use Rattle.std.specs.Prelude.{Some, None, Result, Ok, Err, filter}
-use Rattle.std.proofs.lemmas.List.Elements.{filter-append}
+use Rattle.std.specs.List.{Contains}
+use Rattle.std.proofs.lemmas.List.Elements.{filter-append, Contains-push_cases}
 use Rattle.wax_directory.specs.Told.{Told}
 use Rattle.wax_filter.specs.declared.filter.tree_residue.TreeResidue.{TreeResidue}
 use Rattle.wax_filter.specs.declared.filter.tree_residue.TreeResidue.TheVariants.{Node, Tree}
 use Rattle.wax_tree.specs.declared.error.WalkError.{WalkError}
 use Rattle.wax_tree.specs.declared.error.WalkError.TheVariants.{Fault, Memory}
-use Rattle.wax_tree.specs.Asks.{Lists}
+use Rattle.wax_tree.specs.declared.error.WalkErrorKind.TheVariants.{Budget}
+use Rattle.wax_tree.specs.Asks.{Lists, Takes}
 use Rattle.wax_tree.specs.Counts.{CountsAll}
 use Rattle.wax_tree.specs.Entries.{given_outcome, given_residue}
 use Rattle.wax_tree.specs.Fed.{Fed}
+use Rattle.wax_tree.proofs.Asking.{takes_within, takes_exactly}
 use Rattle.wax_tree.proofs.Counting.{counts_all_more, counts_all_end}
 use Rattle.wax_tree.specs.Forest.{Forest, nothing, item, lists, followed_by, Pending, pending, all_pending, FirstIs, preorder, listings}
-use Rattle.wax_tree.specs.Given.{Given, Facts, no_memory, GivesOrFails}
+use Rattle.wax_tree.specs.Given.{Given, Facts, fault, no_memory, GivesOrFails}
 use Rattle.wax_tree.specs.Collected.{Gave, GaveAll, Ends, Took, is_kept}
 
 append-nil : {A : Type 0} (xs : List A) → xs ++ [] ≡ xs
@@ -95,37 +98,68 @@ not_ended x before after h b = let w : Some x ≡ None = (h.stays b).0 in cc
 
 -- ---- a loop over a walk
 
+contains_none : {A : Type 0} (x : A) → Contains [] x → ⊥
+contains_none x c = omega (arith, c.1)
+
 -- these items were given, and `now` holds of what is to come
 pub record Taking {D : Type 0} (tells : D → Told → Type 0) (missed failed : D → ℕ) (comes now : Pending Given → Type 0) (ended : Type 0) (old new : D) (allowed left most less : ℕ) (xs : List Given) : Type 0 where
   pub gave : (p : Pending Given) → comes p → Gave now ended p xs
   pub few : length xs + less ≤ most
   pub counted : CountsAll missed failed old xs new
-  pub asked : (t : Told) → tells old t → (u : Told) × tells new u × (u.asked + left ≤ t.asked + allowed)
+  pub taken : ℕ
+  pub asked : (t : Told) → tells old t → (u : Told) × tells new u × (u.asked ≡ t.asked + taken)
+  pub within : taken + left ≤ allowed
+  pub exactly : ¬ ended → taken + left ≡ allowed
+  pub spent : (path : List ℕ) (depth : ℕ) → Contains xs (fault Budget path depth) → taken ≡ allowed
 
 module _ {D : Type 0} (tells : D → Told → Type 0) (missed failed : D → ℕ) (comes before after : Pending Given → Type 0) (ended ended_now : Type 0) (old mid new : D) (allowed between left most less fewer : ℕ) (xs : List Given) where
+  -- what was taken, with what a call took that gave an item
+  taken_more : (h k : ℕ) (x : Given) → h + between ≡ allowed → Takes (Some x) between k left → h + k + left ≤ allowed
+  taken_more h k x e t = omega (arith, e, takes_within (Some x) between k left t)
+
+  taken_exactly : (h k : ℕ) (x : Given) → h + between ≡ allowed → Takes (Some x) between k left → ¬ (Some x ≡ Some no_memory) → h + k + left ≡ allowed
+  taken_exactly h k x e t n = elim (takes_exactly (Some x) between k left t) [ inl i ↦ omega (arith, e, i) | inr i ↦ absurd (n i.0) ]
+
+  taken_all : (h k : ℕ) (x : Given) (path : List ℕ) (depth : ℕ) → h + between ≡ allowed → Takes (Some x) between k left → (Contains xs (fault Budget path depth) → h ≡ allowed) → Contains (xs ++ x ∷ []) (fault Budget path depth) → h + k ≡ allowed
+  taken_all h k x path depth e t s c = elim (Contains-push_cases xs x (fault Budget path depth) c) [
+    | inl d ↦ omega (arith, s d, takes_within (Some x) between k left t, e)
+    | inr d ↦ let b : Takes (Some (fault Budget path depth)) between k left = subst (λ v. Takes (Some v) between k left) d t in omega (arith, b.0, e)
+  ]
+
   pub taking_more : (x : Given) → Taking tells missed failed comes before ended old mid allowed between most less xs → Fed tells missed failed before after mid new between left ended ended_now (Some x) → fewer < less
       → Taking tells missed failed comes after ended_now old new allowed left most fewer (xs ++ x ∷ [])
-  taking_more x h f l = record {
-    gave = λ p c. gave_more before after ended ended_now p xs x (h.gave p c) (λ e. not_ended x ended ended_now f.ends e) (λ q i. f.gives q i) (λ e. f.ends.at_failure (ap Some e));
-    few = let n = length-append xs (x ∷ []) in omega (arith, h.few, l, n);
-    counted = counts_all_more missed failed old mid new xs x h.counted f.counts;
-    asked = λ t k.
-        let u = h.asked t k in
-        let v = f.asks.asked u.0 u.1 in
-        (v.0, v.1, omega (arith, u.2, v.2));
-  }
+  taking_more x h f l =
+      let e = h.exactly (λ i. not_ended x ended ended_now f.ends i) in
+      record {
+        gave = λ p c. gave_more before after ended ended_now p xs x (h.gave p c) (λ i. not_ended x ended ended_now f.ends i) (λ q i. f.gives q i) (λ i. f.ends.at_failure (ap Some i));
+        few = let n = length-append xs (x ∷ []) in omega (arith, h.few, l, n);
+        counted = counts_all_more missed failed old mid new xs x h.counted f.counts;
+        taken = h.taken + f.asks.taken;
+        asked = λ t k.
+            let u = h.asked t k in
+            let v = f.asks.asked u.0 u.1 in
+            (v.0, v.1, omega (arith, u.2, v.2));
+        within = taken_more h.taken f.asks.taken x e f.asks.takes;
+        exactly = λ n. taken_exactly h.taken f.asks.taken x e f.asks.takes (λ i. n (f.ends.at_failure i));
+        spent = λ path depth c. taken_all h.taken f.asks.taken x path depth e f.asks.takes (h.spent path depth) c;
+      }
 
   pub taking_end : Taking tells missed failed comes before ended old mid allowed between most less xs → Fed tells missed failed before after mid new between left ended ended_now None
       → ((q : Pending Given) → after q → Lists tells new q.listed) → Took tells missed failed comes old new allowed most xs
-  taking_end h f t = record {
-    all = λ p c. gave_all before after (Lists tells new) ended p xs (h.gave p c) (λ q i. f.gives q i) t;
-    few = omega (arith, h.few);
-    counted = counts_all_end missed failed old mid new xs h.counted f.counts;
-    asked = λ t k.
-        let u = h.asked t k in
-        let v = f.asks.asked u.0 u.1 in
-        (v.0, v.1, omega (arith, u.2, v.2));
-  }
+  taking_end h f t =
+      let e : f.asks.taken + left ≡ between = f.asks.takes in
+      record {
+        all = λ p c. gave_all before after (Lists tells new) ended p xs (h.gave p c) (λ q i. f.gives q i) t;
+        few = omega (arith, h.few);
+        counted = counts_all_end missed failed old mid new xs h.counted f.counts;
+        taken = h.taken + f.asks.taken;
+        asked = λ t k.
+            let u = h.asked t k in
+            let v = f.asks.asked u.0 u.1 in
+            (v.0, v.1, omega (arith, u.2, v.2));
+        within = omega (arith, h.within, e);
+        spent = λ path depth c. omega (arith, h.spent path depth c, h.within, e);
+      }
 
 pub taking_none : {D : Type 0} (tells : D → Told → Type 0) (missed failed : D → ℕ) (comes : Pending Given → Type 0) (ended : Type 0) (d : D) (allowed most : ℕ)
     → Taking tells missed failed comes comes ended d d allowed allowed most most []
@@ -133,7 +167,11 @@ taking_none tells missed failed comes ended d allowed most = record {
   gave = λ p c. inr (p, (c, refl, refl));
   few = omega arith;
   counted = record { missed = omega arith; failed = omega arith };
+  taken = 0;
   asked = λ t k. (t, k, omega arith);
+  within = omega arith;
+  exactly = λ e. omega arith;
+  spent = λ path depth c. absurd (contains_none (fault Budget path depth) c);
 }
 
 -- ---- what is kept of it

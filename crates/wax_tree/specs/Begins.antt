@@ -20,7 +20,7 @@ or_greatest None = 2 ^ 64 - 1
 pub record Begins {D C : Type 0} (shows : D → List ℕ → Shown → Type 0) (tells : D → Told → Type 0) (holds : D → C → Items → Type 0) (d : D) (start : List ℕ) (min max budget : ℕ) (w : WalkTree D C) : Type 0 where
   pub comes : (s : Shown) (listed : List (List ℕ)) → shows d start s → count_shown s ≤ budget → Lists tells d listed → MayCome shows (Lists tells) holds w (pending nothing (plain min max start s nothing) listed)
   pub gives : gives_at_most w ≤ 2 * budget + 3
-  pub asks : asks_at_most w ≤ budget + 1
+  pub asks : asks_at_most w ≡ budget + 1
   pub directory : w.steps.directory ≡ d
 
 abbrev pub BeginsBy : {D C : Type 0} → (D → List ℕ → Shown → Type 0) → (D → Told → Type 0) → (D → C → Items → Type 0) → D → List ℕ → WalkBehavior → WalkTree D C → Type 0

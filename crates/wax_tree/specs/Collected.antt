@@ -2,10 +2,12 @@
 use Rattle.std.specs.Prelude.{◌≡◌, List, [], ◌∷◌, ◌++◌, ◌⊎◌, Option, Some, None}
 use Rattle.wax_tree.specs.Forest.{Pending, all_pending, preorder, listings}
 use Rattle.std.specs.Prelude.{ℕ, ◌+◌, ◌≤◌, length, Bool, true, false}
+use Rattle.std.specs.List.{Contains}
 use Rattle.wax_directory.specs.Told.{Told}
+use Rattle.wax_tree.specs.declared.error.WalkErrorKind.TheVariants.{Budget}
 use Rattle.wax_tree.specs.Asks.{Lists}
 use Rattle.wax_tree.specs.Counts.{CountsAll}
-use Rattle.wax_tree.specs.Given.{Given, entry, no_memory, kept}
+use Rattle.wax_tree.specs.Given.{Given, entry, fault, no_memory, kept}
 
 -- memory was wanted: a beginning of all was given, then that memory was wanted, and nothing more
 abbrev pub LacksMemory : List Given → List Given → Type 0
@@ -35,9 +37,12 @@ is_kept (entry m f) = false
 is_kept x = true
 
 -- a walk where `comes` holds of what was to come gave these items to its end: all that was to come, unless memory was wanted, and no more than so many;
--- the directory counted the faults, and no more items were taken from listings than were allowed
+-- the directory counted the faults; no more items were taken from listings than were allowed, and all of these where the budget was reached
 pub record Took {D : Type 0} (tells : D → Told → Type 0) (missed failed : D → ℕ) (comes : Pending Given → Type 0) (old new : D) (allowed most : ℕ) (xs : List Given) : Type 0 where
   pub all : (p : Pending Given) → comes p → GaveAll (Lists tells new) p xs
   pub few : length xs ≤ most
   pub counted : CountsAll missed failed old xs new
-  pub asked : (t : Told) → tells old t → (u : Told) × tells new u × (u.asked ≤ t.asked + allowed)
+  pub taken : ℕ
+  pub asked : (t : Told) → tells old t → (u : Told) × tells new u × (u.asked ≡ t.asked + taken)
+  pub within : taken ≤ allowed
+  pub spent : (path : List ℕ) (depth : ℕ) → Contains xs (fault Budget path depth) → taken ≡ allowed

@@ -20,8 +20,8 @@ module _ {D C : Type 0} where
   pub cancel_no_longer : (s t : WalkTree D C) → t ≡ uncancelled s → gives_at_most t ≤ gives_at_most s
   cancel_no_longer s t h = subst (λ (v : WalkTree D C). gives_at_most v ≤ gives_at_most s) (sym h) (omega arith)
 
-  pub cancel_allows : (s t : WalkTree D C) → t ≡ uncancelled s → asks_at_most t ≤ asks_at_most s
-  cancel_allows s t h = subst (λ (v : WalkTree D C). asks_at_most v ≤ asks_at_most s) (sym h) (omega arith)
+  pub cancel_allows : (s t : WalkTree D C) → t ≡ uncancelled s → asks_at_most t ≡ asks_at_most s
+  cancel_allows s t h = ap (λ (v : WalkTree D C). asks_at_most v) h
 
   pub cancel_ended : (s t : WalkTree D C) → t ≡ uncancelled s → HasEnded s → HasEnded t
   cancel_ended s t h e = subst (λ (v : WalkTree D C). HasEnded v) (sym h) (e.0, elim e.1 [ inl a ↦ inl a | inr b ↦ inr (b.0, refl, b.2) ])

@@ -1,6 +1,6 @@
 //! Walks that can be filtered.
 
-ghost use Rattle.std.specs.Prelude.{◌≡◌, ◌≤◌, ℕ, List, Option, Result, false};
+ghost use Rattle.std.specs.Prelude.{◌≡◌, ℕ, List, Option, Result, false};
 ghost use Rattle.wax_tree.specs.Forest.{Pending, cancelled};
 ghost use Rattle.wax_tree.specs.Given.{Given, GivesOrFails, Facts, Mark};
 ghost use Rattle.wax_tree.specs.Collected.{Ends};
@@ -78,7 +78,7 @@ pub trait FileIterator: CancelWalk<
     /// The directory counted the faults that were given.
     ghost counting: { (s t : Self) (r : Option (Separation Self.Feed (Result Self.Entry WalkError) (TreeResidue Self.Residue))) → Self.feeds s r t → Counts Self.Directory.missed Self.Directory.failed (walked s) (answer_of Self.Entry.facts Self.Residue.facts r) (walked t) };
 
-    /// The items that were taken from listings were allowed.
+    /// The items that were taken from listings were allowed: all of them, where the budget is reached.
     ghost asking: { (s t : Self) (r : Option (Separation Self.Feed (Result Self.Entry WalkError) (TreeResidue Self.Residue))) → Self.feeds s r t → Asks Self.Directory.tells (walked s) (allows s) (answer_of Self.Entry.facts Self.Residue.facts r) (walked t) (allows t) };
 
     /// Cancelling asks nothing.
@@ -87,8 +87,8 @@ pub trait FileIterator: CancelWalk<
     /// Cancelling begins no walk again.
     ghost staying_ended: { (s t : Self) → Self.cancels s t → ended s → ended t };
 
-    /// Cancelling allows no more items.
-    ghost allowing: { (s t : Self) → Self.cancels s t → allows t ≤ allows s };
+    /// Cancelling allows as many items as before.
+    ghost allowing: { (s t : Self) → Self.cancels s t → allows t ≡ allows s };
 
     /// Cancelling leaves out what lies below the item that was given last, and nothing else.
     ghost cancelling: { (s t : Self) (p : Pending Given) → Self.cancels s t → comes s p → comes t (cancelled p) };

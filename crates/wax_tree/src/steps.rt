@@ -7,7 +7,7 @@ ghost use Rattle.wax_directory.specs.Told.{failed_item_in};
 ghost use Rattle.wax_tree.specs.Forest.{Forest, followed_by, Pending, all_pending, pending, nothing};
 ghost use Rattle.wax_tree.specs.Given.{Given, GivesOrFails, fault, no_memory};
 ghost use Rattle.wax_tree.specs.Collected.{Ends};
-ghost use Rattle.wax_tree.specs.Asks.{Lists, Asks};
+ghost use Rattle.wax_tree.specs.Asks.{Lists, Asks, Takes};
 ghost use Rattle.wax_tree.specs.Counts.{Counts, missing_in, failed_in};
 ghost use Rattle.wax_tree.specs.Heads.{headed, own_count};
 ghost use Rattle.wax_tree.specs.Plain.{found, plain, contents, count, count_shown, inside};
@@ -137,7 +137,7 @@ impl<D: Directory> Steps<D> {
         ensures goes_on { result ≡ Step.Ends → ⊥ }
         ensures fails { tree_given_step result ≡ Some no_memory → self.new.has_ended ≡ true }
         ensures counts { (self.new.directory ≡ self.old.directory) × (missing_in (tree_given_step result) ≡ 0) × (failed_in (tree_given_step result) ≡ 0) }
-        ensures asks { allowance self.new ≤ allowance self.old }
+        ensures asks { Takes (tree_given_step result) (allowance self.old) 0 (allowance self.new) }
         ensures step { (g : Forest Given) (n : ℕ) (listed : List (List ℕ)) (s : Shown) → Rests D.shows (Lists D.tells) D.holds self.old g n listed → D.shows self.old.directory (string_bytes path) s → HasKind s kind → count_shown s + n ≤ self.old.budget → StepIs (Comes D.shows (Lists D.tells) D.holds self.new) (found self.old.min self.old.max (string_bytes self.old.root) (string_bytes path) (string_bytes candidate) depth kind s g) listed result }
         ensures adds { (self.old.entered ≡ None) → Adds 1 2 self.old result self.new }
     {
@@ -205,7 +205,7 @@ impl<D: Directory> Steps<D> {
         ensures goes_on { result ≡ Step.Ends → ⊥ }
         ensures fails { tree_given_step result ≡ Some no_memory → self.new.has_ended ≡ true }
         ensures counts { (self.new.directory ≡ self.old.directory) × (missing_in (tree_given_step result) ≤ missing_in (Some (fault kind folder.now (depth - 1)))) × (failed_in (tree_given_step result) ≤ failed_in (Some (fault kind folder.now (depth - 1)))) }
-        ensures asks { allowance self.new ≤ allowance self.old }
+        ensures asks { Takes (Some (fault kind folder.now (depth - 1))) (allowance self.old) 0 (allowance self.old) → Takes (tree_given_step result) (allowance self.old) 0 (allowance self.new) }
         ensures memory { (result ≡ Step.Gives (Err WalkError.Memory)) ⊎ ((tree_given_step result ≡ Some (fault kind folder.now (depth - 1))) × (self.new ≡ self.old)) }
         ensures adds { Adds 0 0 self.old result self.new }
         ensures gives { result ≡ Step.GoesOn → ⊥ }
@@ -228,7 +228,7 @@ impl<D: Directory> Steps<D> {
         ensures goes_on { result ≡ Step.Ends → ⊥ }
         ensures fails { tree_given_step result ≡ Some no_memory → self.new.has_ended ≡ true }
         ensures counts { (self.new.directory ≡ self.old.directory) × (missing_in (tree_given_step result) ≡ 0) × (failed_in (tree_given_step result) ≡ 0) }
-        ensures asks { allowance self.new ≤ allowance self.old }
+        ensures asks { Takes (tree_given_step result) (allowance self.old) 0 (allowance self.new) }
         ensures step { (l : Items) (g : Forest Given) (n : ℕ) (listed : List (List ℕ)) → Rests D.shows (Lists D.tells) D.holds self.old g n listed → Some (named name.now kind) ≡ first_of l → IsPlain name.now → ShowsIn (D.shows self.old.directory) folder.now l → own_count l + n ≤ self.old.budget → StepIs (Comes D.shows (Lists D.tells) D.holds self.new) (headed self.old.min self.old.max (string_bytes self.old.root) folder.now candidate.now depth l g) listed result }
         ensures adds { (self.old.entered ≡ None) → Adds 1 2 self.old result self.new }
     {
@@ -246,7 +246,7 @@ impl<D: Directory> Steps<D> {
         ensures goes_on { result ≡ Step.Ends → ⊥ }
         ensures fails { tree_given_step result ≡ Some no_memory → self.new.has_ended ≡ true }
         ensures counts { (self.new.directory ≡ self.old.directory) × (missing_in (tree_given_step result) ≡ 0) × (failed_in (tree_given_step result) ≤ failed_item_in (Ok (Some item))) }
-        ensures asks { allowance self.new ≤ allowance self.old }
+        ensures asks { Takes (tree_given_step result) (allowance self.old) 0 (allowance self.new) }
         ensures step { (l : Items) (g : Forest Given) (n : ℕ) (listed : List (List ℕ)) → Rests D.shows (Lists D.tells) D.holds self.old g n listed → Some (listed_of item) ≡ first_of l → ShowsIn (D.shows self.old.directory) folder.now l → own_count l + n ≤ self.old.budget → StepIs (Comes D.shows (Lists D.tells) D.holds self.new) (headed self.old.min self.old.max (string_bytes self.old.root) folder.now candidate.now depth l g) listed result }
         ensures adds { (self.old.entered ≡ None) → Adds 1 2 self.old result self.new }
     {
@@ -278,7 +278,7 @@ impl<D: Directory> Steps<D> {
         ensures goes_on { result ≡ Step.Ends → ⊥ }
         ensures fails { tree_given_step result ≡ Some no_memory → self.new.has_ended ≡ true }
         ensures counts { (self.new.directory ≡ self.old.directory) × (missing_in (tree_given_step result) ≡ 0) × (failed_in (tree_given_step result) ≤ failed_item_in (Ok (Some item))) }
-        ensures asks { (self.old.has_ended ≡ false) → allowance self.new + 1 ≤ allowance self.old }
+        ensures asks { (self.old.has_ended ≡ false) → Takes (tree_given_step result) (allowance self.old) 1 (allowance self.new) }
         ensures step { (l : Items) (g : Forest Given) (n : ℕ) (listed : List (List ℕ)) → Rests D.shows (Lists D.tells) D.holds self.old g n listed → Some (listed_of item) ≡ first_of l → D.holds self.old.directory cursor (rest_of l) → ShowsIn (D.shows self.old.directory) (string_bytes folder.path) l → n + count l ≤ self.old.budget → StepIs (Comes D.shows (Lists D.tells) D.holds self.new) (followed_by (inside self.old.min self.old.max (string_bytes self.old.root) (string_bytes folder.path) (string_bytes folder.candidate) folder.depth l) g) listed result }
         ensures saves { (self.old.entered ≡ None) → (self.old.has_ended ≡ false) → Saves self.old result self.new }
     {

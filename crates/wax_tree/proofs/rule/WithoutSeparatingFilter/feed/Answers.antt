@@ -1,4 +1,4 @@
-use Rattle.std.proofs.Common.{refl, arith}
+use Rattle.std.proofs.Common.{refl}
 use Rattle.std.specs.Prelude.{Some, None}
 use Rattle.wax_tree.specs.Forest.{filtered_pending}
 use Rattle.wax_tree.specs.Given.{FilteredComes, changed_by, cut_by}
@@ -41,7 +41,7 @@ returns-clause-steps g c =
             c.in-Ok.ensures c.separated.ensures w.if-cuts.ensures
             (λ v i. g.met.I.FileIterator.cancelling c.feed.new.self w.cancel_walk_tree.new.self v w.cancel_walk_tree.ensures i)));
         counts = counts_marked _ _ _ _ _ _ _ _ counts c.separated.ensures (g.met.I.FileIterator.staying c.feed.new.self w.cancel_walk_tree.new.self w.cancel_walk_tree.ensures);
-        asks = asks_marked _ _ _ _ _ _ _ _ _ asks (g.met.I.FileIterator.staying c.feed.new.self w.cancel_walk_tree.new.self w.cancel_walk_tree.ensures) (g.met.I.FileIterator.allowing c.feed.new.self w.cancel_walk_tree.new.self w.cancel_walk_tree.ensures);
+        asks = asks_marked _ _ _ _ _ _ _ _ _ _ asks c.separated.ensures (g.met.I.FileIterator.staying c.feed.new.self w.cancel_walk_tree.new.self w.cancel_walk_tree.ensures) (g.met.I.FileIterator.allowing c.feed.new.self w.cancel_walk_tree.new.self w.cancel_walk_tree.ensures);
         ends = ends_flagged _ c.args.self.now.has_ended c.args.self.now.has_ended c.if-self.false (ends_marked _ _ _ ends c.separated.ensures (λ e. g.met.I.FileIterator.staying_ended c.feed.new.self w.cancel_walk_tree.new.self w.cancel_walk_tree.ensures e));
       })
       | else-cuts w ↦ rw w.self-is (record {
@@ -50,7 +50,7 @@ returns-clause-steps g c =
             (g.met.I.FileIterator.gives c.args.self.now.input c.feed.new.self (Some c.in_ok-separation.separation) p.0 fed p.1)
             c.in-Ok.ensures c.separated.ensures w.if-cuts.ensures));
         counts = counts_marked _ _ _ _ _ _ _ _ counts c.separated.ensures refl;
-        asks = asks_marked _ _ _ _ _ _ _ _ _ asks refl (omega arith);
+        asks = asks_marked _ _ _ _ _ _ _ _ _ _ asks c.separated.ensures refl refl;
         ends = ends_flagged _ c.args.self.now.has_ended c.args.self.now.has_ended c.if-self.false (ends_marked _ _ _ ends c.separated.ensures (λ e. e));
       })
     ]

@@ -33,4 +33,4 @@ returns-in-Err-Failed-clause-step g c f n listed s r same h e =
     inr (rw (is, same) (refl, comes_rest g.D.Directory.shows tells g.D.Directory.holds (record c.args.self.now { directory = c.kind.new.self }) f n listed rest few))
 
 pub returns-in-Err-Memory-clause-asks : goal.returns-in-Err-Memory-clause-asks
-returns-in-Err-Memory-clause-asks g c = rw c.fail.ensures.ended (asks_none _ _ _ _ _ _ c.in-Err-Memory.ensures.told (omega arith))
+returns-in-Err-Memory-clause-asks g c = rw (c.fail.ensures.memory, c.fail.ensures.ended) (asks_none _ _ _ _ _ _ c.in-Err-Memory.ensures.told (omega arith))

@@ -30,8 +30,8 @@ pub returns-after-push-clause-asks : goal.returns-after-push-clause-asks
 returns-after-push-clause-asks g c =
     elim c.match-push.branch [
       | in-Ok-push w ↦ rw (w.self-is, w.result-is) (asks_listing _ _ _ _ _ _ c.as_str.result.now c.in-Ok.ensures.told (omega arith))
-      | in-Err w ↦ rw (w.self-is, w.fail.ensures.ended) (asks_listing _ _ _ _ _ _ c.as_str.result.now c.in-Ok.ensures.told (omega arith))
+      | in-Err w ↦ rw (w.self-is, w.result-is, w.fail.ensures.memory, w.fail.ensures.ended) (asks_listing _ _ _ _ _ _ c.as_str.result.now c.in-Ok.ensures.told (omega arith))
     ]
 
 pub returns-in-Err-Memory-clause-asks : goal.returns-in-Err-Memory-clause-asks
-returns-in-Err-Memory-clause-asks g c = rw c.fail-in-Err-Memory.ensures.ended (asks_refused _ _ _ _ _ _ c.as_str.result.now (rw c.in-Err-Memory.field-0-is at c.in-Err-Memory.ensures.told) (omega arith))
+returns-in-Err-Memory-clause-asks g c = rw (c.fail-in-Err-Memory.ensures.memory, c.fail-in-Err-Memory.ensures.ended) (asks_refused _ _ _ _ _ _ c.as_str.result.now (rw c.in-Err-Memory.field-0-is at c.in-Err-Memory.ensures.told) (omega arith))

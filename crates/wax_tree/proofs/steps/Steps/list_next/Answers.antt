@@ -1,6 +1,6 @@
 use Rattle.std.proofs.Common.{arith, string_bytes, ◌≤◌, refl}
 use Rattle.wax_tree.specs.Asks.{Lists}
-use Rattle.wax_tree.proofs.Asking.{lists_same, lists_taken, asks_none}
+use Rattle.wax_tree.proofs.Asking.{lists_same, lists_taken, asks_none, asks_item}
 use Rattle.wax_tree.proofs.Stepping.{goes_up, rests_moved, shows_in_moved}
 use Rattle.wax_tree.proofs.steps.Steps.list_next.Goals as goal
 
@@ -24,4 +24,9 @@ returns-in-Ok-Some-clause-step g c l f n listed r h e =
     (shows_in_moved (g.D.Directory.shows c.args.self.now.directory) (g.D.Directory.shows c.next.new.self) o.stays.shown (string_bytes c.args.level.folder.path) l h.1) e
 
 pub returns-in-Err-clause-asks : goal.returns-in-Err-clause-asks
-returns-in-Err-clause-asks g c e = rw c.fail.ensures.ended (asks_none _ _ _ _ _ _ c.in-Err.ensures.told (omega arith))
+returns-in-Err-clause-asks g c e = rw (c.fail.ensures.memory, c.fail.ensures.ended) (asks_none _ _ _ _ _ _ c.in-Err.ensures.told (omega arith))
+
+pub returns-in-Ok-Some-clause-asks : goal.returns-in-Ok-Some-clause-asks
+returns-in-Ok-Some-clause-asks g c e =
+    let o = rw c.in-Ok-Some.field-0-is at c.in-Ok-Some.ensures in
+    rw c.take_from.ensures.counts.0 (asks_item _ _ _ _ _ _ _ (λ t. refl) o.told (c.take_from.ensures.asks e))
