@@ -5,11 +5,13 @@ ghost use Rattle.wax_tree.specs.Begins.{BeginsBy, or_greatest};
 ghost use Rattle.wax_behavior.specs.Depths.{at_depth, greatest};
 ghost use Rattle.wax_behavior.specs.declared.DepthBehavior.TheVariants.{Unbounded};
 
+use crate::iterator::FileIterator;
 use crate::steps::Range;
 use crate::walk_tree::WalkTree;
 use std::alloc::Global;
 use wax_behavior::{DepthBehavior, WalkBehavior};
 use wax_directory::directory::Directory;
+use wax_filter::filter::SeparatingFilter;
 
 /// Paths from which a directory can be walked.
 pub trait PathExt {
@@ -23,7 +25,7 @@ pub trait PathExt {
     fn walk<D: Directory>(self, alloc: Global, directory: D) -> WalkTree<D>
     where
         Self: Sized,
-        ensures { BeginsBy D.shows D.tells D.holds directory (text self) (at_depth Unbounded) result };
+        ensures { BeginsBy D.shows D.tells directory (text self) (at_depth Unbounded) (⟦<WalkTree<D> as FileIterator>⟧.comes result) (⟦<WalkTree<D> as FileIterator>⟧.walked result) (⟦<WalkTree<D> as SeparatingFilter>⟧.left result) (⟦<WalkTree<D> as FileIterator>⟧.allows result) };
 
     /// The walk from this path, of the depths that the behavior has, which takes at most as many
     /// items of folders as its budget. Where memory is refused for the path, the walk's one item
@@ -33,7 +35,7 @@ pub trait PathExt {
         Self: Sized,
         D: Directory,
         B: Into<WalkBehavior>,
-        ensures { (b : WalkBehavior) × B.converts behavior b × BeginsBy D.shows D.tells D.holds directory (text self) b result };
+        ensures { (b : WalkBehavior) × B.converts behavior b × BeginsBy D.shows D.tells directory (text self) b (⟦<WalkTree<D> as FileIterator>⟧.comes result) (⟦<WalkTree<D> as FileIterator>⟧.walked result) (⟦<WalkTree<D> as SeparatingFilter>⟧.left result) (⟦<WalkTree<D> as FileIterator>⟧.allows result) };
 }
 
 // The greatest depth; the greatest that a walk counts where there is no bound.
@@ -53,7 +55,7 @@ pub(crate) fn walk_from<D: Directory>(
     start: &str,
     behavior: WalkBehavior,
 ) -> WalkTree<D>
-    ensures { BeginsBy D.shows D.tells D.holds directory start.now behavior result }
+    ensures { BeginsBy D.shows D.tells directory start.now behavior (⟦<WalkTree<D> as FileIterator>⟧.comes result) (⟦<WalkTree<D> as FileIterator>⟧.walked result) (⟦<WalkTree<D> as SeparatingFilter>⟧.left result) (⟦<WalkTree<D> as FileIterator>⟧.allows result) }
 {
     let range = Range {
         min: behavior.depth.least(),

@@ -1,6 +1,7 @@
 //! The plain walk.
 
 ghost use Rattle.std.specs.Prelude.{◌≡◌, string_bytes, IfOk};
+ghost use Rattle.std.specs.Iterator.{at_most};
 ghost use Rattle.wax_tree.specs.Begins.{Begins};
 ghost use Rattle.wax_tree.specs.Asks.{Lists};
 ghost use Rattle.wax_tree.specs.Entries.{entry_in, facts_of, answer_of};
@@ -62,7 +63,7 @@ fn twice(alloc: Global, text: &str) -> Result<(String, String), AllocError>
 impl<D: Directory> WalkTree<D> {
     // The walk from a start, of the entries whose depth is from the least to the greatest.
     pub(crate) fn with_range(alloc: Global, directory: D, start: &str, range: Range) -> WalkTree<D>
-        ensures { Begins D.shows D.tells D.holds directory start.now range.min range.max range.budget result }
+        ensures { Begins D.shows D.tells directory start.now range.min range.max range.budget (⟦<WalkTree<D> as FileIterator>⟧.comes result) (⟦<WalkTree<D> as FileIterator>⟧.walked result) (⟦<WalkTree<D> as SeparatingFilter>⟧.left result) (⟦<WalkTree<D> as FileIterator>⟧.allows result) }
     {
         match twice(alloc, start) {
             Ok((first, root)) => WalkTree {
@@ -78,8 +79,6 @@ impl<D: Directory> WalkTree<D> {
 }
 
 impl<D: Directory> SeparatingFilter for WalkTree<D> {
-    ghost use Rattle.std.specs.Iterator.{at_most};
-
     type Feed = TreeFeed;
 
     ghost feeds = { λ s r t. Fed D.tells D.missed D.failed (MayCome D.shows (Lists D.tells) D.holds s) (MayCome D.shows (Lists D.tells) D.holds t) s.steps.directory t.steps.directory (asks_at_most s) (asks_at_most t) (HasEnded s) (HasEnded t) (answer_of facts_of facts_of r) };
@@ -161,8 +160,6 @@ impl<D: Directory> FileIterator for WalkTree<D> {
 }
 
 impl<D: Directory> Iterator for WalkTree<D> {
-    ghost use Rattle.std.specs.Iterator.{at_most};
-
     type Item = Result<TreeEntry, WalkError>;
 
     ghost remaining = { λ s. at_most (gives_at_most s) };

@@ -13,5 +13,5 @@ returns g c =
     let max = or_greatest (greatest depth) in
     map_ok (λ r h s listed shows few lists.
     plain_kept (Lists g.D.Directory.tells r.1) min max c.args.start.now s listed h.0 _
-    (h.1.all (pending nothing (plain min max c.args.start.now s nothing) listed) (c.walk_from.ensures.comes s listed shows few lists)) h.2)
+    (h.1.all (pending nothing (plain min max c.args.start.now s nothing) listed) (c.walk_from.ensures.shown s listed shows few lists)) h.2)
     c.collect.result c.collect.ensures

@@ -9,9 +9,10 @@ pub returns-in-Ok : goal.returns-in-Ok
 returns-in-Ok g c =
     let e = c.in-Ok.ensures in
     rw c.new.ensures.fields (record {
-      comes = λ s listed h few told. goes refl (made_comes g.D.Directory.shows (Lists g.D.Directory.tells) g.D.Directory.holds
+      shown = λ s listed h few told. goes refl (made_comes g.D.Directory.shows (Lists g.D.Directory.tells) g.D.Directory.holds
           (record { alloc = c.args.alloc; directory = c.args.directory; min = c.args.range.min; max = c.args.range.max; root = c.in-Ok.root; first = Some c.in-Ok.first; entered = None; levels = c.new.result.levels; budget = c.args.range.budget; has_ended = false })
           c.in-Ok.first c.args.start.now s listed refl e.0 e.1 refl c.new.ensures.levels refl h few told);
+      ends = tt;
       gives = omega arith;
       asks = omega arith;
       directory = refl;
@@ -19,7 +20,8 @@ returns-in-Ok g c =
 
 pub returns-in-Err : goal.returns-in-Err
 returns-in-Err g c = rw c.new-in-Err-2.ensures.fields (record {
-  comes = λ s listed h few told. lacks refl told;
+  shown = λ s listed h few told. lacks refl told;
+  ends = tt;
   gives = omega arith;
   asks = omega arith;
   directory = refl;
