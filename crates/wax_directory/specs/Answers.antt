@@ -1,5 +1,5 @@
 -- What a directory answers.
-use Rattle.std.specs.Prelude.{◌≡◌, Option, Some, None, Result, Ok, Err, string_bytes}
+use Rattle.std.specs.Prelude.{◌≡◌, ◌-◌, ◌^◌, map, take, Option, Some, None, Result, Ok, Err, Vec, string_bytes}
 use Rattle.std.specs.Option.{option_map}
 use Rattle.wax_query.specs.declared.diagnostics.NoMemory.{NoMemory}
 use Rattle.wax_directory.specs.declared.directory.FileType.{FileType}
@@ -8,7 +8,7 @@ use Rattle.wax_directory.specs.declared.directory.ListItem.{ListItem}
 use Rattle.wax_directory.specs.declared.directory.ListItem.TheVariants as I
 use Rattle.wax_directory.specs.declared.directory.DirectoryFault.{DirectoryFault}
 use Rattle.wax_directory.specs.declared.directory.DirectoryFault.TheVariants.{Failed, Memory}
-use Rattle.wax_directory.specs.Shown.{Items, Shown, a_leaf, a_folder, a_sealed, missing, failing, Listed, named, no_item, no_name, leaf_kind, first_of, rest_of}
+use Rattle.wax_directory.specs.Shown.{Items, Shown, a_leaf, a_folder, a_sealed, missing, failing, Listed, named, no_item, no_name, leaf_kind, first_of, rest_of, listing}
 
 abbrev pub listed_of : ListItem → Listed
 listed_of (I.Name x kind) = named (string_bytes x) kind
@@ -35,3 +35,10 @@ Opens holds s r = r ≡ Err Failed
 abbrev pub NextIs : {C : Type 0} → (C → Items → Type 0) → Items → Result (Option ListItem) NoMemory → C → Type 0
 NextIs holds l (Ok answer) cursor = (option_map listed_of answer ≡ first_of l) × holds cursor (rest_of l)
 NextIs holds l (Err e) cursor = holds cursor l
+
+-- the answer where all items of this are asked for, unless memory was refused: those of a folder, at most 2 ^ 32 - 1 of them, and nothing else can be listed
+abbrev pub ListIs : {Z : Type 0} → Shown → Result (Vec ListItem Z) DirectoryFault → Type 0
+ListIs s (Err Memory) = Unit {0}
+ListIs (a_folder l) (Ok answer) = map listed_of answer.items ≡ take (2 ^ 32 - 1) (listing l)
+ListIs (a_folder l) (Err Failed) = ⊥
+ListIs s r = r ≡ Err Failed

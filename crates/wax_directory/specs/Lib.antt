@@ -1,6 +1,7 @@
 pub mod Shown
 pub mod Answers
 pub mod Told
+pub mod Listing
 pub mod Names
 pub mod Nodes
 pub mod Places

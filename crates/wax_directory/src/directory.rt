@@ -49,8 +49,9 @@ pub enum ListItem {
 /// which nothing can be known, such as the real file system, shows nothing; then the law asks for
 /// the counts alone.
 pub trait Directory: Drop {
-    ghost use Rattle.wax_directory.specs.Answers.{KindIs, Opens, NextIs};
+    ghost use Rattle.wax_directory.specs.Answers.{KindIs, Opens, NextIs, ListIs};
     ghost use Rattle.wax_directory.specs.Told.{Grows, Stays, TellsOpened, missed_in, failed_in, failed_item_in, with_item};
+    ghost use Rattle.wax_directory.specs.Listing.{TellsListed, FailsListed};
 
     /// A folder that is being listed.
     type Cursor: Drop;
@@ -100,6 +101,30 @@ pub trait Directory: Drop {
         ensures told { (t : Told) → tells self.old t → tells self.new (with_item result t) }
         ensures missed { missed self.new ≡ missed self.old }
         ensures failed { Grows (failed_item_in result) (failed self.old) (failed self.new) };
+
+    /// All items of the folder at `path`, in order; the first 4,294,967,295 where it holds more.
+    /// Where memory is refused, items that were already taken are lost.
+    final fn list(&mut self, alloc: Global, path: &str) -> Result<Vec<ListItem>, DirectoryFault>
+        ensures list { (s : Shown) → shows self.old path.now s → ListIs s result }
+        ensures stays { Stays shows holds self.old self.new }
+        ensures told { (t : Told) → tells self.old t → TellsListed (tells self.new) path.now result t }
+        ensures missed { missed self.new ≡ missed self.old }
+        ensures failed { FailsListed result (failed self.old) (failed self.new) }
+    {
+        let mut cursor = self.open(alloc, path)?;
+        let mut items = Vec::new(alloc);
+        for _ in 0..u32::MAX {
+            let item = match self.next(alloc, &mut cursor) {
+                Ok(Some(item)) => item,
+                Ok(None) => return Ok(items),
+                Err(NoMemory) => return Err(DirectoryFault::Memory),
+            };
+            let Ok(()) = items.push(item) else {
+                return Err(DirectoryFault::Memory);
+            };
+        }
+        Ok(items)
+    }
 
     /// How often `kind` answered that nothing is there, at most the greatest u64.
     fn misses(&self) -> u64

@@ -137,6 +137,114 @@ fn below_a_sealed_folder_is_a_failure(rt: HostRuntime) -> Result<(), Fail> {
     Ok(())
 }
 
+// A folder `all` with an item of each kind, two of them under names that no path can hold.
+fn tree_of_all(alloc: Global) -> Result<Tree, Fail> {
+    let all = Node::Folder(vec![in alloc;
+        entry(
+            alloc,
+            "doc",
+            folder_of(alloc, entry(alloc, "x", Node::File)?)?
+        )?,
+        entry(alloc, "file", Node::File)?,
+        TreeItem::Failed,
+        entry(alloc, "link", Node::Link)?,
+        TreeItem::NotText,
+        entry(alloc, "..", Node::Sealed)?,
+        entry(alloc, "a/b", Node::File)?,
+    ]?);
+    match Tree::new(
+        alloc,
+        folder_of(alloc, entry(alloc, "all", all)?)?,
+        Node::File,
+    ) {
+        Ok(tree) => Ok(tree),
+        Err(_) => Err(Fail::from(AllocError)),
+    }
+}
+
+const ALL: &str = "doc/ file. ! link@ ? ../ a/b. ";
+
+// Each name with a sign of its kind, `!` for a failed item and `?` for one that isn't text.
+fn text_of(alloc: Global, items: &[ListItem]) -> Result<String, AllocError> {
+    let mut text = String::new(alloc);
+    for item in items {
+        let sign = match item {
+            ListItem::Name(name, kind) => {
+                text.push_str(name.as_str())?;
+                match kind {
+                    FileType::File => ". ",
+                    FileType::Link => "@ ",
+                    FileType::Folder => "/ ",
+                }
+            }
+            ListItem::Failed => "! ",
+            ListItem::NotText => "? ",
+        };
+        text.push_str(sign)?;
+    }
+    Ok(text)
+}
+
+// All items of a folder; why there are none.
+fn listed<D: Directory>(
+    alloc: Global,
+    directory: &mut D,
+    path: &str,
+) -> Result<String, AllocError> {
+    match directory.list(alloc, path) {
+        Ok(items) => text_of(alloc, items.as_slice()),
+        Err(fault) => format!(in alloc; "{fault}"),
+    }
+}
+
+#[test]
+fn all_items_are_listed(rt: HostRuntime) -> Result<(), Fail> {
+    let mut tree = tree_of_all(rt.alloc())?;
+    let text = listed(rt.alloc(), &mut tree, "all")?;
+    assert_eq!(rt; text.as_str(), ALL);
+    assert_eq!(rt; tree.asked(), 7);
+    assert_eq!(rt; tree.failures(), 2);
+    assert_eq!(rt; tree.listed().len(), 1);
+    Ok(())
+}
+
+#[test]
+fn what_is_no_folder_is_not_listed(rt: HostRuntime) -> Result<(), Fail> {
+    let mut tree = small_tree(rt.alloc())?;
+    for path in ["doc/guide.md", "link", "sealed", "sealed/x", "no such name"] {
+        let text = listed(rt.alloc(), &mut tree, path)?;
+        assert_eq!(rt; text.as_str(), "cannot be read");
+    }
+    assert_eq!(rt; tree.asked(), 0);
+    assert_eq!(rt; tree.failures(), 5);
+    assert_eq!(rt; tree.misses(), 0);
+    Ok(())
+}
+
+#[test]
+fn a_list_that_lacks_memory_is_asked_again(rt: HostRuntime) -> Result<(), Fail> {
+    for calls in 0..9 {
+        let mut starving = Starving::new(tree_of_all(rt.alloc())?, calls);
+        let text = listed(rt.alloc(), &mut starving, "all")?;
+        assert_eq!(rt; text.as_str(), "no memory", "{calls}");
+        let text = listed(rt.alloc(), &mut starving, "all")?;
+        assert_eq!(rt; text.as_str(), ALL, "{calls}");
+    }
+    let mut starving = Starving::new(tree_of_all(rt.alloc())?, 9);
+    let text = listed(rt.alloc(), &mut starving, "all")?;
+    assert_eq!(rt; text.as_str(), ALL);
+    Ok(())
+}
+
+#[test]
+fn a_list_that_fails_goes_on(rt: HostRuntime) -> Result<(), Fail> {
+    let mut failing = Failing::new(tree_of_all(rt.alloc())?, 2);
+    let text = listed(rt.alloc(), &mut failing, "all")?;
+    assert_eq!(rt; text.as_str(), "doc/ ! file. ! link@ ? ../ a/b. ");
+    assert_eq!(rt; failing.failures(), 3);
+    Ok(())
+}
+
 // The names of a folder, `!` for a failed item and `?` for one that isn't text.
 fn names<D: Directory>(alloc: Global, directory: &mut D, path: &str) -> Result<String, Fail> {
     let mut text = String::new(alloc);
@@ -235,6 +343,8 @@ fn a_real_folder_is_listed(rt: HostRuntime) -> Result<(), Fail> {
     assert!(rt; fs::write(&rt, "listed/a", "").is_ok());
     let text = names(rt.alloc(), &mut folders, "listed")?;
     assert_eq!(rt; text.as_str(), "a");
+    let text = listed(rt.alloc(), &mut folders, "listed")?;
+    assert_eq!(rt; text.as_str(), "a. ");
     assert!(rt;
         matches!(
             folders.kind(rt.alloc(), "listed/a"),
