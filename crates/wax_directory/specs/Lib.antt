@@ -7,3 +7,4 @@ pub mod Nodes
 pub mod Places
 pub mod Trees
 pub mod TreeLaw
+pub mod Turns

@@ -1,6 +1,8 @@
 //! A directory that fails once.
 
 ghost use Rattle.std.specs.Prelude.{◌+◌, ◌-◌, ◌^◌, min, if◌then◌else◌};
+ghost use Rattle.wax_directory.specs.Told.{Grows};
+ghost use Rattle.wax_directory.specs.Turns.{failures_made};
 
 use crate::directory::{Directory, DirectoryFault, FileType, ListItem};
 use crate::turn::Turn;
@@ -19,7 +21,10 @@ pub struct Failing<D> {
 
 impl<D: Directory> Failing<D> {
     /// Hands on the first `calls` calls, fails the next and hands on all later ones.
-    pub fn new(directory: D, calls: u64) -> Failing<D> {
+    pub fn new(directory: D, calls: u64) -> Failing<D>
+        ensures missed { Grows 0 (D.missed directory) (⟦<Self as Directory>⟧.missed result) }
+        ensures failed { Grows 0 (D.failed directory) (⟦<Self as Directory>⟧.failed result) }
+    {
         Failing {
             directory,
             turn: Turn {
@@ -30,7 +35,10 @@ impl<D: Directory> Failing<D> {
     }
 
     /// The directory inside.
-    pub fn into_inner(self) -> D {
+    pub fn into_inner(self) -> D
+        ensures missed { Grows 0 (D.missed result) (⟦<Self as Directory>⟧.missed self) }
+        ensures failed { Grows (failures_made self) (D.failed result) (⟦<Self as Directory>⟧.failed self) }
+    {
         self.directory
     }
 }

@@ -1,6 +1,8 @@
 //! A directory that lacks memory once.
 
-ghost use Rattle.std.specs.Prelude.{◌-◌, ◌^◌, min};
+ghost use Rattle.std.specs.Prelude.{◌-◌, ◌^◌, ◌↔◌, ℕ, List, min};
+ghost use Rattle.wax_directory.specs.Shown.{Items, Shown};
+ghost use Rattle.wax_directory.specs.Told.{Told, Grows};
 
 use crate::directory::{Directory, DirectoryFault, FileType, ListItem};
 use crate::turn::Turn;
@@ -17,7 +19,13 @@ pub struct Starving<D> {
 
 impl<D: Directory> Starving<D> {
     /// Hands on the first `calls` calls, starves the next and hands on all later ones.
-    pub fn new(directory: D, calls: u64) -> Starving<D> {
+    pub fn new(directory: D, calls: u64) -> Starving<D>
+        ensures shown { (path : List ℕ) (s : Shown) → ⟦<Self as Directory>⟧.shows result path s ↔ D.shows directory path s }
+        ensures held { (cursor : D.Cursor) (l : Items) → ⟦<Self as Directory>⟧.holds result cursor l ↔ D.holds directory cursor l }
+        ensures told { (t : Told) → ⟦<Self as Directory>⟧.tells result t ↔ D.tells directory t }
+        ensures missed { Grows 0 (D.missed directory) (⟦<Self as Directory>⟧.missed result) }
+        ensures failed { Grows 0 (D.failed directory) (⟦<Self as Directory>⟧.failed result) }
+    {
         Starving {
             directory,
             turn: Turn {
@@ -28,7 +36,13 @@ impl<D: Directory> Starving<D> {
     }
 
     /// The directory inside.
-    pub fn into_inner(self) -> D {
+    pub fn into_inner(self) -> D
+        ensures shown { (path : List ℕ) (s : Shown) → ⟦<Self as Directory>⟧.shows self path s ↔ D.shows result path s }
+        ensures held { (cursor : D.Cursor) (l : Items) → ⟦<Self as Directory>⟧.holds self cursor l ↔ D.holds result cursor l }
+        ensures told { (t : Told) → ⟦<Self as Directory>⟧.tells self t ↔ D.tells result t }
+        ensures missed { Grows 0 (D.missed result) (⟦<Self as Directory>⟧.missed self) }
+        ensures failed { Grows 0 (D.failed result) (⟦<Self as Directory>⟧.failed self) }
+    {
         self.directory
     }
 }
