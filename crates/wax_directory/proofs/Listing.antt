@@ -1,5 +1,5 @@
 -- All items of a folder, taken one by one.
-use Rattle.std.proofs.Common.{◌≡◌, ◌≤◌, ℕ, ◌+◌, ◌-◌, ◌^◌, List, [], ◌∷◌, ◌++◌, length, map, take, Option, Some, None, Result, Ok, Vec, refl, sym, ◌∙◌, ap, subst, arith, zero-add, add-zero, add_assoc, append_assoc, length-append}
+use Rattle.std.proofs.Common.{◌≡◌, ◌≤◌, ℕ, ◌+◌, List, [], ◌∷◌, ◌++◌, length, map, take, Option, Some, None, Result, Ok, Vec, refl, sym, ◌∙◌, ap, subst, arith, zero-add, add-zero, add_assoc, append_assoc, length-append}
 use Rattle.std.specs.Option.{option_map}
 use Rattle.std.proofs.lemmas.List.{map-append, append-nil, take_all, length-map}
 use Rattle.std.proofs.Math.Seq.{take-append_seam}
@@ -72,26 +72,26 @@ module _ {C : Type 0} (old new : C → Items → Type 0) (cursor next : C) (item
   coming_more failing x step h = elim h [ ]
 
 -- at the end all of them were taken
-module _ {Z : Type 0} (answer : Vec ListItem Z) where
-  all_taken : (l : Items) (rest : List Listed) → rest ≡ [] → map listed_of answer.items ++ rest ≡ listing l → length answer.items ≤ 2 ^ 32 - 1 → map listed_of answer.items ≡ take (2 ^ 32 - 1) (listing l)
+module _ {Z : Type 0} (answer : Vec ListItem Z) (most : ℕ) where
+  all_taken : (l : Items) (rest : List Listed) → rest ≡ [] → map listed_of answer.items ++ rest ≡ listing l → length answer.items ≤ most → map listed_of answer.items ≡ take most (listing l)
   all_taken l rest none e few =
       let whole : map listed_of answer.items ≡ listing l = sym (append-nil (map listed_of answer.items)) ∙ ap (λ xs. map listed_of answer.items ++ xs) (sym none) ∙ e in
-      let fits : length (listing l) ≤ 2 ^ 32 - 1 = subst (λ xs. length xs ≤ 2 ^ 32 - 1) whole (subst (λ n. n ≤ 2 ^ 32 - 1) (sym (length-map answer.items listed_of)) few) in
-      whole ∙ sym (take_all (2 ^ 32 - 1) (listing l) fits)
+      let fits : length (listing l) ≤ most = subst (λ xs. length xs ≤ most) whole (subst (λ n. n ≤ most) (sym (length-map answer.items listed_of)) few) in
+      whole ∙ sym (take_all most (listing l) fits)
 
-  most_taken : (l : Items) (rest : List Listed) → map listed_of answer.items ++ rest ≡ listing l → length answer.items ≡ 2 ^ 32 - 1 → map listed_of answer.items ≡ take (2 ^ 32 - 1) (listing l)
+  most_taken : (l : Items) (rest : List Listed) → map listed_of answer.items ++ rest ≡ listing l → length answer.items ≡ most → map listed_of answer.items ≡ take most (listing l)
   most_taken l rest e many =
       let xs : List Listed = map listed_of answer.items in
-      sym (take-append_seam xs rest) ∙ ap (λ n. take n (xs ++ rest)) (length-map answer.items listed_of ∙ many) ∙ ap (λ ys. take (2 ^ 32 - 1) ys) e
+      sym (take-append_seam xs rest) ∙ ap (λ n. take n (xs ++ rest)) (length-map answer.items listed_of ∙ many) ∙ ap (λ ys. take most ys) e
 
-  pub coming_end : {C : Type 0} (old new : C → Items → Type 0) (cursor next : C) (s : Shown) (o : Option ListItem) → o ≡ None → ((l : Items) → old cursor l → NextIs new l (Ok o) next) → Coming (old cursor) s answer.items → length answer.items ≤ 2 ^ 32 - 1 → ListIs s (Ok answer)
+  pub coming_end : {C : Type 0} (old new : C → Items → Type 0) (cursor next : C) (s : Shown) (o : Option ListItem) → o ≡ None → ((l : Items) → old cursor l → NextIs new l (Ok o) next) → Coming (old cursor) s answer.items → length answer.items ≤ most → ListIs most s (Ok answer)
   coming_end old new cursor next (a_folder l) o none step h few = all_taken l (listing h.0) (no_first h.0 (sym (ap (option_map listed_of) none) ∙ (step h.0 h.1).0)) h.2 few
   coming_end old new cursor next (a_leaf link) o none step h few = elim h [ ]
   coming_end old new cursor next a_sealed o none step h few = elim h [ ]
   coming_end old new cursor next missing o none step h few = elim h [ ]
   coming_end old new cursor next failing o none step h few = elim h [ ]
 
-  pub coming_most : (has : Items → Type 0) (s : Shown) → Coming has s answer.items → length answer.items ≡ 2 ^ 32 - 1 → ListIs s (Ok answer)
+  pub coming_most : (has : Items → Type 0) (s : Shown) → Coming has s answer.items → length answer.items ≡ most → ListIs most s (Ok answer)
   coming_most has (a_folder l) h many = most_taken l (listing h.0) h.2 many
   coming_most has (a_leaf link) h many = elim h [ ]
   coming_most has a_sealed h many = elim h [ ]
@@ -118,8 +118,8 @@ module _ {D C : Type 0} (shows : D → List ℕ → Shown → Type 0) (holds : D
     pub failed_so : Grows (failed_items items) (failed old) (failed new)
 
   -- the failures among these items
-  pub failed_among : (path : List ℕ) (old new : D) (cursor : C) (items : List ListItem) → Taken path old new cursor items → length items ≤ 2 ^ 32 - 1 → (n : ℕ) × (n ≤ 2 ^ 32 - 1) × Grows n (failed old) (failed new)
-  failed_among path old new cursor items h few = (failed_items items, omega (arith, failed_few items, few), h.failed_so)
+  pub failed_among : (most : ℕ) (path : List ℕ) (old new : D) (cursor : C) (items : List ListItem) → Taken path old new cursor items → length items ≤ most → (n : ℕ) × (n ≤ most) × Grows n (failed old) (failed new)
+  failed_among most path old new cursor items h few = (failed_items items, omega (arith, failed_few items, few), h.failed_so)
 
   pub stays_on : (a b c : D) → Stays shows holds a b → Stays shows holds b c → Stays shows holds a c
   stays_on a b c h i = record { shown = λ path s k. i.shown path s (h.shown path s k); held = λ cursor l k. i.held cursor l (h.held cursor l k) }

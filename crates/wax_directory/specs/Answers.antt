@@ -1,5 +1,5 @@
 -- What a directory answers.
-use Rattle.std.specs.Prelude.{◌≡◌, ◌-◌, ◌^◌, map, take, Option, Some, None, Result, Ok, Err, Vec, string_bytes}
+use Rattle.std.specs.Prelude.{◌≡◌, ℕ, map, take, Option, Some, None, Result, Ok, Err, Vec, string_bytes}
 use Rattle.std.specs.Option.{option_map}
 use Rattle.wax_query.specs.declared.diagnostics.NoMemory.{NoMemory}
 use Rattle.wax_directory.specs.declared.directory.FileType.{FileType}
@@ -36,9 +36,9 @@ abbrev pub NextIs : {C : Type 0} → (C → Items → Type 0) → Items → Resu
 NextIs holds l (Ok answer) cursor = (option_map listed_of answer ≡ first_of l) × holds cursor (rest_of l)
 NextIs holds l (Err e) cursor = holds cursor l
 
--- the answer where all items of this are asked for, unless memory was refused: those of a folder, at most 2 ^ 32 - 1 of them, and nothing else can be listed
-abbrev pub ListIs : {Z : Type 0} → Shown → Result (Vec ListItem Z) DirectoryFault → Type 0
-ListIs s (Err Memory) = Unit {0}
-ListIs (a_folder l) (Ok answer) = map listed_of answer.items ≡ take (2 ^ 32 - 1) (listing l)
-ListIs (a_folder l) (Err Failed) = ⊥
-ListIs s r = r ≡ Err Failed
+-- the answer where so many items of this are asked for, unless memory was refused: the first ones of a folder; and nothing else can be listed
+abbrev pub ListIs : {Z : Type 0} → ℕ → Shown → Result (Vec ListItem Z) DirectoryFault → Type 0
+ListIs most s (Err Memory) = Unit {0}
+ListIs most (a_folder l) (Ok answer) = map listed_of answer.items ≡ take most (listing l)
+ListIs most (a_folder l) (Err Failed) = ⊥
+ListIs most s r = r ≡ Err Failed

@@ -102,18 +102,23 @@ pub trait Directory: Drop {
         ensures missed { missed self.new ≡ missed self.old }
         ensures failed { Grows (failed_item_in result) (failed self.old) (failed self.new) };
 
-    /// All items of the folder at `path`, in order; the first 4,294,967,295 where it holds more.
-    /// Where memory is refused, items that were already taken are lost.
-    final fn list(&mut self, alloc: Global, path: &str) -> Result<Vec<ListItem>, DirectoryFault>
-        ensures list { (s : Shown) → shows self.old path.now s → ListIs s result }
+    /// The first `most` items of the folder at `path`, in order; all of them where it holds no
+    /// more. Where memory is refused, items that were already taken are lost.
+    final fn list(
+        &mut self,
+        alloc: Global,
+        path: &str,
+        most: u64,
+    ) -> Result<Vec<ListItem>, DirectoryFault>
+        ensures list { (s : Shown) → shows self.old path.now s → ListIs most s result }
         ensures stays { Stays shows holds self.old self.new }
-        ensures told { (t : Told) → tells self.old t → TellsListed (tells self.new) path.now result t }
+        ensures told { (t : Told) → tells self.old t → TellsListed most (tells self.new) path.now result t }
         ensures missed { missed self.new ≡ missed self.old }
-        ensures failed { FailsListed result (failed self.old) (failed self.new) }
+        ensures failed { FailsListed most result (failed self.old) (failed self.new) }
     {
         let mut cursor = self.open(alloc, path)?;
         let mut items = Vec::new(alloc);
-        for _ in 0..u32::MAX {
+        for _ in 0..most {
             let item = match self.next(alloc, &mut cursor) {
                 Ok(Some(item)) => item,
                 Ok(None) => return Ok(items),

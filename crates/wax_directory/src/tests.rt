@@ -190,8 +190,9 @@ fn listed<D: Directory>(
     alloc: Global,
     directory: &mut D,
     path: &str,
+    most: u64,
 ) -> Result<String, AllocError> {
-    match directory.list(alloc, path) {
+    match directory.list(alloc, path, most) {
         Ok(items) => text_of(alloc, items.as_slice()),
         Err(fault) => format!(in alloc; "{fault}"),
     }
@@ -200,7 +201,7 @@ fn listed<D: Directory>(
 #[test]
 fn all_items_are_listed(rt: HostRuntime) -> Result<(), Fail> {
     let mut tree = tree_of_all(rt.alloc())?;
-    let text = listed(rt.alloc(), &mut tree, "all")?;
+    let text = listed(rt.alloc(), &mut tree, "all", 9)?;
     assert_eq!(rt; text.as_str(), ALL);
     assert_eq!(rt; tree.asked(), 7);
     assert_eq!(rt; tree.failures(), 2);
@@ -209,10 +210,22 @@ fn all_items_are_listed(rt: HostRuntime) -> Result<(), Fail> {
 }
 
 #[test]
+fn the_first_items_are_listed(rt: HostRuntime) -> Result<(), Fail> {
+    for (most, first, asked) in [(0, "", 0), (2, "doc/ file. ", 2), (7, ALL, 7)] {
+        let mut tree = tree_of_all(rt.alloc())?;
+        let text = listed(rt.alloc(), &mut tree, "all", most)?;
+        assert_eq!(rt; text.as_str(), first);
+        assert_eq!(rt; tree.asked(), asked);
+        assert_eq!(rt; tree.listed().len(), 1);
+    }
+    Ok(())
+}
+
+#[test]
 fn what_is_no_folder_is_not_listed(rt: HostRuntime) -> Result<(), Fail> {
     let mut tree = small_tree(rt.alloc())?;
     for path in ["doc/guide.md", "link", "sealed", "sealed/x", "no such name"] {
-        let text = listed(rt.alloc(), &mut tree, path)?;
+        let text = listed(rt.alloc(), &mut tree, path, 9)?;
         assert_eq!(rt; text.as_str(), "cannot be read");
     }
     assert_eq!(rt; tree.asked(), 0);
@@ -225,13 +238,13 @@ fn what_is_no_folder_is_not_listed(rt: HostRuntime) -> Result<(), Fail> {
 fn a_list_that_lacks_memory_is_asked_again(rt: HostRuntime) -> Result<(), Fail> {
     for calls in 0..9 {
         let mut starving = Starving::new(tree_of_all(rt.alloc())?, calls);
-        let text = listed(rt.alloc(), &mut starving, "all")?;
+        let text = listed(rt.alloc(), &mut starving, "all", 9)?;
         assert_eq!(rt; text.as_str(), "no memory", "{calls}");
-        let text = listed(rt.alloc(), &mut starving, "all")?;
+        let text = listed(rt.alloc(), &mut starving, "all", 9)?;
         assert_eq!(rt; text.as_str(), ALL, "{calls}");
     }
     let mut starving = Starving::new(tree_of_all(rt.alloc())?, 9);
-    let text = listed(rt.alloc(), &mut starving, "all")?;
+    let text = listed(rt.alloc(), &mut starving, "all", 9)?;
     assert_eq!(rt; text.as_str(), ALL);
     Ok(())
 }
@@ -239,7 +252,7 @@ fn a_list_that_lacks_memory_is_asked_again(rt: HostRuntime) -> Result<(), Fail> 
 #[test]
 fn a_list_that_fails_goes_on(rt: HostRuntime) -> Result<(), Fail> {
     let mut failing = Failing::new(tree_of_all(rt.alloc())?, 2);
-    let text = listed(rt.alloc(), &mut failing, "all")?;
+    let text = listed(rt.alloc(), &mut failing, "all", 9)?;
     assert_eq!(rt; text.as_str(), "doc/ ! file. ! link@ ? ../ a/b. ");
     assert_eq!(rt; failing.failures(), 3);
     Ok(())
@@ -343,7 +356,7 @@ fn a_real_folder_is_listed(rt: HostRuntime) -> Result<(), Fail> {
     assert!(rt; fs::write(&rt, "listed/a", "").is_ok());
     let text = names(rt.alloc(), &mut folders, "listed")?;
     assert_eq!(rt; text.as_str(), "a");
-    let text = listed(rt.alloc(), &mut folders, "listed")?;
+    let text = listed(rt.alloc(), &mut folders, "listed", 9)?;
     assert_eq!(rt; text.as_str(), "a. ");
     assert!(rt;
         matches!(
