@@ -15,3 +15,4 @@ pub mod Lead
 pub mod Says
 pub mod Counts
 pub mod Begins
+pub mod Layers

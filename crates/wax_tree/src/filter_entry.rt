@@ -2,6 +2,7 @@
 
 ghost use Rattle.std.specs.Prelude.{◌≡◌};
 ghost use Rattle.wax_tree.specs.Entries.{given_of, answer_of};
+ghost use Rattle.wax_tree.specs.Fed.{Fed};
 ghost use Rattle.wax_tree.specs.Given.{Facts, Mark, said};
 ghost use Rattle.wax_tree.specs.Said.{mark_of};
 ghost use Rattle.wax_tree.specs.Says.{Says, SaidComes};
@@ -52,8 +53,6 @@ where
     I: FileIterator,
     F: FnMut(&TreeEntry) -> Option<EntryResidue> + Drop,
 {
-    ghost use Rattle.wax_tree.specs.Fed.{Fed};
-
     type Feed = I::Feed;
 
     ghost can_feed = { λ s. I.can_feed s.input × F.IsAlwaysCallable s.f };

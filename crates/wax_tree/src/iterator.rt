@@ -2,7 +2,9 @@
 
 ghost use Rattle.std.specs.Prelude.{◌≡◌, ℕ, List, Option, Result, false};
 ghost use Rattle.wax_tree.specs.Forest.{Pending, cancelled};
-ghost use Rattle.wax_tree.specs.Given.{Given, GivesOrFails, Facts, Mark};
+ghost use Rattle.wax_tree.specs.Given.{Given, GivesOrFails, FilteredComes, Facts, Mark};
+ghost use Rattle.wax_tree.specs.Layers.{Keeps};
+ghost use Rattle.wax_tree.specs.Says.{SaidComes};
 ghost use Rattle.wax_tree.specs.Collected.{Ends};
 ghost use Rattle.wax_tree.specs.Counts.{Counts};
 ghost use Rattle.wax_tree.specs.Asks.{Asks, Lists};
@@ -13,7 +15,7 @@ use crate::filter_entry::FilterEntry;
 use crate::rule::{Rule, Without};
 use std::alloc::Global;
 use wax_directory::directory::Directory;
-use wax_filter::filter::{CancelWalk, Feed, TreeResidue};
+use wax_filter::filter::{CancelWalk, Feed, SeparatingFilter, TreeResidue};
 
 /// What a filter leaves out: an entry alone, or with all that lies below it.
 #[derive(Clone, Copy, Debug, Eq, PartialEq)]
@@ -97,7 +99,8 @@ pub trait FileIterator: CancelWalk<
     final fn without<P: Rule>(self, alloc: Global, rule: P) -> Without<Self, P>
     where
         Self: Sized,
-        ensures { result ≡ record { alloc = alloc; input = self; rule = rule; has_ended = false } }
+        ensures comes { (q : Pending Given) → FilteredComes (comes self) (P.rule rule) q → ⟦<Without<Self, P> as FileIterator>⟧.comes result q }
+        ensures keeps { Keeps (walked self) (⟦<Without<Self, P> as FileIterator>⟧.walked result) (Self.left self) (⟦<Without<Self, P> as SeparatingFilter>⟧.left result) (allows self) (⟦<Without<Self, P> as FileIterator>⟧.allows result) (ended self) (⟦<Without<Self, P> as FileIterator>⟧.ended result) (Self.can_feed self) (⟦<Without<Self, P> as SeparatingFilter>⟧.can_feed result) }
     {
         Without::new(alloc, self, rule)
     }
@@ -108,8 +111,9 @@ pub trait FileIterator: CancelWalk<
     final fn filter_entry<F>(self, f: F) -> FilterEntry<Self, F>
     where
         Self: Sized,
-        F: FnMut(&TreeEntry) -> Option<EntryResidue>,
-        ensures { result ≡ record { input = self; f = f } }
+        F: FnMut(&TreeEntry) -> Option<EntryResidue> + Drop,
+        ensures comes { (q : Pending Given) → SaidComes F.step (comes self) f q → ⟦<FilterEntry<Self, F> as FileIterator>⟧.comes result q }
+        ensures keeps { Keeps (walked self) (⟦<FilterEntry<Self, F> as FileIterator>⟧.walked result) (Self.left self) (⟦<FilterEntry<Self, F> as SeparatingFilter>⟧.left result) (allows self) (⟦<FilterEntry<Self, F> as FileIterator>⟧.allows result) (ended self) (⟦<FilterEntry<Self, F> as FileIterator>⟧.ended result) (Self.can_feed self × F.IsAlwaysCallable f) (⟦<FilterEntry<Self, F> as SeparatingFilter>⟧.can_feed result) }
     {
         FilterEntry::new(self, f)
     }

@@ -2,7 +2,7 @@
 
 ghost use Rattle.std.specs.Prelude.{◌≡◌, ◌⊎◌, IfOk, true, false};
 ghost use Rattle.wax_tree.specs.Entries.{given_of, given_outcome};
-ghost use Rattle.wax_tree.specs.Given.{Facts, Mark, said, is_cut, with_mark};
+ghost use Rattle.wax_tree.specs.Given.{Facts, FilteredComes, Mark, said, is_cut, with_mark};
 ghost use Rattle.wax_tree.specs.Said.{mark_of};
 
 use crate::entry::Entry;
@@ -147,7 +147,6 @@ where
 {
     ghost use Rattle.wax_tree.specs.Entries.{answer_of};
     ghost use Rattle.wax_tree.specs.Fed.{Fed};
-    ghost use Rattle.wax_tree.specs.Given.{FilteredComes};
 
     type Feed = I::Feed;
 
@@ -198,7 +197,6 @@ where
     I: FileIterator,
     P: Rule,
 {
-    ghost use Rattle.wax_tree.specs.Given.{FilteredComes};
     ghost use Rattle.wax_tree.specs.Laws.{filtered_cancelling, filtered_telling, ended_either};
     ghost use Rattle.wax_tree.specs.Asks.{Lists};
     ghost use Rattle.wax_tree.specs.Forest.{cancelled};
