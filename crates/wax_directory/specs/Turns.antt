@@ -1,5 +1,5 @@
 -- The call that a directory singles out.
-use Rattle.std.specs.Prelude.{ℕ, Option, Some, None, if◌then◌else◌}
+use Rattle.std.specs.Prelude.{ℕ, suc, Option, Some, None, if◌then◌else◌}
 use Rattle.wax_directory.specs.declared.turn.Turn.{Turn}
 use Rattle.wax_directory.specs.declared.failing.Failing.{Failing}
 use Rattle.wax_directory.specs.declared.starving.Starving.{Starving}
@@ -7,6 +7,11 @@ use Rattle.wax_directory.specs.declared.starving.Starving.{Starving}
 -- how many calls are handed on before the one that is singled out; none where it was made
 abbrev pub calls_left : Turn → Option ℕ
 calls_left t = if t.is_over then None else Some t.calls
+
+-- how many are left after one more call
+abbrev pub after_call : Option ℕ → Option ℕ
+after_call (Some (suc n)) = Some n
+after_call k = None
 
 abbrev pub fails_after : {D : Type 0} → Failing D → Option ℕ
 fails_after d = calls_left d.turn
@@ -21,3 +26,10 @@ failures_of (Some n) = 0
 
 abbrev pub failures_made : {D : Type 0} → Failing D → ℕ
 failures_made d = failures_of (fails_after d)
+
+-- the directory to which calls are handed on
+abbrev pub failing_inside : {D : Type 0} → Failing D → D
+failing_inside d = d.directory
+
+abbrev pub starving_inside : {D : Type 0} → Starving D → D
+starving_inside d = d.directory

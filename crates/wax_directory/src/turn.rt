@@ -1,6 +1,7 @@
 //! One call among many.
 
-ghost use Rattle.std.specs.Prelude.{◌≡◌, true, false, MatchBool};
+ghost use Rattle.std.specs.Prelude.{◌≡◌, true, false, Some, MatchBool};
+ghost use Rattle.wax_directory.specs.Turns.{calls_left, after_call};
 
 // Lets a number of calls pass and then singles one out.
 #[derive(Drop)]
@@ -12,7 +13,9 @@ pub(crate) struct Turn {
 impl Turn {
     // this call is the one
     pub(crate) fn comes(&mut self) -> bool
-        ensures { MatchBool result ((self.old.is_over ≡ false) × (self.new.is_over ≡ true)) (self.new.is_over ≡ self.old.is_over) }
+        ensures over { MatchBool result ((self.old.is_over ≡ false) × (self.new.is_over ≡ true)) (self.new.is_over ≡ self.old.is_over) }
+        ensures comes { MatchBool result (calls_left self.old ≡ Some 0) (¬ (calls_left self.old ≡ Some 0)) }
+        ensures left { calls_left self.new ≡ after_call (calls_left self.old) }
     {
         if self.is_over {
             return false;
