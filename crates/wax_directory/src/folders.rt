@@ -1,5 +1,7 @@
 //! The directory of the real system.
 
+ghost use Rattle.std.specs.Prelude.{◌≡◌};
+
 use crate::directory::{Directory, DirectoryFault, FileType, ListItem};
 use std::alloc::Global;
 use std::fs::ReadDir;
@@ -18,7 +20,10 @@ pub struct Folders {
 
 impl Folders {
     /// Keeps what the runtime gives `main` for files. The working folder is the process's.
-    pub fn new(runtime: HostRuntime) -> Folders {
+    pub fn new(runtime: HostRuntime) -> Folders
+        ensures missed { ⟦<Self as Directory>⟧.missed result ≡ 0 }
+        ensures failed { ⟦<Self as Directory>⟧.failed result ≡ 0 }
+    {
         Folders {
             runtime,
             misses: 0,
