@@ -6,11 +6,11 @@ ghost use Rattle.wax_directory.specs.Shown.{Shown};
 ghost use Rattle.wax_tree.specs.Asks.{Lists};
 ghost use Rattle.wax_tree.specs.Begins.{or_greatest};
 ghost use Rattle.wax_tree.specs.Collected.{GaveAll};
-ghost use Rattle.wax_tree.specs.Entries.{facts_of, given_outcome};
+ghost use Rattle.wax_tree.specs.Entries.{given_outcome};
 ghost use Rattle.wax_tree.specs.Forest.{pending, nothing};
 ghost use Rattle.wax_tree.specs.Plain.{plain, count_shown};
 
-use crate::entry::TreeEntry;
+use crate::entry::{Entry, TreeEntry};
 use crate::error::WalkError;
 use crate::gather::collect;
 use crate::path_ext::walk_from;
@@ -31,7 +31,7 @@ pub fn entries<D: Directory>(
     behavior: WalkBehavior,
 ) -> Result<(Vec<Result<TreeEntry, WalkError>>, D), NoMemory>
     ensures { IfOk result (λ r. (s : Shown) (listed : List (List ℕ)) → D.shows directory start.now s → count_shown s ≤ behavior.budget → Lists D.tells directory listed
-        → GaveAll (Lists D.tells r.1) (pending nothing (plain (least behavior.depth) (or_greatest (greatest behavior.depth)) start.now s nothing) listed) (map (given_outcome facts_of facts_of) r.0.items)) }
+        → GaveAll (Lists D.tells r.1) (pending nothing (plain (least behavior.depth) (or_greatest (greatest behavior.depth)) start.now s nothing) listed) (map (given_outcome ⟦<TreeEntry as Entry>⟧.facts ⟦<TreeEntry as Entry>⟧.facts) r.0.items)) }
 {
     collect(alloc, walk_from(alloc, directory, start, behavior))
 }
