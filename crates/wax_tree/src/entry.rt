@@ -23,7 +23,7 @@ pub trait Entry: Drop {
 
     /// The entry as one of a plain walk.
     fn as_tree_entry(&self) -> &TreeEntry
-        ensures { facts_of result.now ≡ facts self.now };
+        ensures { ⟦<TreeEntry as Entry>⟧.facts result.now ≡ facts self.now };
 
     /// The path: that of the start and then the candidate, with `/` between where one is needed.
     fn path(&self) -> &str
