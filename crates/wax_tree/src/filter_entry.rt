@@ -1,6 +1,8 @@
 //! Filters by a closure.
 
 ghost use Rattle.std.specs.Prelude.{◌≡◌};
+ghost use Rattle.std.specs.Iterator.{IsFinite};
+ghost use Rattle.wax_filter.specs.Feeding.{NextFiltrate};
 ghost use Rattle.wax_tree.specs.Entries.{given_of, answer_of};
 ghost use Rattle.wax_tree.specs.Fed.{Fed};
 ghost use Rattle.wax_tree.specs.Given.{Facts, Mark, said};
@@ -148,11 +150,11 @@ where
     I: FileIterator,
     F: FnMut(&TreeEntry) -> Option<EntryResidue> + Drop,
 {
-    ghost use Rattle.std.specs.Iterator.{IsFinite};
-
     type Item = Result<I::Entry, WalkError>;
 
     ghost can_next = { λ s. I.can_feed s.input × F.IsAlwaysCallable s.f × IsFinite (I.left s.input) };
+
+    ghost next_gives = { λ s r t. NextFiltrate ⟦<Self as SeparatingFilter>⟧.feeds s r t };
 
     ghost remaining = { λ s. I.left s.input };
 

@@ -35,10 +35,7 @@ where
     ensures { IfOk result (λ _. map (given_outcome T.facts R.facts) items.new.items ≡ cond (is_kept (given_of T.facts R.facts separation)) (map (given_outcome T.facts R.facts) items.old.items ++ given_of T.facts R.facts separation ∷ []) (map (given_outcome T.facts R.facts) items.old.items)) }
 {
     match separation {
-        Separation::Filtrate(filtrate) => match items.push(filtrate.into_inner()) {
-            Ok(()) => Ok(()),
-            Err(_) => Err(NoMemory),
-        },
+        Separation::Filtrate(filtrate) => push(items, filtrate.into_inner()),
         Separation::Residue(_) => Ok(()),
     }
 }

@@ -1,6 +1,8 @@
 //! Filters by a rule.
 
 ghost use Rattle.std.specs.Prelude.{◌≡◌, ◌⊎◌, IfOk, true, false};
+ghost use Rattle.std.specs.Iterator.{IsFinite};
+ghost use Rattle.wax_filter.specs.Feeding.{NextFiltrate};
 ghost use Rattle.wax_tree.specs.Entries.{given_of, given_outcome};
 ghost use Rattle.wax_tree.specs.Given.{Facts, FilteredComes, Mark, said, is_cut, with_mark};
 ghost use Rattle.wax_tree.specs.Said.{mark_of};
@@ -245,16 +247,12 @@ where
     ghost cancelling = { λ s t q h i. (h.2 ∙ i.0, subst (λ v. FilteredComes (I.comes t.input) (P.rule v) (cancelled q)) (sym h.1) (filtered_cancelling (P.rule s.rule) (I.comes s.input) (I.comes t.input) q (λ p j. I.cancelling s.input t.input p h.0 j) i.1)) };
 }
 
-impl<I, P> Iterator for Without<I, P>
-where
-    I: FileIterator,
-    P: Rule,
-{
-    ghost use Rattle.std.specs.Iterator.{IsFinite};
-
+impl<I: FileIterator, P: Rule> Iterator for Without<I, P> {
     type Item = Result<I::Entry, WalkError>;
 
     ghost can_next = { λ s. I.can_feed s.input × IsFinite (I.left s.input) };
+
+    ghost next_gives = { λ s r t. NextFiltrate ⟦<Self as SeparatingFilter>⟧.feeds s r t };
 
     ghost remaining = { λ s. I.left s.input };
 

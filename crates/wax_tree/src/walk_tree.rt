@@ -2,6 +2,7 @@
 
 ghost use Rattle.std.specs.Prelude.{◌≡◌, string_bytes, IfOk};
 ghost use Rattle.std.specs.Iterator.{at_most};
+ghost use Rattle.wax_filter.specs.Feeding.{NextFiltrate};
 ghost use Rattle.wax_tree.specs.Begins.{Begins};
 ghost use Rattle.wax_tree.specs.Asks.{Lists};
 ghost use Rattle.wax_tree.specs.Entries.{entry_in, facts_of, answer_of};
@@ -161,6 +162,8 @@ impl<D: Directory> FileIterator for WalkTree<D> {
 
 impl<D: Directory> Iterator for WalkTree<D> {
     type Item = Result<TreeEntry, WalkError>;
+
+    ghost next_gives = { λ s r t. NextFiltrate ⟦<Self as SeparatingFilter>⟧.feeds s r t };
 
     ghost remaining = { λ s. at_most (gives_at_most s) };
 
