@@ -1,6 +1,7 @@
 -- What a directory shows: trees of files, links and folders, with faults at their places.
 use Rattle.std.specs.Prelude.{◌≡◌, ℕ, Bool, true, false, cond, List, [], ◌∷◌, ◌++◌, Option, Some, None, nat_eq}
 use Rattle.std.specs.List.{Contains}
+use Rattle.std.specs.Str.{bytes_eq}
 use Rattle.wax_directory.specs.declared.directory.FileType.{FileType}
 use Rattle.wax_directory.specs.declared.directory.FileType.TheVariants.{File, Link, Folder}
 
@@ -48,6 +49,48 @@ ShowsIn shows path (sealed x rest) = IsPlain x × shows (join path x) a_sealed �
 ShowsIn shows path (misnamed x kind rest) = ¬ (IsPlain x) × ShowsIn shows path rest
 ShowsIn shows path (unread rest) = ShowsIn shows path rest
 ShowsIn shows path (not_text rest) = ShowsIn shows path rest
+
+-- what stands under a name in a folder
+abbrev pub child_in : List ℕ → Items → Shown
+child_in x end = missing
+child_in x (leaf y link rest) = cond (bytes_eq y x) (a_leaf link) (child_in x rest)
+child_in x (folder y inner rest) = cond (bytes_eq y x) (a_folder inner) (child_in x rest)
+child_in x (sealed y rest) = cond (bytes_eq y x) a_sealed (child_in x rest)
+child_in x (misnamed y kind rest) = child_in x rest
+child_in x (unread rest) = child_in x rest
+child_in x (not_text rest) = child_in x rest
+
+-- what stands under a name in what is shown: a folder that can't be listed hides it, and nothing is in a file or a link
+abbrev pub child_shown : List ℕ → Shown → Shown
+child_shown x (a_leaf link) = missing
+child_shown x (a_folder l) = child_in x l
+child_shown x a_sealed = failing
+child_shown x missing = missing
+child_shown x failing = failing
+
+-- no entry of a folder stands under this name
+abbrev pub IsNew : List ℕ → Items → Type 0
+IsNew x end = Unit {0}
+IsNew x (leaf y link rest) = ¬ (y ≡ x) × IsNew x rest
+IsNew x (folder y inner rest) = ¬ (y ≡ x) × IsNew x rest
+IsNew x (sealed y rest) = ¬ (y ≡ x) × IsNew x rest
+IsNew x (misnamed y kind rest) = IsNew x rest
+IsNew x (unread rest) = IsNew x rest
+IsNew x (not_text rest) = IsNew x rest
+
+-- the names in each folder are distinct
+abbrev pub AreDistinct : Items → Type 0
+AreDistinct end = Unit {0}
+AreDistinct (leaf x link rest) = IsNew x rest × AreDistinct rest
+AreDistinct (folder x inner rest) = IsNew x rest × AreDistinct inner × AreDistinct rest
+AreDistinct (sealed x rest) = IsNew x rest × AreDistinct rest
+AreDistinct (misnamed x kind rest) = AreDistinct rest
+AreDistinct (unread rest) = AreDistinct rest
+AreDistinct (not_text rest) = AreDistinct rest
+
+abbrev pub IsDistinct : Shown → Type 0
+IsDistinct (a_folder l) = AreDistinct l
+IsDistinct s = Unit {0}
 
 -- an item alone
 pub data Listed : Type 0 where

@@ -1,7 +1,7 @@
 //! What every directory answers, and its law.
 
 ghost use Rattle.std.specs.Prelude.{◌≡◌, ℕ, List};
-ghost use Rattle.wax_directory.specs.Shown.{Items, Shown, a_folder, ShowsIn};
+ghost use Rattle.wax_directory.specs.Shown.{Items, Shown, a_folder, ShowsIn, IsPlain, join, child_shown, IsDistinct};
 ghost use Rattle.wax_directory.specs.Told.{Told};
 
 use std::alloc::Global;
@@ -143,4 +143,12 @@ pub trait Directory: Drop {
     /// What a folder holds is shown at its path, and the names that a path can hold are those that
     /// are plain.
     ghost inner: { (d : Self) (path : List ℕ) (l : Items) → shows d path (a_folder l) → ShowsIn (shows d) path l };
+
+    /// Below what is shown at a path, each name that a path can hold leads to what stands under it
+    /// there: to nothing where no entry has it, and below a file, a link or nothing; below a folder
+    /// that can't be listed, and below a failure, each question fails.
+    ghost child: { (d : Self) (path x : List ℕ) (s : Shown) → shows d path s → IsPlain x → shows d (join path x) (child_shown x s) };
+
+    /// The names in each folder that it shows are distinct, but for those that no path can hold.
+    ghost distinct: { (d : Self) (path : List ℕ) (s : Shown) → shows d path s → IsDistinct s };
 }

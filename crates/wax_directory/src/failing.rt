@@ -117,4 +117,8 @@ impl<D: Directory> Directory for Failing<D> {
     }
 
     ghost inner = { λ d path l h. elim h [ ] };
+
+    ghost child = { λ d path x s h p. elim h [ ] };
+
+    ghost distinct = { λ d path s h. elim h [ ] };
 }

@@ -158,4 +158,8 @@ impl Directory for Folders {
     }
 
     ghost inner = { λ d path l h. elim h [ ] };
+
+    ghost child = { λ d path x s h p. elim h [ ] };
+
+    ghost distinct = { λ d path s h. elim h [ ] };
 }

@@ -119,4 +119,8 @@ impl<D: Directory> Directory for Starving<D> {
     }
 
     ghost inner = { λ s path l h. D.inner s.directory path l h };
+
+    ghost child = { λ d path x s h p. D.child d.directory path x s h p };
+
+    ghost distinct = { λ d path s h. D.distinct d.directory path s h };
 }

@@ -52,6 +52,10 @@ impl Directory for Nowhere {
     }
 
     ghost inner = { λ d path l h. elim h [ ] };
+
+    ghost child = { λ d path x s h p. elim h [ ] };
+
+    ghost distinct = { λ d path s h. elim h [ ] };
 }
 
 #[test]

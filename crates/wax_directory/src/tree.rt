@@ -307,7 +307,7 @@ impl Directory for Tree {
     type Cursor = TreeCursor;
 
     ghost use Rattle.wax_directory.specs.Trees.{tree_shows, tree_holds, tree_tells, tree_missed, tree_failed};
-    ghost use Rattle.wax_directory.specs.TreeLaw.{tree_inner};
+    ghost use Rattle.wax_directory.specs.TreeLaw.{tree_inner, tree_child, tree_distinct};
 
     ghost shows = { tree_shows };
 
@@ -376,6 +376,10 @@ impl Directory for Tree {
     }
 
     ghost inner = { λ d path l h. tree_inner d path l h };
+
+    ghost child = { λ d path x s h p. tree_child d path x s h p };
+
+    ghost distinct = { λ d path s h. tree_distinct d path s h };
 }
 
 // the place of the entry of this name

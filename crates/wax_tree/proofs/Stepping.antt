@@ -1,21 +1,23 @@
 -- Steps of a walk.
-use Rattle.std.proofs.Common.{◌≡◌, ℕ, ◌+◌, ◌-◌, ◌<◌, ◌≤◌, Bool, true, false, cond, nat_lt, List, [], ◌∷◌, ◌++◌, refl, sym, ap, subst, ◌∙◌, arith, inl, inr, string_bytes, append_assoc}
+use Rattle.std.proofs.Common.{◌≡◌, ℕ, ◌+◌, ◌-◌, ◌^◌, ◌<◌, ◌≤◌, Bool, true, false, cond, nat_lt, length, List, [], ◌∷◌, ◌++◌, refl, sym, ap, subst, ◌∙◌, arith, inl, inr, string_bytes, append_assoc, length-append}
 use Rattle.std.specs.Prelude.{Option, Some, None, ◌⊎◌, Result, Ok, Err, String}
 use Rattle.std.specs.declared.alloc.Global.{Global}
 use Rattle.std.proofs.lemmas.Bool.{lt-ltb, le-ltb}
+use Rattle.std.specs.Str.{bytes_eq}
 use Rattle.wax_directory.specs.declared.directory.FileType.{FileType}
 use Rattle.wax_directory.specs.declared.directory.FileType.TheVariants as F
 use Rattle.wax_directory.specs.declared.directory.DirectoryFault.TheVariants as Fault_of
 use Rattle.wax_directory.specs.Answers.{KindIs, Opens}
-use Rattle.wax_directory.specs.Shown.{Items, end, leaf, folder, sealed, misnamed, unread, not_text, Shown, a_leaf, a_folder, a_sealed, missing, failing, leaf_kind, IsPlain, ShowsIn, join, Listed, named, no_item, no_name, first_of, rest_of}
+use Rattle.wax_directory.specs.Shown.{Items, end, leaf, folder, sealed, misnamed, unread, not_text, Shown, a_leaf, a_folder, a_sealed, missing, failing, leaf_kind, IsPlain, ShowsIn, join, Listed, named, no_item, no_name, first_of, rest_of, child_in, child_shown}
 use Rattle.wax_directory.specs.Told.{Stays}
 use Rattle.wax_tree.specs.declared.entry.TreeEntry.{TreeEntry}
 use Rattle.wax_tree.specs.declared.error.WalkError.{WalkError}
 use Rattle.wax_tree.specs.declared.error.WalkError.TheVariants.{Memory}
 use Rattle.wax_tree.specs.declared.error.WalkErrorKind.{WalkErrorKind}
-use Rattle.wax_tree.specs.declared.error.WalkErrorKind.TheVariants.{NotFound, Listing, NotText, BadName}
+use Rattle.wax_tree.specs.declared.error.WalkErrorKind.TheVariants.{NotFound, NotAFolder, Listing, NotText, BadName}
 use Rattle.wax_tree.specs.declared.steps.Folder.{Folder}
 use Rattle.wax_tree.specs.declared.steps.Level.{Level}
+use Rattle.wax_tree.specs.declared.steps.Place.{Place}
 use Rattle.wax_tree.specs.declared.steps.Steps.{Steps}
 use Rattle.wax_tree.specs.declared.steps.Step.{Step}
 use Rattle.wax_tree.specs.declared.steps.Step.TheVariants.{Gives, GoesOn, Ends}
@@ -23,9 +25,10 @@ use Rattle.wax_tree.specs.Forest.{Forest, nothing, item, lists, followed_by, Pen
 use Rattle.wax_tree.specs.Given.{Given, GivesOrFails, fault, no_memory}
 use Rattle.wax_tree.specs.Collected as E
 use Rattle.wax_tree.specs.Lead.{after_listing, LeadsTo}
-use Rattle.wax_tree.specs.Plain.{count, count_shown, at_depth, plain_entry, contents, found, plain, inside, unlisted}
+use Rattle.wax_tree.specs.Plain.{count, count_shown, at_depth, plain_entry, contents, found, plain_at, inside, unlisted}
+use Rattle.wax_tree.specs.Prefix.{ArePlain, from_last, walk_from}
 use Rattle.wax_tree.specs.Heads.{headed, own_count}
-use Rattle.wax_tree.specs.Walking.{items_left, steps_left, Adds, Saves, HasKind, IsAlone, IsFolder, tree_given, tree_given_step, StepIs, entering, LevelShows, level_forest, FirstShows, EnteredShows, LevelsShow, Rests, Comes, Advances}
+use Rattle.wax_tree.specs.Walking.{items_left, steps_left, Adds, AddsFirst, Saves, HasKind, IsAlone, IsFolder, tree_given, tree_given_step, StepIs, entering, LevelShows, level_forest, FirstShows, EnteredShows, LevelsShow, Rests, Comes, Advances}
 
 pub silent : (min max : ℕ) (root : List ℕ) (depth : ℕ) (x : Given) (below after : Forest Given) → depth < min → at_depth min max root depth x below after ≡ followed_by below after
 silent min max root depth x below after h = ap (λ b. cond b (followed_by below after) (item x below after)) (lt-ltb depth min h)
@@ -35,26 +38,91 @@ in_range min max root depth x below after h = ap (λ b. cond b (followed_by belo
 
 -- ---- the answer at the start
 
-pub begins : (min max : ℕ) (root : List ℕ) (s : Shown) (kind : FileType) (g : Forest Given) → KindIs s (Ok (Some kind)) → HasKind s kind × (plain min max root s g ≡ found min max root root [] 0 kind s g)
-begins min max root (a_leaf link) kind g h = let e : kind ≡ leaf_kind link = cc in (e, ap (λ k. found min max root root [] 0 k (a_leaf link) g) (sym e))
-begins min max root (a_folder l) kind g h = let e : kind ≡ F.Folder = cc in (e, ap (λ k. found min max root root [] 0 k (a_folder l) g) (sym e))
-begins min max root a_sealed kind g h = let e : kind ≡ F.Folder = cc in (e, ap (λ k. found min max root root [] 0 k a_sealed g) (sym e))
-begins min max root missing kind g h = cc
-begins min max root failing kind g h = cc
+pub begins_missing : (min max : ℕ) (root path candidate : List ℕ) (depth : ℕ) (s : Shown) (names : List (List ℕ)) (g : Forest Given) → KindIs s (Ok None) → walk_from min max root path candidate depth s names g ≡ item (fault NotFound path depth) nothing g
+begins_missing min max root path candidate depth missing [] g h = refl
+begins_missing min max root path candidate depth missing (x ∷ names) g h = refl
+begins_missing min max root path candidate depth (a_leaf link) names g h = cc
+begins_missing min max root path candidate depth (a_folder l) names g h = cc
+begins_missing min max root path candidate depth a_sealed names g h = cc
+begins_missing min max root path candidate depth failing names g h = cc
 
-pub begins_missing : (min max : ℕ) (root : List ℕ) (s : Shown) (g : Forest Given) → KindIs s (Ok None) → plain min max root s g ≡ item (fault NotFound root 0) nothing g
-begins_missing min max root missing g h = refl
-begins_missing min max root (a_leaf link) g h = cc
-begins_missing min max root (a_folder l) g h = cc
-begins_missing min max root a_sealed g h = cc
-begins_missing min max root failing g h = cc
+pub begins_failing : (min max : ℕ) (root path candidate : List ℕ) (depth : ℕ) (s : Shown) (names : List (List ℕ)) (g : Forest Given) → KindIs s (Err Fault_of.Failed) → walk_from min max root path candidate depth s names g ≡ item (fault Listing path depth) nothing g
+begins_failing min max root path candidate depth failing [] g h = refl
+begins_failing min max root path candidate depth failing (x ∷ names) g h = refl
+begins_failing min max root path candidate depth missing names g h = cc
+begins_failing min max root path candidate depth (a_leaf link) names g h = cc
+begins_failing min max root path candidate depth (a_folder l) names g h = cc
+begins_failing min max root path candidate depth a_sealed names g h = cc
 
-pub begins_failing : (min max : ℕ) (root : List ℕ) (s : Shown) (g : Forest Given) → KindIs s (Err Fault_of.Failed) → plain min max root s g ≡ item (fault Listing root 0) nothing g
-begins_failing min max root failing g h = refl
-begins_failing min max root missing g h = cc
-begins_failing min max root (a_leaf link) g h = cc
-begins_failing min max root (a_folder l) g h = cc
-begins_failing min max root a_sealed g h = cc
+pub has_kind : (s : Shown) (kind : FileType) → KindIs s (Ok (Some kind)) → HasKind s kind
+has_kind (a_leaf link) kind h = cc
+has_kind (a_folder l) kind h = cc
+has_kind a_sealed kind h = cc
+has_kind missing kind h = cc
+has_kind failing kind h = cc
+
+pub plain_is : (min max : ℕ) (root path candidate : List ℕ) (depth : ℕ) (s : Shown) (kind : FileType) (g : Forest Given) → HasKind s kind → plain_at min max root path candidate depth s g ≡ found min max root path candidate depth kind s g
+plain_is min max root path candidate depth (a_leaf link) kind g h = ap (λ k. found min max root path candidate depth k (a_leaf link) g) (sym h)
+plain_is min max root path candidate depth (a_folder l) kind g h = ap (λ k. found min max root path candidate depth k (a_folder l) g) (sym h)
+plain_is min max root path candidate depth a_sealed kind g h = ap (λ k. found min max root path candidate depth k a_sealed g) (sym h)
+plain_is min max root path candidate depth missing kind g h = absurd h
+plain_is min max root path candidate depth failing kind g h = absurd h
+
+-- ---- names to come
+
+pub from_last_end : (names : List (String Global)) (x : String Global) → from_last (names ++ x ∷ []) ≡ string_bytes x ∷ from_last names
+from_last_end [] x = refl
+from_last_end (y ∷ names) x = ap (λ v. v ++ string_bytes y ∷ []) (from_last_end names x)
+
+pub none_left : {A : Type 0} (xs : List A) → (0 < length xs → ⊥) → xs ≡ []
+none_left [] h = refl
+none_left (x ∷ xs) h = absurd (h (omega arith))
+
+-- a name follows what is no folder
+pub follows_leaf : (min max : ℕ) (root path candidate : List ℕ) (depth : ℕ) (s : Shown) (kind : FileType) (x : List ℕ) (names : List (List ℕ)) (g : Forest Given) → HasKind s kind → ¬ (kind ≡ F.Folder)
+    → walk_from min max root path candidate depth s (x ∷ names) g ≡ item (fault NotAFolder path depth) nothing g
+follows_leaf min max root path candidate depth (a_leaf link) kind x names g h n = refl
+follows_leaf min max root path candidate depth (a_folder l) kind x names g h n = absurd (n h)
+follows_leaf min max root path candidate depth a_sealed kind x names g h n = absurd (n h)
+follows_leaf min max root path candidate depth missing kind x names g h n = absurd h
+follows_leaf min max root path candidate depth failing kind x names g h n = absurd h
+
+-- a name follows a folder
+pub follows_folder : (min max : ℕ) (root path candidate : List ℕ) (depth : ℕ) (s : Shown) (x : List ℕ) (names : List (List ℕ)) (g : Forest Given) → HasKind s F.Folder
+    → walk_from min max root path candidate depth s (x ∷ names) g ≡ walk_from min max root (join path x) (join candidate x) (depth + 1) (child_shown x s) names g
+follows_folder min max root path candidate depth (a_folder l) x names g h = refl
+follows_folder min max root path candidate depth a_sealed x [] g h = refl
+follows_folder min max root path candidate depth a_sealed x (y ∷ names) g h = refl
+follows_folder min max root path candidate depth (a_leaf true) x names g h = cc
+follows_folder min max root path candidate depth (a_leaf false) x names g h = cc
+follows_folder min max root path candidate depth missing x names g h = absurd h
+follows_folder min max root path candidate depth failing x names g h = absurd h
+
+child_counts_in : (x : List ℕ) (l : Items) → count_shown (child_in x l) ≤ count l
+child_counts_in x end = omega arith
+child_counts_in x (leaf y link rest) = go (bytes_eq y x) (child_counts_in x rest) where
+  go : (b : Bool) → count_shown (child_in x rest) ≤ count rest → count_shown (cond b (a_leaf link) (child_in x rest)) ≤ 1 + count rest
+  go true e = omega arith
+  go false e = omega (arith, e)
+child_counts_in x (folder y inner rest) = go (bytes_eq y x) (child_counts_in x rest) where
+  go : (b : Bool) → count_shown (child_in x rest) ≤ count rest → count_shown (cond b (a_folder inner) (child_in x rest)) ≤ 1 + (count inner + count rest)
+  go true e = omega arith
+  go false e = omega (arith, e)
+child_counts_in x (sealed y rest) = go (bytes_eq y x) (child_counts_in x rest) where
+  go : (b : Bool) → count_shown (child_in x rest) ≤ count rest → count_shown (cond b a_sealed (child_in x rest)) ≤ 1 + count rest
+  go true e = omega arith
+  go false e = omega (arith, e)
+child_counts_in x (misnamed y kind rest) = let e : count_shown (child_in x rest) ≤ count rest = child_counts_in x rest in omega (arith, e)
+child_counts_in x (unread rest) = let e : count_shown (child_in x rest) ≤ count rest = child_counts_in x rest in omega (arith, e)
+child_counts_in x (not_text rest) = let e : count_shown (child_in x rest) ≤ count rest = child_counts_in x rest in omega (arith, e)
+
+-- what stands under a name holds no more items
+pub child_counts : (x : List ℕ) (s : Shown) → count_shown (child_shown x s) ≤ count_shown s
+child_counts x (a_leaf link) = omega arith
+child_counts x (a_folder l) = child_counts_in x l
+child_counts x a_sealed = omega arith
+child_counts x missing = omega arith
+child_counts x failing = omega arith
 
 -- ---- what is shown stays shown
 
@@ -361,15 +429,57 @@ module _ {D C : Type 0} (shows : D → List ℕ → Shown → Type 0) (tells : D
   goes_up w path candidate depth (unread rest) g n listed r h few = cc
   goes_up w path candidate depth (not_text rest) g n listed r h few = cc
 
-  pub steps_begin : (w : Steps D C) (start : String Global) (a : Option (String Global)) (b : Option Folder) (p : Pending Given) → Comes shows tells holds w p → w.first ≡ Some start → a ≡ None → b ≡ None
-      → (s : Shown) × (g : Forest Given) × (n : ℕ) × Rests shows tells holds (record w { first = a; entered = b }) g n p.listed × (string_bytes start ≡ string_bytes w.root) × shows w.directory (string_bytes start) s × (count_shown s + n ≤ w.budget) × (all_pending p ≡ plain w.min w.max (string_bytes w.root) s g)
-  steps_begin w start a b p h e i j =
+  -- a place to begin at
+  pub comes_first : (w : Steps D C) (place : Place) (s : Shown) (g : Forest Given) (n : ℕ) (listed : List (List ℕ)) → Rests shows tells holds w g n listed → shows w.directory (string_bytes place.path) s
+      → ArePlain (from_last place.names.items) → place.depth + length place.names.items ≤ 2 ^ 64 - 1 → count_shown s + n ≤ w.budget
+      → Comes shows tells holds (record w { first = Some place }) (pending nothing (walk_from w.min w.max (string_bytes w.root) (string_bytes place.path) (string_bytes place.candidate) place.depth s (from_last place.names.items) g) listed)
+  comes_first w place s g n listed r h p d few = record {
+    back = g;
+    of_first = count_shown s;
+    of_entered = 0;
+    of_levels = n;
+    first = (s, h, p, d, omega arith, refl);
+    entered = subst (λ v. EnteredShows (shows w.directory) w.min w.max (string_bytes w.root) v nothing 0) (sym r.3) (refl, refl);
+    levels = r.0;
+    enough = omega arith;
+    alone = r.3;
+    told = r.1;
+    goes = r.4;
+  }
+
+  -- a name follows a folder
+  pub follows : (w : Steps D C) (place next : Place) (x : String Global) (s : Shown) (g : Forest Given) (n : ℕ) (listed : List (List ℕ)) → Rests shows tells holds w g n listed → shows w.directory (string_bytes place.path) s → HasKind s F.Folder
+      → ArePlain (from_last place.names.items) → place.depth + length place.names.items ≤ 2 ^ 64 - 1 → count_shown s + n ≤ w.budget
+      → ((path : List ℕ) (y : List ℕ) (s : Shown) → shows w.directory path s → IsPlain y → shows w.directory (join path y) (child_shown y s))
+      → place.names.items ≡ next.names.items ++ x ∷ [] → string_bytes next.path ≡ join (string_bytes place.path) (string_bytes x) → string_bytes next.candidate ≡ join (string_bytes place.candidate) (string_bytes x) → next.depth ≡ place.depth + 1
+      → (q : Pending Given) × Comes shows tells holds (record w { first = Some next }) q × Advances (walk_from w.min w.max (string_bytes w.root) (string_bytes place.path) (string_bytes place.candidate) place.depth s (from_last place.names.items) g) listed q
+  follows w place next x s g n listed r h k p d few child e path candidate depth =
+      let names : from_last place.names.items ≡ string_bytes x ∷ from_last next.names.items = ap from_last e ∙ from_last_end next.names.items x in
+      let plain : ArePlain (string_bytes x ∷ from_last next.names.items) = subst ArePlain names p in
+      let below = child_shown (string_bytes x) s in
+      let long : length place.names.items ≡ length next.names.items + 1 = ap length e ∙ length-append next.names.items (x ∷ []) in
+      let at : shows w.directory (string_bytes next.path) below = subst (λ v. shows w.directory v below) (sym path) (child (string_bytes place.path) (string_bytes x) s h plain.0) in
+      let fewer : count_shown below ≤ count_shown s = child_counts (string_bytes x) s in (
+        pending nothing (walk_from w.min w.max (string_bytes w.root) (string_bytes next.path) (string_bytes next.candidate) next.depth below (from_last next.names.items) g) listed,
+        comes_first w next below g n listed r at plain.1 (omega (arith, long, depth, d)) (omega (arith, fewer, few)),
+        inl (
+          (ap (λ v. walk_from w.min w.max (string_bytes w.root) (string_bytes place.path) (string_bytes place.candidate) place.depth s v g) names
+              ∙ follows_folder w.min w.max (string_bytes w.root) (string_bytes place.path) (string_bytes place.candidate) place.depth s (string_bytes x) (from_last next.names.items) g k)
+              ∙ (λ i. walk_from w.min w.max (string_bytes w.root) (sym path i) (sym candidate i) (sym depth i) below (from_last next.names.items) g),
+          refl,
+        ),
+      )
+
+  pub steps_begin : (w : Steps D C) (place : Place) (a : Option Place) (b : Option Folder) (p : Pending Given) → Comes shows tells holds w p → w.first ≡ Some place → a ≡ None → b ≡ None
+      → (s : Shown) × (g : Forest Given) × (n : ℕ) × Rests shows tells holds (record w { first = a; entered = b }) g n p.listed × shows w.directory (string_bytes place.path) s × ArePlain (from_last place.names.items) × (place.depth + length place.names.items ≤ 2 ^ 64 - 1) × (count_shown s + n ≤ w.budget)
+      × (all_pending p ≡ walk_from w.min w.max (string_bytes w.root) (string_bytes place.path) (string_bytes place.candidate) place.depth s (from_last place.names.items) g)
+  steps_begin w place a b p h e i j =
       let f = subst (λ v. FirstShows (shows w.directory) w.min w.max (string_bytes w.root) v p.after h.back h.of_first) e h.first in
       let alone : w.entered ≡ None = subst (λ v. IsAlone v w.entered) e h.alone in
       let below = subst (λ v. EnteredShows (shows w.directory) w.min w.max (string_bytes w.root) v p.below h.of_entered) alone h.entered in
-      (f.0, h.back, h.of_levels, (h.levels, h.told, i, j, h.goes), f.4, subst (λ v. shows w.directory v f.0) (sym f.4) f.1, omega (arith, h.enough, f.3, below.1), ap (λ v. followed_by v p.after) below.0 ∙ f.2)
+      (f.0, h.back, h.of_levels, (h.levels, h.told, i, j, h.goes), f.1, f.2, f.3, omega (arith, h.enough, f.4, below.1), ap (λ v. followed_by v p.after) below.0 ∙ f.5)
 
-  pub steps_enter : (w : Steps D C) (e : Folder) (a : Option (String Global)) (b : Option Folder) (p : Pending Given) → Comes shows tells holds w p → w.first ≡ None → w.entered ≡ Some e → a ≡ None → b ≡ None
+  pub steps_enter : (w : Steps D C) (e : Folder) (a : Option Place) (b : Option Folder) (p : Pending Given) → Comes shows tells holds w p → w.first ≡ None → w.entered ≡ Some e → a ≡ None → b ≡ None
       → (s : Shown) × (g : Forest Given) × (n : ℕ) × Rests shows tells holds (record w { first = a; entered = b }) g n p.listed × shows w.directory (string_bytes e.path) s × IsFolder s × (count_shown s + n ≤ w.budget) × (all_pending p ≡ followed_by (entering w.min w.max (string_bytes w.root) (string_bytes e.path) (string_bytes e.candidate) e.depth s) g)
   steps_enter w e a b p h first is i j =
       let f = subst (λ v. FirstShows (shows w.directory) w.min w.max (string_bytes w.root) v p.after h.back h.of_first) first h.first in
@@ -384,7 +494,7 @@ module _ {D C : Type 0} (shows : D → List ℕ → Shown → Type 0) (tells : D
         ap (λ v. followed_by v p.after) below.3 ∙ ap (followed_by (entering w.min w.max (string_bytes w.root) (string_bytes e.path) (string_bytes e.candidate) e.depth below.0)) f.0,
       )
 
-  pub steps_list : (w v : Steps D C) (lv : Level C) (a : Option (String Global)) (b : Option Folder) (p : Pending Given) → Comes shows tells holds w p → w.first ≡ None → w.entered ≡ None → a ≡ None → b ≡ None → w.levels.items ≡ v.levels.items ++ lv ∷ []
+  pub steps_list : (w v : Steps D C) (lv : Level C) (a : Option Place) (b : Option Folder) (p : Pending Given) → Comes shows tells holds w p → w.first ≡ None → w.entered ≡ None → a ≡ None → b ≡ None → w.levels.items ≡ v.levels.items ++ lv ∷ []
       → (l : Items) × (g : Forest Given) × (n : ℕ) × Rests shows tells holds (record w { first = a; entered = b; levels = v.levels }) g n p.listed × LevelShows (shows w.directory) w.min w.max (string_bytes w.root) (holds w.directory) lv l × (n + count l ≤ w.budget) × (all_pending p ≡ followed_by (level_forest (shows w.directory) w.min w.max (string_bytes w.root) (holds w.directory) lv l) g)
   steps_list w v lv a b p h first is i j e =
       let f = subst (λ v. FirstShows (shows w.directory) w.min w.max (string_bytes w.root) v p.after h.back h.of_first) first h.first in
@@ -397,6 +507,11 @@ module _ {D C : Type 0} where
   saves_after old mid new (Gives x) h k a = omega arith
   saves_after old mid new GoesOn h k a = (omega arith, omega arith)
   saves_after old mid new Ends h k a = tt
+
+pub adds_first : {D C : Type 0} (names : ℕ) (old new : Steps D C) (r : Step) → Adds 1 2 old r new → AddsFirst names old r new
+adds_first names old new (Gives x) a = a
+adds_first names old new GoesOn a = (omega (arith, a.0), omega (arith, a.1))
+adds_first names old new Ends a = a
 
 append-nil : {A : Type 0} (xs : List A) → xs ++ [] ≡ xs
 append-nil [] = refl

@@ -5,6 +5,7 @@ pub mod Said
 pub mod Laws
 pub mod Collected
 pub mod Plain
+pub mod Prefix
 pub mod Heads
 pub mod Asks
 pub mod Walking

@@ -62,10 +62,14 @@ module _ (min max : ℕ) (root : List ℕ) where
   abbrev pub found : List ℕ → List ℕ → ℕ → FileType → Shown → Forest Given → Forest Given
   found path candidate depth kind s after = at_depth depth (plain_entry path candidate depth kind) (contents path candidate depth s) after
 
+  -- the walk from a path on that has this candidate and depth, and after it what comes
+  abbrev pub plain_at : List ℕ → List ℕ → ℕ → Shown → Forest Given → Forest Given
+  plain_at path candidate depth (a_leaf link) after = found path candidate depth (leaf_kind link) (a_leaf link) after
+  plain_at path candidate depth (a_folder l) after = found path candidate depth Folder (a_folder l) after
+  plain_at path candidate depth a_sealed after = found path candidate depth Folder a_sealed after
+  plain_at path candidate depth missing after = item (fault NotFound path depth) nothing after
+  plain_at path candidate depth failing after = item (fault Listing path depth) nothing after
+
   -- the walk from the root, and after it what comes
   abbrev pub plain : Shown → Forest Given → Forest Given
-  plain (a_leaf link) after = found root [] 0 (leaf_kind link) (a_leaf link) after
-  plain (a_folder l) after = found root [] 0 Folder (a_folder l) after
-  plain a_sealed after = found root [] 0 Folder a_sealed after
-  plain missing after = item (fault NotFound root 0) nothing after
-  plain failing after = item (fault Listing root 0) nothing after
+  plain s after = plain_at root [] 0 s after

@@ -1,6 +1,5 @@
 -- What a walk's state says of what is to come.
-use Rattle.std.specs.Prelude.{◌≡◌, ℕ, ◌+◌, ◌*◌, ◌-◌, ◌<◌, ◌≤◌, true, false, cond, length, List, [], ◌∷◌, ◌++◌, Option, Some, None, Result, String, string_bytes, ◌⊎◌}
-use Rattle.std.specs.declared.alloc.Global.{Global}
+use Rattle.std.specs.Prelude.{◌≡◌, ℕ, ◌+◌, ◌*◌, ◌-◌, ◌^◌, ◌<◌, ◌≤◌, true, false, cond, length, List, [], ◌∷◌, ◌++◌, Option, Some, None, Result, string_bytes, ◌⊎◌}
 use Rattle.wax_directory.specs.declared.directory.FileType.{FileType}
 use Rattle.wax_directory.specs.declared.directory.FileType.TheVariants as F
 use Rattle.wax_directory.specs.Shown.{Items, Shown, a_leaf, a_folder, a_sealed, leaf_kind, ShowsIn}
@@ -8,13 +7,15 @@ use Rattle.wax_tree.specs.declared.error.WalkError.{WalkError}
 use Rattle.wax_tree.specs.declared.entry.TreeEntry.{TreeEntry}
 use Rattle.wax_tree.specs.declared.steps.Folder.{Folder}
 use Rattle.wax_tree.specs.declared.steps.Level.{Level}
+use Rattle.wax_tree.specs.declared.steps.Place.{Place}
 use Rattle.wax_tree.specs.declared.steps.Step.{Step}
 use Rattle.wax_tree.specs.declared.steps.Step.TheVariants.{Gives, GoesOn, Ends}
 use Rattle.wax_tree.specs.declared.steps.Steps.{Steps}
 use Rattle.wax_tree.specs.Forest.{Forest, nothing, lists, followed_by, Pending, all_pending, FirstIs}
 use Rattle.wax_tree.specs.Given.{Given, no_memory}
 use Rattle.wax_tree.specs.Entries.{facts_of, given_outcome}
-use Rattle.wax_tree.specs.Plain.{count, count_shown, inside, unlisted, plain}
+use Rattle.wax_tree.specs.Plain.{count, count_shown, inside, unlisted}
+use Rattle.wax_tree.specs.Prefix.{ArePlain, from_last, walk_from}
 
 abbrev pub MatchOption' : {A : Type 0} → Option A → ℕ → ℕ → ℕ
 MatchOption' None m n = m
@@ -40,9 +41,9 @@ entering min max root path candidate depth (a_folder l) = lists path (inside min
 entering min max root path candidate depth s = unlisted min max root path (depth - 1)
 
 -- at the start no folder was entered
-abbrev pub IsAlone : Option (String Global) → Option Folder → Type 0
+abbrev pub IsAlone : Option Place → Option Folder → Type 0
 IsAlone None e = Unit {0}
-IsAlone (Some path) e = e ≡ None
+IsAlone (Some place) e = e ≡ None
 
 -- it is a folder, that can be listed or not
 abbrev pub IsFolder : Shown → Type 0
@@ -58,10 +59,10 @@ HasKind a_sealed k = k ≡ F.Folder
 HasKind s k = ⊥
 
 module _ (shows : List ℕ → Shown → Type 0) (min max : ℕ) (root : List ℕ) where
-  -- what comes of the start, and after it, and how many items are listed for it
-  abbrev pub FirstShows : Option (String Global) → Forest Given → Forest Given → ℕ → Type 0
+  -- what comes of the place to begin at, and after it, and at most how many items are listed for it
+  abbrev pub FirstShows : Option Place → Forest Given → Forest Given → ℕ → Type 0
   FirstShows None f after n = (f ≡ after) × (n ≡ 0)
-  FirstShows (Some path) f after n = (s : Shown) × shows root s × (f ≡ plain min max root s after) × (n ≡ count_shown s) × (string_bytes path ≡ root)
+  FirstShows (Some place) f after n = (s : Shown) × shows (string_bytes place.path) s × ArePlain (from_last place.names.items) × (place.depth + length place.names.items ≤ 2 ^ 64 - 1) × (count_shown s ≤ n) × (f ≡ walk_from min max root (string_bytes place.path) (string_bytes place.candidate) place.depth s (from_last place.names.items) after)
 
   -- what comes of the folder that was given last
   abbrev pub EnteredShows : Option Folder → Forest Given → ℕ → Type 0
@@ -115,9 +116,14 @@ StepIs then f listed Ends = FirstIs then f listed None
 abbrev pub items_left : {D C : Type 0} → Steps D C → ℕ
 items_left w = 2 * w.budget + (MatchOption' w.first 0 2 + (MatchOption' w.entered 0 1 + cond w.has_ended 0 1))
 
+-- at most how many steps it makes for the place to begin at
+abbrev pub first_steps : Option Place → ℕ
+first_steps None = 0
+first_steps (Some place) = 4 + length place.names.items
+
 -- at most how many steps it makes
 abbrev pub steps_left : {D C : Type 0} → Steps D C → ℕ
-steps_left w = 3 * w.budget + (MatchOption' w.first 0 4 + (MatchOption' w.entered 0 2 + length w.levels.items))
+steps_left w = 3 * w.budget + (first_steps w.first + (MatchOption' w.entered 0 2 + length w.levels.items))
 
 -- at most how many items it may still take from listings
 abbrev pub allowance : {D C : Type 0} → Steps D C → ℕ
@@ -127,6 +133,11 @@ allowance w = cond w.has_ended 0 (w.budget + 1)
 abbrev pub Adds : {D C : Type 0} → ℕ → ℕ → Steps D C → Step → Steps D C → Type 0
 Adds a b old GoesOn new = (items_left new ≤ items_left old + a) × (steps_left new ≤ steps_left old + b)
 Adds a b old r new = items_left new ≤ items_left old + a
+
+-- at most so many more items and steps are left, where so many names were to come
+abbrev pub AddsFirst : {D C : Type 0} → ℕ → Steps D C → Step → Steps D C → Type 0
+AddsFirst names old GoesOn new = (items_left new ≤ items_left old + 2) × (steps_left new ≤ steps_left old + (3 + names))
+AddsFirst names old r new = items_left new ≤ items_left old + 1
 
 -- an item takes one of those that are left
 abbrev pub Saves : {D C : Type 0} → Steps D C → Step → Steps D C → Type 0

@@ -21,6 +21,7 @@ pub use iterator::{EntryResidue, FileIterator};
 pub use path_ext::PathExt;
 pub use plain::entries;
 pub use rule::{Rule, Without};
+pub use steps::Range;
 pub use walk_tree::{TreeFeed, WalkTree};
 pub use wax_behavior::{
     DepthBehavior, DepthMax, DepthMin, DepthMinMax, LinkBehavior, WalkBehavior,

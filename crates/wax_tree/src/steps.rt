@@ -1,6 +1,6 @@
 //! The plain walk, step by step.
 
-ghost use Rattle.std.specs.Prelude.{◌≡◌, ◌≤◌, ◌+◌, ◌-◌, ◌⊎◌, ◌++◌, ◌∷◌, ◌<◌, [], ℕ, List, Option, Some, None, Ok, true, false, OnOk, IfOk, string_bytes, MatchOption, ⊤};
+ghost use Rattle.std.specs.Prelude.{◌≡◌, ◌≤◌, ◌+◌, ◌^◌, length, ◌-◌, ◌⊎◌, ◌++◌, ◌∷◌, ◌<◌, [], ℕ, List, Option, Some, None, Ok, true, false, OnOk, IfOk, string_bytes, MatchOption, ⊤};
 ghost use Rattle.wax_directory.specs.Shown.{Items, Shown, ShowsIn, IsPlain, named, first_of, rest_of};
 ghost use Rattle.wax_directory.specs.Answers.{listed_of};
 ghost use Rattle.wax_directory.specs.Told.{failed_item_in};
@@ -10,8 +10,9 @@ ghost use Rattle.wax_tree.specs.Collected.{Ends};
 ghost use Rattle.wax_tree.specs.Asks.{Lists, Asks, Takes};
 ghost use Rattle.wax_tree.specs.Counts.{Counts, missing_in, failed_in};
 ghost use Rattle.wax_tree.specs.Heads.{headed, own_count};
-ghost use Rattle.wax_tree.specs.Plain.{found, plain, contents, count, count_shown, inside};
-ghost use Rattle.wax_tree.specs.Walking.{Rests, Comes, StepIs, HasKind, IsFolder, EnteredShows, LevelShows, level_forest, entering, allowance, items_left, Adds, Saves, Spends, Stops, HasStopped, tree_given_step, tree_answer};
+ghost use Rattle.wax_tree.specs.Plain.{found, contents, count, count_shown, inside};
+ghost use Rattle.wax_tree.specs.Prefix.{ArePlain, from_last, walk_from};
+ghost use Rattle.wax_tree.specs.Walking.{Rests, Comes, StepIs, HasKind, IsFolder, EnteredShows, LevelShows, level_forest, entering, allowance, items_left, Adds, AddsFirst, Saves, Spends, Stops, HasStopped, tree_given_step, tree_answer};
 
 use crate::entry::TreeEntry;
 use crate::error::{WalkError, WalkErrorKind};
@@ -25,6 +26,16 @@ pub(crate) struct Folder {
     path: String,
     candidate: String,
     depth: usize,
+}
+
+/// Where a walk begins: a path, with the names that lead there and how many they are, and the
+/// names that it goes on to, the first of them last.
+#[derive(Drop)]
+pub(crate) struct Place {
+    pub(crate) path: String,
+    pub(crate) candidate: String,
+    pub(crate) depth: usize,
+    pub(crate) names: Vec<String>,
 }
 
 /// A folder that is being listed.
@@ -51,7 +62,7 @@ pub(crate) struct Steps<D: Directory> {
     min: usize,
     max: usize,
     root: String,
-    first: Option<String>,
+    first: Option<Place>,
     pub(crate) entered: Option<Folder>,
     levels: Vec<Level<D::Cursor>>,
     budget: u32,
@@ -60,10 +71,10 @@ pub(crate) struct Steps<D: Directory> {
 
 /// The entries whose depth is from `min` to `max`, of at most `budget` items.
 #[derive(Clone, Copy)]
-pub(crate) struct Range {
-    pub(crate) min: usize,
-    pub(crate) max: usize,
-    pub(crate) budget: u32,
+pub struct Range {
+    pub min: usize,
+    pub max: usize,
+    pub budget: u32,
 }
 
 impl<D: Directory> Steps<D> {
@@ -71,7 +82,7 @@ impl<D: Directory> Steps<D> {
     pub(crate) fn new(
         alloc: Global,
         directory: D,
-        first: Option<String>,
+        first: Option<Place>,
         root: String,
         range: Range,
     ) -> Steps<D>
@@ -159,20 +170,61 @@ impl<D: Directory> Steps<D> {
         }))
     }
 
-    // The entry at the start.
-    fn begin(&mut self, start: String) -> Step
+    // Where no name follows a place, its entry; else the walk goes on from the next name, if a folder
+    // stands there.
+    fn follow(&mut self, place: Place, kind: FileType) -> Step
+        ensures goes_on { result ≡ Step.Ends → ⊥ }
+        ensures fails { tree_given_step result ≡ Some no_memory → self.new.has_ended ≡ true }
+        ensures counts { (self.new.directory ≡ self.old.directory) × (missing_in (tree_given_step result) ≡ 0) × (failed_in (tree_given_step result) ≡ 0) }
+        ensures asks { Takes (tree_given_step result) (allowance self.old) 0 (allowance self.new) }
+        ensures step { (g : Forest Given) (n : ℕ) (listed : List (List ℕ)) (s : Shown) → Rests D.shows (Lists D.tells) D.holds self.old g n listed → D.shows self.old.directory (string_bytes place.path) s → HasKind s kind → ArePlain (from_last place.names.items) → place.depth + length place.names.items ≤ 2 ^ 64 - 1 → count_shown s + n ≤ self.old.budget → StepIs (Comes D.shows (Lists D.tells) D.holds self.new) (walk_from self.old.min self.old.max (string_bytes self.old.root) (string_bytes place.path) (string_bytes place.candidate) place.depth s (from_last place.names.items) g) listed result }
+        ensures adds { (self.old.entered ≡ None) → AddsFirst (length place.names.items) self.old result self.new }
+    {
+        let Place {
+            path,
+            candidate,
+            depth,
+            mut names,
+        } = place;
+        let Some(name) = names.pop() else {
+            return self.give(path, candidate, kind, depth);
+        };
+        if kind != FileType::Folder {
+            return Step::Gives(Err(WalkError::Fault(WalkErrorKind::NotAFolder, path, depth)));
+        }
+        let Ok(path) = join(self.alloc, path.as_str(), name.as_str()) else {
+            return self.fail();
+        };
+        let Ok(candidate) = join(self.alloc, candidate.as_str(), name.as_str()) else {
+            return self.fail();
+        };
+        self.first = Some(Place {
+            path,
+            candidate,
+            depth: depth.saturating_add(1),
+            names,
+        });
+        Step::GoesOn
+    }
+
+    // What stands at the place to begin at.
+    fn begin(&mut self, place: Place) -> Step
         ensures goes_on { result ≡ Step.Ends → ⊥ }
         ensures fails { tree_given_step result ≡ Some no_memory → self.new.has_ended ≡ true }
         ensures counts { Counts D.missed D.failed self.old.directory (tree_given_step result) self.new.directory }
         ensures asks { Asks D.tells self.old.directory (allowance self.old) (tree_given_step result) self.new.directory (allowance self.new) }
-        ensures step { (g : Forest Given) (n : ℕ) (listed : List (List ℕ)) (s : Shown) → Rests D.shows (Lists D.tells) D.holds self.old g n listed → string_bytes start ≡ string_bytes self.old.root → D.shows self.old.directory (string_bytes start) s → count_shown s + n ≤ self.old.budget → StepIs (Comes D.shows (Lists D.tells) D.holds self.new) (plain self.old.min self.old.max (string_bytes self.old.root) s g) listed result }
-        ensures adds { (self.old.entered ≡ None) → Adds 1 2 self.old result self.new }
+        ensures step { (g : Forest Given) (n : ℕ) (listed : List (List ℕ)) (s : Shown) → Rests D.shows (Lists D.tells) D.holds self.old g n listed → D.shows self.old.directory (string_bytes place.path) s → ArePlain (from_last place.names.items) → place.depth + length place.names.items ≤ 2 ^ 64 - 1 → count_shown s + n ≤ self.old.budget → StepIs (Comes D.shows (Lists D.tells) D.holds self.new) (walk_from self.old.min self.old.max (string_bytes self.old.root) (string_bytes place.path) (string_bytes place.candidate) place.depth s (from_last place.names.items) g) listed result }
+        ensures adds { (self.old.entered ≡ None) → AddsFirst (length place.names.items) self.old result self.new }
     {
-        match self.directory.kind(self.alloc, start.as_str()) {
-            Ok(Some(kind)) => self.give(start, String::new(self.alloc), kind, 0),
-            Ok(None) => Step::Gives(Err(WalkError::Fault(WalkErrorKind::NotFound, start, 0))),
+        match self.directory.kind(self.alloc, place.path.as_str()) {
+            Ok(Some(kind)) => self.follow(place, kind),
+            Ok(None) => {
+                let depth = place.depth;
+                Step::Gives(Err(WalkError::Fault(WalkErrorKind::NotFound, place.path, depth)))
+            }
             Err(DirectoryFault::Failed) => {
-                Step::Gives(Err(WalkError::Fault(WalkErrorKind::Listing, start, 0)))
+                let depth = place.depth;
+                Step::Gives(Err(WalkError::Fault(WalkErrorKind::Listing, place.path, depth)))
             }
             Err(DirectoryFault::Memory) => self.fail(),
         }
@@ -327,9 +379,9 @@ impl<D: Directory> Steps<D> {
         if self.has_ended {
             return Step::Ends;
         }
-        if let Some(start) = self.first.take() {
+        if let Some(place) = self.first.take() {
             self.entered = None;
-            return self.begin(start);
+            return self.begin(place);
         }
         if let Some(folder) = self.entered.take() {
             return self.enter(folder);

@@ -3,7 +3,8 @@
 ghost use Rattle.std.specs.Prelude.{◌≡◌, string_bytes, IfOk};
 ghost use Rattle.std.specs.Iterator.{at_most};
 ghost use Rattle.wax_filter.specs.Feeding.{NextFiltrate};
-ghost use Rattle.wax_tree.specs.Begins.{Begins};
+ghost use Rattle.wax_tree.specs.Begins.{Begins, BeginsAt};
+ghost use Rattle.wax_tree.specs.Prefix.{from_last};
 ghost use Rattle.wax_tree.specs.Asks.{Lists};
 ghost use Rattle.wax_tree.specs.Entries.{entry_in, facts_of, answer_of};
 ghost use Rattle.wax_tree.specs.Fed.{Fed};
@@ -12,7 +13,7 @@ ghost use Rattle.wax_tree.specs.Lacking.{MayCome, HasEnded, gives_at_most, asks_
 use crate::entry::TreeEntry;
 use crate::error::WalkError;
 use crate::iterator::FileIterator;
-use crate::steps::{Range, Steps};
+use crate::steps::{Place, Range, Steps};
 use std::alloc::{AllocError, Global};
 use wax_directory::directory::Directory;
 use wax_filter::filter::{
@@ -52,13 +53,23 @@ pub struct WalkTree<D: Directory> {
     lacks_memory: bool,
 }
 
-// Two copies of a text.
-fn twice(alloc: Global, text: &str) -> Result<(String, String), AllocError>
-    ensures { IfOk result (λ r. (string_bytes r.0 ≡ text.now) × (string_bytes r.1 ≡ text.now)) }
+// The place where a walk begins.
+fn place_at(
+    alloc: Global,
+    path: &str,
+    candidate: &str,
+    names: Vec<String>,
+) -> Result<Place, AllocError>
+    ensures { IfOk result (λ r. (string_bytes r.path ≡ path.now) × (string_bytes r.candidate ≡ candidate.now) × (r.depth ≡ 0) × (r.names ≡ names)) }
 {
-    let one = String::from_str(alloc, text)?;
-    let other = String::from_str(alloc, text)?;
-    Ok((one, other))
+    let path = String::from_str(alloc, path)?;
+    let candidate = String::from_str(alloc, candidate)?;
+    Ok(Place {
+        path,
+        candidate,
+        depth: 0,
+        names,
+    })
 }
 
 impl<D: Directory> WalkTree<D> {
@@ -66,13 +77,46 @@ impl<D: Directory> WalkTree<D> {
     pub(crate) fn with_range(alloc: Global, directory: D, start: &str, range: Range) -> WalkTree<D>
         ensures { Begins D.shows D.tells directory start.now range.min range.max range.budget (⟦<WalkTree<D> as FileIterator>⟧.comes result) (⟦<WalkTree<D> as FileIterator>⟧.walked result) (⟦<WalkTree<D> as SeparatingFilter>⟧.left result) (⟦<WalkTree<D> as FileIterator>⟧.allows result) }
     {
-        match twice(alloc, start) {
-            Ok((first, root)) => WalkTree {
-                steps: Steps::new(alloc, directory, Some(first), root, range),
+        let none = Vec::new(alloc);
+        WalkTree::to_place(alloc, directory, start, start, "", none, range)
+    }
+
+    /// The walk from a start that has this candidate to the place of these names below it, the first
+    /// of them last, and from there on; `root` is the start that its entries tell. It asks what
+    /// stands at the start and at each name's place: where one isn't there, or is no folder and a
+    /// name follows, or can't be asked for, one error comes and nothing more. Where there are more
+    /// names than the greatest depth, nothing comes and nothing is asked. Where memory is refused for
+    /// the paths, the walk's one item tells it.
+    pub fn to_place(
+        alloc: Global,
+        directory: D,
+        root: &str,
+        start: &str,
+        candidate: &str,
+        names: Vec<String>,
+        range: Range,
+    ) -> WalkTree<D>
+        ensures { BeginsAt D.shows D.tells directory root.now start.now candidate.now (from_last names.items) range.min range.max range.budget (⟦<WalkTree<D> as FileIterator>⟧.comes result) (⟦<WalkTree<D> as FileIterator>⟧.ended result) (⟦<WalkTree<D> as FileIterator>⟧.walked result) (⟦<WalkTree<D> as SeparatingFilter>⟧.left result) (⟦<WalkTree<D> as FileIterator>⟧.allows result) }
+    {
+        if range.max < names.len() {
+            return WalkTree {
+                steps: Steps::new(alloc, directory, None, String::new(alloc), range),
+                lacks_memory: false,
+            };
+        }
+        let Ok(root) = String::from_str(alloc, root) else {
+            return WalkTree {
+                steps: Steps::new(alloc, directory, None, String::new(alloc), range),
+                lacks_memory: true,
+            };
+        };
+        match place_at(alloc, start, candidate, names) {
+            Ok(place) => WalkTree {
+                steps: Steps::new(alloc, directory, Some(place), root, range),
                 lacks_memory: false,
             },
             Err(_) => WalkTree {
-                steps: Steps::new(alloc, directory, None, String::new(alloc), range),
+                steps: Steps::new(alloc, directory, None, root, range),
                 lacks_memory: true,
             },
         }

@@ -5,8 +5,8 @@ use Rattle.wax_tree.proofs.steps.Steps.step.Goals as goal
 
 pub returns-in-Some-clause-step : goal.returns-in-Some-clause-step
 returns-in-Some-clause-step g c p h =
-    let t = steps_begin g.D.Directory.shows (Lists g.D.Directory.tells) g.D.Directory.holds c.args.self.now c.in-Some.start c.take.new.self _ p h (sym c.take.ensures.value ∙ c.in-Some.is) c.take.ensures.after refl in
-    rw t.7 (c.begin.ensures.step t.1 t.2 p.listed t.0 t.3 t.4 t.5 t.6)
+    let t = steps_begin g.D.Directory.shows (Lists g.D.Directory.tells) g.D.Directory.holds c.args.self.now c.in-Some.place c.take.new.self _ p h (sym c.take.ensures.value ∙ c.in-Some.is) c.take.ensures.after refl in
+    rw t.8 (c.begin.ensures.step t.1 t.2 p.listed t.0 t.3 t.4 t.5 t.6 t.7)
 
 pub returns-in-Some-take-clause-step : goal.returns-in-Some-take-clause-step
 returns-in-Some-take-clause-step g c p h =
