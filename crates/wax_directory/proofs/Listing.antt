@@ -1,37 +1,55 @@
 -- All items of a folder, taken one by one.
-use Rattle.std.proofs.Common.{◌≡◌, ◌≤◌, ℕ, ◌+◌, List, [], ◌∷◌, ◌++◌, length, map, take, Option, Some, None, Result, Ok, Vec, refl, sym, ◌∙◌, ap, subst, arith, zero-add, add-zero, add_assoc, append_assoc, length-append}
+use Rattle.std.proofs.Common.{◌≡◌, ◌≤◌, ℕ, ◌+◌, List, [], ◌∷◌, ◌++◌, length, map, take, Option, Some, None, Result, Ok, Err, Vec, refl, sym, ◌∙◌, ap, subst, arith, append_assoc}
 use Rattle.std.specs.Option.{option_map}
 use Rattle.std.proofs.lemmas.List.{map-append, append-nil, take_all, length-map}
 use Rattle.std.proofs.Math.Seq.{take-append_seam}
 use Rattle.wax_query.specs.declared.diagnostics.NoMemory.{NoMemory}
 use Rattle.wax_directory.specs.declared.directory.ListItem.{ListItem}
-use Rattle.wax_directory.specs.declared.directory.ListItem.TheVariants as I
+use Rattle.wax_directory.specs.declared.tally.Tally.{Tally}
+use Rattle.wax_directory.specs.Answers.{listed_of, Opens, NextIs, ListIs}
+use Rattle.wax_directory.specs.Calls.{OpenCall, Nexts}
+use Rattle.wax_directory.specs.Counting.{Counts, plus, item_counts, items_counts, next_counts}
+use Rattle.wax_directory.specs.Law.{Law, ShowsSame, HoldsLast}
 use Rattle.wax_directory.specs.Shown.{Items, end, leaf, folder, sealed, misnamed, unread, not_text, Shown, a_leaf, a_folder, a_sealed, missing, failing, Listed, listing, first_of, rest_of}
-use Rattle.wax_directory.specs.Answers.{listed_of, NextIs, ListIs}
-use Rattle.wax_directory.specs.Told.{Told, Grows, Stays, failed_item_in, with_item}
-use Rattle.wax_directory.specs.Listing.{failed_items, with_items}
 
--- ---- counts that stay at the greatest
+-- ---- counts
 
-pub grows_on : (n a b c : ℕ) → Grows n a b → Grows 0 b c → Grows n a c
-grows_on n a b c h i = omega (arith, h, i)
+pub counts_on : (n a b c : Tally) → Counts n a b → Counts (items_counts []) b c → Counts n a c
+counts_on n a b c h i = record {
+  misses = omega (arith, h.misses, i.misses);
+  leaves = omega (arith, h.leaves, i.leaves);
+  failures = omega (arith, h.failures, i.failures);
+  items = omega (arith, h.items, i.items);
+  bad_names = omega (arith, h.bad_names, i.bad_names);
+}
 
-grows_sum : (n k a b c : ℕ) → Grows n a b → Grows k b c → Grows (n + k) a c
-grows_sum n k a b c h i = omega (arith, h, i)
+record IsSum (n k m : Tally) : Type 0 where
+  misses : m.misses ≡ n.misses + k.misses
+  leaves : m.leaves ≡ n.leaves + k.leaves
+  failures : m.failures ≡ n.failures + k.failures
+  items : m.items ≡ n.items + k.items
+  bad_names : m.bad_names ≡ n.bad_names + k.bad_names
 
-pub failed_more : (items : List ListItem) (x : ListItem) → failed_items (items ++ x ∷ []) ≡ failed_items items + failed_item_in (Ok (Some x))
-failed_more [] x = add-zero (failed_item_in (Ok (Some x))) ∙ sym (zero-add (failed_item_in (Ok (Some x))))
-failed_more (y ∷ items) x = ap (λ n. failed_item_in (Ok (Some y)) + n) (failed_more items x) ∙ sym (add_assoc (failed_item_in (Ok (Some y))) (failed_items items) (failed_item_in (Ok (Some x))))
+counted_more : (items : List ListItem) (x : ListItem) → IsSum (items_counts items) (item_counts x) (items_counts (items ++ x ∷ []))
+counted_more [] x = record { misses = omega arith; leaves = omega arith; failures = omega arith; items = omega arith; bad_names = omega arith }
+counted_more (y ∷ items) x =
+    let h = counted_more items x in
+    record {
+      misses = omega (arith, h.misses);
+      leaves = omega (arith, h.leaves);
+      failures = omega (arith, h.failures);
+      items = omega (arith, h.items);
+      bad_names = omega (arith, h.bad_names);
+    }
 
-failed_once : (x : ListItem) → failed_item_in (Ok (Some x)) ≤ 1
-failed_once (I.Name name kind) = omega arith
-failed_once I.Failed = omega arith
-failed_once I.NotText = omega arith
-
--- no more failures than items
-pub failed_few : (items : List ListItem) → failed_items items ≤ length items
-failed_few [] = omega arith
-failed_few (x ∷ items) = omega (arith, failed_once x, failed_few items)
+counts_sum : (n k m a b c : Tally) → IsSum n k m → Counts n a b → Counts k b c → Counts m a c
+counts_sum n k m a b c s h i = record {
+  misses = omega (arith, s.misses, h.misses, i.misses);
+  leaves = omega (arith, s.leaves, h.leaves, i.leaves);
+  failures = omega (arith, s.failures, h.failures, i.failures);
+  items = omega (arith, s.items, h.items, i.items);
+  bad_names = omega (arith, s.bad_names, h.bad_names, i.bad_names);
+}
 
 -- ---- the first item and those after it
 
@@ -58,6 +76,13 @@ abbrev pub Coming : (Items → Type 0) → Shown → List ListItem → Type 0
 Coming has (a_folder l) items = (rest : Items) × has rest × (map listed_of items ++ listing rest ≡ listing l)
 Coming has s items = ⊥
 
+coming_first : {C : Type 0} (holds : C → Items → Type 0) (cursor : C) (s : Shown) → Opens holds s (Ok cursor) → Coming (holds cursor) s []
+coming_first holds cursor (a_folder l) h = (l, h, refl)
+coming_first holds cursor (a_leaf link) h = cc
+coming_first holds cursor a_sealed h = cc
+coming_first holds cursor missing h = cc
+coming_first holds cursor failing h = cc
+
 module _ {C : Type 0} (old new : C → Items → Type 0) (cursor next : C) (items : List ListItem) where
   coming_more : (s : Shown) (x : ListItem) → ((l : Items) → old cursor l → NextIs new l (Ok (Some x)) next) → Coming (old cursor) s items → Coming (new next) s (items ++ x ∷ [])
   coming_more (a_folder l) x step h =
@@ -70,6 +95,32 @@ module _ {C : Type 0} (old new : C → Items → Type 0) (cursor next : C) (item
   coming_more a_sealed x step h = elim h [ ]
   coming_more missing x step h = elim h [ ]
   coming_more failing x step h = elim h [ ]
+
+rest_still : (l : Items) → None ≡ first_of l → listing (rest_of l) ≡ listing l
+rest_still end e = refl
+rest_still (leaf y link rest) e = absurd (cc)
+rest_still (folder y inner rest) e = absurd (cc)
+rest_still (sealed y rest) e = absurd (cc)
+rest_still (misnamed y kind rest) e = absurd (cc)
+rest_still (unread rest) e = absurd (cc)
+rest_still (not_text rest) e = absurd (cc)
+
+-- where there was no item, and where memory was refused, the same is to come
+pub coming_still : {C : Type 0} (old new : C → Items → Type 0) (cursor next : C) (items : List ListItem) (s : Shown) (o : Option ListItem) → o ≡ None → ((l : Items) → old cursor l → NextIs new l (Ok o) next) → Coming (old cursor) s items → Coming (new next) s items
+coming_still old new cursor next items (a_folder l) o none step h =
+    let n = step h.0 h.1 in
+    (rest_of h.0, n.1, ap (λ xs. map listed_of items ++ xs) (rest_still h.0 (sym (ap (option_map listed_of) none) ∙ n.0)) ∙ h.2)
+coming_still old new cursor next items (a_leaf link) o none step h = elim h [ ]
+coming_still old new cursor next items a_sealed o none step h = elim h [ ]
+coming_still old new cursor next items missing o none step h = elim h [ ]
+coming_still old new cursor next items failing o none step h = elim h [ ]
+
+pub coming_kept : (old new : Items → Type 0) (items : List ListItem) (s : Shown) → ((l : Items) → old l → new l) → Coming old s items → Coming new s items
+coming_kept old new items (a_folder l) step h = (h.0, step h.0 h.1, h.2)
+coming_kept old new items (a_leaf link) step h = elim h [ ]
+coming_kept old new items a_sealed step h = elim h [ ]
+coming_kept old new items missing step h = elim h [ ]
+coming_kept old new items failing step h = elim h [ ]
 
 -- at the end all of them were taken
 module _ {Z : Type 0} (answer : Vec ListItem Z) (most : ℕ) where
@@ -100,40 +151,44 @@ module _ {Z : Type 0} (answer : Vec ListItem Z) (most : ℕ) where
 
 -- ---- the state after some items were taken
 
-module _ {D C : Type 0} (shows : D → List ℕ → Shown → Type 0) (holds : D → C → Items → Type 0) (tells : D → Told → Type 0) (missed failed : D → ℕ) where
-  -- what an answer of `next` says
-  pub record Step (old new : D) (cursor next : C) (r : Result (Option ListItem) NoMemory) : Type 0 where
-    pub next_is : (l : Items) → holds old cursor l → NextIs (holds new) l r next
-    pub stays : Stays shows holds old new
-    pub told : (t : Told) → tells old t → tells new (with_item r t)
-    pub missed_none : missed new ≡ missed old
-    pub failed_so : Grows (failed_item_in r) (failed old) (failed new)
-
+module _ {D C : Type 0} (law : Law D C) where
   -- what is known after these items of the folder at a path were taken
   pub record Taken (path : List ℕ) (old new : D) (cursor : C) (items : List ListItem) : Type 0 where
-    pub coming : (s : Shown) → shows old path s → Coming (holds new cursor) s items
-    pub stays : Stays shows holds old new
-    pub told : (t : Told) → tells old t → tells new (with_items path (length items) t)
-    pub missed_none : missed new ≡ missed old
-    pub failed_so : Grows (failed_items items) (failed old) (failed new)
+    pub coming : (s : Shown) (cursors : List C) (ls : List Items) → law.shows old path s → law.holds old cursors ls → Coming (HoldsLast law new cursors ls cursor) s items
+    pub shown : ShowsSame law old new
+    pub told : (t : List (List ℕ)) → law.tells old t → law.tells new (t ++ path ∷ [])
+    pub counted : Counts (items_counts items) (law.tally old) (law.tally new)
 
-  -- the failures among these items
-  pub failed_among : (most : ℕ) (path : List ℕ) (old new : D) (cursor : C) (items : List ListItem) → Taken path old new cursor items → length items ≤ most → (n : ℕ) × (n ≤ most) × Grows n (failed old) (failed new)
-  failed_among most path old new cursor items h few = (failed_items items, omega (arith, failed_few items, few), h.failed_so)
-
-  pub stays_on : (a b c : D) → Stays shows holds a b → Stays shows holds b c → Stays shows holds a c
-  stays_on a b c h i = record { shown = λ path s k. i.shown path s (h.shown path s k); held = λ cursor l k. i.held cursor l (h.held cursor l k) }
+  -- no item was taken yet
+  pub taken_none : (path : List ℕ) (old new : D) (cursor : C) → OpenCall law old path (Ok cursor) new → Taken path old new cursor []
+  taken_none path old new cursor o = record {
+    coming = λ s cursors ls shown held. coming_first (HoldsLast law new cursors ls) cursor s (o.opens cursors ls s held shown);
+    shown = o.shown;
+    told = o.told;
+    counted = o.counted;
+  }
 
   -- one more item
-  pub taken_more : (path : List ℕ) (old now new : D) (cursor next : C) (items all : List ListItem) (o : Option ListItem) (x : ListItem) → o ≡ Some x → Taken path old now cursor items → Step now new cursor next (Ok o) → all ≡ items ++ x ∷ [] → Taken path old new next all
-  taken_more path old now new cursor next items all o x is h at_o grown =
-      let S : Option ListItem → Type 0 = λ p. Step now new cursor next (Ok p) in
-      let step : Step now new cursor next (Ok (Some x)) = subst S is at_o in
+  pub taken_more : (path : List ℕ) (old now new : D) (cursor next : C) (items all : List ListItem) (o : Option ListItem) (x : ListItem) → Taken path old now cursor items → o ≡ Some x
+      → Nexts law now cursor (Ok o) new next → ShowsSame law now new → ((t : List (List ℕ)) → law.tells now t → law.tells new t) → Counts (next_counts (Ok o)) (law.tally now) (law.tally new) → all ≡ items ++ x ∷ [] → Taken path old new next all
+  taken_more path old now new cursor next items all o x h is nexts shown told counted grown =
       let P : List ListItem → Type 0 = λ l. Taken path old new next l in
+      let N : Option ListItem → Type 0 = λ v. Nexts law now cursor (Ok v) new next in
+      let K : Option ListItem → Type 0 = λ v. Counts (next_counts (Ok v)) (law.tally now) (law.tally new) in
+      let step : Nexts law now cursor (Ok (Some x)) new next = subst N is nexts in
+      let count : Counts (item_counts x) (law.tally now) (law.tally new) = subst K is counted in
       subst P (sym grown) (record {
-        coming = λ s k. coming_more (holds now) (holds new) cursor next items s x (λ l i. step.next_is l i) (h.coming s k);
-        stays = stays_on old now new h.stays step.stays;
-        told = λ t k. let Q : ℕ → Type 0 = λ n. tells new (record { listed = t.listed ++ path ∷ []; asked = n }) in subst Q (add_assoc t.asked (length items) 1 ∙ ap (λ n. t.asked + n) (sym (length-append items (x ∷ [])))) (step.told (with_items path (length items) t) (h.told t k));
-        missed_none = step.missed_none ∙ h.missed_none;
-        failed_so = subst (λ n. Grows n (failed old) (failed new)) (sym (failed_more items x)) (grows_sum (failed_items items) (failed_item_in (Ok (Some x))) (failed old) (failed now) (failed new) h.failed_so step.failed_so);
+        coming = λ s cursors ls k held. coming_more (HoldsLast law now cursors ls) (HoldsLast law new cursors ls) cursor next items s x (λ l i. step cursors ls l i) (h.coming s cursors ls k held);
+        shown = λ at s k. shown at s (h.shown at s k);
+        told = λ t k. told (t ++ path ∷ []) (h.told t k);
+        counted = counts_sum _ _ _ _ _ _ (counted_more items x) h.counted count;
       })
+
+  -- what is left of the folder may be dropped
+  pub left_dropped : (d : D) (cursors : List C) (ls : List Items) (cursor : C) (s : Shown) (items : List ListItem)
+      → ((l : Items) → HoldsLast law d cursors ls cursor l → law.holds d cursors ls) → Coming (HoldsLast law d cursors ls cursor) s items → law.holds d cursors ls
+  left_dropped d cursors ls cursor (a_folder l) items drop h = drop h.0 h.1
+  left_dropped d cursors ls cursor (a_leaf link) items drop h = elim h [ ]
+  left_dropped d cursors ls cursor a_sealed items drop h = elim h [ ]
+  left_dropped d cursors ls cursor missing items drop h = elim h [ ]
+  left_dropped d cursors ls cursor failing items drop h = elim h [ ]

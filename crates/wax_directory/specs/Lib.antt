@@ -1,10 +1,14 @@
 pub mod Shown
 pub mod Answers
-pub mod Told
+pub mod Counting
+pub mod Law
+pub mod Calls
 pub mod Listing
 pub mod Names
 pub mod Nodes
 pub mod Places
 pub mod Trees
+pub mod TreeCursors
 pub mod TreeLaw
 pub mod Turns
+pub mod Starved

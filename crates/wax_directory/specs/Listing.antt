@@ -1,27 +1,25 @@
--- What a directory counts and tells where all items of a folder are asked for.
-use Rattle.std.specs.Prelude.{ℕ, ◌+◌, ◌≤◌, ◌⊎◌, List, [], ◌∷◌, ◌++◌, length, Some, Result, Ok, Err, Vec}
+-- What a directory tells and counts where all items of a folder are asked for.
+use Rattle.std.specs.Prelude.{ℕ, ◌≤◌, ◌⊎◌, List, [], ◌∷◌, ◌++◌, length, Result, Ok, Err, Vec}
 use Rattle.wax_directory.specs.declared.directory.ListItem.{ListItem}
 use Rattle.wax_directory.specs.declared.directory.DirectoryFault.{DirectoryFault}
 use Rattle.wax_directory.specs.declared.directory.DirectoryFault.TheVariants.{Failed, Memory}
-use Rattle.wax_directory.specs.Told.{Told, Grows, failed_item_in}
+use Rattle.wax_directory.specs.declared.tally.Tally.{Tally}
+use Rattle.wax_directory.specs.Counting.{Counts, no_counts, items_counts}
+use Rattle.wax_directory.specs.Law.{Law}
+use Rattle.wax_directory.specs.Shown.{Items, Shown}
 
--- how many of these items are failures
-abbrev pub failed_items : List ListItem → ℕ
-failed_items [] = 0
-failed_items (x ∷ items) = failed_item_in (Ok (Some x)) + failed_items items
+-- where something is shown at the path, the open cursors have what they had
+module _ {D C : Type 0} (law : Law D C) where
+  abbrev pub HeldWhereShown : List ℕ → D → D → Type 0
+  HeldWhereShown path old new = (s : Shown) (cursors : List C) (ls : List Items) → law.shows old path s → law.holds old cursors ls → law.holds new cursors ls
 
--- a folder was opened and so many of its items were given
-abbrev pub with_items : List ℕ → ℕ → Told → Told
-with_items path n t = record { listed = t.listed ++ path ∷ []; asked = t.asked + n }
+-- the folder was told; where memory was refused, it may be told or not
+abbrev pub TellsListed : {Z : Type 0} → (List (List ℕ) → Type 0) → List ℕ → Result (Vec ListItem Z) DirectoryFault → List (List ℕ) → Type 0
+TellsListed tells path (Err Memory) t = tells t ⊎ tells (t ++ path ∷ [])
+TellsListed tells path r t = tells (t ++ path ∷ [])
 
--- where so many items were asked for, after this answer, of what was told; where memory was refused, those that were taken may be told or not, and so may the folder
-abbrev pub TellsListed : {Z : Type 0} → ℕ → (Told → Type 0) → List ℕ → Result (Vec ListItem Z) DirectoryFault → Told → Type 0
-TellsListed most tells path (Ok answer) t = tells (with_items path (length answer.items) t)
-TellsListed most tells path (Err Failed) t = tells (with_items path 0 t)
-TellsListed most tells path (Err Memory) t = tells t ⊎ ((n : ℕ) × (n ≤ most) × tells (with_items path n t))
-
--- the same of the failures; where memory was refused, those among the items that were taken are counted too
-abbrev pub FailsListed : {Z : Type 0} → ℕ → Result (Vec ListItem Z) DirectoryFault → ℕ → ℕ → Type 0
-FailsListed most (Ok answer) old new = Grows (failed_items answer.items) old new
-FailsListed most (Err Failed) old new = Grows 1 old new
-FailsListed most (Err Memory) old new = (n : ℕ) × (n ≤ most) × Grows n old new
+-- the items that are answered were counted; where memory was refused, those that were taken till then
+abbrev pub CountsListed : {Z : Type 0} → ℕ → Result (Vec ListItem Z) DirectoryFault → Tally → Tally → Type 0
+CountsListed most (Ok answer) old new = Counts (items_counts answer.items) old new
+CountsListed most (Err Failed) old new = Counts (record no_counts { failures = 1 }) old new
+CountsListed most (Err Memory) old new = (items : List ListItem) × (length items ≤ most) × Counts (items_counts items) old new

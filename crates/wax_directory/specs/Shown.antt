@@ -1,7 +1,7 @@
 -- What a directory shows: trees of files, links and folders, with faults at their places.
 use Rattle.std.specs.Prelude.{◌≡◌, ℕ, Bool, true, false, cond, List, [], ◌∷◌, ◌++◌, Option, Some, None, nat_eq}
 use Rattle.std.specs.List.{Contains}
-use Rattle.std.specs.Str.{bytes_eq}
+use Rattle.std.specs.Str.{bytes_eq, IsUtf8}
 use Rattle.wax_directory.specs.declared.directory.FileType.{FileType}
 use Rattle.wax_directory.specs.declared.directory.FileType.TheVariants.{File, Link, Folder}
 
@@ -23,8 +23,9 @@ pub data Shown : Type 0 where
   missing : Shown
   failing : Shown
 
--- a name that a path can hold: not empty, neither `.` nor `..`, and without `/`
+-- a name that a path can hold: a text that is not empty, neither `.` nor `..`, and has no `/`
 pub record IsPlain (name : List ℕ) : Type 0 where
+  pub text : IsUtf8 name
   pub not_empty : ¬ (name ≡ [])
   pub not_here : ¬ (name ≡ 46 ∷ [])
   pub not_above : ¬ (name ≡ 46 ∷ 46 ∷ [])

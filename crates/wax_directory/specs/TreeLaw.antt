@@ -1,7 +1,8 @@
 -- What a folder of a tree holds is shown at its path.
 use Rattle.std.proofs.Common.{◌≡◌, ◌<◌, ◌+◌, arith, ℕ, zero, suc, Bool, true, false, not, cond, ◌&&◌, ◌==◌, ◌⊎◌, List, [], ◌∷◌, ◌++◌, filter, Option, Some, None, string_bytes, slice_get, slice_index_or, if◌then◌else◌, refl, sym, ◌∙◌, ap, subst, inl, inr, append_assoc, append-nil}
 use Rattle.std.specs.List.{slice_split, onto_first, list_any, Contains, Any}
-use Rattle.std.specs.Str.{bytes_eq}
+use Rattle.std.specs.Str.{bytes_eq, IsUtf8}
+use Rattle.std.proofs.lemmas.Str.{IsUtf8-string_bytes}
 use Rattle.std.proofs.lemmas.Bool.{and_parts, and_cases, or_parts, not-true, not-false, cond-true, cond-false, false≢true}
 use Rattle.std.proofs.lemmas.Slice.Eq.{bytes_eq-Decides}
 use Rattle.std.proofs.lemmas.Bool.Decides.{Decides-eqb}
@@ -203,14 +204,14 @@ is_it x y h = (bytes_eq-Decides x y).0 (not-false (bytes_eq x y) h)
 not_within : (x : List ℕ) → list_any (λ c. c == 47) x ≡ false → ¬ (Contains x 47)
 not_within x h k = false≢true (sym h ∙ list_any_at (λ c. c == 47) x k.0 47 k.1 (ap (λ c. c == 47) k.2))
 
-plain_of : (x : List ℕ) → is_plain x ≡ true → IsPlain x
-plain_of x h =
+pub plain_of : (x : List ℕ) → IsUtf8 x → is_plain x ≡ true → IsPlain x
+plain_of x text h =
     let p : (is_entry_name x ≡ true) × (not (list_any (λ c. c == 47) x) ≡ true) = and_parts (is_entry_name x) (not (list_any (λ c. c == 47) x)) h in
     let q : (not (bytes_eq x []) ≡ true) × ((not (bytes_eq x (46 ∷ [])) && not (bytes_eq x (46 ∷ 46 ∷ []))) ≡ true) = and_parts (not (bytes_eq x [])) (not (bytes_eq x (46 ∷ [])) && not (bytes_eq x (46 ∷ 46 ∷ []))) p.0 in
     let r : (not (bytes_eq x (46 ∷ [])) ≡ true) × (not (bytes_eq x (46 ∷ 46 ∷ [])) ≡ true) = and_parts (not (bytes_eq x (46 ∷ []))) (not (bytes_eq x (46 ∷ 46 ∷ []))) q.1 in
-    record { not_empty = is_not x [] q.0; not_here = is_not x (46 ∷ []) r.0; not_above = is_not x (46 ∷ 46 ∷ []) r.1; one_name = not_within x (not-true (list_any (λ c. c == 47) x) p.1) }
+    record { text = text; not_empty = is_not x [] q.0; not_here = is_not x (46 ∷ []) r.0; not_above = is_not x (46 ∷ 46 ∷ []) r.1; one_name = not_within x (not-true (list_any (λ c. c == 47) x) p.1) }
 
-not_plain : (x : List ℕ) → is_plain x ≡ false → ¬ (IsPlain x)
+pub not_plain : (x : List ℕ) → is_plain x ≡ false → ¬ (IsPlain x)
 not_plain x h p = elim (and_cases (is_entry_name x) (not (list_any (λ c. c == 47) x)) h) [
   | inl a ↦ elim (and_cases (not (bytes_eq x [])) (not (bytes_eq x (46 ∷ [])) && not (bytes_eq x (46 ∷ 46 ∷ []))) a) [
     | inl b ↦ p.not_empty (is_it x [] b)
@@ -331,7 +332,7 @@ module _ (shows : List ℕ → Shown → Type 0) (path : List ℕ) (all : List T
   shows_layer (O.Entry name n) rest f later =
       let x : List ℕ = string_bytes name in
       elim (is_plain x) as (λ b. is_plain x ≡ b → ShowsIn shows path (cond b (with_plain x (shown_of n) rest) (misnamed x (kind_of (shown_of n)) rest))) [
-        | true ↦ λ e. shows_plain x (shown_of n) rest (plain_of x e) (below x n f (plain_of x e)) later
+        | true ↦ λ e. shows_plain x (shown_of n) rest (plain_of x (IsUtf8-string_bytes name) e) (below x n f (plain_of x (IsUtf8-string_bytes name) e)) later
         | false ↦ λ e. (not_plain x e, later)
       ] refl
   shows_layer O.Failed rest f later = later

@@ -19,14 +19,6 @@ fails_after d = calls_left d.turn
 abbrev pub starves_after : {D : Type 0} → Starving D → Option ℕ
 starves_after d = calls_left d.turn
 
--- how many calls were failed
-abbrev pub failures_of : Option ℕ → ℕ
-failures_of None = 1
-failures_of (Some n) = 0
-
-abbrev pub failures_made : {D : Type 0} → Failing D → ℕ
-failures_made d = failures_of (fails_after d)
-
 -- the directory to which calls are handed on
 abbrev pub failing_inside : {D : Type 0} → Failing D → D
 failing_inside d = d.directory

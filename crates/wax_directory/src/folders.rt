@@ -1,8 +1,10 @@
 //! The directory of the real system.
 
 ghost use Rattle.std.specs.Prelude.{◌≡◌};
+ghost use Rattle.wax_directory.specs.Counting.{no_counts};
 
 use crate::directory::{Directory, DirectoryFault, FileType, ListItem};
+use crate::tally::Tally;
 use std::alloc::Global;
 use std::fs::ReadDir;
 use std::io::ErrorKind;
@@ -14,20 +16,17 @@ use wax_query::diagnostics::NoMemory;
 #[derive(Drop)]
 pub struct Folders {
     runtime: HostRuntime,
-    misses: u64,
-    failures: u64,
+    tally: Tally,
 }
 
 impl Folders {
     /// Keeps what the runtime gives `main` for files. The working folder is the process's.
     pub fn new(runtime: HostRuntime) -> Folders
-        ensures missed { ⟦<Self as Directory>⟧.missed result ≡ 0 }
-        ensures failed { ⟦<Self as Directory>⟧.failed result ≡ 0 }
+        ensures { ⟦<Self as Directory>⟧.law.tally result ≡ no_counts }
     {
         Folders {
             runtime,
-            misses: 0,
-            failures: 0,
+            tally: Tally::none(),
         }
     }
 }
@@ -99,63 +98,42 @@ fn listed(alloc: Global, entry: io::Result<fs::DirEntry>) -> Result<ListItem, No
 }
 
 impl Directory for Folders {
-    ghost use Rattle.std.specs.Prelude.{⊤};
+    ghost use Rattle.std.specs.Prelude.{⊤, []};
 
     type Cursor = ReadDir;
 
-    ghost shows = { λ _ _ _. ⊥ };
-
-    ghost holds = { λ _ _ _. ⊥ };
-
-    ghost tells = { λ _ _. ⊤ };
-
-    ghost missed = { λ s. s.misses };
-
-    ghost failed = { λ s. s.failures };
+    ghost law = { record { shows = λ _ _ _. ⊥; holds = λ _ _ _. ⊥; tells = λ _ _. ⊤; tally = λ s. s.tally } };
 
     fn kind(&mut self, _alloc: Global, path: &str) -> Result<Option<FileType>, DirectoryFault> {
         let answer = kind_at(&self.runtime, path);
-        let (missed, failed) = match answer {
-            Ok(None) => (1, 0),
-            Err(DirectoryFault::Failed) => (0, 1),
-            _ => (0, 0),
-        };
-        self.misses = self.misses.saturating_add(missed);
-        self.failures = self.failures.saturating_add(failed);
+        self.tally.add(Tally::of_kind(&answer));
         answer
     }
 
     fn open(&mut self, _alloc: Global, path: &str) -> Result<ReadDir, DirectoryFault> {
         let answer = opened_at(&self.runtime, path);
-        let failed = match answer {
-            Err(DirectoryFault::Failed) => 1,
-            _ => 0,
-        };
-        self.failures = self.failures.saturating_add(failed);
+        self.tally.add(Tally::of_opening(&answer));
         answer
     }
 
     fn next(&mut self, alloc: Global, cursor: &mut ReadDir) -> Result<Option<ListItem>, NoMemory> {
-        let failures = self.failures;
         let Some(entry) = cursor.next() else {
             return Ok(None);
         };
         let item = listed(alloc, entry)?;
-        let failed = match item {
-            ListItem::Failed | ListItem::NotText => 1,
-            ListItem::Name(..) => 0,
-        };
-        self.failures = failures.saturating_add(failed);
+        self.tally.add(Tally::of_item(&item));
         Ok(Some(item))
     }
 
-    fn misses(&self) -> u64 {
-        self.misses
+    fn tally(&self) -> Tally {
+        self.tally
     }
 
-    fn failures(&self) -> u64 {
-        self.failures
-    }
+    ghost tells_some = { λ d. ([], tt) };
+
+    ghost none_open = { λ d path s h. elim h [ ] };
+
+    ghost dropped = { λ d cursors ls cursor l h. elim h [ ] };
 
     ghost inner = { λ d path l h. elim h [ ] };
 

@@ -4,8 +4,8 @@
 pub mod directory;
 pub mod failing;
 pub mod folders;
+pub mod name;
 pub mod starving;
-#[cfg(test)]
-mod tests;
+pub mod tally;
 pub mod tree;
 mod turn;

@@ -1,17 +1,18 @@
 //! A directory in memory.
 
-ghost use Rattle.std.specs.Prelude.{◌≡◌, ◌⊎◌, ◌<◌, ◌-◌, ◌^◌, ℕ, if◌then◌else◌, min, OnOk, List, Some, map, option_map, string_bytes, IfOk, IfErr, IfSome, MatchBool};
+ghost use Rattle.std.specs.Prelude.{◌≡◌, ◌⊎◌, ◌<◌, ◌-◌, ◌^◌, [], ℕ, if◌then◌else◌, OnOk, List, Some, map, option_map, string_bytes, IfOk, IfErr, IfSome, MatchBool};
 ghost use Rattle.wax_directory.specs.declared.directory.DirectoryFault.TheVariants.{Failed};
 ghost use Rattle.wax_directory.specs.declared.tree.Node.TheViews.{out-Node};
 ghost use Rattle.wax_directory.specs.Answers.{listed_of, KindIs, Opens};
 ghost use Rattle.wax_directory.specs.Names.{names_in_path, is_rooted, are_distinct};
 ghost use Rattle.wax_directory.specs.Nodes.{node_at, child_at, held, entry_of, shown_of, listed_item, names_of, HasDistinctNames, HasDuplicateName, named_in, below_layer, reached};
 ghost use Rattle.wax_query.specs.declared.diagnostics.Refusal.TheVariants.{Refused, Memory};
-ghost use Rattle.wax_directory.specs.Told.{Told, no_calls};
-ghost use Rattle.wax_directory.specs.Trees.{tree_shows, tree_holds, tree_tells, tree_missed, tree_failed, tree_start, reached_in, shown_in, item_at};
+ghost use Rattle.wax_directory.specs.Counting.{no_counts};
+ghost use Rattle.wax_directory.specs.Trees.{tree_law, Has, tree_start, reached_in, shown_in, item_at};
 ghost use Rattle.wax_directory.specs.Places.{has_name, reached_place, reached_at, Locates};
 
 use crate::directory::{Directory, DirectoryFault, FileType, ListItem};
+use crate::tally::Tally;
 use std::alloc::{AllocError, Global};
 use std::collections::HashSet;
 use thiserror::Error;
@@ -56,9 +57,7 @@ pub struct Tree {
     working: Node,
     root: Node,
     listed: Vec<String>,
-    asked: u64,
-    misses: u64,
-    failures: u64,
+    tally: Tally,
 }
 
 /// A folder of a tree that is being listed.
@@ -206,9 +205,10 @@ impl Tree {
     /// number of items.
     pub fn new(alloc: Global, working: Node, root: Node) -> Result<Tree, Refusal<DuplicateName>>
         ensures distinct { OnOk result (HasDistinctNames working × HasDistinctNames root) }
-        ensures shows { IfOk result (λ t. (path : List ℕ) → tree_shows t path (shown_in working root path)) }
-        ensures untold { IfOk result (λ t. tree_tells t no_calls × (tree_missed t ≡ 0) × (tree_failed t ≡ 0)) }
-        ensures refused { IfErr result (λ e. (e ≡ Memory) ⊎ ((e ≡ Refused (record {})) × (HasDuplicateName working ⊎ HasDuplicateName root))) }
+        ensures shows { IfOk result (λ t. (path : List ℕ) → tree_law.shows t path (shown_in working root path)) }
+        ensures untold { IfOk result (λ t. tree_law.tells t [] × (tree_law.tally t ≡ no_counts)) }
+        ensures refused { IfErr result (λ e. (e ≡ Memory)
+            ⊎ ((e ≡ Refused (record {})) × (HasDuplicateName working ⊎ HasDuplicateName root))) }
     {
         if !working.has_distinct_names(alloc)? || !root.has_distinct_names(alloc)? {
             return Err(Refusal::Refused(DuplicateName));
@@ -217,24 +217,22 @@ impl Tree {
             working,
             root,
             listed: Vec::new(alloc),
-            asked: 0,
-            misses: 0,
-            failures: 0,
+            tally: Tally::none(),
         })
     }
 
     /// The paths of the folders that were opened, in order, those that failed too.
     pub fn listed(&self) -> &[String]
-        ensures { (t : Told) → tree_tells self.now t → map string_bytes result.now ≡ t.listed }
+        ensures { tree_law.tells self.now (map string_bytes result.now) }
     {
         self.listed.as_slice()
     }
 
     /// How many items were given, at most the greatest u64.
     pub fn asked(&self) -> u64
-        ensures { (t : Told) → tree_tells self.now t → result ≡ min t.asked (2 ^ 64 - 1) }
+        ensures { result ≡ (tree_law.tally self.now).items }
     {
-        self.asked
+        self.tally.items
     }
 
     fn start(&self, is_rooted: bool) -> &Node
@@ -269,7 +267,7 @@ impl Tree {
 
     // a cursor before the first item of the folder at a path
     fn begin(&self, alloc: Global, path: &str) -> Result<TreeCursor, DirectoryFault>
-        ensures { Opens (tree_holds self.now) (shown_in self.now.working self.now.root path.now) result }
+        ensures { Opens (Has self.now.working self.now.root) (shown_in self.now.working self.now.root path.now) result }
     {
         let Some(places) = self.find(alloc, path)? else {
             return Err(DirectoryFault::Failed);
@@ -306,46 +304,31 @@ impl Tree {
 impl Directory for Tree {
     type Cursor = TreeCursor;
 
-    ghost use Rattle.wax_directory.specs.Trees.{tree_shows, tree_holds, tree_tells, tree_missed, tree_failed};
+    ghost use Rattle.wax_directory.specs.Trees.{tree_law};
     ghost use Rattle.wax_directory.specs.TreeLaw.{tree_inner, tree_child, tree_distinct};
+    ghost use Rattle.wax_directory.specs.TreeCursors.{last_dropped};
+    ghost use Rattle.std.proofs.Common.{refl};
 
-    ghost shows = { tree_shows };
-
-    ghost holds = { tree_holds };
-
-    ghost tells = { tree_tells };
-
-    ghost missed = { tree_missed };
-
-    ghost failed = { tree_failed };
+    ghost law = { tree_law };
 
     fn kind(&mut self, alloc: Global, path: &str) -> Result<Option<FileType>, DirectoryFault> {
         let answer = self.look(alloc, path);
-        let (missed, failed) = match answer {
-            Ok(None) => (1, 0),
-            Err(DirectoryFault::Failed) => (0, 1),
-            _ => (0, 0),
-        };
-        self.misses = self.misses.saturating_add(missed);
-        self.failures = self.failures.saturating_add(failed);
+        self.tally.add(Tally::of_kind(&answer));
         answer
     }
 
     fn open(&mut self, alloc: Global, path: &str) -> Result<TreeCursor, DirectoryFault> {
-        let failures = self.failures;
         let Ok(told) = String::from_str(alloc, path) else {
             return Err(DirectoryFault::Memory);
         };
         let answer = self.begin(alloc, path);
-        let failed = match answer {
-            Err(DirectoryFault::Memory) => return Err(DirectoryFault::Memory),
-            Err(DirectoryFault::Failed) => 1,
-            Ok(_) => 0,
-        };
+        if let Err(DirectoryFault::Memory) = answer {
+            return Err(DirectoryFault::Memory);
+        }
         let Ok(()) = self.listed.push(told) else {
             return Err(DirectoryFault::Memory);
         };
-        self.failures = failures.saturating_add(failed);
+        self.tally.add(Tally::of_opening(&answer));
         answer
     }
 
@@ -358,22 +341,19 @@ impl Directory for Tree {
             return Ok(None);
         };
         cursor.next += 1;
-        self.asked = self.asked.saturating_add(1);
-        let failed = match item {
-            ListItem::Failed | ListItem::NotText => 1,
-            ListItem::Name(..) => 0,
-        };
-        self.failures = self.failures.saturating_add(failed);
+        self.tally.add(Tally::of_item(&item));
         Ok(Some(item))
     }
 
-    fn misses(&self) -> u64 {
-        self.misses
+    fn tally(&self) -> Tally {
+        self.tally
     }
 
-    fn failures(&self) -> u64 {
-        self.failures
-    }
+    ghost tells_some = { λ t. (_, refl) };
+
+    ghost none_open = { λ t path s h. tt };
+
+    ghost dropped = { λ t cursors ls cursor l h. last_dropped t.working t.root cursors ls cursor l h };
 
     ghost inner = { λ d path l h. tree_inner d path l h };
 

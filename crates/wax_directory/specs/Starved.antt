@@ -1,0 +1,11 @@
+-- A directory that starves once does what the one inside does.
+use Rattle.wax_directory.specs.declared.starving.Starving.{Starving}
+use Rattle.wax_directory.specs.Law.{Law}
+
+abbrev pub starved_law : {D C : Type 0} → Law D C → Law (Starving D) C
+starved_law law = record {
+  shows = λ s. law.shows s.directory;
+  holds = λ s. law.holds s.directory;
+  tells = λ s. law.tells s.directory;
+  tally = λ s. law.tally s.directory;
+}
