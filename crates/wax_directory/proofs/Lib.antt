@@ -1,3 +1,4 @@
+pub mod Counts
 pub mod PathNames
 pub mod Finding
 pub mod Cursors

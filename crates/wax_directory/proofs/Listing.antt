@@ -10,6 +10,7 @@ use Rattle.wax_directory.specs.Answers.{listed_of, Opens, NextIs, ListIs}
 use Rattle.wax_directory.specs.Calls.{OpenCall, Nexts}
 use Rattle.wax_directory.specs.Counting.{Counts, plus, item_counts, items_counts, next_counts}
 use Rattle.wax_directory.specs.Law.{Law, ShowsSame, HoldsLast}
+use Rattle.wax_directory.proofs.Counts.{plus_assoc, plus_none}
 use Rattle.wax_directory.specs.Shown.{Items, end, leaf, folder, sealed, misnamed, unread, not_text, Shown, a_leaf, a_folder, a_sealed, missing, failing, Listed, listing, first_of, rest_of}
 
 -- ---- counts
@@ -23,32 +24,17 @@ counts_on n a b c h i = record {
   bad_names = omega (arith, h.bad_names, i.bad_names);
 }
 
-record IsSum (n k m : Tally) : Type 0 where
-  misses : m.misses ≡ n.misses + k.misses
-  leaves : m.leaves ≡ n.leaves + k.leaves
-  failures : m.failures ≡ n.failures + k.failures
-  items : m.items ≡ n.items + k.items
-  bad_names : m.bad_names ≡ n.bad_names + k.bad_names
+counted_more : (items : List ListItem) (x : ListItem) → items_counts (items ++ x ∷ []) ≡ plus (items_counts items) (item_counts x)
+counted_more [] x = plus_none (item_counts x)
+counted_more (y ∷ items) x = ap (plus (item_counts y)) (counted_more items x) ∙ plus_assoc (item_counts y) (items_counts items) (item_counts x)
 
-counted_more : (items : List ListItem) (x : ListItem) → IsSum (items_counts items) (item_counts x) (items_counts (items ++ x ∷ []))
-counted_more [] x = record { misses = omega arith; leaves = omega arith; failures = omega arith; items = omega arith; bad_names = omega arith }
-counted_more (y ∷ items) x =
-    let h = counted_more items x in
-    record {
-      misses = omega (arith, h.misses);
-      leaves = omega (arith, h.leaves);
-      failures = omega (arith, h.failures);
-      items = omega (arith, h.items);
-      bad_names = omega (arith, h.bad_names);
-    }
-
-counts_sum : (n k m a b c : Tally) → IsSum n k m → Counts n a b → Counts k b c → Counts m a c
-counts_sum n k m a b c s h i = record {
-  misses = omega (arith, s.misses, h.misses, i.misses);
-  leaves = omega (arith, s.leaves, h.leaves, i.leaves);
-  failures = omega (arith, s.failures, h.failures, i.failures);
-  items = omega (arith, s.items, h.items, i.items);
-  bad_names = omega (arith, s.bad_names, h.bad_names, i.bad_names);
+counts_sum : (n k a b c : Tally) → Counts n a b → Counts k b c → Counts (plus n k) a c
+counts_sum n k a b c h i = record {
+  misses = omega (arith, h.misses, i.misses);
+  leaves = omega (arith, h.leaves, i.leaves);
+  failures = omega (arith, h.failures, i.failures);
+  items = omega (arith, h.items, i.items);
+  bad_names = omega (arith, h.bad_names, i.bad_names);
 }
 
 -- ---- the first item and those after it
@@ -181,7 +167,7 @@ module _ {D C : Type 0} (law : Law D C) where
         coming = λ s cursors ls k held. coming_more (HoldsLast law now cursors ls) (HoldsLast law new cursors ls) cursor next items s x (λ l i. step cursors ls l i) (h.coming s cursors ls k held);
         shown = λ at s k. shown at s (h.shown at s k);
         told = λ t k. told (t ++ path ∷ []) (h.told t k);
-        counted = counts_sum _ _ _ _ _ _ (counted_more items x) h.counted count;
+        counted = let E : Tally → Type 0 = λ n. Counts n (law.tally old) (law.tally new) in subst E (sym (counted_more items x)) (counts_sum _ _ _ _ _ h.counted count);
       })
 
   -- what is left of the folder may be dropped

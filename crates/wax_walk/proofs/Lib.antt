@@ -1,0 +1,7 @@
+pub mod Filtering
+pub mod Accounting
+pub mod Collecting
+pub mod Saying
+pub mod Wanted
+pub mod RuleSteps
+pub mod ClosureSteps

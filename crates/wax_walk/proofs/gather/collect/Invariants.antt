@@ -1,0 +1,20 @@
+use Rattle.std.proofs.Common.{◌≡◌, List, map}
+use Rattle.std.specs.Prelude.{filter}
+use Rattle.std.specs.Iterator.{IsFinite, size}
+use Rattle.wax_walk.specs.Entries.{given_outcome}
+use Rattle.wax_walk.specs.Given.{Given, is_kept}
+use Rattle.wax_walk.proofs.Collecting.{Taking}
+use Rattle.wax_walk.proofs.gather.collect.Given as goal
+
+abbrev pub invariant-loop-item : goal.invariant-loop-item
+invariant-loop-item g l =
+    let left = g.I.SeparatingFilter.left in
+    let view = g.I.FileIterator.view in
+    record {
+      can : g.I.SeparatingFilter.can_feed l.walk;
+      ends : IsFinite (left l.walk);
+      taking : (xs : List Given) × Taking g.I.Directory.Directory.law (view l.fn.walk) (view l.walk) (size (left l.fn.walk)) (size (left l.walk)) xs × (map (given_outcome g.I.Entry.Entry.facts g.I.Residue.Entry.facts) l.items.items ≡ filter is_kept xs);
+    }
+
+abbrev pub decreases-loop-item : goal.decreases-loop-item
+decreases-loop-item g l = size (g.I.SeparatingFilter.left l.walk)

@@ -1,0 +1,60 @@
+-- What a walk will still give.
+use Rattle.std.specs.Prelude.{◌≡◌, ℕ, List, [], ◌∷◌, ◌++◌, Option, Some, None, Bool, cond}
+
+-- items in order, each with what lies below it; a path where a folder is listed
+pub data Forest (A : Type 0) : Type 0 where
+  nothing : Forest A
+  item : A → Forest A → Forest A → Forest A
+  lists : List ℕ → Forest A → Forest A
+
+-- one forest and then another
+abbrev pub followed_by : {A : Type 0} → Forest A → Forest A → Forest A
+followed_by nothing g = g
+followed_by (item x below after) g = item x below (followed_by after g)
+followed_by (lists path after) g = lists path (followed_by after g)
+
+-- the items in order, each before what lies below it
+abbrev pub preorder : {A : Type 0} → Forest A → List A
+preorder nothing = []
+preorder (item x below after) = x ∷ (preorder below ++ preorder after)
+preorder (lists path after) = preorder after
+
+-- the folders listed, in order
+abbrev pub listings : {A : Type 0} → Forest A → List (List ℕ)
+listings nothing = []
+listings (item x below after) = listings below ++ listings after
+listings (lists path after) = path ∷ listings after
+
+-- what is to come: below the item that was given last, and after that; the folders that were listed; and how many
+-- items are taken from listings for it, at most
+pub record Pending (A : Type 0) : Type 0 where
+  pub below : Forest A
+  pub after : Forest A
+  pub listed : List (List ℕ)
+  pub items : ℕ
+
+abbrev pub pending : {A : Type 0} → Forest A → Forest A → List (List ℕ) → ℕ → Pending A
+pending below after listed items = record { below = below; after = after; listed = listed; items = items }
+
+-- what comes where nothing more is cancelled
+abbrev pub all_pending : {A : Type 0} → Pending A → Forest A
+all_pending p = followed_by p.below p.after
+
+-- what is to come once what lies below the item that was given last is cancelled
+abbrev pub cancelled : {A : Type 0} → Pending A → Pending A
+cancelled p = pending nothing p.after p.listed p.items
+
+-- the answer is the first item of a forest, and `then` says what is to come after it
+abbrev pub FirstIs : {A : Type 0} → (Pending A → Type 0) → Forest A → List (List ℕ) → ℕ → Option A → Type 0
+FirstIs then nothing listed items r = (r ≡ None) × then (pending nothing nothing listed items)
+FirstIs then (item x below after) listed items r = (r ≡ Some x) × then (pending below after listed items)
+FirstIs then (lists path after) listed items r = FirstIs then after (listed ++ path ∷ []) items r
+
+-- the forest where each item is changed, and what lies below those that are cut is left out
+abbrev pub filtered : {A B : Type 0} → (A → B) → (A → Bool) → Forest A → Forest B
+filtered change cut nothing = nothing
+filtered change cut (item x below after) = item (change x) (cond (cut x) nothing (filtered change cut below)) (filtered change cut after)
+filtered change cut (lists path after) = lists path (filtered change cut after)
+
+abbrev pub filtered_pending : {A B : Type 0} → (A → B) → (A → Bool) → Pending A → Pending B
+filtered_pending change cut p = pending (filtered change cut p.below) (filtered change cut p.after) p.listed p.items

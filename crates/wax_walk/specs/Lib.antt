@@ -1,0 +1,9 @@
+pub mod Forest
+pub mod Given
+pub mod Entries
+pub mod Said
+pub mod View
+pub mod Says
+pub mod Ruled
+pub mod Collected
+pub mod Laws

@@ -1,0 +1,36 @@
+-- A closure whose answer depends on the entry alone.
+use Rattle.std.specs.Prelude.{◌≡◌, List, [], ◌∷◌, Option}
+use denote.Ref.{Bor}
+use Rattle.wax_walk.specs.declared.entry.TreeEntry.{TreeEntry}
+use Rattle.wax_walk.specs.declared.iterator.EntryResidue.{EntryResidue}
+use Rattle.wax_walk.specs.Forest.{Pending}
+use Rattle.wax_walk.specs.Given.{Facts, Mark, Given, ToComeFiltered}
+use Rattle.wax_walk.specs.Said.{mark_of}
+use Rattle.wax_walk.specs.View.{WalkView}
+use Rattle.wax_walk.specs.Entries.{facts_of}
+
+-- a call and its answer
+abbrev pub Call : Type 0
+Call = Bor TreeEntry × Option EntryResidue
+
+module _ {F : Type 0} (step : F → Bor TreeEntry → Option EntryResidue → F → Type 0) where
+  -- calls led from one state to another
+  abbrev pub Runs : F → List Call → F → Type 0
+  Runs f [] t = f ≡ t
+  Runs f (call ∷ calls) t = (u : F) × step f call.0 call.1 u × Runs u calls t
+
+  abbrev pub Agrees : (Facts → Mark) → List Call → Type 0
+  Agrees rule [] = Unit {0}
+  Agrees rule (call ∷ calls) = (mark_of call.1 ≡ rule (facts_of call.0.now)) × Agrees rule calls
+
+  -- each answer, in whatever calls, is what the rule says of the entry
+  abbrev pub Says : (Facts → Mark) → F → Type 0
+  Says rule f = (calls : List Call) (t : F) → Runs f calls t → Agrees rule calls
+
+  -- what is to come after the closure's filter
+  abbrev pub ToComeByClosure : (Pending Given → Type 0) → F → Pending Given → Type 0
+  ToComeByClosure inner f q = (rule : Facts → Mark) × Says rule f × ToComeFiltered inner rule q
+
+  -- the view of the filter
+  abbrev pub closure_view : {D : Type 0} → WalkView D → F → WalkView D
+  closure_view inner f = record inner { to_come = ToComeByClosure inner.to_come f }

@@ -1,0 +1,99 @@
+-- What contracts see of a walk, and what a call of `feed` and cancelling change of it.
+use Rattle.std.specs.Prelude.{◌≡◌, ℕ, ◌+◌, ◌<◌, ◌≤◌, ◌^◌, ◌-◌, min, List, Option, Some, None}
+use Rattle.wax_directory.specs.Counting.{no_counts, grown}
+use Rattle.wax_directory.specs.Law.{Law}
+use Rattle.wax_directory.specs.declared.tally.Tally.{Tally}
+use Rattle.wax_walk.specs.declared.error.FaultKind.TheVariants.{NotFound, NotAFolder, Listing, BadName, NotText, Budget}
+use Rattle.wax_walk.specs.Forest.{Pending, all_pending, cancelled, FirstIs}
+use Rattle.wax_walk.specs.Given.{Given, entry, fault, no_memory}
+
+-- what is still to come; the directory; at most how many items may still be taken from listings; how many names it
+-- still has to follow to where it begins; and that nothing more comes
+pub record WalkView (D : Type 0) : Type 1 where
+  pub to_come : Pending Given → Type 0
+  pub directory : D
+  pub listings_left : ℕ
+  pub names_left : ℕ
+  pub has_ended : Type 0
+
+-- ---- what an answer tells
+
+-- what a directory has counted where this is given
+abbrev pub fault_counts : Option Given → Tally
+fault_counts (Some (fault NotFound path depth)) = record no_counts { misses = 1 }
+fault_counts (Some (fault NotAFolder path depth)) = record no_counts { leaves = 1 }
+fault_counts (Some (fault Listing path depth)) = record no_counts { failures = 1 }
+fault_counts (Some (fault BadName path depth)) = record no_counts { bad_names = 1 }
+fault_counts (Some (fault NotText path depth)) = record no_counts { failures = 1 }
+fault_counts r = no_counts
+
+-- the walk has ended with it
+abbrev pub IsLast : Option Given → Type 0
+IsLast None = Unit {0}
+IsLast (Some no_memory) = Unit {0}
+IsLast (Some (fault NotFound path depth)) = Unit {0}
+IsLast (Some (fault NotAFolder path depth)) = Unit {0}
+IsLast (Some (fault Budget path depth)) = Unit {0}
+IsLast r = ⊥
+
+-- a file or a link stands where a folder should be
+abbrev pub IsMisplaced : Option Given → Type 0
+IsMisplaced (Some (fault NotAFolder path depth)) = Unit {0}
+IsMisplaced r = ⊥
+
+-- n items were taken of those that were allowed and so many are left: all the others, and none where the budget is
+-- reached, with which all were taken; where memory was refused, any
+abbrev pub Takes : Option Given → ℕ → ℕ → ℕ → Type 0
+Takes (Some no_memory) allowed n left = n + left ≤ allowed
+Takes (Some (fault Budget path depth)) allowed n left = (n ≡ allowed) × (left ≡ 0)
+Takes r allowed n left = n + left ≡ allowed
+
+-- ---- a call
+
+-- each count but that of items grew by n at least
+pub record CountsFaults (n old new : Tally) : Type 0 where
+  pub misses : min (old.misses + n.misses) (2 ^ 64 - 1) ≤ new.misses
+  pub leaves : min (old.leaves + n.leaves) (2 ^ 64 - 1) ≤ new.leaves
+  pub failures : min (old.failures + n.failures) (2 ^ 64 - 1) ≤ new.failures
+  pub bad_names : min (old.bad_names + n.bad_names) (2 ^ 64 - 1) ≤ new.bad_names
+
+module _ {D : Type 0} where
+  -- the answer is the first of what was to come; or memory was refused; or the budget is reached, since there is more
+  -- to take than was allowed
+  pub data GivesOrStops (old : WalkView D) (p : Pending Given) (r : Option Given) (new : WalkView D) : Type 0 where
+    lacks_memory : r ≡ Some no_memory → GivesOrStops old p r new
+    over_budget : (path : List ℕ) (depth : ℕ) → r ≡ Some (fault Budget path depth) → old.listings_left ≤ p.items → GivesOrStops old p r new
+    gives : (items : ℕ) → items + old.listings_left ≤ p.items + new.listings_left → FirstIs new.to_come (all_pending p) p.listed items r
+        → GivesOrStops old p r new
+
+  -- what the directory counted, what was taken from listings, and that the walk has ended, where it has
+  pub record Accounts {C : Type 0} (law : Law D C) (old : WalkView D) (r : Option Given) (new : WalkView D) : Type 0 where
+    pub counts : CountsFaults (fault_counts r) (law.tally old.directory) (law.tally new.directory)
+    pub taken : ℕ
+    pub takes : Takes r old.listings_left taken new.listings_left
+    pub counted : (law.tally new.directory).items ≡ grown taken (law.tally old.directory).items
+    pub ends : IsLast r → new.has_ended
+    pub stays : old.has_ended → (r ≡ None) × new.has_ended
+    pub names : new.names_left ≤ old.names_left
+    pub misplaced : IsMisplaced r → 0 < old.names_left
+
+  -- what a call of `feed` does that answers r
+  pub record FeedStep {C : Type 0} (law : Law D C) (old : WalkView D) (r : Option Given) (new : WalkView D) : Type 0 where
+    pub gives : (p : Pending Given) → old.to_come p → GivesOrStops old p r new
+    pub accounts : Accounts law old r new
+
+  -- what cancelling does: it leaves out what lies below the item that was given last, and nothing else
+  pub record CancelStep (old new : WalkView D) : Type 0 where
+    pub leaves_out : (p : Pending Given) → old.to_come p → new.to_come (cancelled p)
+    pub directory : new.directory ≡ old.directory
+    pub listings_left : new.listings_left ≡ old.listings_left
+    pub names_left : new.names_left ≡ old.names_left
+    pub ends : old.has_ended → new.has_ended
+
+  -- this much is to be seen of a walk, which shows that
+  pub record IsSeenAs (this that : WalkView D) : Type 0 where
+    pub to_come : (p : Pending Given) → this.to_come p → that.to_come p
+    pub directory : that.directory ≡ this.directory
+    pub listings_left : that.listings_left ≡ this.listings_left
+    pub names_left : that.names_left ≡ this.names_left
+    pub ends : that.has_ended → this.has_ended

@@ -1,0 +1,85 @@
+//! All that a walk gives.
+
+ghost use Rattle.std.specs.Prelude.{◌≡◌, ◌≤◌, ◌++◌, ◌∷◌, [], List, IfOk, length, map, filter, cond};
+ghost use Rattle.std.specs.Iterator.{IsFinite, size};
+ghost use Rattle.wax_walk.specs.Collected.{Took};
+ghost use Rattle.wax_walk.specs.Entries.{given_of, given_outcome};
+ghost use Rattle.wax_walk.specs.Given.{Given, is_kept};
+
+use crate::entry::Entry;
+use crate::error::WalkError;
+use crate::iterator::FileIterator;
+use std::alloc::Global;
+use wax_filter::filter::{Feed, Separation, TreeResidue};
+use wax_query::diagnostics::NoMemory;
+
+// Adds an item.
+fn push<T: Drop>(items: &mut Vec<T>, item: T) -> Result<(), NoMemory>
+    ensures { IfOk result (λ _. items.new.items ≡ items.old.items ++ item ∷ []) }
+{
+    match items.push(item) {
+        Ok(()) => Ok(()),
+        Err(_) => Err(NoMemory),
+    }
+}
+
+// Adds an item if it is kept.
+fn keep<T, R, F>(
+    items: &mut Vec<Result<T, WalkError>>,
+    separation: Separation<F>,
+) -> Result<(), NoMemory>
+where
+    T: Entry,
+    R: Entry,
+    F: Feed<Filtrate = Result<T, WalkError>, Residue = TreeResidue<R>>,
+    ensures { IfOk result (λ _. let given = map (given_outcome T.facts R.facts) in
+        let x = given_of T.facts R.facts separation in
+        given items.new.items ≡ cond (is_kept x) (given items.old.items ++ x ∷ []) (given items.old.items)) }
+{
+    match separation {
+        Separation::Filtrate(filtrate) => push(items, filtrate.into_inner()),
+        Separation::Residue(_) => Ok(()),
+    }
+}
+
+/// All items of the feed in order, kept or left out, errors among those that are kept, and the
+/// directory. Where memory is refused for the list itself, nothing is answered.
+pub fn collect_feed<I>(
+    alloc: Global,
+    mut walk: I,
+) -> Result<(Vec<Separation<I::Feed>>, I::Directory), NoMemory>
+where
+    I: FileIterator,
+    requires can { I.can_feed walk }
+    requires ends { IsFinite (I.left walk) }
+    ensures took { IfOk result (λ r. Took I.Directory.law (I.view walk) r.1
+        (map (given_of I.Entry.facts I.Residue.facts) r.0.items)) }
+    ensures few { IfOk result (λ r. length r.0.items ≤ size (I.left walk)) }
+{
+    let mut items = Vec::new(alloc);
+    while let Some(item) = walk.feed() {
+        push(&mut items, item)?;
+    }
+    Ok((items, walk.into_directory()))
+}
+
+/// The items that are kept, in order, errors among them, and the directory. Where memory is refused
+/// for the list itself, nothing is answered.
+pub fn collect<I>(
+    alloc: Global,
+    mut walk: I,
+) -> Result<(Vec<Result<I::Entry, WalkError>>, I::Directory), NoMemory>
+where
+    I: FileIterator,
+    requires can { I.can_feed walk }
+    requires ends { IsFinite (I.left walk) }
+    ensures { IfOk result (λ r. (xs : List Given) × Took I.Directory.law (I.view walk) r.1 xs
+        × (length xs ≤ size (I.left walk))
+        × (map (given_outcome I.Entry.facts I.Residue.facts) r.0.items ≡ filter is_kept xs)) }
+{
+    let mut items = Vec::new(alloc);
+    while let Some(item) = walk.feed() {
+        keep(&mut items, item)?;
+    }
+    Ok((items, walk.into_directory()))
+}

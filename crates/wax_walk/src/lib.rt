@@ -1,0 +1,16 @@
+//! Walks: what is still to come of them, filters over them, and what collects them.
+#![tactic(auto)]
+
+mod entry;
+mod error;
+mod filter_entry;
+mod gather;
+mod iterator;
+mod without;
+
+pub use gather::{collect, collect_feed};
+pub use entry::{Entry, TreeEntry};
+pub use error::{FaultKind, WalkError, WalkErrorKind};
+pub use filter_entry::FilterEntry;
+pub use iterator::{EntryResidue, FileIterator};
+pub use without::{Rule, Without};
