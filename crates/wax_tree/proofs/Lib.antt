@@ -1,10 +1,8 @@
-pub mod Filtering
-pub mod Collecting
+pub mod Showing
+pub mod Resting
 pub mod Stepping
-pub mod Saying
-pub mod Wanted
-pub mod Counting
-pub mod Asking
 pub mod Naming
+pub mod Settling
 pub mod Making
 pub mod Kept
+pub mod InRange

@@ -1,32 +1,29 @@
--- A walk, when it is made and where memory was wanted for its start.
-use Rattle.std.proofs.Common.{◌≡◌, ℕ, ◌+◌, ◌-◌, ◌^◌, ◌<◌, ◌≤◌, length, Bool, true, false, cond, List, [], refl, sym, ap, subst, ◌∙◌, arith, inl, string_bytes, ◌++◌, ◌∷◌, length-append}
+-- A walk, when it is made and where memory was refused for its start.
+use Rattle.std.proofs.Common.{◌≡◌, ℕ, ◌+◌, ◌-◌, ◌^◌, ◌≤◌, length, true, false, List, [], ◌∷◌, ◌++◌, refl, sym, ap, subst, ◌∙◌, arith, inl, inr, string_bytes, length-append}
 use Rattle.std.specs.Prelude.{Option, Some, None, String}
 use Rattle.std.specs.declared.alloc.Global.{Global}
-use Rattle.wax_directory.specs.Shown.{Items, Shown}
-use Rattle.wax_directory.specs.Told.{Told}
+use Rattle.wax_directory.specs.Law.{Law}
+use Rattle.wax_directory.specs.Shown.{Shown}
+use Rattle.wax_walk.specs.Forest.{Forest, nothing, item, lists, Pending, pending, all_pending, FirstIs}
+use Rattle.wax_walk.specs.Given.{Given, no_memory}
+use Rattle.wax_walk.specs.View.{WalkView, GivesOrStops, lacks_memory, over_budget, gives, FeedStep, Accounts}
+use Rattle.wax_walk.proofs.Accounting.{counts_nothing}
 use Rattle.wax_tree.specs.declared.steps.Place.{Place}
+use Rattle.wax_tree.specs.declared.steps.Range.{Range}
 use Rattle.wax_tree.specs.declared.steps.Steps.{Steps}
 use Rattle.wax_tree.specs.declared.walk_tree.WalkTree.{WalkTree}
-use Rattle.wax_tree.specs.Asks.{Lists, Asks}
-use Rattle.std.specs.Iterator.{Count}
-use Rattle.wax_tree.specs.Begins.{Begins, BeginsAt}
-use Rattle.wax_tree.specs.Collected.{Ends}
-use Rattle.wax_tree.specs.Counts.{Counts}
-use Rattle.wax_tree.specs.Fed.{Fed}
-use Rattle.wax_tree.specs.Forest.{nothing, Pending, pending}
-use Rattle.wax_tree.specs.Given.{Given, GivesOrFails, no_memory}
-use Rattle.wax_tree.specs.Lacking.{MayCome, lacks, goes, HasEnded, asks_at_most, gives_at_most}
-use Rattle.wax_tree.specs.Plain.{count_shown}
+use Rattle.wax_tree.specs.Begins.{Begins, BeginsAt, Way}
+use Rattle.wax_tree.specs.Lacking.{MayCome, lacks, goes, tree_view}
+use Rattle.wax_tree.specs.Plain.{Spot, count_shown}
 use Rattle.wax_tree.specs.Prefix.{ArePlain, from_last, walk_from}
-use Rattle.wax_tree.specs.Walking.{Comes, HasStopped}
-use Rattle.wax_tree.proofs.Asking.{asks_same}
-use Rattle.wax_tree.proofs.Filtering.{gives_said}
+use Rattle.wax_tree.specs.Walking.{PlainToCome, scope_of, steps_view, place_spot}
 
-module _ {D C : Type 0} (shows : D → List ℕ → Shown → Type 0) (tells : D → List (List ℕ) → Type 0) (holds : D → C → Items → Type 0) where
-  pub made_comes : (w : Steps D C) (place : Place) (s : Shown) (listed : List (List ℕ)) → w.first ≡ Some place → w.entered ≡ None → w.levels.items ≡ [] → w.has_ended ≡ false
-      → shows w.directory (string_bytes place.path) s → ArePlain (from_last place.names.items) → place.depth + length place.names.items ≤ 2 ^ 64 - 1 → count_shown s ≤ w.budget → tells w.directory listed
-      → Comes shows tells holds w (pending nothing (walk_from w.min w.max (string_bytes w.root) (string_bytes place.path) (string_bytes place.candidate) place.depth s (from_last place.names.items) nothing) listed)
-  made_comes w place s listed e n l f h p d few told = record {
+module _ {D C : Type 0} (law : Law D C) where
+  made_comes : (w : Steps D C) (place : Place) (s : Shown) (listed : List (List ℕ)) → w.first ≡ Some place → w.entered ≡ None → w.levels.items ≡ [] → w.has_ended ≡ false
+      → law.shows w.directory (string_bytes place.path) s → ArePlain (from_last place.names.items) → place.depth + length place.names.items ≤ 2 ^ 64 - 1 → law.tells w.directory listed → law.holds w.directory [] []
+      → PlainToCome law w (pending nothing (walk_from (scope_of w) (place_spot place) s (from_last place.names.items) nothing) listed (count_shown s))
+  made_comes w place s listed e n l f h p d told held = record {
+    has = [];
     back = nothing;
     of_first = count_shown s;
     of_entered = 0;
@@ -34,23 +31,25 @@ module _ {D C : Type 0} (shows : D → List ℕ → Shown → Type 0) (tells : D
     first = rw e (s, h, p, d, omega arith, refl);
     entered = rw n (refl, refl);
     levels = rw l (refl, refl);
-    enough = omega (arith, few);
-    alone = rw (e, n) refl;
+    held = rw l held;
+    few = omega arith;
+    alone = rw (e, n, l) (refl, refl);
     told = told;
-    goes = f;
+    ended = λ t. absurd (let b : true ≡ false = sym t ∙ f in (cc));
   }
 
-  pub made_at : (w : Steps D C) (place : Place) (root start candidate : List ℕ) (names : List (String Global)) (s : Shown) (listed : List (List ℕ)) → w.first ≡ Some place → w.entered ≡ None → w.levels.items ≡ [] → w.has_ended ≡ false
-      → string_bytes w.root ≡ root → string_bytes place.path ≡ start → string_bytes place.candidate ≡ candidate → place.depth ≡ 0 → place.names.items ≡ names
-      → shows w.directory start s → ArePlain (from_last names) → length names ≤ 2 ^ 64 - 1 → count_shown s ≤ w.budget → tells w.directory listed
-      → Comes shows tells holds w (pending nothing (walk_from w.min w.max root start candidate 0 s (from_last names) nothing) listed)
-  made_at w place root start candidate names s listed e n l f p q k d i h plain fits few told =
+  pub made_at : (w : Steps D C) (root : List ℕ) (place : Place) (at : Spot) (names : List (String Global)) (s : Shown) (listed : List (List ℕ)) → w.first ≡ Some place → w.entered ≡ None → w.levels.items ≡ [] → w.has_ended ≡ false
+      → string_bytes w.root ≡ root → string_bytes place.path ≡ at.path → string_bytes place.candidate ≡ at.candidate → place.depth ≡ at.depth → place.names.items ≡ names
+      → law.shows w.directory at.path s → ArePlain (from_last names) → at.depth + length names ≤ 2 ^ 64 - 1 → law.tells w.directory listed → law.holds w.directory [] []
+      → PlainToCome law w (pending nothing (walk_from (record { min = w.min; max = w.max; root = root }) at s (from_last names) nothing) listed (count_shown s))
+  made_at w root place at names s listed e n l f o q k d i h plain fits told held =
       let long : length place.names.items ≡ length names = ap length i in
-      subst (λ v. Comes shows tells holds w (pending nothing v listed)) (λ j. walk_from w.min w.max (p j) (q j) (k j) (d j) s (from_last (i j)) nothing)
-      (made_comes w place s listed e n l f (subst (λ v. shows w.directory v s) (sym q) h) (subst (λ v. ArePlain (from_last v)) (sym i) plain) (omega (arith, d, fits, long)) few told)
+      subst (λ v. PlainToCome law w (pending nothing v listed (count_shown s))) (λ j. walk_from (record { min = w.min; max = w.max; root = o j }) (record { path = q j; candidate = k j; depth = d j }) s (from_last (i j)) nothing)
+      (made_comes w place s listed e n l f (subst (λ v. law.shows w.directory v s) (sym q) h) (subst (λ v. ArePlain (from_last v)) (sym i) plain) (omega (arith, d, fits, long)) told held)
 
-  pub made_nothing : (w : Steps D C) (listed : List (List ℕ)) → w.first ≡ None → w.entered ≡ None → w.levels.items ≡ [] → w.has_ended ≡ false → tells w.directory listed → Comes shows tells holds w (pending nothing nothing listed)
-  made_nothing w listed e n l f told = record {
+  pub made_nothing : (w : Steps D C) (listed : List (List ℕ)) → w.first ≡ None → w.entered ≡ None → w.levels.items ≡ [] → law.tells w.directory listed → law.holds w.directory [] [] → PlainToCome law w (pending nothing nothing listed 0)
+  made_nothing w listed e n l told held = record {
+    has = [];
     back = nothing;
     of_first = 0;
     of_entered = 0;
@@ -58,61 +57,52 @@ module _ {D C : Type 0} (shows : D → List ℕ → Shown → Type 0) (tells : D
     first = rw e (refl, refl);
     entered = rw n (refl, refl);
     levels = rw l (refl, refl);
-    enough = omega arith;
+    held = rw l held;
+    few = omega arith;
     alone = rw e tt;
     told = told;
-    goes = f;
+    ended = λ t. (refl, refl);
   }
 
-  goes_on : (w v : WalkTree D C) (p : Pending Given) (r : Option Given) → w.lacks_memory ≡ false → v.lacks_memory ≡ false
-      → ((q : Pending Given) → Comes shows tells holds w.steps q → GivesOrFails (Comes shows tells holds v.steps) q r) → MayCome shows tells holds w p → GivesOrFails (MayCome shows tells holds v) p r
-  goes_on w v p r e d f (lacks t told) = cc
-  goes_on w v p r e d f (goes t c) = gives_said (Comes shows tells holds v.steps) (MayCome shows tells holds v) (λ q i. goes d i) p r (f p c)
+  first_known : (then new : Pending Given → Type 0) (a : (q : Pending Given) → then q → new q) (p : Pending Given) (items : ℕ) (r : Option Given) → FirstIs then (all_pending p) p.listed items r → FirstIs new (all_pending p) p.listed items r
+  first_known then new a p items r h = go (all_pending p) p.listed h where
+    go : (f : Forest Given) (listed : List (List ℕ)) → FirstIs then f listed items r → FirstIs new f listed items r
+    go nothing listed h = (h.0, a _ h.1)
+    go (item x below after) listed h = (h.0, a _ h.1)
+    go (lists path after) listed h = go after (listed ++ path ∷ []) h
 
-abbrev flag : Bool → ℕ
-flag b = cond b 1 0
+  goes_on : (w v : WalkTree D C) (p : Pending Given) (r : Option Given) → v.lacks_memory ≡ false → GivesOrStops (steps_view law w.steps) p r (steps_view law v.steps) → GivesOrStops (tree_view law w) p r (tree_view law v)
+  goes_on w v p r d (lacks_memory e) = lacks_memory e
+  goes_on w v p r d (over_budget path depth e few) = over_budget path depth e few
+  goes_on w v p r d (gives items few first) = gives items few (first_known (PlainToCome law v.steps) (MayCome law v) (λ q i. goes d i) p items r first)
 
--- that memory was wanted is told once
-pub lacking_goes : {D C : Type 0} (w : WalkTree D C) → w.lacks_memory ≡ true → gives_at_most (record { steps = record w.steps { has_ended = true }; lacks_memory = false }) < gives_at_most w
-lacking_goes w e = let k : flag w.lacks_memory ≡ flag true = ap flag e in omega (arith, k)
-
-module _ {D C : Type 0} (tells : D → Told → Type 0) (missed failed : D → ℕ) (shows : D → List ℕ → Shown → Type 0) (holds : D → C → Items → Type 0) where
   -- a call of `feed` where no memory is lacked
-  pub fed_on : (w v : WalkTree D C) (r : Option Given) → w.lacks_memory ≡ false → v.lacks_memory ≡ false
-      → ((q : Pending Given) → Comes shows (Lists tells) holds w.steps q → GivesOrFails (Comes shows (Lists tells) holds v.steps) q r)
-      → Counts missed failed w.steps.directory r v.steps.directory → Asks tells w.steps.directory (asks_at_most w) r v.steps.directory (asks_at_most v) → Ends r (HasStopped w.steps) (HasStopped v.steps)
-      → Fed tells missed failed (MayCome shows (Lists tells) holds w) (MayCome shows (Lists tells) holds v) w.steps.directory v.steps.directory (asks_at_most w) (asks_at_most v) (HasEnded w) (HasEnded v) r
-  fed_on w v r e d f k a n = record {
-    gives = λ p i. goes_on shows (Lists tells) holds w v p r e d f i;
-    counts = k;
-    asks = a;
-    ends = record { at_end = λ i. (d, n.at_end i); at_failure = λ i. (d, n.at_failure i); stays = λ i. ((n.stays i.1).0, (d, (n.stays i.1).1)) };
-  }
-
-  -- a call of `feed` where memory was wanted for the start
-  pub fed_lacking : (w v : WalkTree D C) → w.lacks_memory ≡ true → v.lacks_memory ≡ false → v.steps.directory ≡ w.steps.directory → v.steps.has_ended ≡ true
-      → Fed tells missed failed (MayCome shows (Lists tells) holds w) (MayCome shows (Lists tells) holds v) w.steps.directory v.steps.directory (asks_at_most w) (asks_at_most v) (HasEnded w) (HasEnded v) (Some no_memory)
-  fed_lacking w v e d is n = record {
-    gives = λ p i. inl refl;
-    counts = record { missed = rw is (omega arith); failed = rw is (omega arith) };
-    asks = rw (is, n) (asks_same tells w.steps.directory (asks_at_most w) (Some no_memory) 0 (omega arith));
-    ends = record { at_end = λ i. (d, inl n); at_failure = λ i. (d, inl n); stays = λ i. let x : true ≡ false = sym e ∙ i.0 in (cc) };
-  }
+  pub fed_on : (w v : WalkTree D C) (r : Option Given) → w.lacks_memory ≡ false → v.lacks_memory ≡ false → FeedStep law (steps_view law w.steps) r (steps_view law v.steps) → FeedStep law (tree_view law w) r (tree_view law v)
+  fed_on w v r e d f = record {
+    gives = λ p c. known p c;
+    accounts = record { counts = f.accounts.counts; taken = f.accounts.taken; takes = f.accounts.takes; counted = f.accounts.counted; ends = λ i. (d, f.accounts.ends i) };
+    at_end = λ i. (d, f.at_end i);
+    stays = λ i. ((f.stays i.1).0, (d, (f.stays i.1).1));
+    names = f.names;
+    misplaced = f.misplaced;
+  } where
+    known : (p : Pending Given) → MayCome law w p → GivesOrStops (tree_view law w) p r (tree_view law v)
+    known p (lacks t told) = absurd (let b : true ≡ false = sym t ∙ e in (cc))
+    known p (goes t c) = goes_on w v p r d (f.gives p c)
 
 pub from_last_length : (names : List (String Global)) → length (from_last names) ≡ length names
 from_last_length [] = refl
 from_last_length (x ∷ names) = let e : length (from_last names) ≡ length names = from_last_length names in let l : length (from_last names ++ string_bytes x ∷ []) ≡ length (from_last names) + 1 = length-append (from_last names) (string_bytes x ∷ []) in omega (arith, e, l)
 
 -- with no names to come it is the plain walk
-pub begins_plain : {D : Type 0} (shows : D → List ℕ → Shown → Type 0) (tells : D → Told → Type 0) (d : D) (start : List ℕ) (names : List (List ℕ)) (min max budget : ℕ) (comes : Pending Given → Type 0) (ended : Type 0) (walked : D) (left : Count) (allowed : ℕ)
-    → names ≡ [] → BeginsAt shows tells d start start [] names min max budget comes ended walked left allowed → Begins shows tells d start min max budget comes walked left allowed
-begins_plain shows tells d start names min max budget comes ended walked left allowed e b =
+pub begins_plain : {D C : Type 0} (law : Law D C) (d : D) (start : List ℕ) (names : List (List ℕ)) (range : Range) (view : WalkView D) → names ≡ []
+    → BeginsAt law d (record { root = start; path = start; candidate = []; names = names }) range view → Begins law d start range view
+begins_plain law d start names range view e b =
     let long : length names ≡ 0 = ap length e in
     record {
-      shown = λ s listed h few told.
-          subst (λ v. comes (pending nothing (walk_from min max start start [] 0 s v nothing) listed)) e (b.shown s listed h (subst ArePlain (sym e) tt) (omega (arith, long)) few told);
-      ends = b.ends;
-      gives = b.gives;
-      asks = b.asks;
+      shown = λ s listed h told.
+          subst (λ v. view.to_come (pending nothing (walk_from (record { min = range.min; max = range.max; root = start }) (record { path = start; candidate = []; depth = 0 }) s v nothing) listed (count_shown s))) e (b.shown s listed h told (subst ArePlain (sym e) tt) (omega (arith, long)));
+      listings = b.listings;
+      names = omega (arith, b.names, long);
       directory = b.directory;
     }

@@ -1,40 +1,57 @@
 -- A walk that was made.
-use Rattle.std.specs.Prelude.{◌≡◌, ◌≤◌, ◌<◌, length, ◌+◌, ◌*◌, ◌-◌, ◌^◌, ℕ, List, Option, Some, None}
+use Rattle.std.specs.Prelude.{◌≡◌, ◌<◌, ◌≤◌, length, ◌+◌, ◌-◌, ◌^◌, ℕ, List, Option, Some, None}
 use Rattle.std.specs.Iterator.{Count, IsFinite, size}
+use Rattle.wax_tree.specs.declared.behavior.WalkBehavior.{WalkBehavior}
+use Rattle.wax_tree.specs.Depths.{least, greatest}
+use Rattle.wax_directory.specs.Law.{Law}
 use Rattle.wax_directory.specs.Shown.{Shown}
-use Rattle.wax_directory.specs.Told.{Told}
-use Rattle.wax_behavior.specs.declared.WalkBehavior.{WalkBehavior}
-use Rattle.wax_behavior.specs.Depths.{least, greatest}
-use Rattle.wax_tree.specs.Asks.{Lists}
-use Rattle.wax_tree.specs.Forest.{Pending, pending, nothing}
-use Rattle.wax_tree.specs.Given.{Given}
-use Rattle.wax_tree.specs.Plain.{plain, count_shown}
+use Rattle.wax_tree.specs.declared.steps.Range.{Range}
+use Rattle.wax_tree.specs.Plain.{Scope, plain, count_shown}
 use Rattle.wax_tree.specs.Prefix.{ArePlain, walk_from}
+use Rattle.wax_walk.specs.Forest.{pending, nothing}
+use Rattle.wax_walk.specs.View.{WalkView}
 
 -- the greatest depth, where no walk counts further
 abbrev pub or_greatest : Option ℕ → ℕ
 or_greatest (Some n) = n
 or_greatest None = 2 ^ 64 - 1
 
--- a walk over this directory, of which `comes` says what is to come: what is shown at the start will come, of the depths from min to max, if the items of its folders are no more than the budget;
--- at most twice as many items are given, and three more; at most one more is taken from listings
-pub record Begins {D : Type 0} (shows : D → List ℕ → Shown → Type 0) (tells : D → Told → Type 0) (d : D) (start : List ℕ) (min max budget : ℕ) (comes : Pending Given → Type 0) (walked : D) (left : Count) (allowed : ℕ) : Type 0 where
-  pub shown : (s : Shown) (listed : List (List ℕ)) → shows d start s → count_shown s ≤ budget → Lists tells d listed → comes (pending nothing (plain min max start s nothing) listed)
-  pub ends : IsFinite left
-  pub gives : size left ≤ 2 * budget + 3
-  pub asks : allowed ≡ budget + 1
-  pub directory : walked ≡ d
+abbrev pub range_of : WalkBehavior → Range
+range_of b = record { min = least b.depth; max = or_greatest (greatest b.depth); budget = b.budget }
 
-abbrev pub BeginsBy : {D : Type 0} → (D → List ℕ → Shown → Type 0) → (D → Told → Type 0) → D → List ℕ → WalkBehavior → (Pending Given → Type 0) → D → Count → ℕ → Type 0
-BeginsBy shows tells d start b comes walked left allowed = Begins shows tells d start (least b.depth) (or_greatest (greatest b.depth)) b.budget comes walked left allowed
+abbrev pub scope_in : Range → List ℕ → Scope
+scope_in range root = record { min = range.min; max = range.max; root = root }
 
--- a walk from a start with this candidate to the place of these names below it, and from there on: one question a name on the way, and one error and the end where the names don't lead there;
--- nothing comes and nothing is asked where the greatest depth stands above that place
-pub record BeginsAt {D : Type 0} (shows : D → List ℕ → Shown → Type 0) (tells : D → Told → Type 0) (d : D) (root start candidate : List ℕ) (names : List (List ℕ)) (min max budget : ℕ) (comes : Pending Given → Type 0) (ended : Type 0) (walked : D) (left : Count) (allowed : ℕ) : Type 0 where
-  pub shown : (s : Shown) (listed : List (List ℕ)) → shows d start s → ArePlain names → length names ≤ max → count_shown s ≤ budget → Lists tells d listed → comes (pending nothing (walk_from min max root start candidate 0 s names nothing) listed)
-  pub above : max < length names → ended
-  pub nothing_comes : (listed : List (List ℕ)) → max < length names → Lists tells d listed → comes (pending nothing nothing listed)
+-- it ends, and gives no more items than so many
+pub record AtMost (most : ℕ) (left : Count) : Type 0 where
   pub ends : IsFinite left
-  pub gives : size left ≤ 2 * budget + 3
-  pub asks : allowed ≡ budget + 1
-  pub directory : walked ≡ d
+  pub gives : size left ≤ most
+
+-- a walk over this directory, of which this is seen: what is shown at the start will come, of the depths in range, and no
+-- name is to be followed
+pub record Begins {D C : Type 0} (law : Law D C) (d : D) (start : List ℕ) (range : Range) (view : WalkView D) : Type 0 where
+  pub shown : (s : Shown) (listed : List (List ℕ)) → law.shows d start s → law.tells d listed
+      → view.to_come (pending nothing (plain (scope_in range start) s) listed (count_shown s))
+  pub listings : view.listings_left ≡ range.budget + 1
+  pub names : view.names_left ≡ 0
+  pub directory : view.directory ≡ d
+
+-- the start that the entries of a walk tell, the path where it begins to ask, the candidate of that path, and the names
+-- below it that it follows
+pub record Way : Type 0 where
+  pub root : List ℕ
+  pub path : List ℕ
+  pub candidate : List ℕ
+  pub names : List (List ℕ)
+
+-- the walk to the place of these names, and from there on: one question a name on the way, and one error and the end where
+-- the names don't lead there; where there are more names than the greatest depth nothing comes, and the walk has ended
+pub record BeginsAt {D C : Type 0} (law : Law D C) (d : D) (way : Way) (range : Range) (view : WalkView D) : Type 0 where
+  pub shown : (s : Shown) (listed : List (List ℕ)) → law.shows d way.path s → law.tells d listed → ArePlain way.names → length way.names ≤ range.max
+      → view.to_come (pending nothing (walk_from (scope_in range way.root) (record { path = way.path; candidate = way.candidate; depth = 0 }) s way.names nothing) listed (count_shown s))
+  pub beyond : (s : Shown) (listed : List (List ℕ)) → law.shows d way.path s → law.tells d listed → range.max < length way.names
+      → view.to_come (pending nothing nothing listed 0)
+  pub above : range.max < length way.names → view.has_ended
+  pub listings : view.listings_left ≡ range.budget + 1
+  pub names : view.names_left ≤ length way.names
+  pub directory : view.directory ≡ d

@@ -1,23 +1,28 @@
 -- A walk for whose start there may have been no memory.
-use Rattle.std.specs.Prelude.{◌≡◌, ℕ, ◌+◌, cond, List, true, false}
-use Rattle.wax_directory.specs.Shown.{Items, Shown}
+use Rattle.std.specs.Prelude.{◌≡◌, ℕ, ◌+◌, cond, true, false}
+use Rattle.wax_directory.specs.Law.{Law}
+use Rattle.wax_walk.specs.Forest.{Pending}
+use Rattle.wax_walk.specs.Given.{Given}
+use Rattle.wax_walk.specs.View.{WalkView}
 use Rattle.wax_tree.specs.declared.walk_tree.WalkTree.{WalkTree}
-use Rattle.wax_tree.specs.Forest.{Pending}
-use Rattle.wax_tree.specs.Given.{Given}
-use Rattle.wax_tree.specs.Walking.{Comes, HasStopped, items_left, allowance}
+use Rattle.wax_tree.specs.Stepping.{items_left}
+use Rattle.wax_tree.specs.Walking.{PlainToCome, HasStopped, allowance, names_left}
 
--- what is to come: anything, where memory was wanted and that wasn't told yet
-pub data MayCome {D C : Type 0} (shows : D → List ℕ → Shown → Type 0) (tells : D → List (List ℕ) → Type 0) (holds : D → C → Items → Type 0) (w : WalkTree D C) (p : Pending Given) : Type 0 where
-  lacks : w.lacks_memory ≡ true → tells w.steps.directory p.listed → MayCome shows tells holds w p
-  goes : w.lacks_memory ≡ false → Comes shows tells holds w.steps p → MayCome shows tells holds w p
+-- what is to come: anything, where memory was refused and that wasn't told yet
+pub data MayCome {D C : Type 0} (law : Law D C) (w : WalkTree D C) (p : Pending Given) : Type 0 where
+  lacks : w.lacks_memory ≡ true → law.tells w.steps.directory p.listed → MayCome law w p
+  goes : w.lacks_memory ≡ false → PlainToCome law w.steps p → MayCome law w p
 
--- nothing more comes
-abbrev pub HasEnded : {D C : Type 0} → WalkTree D C → Type 0
-HasEnded w = (w.lacks_memory ≡ false) × HasStopped w.steps
+-- what is seen of the walk
+abbrev pub tree_view : {D C : Type 0} → Law D C → WalkTree D C → WalkView D
+tree_view law w = record {
+  to_come = MayCome law w;
+  directory = w.steps.directory;
+  listings_left = allowance w.steps;
+  names_left = names_left w.steps;
+  has_ended = (w.lacks_memory ≡ false) × HasStopped w.steps;
+}
 
--- at most how many items it still gives, and how many it may still take from listings
+-- at most how many items it still gives
 abbrev pub gives_at_most : {D C : Type 0} → WalkTree D C → ℕ
 gives_at_most w = items_left w.steps + cond w.lacks_memory 1 0
-
-abbrev pub asks_at_most : {D C : Type 0} → WalkTree D C → ℕ
-asks_at_most w = allowance w.steps

@@ -1,28 +1,17 @@
-//! Walks through a directory, entry by entry, and filters over them.
+//! The plain walk through a directory, entry by entry.
 #![tactic(auto)]
 
-mod entry;
-mod error;
-mod filter_entry;
-mod gather;
-mod iterator;
+mod behavior;
 mod path_ext;
-mod place;
+mod path_text;
 mod plain;
-mod rule;
 mod steps;
 mod walk_tree;
 
-pub use entry::{Entry, TreeEntry};
-pub use error::{WalkError, WalkErrorKind};
-pub use filter_entry::FilterEntry;
-pub use gather::{collect, collect_feed};
-pub use iterator::{EntryResidue, FileIterator};
-pub use path_ext::PathExt;
-pub use plain::entries;
-pub use rule::{Rule, Without};
-pub use steps::Range;
-pub use walk_tree::{TreeFeed, WalkTree};
-pub use wax_behavior::{
+pub use behavior::{
     DepthBehavior, DepthMax, DepthMin, DepthMinMax, LinkBehavior, WalkBehavior,
 };
+pub use path_ext::PathExt;
+pub use plain::entries;
+pub use steps::Range;
+pub use walk_tree::{TreeFeed, WalkTree};

@@ -1,21 +1,21 @@
 //! Walks from a path.
 
-ghost use Rattle.std.specs.Prelude.{◌≡◌, ℕ, List};
-ghost use Rattle.wax_tree.specs.Begins.{BeginsBy, or_greatest};
-ghost use Rattle.wax_behavior.specs.Depths.{at_depth, greatest};
-ghost use Rattle.wax_behavior.specs.declared.DepthBehavior.TheVariants.{Unbounded};
+ghost use Rattle.std.specs.Prelude.{◌≡◌, ◌+◌, ◌*◌, ℕ, List};
+ghost use Rattle.wax_tree.specs.Depths.{at_depth, greatest};
+ghost use Rattle.wax_tree.specs.declared.behavior.DepthBehavior.TheVariants.{Unbounded};
+ghost use Rattle.wax_tree.specs.Begins.{AtMost, Begins, or_greatest, range_of};
 
-use crate::iterator::FileIterator;
 use crate::steps::Range;
 use crate::walk_tree::WalkTree;
 use std::alloc::Global;
-use wax_behavior::{DepthBehavior, WalkBehavior};
+use crate::behavior::{DepthBehavior, WalkBehavior};
 use wax_directory::directory::Directory;
 use wax_filter::filter::SeparatingFilter;
+use wax_walk::FileIterator;
 
 /// Paths from which a directory can be walked.
 pub trait PathExt {
-    ghost use Rattle.wax_behavior.specs.declared.WalkBehavior.{WalkBehavior};
+    ghost use Rattle.wax_tree.specs.declared.behavior.WalkBehavior.{WalkBehavior};
 
     /// The path's text.
     ghost text: { Self → List ℕ };
@@ -25,7 +25,9 @@ pub trait PathExt {
     fn walk<D: Directory>(self, alloc: Global, directory: D) -> WalkTree<D>
     where
         Self: Sized,
-        ensures { BeginsBy D.shows D.tells directory (text self) (at_depth Unbounded) (⟦<WalkTree<D> as FileIterator>⟧.comes result) (⟦<WalkTree<D> as FileIterator>⟧.walked result) (⟦<WalkTree<D> as SeparatingFilter>⟧.left result) (⟦<WalkTree<D> as FileIterator>⟧.allows result) };
+        ensures begins { Begins D.law directory (text self) (range_of (at_depth Unbounded))
+            (⟦<WalkTree<D> as FileIterator>⟧.view result) }
+        ensures gives { AtMost (2 * (at_depth Unbounded).budget + 3) (⟦<WalkTree<D> as SeparatingFilter>⟧.left result) };
 
     /// The walk from this path, of the depths that the behavior has, which takes at most as many
     /// items of folders as its budget. Where memory is refused for the path, the walk's one item
@@ -35,7 +37,9 @@ pub trait PathExt {
         Self: Sized,
         D: Directory,
         B: Into<WalkBehavior>,
-        ensures { (b : WalkBehavior) × B.converts behavior b × BeginsBy D.shows D.tells directory (text self) b (⟦<WalkTree<D> as FileIterator>⟧.comes result) (⟦<WalkTree<D> as FileIterator>⟧.walked result) (⟦<WalkTree<D> as SeparatingFilter>⟧.left result) (⟦<WalkTree<D> as FileIterator>⟧.allows result) };
+        ensures { (b : WalkBehavior) × B.converts behavior b
+            × Begins D.law directory (text self) (range_of b) (⟦<WalkTree<D> as FileIterator>⟧.view result)
+            × AtMost (2 * b.budget + 3) (⟦<WalkTree<D> as SeparatingFilter>⟧.left result) };
 }
 
 // The greatest depth; the greatest that a walk counts where there is no bound.
@@ -55,7 +59,8 @@ pub(crate) fn walk_from<D: Directory>(
     start: &str,
     behavior: WalkBehavior,
 ) -> WalkTree<D>
-    ensures { BeginsBy D.shows D.tells directory start.now behavior (⟦<WalkTree<D> as FileIterator>⟧.comes result) (⟦<WalkTree<D> as FileIterator>⟧.walked result) (⟦<WalkTree<D> as SeparatingFilter>⟧.left result) (⟦<WalkTree<D> as FileIterator>⟧.allows result) }
+    ensures begins { Begins D.law directory start.now (range_of behavior) (⟦<WalkTree<D> as FileIterator>⟧.view result) }
+    ensures gives { AtMost (2 * behavior.budget + 3) (⟦<WalkTree<D> as SeparatingFilter>⟧.left result) }
 {
     let range = Range {
         min: behavior.depth.least(),

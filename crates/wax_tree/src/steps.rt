@@ -1,24 +1,23 @@
 //! The plain walk, step by step.
 
 ghost use Rattle.std.specs.Prelude.{◌≡◌, ◌≤◌, ◌+◌, ◌^◌, length, ◌-◌, ◌⊎◌, ◌++◌, ◌∷◌, ◌<◌, [], ℕ, List, Option, Some, None, Ok, true, false, OnOk, IfOk, string_bytes, MatchOption, ⊤};
-ghost use Rattle.wax_directory.specs.Shown.{Items, Shown, ShowsIn, IsPlain, named, first_of, rest_of};
 ghost use Rattle.wax_directory.specs.Answers.{listed_of};
-ghost use Rattle.wax_directory.specs.Told.{failed_item_in};
-ghost use Rattle.wax_tree.specs.Forest.{Forest, followed_by, Pending, all_pending, pending, nothing};
-ghost use Rattle.wax_tree.specs.Given.{Given, GivesOrFails, fault, no_memory};
-ghost use Rattle.wax_tree.specs.Collected.{Ends};
-ghost use Rattle.wax_tree.specs.Asks.{Lists, Asks, Takes};
-ghost use Rattle.wax_tree.specs.Counts.{Counts, missing_in, failed_in};
-ghost use Rattle.wax_tree.specs.Heads.{headed, own_count};
-ghost use Rattle.wax_tree.specs.Plain.{found, contents, count, count_shown, inside};
+ghost use Rattle.wax_directory.specs.Counting.{kind_counts, item_counts};
+ghost use Rattle.wax_directory.specs.Shown.{Items, Shown, ShowsIn, IsPlain, named, first_of, rest_of};
+ghost use Rattle.wax_walk.specs.Forest.{Forest, Pending, followed_by};
+ghost use Rattle.wax_walk.specs.Given.{Given, fault};
+ghost use Rattle.wax_walk.specs.View.{Accounts, FeedStep};
+ghost use Rattle.wax_tree.specs.Heads.{first_item_forest, own_count};
+ghost use Rattle.wax_tree.specs.Plain.{Spot, entry_forest, below_forest, count, count_shown};
 ghost use Rattle.wax_tree.specs.Prefix.{ArePlain, from_last, walk_from};
-ghost use Rattle.wax_tree.specs.Walking.{Rests, Comes, StepIs, HasKind, IsFolder, EnteredShows, LevelShows, level_forest, entering, allowance, items_left, Adds, AddsFirst, Saves, Spends, Stops, HasStopped, tree_given_step, tree_answer};
+ghost use Rattle.wax_tree.specs.Stepping.{Settles, nothing_asked, Adds, AddsFirst, Saves, Spends, StepIs, Continues, Beside, listing_pending, Answers, IsStep, Blames, items_left};
+ghost use Rattle.wax_tree.specs.Walking.{HasKind, IsFolder, EnteredShows, PlainToCome, entered_forest, place_spot, folder_spot, scope_of, steps_view, names_left, step_given, tree_answer, Rest};
 
-use crate::entry::TreeEntry;
-use crate::error::{WalkError, WalkErrorKind};
-use crate::place::{is_plain, join};
+use crate::path_text::join;
 use std::alloc::{AllocError, Global};
 use wax_directory::directory::{Directory, DirectoryFault, FileType, ListItem};
+use wax_directory::name::is_plain;
+use wax_walk::{FaultKind, TreeEntry, WalkError};
 
 /// A folder, and the depth of what is in it.
 #[derive(Drop)]
@@ -86,7 +85,18 @@ impl<D: Directory> Steps<D> {
         root: String,
         range: Range,
     ) -> Steps<D>
-        ensures fields { result ≡ record { alloc = alloc; directory = directory; min = range.min; max = range.max; root = root; first = first; entered = None; levels = result.levels; budget = range.budget; has_ended = false } }
+        ensures fields { result ≡ record {
+            alloc = alloc;
+            directory = directory;
+            min = range.min;
+            max = range.max;
+            root = root;
+            first = first;
+            entered = None;
+            levels = result.levels;
+            budget = range.budget;
+            has_ended = false;
+        } }
         ensures levels { result.levels.items ≡ [] }
     {
         Steps {
@@ -110,13 +120,22 @@ impl<D: Directory> Steps<D> {
         self.directory
     }
 
-    // Nothing more comes.
+    // Nothing more comes: memory was refused.
     fn fail(&mut self) -> Step
         ensures memory { result ≡ Step.Gives (Err WalkError.Memory) }
         ensures ended { self.new ≡ record self.old { has_ended = true } }
     {
         self.has_ended = true;
         Step::Gives(Err(WalkError::Memory))
+    }
+
+    // Nothing more comes after this fault.
+    fn stop(&mut self, kind: FaultKind, path: String, depth: usize) -> Step
+        ensures gives { step_given result ≡ Some (fault kind (string_bytes path) depth) }
+        ensures ended { self.new ≡ record self.old { has_ended = true } }
+    {
+        self.has_ended = true;
+        Step::Gives(Err(WalkError::Fault(kind, path, depth)))
     }
 
     // What is in an entry will come, if it is a folder above the greatest depth.
@@ -128,7 +147,11 @@ impl<D: Directory> Steps<D> {
         depth: usize,
     ) -> Result<(), AllocError>
         ensures rest { self.new ≡ record self.old { entered = self.new.entered } }
-        ensures entered { OnOk result ((s : Shown) → (self.old.entered ≡ None) → D.shows self.old.directory path.now s → HasKind s kind → (n : ℕ) × (n ≤ count_shown s) × EnteredShows (D.shows self.old.directory) self.old.min self.old.max (string_bytes self.old.root) self.new.entered (contents self.old.min self.old.max (string_bytes self.old.root) path.now candidate.now depth s) n) }
+        ensures entered { OnOk result ((s : Shown) → (self.old.entered ≡ None)
+            → D.law.shows self.old.directory path.now s → HasKind s kind
+            → let at : Spot = record { path = path.now; candidate = candidate.now; depth = depth } in
+            (n : ℕ) × (n ≤ count_shown s) × EnteredShows (D.law.shows self.old.directory) (scope_of self.old)
+                self.new.entered (below_forest (scope_of self.old) at s) n) }
     {
         if kind == FileType::Folder && depth < self.max {
             let path = String::from_str(self.alloc, path)?;
@@ -145,11 +168,10 @@ impl<D: Directory> Steps<D> {
     // Gives an entry if its depth is in range; what is in it will come, if it is a folder above the
     // greatest depth.
     fn give(&mut self, path: String, candidate: String, kind: FileType, depth: usize) -> Step
-        ensures goes_on { result ≡ Step.Ends → ⊥ }
-        ensures fails { tree_given_step result ≡ Some no_memory → self.new.has_ended ≡ true }
-        ensures counts { (self.new.directory ≡ self.old.directory) × (missing_in (tree_given_step result) ≡ 0) × (failed_in (tree_given_step result) ≡ 0) }
-        ensures asks { Takes (tree_given_step result) (allowance self.old) 0 (allowance self.new) }
-        ensures step { (g : Forest Given) (n : ℕ) (listed : List (List ℕ)) (s : Shown) → Rests D.shows (Lists D.tells) D.holds self.old g n listed → D.shows self.old.directory (string_bytes path) s → HasKind s kind → count_shown s + n ≤ self.old.budget → StepIs (Comes D.shows (Lists D.tells) D.holds self.new) (found self.old.min self.old.max (string_bytes self.old.root) (string_bytes path) (string_bytes candidate) depth kind s g) listed result }
+        ensures settles { Settles (nothing_asked (names_left self.old)) self.old result self.new }
+        ensures continues { (s : Shown) → D.law.shows self.old.directory (string_bytes path) s → HasKind s kind
+            → let at : Spot = record { path = string_bytes path; candidate = string_bytes candidate; depth = depth } in
+            Continues D.law self.old (entry_forest (scope_of self.old) at kind s) (count_shown s) result self.new }
         ensures adds { (self.old.entered ≡ None) → Adds 1 2 self.old result self.new }
     {
         let Ok(()) = self.enter_later(path.as_str(), candidate.as_str(), kind, depth) else {
@@ -161,23 +183,22 @@ impl<D: Directory> Steps<D> {
         let Ok(root) = self.root.clone() else {
             return self.fail();
         };
-        Step::Gives(Ok(TreeEntry {
-            path,
-            root,
-            candidate,
-            depth,
-            kind,
-        }))
+        Step::Gives(Ok(TreeEntry::new(path, root, candidate, depth, kind)))
     }
 
     // Where no name follows a place, its entry; else the walk goes on from the next name, if a folder
     // stands there.
     fn follow(&mut self, place: Place, kind: FileType) -> Step
-        ensures goes_on { result ≡ Step.Ends → ⊥ }
-        ensures fails { tree_given_step result ≡ Some no_memory → self.new.has_ended ≡ true }
-        ensures counts { (self.new.directory ≡ self.old.directory) × (missing_in (tree_given_step result) ≡ 0) × (failed_in (tree_given_step result) ≡ 0) }
-        ensures asks { Takes (tree_given_step result) (allowance self.old) 0 (allowance self.new) }
-        ensures step { (g : Forest Given) (n : ℕ) (listed : List (List ℕ)) (s : Shown) → Rests D.shows (Lists D.tells) D.holds self.old g n listed → D.shows self.old.directory (string_bytes place.path) s → HasKind s kind → ArePlain (from_last place.names.items) → place.depth + length place.names.items ≤ 2 ^ 64 - 1 → count_shown s + n ≤ self.old.budget → StepIs (Comes D.shows (Lists D.tells) D.holds self.new) (walk_from self.old.min self.old.max (string_bytes self.old.root) (string_bytes place.path) (string_bytes place.candidate) place.depth s (from_last place.names.items) g) listed result }
+        ensures settles { Settles (record {
+            counts = kind_counts (Ok (Some kind));
+            taken = 0;
+            names = names_left self.old + length place.names.items;
+        }) self.old result self.new }
+        ensures continues { (s : Shown) → D.law.shows self.old.directory (string_bytes place.path) s → HasKind s kind
+            → let names = from_last place.names.items in
+            ArePlain names → place.depth + length place.names.items ≤ 2 ^ 64 - 1 → (self.old.levels.items ≡ [])
+            → Continues D.law self.old (walk_from (scope_of self.old) (place_spot place) s names) (count_shown s)
+                result self.new }
         ensures adds { (self.old.entered ≡ None) → AddsFirst (length place.names.items) self.old result self.new }
     {
         let Place {
@@ -190,7 +211,7 @@ impl<D: Directory> Steps<D> {
             return self.give(path, candidate, kind, depth);
         };
         if kind != FileType::Folder {
-            return Step::Gives(Err(WalkError::Fault(WalkErrorKind::NotAFolder, path, depth)));
+            return self.stop(FaultKind::NotAFolder, path, depth);
         }
         let Ok(path) = join(self.alloc, path.as_str(), name.as_str()) else {
             return self.fail();
@@ -209,22 +230,23 @@ impl<D: Directory> Steps<D> {
 
     // What stands at the place to begin at.
     fn begin(&mut self, place: Place) -> Step
-        ensures goes_on { result ≡ Step.Ends → ⊥ }
-        ensures fails { tree_given_step result ≡ Some no_memory → self.new.has_ended ≡ true }
-        ensures counts { Counts D.missed D.failed self.old.directory (tree_given_step result) self.new.directory }
-        ensures asks { Asks D.tells self.old.directory (allowance self.old) (tree_given_step result) self.new.directory (allowance self.new) }
-        ensures step { (g : Forest Given) (n : ℕ) (listed : List (List ℕ)) (s : Shown) → Rests D.shows (Lists D.tells) D.holds self.old g n listed → D.shows self.old.directory (string_bytes place.path) s → ArePlain (from_last place.names.items) → place.depth + length place.names.items ≤ 2 ^ 64 - 1 → count_shown s + n ≤ self.old.budget → StepIs (Comes D.shows (Lists D.tells) D.holds self.new) (walk_from self.old.min self.old.max (string_bytes self.old.root) (string_bytes place.path) (string_bytes place.candidate) place.depth s (from_last place.names.items) g) listed result }
+        ensures answers { Answers D.law (names_left self.old + length place.names.items) self.old result self.new }
+        ensures continues { (s : Shown) → D.law.shows self.old.directory (string_bytes place.path) s
+            → let names = from_last place.names.items in
+            ArePlain names → place.depth + length place.names.items ≤ 2 ^ 64 - 1 → (self.old.levels.items ≡ [])
+            → Continues D.law self.old (walk_from (scope_of self.old) (place_spot place) s names) (count_shown s)
+                result self.new }
         ensures adds { (self.old.entered ≡ None) → AddsFirst (length place.names.items) self.old result self.new }
     {
         match self.directory.kind(self.alloc, place.path.as_str()) {
             Ok(Some(kind)) => self.follow(place, kind),
             Ok(None) => {
                 let depth = place.depth;
-                Step::Gives(Err(WalkError::Fault(WalkErrorKind::NotFound, place.path, depth)))
+                self.stop(FaultKind::NotFound, place.path, depth)
             }
             Err(DirectoryFault::Failed) => {
                 let depth = place.depth;
-                Step::Gives(Err(WalkError::Fault(WalkErrorKind::Listing, place.path, depth)))
+                Step::Gives(Err(WalkError::Fault(FaultKind::Listing, place.path, depth)))
             }
             Err(DirectoryFault::Memory) => self.fail(),
         }
@@ -232,11 +254,10 @@ impl<D: Directory> Steps<D> {
 
     // Opens a folder.
     fn enter(&mut self, folder: Folder) -> Step
-        ensures goes_on { result ≡ Step.Ends → ⊥ }
-        ensures fails { tree_given_step result ≡ Some no_memory → self.new.has_ended ≡ true }
-        ensures counts { Counts D.missed D.failed self.old.directory (tree_given_step result) self.new.directory }
-        ensures asks { Asks D.tells self.old.directory (allowance self.old) (tree_given_step result) self.new.directory (allowance self.new) }
-        ensures step { (g : Forest Given) (n : ℕ) (listed : List (List ℕ)) (s : Shown) → Rests D.shows (Lists D.tells) D.holds self.old g n listed → D.shows self.old.directory (string_bytes folder.path) s → IsFolder s → count_shown s + n ≤ self.old.budget → StepIs (Comes D.shows (Lists D.tells) D.holds self.new) (followed_by (entering self.old.min self.old.max (string_bytes self.old.root) (string_bytes folder.path) (string_bytes folder.candidate) folder.depth s) g) listed result }
+        ensures answers { Answers D.law (names_left self.old) self.old result self.new }
+        ensures continues { (s : Shown) → D.law.shows self.old.directory (string_bytes folder.path) s → IsFolder s
+            → let entered = entered_forest (scope_of self.old) (folder_spot folder) s in
+            Continues D.law self.old (followed_by entered) (count_shown s) result self.new }
         ensures adds { Adds 0 1 self.old result self.new }
     {
         match self.directory.open(self.alloc, folder.path.as_str()) {
@@ -246,24 +267,18 @@ impl<D: Directory> Steps<D> {
             },
             Err(DirectoryFault::Failed) => {
                 let depth = folder.depth.saturating_sub(1);
-                Step::Gives(Err(WalkError::Fault(WalkErrorKind::Listing, folder.path, depth)))
+                Step::Gives(Err(WalkError::Fault(FaultKind::Listing, folder.path, depth)))
             }
             Err(DirectoryFault::Memory) => self.fail(),
         }
     }
 
     // A fault in a folder, in which what is has this depth.
-    fn blame(&mut self, kind: WalkErrorKind, folder: &str, depth: usize) -> Step
-        ensures goes_on { result ≡ Step.Ends → ⊥ }
-        ensures fails { tree_given_step result ≡ Some no_memory → self.new.has_ended ≡ true }
-        ensures counts { (self.new.directory ≡ self.old.directory) × (missing_in (tree_given_step result) ≤ missing_in (Some (fault kind folder.now (depth - 1)))) × (failed_in (tree_given_step result) ≤ failed_in (Some (fault kind folder.now (depth - 1)))) }
-        ensures asks { Takes (Some (fault kind folder.now (depth - 1))) (allowance self.old) 0 (allowance self.old) → Takes (tree_given_step result) (allowance self.old) 0 (allowance self.new) }
-        ensures memory { (result ≡ Step.Gives (Err WalkError.Memory)) ⊎ ((tree_given_step result ≡ Some (fault kind folder.now (depth - 1))) × (self.new ≡ self.old)) }
-        ensures adds { Adds 0 0 self.old result self.new }
-        ensures gives { result ≡ Step.GoesOn → ⊥ }
+    fn blame(&mut self, kind: FaultKind, folder: &str, depth: usize) -> Step
+        ensures { Blames (fault kind folder.now (depth - 1)) self.old result self.new }
     {
         match String::from_str(self.alloc, folder) {
-            Ok(path) => { Step::Gives(Err(WalkError::Fault(kind, path, depth.saturating_sub(1)))) }
+            Ok(path) => Step::Gives(Err(WalkError::Fault(kind, path, depth.saturating_sub(1)))),
             Err(_) => self.fail(),
         }
     }
@@ -277,11 +292,11 @@ impl<D: Directory> Steps<D> {
         name: &str,
         kind: FileType,
     ) -> Step
-        ensures goes_on { result ≡ Step.Ends → ⊥ }
-        ensures fails { tree_given_step result ≡ Some no_memory → self.new.has_ended ≡ true }
-        ensures counts { (self.new.directory ≡ self.old.directory) × (missing_in (tree_given_step result) ≡ 0) × (failed_in (tree_given_step result) ≡ 0) }
-        ensures asks { Takes (tree_given_step result) (allowance self.old) 0 (allowance self.new) }
-        ensures step { (l : Items) (g : Forest Given) (n : ℕ) (listed : List (List ℕ)) → Rests D.shows (Lists D.tells) D.holds self.old g n listed → Some (named name.now kind) ≡ first_of l → IsPlain name.now → ShowsIn (D.shows self.old.directory) folder.now l → own_count l + n ≤ self.old.budget → StepIs (Comes D.shows (Lists D.tells) D.holds self.new) (headed self.old.min self.old.max (string_bytes self.old.root) folder.now candidate.now depth l g) listed result }
+        ensures settles { Settles (nothing_asked (names_left self.old)) self.old result self.new }
+        ensures continues { (l : Items) → Some (named name.now kind) ≡ first_of l → IsPlain name.now
+            → ShowsIn (D.law.shows self.old.directory) folder.now l
+            → let at : Spot = record { path = folder.now; candidate = candidate.now; depth = depth } in
+            Continues D.law self.old (first_item_forest (scope_of self.old) at l) (own_count l) result self.new }
         ensures adds { (self.old.entered ≡ None) → Adds 1 2 self.old result self.new }
     {
         let Ok(path) = join(self.alloc, folder, name) else {
@@ -295,11 +310,12 @@ impl<D: Directory> Steps<D> {
 
     // An item of a folder.
     fn take_item(&mut self, folder: &str, candidate: &str, depth: usize, item: ListItem) -> Step
-        ensures goes_on { result ≡ Step.Ends → ⊥ }
-        ensures fails { tree_given_step result ≡ Some no_memory → self.new.has_ended ≡ true }
-        ensures counts { (self.new.directory ≡ self.old.directory) × (missing_in (tree_given_step result) ≡ 0) × (failed_in (tree_given_step result) ≤ failed_item_in (Ok (Some item))) }
-        ensures asks { Takes (tree_given_step result) (allowance self.old) 0 (allowance self.new) }
-        ensures step { (l : Items) (g : Forest Given) (n : ℕ) (listed : List (List ℕ)) → Rests D.shows (Lists D.tells) D.holds self.old g n listed → Some (listed_of item) ≡ first_of l → ShowsIn (D.shows self.old.directory) folder.now l → own_count l + n ≤ self.old.budget → StepIs (Comes D.shows (Lists D.tells) D.holds self.new) (headed self.old.min self.old.max (string_bytes self.old.root) folder.now candidate.now depth l g) listed result }
+        ensures settles { Settles (record { counts = item_counts item; taken = 0; names = names_left self.old })
+            self.old result self.new }
+        ensures continues { (l : Items) → Some (listed_of item) ≡ first_of l
+            → ShowsIn (D.law.shows self.old.directory) folder.now l
+            → let at : Spot = record { path = folder.now; candidate = candidate.now; depth = depth } in
+            Continues D.law self.old (first_item_forest (scope_of self.old) at l) (own_count l) result self.new }
         ensures adds { (self.old.entered ≡ None) → Adds 1 2 self.old result self.new }
     {
         match item {
@@ -307,35 +323,29 @@ impl<D: Directory> Steps<D> {
                 if is_plain(name.as_str()) {
                     self.take_name(folder, candidate, depth, name.as_str(), kind)
                 } else {
-                    self.blame(WalkErrorKind::BadName, folder, depth)
+                    self.blame(FaultKind::BadName, folder, depth)
                 }
             }
-            ListItem::Failed => self.blame(WalkErrorKind::Listing, folder, depth),
-            ListItem::NotText => self.blame(WalkErrorKind::NotText, folder, depth),
+            ListItem::Failed => self.blame(FaultKind::Listing, folder, depth),
+            ListItem::NotText => self.blame(FaultKind::NotText, folder, depth),
         }
-    }
-
-    // The budget is used up.
-    fn exhaust(&mut self, folder: Folder) -> Step
-        ensures ended { self.new ≡ record self.old { has_ended = true } }
-        ensures gives { tree_given_step result ≡ Some (fault WalkErrorKind.Budget (string_bytes folder.path) (folder.depth - 1)) }
-    {
-        self.has_ended = true;
-        let depth = folder.depth.saturating_sub(1);
-        Step::Gives(Err(WalkError::Fault(WalkErrorKind::Budget, folder.path, depth)))
     }
 
     // An item of a folder, of which the cursor has the rest.
     fn take_from(&mut self, folder: Folder, cursor: D::Cursor, item: ListItem) -> Step
-        ensures goes_on { result ≡ Step.Ends → ⊥ }
-        ensures fails { tree_given_step result ≡ Some no_memory → self.new.has_ended ≡ true }
-        ensures counts { (self.new.directory ≡ self.old.directory) × (missing_in (tree_given_step result) ≡ 0) × (failed_in (tree_given_step result) ≤ failed_item_in (Ok (Some item))) }
-        ensures asks { (self.old.has_ended ≡ false) → Takes (tree_given_step result) (allowance self.old) 1 (allowance self.new) }
-        ensures step { (l : Items) (g : Forest Given) (n : ℕ) (listed : List (List ℕ)) → Rests D.shows (Lists D.tells) D.holds self.old g n listed → Some (listed_of item) ≡ first_of l → D.holds self.old.directory cursor (rest_of l) → ShowsIn (D.shows self.old.directory) (string_bytes folder.path) l → n + count l ≤ self.old.budget → StepIs (Comes D.shows (Lists D.tells) D.holds self.new) (followed_by (inside self.old.min self.old.max (string_bytes self.old.root) (string_bytes folder.path) (string_bytes folder.candidate) folder.depth l) g) listed result }
+        ensures settles { (self.old.has_ended ≡ false)
+            → Settles (record { counts = item_counts item; taken = 1; names = names_left self.old })
+                self.old result self.new }
+        ensures lists { (l : Items) (rest : Rest) (items : ℕ) → Some (listed_of item) ≡ first_of l
+            → Beside D.law self.old (record { folder = folder; cursor = cursor }) (rest_of l) rest
+            → ShowsIn (D.law.shows self.old.directory) (string_bytes folder.path) l → rest.count + count l ≤ items
+            → let p = listing_pending (scope_of self.old) (folder_spot folder) l rest items in
+            StepIs D.law self.old p result self.new }
         ensures saves { (self.old.entered ≡ None) → (self.old.has_ended ≡ false) → Saves self.old result self.new }
     {
         if self.budget == 0 {
-            return self.exhaust(folder);
+            let depth = folder.depth.saturating_sub(1);
+            return self.stop(FaultKind::Budget, folder.path, depth);
         }
         self.budget -= 1;
         let Ok(path) = folder.path.clone() else {
@@ -353,11 +363,12 @@ impl<D: Directory> Steps<D> {
 
     // A step in a folder that is being listed.
     fn list_next(&mut self, level: Level<D::Cursor>) -> Step
-        ensures goes_on { result ≡ Step.Ends → ⊥ }
-        ensures fails { tree_given_step result ≡ Some no_memory → self.new.has_ended ≡ true }
-        ensures counts { Counts D.missed D.failed self.old.directory (tree_given_step result) self.new.directory }
-        ensures asks { (self.old.has_ended ≡ false) → Asks D.tells self.old.directory (allowance self.old) (tree_given_step result) self.new.directory (allowance self.new) }
-        ensures step { (l : Items) (g : Forest Given) (n : ℕ) (listed : List (List ℕ)) → Rests D.shows (Lists D.tells) D.holds self.old g n listed → LevelShows (D.shows self.old.directory) self.old.min self.old.max (string_bytes self.old.root) (D.holds self.old.directory) level l → n + count l ≤ self.old.budget → StepIs (Comes D.shows (Lists D.tells) D.holds self.new) (followed_by (level_forest (D.shows self.old.directory) self.old.min self.old.max (string_bytes self.old.root) (D.holds self.old.directory) level l) g) listed result }
+        ensures answers { (self.old.has_ended ≡ false)
+            → Answers D.law (names_left self.old) self.old result self.new }
+        ensures lists { (l : Items) (rest : Rest) (items : ℕ) → Beside D.law self.old level l rest
+            → rest.count + count l ≤ items
+            → let p = listing_pending (scope_of self.old) (folder_spot level.folder) l rest items in
+            StepIs D.law self.old p result self.new }
         ensures saves { (self.old.entered ≡ None) → (self.old.has_ended ≡ false) → Saves self.old result self.new }
     {
         let Level { folder, mut cursor } = level;
@@ -370,10 +381,8 @@ impl<D: Directory> Steps<D> {
 
     // One step.
     fn step(&mut self) -> Step
-        ensures stops { Stops self.old result self.new }
-        ensures counts { Counts D.missed D.failed self.old.directory (tree_given_step result) self.new.directory }
-        ensures asks { Asks D.tells self.old.directory (allowance self.old) (tree_given_step result) self.new.directory (allowance self.new) }
-        ensures step { (p : Pending Given) → Comes D.shows (Lists D.tells) D.holds self.old p → StepIs (Comes D.shows (Lists D.tells) D.holds self.new) (all_pending p) p.listed result }
+        ensures is_step { IsStep D.law self.old result self.new }
+        ensures step { (p : Pending Given) → PlainToCome D.law self.old p → StepIs D.law self.old p result self.new }
         ensures spends { Spends self.old result self.new }
     {
         if self.has_ended {
@@ -394,10 +403,7 @@ impl<D: Directory> Steps<D> {
 
     /// The next item; `None` at the end.
     pub(crate) fn run(&mut self) -> Option<Result<TreeEntry, WalkError>>
-        ensures gives { (p : Pending Given) → Comes D.shows (Lists D.tells) D.holds self.old p → GivesOrFails (Comes D.shows (Lists D.tells) D.holds self.new) p (tree_answer result) }
-        ensures counts { Counts D.missed D.failed self.old.directory (tree_answer result) self.new.directory }
-        ensures asks { Asks D.tells self.old.directory (allowance self.old) (tree_answer result) self.new.directory (allowance self.new) }
-        ensures ends { Ends (tree_answer result) (HasStopped self.old) (HasStopped self.new) }
+        ensures feeds { FeedStep D.law (steps_view D.law self.old) (tree_answer result) (steps_view D.law self.new) }
         ensures fewer { MatchOption result ⊤ (λ _. items_left self.new < items_left self.old) }
     {
         loop {

@@ -1,24 +1,21 @@
 //! The plain walk.
 
-ghost use Rattle.std.specs.Prelude.{◌≡◌, string_bytes, IfOk};
+ghost use Rattle.std.specs.Prelude.{◌≡◌, ◌+◌, ◌*◌, string_bytes, IfOk};
 ghost use Rattle.std.specs.Iterator.{at_most};
 ghost use Rattle.wax_filter.specs.Feeding.{NextFiltrate};
-ghost use Rattle.wax_tree.specs.Begins.{Begins, BeginsAt};
+ghost use Rattle.wax_tree.specs.Begins.{AtMost, Begins, BeginsAt};
+ghost use Rattle.wax_tree.specs.Lacking.{tree_view, gives_at_most};
 ghost use Rattle.wax_tree.specs.Prefix.{from_last};
-ghost use Rattle.wax_tree.specs.Asks.{Lists};
-ghost use Rattle.wax_tree.specs.Entries.{entry_in, facts_of, answer_of};
-ghost use Rattle.wax_tree.specs.Fed.{Fed};
-ghost use Rattle.wax_tree.specs.Lacking.{MayCome, HasEnded, gives_at_most, asks_at_most};
+ghost use Rattle.wax_walk.specs.Entries.{entry_in, facts_of, answer_of};
+ghost use Rattle.wax_walk.specs.View.{FeedStep};
 
-use crate::entry::TreeEntry;
-use crate::error::WalkError;
-use crate::iterator::FileIterator;
 use crate::steps::{Place, Range, Steps};
 use std::alloc::{AllocError, Global};
 use wax_directory::directory::Directory;
 use wax_filter::filter::{
     CancelWalk, Feed, Isomeric, Product, SeparatingFilter, Separation, TreeResidue, filtrate,
 };
+use wax_walk::{FileIterator, TreeEntry, WalkError};
 
 /// What a plain walk and each filter over it give.
 pub struct TreeFeed;
@@ -60,7 +57,8 @@ fn place_at(
     candidate: &str,
     names: Vec<String>,
 ) -> Result<Place, AllocError>
-    ensures { IfOk result (λ r. (string_bytes r.path ≡ path.now) × (string_bytes r.candidate ≡ candidate.now) × (r.depth ≡ 0) × (r.names ≡ names)) }
+    ensures texts { IfOk result (λ r. (string_bytes r.path ≡ path.now) × (string_bytes r.candidate ≡ candidate.now)) }
+    ensures rest { IfOk result (λ r. (r.depth ≡ 0) × (r.names ≡ names)) }
 {
     let path = String::from_str(alloc, path)?;
     let candidate = String::from_str(alloc, candidate)?;
@@ -75,7 +73,8 @@ fn place_at(
 impl<D: Directory> WalkTree<D> {
     // The walk from a start, of the entries whose depth is from the least to the greatest.
     pub(crate) fn with_range(alloc: Global, directory: D, start: &str, range: Range) -> WalkTree<D>
-        ensures { Begins D.shows D.tells directory start.now range.min range.max range.budget (⟦<WalkTree<D> as FileIterator>⟧.comes result) (⟦<WalkTree<D> as FileIterator>⟧.walked result) (⟦<WalkTree<D> as SeparatingFilter>⟧.left result) (⟦<WalkTree<D> as FileIterator>⟧.allows result) }
+        ensures begins { Begins D.law directory start.now range (⟦<WalkTree<D> as FileIterator>⟧.view result) }
+        ensures gives { AtMost (2 * range.budget + 3) (⟦<WalkTree<D> as SeparatingFilter>⟧.left result) }
     {
         let none = Vec::new(alloc);
         WalkTree::to_place(alloc, directory, start, start, "", none, range)
@@ -96,7 +95,13 @@ impl<D: Directory> WalkTree<D> {
         names: Vec<String>,
         range: Range,
     ) -> WalkTree<D>
-        ensures { BeginsAt D.shows D.tells directory root.now start.now candidate.now (from_last names.items) range.min range.max range.budget (⟦<WalkTree<D> as FileIterator>⟧.comes result) (⟦<WalkTree<D> as FileIterator>⟧.ended result) (⟦<WalkTree<D> as FileIterator>⟧.walked result) (⟦<WalkTree<D> as SeparatingFilter>⟧.left result) (⟦<WalkTree<D> as FileIterator>⟧.allows result) }
+        ensures begins { BeginsAt D.law directory (record {
+            root = root.now;
+            path = start.now;
+            candidate = candidate.now;
+            names = from_last names.items;
+        }) range (⟦<WalkTree<D> as FileIterator>⟧.view result) }
+        ensures gives { AtMost (2 * range.budget + 3) (⟦<WalkTree<D> as SeparatingFilter>⟧.left result) }
     {
         if range.max < names.len() {
             return WalkTree {
@@ -126,7 +131,7 @@ impl<D: Directory> WalkTree<D> {
 impl<D: Directory> SeparatingFilter for WalkTree<D> {
     type Feed = TreeFeed;
 
-    ghost feeds = { λ s r t. Fed D.tells D.missed D.failed (MayCome D.shows (Lists D.tells) D.holds s) (MayCome D.shows (Lists D.tells) D.holds t) s.steps.directory t.steps.directory (asks_at_most s) (asks_at_most t) (HasEnded s) (HasEnded t) (answer_of facts_of facts_of r) };
+    ghost feeds = { λ s r t. FeedStep D.law (tree_view D.law s) (answer_of facts_of facts_of r) (tree_view D.law t) };
 
     ghost left = { λ s. at_most (gives_at_most s) };
 
@@ -158,7 +163,7 @@ impl<D: Directory> CancelWalk for WalkTree<D> {
 }
 
 impl<D: Directory> FileIterator for WalkTree<D> {
-    ghost use Rattle.wax_tree.specs.WalkLaws.{cancel_comes, cancel_ended, cancel_allows, comes_told};
+    ghost use Rattle.wax_tree.specs.WalkLaws.{cancel_law, comes_told};
     ghost use Rattle.std.proofs.Common.{ap};
 
     type Entry = TreeEntry;
@@ -167,13 +172,7 @@ impl<D: Directory> FileIterator for WalkTree<D> {
 
     type Directory = D;
 
-    ghost walked = { λ s. s.steps.directory };
-
-    ghost comes = { MayCome D.shows (Lists D.tells) D.holds };
-
-    ghost ended = { HasEnded };
-
-    ghost allows = { asks_at_most };
+    ghost view = { tree_view D.law };
 
     fn directory(&self) -> &D {
         &self.steps.directory
@@ -183,25 +182,13 @@ impl<D: Directory> FileIterator for WalkTree<D> {
         self.steps.into_directory()
     }
 
-    ghost telling = { λ s p h. comes_told D.shows (Lists D.tells) D.holds s p h };
+    ghost telling = { λ s p h. comes_told D.law s p h };
 
     ghost same_facts = { λ e r h. ap facts_of h };
 
-    ghost gives = { λ s t r p f i. f.gives p i };
+    ghost feeding = { λ s t r f. f };
 
-    ghost ending = { λ s t r f. f.ends };
-
-    ghost counting = { λ s t r f. f.counts };
-
-    ghost asking = { λ s t r f. f.asks };
-
-    ghost staying = { λ s t h. ap (λ v. v.steps.directory) h };
-
-    ghost staying_ended = { λ s t h e. cancel_ended s t h e };
-
-    ghost allowing = { λ s t h. cancel_allows s t h };
-
-    ghost cancelling = { λ s t p h c. cancel_comes D.shows (Lists D.tells) D.holds s t p h c };
+    ghost cancelling = { λ s t h. cancel_law D.law s t h };
 }
 
 impl<D: Directory> Iterator for WalkTree<D> {

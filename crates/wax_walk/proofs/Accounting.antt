@@ -6,7 +6,8 @@ use Rattle.wax_directory.specs.Law.{Law}
 use Rattle.wax_directory.specs.declared.tally.Tally.{Tally}
 use Rattle.wax_walk.specs.declared.error.FaultKind.TheVariants.{NotFound, NotAFolder, Listing, BadName, NotText, Budget}
 use Rattle.wax_walk.specs.Given.{Given, Mark, entry, fault, no_memory, with_mark}
-use Rattle.wax_walk.specs.View.{WalkView, CountsFaults, fault_counts, IsLast, IsMisplaced, Takes, Accounts}
+use Rattle.wax_walk.specs.View.{WalkView, CountsFaults, fault_counts, IsLast, IsMisplaced, Takes, GivesOrStops, Accounts, FeedStep}
+use Rattle.wax_walk.specs.Forest.{Pending}
 
 -- so many items were taken before
 pub takes_more : (r : Option Given) (k allowed n left b m : ℕ) → k + allowed ≡ b → m ≡ k + n → Takes r allowed n left → Takes r b m left
@@ -20,13 +21,13 @@ takes_more (Some (fault BadName p d)) k allowed n left b m e f h = omega (arith,
 takes_more (Some (fault NotText p d)) k allowed n left b m e f h = omega (arith, e, f, h)
 takes_more (Some (fault Budget p d)) k allowed n left b m e f h = (omega (arith, e, f, h.0), h.1)
 
--- all others are left, unless memory was refused
-pub takes_exactly : (r : Option Given) (allowed n left : ℕ) → Takes r allowed n left → (n + left ≡ allowed) ⊎ ((r ≡ Some no_memory) × (n + left ≤ allowed))
+-- all others are left, as long as the walk goes on
+pub takes_exactly : (r : Option Given) (allowed n left : ℕ) → Takes r allowed n left → (n + left ≡ allowed) ⊎ (IsLast r × (n + left ≤ allowed))
 takes_exactly None allowed n left h = inl h
-takes_exactly (Some no_memory) allowed n left h = inr (refl, h)
+takes_exactly (Some no_memory) allowed n left h = inr (tt, h)
 takes_exactly (Some (entry w x)) allowed n left h = inl h
-takes_exactly (Some (fault NotFound p d)) allowed n left h = inl h
-takes_exactly (Some (fault NotAFolder p d)) allowed n left h = inl h
+takes_exactly (Some (fault NotFound p d)) allowed n left h = inr (tt, h)
+takes_exactly (Some (fault NotAFolder p d)) allowed n left h = inr (tt, h)
 takes_exactly (Some (fault Listing p d)) allowed n left h = inl h
 takes_exactly (Some (fault BadName p d)) allowed n left h = inl h
 takes_exactly (Some (fault NotText p d)) allowed n left h = inl h
@@ -90,20 +91,18 @@ pub record HasAnswered {D : Type 0} (outer inner : WalkView D) : Type 0 where
   pub names_left : outer.names_left ≡ inner.names_left
   pub ended : inner.has_ended → outer.has_ended
 
-module _ {D C : Type 0} (law : Law D C) where
-  -- nothing was asked, and the walk had ended
-  pub accounts_ended : (v : WalkView D) → v.has_ended → Accounts law v None v
-  accounts_ended v e = record {
-    counts = counts_nothing (law.tally v.directory);
-    taken = 0;
-    takes = omega arith;
-    counted = omega arith;
-    ends = λ i. e;
-    stays = λ i. (refl, e);
-    names = omega arith;
-    misplaced = λ i. absurd i;
-  }
+-- what a filter makes of an item ends the walk where the item did
+pub last_marked : (x : Given) (m : Mark) → IsLast (Some x) → IsLast (Some (with_mark x m))
+last_marked (entry k f) m i = absurd i
+last_marked (fault kind path depth) m i = i
+last_marked no_memory m i = i
 
+misplaced_marked : (x : Given) (m : Mark) → IsMisplaced (Some (with_mark x m)) → IsMisplaced (Some x)
+misplaced_marked (entry k f) m i = absurd i
+misplaced_marked (fault kind path depth) m i = i
+misplaced_marked no_memory m i = absurd i
+
+module _ {D C : Type 0} (law : Law D C) where
   pub accounts_moved : (v w outer new : WalkView D) (r : Option Given) → Accounts law v r w → IsAsked outer v → HasAnswered new w → Accounts law outer r new
   accounts_moved v w outer new r h b a =
       let A : D → Type 0 = λ d. CountsFaults (fault_counts r) (law.tally d) (law.tally w.directory) in
@@ -118,41 +117,47 @@ module _ {D C : Type 0} (law : Law D C) where
         takes = subst M (sym a.listings_left) (subst L (sym b.listings_left) h.takes);
         counted = subst B' (sym a.directory) (subst A' (sym b.directory) h.counted);
         ends = λ i. a.ended (h.ends i);
-        stays = λ e. let s = h.stays (b.ended e) in (s.0, a.ended s.1);
-        names = omega (arith, h.names, a.names_left, b.names_left);
-        misplaced = λ i. omega (arith, h.misplaced i, b.names_left);
       }
 
   -- a filter changes no fault
-  pub accounts_marked : (v w : WalkView D) (x : Given) (m : Mark) → Accounts law v (Some x) w → Accounts law v (Some (with_mark x m)) w
-  accounts_marked v w (entry k f) m h = record {
-    counts = h.counts;
-    taken = h.taken;
-    takes = h.takes;
-    counted = h.counted;
-    ends = λ i. absurd i;
-    stays = λ e. let s : Some (entry k f) ≡ None = (h.stays e).0 in (cc, (h.stays e).1);
-    names = h.names;
-    misplaced = λ i. absurd i;
-  }
+  accounts_marked : (v w : WalkView D) (x : Given) (m : Mark) → Accounts law v (Some x) w → Accounts law v (Some (with_mark x m)) w
+  accounts_marked v w (entry k f) m h = record { counts = h.counts; taken = h.taken; takes = h.takes; counted = h.counted; ends = λ i. absurd i }
   accounts_marked v w (fault kind path depth) m h = h
   accounts_marked v w no_memory m h = h
 
-  -- memory was refused for what a filter says of an item
-  pub accounts_lacking : (v w outer new : WalkView D) (x : Given) → Accounts law v (Some x) w → IsAsked outer v → new.directory ≡ w.directory → new.listings_left ≡ w.listings_left → new.names_left ≡ w.names_left → new.has_ended
-      → Accounts law outer (Some no_memory) new
-  accounts_lacking v w outer new x h b d l n e =
-      let A : D → Type 0 = λ c. CountsFaults no_counts (law.tally c) (law.tally w.directory) in
-      let B : D → Type 0 = λ c. CountsFaults no_counts (law.tally outer.directory) (law.tally c) in
-      let A' : D → Type 0 = λ c. (law.tally w.directory).items ≡ grown h.taken (law.tally c).items in
-      let B' : D → Type 0 = λ c. (law.tally c).items ≡ grown h.taken (law.tally outer.directory).items in
-      record {
-        counts = subst B (sym d) (subst A (sym b.directory) (counts_fewer _ _ _ h.counts));
-        taken = h.taken;
-        takes = let t : h.taken + w.listings_left ≤ v.listings_left = takes_within (Some x) v.listings_left h.taken w.listings_left h.takes in omega (arith, t, l, b.listings_left);
-        counted = subst B' (sym d) (subst A' (sym b.directory) h.counted);
-        ends = λ i. e;
-        stays = λ i. let s : Some x ≡ None = (h.stays (b.ended i)).0 in absurd (cc);
-        names = omega (arith, h.names, n, b.names_left);
-        misplaced = λ i. absurd i;
-      }
+  -- nothing was given, and then r
+  pub accounts_then : (a b c : WalkView D) (r : Option Given) → Accounts law a None b → Accounts law b r c → Accounts law a r c
+  accounts_then a b c r h i = record {
+    counts = counts_none_then _ _ _ _ h.counts i.counts;
+    taken = h.taken + i.taken;
+    takes = takes_more r h.taken b.listings_left i.taken c.listings_left a.listings_left (h.taken + i.taken) h.takes refl i.takes;
+    counted = grown_then h.taken i.taken _ _ _ h.counted i.counted;
+    ends = i.ends;
+  }
+
+  -- ---- the steps of a filter, by those of the walk
+
+  -- what was to come is given elsewhere
+  module _ (v w outer new : WalkView D) (b : IsAsked outer v) (a : HasAnswered new w) where
+    pub step_ends : FeedStep law v None w → ((p : Pending Given) → outer.to_come p → GivesOrStops outer p None new) → FeedStep law outer None new
+    step_ends f gives = record {
+      gives = gives;
+      accounts = accounts_moved v w outer new None f.accounts b a;
+      at_end = λ e. a.ended (f.at_end e);
+      stays = λ e. let s = f.stays (b.ended e) in (s.0, a.ended s.1);
+      names = omega (arith, f.names, a.names_left, b.names_left);
+      misplaced = λ i. absurd i;
+    }
+
+    pub step_marked : (x y : Given) (m : Mark) → y ≡ with_mark x m → FeedStep law v (Some x) w → ((p : Pending Given) → outer.to_come p → GivesOrStops outer p (Some y) new) → FeedStep law outer (Some y) new
+    step_marked x y m e f gives =
+        let A : Given → Type 0 = λ z. Accounts law v (Some z) w in
+        let M : Given → Type 0 = λ z. IsMisplaced (Some z) → 0 < v.names_left in
+        record {
+          gives = gives;
+          accounts = accounts_moved v w outer new (Some y) (subst A (sym e) (accounts_marked v w x m f.accounts)) b a;
+          at_end = λ i. (cc);
+          stays = λ i. let s : Some x ≡ None = (f.stays (b.ended i)).0 in absurd (cc);
+          names = omega (arith, f.names, a.names_left, b.names_left);
+          misplaced = λ i. omega (arith, subst M (sym e) (λ j. f.misplaced (misplaced_marked x m j)) i, b.names_left);
+        }

@@ -62,7 +62,7 @@ first_none then (lists path after) listed items h =
 
 pub data GaveSoFar {D : Type 0} (allowed : ℕ) (now : WalkView D) (p : Pending Given) (xs : List Given) : Type 0 where
   goes_on : (q : Pending Given) → now.to_come q → xs ++ preorder (all_pending q) ≡ preorder (all_pending p) → q.listed ++ listings (all_pending q) ≡ p.listed ++ listings (all_pending p)
-      → q.items + allowed ≤ p.items + now.listings_left → GaveSoFar allowed now p xs
+      → ((now.has_ended → ⊥) → q.items + allowed ≤ p.items + now.listings_left) → GaveSoFar allowed now p xs
   lacked_memory : now.has_ended → IsCutShort (preorder (all_pending p)) no_memory xs → GaveSoFar allowed now p xs
   was_over_budget : now.has_ended → (path : List ℕ) (depth : ℕ) → allowed ≤ p.items → IsCutShort (preorder (all_pending p)) (fault Budget path depth) xs → GaveSoFar allowed now p xs
 
@@ -76,11 +76,11 @@ module _ {D : Type 0} (allowed : ℕ) (mid new : WalkView D) (p : Pending Given)
   more_given q x e k n f (over_budget path depth i few) = was_over_budget (f (subst IsLast (sym i) tt)) path depth (omega (arith, n, few)) (cut_after q x _ e i)
   more_given q x e k n f (gives items few first) =
       let r = first_said new.to_come (all_pending q) q.listed items x first in
-      goes_on r.0 r.1 (append_assoc xs (x ∷ []) (preorder (all_pending r.0)) ∙ (ap (λ ys. xs ++ ys) r.2 ∙ e)) (r.3 ∙ k) (omega (arith, n, few, r.4))
+      goes_on r.0 r.1 (append_assoc xs (x ∷ []) (preorder (all_pending r.0)) ∙ (ap (λ ys. xs ++ ys) r.2 ∙ e)) (r.3 ∙ k) (λ m. omega (arith, n, few (λ i. m (f i)), r.4))
 
   -- one more item
   gave_more : (x : Given) → (mid.has_ended → ⊥) → ((q : Pending Given) → mid.to_come q → GivesOrStops mid q (Some x) new) → (IsLast (Some x) → new.has_ended) → GaveSoFar allowed mid p xs → GaveSoFar allowed new p (xs ++ x ∷ [])
-  gave_more x n a f (goes_on q c e k few) = more_given q x e k few f (a q c)
+  gave_more x n a f (goes_on q c e k few) = more_given q x e k (few n) f (a q c)
   gave_more x n a f (lacked_memory e c) = absurd (n e)
   gave_more x n a f (was_over_budget e path depth few c) = absurd (n e)
 
@@ -123,7 +123,7 @@ module _ {D C : Type 0} (law : Law D C) where
 
   module _ (walk mid new : WalkView D) (most less fewer : ℕ) (xs : List Given) where
     -- what was taken, with what a call took that gave an item
-    taken_exactly : (h k : ℕ) (x : Given) → h + mid.listings_left ≡ walk.listings_left → Takes (Some x) mid.listings_left k new.listings_left → ¬ (Some x ≡ Some no_memory) → h + k + new.listings_left ≡ walk.listings_left
+    taken_exactly : (h k : ℕ) (x : Given) → h + mid.listings_left ≡ walk.listings_left → Takes (Some x) mid.listings_left k new.listings_left → ¬ (IsLast (Some x)) → h + k + new.listings_left ≡ walk.listings_left
     taken_exactly h k x e t n = elim (takes_exactly (Some x) mid.listings_left k new.listings_left t) [ inl i ↦ omega (arith, e, i) | inr i ↦ absurd (n i.0) ]
 
     taken_all : (h k : ℕ) (x : Given) (path : List ℕ) (depth : ℕ) → h + mid.listings_left ≡ walk.listings_left → Takes (Some x) mid.listings_left k new.listings_left → (Contains xs (fault Budget path depth) → h ≡ walk.listings_left)
@@ -143,7 +143,7 @@ module _ {D C : Type 0} (law : Law D C) where
     pub taking_more : (x : Given) → Taking walk mid most less xs → FeedStep law mid (Some x) new → fewer < less → Taking walk new most fewer (xs ++ x ∷ [])
     taking_more x h f l =
         let a = f.accounts in
-        let n : mid.has_ended → ⊥ = λ i. let s : Some x ≡ None = (a.stays i).0 in cc in
+        let n : mid.has_ended → ⊥ = λ i. let s : Some x ≡ None = (f.stays i).0 in cc in
         let e = h.exactly n in
         let P : Tally → Type 0 = λ c. CountsFaults c (law.tally walk.directory) (law.tally new.directory) in
         record {
@@ -153,10 +153,10 @@ module _ {D C : Type 0} (law : Law D C) where
           taken = h.taken + a.taken;
           counted = grown_then h.taken a.taken _ _ _ h.counted a.counted;
           within = omega (arith, e, takes_within (Some x) mid.listings_left a.taken new.listings_left a.takes);
-          exactly = λ m. taken_exactly h.taken a.taken x e a.takes (λ i. m (a.ends (subst IsLast (sym i) tt)));
+          exactly = λ m. taken_exactly h.taken a.taken x e a.takes (λ i. m (a.ends i));
           spent = λ path depth c. taken_all h.taken a.taken x path depth e a.takes (h.spent path depth) c;
-          names = omega (arith, h.names, a.names);
-          misplaced = λ path depth c. misplaced_more x path depth h.names a.misplaced (h.misplaced path depth) c;
+          names = omega (arith, h.names, f.names);
+          misplaced = λ path depth c. misplaced_more x path depth h.names f.misplaced (h.misplaced path depth) c;
         }
 
     pub taking_end : Taking walk mid most less xs → FeedStep law mid None new → ((q : Pending Given) → new.to_come q → law.tells new.directory q.listed) → Took law walk new.directory xs
@@ -175,7 +175,7 @@ module _ {D C : Type 0} (law : Law D C) where
 
   pub taking_none : (walk : WalkView D) (most : ℕ) → Taking walk walk most most []
   taking_none walk most = record {
-    gave = λ p c. goes_on p c refl refl (omega arith);
+    gave = λ p c. goes_on p c refl refl (λ n. omega arith);
     few = omega arith;
     counts = counts_nothing (law.tally walk.directory);
     taken = 0;

@@ -3,7 +3,8 @@ use Rattle.std.proofs.Common.{◌≡◌, ℕ, ◌+◌, ◌≤◌, Bool, true, fa
 use Rattle.std.specs.Prelude.{Option, Some, None}
 use Rattle.wax_walk.specs.Given.{Facts, Mark, Given, entry, fault, no_memory, ToComeFiltered, mark_by, with_mark, is_cut, changed_by, cut_by}
 use Rattle.wax_walk.specs.Forest.{Forest, nothing, item, lists, followed_by, Pending, pending, cancelled, all_pending, FirstIs, filtered, filtered_pending}
-use Rattle.wax_walk.specs.View.{WalkView, GivesOrStops, lacks_memory, over_budget, gives}
+use Rattle.wax_walk.specs.View.{WalkView, GivesOrStops, lacks_memory, over_budget, gives, IsLast}
+use Rattle.wax_walk.proofs.Accounting.{last_marked}
 
 pub filtered_append : {A B : Type 0} (change : A → B) (cut : A → Bool) (f g : Forest A) → filtered change cut (followed_by f g) ≡ followed_by (filtered change cut f) (filtered change cut g)
 filtered_append change cut nothing g = refl
@@ -53,7 +54,7 @@ module _ {D : Type 0} (rule : Facts → Mark) (v w outer new : WalkView D) (p : 
       → GivesOrStops v p (Some x) w → GivesOrStops outer (filtered_pending (changed_by rule) (cut_by rule) p) (Some y) new
   layer_gives x y m s e l k a (lacks_memory i) = lacks_memory (failed x y m i e)
   layer_gives x y m s e l k a (over_budget path depth i few) = over_budget path depth (faulty x y m _ i (λ n. refl) e) (omega (arith, few, l))
-  layer_gives x y m s e l k a (gives items few f) = gives items (omega (arith, few, l, k))
+  layer_gives x y m s e l k a (gives items few f) = gives items (λ n. omega (arith, few (λ i. n (subst (λ u. IsLast (Some u)) (sym e) (last_marked x m i))), l, k))
       (gives_filtered (changed_by rule) (cut_by rule) w.to_come new.to_come p items (Some x) (Some y) f
       (ap Some (e ∙ ap (with_mark x) s), λ q i. subst (λ u. new.to_come (cond (is_cut x u) (cancelled (filtered_pending (changed_by rule) (cut_by rule) q)) (filtered_pending (changed_by rule) (cut_by rule) q))) s (a q i)))
 
@@ -62,7 +63,7 @@ module _ {D : Type 0} (rule : Facts → Mark) (v w outer new : WalkView D) (p : 
       → GivesOrStops v p None w → GivesOrStops outer (filtered_pending (changed_by rule) (cut_by rule) p) None new
   layer_ends l k a (lacks_memory i) = cc
   layer_ends l k a (over_budget path depth i few) = cc
-  layer_ends l k a (gives items few f) = gives items (omega (arith, few, l, k)) (gives_filtered (changed_by rule) (cut_by rule) w.to_come new.to_come p items None None f (refl, a))
+  layer_ends l k a (gives items few f) = gives items (λ n. omega (arith, few n, l, k)) (gives_filtered (changed_by rule) (cut_by rule) w.to_come new.to_come p items None None f (refl, a))
 
   -- the filter cancelled what lies below
   pub layer_cuts : (x y : Given) (m : Mark) → m ≡ mark_by rule x → y ≡ with_mark x m → outer.listings_left ≡ v.listings_left → new.listings_left ≡ w.listings_left → true ≡ is_cut x m

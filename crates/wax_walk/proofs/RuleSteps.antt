@@ -5,8 +5,8 @@ use Rattle.wax_directory.specs.Law.{Law}
 use Rattle.wax_walk.specs.Forest.{Pending, cancelled, filtered_pending}
 use Rattle.wax_walk.specs.Given.{Given, Facts, Mark, mark_by, with_mark, is_cut, changed_by, cut_by, ToComeFiltered}
 use Rattle.wax_walk.specs.Ruled.{ruled_view}
-use Rattle.wax_walk.specs.View.{WalkView, FeedStep, CancelStep, Accounts, GivesOrStops}
-use Rattle.wax_walk.proofs.Accounting.{IsAsked, HasAnswered, accounts_moved, accounts_marked}
+use Rattle.wax_walk.specs.View.{WalkView, FeedStep, CancelStep, GivesOrStops}
+use Rattle.wax_walk.proofs.Accounting.{IsAsked, HasAnswered, step_ends, step_marked}
 use Rattle.wax_walk.proofs.Filtering.{layer_ends, layer_cuts, layer_passes}
 
 differ : (b : Bool) → b ≡ false → b ≡ true → ⊥
@@ -22,29 +22,20 @@ module _ {D C : Type 0} (law : Law D C) (rule : Facts → Mark) where
   answered_cut : (w u : WalkView D) (b : Bool) → CancelStep w u → HasAnswered (ruled_view u rule b) w
   answered_cut w u b k = record { directory = k.directory; listings_left = k.listings_left; names_left = k.names_left; ended = λ h. inr (k.ends h) }
 
-  marked : (v w : WalkView D) (x y : Given) (m : Mark) → Accounts law v (Some x) w → y ≡ with_mark x m → Accounts law v (Some y) w
-  marked v w x y m h e = subst (λ z. Accounts law v (Some z) w) (sym e) (accounts_marked law v w x m h)
-
   pub ruled_ends : (v w : WalkView D) (b : Bool) → b ≡ false → FeedStep law v None w → FeedStep law (ruled_view v rule b) None (ruled_view w rule b)
-  ruled_ends v w b e f = record {
-    gives = λ q h. let p = h.1 in
-        subst (λ z. GivesOrStops (ruled_view v rule b) z None (ruled_view w rule b)) (sym p.2)
-        (layer_ends rule v w (ruled_view v rule b) (ruled_view w rule b) p.0 refl refl (λ z i. (e, (z, i, refl))) (f.gives p.0 p.1));
-    accounts = accounts_moved law v w _ _ None f.accounts (asked v b e) (answered w b);
-  }
+  ruled_ends v w b e f = step_ends law v w _ _ (asked v b e) (answered w b) f (λ q h.
+    let p = h.1 in
+    subst (λ z. GivesOrStops (ruled_view v rule b) z None (ruled_view w rule b)) (sym p.2)
+    (layer_ends rule v w (ruled_view v rule b) (ruled_view w rule b) p.0 refl refl (λ z i. (e, (z, i, refl))) (f.gives p.0 p.1)))
 
   pub ruled_passes : (v w : WalkView D) (b : Bool) → b ≡ false → (x y : Given) (m : Mark) → FeedStep law v (Some x) w → m ≡ mark_by rule x → y ≡ with_mark x m → false ≡ is_cut x m → FeedStep law (ruled_view v rule b) (Some y) (ruled_view w rule b)
-  ruled_passes v w b e x y m f s k n = record {
-    gives = λ q h. let p = h.1 in
-        subst (λ z. GivesOrStops (ruled_view v rule b) z (Some y) (ruled_view w rule b)) (sym p.2)
-        (layer_passes rule v w (ruled_view v rule b) (ruled_view w rule b) p.0 x y m s k refl refl n (λ z i. (e, (z, i, refl))) (f.gives p.0 p.1));
-    accounts = accounts_moved law v w _ _ (Some y) (marked v w x y m f.accounts k) (asked v b e) (answered w b);
-  }
+  ruled_passes v w b e x y m f s k n = step_marked law v w _ _ (asked v b e) (answered w b) x y m k f (λ q h.
+    let p = h.1 in
+    subst (λ z. GivesOrStops (ruled_view v rule b) z (Some y) (ruled_view w rule b)) (sym p.2)
+    (layer_passes rule v w (ruled_view v rule b) (ruled_view w rule b) p.0 x y m s k refl refl n (λ z i. (e, (z, i, refl))) (f.gives p.0 p.1)))
 
   pub ruled_cuts : (v w u : WalkView D) (b : Bool) → b ≡ false → (x y : Given) (m : Mark) → FeedStep law v (Some x) w → m ≡ mark_by rule x → y ≡ with_mark x m → true ≡ is_cut x m → CancelStep w u → FeedStep law (ruled_view v rule b) (Some y) (ruled_view u rule b)
-  ruled_cuts v w u b e x y m f s k n c = record {
-    gives = λ q h. let p = h.1 in
-        subst (λ z. GivesOrStops (ruled_view v rule b) z (Some y) (ruled_view u rule b)) (sym p.2)
-        (layer_cuts rule v w (ruled_view v rule b) (ruled_view u rule b) p.0 x y m s k refl c.listings_left n (λ z i. (e, (cancelled z, c.leaves_out z i, refl))) (f.gives p.0 p.1));
-    accounts = accounts_moved law v w _ _ (Some y) (marked v w x y m f.accounts k) (asked v b e) (answered_cut w u b c);
-  }
+  ruled_cuts v w u b e x y m f s k n c = step_marked law v w _ _ (asked v b e) (answered_cut w u b c) x y m k f (λ q h.
+    let p = h.1 in
+    subst (λ z. GivesOrStops (ruled_view v rule b) z (Some y) (ruled_view u rule b)) (sym p.2)
+    (layer_cuts rule v w (ruled_view v rule b) (ruled_view u rule b) p.0 x y m s k refl c.listings_left n (λ z i. (e, (cancelled z, c.leaves_out z i, refl))) (f.gives p.0 p.1)))

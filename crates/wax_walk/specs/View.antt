@@ -27,9 +27,8 @@ fault_counts (Some (fault BadName path depth)) = record no_counts { bad_names = 
 fault_counts (Some (fault NotText path depth)) = record no_counts { failures = 1 }
 fault_counts r = no_counts
 
--- the walk has ended with it
+-- the walk has ended with this item
 abbrev pub IsLast : Option Given → Type 0
-IsLast None = Unit {0}
 IsLast (Some no_memory) = Unit {0}
 IsLast (Some (fault NotFound path depth)) = Unit {0}
 IsLast (Some (fault NotAFolder path depth)) = Unit {0}
@@ -41,10 +40,12 @@ abbrev pub IsMisplaced : Option Given → Type 0
 IsMisplaced (Some (fault NotAFolder path depth)) = Unit {0}
 IsMisplaced r = ⊥
 
--- n items were taken of those that were allowed and so many are left: all the others, and none where the budget is
--- reached, with which all were taken; where memory was refused, any
+-- n items were taken of those that were allowed and so many are left: all the others, as long as the walk goes on;
+-- and where the budget is reached, all were taken
 abbrev pub Takes : Option Given → ℕ → ℕ → ℕ → Type 0
 Takes (Some no_memory) allowed n left = n + left ≤ allowed
+Takes (Some (fault NotFound path depth)) allowed n left = n + left ≤ allowed
+Takes (Some (fault NotAFolder path depth)) allowed n left = n + left ≤ allowed
 Takes (Some (fault Budget path depth)) allowed n left = (n ≡ allowed) × (left ≡ 0)
 Takes r allowed n left = n + left ≡ allowed
 
@@ -63,24 +64,25 @@ module _ {D : Type 0} where
   pub data GivesOrStops (old : WalkView D) (p : Pending Given) (r : Option Given) (new : WalkView D) : Type 0 where
     lacks_memory : r ≡ Some no_memory → GivesOrStops old p r new
     over_budget : (path : List ℕ) (depth : ℕ) → r ≡ Some (fault Budget path depth) → old.listings_left ≤ p.items → GivesOrStops old p r new
-    gives : (items : ℕ) → items + old.listings_left ≤ p.items + new.listings_left → FirstIs new.to_come (all_pending p) p.listed items r
-        → GivesOrStops old p r new
+    gives : (items : ℕ) → ((IsLast r → ⊥) → items + old.listings_left ≤ p.items + new.listings_left)
+        → FirstIs new.to_come (all_pending p) p.listed items r → GivesOrStops old p r new
 
-  -- what the directory counted, what was taken from listings, and that the walk has ended, where it has
+  -- what the directory counted, what was taken from listings, and that the walk has ended, where the item is the last
   pub record Accounts {C : Type 0} (law : Law D C) (old : WalkView D) (r : Option Given) (new : WalkView D) : Type 0 where
     pub counts : CountsFaults (fault_counts r) (law.tally old.directory) (law.tally new.directory)
     pub taken : ℕ
     pub takes : Takes r old.listings_left taken new.listings_left
     pub counted : (law.tally new.directory).items ≡ grown taken (law.tally old.directory).items
     pub ends : IsLast r → new.has_ended
-    pub stays : old.has_ended → (r ≡ None) × new.has_ended
-    pub names : new.names_left ≤ old.names_left
-    pub misplaced : IsMisplaced r → 0 < old.names_left
 
   -- what a call of `feed` does that answers r
   pub record FeedStep {C : Type 0} (law : Law D C) (old : WalkView D) (r : Option Given) (new : WalkView D) : Type 0 where
     pub gives : (p : Pending Given) → old.to_come p → GivesOrStops old p r new
     pub accounts : Accounts law old r new
+    pub at_end : r ≡ None → new.has_ended
+    pub stays : old.has_ended → (r ≡ None) × new.has_ended
+    pub names : new.names_left ≤ old.names_left
+    pub misplaced : IsMisplaced r → 0 < old.names_left
 
   -- what cancelling does: it leaves out what lies below the item that was given last, and nothing else
   pub record CancelStep (old new : WalkView D) : Type 0 where

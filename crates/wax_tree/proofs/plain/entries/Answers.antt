@@ -1,17 +1,40 @@
-use Rattle.wax_behavior.specs.Depths.{least, greatest}
-use Rattle.wax_tree.specs.Asks.{Lists}
-use Rattle.wax_tree.specs.Begins.{or_greatest}
-use Rattle.wax_tree.specs.Forest.{pending, nothing}
-use Rattle.wax_tree.specs.Plain.{plain}
-use Rattle.wax_tree.proofs.Kept.{plain_kept, map_ok}
+use Rattle.std.proofs.Common.{◌+◌, [], subst}
+use Rattle.wax_walk.proofs.Collecting.{map_ok}
+use Rattle.wax_walk.specs.Collected.{GaveAll}
+use Rattle.wax_tree.specs.Begins.{range_of, scope_in}
+use Rattle.wax_tree.specs.Whole.{plain_pending}
+use Rattle.wax_tree.proofs.InRange.{entries_are, untold}
+use Rattle.wax_tree.proofs.Kept.{plain_kept}
 use Rattle.wax_tree.proofs.plain.entries.Goals as goal
 
-pub returns : goal.returns
-returns g c =
-    let depth = c.args.behavior.depth in
-    let min = least depth in
-    let max = or_greatest (greatest depth) in
-    map_ok (λ r h s listed shows few lists.
-    plain_kept (Lists g.D.Directory.tells r.1) min max c.args.start.now s listed h.0 _
-    (h.1.all (pending nothing (plain min max c.args.start.now s nothing) listed) (c.walk_from.ensures.shown s listed shows few lists)) h.2)
-    c.collect.result c.collect.ensures
+pub returns-clause-items : goal.returns-clause-items
+returns-clause-items g c =
+    let law = g.D.Directory.law in
+    let range = range_of c.args.behavior in
+    let start = c.args.start.now in
+    let b = c.walk_from.ensures.begins in
+    map_ok (λ r h s shows.
+    let told = g.met.D.Directory.tells_some c.args.directory in
+    let all = subst (λ n. GaveAll (law.tells r.1) n (plain_pending range start s told.0) h.0) b.listings (h.1.all (plain_pending range start s told.0) (b.shown s told.0 shows told.1)) in
+    untold (law.tells r.1) (range.budget + 1) _ told.0 [] _ _ (plain_kept (scope_in range start) (law.tells r.1) (range.budget + 1) s told.0 _ h.0 _ all h.3)) c.collect.result c.collect.ensures
+
+pub returns-clause-entries : goal.returns-clause-entries
+returns-clause-entries g c =
+    let law = g.D.Directory.law in
+    let range = range_of c.args.behavior in
+    let start = c.args.start.now in
+    let b = c.walk_from.ensures.begins in
+    map_ok (λ r h s shows.
+    let told = g.met.D.Directory.tells_some c.args.directory in
+    let all = subst (λ n. GaveAll (law.tells r.1) n (plain_pending range start s told.0) h.0) b.listings (h.1.all (plain_pending range start s told.0) (b.shown s told.0 shows told.1)) in
+    entries_are range start s (law.tells r.1) told.0 _ (plain_kept (scope_in range start) (law.tells r.1) (range.budget + 1) s told.0 _ h.0 _ all h.3)) c.collect.result c.collect.ensures
+
+pub returns-clause-folders : goal.returns-clause-folders
+returns-clause-folders g c =
+    let law = g.D.Directory.law in
+    let range = range_of c.args.behavior in
+    let start = c.args.start.now in
+    let b = c.walk_from.ensures.begins in
+    map_ok (λ r h s listed shows told.
+    let all = subst (λ n. GaveAll (law.tells r.1) n (plain_pending range start s listed) h.0) b.listings (h.1.all (plain_pending range start s listed) (b.shown s listed shows told)) in
+    plain_kept (scope_in range start) (law.tells r.1) (range.budget + 1) s listed _ h.0 _ all h.3) c.collect.result c.collect.ensures

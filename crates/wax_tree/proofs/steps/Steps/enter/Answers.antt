@@ -1,37 +1,37 @@
-use Rattle.std.proofs.Common.{inl, inr, arith, refl, string_bytes}
-use Rattle.wax_tree.specs.Asks.{Lists}
-use Rattle.wax_tree.proofs.Asking.{lists_more, asks_listing, asks_refused}
-use Rattle.wax_tree.proofs.Stepping.{enters, enters_sealed, rests_moved}
+use Rattle.std.proofs.Common.{refl, sym, ap, Err, string_bytes, ◌++◌, ◌∷◌, []}
+use Rattle.wax_walk.specs.declared.error.FaultKind.TheVariants.{Listing}
+use Rattle.wax_walk.specs.declared.error.WalkError.TheVariants.{Fault}
+use Rattle.wax_walk.specs.Given.{fault}
+use Rattle.wax_walk.specs.View.{lacks_memory}
+use Rattle.wax_tree.specs.Walking.{cursors_of, folder_spot}
+use Rattle.wax_tree.proofs.Resting.{rest_moved}
+use Rattle.wax_tree.proofs.Stepping.{enters, enters_sealed}
 use Rattle.wax_tree.proofs.steps.Steps.enter.Goals as goal
 use Rattle.wax_tree.proofs.steps.Steps.enter.Goals.{in-Ok-push, in-Err}
 
-pub returns-after-push-clause-step : goal.returns-after-push-clause-step
-returns-after-push-clause-step g c f n listed s r h i e =
-    let tells = Lists g.D.Directory.tells in
+pub returns-after-push-clause-continues : goal.returns-after-push-clause-continues
+returns-after-push-clause-continues g c s h i rest items r e =
+    let law = g.D.Directory.law in
+    let w = c.args.self.now in
+    let path = string_bytes c.args.folder.path in
     let o = rw c.as_str.ensures.value at c.in-Ok.ensures in
     elim c.match-push.branch [
-      | in-Ok-push w ↦ rw (w.self-is, w.result-is)
-          (enters g.D.Directory.shows tells g.D.Directory.holds c.args.self.now (record c.args.self.now { levels = c.push.new.self }) c.open.new.self
-          (record { folder = c.args.folder; cursor = c.in-Ok.cursor }) s f n listed i (o.opens s h) (o.stays.shown (string_bytes c.args.folder.path) s h)
-          (λ l k. g.met.D.Directory.inner c.open.new.self (string_bytes c.args.folder.path) l k)
-          (rests_moved g.D.Directory.shows tells g.D.Directory.holds c.args.self.now c.open.new.self f n listed _ r o.stays (lists_more g.D.Directory.tells c.args.self.now.directory c.open.new.self listed (string_bytes c.args.folder.path) o.told r.1))
-          w.in-Ok-push.ensures.items e)
-      | in-Err w ↦ rw (w.result-is, w.fail.ensures.memory) (inl refl)
+      | in-Ok-push v ↦ rw (v.self-is, v.result-is)
+          (enters law w (record w { levels = c.push.new.self }) c.open.new.self (record { folder = c.args.folder; cursor = c.in-Ok.cursor }) s rest items i
+          (o.opens (cursors_of w.levels.items) rest.has s r.held h) (o.shown path s h)
+          (λ l k. g.met.D.Directory.inner c.open.new.self path l k)
+          (λ l k. rest_moved law w c.open.new.self (rest.listed ++ path ∷ []) rest r o.shown (o.held (cursors_of w.levels.items) rest.has r.held) (o.told rest.listed r.told))
+          v.in-Ok-push.ensures.items e)
+      | in-Err v ↦ rw (v.result-is, v.fail.ensures.memory) (lacks_memory refl)
     ]
 
-pub returns-in-Err-Failed-clause-step : goal.returns-in-Err-Failed-clause-step
-returns-in-Err-Failed-clause-step g c f n listed s r h i e =
-    let tells = Lists g.D.Directory.tells in
-    let o = rw (c.in-Err-Failed.field-0-is, c.as_str.ensures.value) at c.in-Err-Failed.ensures in
-    let rest = rests_moved g.D.Directory.shows tells g.D.Directory.holds c.args.self.now c.open.new.self f n listed _ r o.stays (lists_more g.D.Directory.tells c.args.self.now.directory c.open.new.self listed (string_bytes c.args.folder.path) o.told r.1) in
-    inr (rw c.saturating_sub-depth.ensures (enters_sealed g.D.Directory.shows tells g.D.Directory.holds c.args.self.now c.open.new.self (string_bytes c.args.folder.path) (string_bytes c.args.folder.candidate) c.args.folder.depth s f n listed i (o.opens s h) rest e))
-
-pub returns-after-push-clause-asks : goal.returns-after-push-clause-asks
-returns-after-push-clause-asks g c =
-    elim c.match-push.branch [
-      | in-Ok-push w ↦ rw (w.self-is, w.result-is) (asks_listing _ _ _ _ _ _ c.as_str.result.now c.in-Ok.ensures.told (omega arith))
-      | in-Err w ↦ rw (w.self-is, w.result-is, w.fail.ensures.memory, w.fail.ensures.ended) (asks_listing _ _ _ _ _ _ c.as_str.result.now c.in-Ok.ensures.told (omega arith))
-    ]
-
-pub returns-in-Err-Memory-clause-asks : goal.returns-in-Err-Memory-clause-asks
-returns-in-Err-Memory-clause-asks g c = rw (c.fail-in-Err-Memory.ensures.memory, c.fail-in-Err-Memory.ensures.ended) (asks_refused _ _ _ _ _ _ c.as_str.result.now (rw c.in-Err-Memory.field-0-is at c.in-Err-Memory.ensures.told) (omega arith))
+pub returns-in-Err-Failed-clause-continues : goal.returns-in-Err-Failed-clause-continues
+returns-in-Err-Failed-clause-continues g c s h i rest items r e =
+    let law = g.D.Directory.law in
+    let w = c.args.self.now in
+    let path = string_bytes c.args.folder.path in
+    let o = rw (c.as_str.ensures.value, c.in-Err-Failed.field-0-is) at c.in-Err-Failed.ensures in
+    let told : law.tells c.open.new.self (rest.listed ++ path ∷ []) = rw (sym c.as_str.ensures.value) (o.told rest.listed r.told) in
+    enters_sealed law w c.open.new.self (folder_spot c.args.folder) s rest items (Err (Fault Listing c.args.folder.path c.saturating_sub-depth.result)) i (o.opens (cursors_of w.levels.items) rest.has s r.held h)
+    (ap (fault Listing path) c.saturating_sub-depth.ensures)
+    (rest_moved law w c.open.new.self (rest.listed ++ path ∷ []) rest r o.shown (o.held (cursors_of w.levels.items) rest.has r.held) told) e

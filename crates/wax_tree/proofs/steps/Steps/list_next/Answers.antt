@@ -1,32 +1,35 @@
 use Rattle.std.proofs.Common.{arith, string_bytes, ◌≤◌, refl}
-use Rattle.wax_tree.specs.Asks.{Lists}
-use Rattle.wax_tree.proofs.Asking.{lists_same, lists_taken, asks_none, asks_item}
-use Rattle.wax_tree.proofs.Stepping.{goes_up, rests_moved, shows_in_moved}
+use Rattle.wax_directory.specs.Shown.{rest_of}
+use Rattle.wax_tree.specs.Walking.{cursors_of, folder_spot}
+use Rattle.wax_tree.proofs.Resting.{rest_moved}
+use Rattle.wax_tree.proofs.Settling.{step_from}
+use Rattle.wax_tree.proofs.Showing.{shows_in_moved, shows_rest}
+use Rattle.wax_tree.proofs.Stepping.{goes_up}
 use Rattle.wax_tree.proofs.steps.Steps.list_next.Goals as goal
 
-pub returns-in-Ok-None-clause-step : goal.returns-in-Ok-None-clause-step
-returns-in-Ok-None-clause-step g c l f n listed r h e =
+pub returns-in-Ok-None-clause-lists : goal.returns-in-Ok-None-clause-lists
+returns-in-Ok-None-clause-lists g c l rest items b e =
+    let law = g.D.Directory.law in
+    let w = c.args.self.now in
     let o = rw c.in-Ok-None.field-0-is at c.in-Ok-None.ensures in
-    let k = o.next l h.0 in
-    let few : n ≤ c.args.self.now.budget = omega arith in
-    goes_up g.D.Directory.shows (Lists g.D.Directory.tells) g.D.Directory.holds _ (string_bytes c.args.level.folder.path) (string_bytes c.args.level.folder.candidate) c.args.level.folder.depth l f n listed
-    (rests_moved g.D.Directory.shows (Lists g.D.Directory.tells) g.D.Directory.holds c.args.self.now c.next.new.self f n listed listed r o.stays (lists_same g.D.Directory.tells c.args.self.now.directory c.next.new.self listed o.told r.1))
-    k.0 few
+    let k = o.nexts (cursors_of w.levels.items) rest.has l b.held in
+    let held = g.met.D.Directory.dropped c.next.new.self (cursors_of w.levels.items) rest.has c.next.new.cursor (rest_of l) k.1 in
+    goes_up law w (record w { directory = c.next.new.self }) (folder_spot c.args.level.folder) l rest rest items k.0 refl refl
+    (rest_moved law w c.next.new.self rest.listed rest b.rests o.shown held (o.told rest.listed b.rests.told)) refl (omega (arith, e))
 
-pub returns-in-Ok-Some-clause-step : goal.returns-in-Ok-Some-clause-step
-returns-in-Ok-Some-clause-step g c l f n listed r h e =
+pub returns-in-Ok-Some-clause-lists : goal.returns-in-Ok-Some-clause-lists
+returns-in-Ok-Some-clause-lists g c l rest items b e =
+    let law = g.D.Directory.law in
+    let w = c.args.self.now in
+    let path = string_bytes c.args.level.folder.path in
     let o = rw c.in-Ok-Some.field-0-is at c.in-Ok-Some.ensures in
-    let k = o.next l h.0 in
-    c.take_from.ensures.step l f n listed
-    (rests_moved g.D.Directory.shows (Lists g.D.Directory.tells) g.D.Directory.holds c.args.self.now c.next.new.self f n listed listed r o.stays
-    (lists_taken g.D.Directory.tells c.args.self.now.directory c.next.new.self listed _ (λ t. refl) o.told r.1))
-    k.0 k.1
-    (shows_in_moved (g.D.Directory.shows c.args.self.now.directory) (g.D.Directory.shows c.next.new.self) o.stays.shown (string_bytes c.args.level.folder.path) l h.1) e
-
-pub returns-in-Err-clause-asks : goal.returns-in-Err-clause-asks
-returns-in-Err-clause-asks g c e = rw (c.fail.ensures.memory, c.fail.ensures.ended) (asks_none _ _ _ _ _ _ c.in-Err.ensures.told (omega arith))
-
-pub returns-in-Ok-Some-clause-asks : goal.returns-in-Ok-Some-clause-asks
-returns-in-Ok-Some-clause-asks g c e =
-    let o = rw c.in-Ok-Some.field-0-is at c.in-Ok-Some.ensures in
-    rw c.take_from.ensures.counts.0 (asks_item _ _ _ _ _ _ _ (λ t. refl) o.told (c.take_from.ensures.asks e))
+    let k = o.nexts (cursors_of w.levels.items) rest.has l b.held in
+    let held = g.met.D.Directory.dropped c.next.new.self (cursors_of w.levels.items) rest.has c.next.new.cursor (rest_of l) k.1 in
+    let shown = shows_in_moved (law.shows w.directory) (law.shows c.next.new.self) o.shown path l b.shown in
+    step_from law w (record w { directory = c.next.new.self }) c.take_from.new.self _ _ c.take_from.result refl refl refl
+    (c.take_from.ensures.lists l rest items k.0
+    (record {
+      rests = rest_moved law w c.next.new.self rest.listed rest b.rests o.shown held (o.told rest.listed b.rests.told);
+      held = k.1;
+      shown = shows_rest (law.shows c.next.new.self) path l shown;
+    }) shown e)

@@ -1,40 +1,55 @@
-use Rattle.std.proofs.Common.{inr, refl, arith}
-use Rattle.wax_tree.specs.Asks.{Lists}
-use Rattle.wax_tree.specs.Walking.{Comes}
-use Rattle.wax_tree.proofs.Asking.{asks_then}
-use Rattle.wax_tree.proofs.Counting.{counts_then}
-use Rattle.wax_tree.proofs.Filtering.{ends_none}
-use Rattle.wax_tree.proofs.Stepping.{leads_on, leads_first, run_gives, ends_gives}
+use Rattle.std.proofs.Common.{◌≡◌, refl, arith}
+use Rattle.wax_walk.proofs.Accounting.{accounts_then}
+use Rattle.wax_tree.specs.declared.steps.Step.TheVariants.{Gives, GoesOn, Ends}
+use Rattle.wax_tree.proofs.Stepping.{leads_on, run_gives}
 use Rattle.wax_tree.proofs.steps.Steps.run.Goals as goal
 
 pub returns-in-Gives : goal.returns-in-Gives
-returns-in-Gives g c = record {
-  gives = λ p h. let q = c.loop-item.invariant.leads p h in
-      run_gives (Comes g.D.Directory.shows (Lists g.D.Directory.tells) g.D.Directory.holds c.step.new.self) p q.0 c.in-Gives.item q.2 (c.in-Gives.ensures.step q.0 q.1);
-  counts = counts_then _ _ _ _ _ _ c.loop-item.invariant.counts c.in-Gives.ensures.counts;
-  asks = asks_then _ _ _ _ _ _ _ _ c.loop-item.invariant.asks c.in-Gives.ensures.asks;
-  ends = ends_gives c.in-Gives.item _ _ _ c.loop-item.invariant.stays c.in-Gives.ensures.stops.at_failure c.in-Gives.ensures.stops.stays;
-  fewer = omega (arith, c.in-Gives.ensures.spends, c.loop-item.invariant.fewer);
-}
+returns-in-Gives g c =
+    let law = g.D.Directory.law in
+    let i = c.loop-item.invariant in
+    let st = c.in-Gives.ensures.is_step in
+    record {
+      feeds = record {
+        gives = λ p h. let q = i.leads p h in run_gives law c.args.self.now c.loop-item.self c.step.new.self p q.0 _ q.2 q.3 (c.in-Gives.ensures.step q.0 q.1);
+        accounts = accounts_then law _ _ _ _ i.accounts st.accounts;
+        at_end = λ e. (cc);
+        stays = λ e. let s : Gives c.in-Gives.item ≡ Ends = (st.stays (i.stays e)).0 in (cc, (st.stays (i.stays e)).1);
+        names = omega (arith, st.names, i.names);
+        misplaced = λ m. omega (arith, st.misplaced m, i.names);
+      };
+      fewer = omega (arith, c.in-Gives.ensures.spends, i.fewer);
+    }
 
 pub returns-in-Ends : goal.returns-in-Ends
-returns-in-Ends g c = record {
-  gives = λ p h. let q = c.loop-item.invariant.leads p h in
-      inr (leads_first (Comes g.D.Directory.shows (Lists g.D.Directory.tells) g.D.Directory.holds c.step.new.self) p q.0 _ q.2 (c.in-Ends.ensures.step q.0 q.1));
-  counts = counts_then _ _ _ _ _ _ c.loop-item.invariant.counts c.in-Ends.ensures.counts;
-  asks = asks_then _ _ _ _ _ _ _ _ c.loop-item.invariant.asks c.in-Ends.ensures.asks;
-  ends = ends_none _ (c.in-Ends.ensures.stops.at_end refl);
-  fewer = tt;
-}
+returns-in-Ends g c =
+    let law = g.D.Directory.law in
+    let i = c.loop-item.invariant in
+    let st = c.in-Ends.ensures.is_step in
+    record {
+      feeds = record {
+        gives = λ p h. let q = i.leads p h in run_gives law c.args.self.now c.loop-item.self c.step.new.self p q.0 _ q.2 q.3 (c.in-Ends.ensures.step q.0 q.1);
+        accounts = accounts_then law _ _ _ _ i.accounts st.accounts;
+        at_end = λ e. st.at_end refl;
+        stays = λ e. (refl, st.at_end refl);
+        names = omega (arith, st.names, i.names);
+        misplaced = λ m. absurd m;
+      };
+      fewer = tt;
+    }
 
 pub loop-item-preserved : goal.loop-item-preserved
-loop-item-preserved g c = record {
-  fewer = omega (arith, c.in-GoesOn.ensures.spends.0, c.loop-item.invariant.fewer);
-  stays = λ e. (c.in-GoesOn.ensures.stops.stays (c.loop-item.invariant.stays e)).1;
-  counts = counts_then _ _ _ _ _ _ c.loop-item.invariant.counts c.in-GoesOn.ensures.counts;
-  asks = asks_then _ _ _ _ _ _ _ _ c.loop-item.invariant.asks c.in-GoesOn.ensures.asks;
-  leads = λ p h.
-      let q = c.loop-item.invariant.leads p h in
-      let st = c.in-GoesOn.ensures.step q.0 q.1 in
-      (st.0, st.1, leads_on p q.0 st.0 q.2 st.2);
-}
+loop-item-preserved g c =
+    let law = g.D.Directory.law in
+    let i = c.loop-item.invariant in
+    let st = c.in-GoesOn.ensures.is_step in
+    record {
+      fewer = omega (arith, c.in-GoesOn.ensures.spends.0, i.fewer);
+      stays = λ e. (st.stays (i.stays e)).1;
+      names = omega (arith, st.names, i.names);
+      accounts = accounts_then law _ _ _ _ i.accounts st.accounts;
+      leads = λ p h.
+          let q = i.leads p h in
+          let n = c.in-GoesOn.ensures.step q.0 q.1 in
+          (n.0, n.1, leads_on p q.0 n.0 q.2 n.2, omega (arith, q.3, n.3));
+    }

@@ -1,22 +1,22 @@
-use Rattle.std.proofs.Common.{◌≤◌}
+use Rattle.std.proofs.Common.{◌≤◌, ◌+◌, ◌<◌}
 use Rattle.std.specs.Prelude.{None}
-use Rattle.wax_tree.specs.Asks.{Lists, Asks}
-use Rattle.wax_tree.specs.Counts.{Counts}
-use Rattle.wax_tree.specs.Forest.{Pending}
-use Rattle.wax_tree.specs.Given.{Given}
-use Rattle.wax_tree.specs.Lead.{LeadsTo}
-use Rattle.wax_tree.specs.Walking.{Comes, items_left, steps_left, allowance, HasStopped}
+use Rattle.wax_walk.specs.Forest.{Pending}
+use Rattle.wax_walk.specs.Given.{Given}
+use Rattle.wax_walk.specs.View.{Accounts}
+use Rattle.wax_tree.specs.Lead.{ListsBetween}
+use Rattle.wax_tree.specs.Stepping.{items_left, steps_left}
+use Rattle.wax_tree.specs.Walking.{PlainToCome, allowance, names_left, HasStopped, steps_view}
 use Rattle.wax_tree.proofs.steps.Steps.run.Given as goal
 
 abbrev pub invariant-loop-item : goal.invariant-loop-item
 invariant-loop-item g l =
-    let comes = Comes g.D.Directory.shows (Lists g.D.Directory.tells) g.D.Directory.holds in
+    let law = g.D.Directory.law in
     record {
       fewer : items_left l.self ≤ items_left l.fn.self;
       stays : HasStopped l.fn.self → HasStopped l.self;
-      counts : Counts g.D.Directory.missed g.D.Directory.failed l.fn.self.directory None l.self.directory;
-      asks : Asks g.D.Directory.tells l.fn.self.directory (allowance l.fn.self) None l.self.directory (allowance l.self);
-      leads : (p : Pending Given) → comes l.fn.self p → (q : Pending Given) × comes l.self q × LeadsTo p q;
+      names : names_left l.self ≤ names_left l.fn.self;
+      accounts : Accounts law (steps_view law l.fn.self) None (steps_view law l.self);
+      leads : (p : Pending Given) → PlainToCome law l.fn.self p → (q : Pending Given) × PlainToCome law l.self q × ListsBetween p q × (q.items + allowance l.fn.self ≤ p.items + allowance l.self);
     }
 
 abbrev pub decreases-loop-item : goal.decreases-loop-item

@@ -1,20 +1,42 @@
-use Rattle.std.proofs.Common.{arith, ap, string_bytes, ◌≡◌, ◌+◌, ◌∙◌, length-append, length, ◌-◌}
+use Rattle.std.proofs.Common.{arith, ap, sym, refl, subst, string_bytes, ◌≡◌, ◌≤◌, ◌+◌, ◌∙◌, cond, length-append, length, ◌-◌}
 use Rattle.wax_directory.specs.Answers.{listed_of}
 use Rattle.wax_directory.specs.Shown.{rest_of}
-use Rattle.wax_tree.specs.Asks.{Lists}
-use Rattle.wax_tree.specs.Plain.{count}
-use Rattle.wax_tree.proofs.Stepping.{takes, headed_is, saves_after}
+use Rattle.wax_walk.specs.Forest.{pending, nothing, followed_by}
+use Rattle.wax_tree.specs.Heads.{own_count}
+use Rattle.wax_tree.specs.Plain.{count, items_forest}
+use Rattle.wax_tree.specs.Stepping.{StepIs}
+use Rattle.wax_tree.specs.Walking.{scope_of, folder_spot, allowance}
+use Rattle.wax_tree.proofs.Resting.{rest_pushed, rest_spent}
+use Rattle.wax_tree.proofs.Settling.{stops_over, step_from}
+use Rattle.wax_tree.proofs.Showing.{headed_is, count_rest}
+use Rattle.wax_tree.proofs.Stepping.{saves_after}
 use Rattle.wax_tree.proofs.steps.Steps.take_from.Goals as goal
 
-pub returns-clause-step : goal.returns-clause-step
-returns-clause-step g c l f n listed r h k i e =
+pub returns-then-self-eq0-clause-lists : goal.returns-then-self-eq0-clause-lists
+returns-then-self-eq0-clause-lists g c l rest items h b i e =
+    let w = c.args.self.now in
+    let none : w.budget ≡ 0 = c.if-self-eq0.true in
+    let allowed : allowance w ≡ w.budget + 1 = ap (λ v. cond v 0 (w.budget + 1)) b.rests.running in
+    let one = count_rest (listed_of c.args.item) l h in
+    stops_over g.D.Directory.law w c.stop.new.self _ (string_bytes c.args.folder.path) _ c.stop.result c.stop.ensures.gives (omega (arith, none, allowed, one, e))
+
+pub returns-clause-lists : goal.returns-clause-lists
+returns-clause-lists g c l rest items h b i e =
+    let law = g.D.Directory.law in
+    let w = c.args.self.now in
     let p = c.as_str.ensures.value ∙ c.in-Ok.ensures.cases in
     let q = c.as_str-2.ensures.value ∙ c.in-Ok-clone.ensures.cases in
-    let none : c.args.self.now.budget ≡ 0 → ⊥ = c.if-self-eq0.false in
-    let t = takes g.D.Directory.shows (Lists g.D.Directory.tells) g.D.Directory.holds c.args.self.now (record c.args.self.now { levels = c.push.new.self }) (c.args.self.now.budget - 1)
-    (record { folder = c.args.folder; cursor = c.args.cursor }) (listed_of c.args.item) l f n listed r h k i e c.in-Ok-push.ensures.items (omega arith) in
-    rw (headed_is c.args.self.now.min c.args.self.now.max (string_bytes c.args.self.now.root) c.args.folder.depth (string_bytes c.args.folder.path) (string_bytes c.args.folder.candidate) (listed_of c.args.item) l f h)
-    (rw (p, q) at (c.take_item.ensures.step l _ (n + count (rest_of l)) listed t.0 h (rw p i) t.1))
+    let none : w.budget ≡ 0 → ⊥ = c.if-self-eq0.false in
+    let pushed = record w { levels = c.push.new.self } in
+    let mid = record w { levels = c.push.new.self; budget = w.budget - 1 } in
+    let one = count_rest (listed_of c.args.item) l h in
+    let running = b.rests.running in
+    let allowed : allowance w ≡ w.budget + 1 = ap (λ v. cond v 0 (w.budget + 1)) running in
+    let allowed_then : allowance mid ≡ w.budget - 1 + 1 = ap (λ v. cond v 0 (w.budget - 1 + 1)) running in
+    let at_rest = rest_spent law pushed (w.budget - 1) _ (rest_pushed law w pushed (record { folder = c.args.folder; cursor = c.args.cursor }) (rest_of l) rest b.rests b.held b.shown c.in-Ok-push.ensures.items) in
+    let few : own_count l + (rest.count + count (rest_of l)) ≤ items - 1 = omega (arith, one, e) in
+    let st = rw (p, q) at (c.take_item.ensures.continues l h (rw p i) _ (items - 1) at_rest few) in
+    step_from law w mid c.take_item.new.self _ _ c.take_item.result (headed_is (scope_of w) (folder_spot c.args.folder) (listed_of c.args.item) l rest.forest h) refl (omega (arith, none, allowed, allowed_then, one, e)) st
 
 pub returns-clause-saves : goal.returns-clause-saves
 returns-clause-saves g c e n =

@@ -1,10 +1,10 @@
 -- The depths that a walk gives.
 use Rattle.std.specs.Prelude.{◌≡◌, ◌<◌, ◌⊎◌, ℕ, ◌+◌, ◌-◌, ◌^◌, min, Option, Some, None}
 use Rattle.std.specs.Int.NonZero.{non_zero_usize_get}
-use Rattle.wax_behavior.specs.declared.WalkBehavior.{WalkBehavior}
-use Rattle.wax_behavior.specs.declared.LinkBehavior.TheVariants.{ReadFile}
-use Rattle.wax_behavior.specs.declared.DepthBehavior.{DepthBehavior}
-use Rattle.wax_behavior.specs.declared.DepthBehavior.TheVariants.{Unbounded, Min, Max, MinMax}
+use Rattle.wax_tree.specs.declared.behavior.WalkBehavior.{WalkBehavior}
+use Rattle.wax_tree.specs.declared.behavior.LinkBehavior.TheVariants.{ReadFile}
+use Rattle.wax_tree.specs.declared.behavior.DepthBehavior.{DepthBehavior}
+use Rattle.wax_tree.specs.declared.behavior.DepthBehavior.TheVariants.{Unbounded, Min, Max, MinMax}
 
 -- the least depth
 abbrev pub least : DepthBehavior → ℕ

@@ -1,7 +1,6 @@
-//! Paths and names.
+//! Paths as texts.
 
-ghost use Rattle.std.specs.Prelude.{◌≡◌, IfOk, string_bytes, true, false};
-ghost use Rattle.wax_directory.specs.Shown.{IsPlain};
+ghost use Rattle.std.specs.Prelude.{◌≡◌, IfOk, string_bytes};
 ghost use Rattle.wax_directory.specs.Shown.{is_open as is_open_path};
 ghost use Rattle.wax_directory.specs.Shown.{join as join_path};
 
@@ -27,15 +26,4 @@ pub(crate) fn join(alloc: Global, folder: &str, name: &str) -> Result<String, Al
     }
     path.push_str(name)?;
     Ok(path)
-}
-
-/// A path can hold the name.
-pub(crate) fn is_plain(name: &str) -> bool
-    ensures plain { result ≡ true → IsPlain name.now }
-    ensures not_plain { result ≡ false → ¬ (IsPlain name.now) }
-{
-    match name.as_bytes() {
-        [] | [b'.'] | [b'.', b'.'] => false,
-        bytes => !bytes.contains(&b'/'),
-    }
 }

@@ -1,15 +1,10 @@
 //! How far a walk goes: the depths that it gives, and how many items it takes.
-#![tactic(auto)]
-
 ghost use Rattle.std.specs.Prelude.{◌≡◌, ℕ, Option, Some, MatchOption, min, max};
 ghost use Rattle.std.specs.Int.NonZero.{non_zero_usize_get};
-ghost use Rattle.wax_behavior.specs.Depths.{least, greatest, no_bound, Bounds, IsUnbounded, at_depth};
-ghost use Rattle.wax_behavior.specs.declared.DepthBehavior.TheVariants.{Unbounded, MinMax};
+ghost use Rattle.wax_tree.specs.Depths.{least, greatest, no_bound, Bounds, IsUnbounded, at_depth};
+ghost use Rattle.wax_tree.specs.declared.behavior.DepthBehavior.TheVariants.{Unbounded, MinMax};
 
 use std::num::NonZeroUsize;
-
-#[cfg(test)]
-mod tests;
 
 /// Gives entries of at least this depth, which isn't 0.
 #[derive(Clone, Copy, Debug, Eq, PartialEq)]
@@ -166,7 +161,7 @@ impl DepthBehavior {
 }
 
 impl From<DepthMin> for DepthBehavior {
-    ghost use Rattle.wax_behavior.specs.declared.DepthBehavior.TheVariants.{Min};
+    ghost use Rattle.wax_tree.specs.declared.behavior.DepthBehavior.TheVariants.{Min};
 
     ghost from_gives = { λ d r. r ≡ Min d };
 
@@ -176,7 +171,7 @@ impl From<DepthMin> for DepthBehavior {
 }
 
 impl From<DepthMax> for DepthBehavior {
-    ghost use Rattle.wax_behavior.specs.declared.DepthBehavior.TheVariants.{Max};
+    ghost use Rattle.wax_tree.specs.declared.behavior.DepthBehavior.TheVariants.{Max};
 
     ghost from_gives = { λ d r. r ≡ Max d };
 
@@ -186,7 +181,7 @@ impl From<DepthMax> for DepthBehavior {
 }
 
 impl From<DepthMinMax> for DepthBehavior {
-    ghost use Rattle.wax_behavior.specs.declared.DepthBehavior.TheVariants.{MinMax};
+    ghost use Rattle.wax_tree.specs.declared.behavior.DepthBehavior.TheVariants.{MinMax};
 
     ghost from_gives = { λ d r. r ≡ MinMax d };
 
@@ -226,8 +221,8 @@ impl Default for WalkBehavior {
 }
 
 impl From<()> for WalkBehavior {
-    ghost use Rattle.wax_behavior.specs.Depths.{at_depth};
-    ghost use Rattle.wax_behavior.specs.declared.DepthBehavior.TheVariants.{Unbounded};
+    ghost use Rattle.wax_tree.specs.Depths.{at_depth};
+    ghost use Rattle.wax_tree.specs.declared.behavior.DepthBehavior.TheVariants.{Unbounded};
 
     ghost from_gives = { λ _ r. r ≡ at_depth Unbounded };
 
@@ -237,7 +232,7 @@ impl From<()> for WalkBehavior {
 }
 
 impl From<DepthBehavior> for WalkBehavior {
-    ghost use Rattle.wax_behavior.specs.Depths.{at_depth};
+    ghost use Rattle.wax_tree.specs.Depths.{at_depth};
 
     ghost from_gives = { λ d r. r ≡ at_depth d };
 
@@ -250,8 +245,8 @@ impl From<DepthBehavior> for WalkBehavior {
 }
 
 impl From<DepthMin> for WalkBehavior {
-    ghost use Rattle.wax_behavior.specs.Depths.{at_depth};
-    ghost use Rattle.wax_behavior.specs.declared.DepthBehavior.TheVariants.{Min};
+    ghost use Rattle.wax_tree.specs.Depths.{at_depth};
+    ghost use Rattle.wax_tree.specs.declared.behavior.DepthBehavior.TheVariants.{Min};
 
     ghost from_gives = { λ d r. r ≡ at_depth (Min d) };
 
@@ -261,8 +256,8 @@ impl From<DepthMin> for WalkBehavior {
 }
 
 impl From<DepthMax> for WalkBehavior {
-    ghost use Rattle.wax_behavior.specs.Depths.{at_depth};
-    ghost use Rattle.wax_behavior.specs.declared.DepthBehavior.TheVariants.{Max};
+    ghost use Rattle.wax_tree.specs.Depths.{at_depth};
+    ghost use Rattle.wax_tree.specs.declared.behavior.DepthBehavior.TheVariants.{Max};
 
     ghost from_gives = { λ d r. r ≡ at_depth (Max d) };
 
@@ -272,8 +267,8 @@ impl From<DepthMax> for WalkBehavior {
 }
 
 impl From<DepthMinMax> for WalkBehavior {
-    ghost use Rattle.wax_behavior.specs.Depths.{at_depth};
-    ghost use Rattle.wax_behavior.specs.declared.DepthBehavior.TheVariants.{MinMax};
+    ghost use Rattle.wax_tree.specs.Depths.{at_depth};
+    ghost use Rattle.wax_tree.specs.declared.behavior.DepthBehavior.TheVariants.{MinMax};
 
     ghost from_gives = { λ d r. r ≡ at_depth (MinMax d) };
 
@@ -283,8 +278,8 @@ impl From<DepthMinMax> for WalkBehavior {
 }
 
 impl From<LinkBehavior> for WalkBehavior {
-    ghost use Rattle.wax_behavior.specs.Depths.{at_depth};
-    ghost use Rattle.wax_behavior.specs.declared.DepthBehavior.TheVariants.{Unbounded};
+    ghost use Rattle.wax_tree.specs.Depths.{at_depth};
+    ghost use Rattle.wax_tree.specs.declared.behavior.DepthBehavior.TheVariants.{Unbounded};
 
     ghost from_gives = { λ l r. r ≡ record (at_depth Unbounded) { link = l } };
 

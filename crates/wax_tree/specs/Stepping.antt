@@ -1,0 +1,120 @@
+-- What a step of a walk does.
+use Rattle.std.specs.Prelude.{◌≡◌, ℕ, ◌+◌, ◌*◌, ◌<◌, ◌≤◌, true, false, cond, length, List, Option, Some, None, Err, ◌⊎◌, string_bytes}
+use Rattle.wax_directory.specs.Counting.{no_counts}
+use Rattle.wax_directory.specs.declared.tally.Tally.{Tally}
+use Rattle.wax_directory.specs.Law.{Law, HoldsLast}
+use Rattle.wax_directory.specs.Shown.{Items, Shown, ShowsIn}
+use Rattle.wax_walk.specs.declared.error.WalkError.TheVariants.{Memory}
+use Rattle.wax_walk.specs.Forest.{Forest, nothing, followed_by, Pending, pending}
+use Rattle.wax_walk.specs.Given.{Given}
+use Rattle.wax_walk.specs.View.{Accounts, GivesOrStops, IsLast, IsMisplaced, Takes, fault_counts}
+use Rattle.wax_tree.specs.declared.steps.Level.{Level}
+use Rattle.wax_tree.specs.declared.steps.Place.{Place}
+use Rattle.wax_tree.specs.declared.steps.Step.{Step}
+use Rattle.wax_tree.specs.declared.steps.Step.TheVariants.{Gives, GoesOn, Ends}
+use Rattle.wax_tree.specs.declared.steps.Steps.{Steps}
+use Rattle.wax_tree.specs.Plain.{Scope, Spot, items_forest}
+use Rattle.wax_tree.specs.Walking.{if_some, step_given, cursors_of, Rest, HasStopped, allowance, names_left, AtRest, PlainToCome, steps_view, Advances}
+
+-- no more is counted
+pub record IsCounted (n k : Tally) : Type 0 where
+  pub misses : n.misses ≤ k.misses
+  pub leaves : n.leaves ≤ k.leaves
+  pub failures : n.failures ≤ k.failures
+  pub bad_names : n.bad_names ≤ k.bad_names
+
+-- what an answer of the directory counted, how many items were taken for it, and how many names the walk still followed
+pub record Asked : Type 0 where
+  pub counts : Tally
+  pub taken : ℕ
+  pub names : ℕ
+
+abbrev pub nothing_asked : ℕ → Asked
+nothing_asked names = record { counts = no_counts; taken = 0; names = names }
+
+-- at most how many steps a walk makes for the place to begin at
+abbrev pub first_steps : Option Place → ℕ
+first_steps None = 0
+first_steps (Some place) = 4 + length place.names.items
+
+module _ {D C : Type 0} where
+  -- the walk gives this fault, or that memory was refused, and ends
+  abbrev pub Blames : Given → Steps D C → Step → Steps D C → Type 0
+  Blames x old r new = ((r ≡ Gives (Err Memory)) × (new ≡ record old { has_ended = true })) ⊎ ((step_given r ≡ Some x) × (new ≡ old))
+
+  -- what a step makes of an answer, with no further question
+  pub record Settles (asked : Asked) (old : Steps D C) (r : Step) (new : Steps D C) : Type 0 where
+    pub goes_on : r ≡ Ends → ⊥
+    pub directory : new.directory ≡ old.directory
+    pub counts : IsCounted (fault_counts (step_given r)) asked.counts
+    pub takes : Takes (step_given r) (allowance old) asked.taken (allowance new)
+    pub ends : IsLast (step_given r) → new.has_ended ≡ true
+    pub names : names_left new ≤ asked.names
+    pub misplaced : IsMisplaced (step_given r) → 0 < asked.names
+
+  -- at most how many items the walk still gives
+  abbrev pub items_left : Steps D C → ℕ
+  items_left w = 2 * w.budget + (if_some w.first 2 + (if_some w.entered 1 + cond w.has_ended 0 1))
+
+  -- at most how many steps it makes
+  abbrev pub steps_left : Steps D C → ℕ
+  steps_left w = 3 * w.budget + (first_steps w.first + (if_some w.entered 2 + length w.levels.items))
+
+  -- at most so many more items and steps are left, where nothing or an item was given
+  abbrev pub Adds : ℕ → ℕ → Steps D C → Step → Steps D C → Type 0
+  Adds a b old GoesOn new = (items_left new ≤ items_left old + a) × (steps_left new ≤ steps_left old + b)
+  Adds a b old r new = items_left new ≤ items_left old + a
+
+  -- at most so many more items and steps are left, where so many names were to come
+  abbrev pub AddsFirst : ℕ → Steps D C → Step → Steps D C → Type 0
+  AddsFirst names old GoesOn new = (items_left new ≤ items_left old + 2) × (steps_left new ≤ steps_left old + (3 + names))
+  AddsFirst names old r new = items_left new ≤ items_left old + 1
+
+  -- an item takes one of those that are left
+  abbrev pub Saves : Steps D C → Step → Steps D C → Type 0
+  Saves old (Gives x) new = items_left new < items_left old
+  Saves old GoesOn new = (items_left new ≤ items_left old) × (steps_left new ≤ steps_left old)
+  Saves old Ends new = Unit {0}
+
+  -- a step that gives an item leaves fewer items, and one that gives none leaves fewer steps
+  abbrev pub Spends : Steps D C → Step → Steps D C → Type 0
+  Spends old (Gives x) new = items_left new < items_left old
+  Spends old GoesOn new = (items_left new ≤ items_left old) × (steps_left new < steps_left old)
+  Spends old Ends new = Unit {0}
+
+-- what is to come of a folder and of what is at rest behind it
+abbrev pub listing_pending : Scope → Spot → Items → Rest → ℕ → Pending Given
+listing_pending scope at l rest items = pending nothing (followed_by (items_forest scope at l) rest.forest) rest.listed items
+
+module _ {D C : Type 0} (law : Law D C) where
+  -- what a step does where this was to come
+  abbrev pub StepIs : Steps D C → Pending Given → Step → Steps D C → Type 0
+  StepIs old p (Gives x) new = GivesOrStops (steps_view law old) p (step_given (Gives x)) (steps_view law new)
+  StepIs old p GoesOn new = (q : Pending Given) × PlainToCome law new q × Advances p q × (q.items + allowance old ≤ p.items + allowance new)
+  StepIs old p Ends new = GivesOrStops (steps_view law old) p None (steps_view law new)
+
+  -- at rest, with a head that lists so many items, it does what the head and what comes after it ask for
+  abbrev pub Continues : Steps D C → (Forest Given → Forest Given) → ℕ → Step → Steps D C → Type 0
+  Continues old head k r new = (rest : Rest) (items : ℕ) → AtRest law old rest → k + rest.count ≤ items
+      → StepIs old (pending nothing (head rest.forest) rest.listed items) r new
+
+  -- what a level has to give that stands beside a walk at rest
+  pub record Beside (w : Steps D C) (level : Level C) (l : Items) (rest : Rest) : Type 0 where
+    pub rests : AtRest law w rest
+    pub held : HoldsLast law w.directory (cursors_of w.levels.items) rest.has level.cursor l
+    pub shown : ShowsIn (law.shows w.directory) (string_bytes level.folder.path) l
+
+  -- what a step asks, takes and counts, where so many names were to be followed
+  pub record Answers (names : ℕ) (old : Steps D C) (r : Step) (new : Steps D C) : Type 0 where
+    pub goes_on : r ≡ Ends → ⊥
+    pub accounts : Accounts law (steps_view law old) (step_given r) (steps_view law new)
+    pub names_left : names_left new ≤ names
+    pub misplaced : IsMisplaced (step_given r) → 0 < names
+
+  -- what every step does
+  pub record IsStep (old : Steps D C) (r : Step) (new : Steps D C) : Type 0 where
+    pub accounts : Accounts law (steps_view law old) (step_given r) (steps_view law new)
+    pub at_end : r ≡ Ends → HasStopped new
+    pub stays : HasStopped old → (r ≡ Ends) × HasStopped new
+    pub names : names_left new ≤ names_left old
+    pub misplaced : IsMisplaced (step_given r) → 0 < names_left old
