@@ -7,3 +7,4 @@ pub mod Cost
 pub mod Meaning
 pub mod Decided
 pub mod Reads
+pub mod Spelled
