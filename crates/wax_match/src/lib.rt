@@ -2,5 +2,3 @@
 #![tactic(auto)]
 
 pub mod encode;
-#[cfg(test)]
-mod tests;

@@ -7,6 +7,7 @@ pub mod Places
 pub mod Readings
 pub mod Rows
 pub mod Runs
+pub mod Spelled
 pub mod Texts
 pub mod Trees
 pub mod Wholes

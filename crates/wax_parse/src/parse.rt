@@ -1,9 +1,10 @@
 //! From an expression to its tokens.
-ghost use Rattle.std.specs.Prelude.{◌≡◌, IfOk, chars};
+ghost use Rattle.std.specs.Prelude.{◌≡◌, IfOk, chars, length};
 ghost use Rattle.std.specs.Cow.{cow_str_bytes};
 ghost use Rattle.wax_query.specs.Outcome.{MatchBuild};
 ghost use Rattle.wax_token.specs.Syntax.{Tree};
 ghost use Rattle.wax_token.specs.Reads.{Reads, Span};
+ghost use Rattle.wax_token.specs.Spelled.{LiesBetween, LiteralsHaveNoSlash};
 ghost use Rattle.wax_parse.specs.Accepted.{IsPlace};
 
 mod bounds;
@@ -57,7 +58,7 @@ impl ParseError {
 /// How deep globs may nest in an expression.
 const DEEPEST: usize = 128;
 
-/// The tokens that an expression spells, each with its span; refused with 1 where it spells none.
+/// The tokens that an expression spells, each with its span in bytes; refused with 1 where it spells none.
 /// Takes memory for the tokens and for literals that hold an escape. Recursion goes down 128 globs at
 /// most, whatever the expression.
 pub fn parse<'t>(
@@ -69,6 +70,8 @@ pub fn parse<'t>(
         (λ _. (t : Tree Span) → Reads (chars expression.now) t → ⊥) }
     ensures only { IfOk result (λ t. (u : Tree Span) → Reads (chars expression.now) u → u ≡ t.token) }
     ensures place { MatchBuild result (λ _. Unit {0}) (λ e. IsPlace (chars expression.now) e) }
+    ensures spans { IfOk result (λ t. LiesBetween 0 (length expression.now) t.token) }
+    ensures literals { IfOk result (λ t. LiteralsHaveNoSlash t.token) }
 {
     let token = read_expression(alloc, expression)?;
     Ok(Tokenized {

@@ -1,8 +1,8 @@
 -- The definitions, read against worked examples.
-use Rattle.std.proofs.Common.{◌≡◌, ◌≢◌, ℕ, suc, ◌+◌, ◌<◌, ◌≤◌, Bool, true, false, List, [], ◌∷◌, ◌++◌, Option, Some, None, refl, inl, inr, arith, codes, ap, sym, ◌∙◌, zero}
+use Rattle.std.proofs.Common.{◌≡◌, ℕ, suc, ◌≤◌, Bool, true, false, List, [], ◌∷◌, ◌++◌, Some, refl, inl, inr, arith, codes, ap, sym, ◌∙◌, zero}
 use Rattle.wax_token.specs.declared.token.Archetype.{Archetype}
 use Rattle.wax_token.specs.declared.token.Archetype.TheVariants.{Character, Range}
-use Rattle.wax_token.specs.Syntax.{Leaf, literal, class, separator, one, zero_or_more, tree, Tree, leaf, alternation, concatenation, repetition, Trees, none, more}
+use Rattle.wax_token.specs.Syntax.{literal, tree, Tree, leaf, concatenation, repetition, none, more}
 use Rattle.wax_token.specs.Meaning.{Means, SameText, Copies, in_class}
 use Rattle.wax_token.specs.Reads.{Reads, Place, no_flags, Span}
 

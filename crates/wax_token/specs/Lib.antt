@@ -5,4 +5,6 @@ pub mod TreeCode
 pub mod TreeFalls
 pub mod Cost
 pub mod Meaning
+pub mod Decided
 pub mod Reads
+pub mod Spelled

@@ -1,5 +1,5 @@
 -- Which texts a token tree means. `before` and `after` say whether something is written around it.
-use Rattle.std.specs.Prelude.{◌≡◌, ◌≢◌, ℕ, zero, suc, ◌≤◌, Bool, true, false, ◌||◌, ◌⊎◌, List, [], ◌∷◌, ◌++◌, Option, Some, None, not, ◌&&◌, ◌==◌, nat_le, if◌then◌else◌}
+use Rattle.std.specs.Prelude.{◌≡◌, ◌≢◌, ℕ, zero, suc, ◌≤◌, Bool, true, false, ◌⊎◌, List, [], ◌∷◌, ◌++◌, Option, Some, None, not, ◌&&◌, ◌==◌, nat_le, if◌then◌else◌}
 use Rattle.std.specs.List.{list_any, list_all}
 use Rattle.unicode.specs.CaseFolding.{simple_fold}
 use Rattle.wax_token.specs.declared.token.Archetype.{Archetype}

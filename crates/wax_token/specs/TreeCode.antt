@@ -2,11 +2,10 @@
 use Rattle.std.specs.Prelude.{◌≡◌, ℕ, ◌+◌, ◌≤◌, Bool, List, [], ◌∷◌, Option, ◌⊎◌, refl, zero, suc}
 use Rattle.std.proofs.Common.{inl, inr, ap, arith}
 use Rattle.std.specs.Coded.{Coded, code_by, coded_ℕ, coded_bool, coded_list, coded_option, coded×, coded⊎}
-use base.Stored.{Gv, gnil, gnum, gcons, num, coded_unit}
+use base.Stored.{Gv, gnil, gnum, gcons, num}
 use denote.Param.Weighed.{most}
 use Rattle.wax_token.specs.declared.token.Archetype.{Archetype}
 use Rattle.wax_token.specs.declared.token.Archetype.TheVariants.{Character, Range}
-use Rattle.wax_token.specs.declared.token.Evaluation.{Evaluation}
 use Rattle.wax_token.specs.declared.token.Evaluation.TheVariants.{Eager, Lazy}
 use Rattle.wax_token.specs.Syntax.{Leaf, literal, class, separator, one, zero_or_more, tree, Tree, leaf, alternation, concatenation, repetition, Trees, none, more, tree_size, trees_size}
 use Rattle.wax_token.specs.Words.{trees}

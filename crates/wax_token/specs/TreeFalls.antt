@@ -1,10 +1,9 @@
 -- A child of a token is smaller than the token.
-use Rattle.std.specs.Prelude.{ℕ, ◌≤◌}
+use Rattle.std.specs.Prelude.{◌≤◌}
 use Rattle.std.proofs.Common.{arith}
 use Rattle.wax_token.specs.Syntax.{tree_size}
 use Rattle.wax_token.specs.View.{topology_tree}
 use Rattle.wax_token.specs.TreeCode.{most_le-trees_size}
-use Rattle.wax_token.specs.declared.token.Token.TheInside.{Inside}
 use Rattle.wax_token.specs.declared.token.Token.TheDeep.{deep-Token}
 use Rattle.wax_token.specs.declared.token.Topology.{Topology}
 use Rattle.wax_token.specs.declared.token.Topology.TheVariants.{Branch, Leaf as LeafOf}

@@ -70,11 +70,29 @@ pub struct Alternation<'t, A> {
     pub tokens: Vec<Token<'t, A>>,
 }
 
+impl<'t, A> Alternation<'t, A> {
+    /// The branches.
+    pub fn tokens(&self) -> &[Token<'t, A>]
+        ensures { result.now ≡ self.now.tokens.items }
+    {
+        self.tokens.as_slice()
+    }
+}
+
 /// A glob or a sub-glob: its tokens one after another.
 #[derive(Drop)]
 #[cycle(token)]
 pub struct Concatenation<'t, A> {
     pub tokens: Vec<Token<'t, A>>,
+}
+
+impl<'t, A> Concatenation<'t, A> {
+    /// The tokens in order.
+    pub fn tokens(&self) -> &[Token<'t, A>]
+        ensures { result.now ≡ self.now.tokens.items }
+    {
+        self.tokens.as_slice()
+    }
 }
 
 /// `<..:n,m>`: from `lower` to `upper` copies of its sub-glob, where `None` is without limit.
@@ -84,6 +102,22 @@ pub struct Repetition<'t, A> {
     pub token: Box<Token<'t, A>>,
     pub lower: usize,
     pub upper: Option<usize>,
+}
+
+impl<'t, A> Repetition<'t, A> {
+    /// The sub-glob.
+    pub fn token(&self) -> &Token<'t, A>
+        ensures { result.now ≡ self.now.token.value }
+    {
+        &self.token
+    }
+
+    /// The least and the greatest number of copies, where `None` is without limit.
+    pub fn bound_specification(&self) -> (usize, Option<usize>)
+        ensures { result ≡ (self.now.lower, self.now.upper) }
+    {
+        (self.lower, self.upper)
+    }
 }
 
 /// A token that holds no tokens.
@@ -244,6 +278,31 @@ pub struct Tokenized<'t, A> {
     pub token: Token<'t, A>,
 }
 
+impl<'t, A> Tokenized<'t, A> {
+    pub fn expression(&self) -> &CowStr<'t>
+        ensures { result.now ≡ self.now.expression }
+    {
+        &self.expression
+    }
+
+    pub fn as_token(&self) -> &Token<'t, A>
+        ensures { result.now ≡ self.now.token }
+    {
+        &self.token
+    }
+
+    /// The token, without the expression.
+    pub fn into_token(self) -> Token<'t, A>
+        ensures { result ≡ self.entry.token }
+    {
+        let Tokenized {
+            expression: _,
+            token,
+        } = self;
+        token
+    }
+}
+
 /// What a token can be annotated with.
 pub trait Annotation: Sized {
     /// The token alone, as a list.
@@ -298,6 +357,15 @@ impl<'t, A> Token<'t, A> {
             Topology::Branch(_) => None,
             Topology::Leaf(leaf) => Some(leaf),
         }
+    }
+}
+
+impl<'t, A: Annotation> Tokenized<'t, A> {
+    /// The tokens of its token's concatenation, and any other token alone.
+    pub fn concatenation(&self) -> &[Token<'t, A>]
+        ensures { trees result.now ≡ members self.now.token }
+    {
+        self.token.concatenation()
     }
 }
 

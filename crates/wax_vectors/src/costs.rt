@@ -1,169 +1,120 @@
-//! What expressions cost, also those that are made to be costly, as tests.
+//! Globs that are made to be costly.
 
-#[cfg(test)]
-mod tests {
-    use crate::rows::{is_meant, number};
-    use std::alloc::{AllocError, Global};
-    use std::test::Fail;
-    use wax::parse::parse;
-    use wax::{CandidatePath, Glob, Program, encode};
+use crate::programs::{length, nested, repeated};
+use crate::report::Report;
+use crate::rows::{is_meant, number};
+use std::alloc::{AllocError, Global};
+use wax::{CandidatePath, Glob, Program};
 
-    /// The text, so many times.
-    fn repeated(alloc: Global, text: &str, count: usize) -> Result<String, AllocError> {
-        let mut whole = String::new(alloc);
-        for _ in 0..count {
-            whole.push_str(text)?;
-        }
-        Ok(whole)
+pub fn report(alloc: Global) -> Result<Report, AllocError> {
+    let mut report = Report::new(alloc);
+    compare_longest(alloc, &mut report)?;
+    compare_megabytes(alloc, &mut report)?;
+    compare_nested(alloc, &mut report)?;
+    compare_letters(alloc, &mut report)?;
+    Ok(report)
+}
+
+/// The number of the refusal of an expression, 0 where it builds.
+fn refusal(alloc: Global, expression: &str) -> u8 {
+    match Glob::new(alloc, expression) {
+        Ok(_) => 0,
+        Err(error) => number(&error),
     }
+}
 
-    /// The number of the refusal of an expression, 0 where it builds.
-    fn refusal(alloc: Global, expression: &str) -> u8 {
-        match Glob::new(alloc, expression) {
-            Ok(_) => 0,
-            Err(error) => number(&error),
-        }
-    }
+/// Whether the glob means so many letters a, and its visits; `None` where it doesn't build.
+fn visits(alloc: Global, expression: &str, count: usize) -> Option<(bool, u128)> {
+    let glob = Glob::new(alloc, expression).ok()?;
+    let path = repeated(alloc, "a", count).ok()?;
+    let candidate = CandidatePath::from(path.as_str());
+    glob.is_match_counted(alloc, &candidate).ok()
+}
 
-    /// The length of an expression's program; `None` where there is none.
-    fn length(alloc: Global, expression: &str) -> Option<usize> {
-        let tokenized = parse(alloc, expression).ok()?;
-        let tokens = tokenized.token.concatenation();
-        let program = encode::compile(alloc, tokens, false, false).ok()?;
-        Some(program.len())
-    }
+/// The longest program of its kind, and one longer than the longest.
+fn compare_longest(alloc: Global, report: &mut Report) -> Result<(), AllocError> {
+    let longest = repeated(alloc, "*/", 262_143)?;
+    let longest = longest.as_str();
+    report.compare(alloc, "longest", length(alloc, longest), Some(1_048_573))?;
+    report.compare(
+        alloc,
+        "longest on a/",
+        is_meant(alloc, longest, "a/"),
+        Some(false),
+    )?;
+    let path = repeated(alloc, "/", 262_143)?;
+    let made = is_meant(alloc, longest, path.as_str());
+    report.compare(alloc, "longest on its text", made, Some(true))?;
+    let longer = repeated(alloc, "*/", 262_144)?;
+    report.compare(
+        alloc,
+        "longer than the longest",
+        refusal(alloc, longer.as_str()),
+        9,
+    )
+}
 
-    /// The letter a, within so many brackets.
-    fn nested(alloc: Global, opening: &str, closing: &str) -> Result<String, AllocError> {
-        let mut whole = repeated(alloc, opening, 128)?;
-        whole.push('a')?;
-        let end = repeated(alloc, closing, 128)?;
-        whole.push_str(end.as_str())?;
-        Ok(whole)
+/// A megabyte of the same.
+fn compare_megabytes(alloc: Global, report: &mut Report) -> Result<(), AllocError> {
+    for (text, answer) in [
+        ("a", 8),
+        ("/", 2),
+        ("*", 1),
+        ("?", 8),
+        ("{", 1),
+        ("<", 1),
+        ("[", 1),
+        ("(?i)", 1),
+        ("\\", 1),
+        ("a,", 1),
+        ("{a", 1),
+        ("<a:1", 1),
+        ("/(?i)", 1),
+        ("{a}", 8),
+        ("<a:1>", 8),
+        ("金", 8),
+    ] {
+        let count = 1_000_000usize.checked_div(text.len()).unwrap_or(0);
+        let expression = repeated(alloc, text, count)?;
+        let row = format!(in alloc; "a megabyte of {text}")?;
+        report.compare(
+            alloc,
+            row.as_str(),
+            refusal(alloc, expression.as_str()),
+            answer,
+        )?;
     }
+    Ok(())
+}
 
-    /// Whether the glob means so many letters a, and its visits; `None` where it doesn't build.
-    fn visits(alloc: Global, expression: &str, count: usize) -> Option<(bool, u128)> {
-        let glob = Glob::new(alloc, expression).ok()?;
-        let path = repeated(alloc, "a", count).ok()?;
-        let candidate = CandidatePath::from(path.as_str());
-        glob.is_match_counted(alloc, &candidate).ok()
+fn compare_nested(alloc: Global, report: &mut Report) -> Result<(), AllocError> {
+    for (opening, closing) in [("{", "}"), ("<", ">")] {
+        let expression = nested(alloc, opening, closing)?;
+        let made = is_meant(alloc, expression.as_str(), "a");
+        report.compare(alloc, expression.as_str(), made, Some(true))?;
     }
+    let expression = nested(alloc, "<", ">")?;
+    let made = visits(alloc, expression.as_str(), 1_000);
+    report.compare(alloc, "nested", made.map(|made| made.0), Some(true))?;
+    let ticks = made.map_or(0, |made| made.1);
+    report.compare_range(alloc, "visits of nested", ticks, 1_000, 514_514)
+}
 
-    #[test]
-    fn program_lengths(rt: HostRuntime) {
-        for (expression, len) in [
-            ("", 1),
-            ("a", 2),
-            ("**", 7),
-            ("a/**/b", 9),
-            ("{a,b/c}", 10),
-            ("<ab:2,3>", 15),
-            ("<a/>", 7),
-            ("<a/**:2>", 48),
-            ("<{a/**,b}:2>", 78),
-            ("<a/**>", 39),
-            ("<a*:174762>", 1_048_575),
-        ] {
-            assert_eq!(rt; length(rt.alloc(), expression), Some(len), "{expression}");
-        }
+/// Letters, by one word of instructions and by one more.
+fn compare_letters(alloc: Global, report: &mut Report) -> Result<(), AllocError> {
+    for (count, greatest) in [(63, 4_096), (64, 4_225)] {
+        let letters = repeated(alloc, "a", count)?;
+        let row = format!(in alloc; "{count} letters")?;
+        let made = visits(alloc, letters.as_str(), count);
+        report.compare(alloc, row.as_str(), made.map(|made| made.0), Some(true))?;
+        let ticks = made.map_or(0, |made| made.1);
+        report.compare_range(alloc, row.as_str(), ticks, 1, greatest)?;
     }
-
-    #[test]
-    fn longest_program(rt: HostRuntime) -> Result<(), Fail> {
-        let expression = repeated(rt.alloc(), "*/", 262_143)?;
-        assert_eq!(rt; length(rt.alloc(), expression.as_str()), Some(1_048_573));
-        assert_eq!(rt;
-            is_meant(rt.alloc(), expression.as_str(), "a/"),
-            Some(false)
-        );
-        Ok(())
+    for (count, other) in [(63, 62), (63, 64), (64, 63), (64, 65)] {
+        let letters = repeated(alloc, "a", count)?;
+        let row = format!(in alloc; "{count} letters on {other}")?;
+        let made = visits(alloc, letters.as_str(), other);
+        report.compare(alloc, row.as_str(), made.map(|made| made.0), Some(false))?;
     }
-
-    #[test]
-    fn longest_program_and_its_text(rt: HostRuntime) -> Result<(), Fail> {
-        let expression = repeated(rt.alloc(), "*/", 262_143)?;
-        let path = repeated(rt.alloc(), "/", 262_143)?;
-        assert_eq!(rt;
-            is_meant(rt.alloc(), expression.as_str(), path.as_str()),
-            Some(true)
-        );
-        Ok(())
-    }
-
-    #[test]
-    fn one_longer_than_the_longest(rt: HostRuntime) -> Result<(), Fail> {
-        let expression = repeated(rt.alloc(), "*/", 262_144)?;
-        assert_eq!(rt; refusal(rt.alloc(), expression.as_str()), 9);
-        Ok(())
-    }
-
-    #[test]
-    fn a_megabyte_of_one_character(rt: HostRuntime) -> Result<(), Fail> {
-        for (text, answer) in [
-            ("a", 8),
-            ("/", 2),
-            ("*", 1),
-            ("?", 8),
-            ("{", 1),
-            ("<", 1),
-            ("[", 1),
-            ("(?i)", 1),
-            ("\\", 1),
-            ("a,", 1),
-            ("{a", 1),
-            ("<a:1", 1),
-            ("/(?i)", 1),
-            ("{a}", 8),
-            ("<a:1>", 8),
-            ("金", 8),
-        ] {
-            let expression = repeated(rt.alloc(), text, 1_000_000 / text.len())?;
-            assert_eq!(rt; refusal(rt.alloc(), expression.as_str()), answer, "{text}");
-        }
-        Ok(())
-    }
-
-    #[test]
-    fn nested_branches(rt: HostRuntime) -> Result<(), Fail> {
-        for (opening, closing, len) in [("{", "}", 386), ("<", ">", 514)] {
-            let expression = nested(rt.alloc(), opening, closing)?;
-            assert_eq!(rt; length(rt.alloc(), expression.as_str()), Some(len));
-            assert_eq!(rt; is_meant(rt.alloc(), expression.as_str(), "a"), Some(true));
-        }
-        Ok(())
-    }
-
-    #[test]
-    fn nested_repetitions(rt: HostRuntime) -> Result<(), Fail> {
-        let expression = nested(rt.alloc(), "<", ">")?;
-        let (answer, visits) = visits(rt.alloc(), expression.as_str(), 1_000).ok_or("refused")?;
-        assert!(rt; answer);
-        assert!(rt; 1_000 <= visits && visits <= 514_514, "{visits} visits");
-        Ok(())
-    }
-
-    #[test]
-    fn one_word_of_instructions_and_one_more(rt: HostRuntime) -> Result<(), Fail> {
-        for (count, most) in [(63, 4_096), (64, 4_225)] {
-            let letters = repeated(rt.alloc(), "a", count)?;
-            assert_eq!(rt; length(rt.alloc(), letters.as_str()), Some(count + 1));
-            let found = visits(rt.alloc(), letters.as_str(), count);
-            assert!(rt;
-                found.is_some_and(|found| found.0 && found.1 <= most),
-                "{count} letters"
-            );
-        }
-        Ok(())
-    }
-
-    #[test]
-    fn other_counts_of_letters(rt: HostRuntime) -> Result<(), Fail> {
-        for (count, other) in [(63, 62), (63, 64), (64, 63), (64, 65)] {
-            let letters = repeated(rt.alloc(), "a", count)?;
-            let found = visits(rt.alloc(), letters.as_str(), other);
-            assert!(rt; found.is_some_and(|found| !found.0), "{count} letters");
-        }
-        Ok(())
-    }
+    Ok(())
 }

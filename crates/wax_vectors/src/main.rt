@@ -1,12 +1,17 @@
-//! Compares this library with answers of the Rust crate wax 0.7.0 and with worked examples. For each file
-//! of rows it prints the rows whose answer is another here, and how many are the same.
+//! Compares this library with answers of the Rust crate wax 0.7.0 and with worked examples. It prints each
+//! row that comes to something else here, with both values, and how many rows are the same.
 #![tactic(auto)]
 
 mod costs;
+mod places;
+mod programs;
+mod report;
 mod rows;
 mod worked;
 
-use rows::{Kind, Tally, is_same};
+use report::Report;
+use rows::{Kind, compared};
+use std::io::Print;
 use std::{fs, io};
 
 fn main(rt: HostRuntime) -> io::Result<()> {
@@ -18,15 +23,16 @@ fn main(rt: HostRuntime) -> io::Result<()> {
         ("match.tsv", Kind::Match),
     ] {
         let rows = fs::read_to_string(&rt, name)?;
-        let mut tally = Tally::new();
-        for row in rows.lines() {
-            let is_same = is_same(rt.alloc(), kind, row);
-            if !is_same {
-                println!(rt; "{row}")?;
-            }
-            tally.add(is_same);
-        }
-        println!(rt; "{name}: {tally}")?;
+        show(&rt, name, &compared(rt.alloc(), kind, rows.as_str())?)?;
     }
-    Ok(())
+    show(&rt, "worked", &worked::report(rt.alloc())?)?;
+    show(&rt, "places", &places::report(rt.alloc())?)?;
+    show(&rt, "programs", &programs::report(rt.alloc())?)?;
+    show(&rt, "costs", &costs::report(rt.alloc())?)
+}
+
+/// Prints the rows that are other, and how many are the same.
+fn show(rt: &impl Print, name: &str, report: &Report) -> io::Result<()> {
+    let lines = report.lines();
+    println!(rt; "{lines}{name}: {report}")
 }

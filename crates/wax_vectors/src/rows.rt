@@ -1,39 +1,10 @@
 //! Rows of answers: an expression, with a path or alone, and what the Rust crate answers.
 
+use crate::report::Report;
 use std::alloc::{AllocError, Global};
-use std::fmt;
-use wax::diagnostics::{CompositeSpan, LocatedError};
+use wax::diagnostics::{LocatedError, Span};
 use wax::rule::RuleErrorKind;
 use wax::{BuildError, CandidatePath, Glob, NoMemory, Program};
-
-/// How many rows have the same answer here, and how many another.
-#[derive(Drop)]
-pub struct Tally {
-    same: u64,
-    other: u64,
-}
-
-impl Tally {
-    pub fn new() -> Tally {
-        Tally { same: 0, other: 0 }
-    }
-
-    pub fn add(&mut self, is_same: bool) {
-        if is_same {
-            self.same = self.same.saturating_add(1);
-        } else {
-            self.other = self.other.saturating_add(1);
-        }
-    }
-}
-
-impl fmt::Display for Tally {
-    fn fmt<W: fmt::Write>(&self, f: &mut fmt::Formatter<W>) -> fmt::Result {
-        let same = self.same;
-        let other = self.other;
-        write!(f, "{same} the same, {other} other")
-    }
-}
 
 /// What the rows of a file tell.
 #[derive(Clone, Copy)]
@@ -46,17 +17,18 @@ pub enum Kind {
     Match,
 }
 
-/// Whether the row, made anew, is that of the file.
-pub fn is_same(alloc: Global, kind: Kind, row: &str) -> bool {
-    let made = match kind {
-        Kind::Accept => accept_row(alloc, row),
-        Kind::Labels => labels_row(alloc, row),
-        Kind::Match => match_row(alloc, row),
-    };
-    match made {
-        Ok(made) => made.as_str() == row,
-        Err(_) => false,
+/// Each row of a file, made anew.
+pub fn compared(alloc: Global, kind: Kind, rows: &str) -> Result<Report, AllocError> {
+    let mut report = Report::new(alloc);
+    for row in rows.lines() {
+        let made = match kind {
+            Kind::Accept => accept_row(alloc, row),
+            Kind::Labels => labels_row(alloc, row),
+            Kind::Match => match_row(alloc, row),
+        };
+        report.compare_text(alloc, field(row, 0), made.ok(), row)?;
     }
+    Ok(report)
 }
 
 /// The field of a row at the index; no text where there is none.
@@ -126,15 +98,19 @@ fn labelled_row(alloc: Global, expression: &str, error: &BuildError) -> Result<S
     let mut row = format!(in alloc; "{expression}\t{number}")?;
     if let BuildError::Rule(broken) = error {
         for place in broken.locations() {
-            push_labels(alloc, &mut row, place)?;
+            push_labels(alloc, &mut row, place.labels(alloc)?)?;
         }
     }
     Ok(row)
 }
 
-/// Adds each label of a place, with its span.
-fn push_labels(alloc: Global, row: &mut String, place: &CompositeSpan) -> Result<(), NoMemory> {
-    for (label, span) in place.labels(alloc)? {
+/// Adds each label with its span.
+pub fn push_labels(
+    alloc: Global,
+    row: &mut String,
+    labels: Vec<(&'static str, Span)>,
+) -> Result<(), AllocError> {
+    for (label, span) in labels {
         let (start, len) = span;
         let field = format!(in alloc; "\t{label} {start} {len}")?;
         row.push_str(field.as_str())?;

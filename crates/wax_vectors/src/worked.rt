@@ -1,81 +1,102 @@
-//! Worked examples that no row can hold, as tests.
+//! Worked examples that no row of a file can hold.
 
-#[cfg(test)]
-mod tests {
-    use crate::rows::is_meant;
-    use std::alloc::Global;
-    use std::test::Fail;
-    use wax::diagnostics::{LocatedError, Span};
-    use wax::encode::CompileError;
-    use wax::{BuildError, CandidatePath, Glob, Program};
+use crate::report::Report;
+use crate::rows::is_meant;
+use std::alloc::{AllocError, Global};
+use wax::diagnostics::LocatedError;
+use wax::encode::CompileError;
+use wax::{BuildError, CandidatePath, Glob, Program};
 
-    #[test]
-    fn line_feeds_are_characters(rt: HostRuntime) {
-        for (expression, path) in [
-            ("a/**", "a/x\ny"),
-            ("a*b", "a\nb"),
-            ("a?b", "a\nb"),
-            ("a[!x]b", "a\nb"),
-        ] {
-            assert_eq!(rt;
-                is_meant(rt.alloc(), expression, path),
-                Some(true),
-                "{expression}"
-            );
-        }
+pub fn report(alloc: Global) -> Result<Report, AllocError> {
+    let mut report = Report::new(alloc);
+    compare_line_feeds(alloc, &mut report)?;
+    compare_places(alloc, &mut report)?;
+    compare_visits(alloc, &mut report)?;
+    compare_empty(alloc, &mut report)?;
+    let printed = printed(alloc, "a/*");
+    report.compare_text(alloc, "what a glob prints", printed, "a/*")?;
+    Ok(report)
+}
+
+/// Line feeds are characters.
+fn compare_line_feeds(alloc: Global, report: &mut Report) -> Result<(), AllocError> {
+    for (expression, path) in [
+        ("a/**", "a/x\ny"),
+        ("a*b", "a\nb"),
+        ("a?b", "a\nb"),
+        ("a[!x]b", "a\nb"),
+    ] {
+        report.compare(
+            alloc,
+            expression,
+            is_meant(alloc, expression, path),
+            Some(true),
+        )?;
     }
+    Ok(())
+}
 
-    /// What is printed of the place where the expression is refused, and its span; `None` where there is none.
-    fn place(alloc: Global, expression: &str) -> Option<(String, Span)> {
-        let location = Glob::new(alloc, expression).err()?.locations()?;
-        let text = location.to_string(alloc).ok()?;
-        Some((text, location.span()))
-    }
+/// What is printed of the place where the expression is refused, and its span; `None` where there is none.
+fn place(alloc: Global, expression: &str) -> Option<String> {
+    let location = Glob::new(alloc, expression).err()?.locations()?;
+    let (start, len) = location.span();
+    format!(in alloc; "{location} at {start} of {len}").ok()
+}
 
-    #[test]
-    fn refused_builds_tell_their_place(rt: HostRuntime) {
-        for (expression, text, span) in [
-            ("a//b", "here", (1, 2)),
-            ("\u{e9}//**/a", "here", (2, 5)),
-            ("***", "unexpected expression", (0, 1)),
-            ("a[b", "unexpected expression", (1, 1)),
-        ] {
-            let found = place(rt.alloc(), expression);
-            assert!(rt;
-                found.is_some_and(|found| found.0.as_str() == text && found.1 == span),
-                "{expression}"
-            );
-        }
+/// A refused build tells its place, unless it is refused for its size or memory.
+fn compare_places(alloc: Global, report: &mut Report) -> Result<(), AllocError> {
+    for (expression, wanted) in [
+        ("a//b", "here at 1 of 2"),
+        ("\u{e9}//**/a", "here at 2 of 5"),
+        ("***", "unexpected expression at 0 of 1"),
+        ("a[b", "unexpected expression at 1 of 1"),
+        ("金[", "unexpected expression at 3 of 1"),
+    ] {
+        report.compare_text(alloc, expression, place(alloc, expression), wanted)?;
     }
+    let memory = BuildError::Memory.locations().is_none();
+    report.compare(alloc, "no place of refused memory", memory, true)?;
+    let size = BuildError::Compile(CompileError).locations().is_none();
+    report.compare(alloc, "no place of a refused size", size, true)
+}
 
-    #[test]
-    fn other_refusals_have_no_place(rt: HostRuntime) {
-        assert!(rt; BuildError::Memory.locations().is_none());
-        assert!(rt; BuildError::Compile(CompileError).locations().is_none());
-    }
+/// The glob's answer on the path, and its visits; `None` where it doesn't build.
+fn visits(alloc: Global, expression: &str, path: &str) -> Option<(bool, u128)> {
+    let glob = Glob::new(alloc, expression).ok()?;
+    glob.is_match_counted(alloc, &CandidatePath::from(path))
+        .ok()
+}
 
-    #[test]
-    fn visits_stay_within_the_bound(rt: HostRuntime) -> Result<(), Fail> {
-        let glob = Glob::new(rt.alloc(), "a/**/b")?;
-        let path = CandidatePath::from("a/x/y/z/b");
-        let (answer, visits) = glob.is_match_counted(rt.alloc(), &path)?;
-        assert!(rt; answer);
-        assert!(rt; 9 <= visits && visits <= 90, "{visits} visits");
-        Ok(())
-    }
+fn compare_visits(alloc: Global, report: &mut Report) -> Result<(), AllocError> {
+    let made = visits(alloc, "a/**/b", "a/x/y/z/b");
+    report.compare(alloc, "a/**/b", made.map(|made| made.0), Some(true))?;
+    let ticks = made.map_or(0, |made| made.1);
+    report.compare_range(alloc, "visits of a/**/b", ticks, 9, 90)
+}
 
-    #[test]
-    fn glob_prints_its_expression(rt: HostRuntime) -> Result<(), Fail> {
-        let glob = Glob::new(rt.alloc(), "a/*")?;
-        assert_eq!(rt; glob.to_string(rt.alloc())?.as_str(), "a/*");
-        Ok(())
-    }
+/// Whether the empty glob means the path; `None` where memory is refused.
+fn is_meant_by_empty(alloc: Global, path: &str) -> Option<bool> {
+    let empty = Glob::empty(alloc).ok()?;
+    empty.is_match(alloc, &CandidatePath::from(path)).ok()
+}
 
-    #[test]
-    fn empty_glob_means_no_character(rt: HostRuntime) -> Result<(), Fail> {
-        let empty = Glob::empty(rt.alloc())?;
-        assert!(rt; empty.is_match(rt.alloc(), &CandidatePath::from(""))?);
-        assert!(rt; !empty.is_match(rt.alloc(), &CandidatePath::from("a"))?);
-        Ok(())
-    }
+fn compare_empty(alloc: Global, report: &mut Report) -> Result<(), AllocError> {
+    report.compare(
+        alloc,
+        "the empty glob on nothing",
+        is_meant_by_empty(alloc, ""),
+        Some(true),
+    )?;
+    report.compare(
+        alloc,
+        "the empty glob on a",
+        is_meant_by_empty(alloc, "a"),
+        Some(false),
+    )
+}
+
+/// What the expression's glob prints; `None` where it doesn't build.
+fn printed(alloc: Global, expression: &str) -> Option<String> {
+    let glob = Glob::new(alloc, expression).ok()?;
+    glob.to_string(alloc).ok()
 }
