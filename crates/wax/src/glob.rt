@@ -1,6 +1,7 @@
 //! A glob: an expression with its tokens and its program.
 ghost use Rattle.std.specs.Prelude.{◌≡◌, ◌≤◌, ◌↔◌, ◌+◌, ◌*◌, [], ℕ, List, IsTrue, IfOk, Some, chars, encode_utf8_all, length, false};
 ghost use Rattle.wax_token.specs.Cost.{program_length};
+ghost use Rattle.wax_token.specs.Decided.{means_test, means_tested};
 ghost use Rattle.wax.specs.GlobView.{IsMeant};
 
 use crate::build_error::{BuildError, rule_refused};
@@ -8,7 +9,7 @@ use crate::edges::can_be_meant;
 use std::alloc::Global;
 use std::fmt;
 use std::marker::Model;
-use wax_lines::{CandidatePath, Program};
+use wax_candidate::{CandidatePath, Program};
 use wax_match::encode;
 use wax_match::encode::Meter;
 use wax_parse::parse::parse;
@@ -89,7 +90,11 @@ impl fmt::Display for Glob<'_> {
 impl Program for Glob<'_> {
     ghost means = { IsMeant };
 
+    ghost decides = { λ glob. means_test glob.tree false false };
+
     ghost program_length = { λ glob. program_length glob.tree };
+
+    ghost is_decided = { λ glob. means_tested glob.tree false false };
 
     fn is_match_counted(
         &self,

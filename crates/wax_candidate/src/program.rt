@@ -1,5 +1,5 @@
 //! What can be matched against a path.
-ghost use Rattle.std.specs.Prelude.{◌↔◌, ◌≤◌, ◌+◌, ◌*◌, ℕ, List, IsTrue, IfOk, length};
+ghost use Rattle.std.specs.Prelude.{◌≡◌, ◌↔◌, ◌≤◌, ◌+◌, ◌*◌, ℕ, Bool, List, IsTrue, IfOk, length};
 
 use crate::candidate::CandidatePath;
 use std::alloc::Global;
@@ -9,6 +9,9 @@ use wax_query::diagnostics::NoMemory;
 pub trait Program {
     // The texts that it means, each as its characters.
     ghost means: { Self → List ℕ → Type 0 };
+
+    // Whether it means them.
+    ghost decides: { Self → List ℕ → Bool };
 
     // How many instructions it may have.
     ghost program_length: { Self → ℕ };
@@ -27,9 +30,13 @@ pub trait Program {
 
     /// Whether the path's whole text is meant. Refused with 10 where memory was.
     fn is_match(&self, alloc: Global, path: &CandidatePath<'_>) -> Result<bool, NoMemory>
-        ensures { IfOk result (λ answer. IsTrue answer ↔ means self.now path.now) }
+        ensures means { IfOk result (λ answer. IsTrue answer ↔ means self.now path.now) }
+        ensures decides { IfOk result (λ answer. answer ≡ decides self.now path.now) }
     {
         let (answer, _) = self.is_match_counted(alloc, path)?;
         Ok(answer)
     }
+
+    // What it decides is what it means.
+    ghost is_decided: { (program : Self) (text : List ℕ) → IsTrue (decides program text) ↔ means program text };
 }

@@ -1,12 +1,13 @@
+//! Lines that are filtered by a program that is no glob.
 ghost use Rattle.std.specs.Prelude.{◌≡◌, ◌==◌, nat_eq, true, codes, encode_utf8_all};
 ghost use Rattle.std.specs.List.{ends_with};
 
-use crate::{CandidatePath, Counted, LinesError, Program, filter_lines};
+use super::streams::{Asked, Narrow, Slow};
 use std::alloc::Global;
-use std::io;
+use std::convert::AsStr;
 use std::io::{Read, Write};
 use std::test::*;
-use wax_query::diagnostics::NoMemory;
+use wax::{CandidatePath, Counted, LinesError, NoMemory, Program, filter_lines};
 
 const NAMES: &[u8] = b"logo.png\nlogo.svg\na/b.png\nx.png";
 
@@ -16,7 +17,11 @@ struct Pictures;
 impl Program for Pictures {
     ghost means = { λ _ text. ends_with nat_eq (encode_utf8_all text) (codes ".png") ≡ true };
 
+    ghost decides = { λ _ text. ends_with nat_eq (encode_utf8_all text) (codes ".png") };
+
     ghost program_length = { λ _. 1 };
+
+    ghost is_decided = { λ _ text. (λ h. h, λ h. h) };
 
     fn is_match_counted(
         &self,
@@ -29,62 +34,21 @@ impl Program for Pictures {
     }
 }
 
-// Hands over one byte at a time, and fails where `left` reads were made.
-#[derive(Drop)]
-struct Slow<'a> {
-    bytes: &'a [u8],
-    left: u64,
-}
-
-impl Read for Slow<'_> {
-    fn read(&mut self, buf: &mut [u8]) -> io::Result<usize> {
-        if self.left == 0 {
-            return Err(io::Error::from(io::ErrorKind::BrokenPipe));
-        }
-        self.left -= 1;
-        match (self.bytes.split_first(), buf.first_mut()) {
-            (Some((byte, rest)), Some(place)) => {
-                *place = *byte;
-                self.bytes = rest;
-                Ok(1)
-            }
-            _ => Ok(0),
-        }
-    }
-}
-
-// Takes `room` bytes and then fails, or takes nothing.
-#[derive(Drop)]
-struct Narrow {
-    taken: Vec<u8>,
-    room: usize,
-    fails: bool,
-}
-
-impl Write for Narrow {
-    fn write(&mut self, buf: &[u8]) -> io::Result<usize> {
-        let count = self.room.min(buf.len());
-        if count < buf.len().min(1) && self.fails {
-            return Err(io::Error::from(io::ErrorKind::BrokenPipe));
-        }
-        self.taken.extend_from_slice(&buf[..count])?;
-        self.room -= count;
-        Ok(count)
-    }
-
-    fn flush(&mut self) -> io::Result<()> {
-        Err(io::Error::from(io::ErrorKind::BrokenPipe))
-    }
-}
-
 #[test]
 fn candidates_print_their_text(rt: HostRuntime) -> Result<(), Fail> {
     let path = CandidatePath::from("a/金.png");
     assert_eq!(rt; path.as_str(), "a/金.png");
     assert_eq!(rt; path.to_string(rt.alloc())?.as_str(), "a/金.png");
+    assert_eq!(rt; AsStr::as_str(&path), "a/金.png");
+    assert_eq!(rt;
+        format!(in rt.alloc(); "{path:?}")?.as_str(),
+        "CandidatePath { text: \"a/金.png\" }"
+    );
     assert!(rt; Pictures.is_match(rt.alloc(), &path)?);
     assert_eq!(rt; Pictures.is_match_counted(rt.alloc(), &path)?, (true, 7));
     assert!(rt; !Pictures.is_match(rt.alloc(), &CandidatePath::from("png"))?);
+    let owned = path.into_owned(rt.alloc())?;
+    assert_eq!(rt; owned.as_str(), "a/金.png");
     Ok(())
 }
 
@@ -186,5 +150,27 @@ fn errors_tell_what_went_wrong(rt: HostRuntime) -> Result<(), Fail> {
     for (error, want) in texts {
         assert_eq!(rt; error.to_string(rt.alloc())?.as_str(), want);
     }
+    Ok(())
+}
+
+#[test]
+fn each_call_is_handed_on_once(rt: HostRuntime) -> Result<(), Fail> {
+    let mut counted = Counted::new(Asked {
+        reads: 0,
+        writes: 0,
+        flushes: 0,
+    });
+    counted.read(&mut [0; 4])?;
+    counted.write(b"ab")?;
+    counted.write(b"c")?;
+    for _ in 0..3 {
+        counted.flush()?;
+    }
+    assert_eq!(rt; counted.calls(), 6);
+    assert_eq!(rt; counted.failures(), 0);
+    let asked = counted.into_inner();
+    assert_eq!(rt; asked.reads, 1);
+    assert_eq!(rt; asked.writes, 2);
+    assert_eq!(rt; asked.flushes, 3);
     Ok(())
 }
