@@ -1,14 +1,9 @@
 //! Globs: path expressions that are read, checked, compiled and matched.
 #![tactic(auto)]
 
-mod any_case;
-mod beginnings;
 mod build_error;
-mod edges;
-mod endings;
 mod glob;
 mod location;
-mod needles;
 
 pub use build_error::BuildError;
 pub use glob::Glob;
