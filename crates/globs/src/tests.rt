@@ -1,8 +1,14 @@
+//! What `run_globs` does, and how words are read.
+
+mod lines;
+mod streams;
+
 use crate::{run_globs, words};
 use std::alloc::{AllocError, Global};
 use std::env::FillError;
 use std::rt::Env;
 use std::test::*;
+use streams::{Narrow, Slow};
 use wax::Counted;
 
 const USAGE: &[u8] = b"usage: globs match EXPR
@@ -140,6 +146,92 @@ fn refused_builds_print_their_reason(rt: HostRuntime) -> Result<(), Fail> {
         assert_eq!(rt; input.calls(), 0);
         let line = format!(in rt.alloc(); "globs: {text}\n")?;
         assert_eq!(rt; faults.as_slice(), line.as_bytes());
+    }
+    Ok(())
+}
+
+// A writer that fails after so many bytes.
+fn failing_after(alloc: Global, room: usize) -> Narrow {
+    Narrow {
+        taken: Vec::new(alloc),
+        room,
+        fails: true,
+    }
+}
+
+#[test]
+fn lines_that_are_not_text_are_counted(rt: HostRuntime) -> Result<(), Fail> {
+    let cases: [(&[u8], &[u8], u8, &[u8]); 3] = [
+        (b"a\nb.c\n", b"a\n", 0, b""),
+        (b"\xff\na\n", b"a\n", 1, b"globs: 1 lines are not text\n"),
+        (
+            b"\xff\na\nb\xc3\n\xed\xa0\x80",
+            b"a\n",
+            1,
+            b"globs: 3 lines are not text\n",
+        ),
+    ];
+    let words = words_of(rt.alloc(), &["match", "?"])?;
+    for (bytes, want, want_status, told) in cases {
+        let mut input = Counted::new(bytes);
+        let mut output = Counted::new(Vec::new(rt.alloc()));
+        let mut faults = Vec::new(rt.alloc());
+        let status = run_globs(rt.alloc(), &words, &mut input, &mut output, &mut faults);
+        assert_eq!(rt; status, want_status);
+        assert_eq!(rt; output.into_inner().as_slice(), want);
+        assert_eq!(rt; faults.as_slice(), told);
+    }
+    Ok(())
+}
+
+#[test]
+fn a_failed_read_is_told_after_the_lines_before(rt: HostRuntime) -> Result<(), Fail> {
+    let words = words_of(rt.alloc(), &["match", "*.png"])?;
+    let mut input = Counted::new(Slow {
+        bytes: b"\xff\na.png\nb.png\n",
+        left: 11,
+    });
+    let mut output = Counted::new(Vec::new(rt.alloc()));
+    let mut faults = Vec::new(rt.alloc());
+    let status = run_globs(rt.alloc(), &words, &mut input, &mut output, &mut faults);
+    assert_eq!(rt; status, 1);
+    assert_eq!(rt; output.into_inner().as_slice(), b"a.png\n".as_slice());
+    assert_eq!(rt; faults.as_slice(), b"globs: read failed\n".as_slice());
+    Ok(())
+}
+
+#[test]
+fn a_failed_write_is_told(rt: HostRuntime) -> Result<(), Fail> {
+    let words = words_of(rt.alloc(), &["match", "*.png"])?;
+    let mut input = Counted::new(b"\xff\na.png\nb.png\n".as_slice());
+    let mut output = Counted::new(failing_after(rt.alloc(), 7));
+    let mut faults = Vec::new(rt.alloc());
+    let status = run_globs(rt.alloc(), &words, &mut input, &mut output, &mut faults);
+    assert_eq!(rt; status, 1);
+    assert_eq!(rt;
+        output.into_inner().taken.as_slice(),
+        b"a.png\nb".as_slice()
+    );
+    assert_eq!(rt; faults.as_slice(), b"globs: write failed\n".as_slice());
+    Ok(())
+}
+
+#[test]
+fn untold_faults_change_nothing_else(rt: HostRuntime) -> Result<(), Fail> {
+    let cases: [(&[&str], &[u8], u8); 3] = [
+        (&["match"], b"", 2),
+        (&["match", "{"], b"", 1),
+        (&["match", "?"], b"a\n", 1),
+    ];
+    for (texts, want, want_status) in cases {
+        let words = words_of(rt.alloc(), texts)?;
+        let mut input = Counted::new(b"\xff\na\n".as_slice());
+        let mut output = Counted::new(Vec::new(rt.alloc()));
+        let mut faults = failing_after(rt.alloc(), 0);
+        let status = run_globs(rt.alloc(), &words, &mut input, &mut output, &mut faults);
+        assert_eq!(rt; status, want_status);
+        assert_eq!(rt; output.into_inner().as_slice(), want);
+        assert_eq!(rt; faults.taken.len(), 0);
     }
     Ok(())
 }

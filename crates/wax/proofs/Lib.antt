@@ -1,4 +1,1 @@
-pub mod AnyCase
 pub mod Whole
-pub mod MeantEdges
-pub mod MeantPieces

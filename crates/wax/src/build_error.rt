@@ -5,7 +5,7 @@ use std::alloc::Global;
 use thiserror::Error;
 use wax_match::encode::CompileError;
 use wax_parse::parse::ParseError;
-use wax_query::diagnostics::Refusal;
+use wax_query::diagnostics::{NoMemory, Refusal};
 use wax_rule::rule::RuleError;
 
 /// Why a glob is not built.
@@ -50,6 +50,17 @@ impl From<Refusal<CompileError>> for BuildError {
             Refusal::Refused(error) => BuildError::Compile(error),
             Refusal::Memory => BuildError::Memory,
         }
+    }
+}
+
+impl From<NoMemory> for BuildError {
+    ghost use Rattle.std.specs.Prelude.{◌≡◌};
+    ghost use Rattle.wax.specs.declared.build_error.BuildError.TheVariants.{Memory};
+
+    ghost from_gives = { λ _ error. error ≡ Memory };
+
+    fn from(_: NoMemory) -> Self {
+        BuildError::Memory
     }
 }
 

@@ -1,17 +1,19 @@
 //! A glob: an expression with its tokens and its program.
-ghost use Rattle.std.specs.Prelude.{◌≡◌, ◌≤◌, ◌↔◌, ◌+◌, ◌*◌, [], ℕ, List, IsTrue, IfOk, Some, chars, encode_utf8_all, length, false};
+ghost use Rattle.std.specs.Prelude.{◌≡◌, ◌≤◌, ◌↔◌, ◌+◌, ◌*◌, [], ℕ, List, IsTrue, IfOk, Some};
+ghost use Rattle.std.specs.Prelude.{chars, encode_utf8_all, length, false};
 ghost use Rattle.wax_token.specs.Cost.{program_length};
+ghost use Rattle.wax_token.specs.Decided.{means_test, means_tested};
 ghost use Rattle.wax.specs.GlobView.{IsMeant};
 
 use crate::build_error::{BuildError, rule_refused};
-use crate::edges::can_be_meant;
 use std::alloc::Global;
 use std::fmt;
 use std::marker::Model;
-use wax_lines::{CandidatePath, Program};
+use wax_candidate::{CandidatePath, Program};
 use wax_match::encode;
 use wax_match::encode::Meter;
 use wax_parse::parse::parse;
+use wax_prefilter::Prefilter;
 use wax_query::diagnostics::NoMemory;
 use wax_rule::rule::check;
 use wax_token::token::{ExpressionMetadata, Tokenized};
@@ -21,6 +23,7 @@ use wax_token::token::{ExpressionMetadata, Tokenized};
 pub struct Glob<'t> {
     tokenized: Tokenized<'t, ExpressionMetadata>,
     program: encode::Program,
+    prefilter: Prefilter,
 }
 
 impl<'t> Model for Glob<'t> {
@@ -32,9 +35,12 @@ impl<'t> Model for Glob<'t> {
 
     ghost coded = { glob_code };
 
-    ghost view = { λ g. record { expression = chars (cow_str_bytes g.tokenized.expression); tree = g.tokenized.token } };
+    ghost view = { λ g. record {
+        expression = chars (cow_str_bytes g.tokenized.expression);
+        tree = g.tokenized.token
+    } };
 
-    ghost invariant = { λ g. IsCompiled g.tokenized.token g.program };
+    ghost invariant = { λ g. IsCompiled g.tokenized.token g.program g.prefilter };
 }
 
 impl<'t> Glob<'t> {
@@ -51,8 +57,14 @@ impl<'t> Glob<'t> {
             Ok(checked) => checked.release(),
             Err(refusal) => return Err(rule_refused(alloc, refusal)),
         };
-        let program = encode::compile(alloc, tokenized.token.concatenation(), false, false)?;
-        Ok(Glob { tokenized, program })
+        let tokens = tokenized.token.concatenation();
+        let program = encode::compile(alloc, tokens, false, false)?;
+        let prefilter = Prefilter::new(alloc, tokens)?;
+        Ok(Glob {
+            tokenized,
+            program,
+            prefilter,
+        })
     }
 
     /// The expression that it was built from.
@@ -89,16 +101,19 @@ impl fmt::Display for Glob<'_> {
 impl Program for Glob<'_> {
     ghost means = { IsMeant };
 
+    ghost decides = { λ glob. means_test glob.tree false false };
+
     ghost program_length = { λ glob. program_length glob.tree };
+
+    ghost is_decided = { λ glob. means_tested glob.tree false false };
 
     fn is_match_counted(
         &self,
         alloc: Global,
         path: &CandidatePath<'_>,
     ) -> Result<(bool, u128), NoMemory> {
-        let tokens = self.tokenized.token.concatenation();
         let text = path.as_str();
-        if !can_be_meant(tokens, text) {
+        if !self.prefilter.may_match(text) {
             return Ok((false, 0));
         }
         let mut meter = Meter::new();

@@ -1,19 +1,15 @@
 //! Globs: path expressions that are read, checked, compiled and matched.
 #![tactic(auto)]
 
-mod any_case;
-mod beginnings;
 mod build_error;
-mod edges;
-mod endings;
 mod glob;
 mod location;
-mod needles;
 
 pub use build_error::BuildError;
 pub use glob::Glob;
 pub use location::ErrorLocation;
-pub use wax_lines::{CandidatePath, Counted, LinesError, Program, filter_lines};
+pub use wax_candidate::{CandidatePath, Program};
+pub use wax_lines::{Counted, LinesError, filter_lines};
 pub use wax_match::encode;
 pub use wax_parse::parse;
 pub use wax_query::diagnostics;

@@ -1,14 +1,14 @@
 -- How far a run of the filter has come after each step.
-use Rattle.std.proofs.Common.{◌≡◌, ℕ, List, [], ◌∷◌, ◌++◌, Option, Result, Ok, Err, OnOk, IfErr, refl, sym, ◌∙◌, ap, subst, append_assoc, append-nil}
+use Rattle.std.proofs.Common.{◌≡◌, ◌≤◌, ℕ, true, false, List, [], ◌∷◌, ◌++◌, length, Option, Result, Ok, Err, OnOk, IfErr}
+use Rattle.std.proofs.Common.{refl, sym, ◌∙◌, ap, subst, append_assoc, append-nil, arith, length-append}
 use Rattle.std.specs.Io.KnownBytes.{Consumes, Appends, IsAtEnd, Keeps}
 use Rattle.std.proofs.KnownBytes.{Consumes-nil, Consumes-trans, Consumes-kept, Appends-nil, Appends-trans}
 use Rattle.wax_lines.specs.declared.lines.LinesError.{LinesError}
 use Rattle.wax_lines.specs.declared.lines.LinesError.TheVariants.{Read, Write, Memory}
 use Rattle.wax_lines.specs.declared.lines.sieve.Sieve.{Sieve}
-use Rattle.wax_lines.specs.Sifted.{joined}
-use Rattle.wax_lines.specs.Lines.{lines, Filters, Filtered, StoppedReading, StoppedWriting, StoppedShort, Stopped}
+use Rattle.wax_lines.specs.Lines.{lines, whole_lines, Filters, Filtered, StoppedReading, StoppedWriting, StoppedShort, Stopped}
 use Rattle.wax_lines.specs.Progress.{SieveSifted, TakesIn, TakesInPart, TakesLast, WritesPart, Came, CameShort, Finished, Halted}
-use Rattle.wax_lines.proofs.Sifting.{sifted_nothing, sifted_written, sifted_whole, sifted_front}
+use Rattle.wax_lines.proofs.Sifting.{sifted_nothing, sifted_written, sifted_whole}
 
 module _ (Means : List ℕ → Type 0) where
   -- nothing has happened yet
@@ -29,10 +29,12 @@ module _ (Means : List ℕ → Type 0) where
 
   -- a chunk was read, and a beginning of it taken in
   pub Came-part : (left mid left' held held' : Option (List ℕ)) (old new : Sieve) (chunk : List ℕ)
+      → length chunk ≤ 65536
       → Came Means left mid held held' old → Consumes mid left' chunk → TakesInPart Means chunk old new → CameShort Means left left' held held' new
-  Came-part left mid left' held held' old new chunk h read (front, rest, splits, takes) = record {
+  Came-part left mid left' held held' old new chunk few h read (front, rest, splits, takes) = record {
     front = h.taken ++ front;
     rest = rest;
+    of_one_read = omega (arith, ap length splits, length-append front rest);
     written = h.written;
     reads = subst (Consumes left left') (ap (λ z. h.taken ++ z) splits ∙ sym (append_assoc h.taken front rest)) (Consumes-trans _ _ _ _ _ h.reads read);
     writes = h.writes;
@@ -66,16 +68,18 @@ module _ (Means : List ℕ → Type 0) where
   pub Short-writing : (left left' held mid held' : Option (List ℕ)) (s : Sieve)
       → CameShort Means left left' held mid s → WritesPart mid held' s.kept.bytes.items → StoppedWriting Means left left' held held'
   Short-writing left left' held mid held' s h w = record {
-    front = joined h.sifted.whole;
-    rest = s.carry.items ++ h.rest;
+    has_ended = false;
+    front = h.front;
+    rest = h.rest;
     out = h.written ++ w.front;
     unwritten = w.rest;
     bad = h.sifted.bad;
-    reads = subst (Consumes left left') (ap (λ z. z ++ h.rest) h.sifted.splits ∙ append_assoc (joined h.sifted.whole) s.carry.items h.rest) h.reads;
+    reads = h.reads;
+    ends = λ e. (cc);
     writes = Appends-trans _ _ _ _ _ h.writes w.writes;
-    filters = subst (λ z. Filters Means (lines (joined h.sifted.whole)) z h.sifted.bad)
+    filters = subst (λ z. Filters Means (whole_lines h.front) z h.sifted.bad)
         (ap (λ z. h.written ++ z) w.splits ∙ sym (append_assoc h.written w.front w.rest))
-        (sifted_front Means h.front h.written s.carry.items s.kept.bytes.items s.kept.not_text h.sifted);
+        (sifted_whole Means h.front h.written s.carry.items s.kept.bytes.items s.kept.not_text h.sifted);
   }
 
   -- all that was read was taken in, so a beginning was
@@ -83,6 +87,7 @@ module _ (Means : List ℕ → Type 0) where
   came_short left left' held held' s h = record {
     front = h.taken;
     rest = [];
+    of_one_read = omega arith;
     written = h.written;
     reads = subst (Consumes left left') (sym (append-nil h.taken)) h.reads;
     writes = h.writes;
@@ -118,12 +123,14 @@ module _ (Means : List ℕ → Type 0) where
   pub Finished-writing : (left left' held mid held' : Option (List ℕ)) (s : Sieve)
       → Finished Means left left' held mid s → WritesPart mid held' s.kept.bytes.items → StoppedWriting Means left left' held held'
   Finished-writing left left' held mid held' s h w = record {
+    has_ended = true;
     front = h.taken;
     rest = [];
     out = h.written ++ w.front;
     unwritten = w.rest;
     bad = h.sifted.bad;
     reads = subst (Consumes left left') (sym (append-nil h.taken)) h.reads;
+    ends = λ _. (h.ends, refl);
     writes = Appends-trans _ _ _ _ _ h.writes w.writes;
     filters = subst (λ z. Filters Means (lines h.taken) z h.sifted.bad)
         (ap (λ z. h.written ++ z) w.splits ∙ sym (append_assoc h.written w.front w.rest)) h.sifted.filters;
@@ -147,6 +154,7 @@ module _ (Means : List ℕ → Type 0) where
   Short-stopped left left' held mid held' s h written = record {
     front = h.front;
     rest = h.rest;
+    of_one_read = h.of_one_read;
     out = h.written ++ s.kept.bytes.items;
     bad = h.sifted.bad;
     reads = h.reads;
@@ -159,6 +167,7 @@ module _ (Means : List ℕ → Type 0) where
   stopped_at_once left held = record {
     front = [];
     rest = [];
+    of_one_read = omega arith;
     out = [];
     bad = 0;
     reads = Consumes-nil left;
@@ -170,12 +179,14 @@ module _ (Means : List ℕ → Type 0) where
   still_writing : (left left' held mid held' : Option (List ℕ)) (more : List ℕ)
       → StoppedWriting Means left left' held mid → more ≡ [] → Appends mid held' more → StoppedWriting Means left left' held held'
   still_writing left left' held mid held' more h nil w = record {
+    has_ended = h.has_ended;
     front = h.front;
     rest = h.rest;
     out = h.out;
     unwritten = h.unwritten;
     bad = h.bad;
     reads = h.reads;
+    ends = h.ends;
     writes = subst (Appends held held') (ap (λ z. h.out ++ z) nil ∙ append-nil h.out) (Appends-trans _ _ _ _ _ h.writes w);
     filters = h.filters;
   }

@@ -53,11 +53,6 @@ module _ (Means : List ℕ → Type 0) (taken written carry waiting : List ℕ) 
   sifted_whole = subst (λ z. Filters Means z (written ++ waiting) h.bad)
       (sym (ap whole_lines h.splits ∙ whole_lines_joined h.whole carry h.are_lines h.is_open)) h.filters
 
-  -- the lines of a beginning of what was taken
-  pub sifted_front : Filters Means (lines (joined h.whole)) (written ++ waiting) h.bad
-  sifted_front = subst (λ z. Filters Means z (written ++ waiting) h.bad)
-      (sym (ap lines (sym (append-nil (joined h.whole))) ∙ lines_joined h.whole [] h.are_lines ∙ append-nil h.whole)) h.filters
-
 -- the start
 pub sifted_nothing : (Means : List ℕ → Type 0) → Sifted Means [] [] [] [] 0
 sifted_nothing Means = record {

@@ -1,5 +1,6 @@
 -- The lines of an input, and what a filter of lines writes.
-use Rattle.std.specs.Prelude.{◌≡◌, ℕ, ◌+◌, ◌==◌, if◌then◌else◌, List, [], ◌∷◌, ◌++◌, Option, IsUtf8, chars}
+use Rattle.std.specs.Prelude.{◌≡◌, ◌≤◌, ℕ, ◌+◌, ◌==◌, Bool, true, false, IsTrue, if◌then◌else◌}
+use Rattle.std.specs.Prelude.{List, [], ◌∷◌, ◌++◌, length, Option, IsUtf8, chars}
 use Rattle.std.specs.Io.KnownBytes.{Consumes, Appends, IsAtEnd}
 use Rattle.std.specs.Io.Iter.{u64_saturate}
 use Rattle.wax_lines.specs.declared.lines.LinesError.{LinesError}
@@ -24,6 +25,11 @@ onto_whole b (line ∷ rest) = (b ∷ line) ∷ rest
 abbrev pub whole_lines : List ℕ → List (List ℕ)
 whole_lines [] = []
 whole_lines (b ∷ bs) = if b == 10 then [] ∷ whole_lines bs else onto_whole b (whole_lines bs)
+
+-- the lines that are complete: a last piece without a line feed is one at the end of the input
+abbrev pub complete_lines : Bool → List ℕ → List (List ℕ)
+complete_lines true taken = lines taken
+complete_lines false taken = whole_lines taken
 
 -- what one line gives: the bytes that are written, and 1 where it is no text
 pub data Gives (Means : List ℕ → Type 0) (line out : List ℕ) (bad : ℕ) : Type 0 where
@@ -58,24 +64,28 @@ pub record StoppedReading (Means : List ℕ → Type 0) (left left' held held' :
   pub writes : Appends held held' out
   pub filters : Filters Means (whole_lines taken) out bad
 
--- a beginning was written of what the lines of a beginning of the read bytes give
+-- A beginning was written of what the complete lines give of a beginning of the bytes that were read: of all bytes,
+-- where the end of the input is reached.
 pub record StoppedWriting (Means : List ℕ → Type 0) (left left' held held' : Option (List ℕ)) : Type 0 where
+  pub has_ended : Bool
   pub front : List ℕ
   pub rest : List ℕ
   pub out : List ℕ
   pub unwritten : List ℕ
   pub bad : ℕ
   pub reads : Consumes left left' (front ++ rest)
+  pub ends : IsTrue has_ended → IsAtEnd left' × (rest ≡ [])
   pub writes : Appends held held' out
-  pub filters : Filters Means (lines front) (out ++ unwritten) bad
+  pub filters : Filters Means (complete_lines has_ended front) (out ++ unwritten) bad
 
--- what the whole lines of a beginning of the read bytes give was written
+-- What the whole lines give was written, of all bytes that were read but a rest, which is of the last read.
 pub record StoppedShort (Means : List ℕ → Type 0) (left left' held held' : Option (List ℕ)) : Type 0 where
   pub front : List ℕ
   pub rest : List ℕ
   pub out : List ℕ
   pub bad : ℕ
   pub reads : Consumes left left' (front ++ rest)
+  pub of_one_read : length rest ≤ 65536
   pub writes : Appends held held' out
   pub filters : Filters Means (whole_lines front) out bad
 

@@ -1,5 +1,5 @@
 -- How far a filter of lines has come. Only private functions cite this file.
-use Rattle.std.specs.Prelude.{◌≡◌, ℕ, List, [], ◌++◌, Option}
+use Rattle.std.specs.Prelude.{◌≡◌, ◌≤◌, ℕ, List, [], ◌++◌, length, Option}
 use Rattle.std.specs.Io.KnownBytes.{Consumes, Appends, IsAtEnd}
 use Rattle.std.specs.Io.Iter.{u64_saturate}
 use Rattle.wax_lines.specs.declared.lines.LinesError.{LinesError}
@@ -45,12 +45,13 @@ pub record Came (Means : List ℕ → Type 0) (left left' held held' : Option (L
   pub writes : Appends held held' written
   pub sifted : SieveSifted Means taken written s
 
--- a beginning of what was read was taken in
+-- what was read was taken in, but for a rest of the last read
 pub record CameShort (Means : List ℕ → Type 0) (left left' held held' : Option (List ℕ)) (s : Sieve) : Type 0 where
   pub front : List ℕ
   pub rest : List ℕ
   pub written : List ℕ
   pub reads : Consumes left left' (front ++ rest)
+  pub of_one_read : length rest ≤ 65536
   pub writes : Appends held held' written
   pub sifted : SieveSifted Means front written s
 

@@ -60,7 +60,8 @@ impl<R: Read> Read for Counted<R> {
 
     fn read(&mut self, buf: &mut [u8]) -> io::Result<usize>
         ensures bound { ReadsAtMost result buf.new }
-        ensures bytes { ReadConsumes (R.remaining self.old.inner) (R.remaining self.new.inner) result buf.new }
+        ensures bytes { ReadConsumes
+            (R.remaining self.old.inner) (R.remaining self.new.inner) result buf.new }
         ensures calls { self.new.calls ≡ one_more self.old.calls }
         ensures failures { self.new.failures ≡ one_more_if (is_err result) self.old.failures }
     {
@@ -78,7 +79,8 @@ impl<W: Write> Write for Counted<W> {
 
     fn write(&mut self, buf: &[u8]) -> io::Result<usize>
         ensures bound { WritesAtMost result buf.now }
-        ensures bytes { WriteAppends (W.contents self.old.inner) (W.contents self.new.inner) result buf.now }
+        ensures bytes { WriteAppends
+            (W.contents self.old.inner) (W.contents self.new.inner) result buf.now }
         ensures calls { self.new.calls ≡ one_more self.old.calls }
         ensures failures { self.new.failures ≡ one_more_if (is_failed_write result buf.now) self.old.failures }
     {

@@ -1,14 +1,14 @@
 //! The filter of lines.
-ghost use Rattle.std.specs.Prelude.{◌≡◌, ◌≤◌, ◌<◌, ◌+◌, ◌⊎◌, [], length, IfOk, IfErr, OnOk, IsErrOf};
+ghost use Rattle.std.specs.Prelude.{◌≡◌, ◌≤◌, ◌<◌, ◌⊎◌, [], length, IfOk, IfErr, OnOk, IsErrOf};
 ghost use Rattle.wax_lines.specs.Counts.{greatest_count};
 ghost use Rattle.wax_lines.specs.Lines.{Filtered, Stopped};
 ghost use Rattle.wax_lines.specs.Progress.{Finished, Halted, SieveSifted};
 
 use crate::counted::Counted;
-use crate::program::Program;
 use std::alloc::{AllocError, Global};
 use std::io::{Read, Write};
 use thiserror::Error;
+use wax_candidate::Program;
 use wax_query::diagnostics::NoMemory;
 
 mod sieve;
@@ -59,18 +59,21 @@ impl From<AllocError> for LinesError {
 /// u64. A line ends at a line feed or, if it isn't empty, at the end of the input.
 ///
 /// Refused with 18 where a read fails or the reader's count of calls stands at the greatest u64 before
-/// a read, and with 10 where memory is: the lines that were read before were written. Refused with 19
-/// where a write fails or takes nothing: a beginning of the output was written. Takes memory for the
-/// longest line and a few chunks of 65,536 bytes.
+/// a read: the output of all lines that were read whole was written. Refused with 10 where memory is:
+/// so it was, but for lines that end in the last read, of at most 65,536 bytes. Refused with 19 where a
+/// write fails or takes nothing: a beginning of the output of such lines was written. Takes memory for
+/// the longest line and a few chunks of 65,536 bytes.
 pub fn filter_lines<R: Read, W: Write, P: Program>(
     alloc: Global,
     input: &mut Counted<R>,
     output: &mut Counted<W>,
     program: &P,
 ) -> Result<u64, LinesError>
-    ensures done { IfOk result (Filtered (P.means program.now) (R.remaining input.old.inner) (R.remaining input.new.inner)
+    ensures done { IfOk result (Filtered (P.means program.now)
+        (R.remaining input.old.inner) (R.remaining input.new.inner)
         (W.contents output.old.inner) (W.contents output.new.inner)) }
-    ensures stopped { IfErr result (Stopped (P.means program.now) (R.remaining input.old.inner) (R.remaining input.new.inner)
+    ensures stopped { IfErr result (Stopped (P.means program.now)
+        (R.remaining input.old.inner) (R.remaining input.new.inner)
         (W.contents output.old.inner) (W.contents output.new.inner)) }
     ensures read_failed { IsErrOf result LinesError.Read →
         (input.old.failures < input.new.failures) ⊎ (input.new.calls ≡ greatest_count) }
@@ -94,11 +97,13 @@ fn take_all<R: Read, W: Write, P: Program>(
     chunk: &mut [u8],
     sieve: &mut Sieve,
 ) -> Result<(), LinesError>
-    requires room { 0 < length chunk.old }
+    requires room { length chunk.old ≡ CHUNK }
     requires fresh { SieveSifted (P.means program.now) [] [] sieve.old }
-    ensures done { OnOk result (Finished (P.means program.now) (R.remaining input.old.inner) (R.remaining input.new.inner)
+    ensures done { OnOk result (Finished (P.means program.now)
+        (R.remaining input.old.inner) (R.remaining input.new.inner)
         (W.contents output.old.inner) (W.contents output.new.inner) sieve.new) }
-    ensures stopped { IfErr result (Halted (P.means program.now) (R.remaining input.old.inner) (R.remaining input.new.inner)
+    ensures stopped { IfErr result (Halted (P.means program.now)
+        (R.remaining input.old.inner) (R.remaining input.new.inner)
         (W.contents output.old.inner) (W.contents output.new.inner) sieve.new) }
     ensures read_failed { IsErrOf result LinesError.Read →
         (input.old.failures < input.new.failures) ⊎ (input.new.calls ≡ greatest_count) }

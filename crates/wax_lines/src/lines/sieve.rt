@@ -1,5 +1,6 @@
 //! What a filter of lines keeps between two chunks.
-ghost use Rattle.std.specs.Prelude.{◌≡◌, ◌≤◌, ◌<◌, ◌+◌, ◌⊎◌, ℕ, List, [], ◌∷◌, ◌++◌, vec_len, length, IfOk, IfErr, OnOk, OnErr, MatchOption};
+ghost use Rattle.std.specs.Prelude.{◌≡◌, ◌≤◌, ◌<◌, ◌⊎◌, ℕ, List, [], ◌∷◌, ◌++◌, length};
+ghost use Rattle.std.specs.Prelude.{IfOk, IfErr, OnOk, OnErr, MatchOption};
 ghost use Rattle.std.specs.Io.KnownBytes.{Appends};
 ghost use Rattle.wax_lines.specs.Counts.{greatest_count};
 ghost use Rattle.wax_lines.specs.Lines.{Gives};
@@ -7,11 +8,10 @@ ghost use Rattle.wax_lines.specs.Sifted.{HasNoFeed, CountsMore};
 ghost use Rattle.wax_lines.specs.Progress.{SieveSifted, TakesIn, TakesInPart, TakesLast, WritesPart};
 
 use super::LinesError;
-use crate::candidate::CandidatePath;
 use crate::counted::Counted;
-use crate::program::Program;
 use std::alloc::{AllocError, Global};
 use std::io::Write;
+use wax_candidate::{CandidatePath, Program};
 use wax_query::diagnostics::NoMemory;
 
 /// The output that waits to be written, and how many lines were no text.
@@ -37,7 +37,8 @@ impl Kept {
         line: &[u8],
     ) -> Result<(), NoMemory>
         ensures ok { OnOk result ((out : List ℕ) × (bad : ℕ) × Gives (P.means program.now) line.now out bad
-            × (self.new.bytes.items ≡ self.old.bytes.items ++ out) × CountsMore self.old.not_text self.new.not_text bad) }
+            × (self.new.bytes.items ≡ self.old.bytes.items ++ out)
+            × CountsMore self.old.not_text self.new.not_text bad) }
         ensures bytes { OnErr result (self.new.bytes.items ≡ self.old.bytes.items) }
         ensures not_text { OnErr result (self.new.not_text ≡ self.old.not_text) }
     {
@@ -147,13 +148,15 @@ impl Sieve {
     /// Writes what waits, which then waits no more. Refused with 19 where a write fails or takes nothing:
     /// a beginning was written.
     pub fn write_out<W: Write>(&mut self, output: &mut Counted<W>) -> Result<(), LinesError>
-        ensures ok { OnOk result (Appends (W.contents output.old.inner) (W.contents output.new.inner) self.old.kept.bytes.items) }
+        ensures ok { OnOk result (Appends (W.contents output.old.inner) (W.contents output.new.inner)
+            self.old.kept.bytes.items) }
         ensures empty { self.new.kept.bytes.items ≡ [] }
         ensures carry { self.new.carry ≡ self.old.carry }
         ensures not_text { self.new.kept.not_text ≡ self.old.kept.not_text }
-        ensures err { IfErr result (λ e. (e ≡ LinesError.Write)
-            × WritesPart (W.contents output.old.inner) (W.contents output.new.inner) self.old.kept.bytes.items) }
-        ensures failed { OnErr result ((output.old.failures < output.new.failures) ⊎ (output.new.failures ≡ greatest_count)) }
+        ensures err { IfErr result (λ e. (e ≡ LinesError.Write) × WritesPart
+            (W.contents output.old.inner) (W.contents output.new.inner) self.old.kept.bytes.items) }
+        ensures failed { OnErr result
+            ((output.old.failures < output.new.failures) ⊎ (output.new.failures ≡ greatest_count)) }
         ensures steady { output.old.failures ≤ output.new.failures }
     {
         let written = write_whole(output, &self.kept.bytes);
@@ -175,7 +178,8 @@ fn write_whole<W: Write>(output: &mut Counted<W>, bytes: &[u8]) -> Result<(), Li
     ensures ok { OnOk result (Appends (W.contents output.old.inner) (W.contents output.new.inner) bytes.now) }
     ensures err { IfErr result (λ e. (e ≡ LinesError.Write)
         × WritesPart (W.contents output.old.inner) (W.contents output.new.inner) bytes.now) }
-    ensures failed { OnErr result ((output.old.failures < output.new.failures) ⊎ (output.new.failures ≡ greatest_count)) }
+    ensures failed { OnErr result
+        ((output.old.failures < output.new.failures) ⊎ (output.new.failures ≡ greatest_count)) }
     ensures steady { output.old.failures ≤ output.new.failures }
 {
     let mut rest = bytes;

@@ -1,4 +1,5 @@
 use Rattle.std.proofs.Common.{[], sym, ◌∙◌, take, subst, arith, rules}
+use Rattle.std.proofs.lemmas.List.{length-take}
 use Rattle.std.specs.Io.KnownBytes.{Consumes}
 use Rattle.wax_lines.specs.Progress.{Halted}
 use Rattle.wax_lines.proofs.Sifting.{if_err}
@@ -15,7 +16,8 @@ returns-in_err-take_last-clause-stopped g c =
 pub returns-in_err-take-clause-stopped : goal.returns-in_err-take-clause-stopped
 returns-in_err-take-clause-stopped g c =
     if_err _ c.from_residual-in_err-take.result c.from_residual-in_err-take.ensures.1 (λ e q. subst (Halted (g.P.Program.means c.args.program.now) _ _ _ _ c.take.new.self) (sym q)
-    (Came-part (g.P.Program.means c.args.program.now) _ _ _ _ _ c.loop-alloc.sieve c.take.new.self (take c.in-Ok.count c.read.new.buf) c.loop-alloc.invariant.0
+    (Came-part (g.P.Program.means c.args.program.now) _ _ _ _ _ c.loop-alloc.sieve c.take.new.self (take c.in-Ok.count c.read.new.buf)
+    (omega (arith, length-take c.in-Ok.count c.read.new.buf, c.read.auto.buf)) c.loop-alloc.invariant.0
     c.in-Ok.ensures.bytes.0 c.in_err-take.ensures.err))
 
 pub loop-alloc-preserved-in-Continue-branch-3 : goal.loop-alloc-preserved-in-Continue-branch-3

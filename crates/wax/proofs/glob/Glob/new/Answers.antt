@@ -3,4 +3,7 @@ use Rattle.wax.proofs.glob.Glob.new.Goals as goal
 
 pub invariant_of-result : goal.invariant_of-result
 invariant_of-result c =
-    is_compiled c.release-tokenized.result.token _ c.in_ok-program.program c.concatenation.ensures c.in_ok-program.ensures.means c.in_ok-program.ensures.length.0
+    let token = c.release-tokenized.result.token in
+    let program = c.in_ok-program.program in
+    let compiled = c.in_ok-program.ensures in
+    is_compiled token _ program _ c.concatenation-tokens.ensures compiled.means compiled.length.0 c.in_ok-prefilter.ensures

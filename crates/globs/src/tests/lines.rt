@@ -1,0 +1,176 @@
+//! Lines that are filtered by a program that is no glob.
+ghost use Rattle.std.specs.Prelude.{◌≡◌, ◌==◌, nat_eq, true, codes, encode_utf8_all};
+ghost use Rattle.std.specs.List.{ends_with};
+
+use super::streams::{Asked, Narrow, Slow};
+use std::alloc::Global;
+use std::convert::AsStr;
+use std::io::{Read, Write};
+use std::test::*;
+use wax::{CandidatePath, Counted, LinesError, NoMemory, Program, filter_lines};
+
+const NAMES: &[u8] = b"logo.png\nlogo.svg\na/b.png\nx.png";
+
+// Means the texts that end in `.png`.
+struct Pictures;
+
+impl Program for Pictures {
+    ghost means = { λ _ text. ends_with nat_eq (encode_utf8_all text) (codes ".png") ≡ true };
+
+    ghost decides = { λ _ text. ends_with nat_eq (encode_utf8_all text) (codes ".png") };
+
+    ghost program_length = { λ _. 1 };
+
+    ghost is_decided = { λ _ text. (λ h. h, λ h. h) };
+
+    fn is_match_counted(
+        &self,
+        _alloc: Global,
+        path: &CandidatePath<'_>,
+    ) -> Result<(bool, u128), NoMemory> {
+        let text = path.as_str();
+        let count = text.chars().count();
+        Ok((text.as_bytes().ends_with(b".png"), count as u128))
+    }
+}
+
+#[test]
+fn candidates_print_their_text(rt: HostRuntime) -> Result<(), Fail> {
+    let path = CandidatePath::from("a/金.png");
+    assert_eq!(rt; path.as_str(), "a/金.png");
+    assert_eq!(rt; path.to_string(rt.alloc())?.as_str(), "a/金.png");
+    assert_eq!(rt; AsStr::as_str(&path), "a/金.png");
+    assert_eq!(rt;
+        format!(in rt.alloc(); "{path:?}")?.as_str(),
+        "CandidatePath { text: \"a/金.png\" }"
+    );
+    assert!(rt; Pictures.is_match(rt.alloc(), &path)?);
+    assert_eq!(rt; Pictures.is_match_counted(rt.alloc(), &path)?, (true, 7));
+    assert!(rt; !Pictures.is_match(rt.alloc(), &CandidatePath::from("png"))?);
+    let owned = path.into_owned(rt.alloc())?;
+    assert_eq!(rt; owned.as_str(), "a/金.png");
+    Ok(())
+}
+
+#[test]
+fn lines_are_filtered(rt: HostRuntime) -> Result<(), Fail> {
+    let cases: [(&[u8], &[u8], u64); 6] = [
+        (NAMES, b"logo.png\na/b.png\nx.png\n", 0),
+        (b"", b"", 0),
+        (b"\n\n", b"", 0),
+        (b"a.png", b"a.png\n", 0),
+        (b".png\n\xff.png\n\xc3\n.png\xff", b".png\n", 3),
+        (b"a.png\r\nb.png\n", b"b.png\n", 0),
+    ];
+    for (bytes, want, not_text) in cases {
+        let mut input = Counted::new(bytes);
+        let mut output = Counted::new(Vec::new(rt.alloc()));
+        let answer = filter_lines(rt.alloc(), &mut input, &mut output, &Pictures);
+        assert!(rt; answer == Ok(not_text));
+        assert_eq!(rt; input.failures(), 0);
+        assert_eq!(rt; output.failures(), 0);
+        assert_eq!(rt; output.into_inner().as_slice(), want);
+    }
+    Ok(())
+}
+
+#[test]
+fn bytes_may_come_one_by_one(rt: HostRuntime) -> Result<(), Fail> {
+    let mut input = Counted::new(Slow {
+        bytes: NAMES,
+        left: 1000,
+    });
+    let mut output = Counted::new(Vec::new(rt.alloc()));
+    let answer = filter_lines(rt.alloc(), &mut input, &mut output, &Pictures);
+    assert!(rt; answer == Ok(0));
+    assert_eq!(rt; input.calls(), NAMES.len() as u64 + 1);
+    assert_eq!(rt; output.calls(), 1);
+    assert_eq!(rt;
+        output.into_inner().as_slice(),
+        b"logo.png\na/b.png\nx.png\n".as_slice()
+    );
+    Ok(())
+}
+
+#[test]
+fn lines_before_a_failed_read_are_written(rt: HostRuntime) -> Result<(), Fail> {
+    let mut input = Counted::new(Slow {
+        bytes: NAMES,
+        left: 10,
+    });
+    let mut output = Counted::new(Vec::new(rt.alloc()));
+    let answer = filter_lines(rt.alloc(), &mut input, &mut output, &Pictures);
+    assert!(rt; answer == Err(LinesError::Read));
+    assert_eq!(rt; input.calls(), 11);
+    assert_eq!(rt; input.failures(), 1);
+    assert_eq!(rt; output.into_inner().as_slice(), b"logo.png\n".as_slice());
+    Ok(())
+}
+
+#[test]
+fn a_failed_write_stops_the_filter(rt: HostRuntime) -> Result<(), Fail> {
+    for fails in [false, true] {
+        let mut input = Counted::new(NAMES);
+        let mut output = Counted::new(Narrow {
+            taken: Vec::new(rt.alloc()),
+            room: 5,
+            fails,
+        });
+        let answer = filter_lines(rt.alloc(), &mut input, &mut output, &Pictures);
+        assert!(rt; answer == Err(LinesError::Write));
+        assert_eq!(rt; output.calls(), 2);
+        assert_eq!(rt; output.failures(), 1);
+        assert_eq!(rt; output.write(b"")?, 0);
+        assert!(rt; output.flush().is_err());
+        assert_eq!(rt; output.failures(), 2);
+        assert_eq!(rt; output.into_inner().taken.as_slice(), b"logo.".as_slice());
+    }
+    Ok(())
+}
+
+#[test]
+fn lines_may_be_longer_than_a_chunk(rt: HostRuntime) -> Result<(), Fail> {
+    let mut bytes = vec![in rt.alloc(); b'a'; 200000]?;
+    bytes.extend_from_slice(b".png\nb.png\n")?;
+    let mut output = Counted::new(Vec::new(rt.alloc()));
+    let mut input = Counted::new(bytes.as_slice());
+    let answer = filter_lines(rt.alloc(), &mut input, &mut output, &Pictures);
+    assert!(rt; answer == Ok(0));
+    assert!(rt; output.into_inner().as_slice() == bytes.as_slice());
+    Ok(())
+}
+
+#[test]
+fn errors_tell_what_went_wrong(rt: HostRuntime) -> Result<(), Fail> {
+    let texts = [
+        (LinesError::Read, "read failed"),
+        (LinesError::Write, "write failed"),
+        (LinesError::Memory, "no memory"),
+    ];
+    for (error, want) in texts {
+        assert_eq!(rt; error.to_string(rt.alloc())?.as_str(), want);
+    }
+    Ok(())
+}
+
+#[test]
+fn each_call_is_handed_on_once(rt: HostRuntime) -> Result<(), Fail> {
+    let mut counted = Counted::new(Asked {
+        reads: 0,
+        writes: 0,
+        flushes: 0,
+    });
+    counted.read(&mut [0; 4])?;
+    counted.write(b"ab")?;
+    counted.write(b"c")?;
+    for _ in 0..3 {
+        counted.flush()?;
+    }
+    assert_eq!(rt; counted.calls(), 6);
+    assert_eq!(rt; counted.failures(), 0);
+    let asked = counted.into_inner();
+    assert_eq!(rt; asked.reads, 1);
+    assert_eq!(rt; asked.writes, 2);
+    assert_eq!(rt; asked.flushes, 3);
+    Ok(())
+}

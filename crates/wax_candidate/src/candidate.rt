@@ -1,0 +1,67 @@
+//! The texts that globs are matched against.
+ghost use Rattle.std.specs.Prelude.{◌≡◌, ℕ, List, Some, IfOk, chars, encode_utf8_all};
+ghost use Rattle.std.specs.Cow.{cow_str_bytes};
+
+use std::alloc::Global;
+use std::borrow::CowStr;
+use std::convert::AsStr;
+use std::fmt;
+use std::marker::Model;
+use wax_query::diagnostics::NoMemory;
+
+/// A text that may be a path. Contracts see its characters.
+#[derive(Debug, Drop)]
+pub struct CandidatePath<'t> {
+    text: CowStr<'t>,
+}
+
+impl<'t> Model for CandidatePath<'t> {
+    ghost Value = { List ℕ };
+
+    ghost view = { λ path. chars (cow_str_bytes path.text) };
+}
+
+impl<'t> CandidatePath<'t> {
+    /// The text.
+    pub fn as_str(&self) -> &str
+        ensures { chars result.now ≡ self.now }
+    {
+        self.text.as_str()
+    }
+
+    /// The same path with a text of its own. Refused with 10 where memory is.
+    pub fn into_owned(self, alloc: Global) -> Result<CandidatePath<'static>, NoMemory>
+        ensures { IfOk result (λ path. path ≡ self.entry) }
+    {
+        let text = self.text.into_owned(alloc)?;
+        Ok(CandidatePath {
+            text: CowStr::Owned(text),
+        })
+    }
+}
+
+impl AsStr for CandidatePath<'_> {
+    ghost text = { encode_utf8_all };
+
+    fn as_str(&self) -> &str {
+        self.as_str()
+    }
+}
+
+impl<'t> From<&'t str> for CandidatePath<'t> {
+    ghost from_gives = { λ text path. path ≡ chars text.now };
+
+    fn from(text: &'t str) -> Self {
+        CandidatePath {
+            text: CowStr::Borrowed(text),
+        }
+    }
+}
+
+impl fmt::Display for CandidatePath<'_> {
+    ghost output = { λ path. Some (encode_utf8_all path) };
+
+    fn fmt<W: fmt::Write>(&self, f: &mut fmt::Formatter<W>) -> fmt::Result {
+        fmt::Display::fmt(AsStr::as_str(self), f)
+    }
+}

@@ -1,0 +1,4 @@
+pub mod AnyCase
+pub mod Holding
+pub mod MeantEdges
+pub mod MeantPieces

@@ -1,0 +1,206 @@
+//! The facts of tokens.
+ghost use Rattle.std.specs.Prelude.{◌≡◌, ◌<◌, IfOk, IfSome, OnOk, chars, length};
+ghost use Rattle.wax_token.specs.Meaning.{LeafMeans, Means, MeansEach, MeansSome};
+ghost use Rattle.wax_token.specs.View.{leaf_of, wildcard_leaf};
+ghost use Rattle.wax_token.specs.Words.{trees};
+ghost use Rattle.wax_prefilter.specs.Known.{AllHold, AllPass, AllStand};
+
+use crate::needle::{Needle, Place};
+use crate::prefilter::Fact;
+use std::alloc::{AllocError, Global};
+use wax_query::diagnostics::NoMemory;
+use wax_token::token::{BranchKind, ExpressionMetadata, LeafKind, Token, Topology, Wildcard};
+
+/// How many facts are kept at most.
+const MOST_FACTS: usize = 16;
+
+/// How many texts a fact has at most.
+const MOST_NEEDLES: usize = 64;
+
+/// What each text holds that the tokens mean: how it ends, how it begins, and then what stands in it.
+pub fn all_facts<'t>(
+    alloc: Global,
+    tokens: &[Token<'t, ExpressionMetadata>],
+) -> Result<Vec<Fact>, NoMemory>
+    ensures { IfOk result (λ facts. AllPass (trees tokens.now) facts.items) }
+{
+    let mut facts = Vec::new(alloc);
+    let ends = add_edge(alloc, Place::End, tokens, &mut facts)?;
+    let begins = add_edge(alloc, Place::Beginning, tokens, &mut facts)?;
+    for i in begins as usize..tokens.len().saturating_sub(ends as usize) {
+        if facts.len() >= MOST_FACTS {
+            break;
+        }
+        add_within(alloc, tokens, i, &mut facts)?;
+    }
+    Ok(facts)
+}
+
+// Adds what the texts hold for one of the tokens, if that is known.
+fn add_within<'t>(
+    alloc: Global,
+    tokens: &[Token<'t, ExpressionMetadata>],
+    i: usize,
+    facts: &mut Vec<Fact>,
+) -> Result<(), NoMemory>
+    requires in_range { i < length tokens.now }
+    requires facts { AllPass (trees tokens.now) facts.old.items }
+    ensures { OnOk result (AllPass (trees tokens.now) facts.new.items) }
+{
+    let Some(needles) = needles_of(alloc, Place::Anywhere, &tokens[i])? else {
+        return Ok(());
+    };
+    Fact::add(facts, Place::Anywhere, needles)?;
+    Ok(())
+}
+
+// Adds how the texts begin or end, and answers whether that is known.
+fn add_edge<'t>(
+    alloc: Global,
+    place: Place,
+    tokens: &[Token<'t, ExpressionMetadata>],
+    facts: &mut Vec<Fact>,
+) -> Result<bool, NoMemory>
+    requires { AllPass (trees tokens.now) facts.old.items }
+    ensures { OnOk result (AllPass (trees tokens.now) facts.new.items) }
+{
+    let Some(needles) = needles_of_each(alloc, place, tokens)? else {
+        return Ok(false);
+    };
+    Fact::add(facts, place, needles)?;
+    Ok(true)
+}
+
+// The texts of which each meant text has one at the place, where some are known.
+#[cycle(needles_of)]
+fn needles_of<'t>(
+    alloc: Global,
+    place: Place,
+    token: &Token<'t, ExpressionMetadata>,
+) -> Result<Option<Vec<Needle>>, NoMemory>
+    ensures { IfOk result (λ known. IfSome known (λ v.
+        AllHold place v.items (Means token.now))) }
+{
+    match token.topology() {
+        Topology::Branch(branch) => match branch {
+            BranchKind::Alternation(a) => needles_of_some(alloc, place, a.tokens.as_slice()),
+            BranchKind::Concatenation(c) => needles_of_each(alloc, place, c.tokens.as_slice()),
+            BranchKind::Repetition(_) => Ok(None),
+        },
+        Topology::Leaf(leaf) => Ok(needles_of_leaf(alloc, place, leaf)?),
+    }
+}
+
+// The same of tokens one after another.
+#[cycle(needles_of)]
+#[tactic(auto, using(crate::proofs::MeantEdges::read_size))]
+fn needles_of_each<'t>(
+    alloc: Global,
+    place: Place,
+    tokens: &[Token<'t, ExpressionMetadata>],
+) -> Result<Option<Vec<Needle>>, NoMemory>
+    ensures { IfOk result (λ known. IfSome known (λ v.
+        AllHold place v.items (MeansEach (trees tokens.now)))) }
+{
+    match place {
+        Place::Beginning => match tokens.first() {
+            Some(token) => needles_of(alloc, Place::Beginning, token),
+            None => Ok(None),
+        },
+        Place::End => match tokens.last() {
+            Some(token) => needles_of(alloc, Place::End, token),
+            None => Ok(None),
+        },
+        Place::Anywhere => needles_of_any(alloc, tokens),
+    }
+}
+
+// Of tokens one after another, what the first holds of which something is known.
+#[cycle(needles_of)]
+#[tactic(auto, using(crate::proofs::MeantEdges::element_size))]
+fn needles_of_any<'t>(
+    alloc: Global,
+    tokens: &[Token<'t, ExpressionMetadata>],
+) -> Result<Option<Vec<Needle>>, NoMemory>
+    ensures { IfOk result (λ known. IfSome known (λ v.
+        AllHold Place.Anywhere v.items (MeansEach (trees tokens.now)))) }
+{
+    for token in tokens {
+        let needles = needles_of(alloc, Place::Anywhere, token)?;
+        if needles.is_some() {
+            return Ok(needles);
+        }
+    }
+    Ok(None)
+}
+
+// Of branches, the texts of all of them.
+#[cycle(needles_of)]
+#[tactic(auto, using(crate::proofs::MeantEdges::element_size))]
+fn needles_of_some<'t>(
+    alloc: Global,
+    place: Place,
+    tokens: &[Token<'t, ExpressionMetadata>],
+) -> Result<Option<Vec<Needle>>, NoMemory>
+    ensures { IfOk result (λ known. IfSome known (λ v.
+        AllHold place v.items (MeansSome (trees tokens.now)))) }
+{
+    let mut all = Vec::new(alloc);
+    for token in tokens {
+        let Some(mut needles) = needles_of(alloc, place, token)? else {
+            return Ok(None);
+        };
+        all.append(&mut needles)?;
+        if all.len() > MOST_NEEDLES {
+            return Ok(None);
+        }
+    }
+    Ok(Some(all))
+}
+
+fn needles_of_leaf(
+    alloc: Global,
+    place: Place,
+    leaf: &LeafKind<'_>,
+) -> Result<Option<Vec<Needle>>, AllocError>
+    ensures { IfOk result (λ known. IfSome known (λ v.
+        AllHold place v.items (LeafMeans (leaf_of leaf.now)))) }
+{
+    let Some((text, is_case_insensitive)) = text_of(place, leaf) else {
+        return Ok(None);
+    };
+    let mut needles = Vec::new(alloc);
+    needles.push(Needle::new(alloc, text, is_case_insensitive)?)?;
+    Ok(Some(needles))
+}
+
+// The text that stands at the place, and whether in any case; nothing where a test for it would tell little.
+fn text_of<'i>(place: Place, leaf: &'i LeafKind<'_>) -> Option<(&'i str, bool)>
+    ensures { IfSome result (λ t. AllStand place (t.1, chars t.0.now) (LeafMeans (leaf_of leaf.now))) }
+{
+    match leaf {
+        LeafKind::Literal(literal) => match place {
+            Place::End if literal.is_case_insensitive() => None,
+            _ => Some((literal.text(), literal.is_case_insensitive())),
+        },
+        LeafKind::Separator(_) => match place {
+            Place::Anywhere => None,
+            _ => Some(("/", false)),
+        },
+        LeafKind::Wildcard(wildcard) => text_of_wildcard(place, wildcard),
+        LeafKind::Class(_) => None,
+    }
+}
+
+fn text_of_wildcard(place: Place, wildcard: &Wildcard) -> Option<(&'static str, bool)>
+    ensures { IfSome result (λ t.
+        AllStand place (t.1, chars t.0.now) (LeafMeans (wildcard_leaf wildcard.now))) }
+{
+    match wildcard {
+        Wildcard::Tree { has_root } => match place {
+            Place::Beginning if *has_root => Some(("/", false)),
+            _ => None,
+        },
+        _ => None,
+    }
+}

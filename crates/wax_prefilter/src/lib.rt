@@ -1,0 +1,9 @@
+//! What all texts that tokens mean have in common, by which most other texts are told without a match.
+#![tactic(auto)]
+
+mod any_case;
+mod facts;
+mod needle;
+mod prefilter;
+
+pub use prefilter::Prefilter;

@@ -1,0 +1,83 @@
+//! Texts that stand in others.
+ghost use Rattle.std.specs.Prelude.{◌≡◌, ℕ, IsTrue, IfOk, List, ◌++◌, chars, true, false};
+ghost use Rattle.wax_token.specs.Meaning.{SameText};
+ghost use Rattle.wax_prefilter.specs.Facts.{StandsAt};
+
+use crate::any_case::{begins_in_any_case, holds_in_any_case};
+use std::alloc::{AllocError, Global};
+use std::marker::Model;
+
+/// Where a text stands in another.
+#[derive(Clone, Copy)]
+pub enum Place {
+    Beginning,
+    End,
+    Anywhere,
+}
+
+/// A text that others hold, in its own case or in any. Contracts see whether in any, and its characters.
+#[derive(Drop)]
+pub struct Needle {
+    text: String,
+    is_case_insensitive: bool,
+}
+
+impl Model for Needle {
+    ghost use Rattle.std.specs.Prelude.{Bool, List, ℕ, chars, string_bytes};
+
+    ghost Value = { Bool × List ℕ };
+
+    ghost view = { λ n. (n.is_case_insensitive, chars (string_bytes n.text)) };
+}
+
+impl Needle {
+    pub fn new(alloc: Global, text: &str, is_case_insensitive: bool) -> Result<Self, AllocError>
+        ensures { IfOk result (λ n. n ≡ (is_case_insensitive, chars text.now)) }
+    {
+        Ok(Needle {
+            text: String::from_str(alloc, text)?,
+            is_case_insensitive,
+        })
+    }
+
+    /// Whether it can stand there in the text: at the end, one of any case always can.
+    #[inline]
+    pub fn can_stand_at(&self, place: Place, text: &str) -> bool
+        ensures { StandsAt place self.now (chars text.now) → IsTrue result }
+    {
+        match place {
+            Place::Beginning => self.begins(text),
+            Place::End => self.ends(text),
+            Place::Anywhere => self.is_held(text),
+        }
+    }
+
+    fn begins(&self, text: &str) -> bool
+        ensures { (x y : List ℕ) → chars text.now ≡ x ++ y
+            → SameText self.now.0 self.now.1 x → IsTrue result }
+    {
+        let beginning = self.text.as_str();
+        if self.is_case_insensitive {
+            return begins_in_any_case(text, beginning);
+        }
+        text.as_bytes().starts_with(beginning.as_bytes())
+    }
+
+    fn ends(&self, text: &str) -> bool
+        ensures { (x y : List ℕ) → chars text.now ≡ x ++ y
+            → SameText self.now.0 self.now.1 y → IsTrue result }
+    {
+        self.is_case_insensitive || text.as_bytes().ends_with(self.text.as_str().as_bytes())
+    }
+
+    fn is_held(&self, text: &str) -> bool
+        ensures { (x y z : List ℕ) → chars text.now ≡ x ++ (y ++ z)
+            → SameText self.now.0 self.now.1 y → IsTrue result }
+    {
+        let held = self.text.as_str();
+        if self.is_case_insensitive {
+            return holds_in_any_case(text, held);
+        }
+        text.contains(held)
+    }
+}

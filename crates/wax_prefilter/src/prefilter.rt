@@ -1,0 +1,92 @@
+//! What is looked at in a text before it is matched.
+ghost use Rattle.std.specs.Prelude.{◌≡◌, ℕ, List, [], ◌∷◌, ◌++◌, IsTrue, IfOk, OnOk, chars};
+ghost use Rattle.wax_token.specs.Words.{trees};
+ghost use Rattle.wax_prefilter.specs.Facts.{HoldsOne, Passes};
+ghost use Rattle.wax_prefilter.specs.Known.{AllPass};
+
+use crate::facts::all_facts;
+use crate::needle::{Needle, Place};
+use std::alloc::{AllocError, Global};
+use std::marker::Model;
+use wax_query::diagnostics::NoMemory;
+use wax_token::token::{ExpressionMetadata, Token};
+
+/// Texts of which one stands at the place. Contracts see both.
+#[derive(Drop)]
+pub struct Fact {
+    place: Place,
+    needles: Vec<Needle>,
+}
+
+impl Model for Fact {
+    ghost use Rattle.std.specs.Prelude.{Bool, List, ℕ};
+    ghost use Rattle.wax_prefilter.specs.declared.needle.Place.{Place};
+
+    ghost Value = { Place × List (Bool × List ℕ) };
+
+    ghost view = { λ f. (f.place, f.needles.items) };
+}
+
+impl Fact {
+    /// Adds the fact to others.
+    pub fn add(facts: &mut Vec<Fact>, place: Place, needles: Vec<Needle>) -> Result<(), AllocError>
+        ensures { OnOk result (facts.new.items ≡ facts.old.items ++ (place, needles.items) ∷ []) }
+    {
+        facts.push(Fact { place, needles })?;
+        Ok(())
+    }
+
+    fn may_hold(&self, text: &str) -> bool
+        ensures { HoldsOne self.now.0 self.now.1 (chars text.now) → IsTrue result }
+    {
+        for needle in &self.needles {
+            if needle.can_stand_at(self.place, text) {
+                return true;
+            }
+        }
+        false
+    }
+}
+
+/// What each text that some tokens mean begins with, ends with and holds. It keeps at most 16 facts, each of
+/// at most 64 texts, and no tokens. Contracts see the facts.
+#[derive(Drop)]
+pub struct Prefilter {
+    facts: Vec<Fact>,
+}
+
+impl Model for Prefilter {
+    ghost use Rattle.std.specs.Prelude.{Bool, List, ℕ};
+    ghost use Rattle.wax_prefilter.specs.declared.needle.Place.{Place};
+
+    ghost Value = { List (Place × List (Bool × List ℕ)) };
+
+    ghost view = { λ p. p.facts.items };
+}
+
+impl Prefilter {
+    /// What is known of the texts that the tokens mean, one after another. Refused with 10 where memory is.
+    /// It takes time and memory of the order of the tokens and their literals.
+    pub fn new<'t>(
+        alloc: Global,
+        tokens: &[Token<'t, ExpressionMetadata>],
+    ) -> Result<Prefilter, NoMemory>
+        ensures { IfOk result (AllPass (trees tokens.now)) }
+    {
+        let facts = all_facts(alloc, tokens)?;
+        Ok(Prefilter { facts })
+    }
+
+    /// Whether the text may be meant. It takes no memory, and time of the order of the text for each fact and
+    /// each of its texts.
+    pub fn may_match(&self, text: &str) -> bool
+        ensures { Passes self.now (chars text.now) → IsTrue result }
+    {
+        for fact in &self.facts {
+            if !fact.may_hold(text) {
+                return false;
+            }
+        }
+        true
+    }
+}
