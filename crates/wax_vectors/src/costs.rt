@@ -5,7 +5,7 @@ mod tests {
     use crate::rows::{is_meant, number};
     use std::alloc::{AllocError, Global};
     use std::test::Fail;
-    use wax::parse::parse;
+    use wax::token::parse;
     use wax::{CandidatePath, Glob, Program, encode};
 
     /// The text, so many times.
