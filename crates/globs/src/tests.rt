@@ -2,6 +2,7 @@
 
 mod lines;
 mod streams;
+mod walks;
 
 use crate::{run_globs, words};
 use std::alloc::{AllocError, Global};

@@ -36,8 +36,8 @@ impl<'t> Model for Glob<'t> {
     ghost coded = { glob_code };
 
     ghost view = { λ g. record {
-        expression = chars (cow_str_bytes g.tokenized.expression);
-        tree = g.tokenized.token
+      expression = chars (cow_str_bytes g.tokenized.expression);
+      tree = g.tokenized.token;
     } };
 
     ghost invariant = { λ g. IsCompiled g.tokenized.token g.program g.prefilter };

@@ -1,18 +1,20 @@
-//! Globs: path expressions that are read, checked, compiled and matched.
+//! Globs: path expressions that are read, checked, compiled and matched, and walks through directories.
 #![tactic(auto)]
 
 mod build_error;
+pub mod diagnostics;
+pub mod encode;
+pub mod filter;
 mod glob;
 mod location;
+pub mod prelude;
+pub mod rule;
+pub mod token;
+pub mod walk;
 
 pub use build_error::BuildError;
 pub use glob::Glob;
 pub use location::ErrorLocation;
 pub use wax_candidate::{CandidatePath, Program};
 pub use wax_lines::{Counted, LinesError, filter_lines};
-pub use wax_match::encode;
-pub use wax_parse::parse;
-pub use wax_query::diagnostics;
 pub use wax_query::diagnostics::{NoMemory, Refusal};
-pub use wax_rule::rule;
-pub use wax_token::token;

@@ -1,0 +1,5 @@
+//! Places in an expression, and how a build can end.
+
+pub use wax_query::diagnostics::{
+    CompositeSpan, CorrelatedSpan, LocatedError, NoMemory, Refusal, Span, SpanExt, Spanned,
+};

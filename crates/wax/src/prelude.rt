@@ -1,0 +1,6 @@
+//! What most programs import.
+
+pub use crate::diagnostics::LocatedError;
+pub use crate::filter::HierarchicalIterator;
+pub use crate::walk::{Entry, FileIterator, PathExt};
+pub use crate::{CandidatePath, Glob, Program};

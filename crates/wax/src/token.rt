@@ -1,0 +1,7 @@
+//! Expressions and the tokens that they spell.
+
+pub use wax_parse::parse::{ErrorEntry, ParseError, parse};
+pub use wax_token::token::{
+    Alternation, Archetype, BranchKind, Class, Concatenation, Evaluation, ExpressionMetadata,
+    LeafKind, Literal, Repetition, Separator, Token, TokenTopology, Tokenized, Topology, Wildcard,
+};
