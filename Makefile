@@ -14,6 +14,5 @@ test:
 
 bench: globs
 	cd crates/wax_bench && rt run </dev/null
-	cd crates/wax_walk_bench && rt run </dev/null
 	bench/run
 	bench/walk

@@ -1,12 +1,16 @@
 //! Directories, walks through them, and filters over walks.
 
-pub use wax_behavior::{
-    DepthBehavior, DepthMax, DepthMin, DepthMinMax, LinkBehavior, WalkBehavior,
-};
 pub use wax_directory::directory::{Directory, DirectoryFault, FileType, ListItem};
+pub use wax_directory::failing::Failing;
 pub use wax_directory::folders::Folders;
+pub use wax_directory::starving::Starving;
+pub use wax_directory::tally::Tally;
 pub use wax_directory::tree::{DuplicateName, Node, Tree, TreeItem};
 pub use wax_tree::{
-    Entry, EntryResidue, FileIterator, FilterEntry, PathExt, Rule, TreeEntry, TreeFeed, WalkError,
-    WalkErrorKind, WalkTree, Without, collect, collect_feed, entries,
+    DepthBehavior, DepthMax, DepthMin, DepthMinMax, LinkBehavior, PathExt, Range, TreeFeed,
+    WalkBehavior, WalkTree, entries,
+};
+pub use wax_walk::{
+    Entry, EntryResidue, FaultKind, FileIterator, FilterEntry, Rule, TreeEntry, WalkError,
+    WalkErrorKind, Without, collect, collect_feed,
 };

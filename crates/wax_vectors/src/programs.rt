@@ -3,7 +3,7 @@
 use crate::report::Report;
 use std::alloc::{AllocError, Global};
 use wax::encode::{Meter, Program, case_folded_eq, compile, run};
-use wax::parse::parse;
+use wax::token::parse;
 
 const LETTERS: &str = "abcdefghijklmnopqrstuvwxyzabcdefghijklmnopqrstuvwxyzabcdefghijk";
 
