@@ -1,5 +1,6 @@
 -- All items of a folder, taken one by one.
-use Rattle.std.proofs.Common.{◌≡◌, ◌≤◌, ℕ, ◌+◌, List, [], ◌∷◌, ◌++◌, length, map, take, Option, Some, None, Result, Ok, Err, Vec, refl, sym, ◌∙◌, ap, subst, arith, append_assoc}
+use Rattle.std.proofs.Common.{◌≡◌, ◌≤◌, ℕ, ◌+◌, List, [], ◌∷◌, ◌++◌, length, map, take, Option, Some, None}
+use Rattle.std.proofs.Common.{Result, Ok, Err, Vec, refl, sym, ◌∙◌, ap, subst, arith, append_assoc}
 use Rattle.std.specs.Option.{option_map}
 use Rattle.std.proofs.lemmas.List.{map-append, append-nil, take_all, length-map}
 use Rattle.std.proofs.Math.Seq.{take-append_seam}
@@ -11,7 +12,9 @@ use Rattle.wax_directory.specs.Calls.{OpenCall, Nexts}
 use Rattle.wax_directory.specs.Counting.{Counts, plus, item_counts, items_counts, next_counts}
 use Rattle.wax_directory.specs.Law.{Law, ShowsSame, HoldsLast}
 use Rattle.wax_directory.proofs.Counts.{plus_assoc, plus_none}
-use Rattle.wax_directory.specs.Shown.{Items, end, leaf, folder, sealed, misnamed, unread, not_text, Shown, a_leaf, a_folder, a_sealed, missing, failing, Listed, listing, first_of, rest_of}
+use Rattle.wax_directory.specs.Shown.{Items, end, leaf, folder, sealed, misnamed, unread, not_text, Shown}
+use Rattle.wax_directory.specs.Shown.{a_leaf, a_folder, a_sealed, missing, failing, Listed, listing, first_of}
+use Rattle.wax_directory.specs.Shown.{rest_of}
 
 -- ---- counts
 
@@ -24,9 +27,11 @@ counts_on n a b c h i = record {
   bad_names = omega (arith, h.bad_names, i.bad_names);
 }
 
-counted_more : (items : List ListItem) (x : ListItem) → items_counts (items ++ x ∷ []) ≡ plus (items_counts items) (item_counts x)
+counted_more : (items : List ListItem) (x : ListItem) → items_counts (items ++ x ∷ []) ≡ plus
+    (items_counts items) (item_counts x)
 counted_more [] x = plus_none (item_counts x)
-counted_more (y ∷ items) x = ap (plus (item_counts y)) (counted_more items x) ∙ plus_assoc (item_counts y) (items_counts items) (item_counts x)
+counted_more (y ∷ items) x = ap (plus (item_counts y)) (counted_more items x) ∙ plus_assoc (item_counts y)
+    (items_counts items) (item_counts x)
 
 counts_sum : (n k a b c : Tally) → Counts n a b → Counts k b c → Counts (plus n k) a c
 counts_sum n k a b c h i = record {
@@ -62,7 +67,8 @@ abbrev pub Coming : (Items → Type 0) → Shown → List ListItem → Type 0
 Coming has (a_folder l) items = (rest : Items) × has rest × (map listed_of items ++ listing rest ≡ listing l)
 Coming has s items = ⊥
 
-coming_first : {C : Type 0} (holds : C → Items → Type 0) (cursor : C) (s : Shown) → Opens holds s (Ok cursor) → Coming (holds cursor) s []
+coming_first : {C : Type 0} (holds : C → Items → Type 0) (cursor : C) (s : Shown) → Opens holds s (Ok cursor)
+    → Coming (holds cursor) s []
 coming_first holds cursor (a_folder l) h = (l, h, refl)
 coming_first holds cursor (a_leaf link) h = cc
 coming_first holds cursor a_sealed h = cc
@@ -70,12 +76,15 @@ coming_first holds cursor missing h = cc
 coming_first holds cursor failing h = cc
 
 module _ {C : Type 0} (old new : C → Items → Type 0) (cursor next : C) (items : List ListItem) where
-  coming_more : (s : Shown) (x : ListItem) → ((l : Items) → old cursor l → NextIs new l (Ok (Some x)) next) → Coming (old cursor) s items → Coming (new next) s (items ++ x ∷ [])
+  coming_more : (s : Shown) (x : ListItem) → ((l : Items) → old cursor l → NextIs new l (Ok (Some x)) next)
+      → Coming (old cursor) s items → Coming (new next) s (items ++ x ∷ [])
   coming_more (a_folder l) x step h =
       let n : (Some (listed_of x) ≡ first_of h.0) × new next (rest_of h.0) = step h.0 h.1 in (
         rest_of h.0,
         n.1,
-        ap (λ xs. xs ++ listing (rest_of h.0)) (map-append listed_of items (x ∷ [])) ∙ append_assoc (map listed_of items) (listed_of x ∷ []) (listing (rest_of h.0)) ∙ ap (λ xs. map listed_of items ++ xs) (sym (first_rest h.0 (listed_of x) n.0)) ∙ h.2,
+        ap (λ xs. xs ++ listing (rest_of h.0)) (map-append listed_of items (x ∷ [])) ∙ append_assoc
+            (map listed_of items) (listed_of x ∷ []) (listing (rest_of h.0)) ∙ ap
+            (λ xs. map listed_of items ++ xs) (sym (first_rest h.0 (listed_of x) n.0)) ∙ h.2,
       )
   coming_more (a_leaf link) x step h = elim h [ ]
   coming_more a_sealed x step h = elim h [ ]
@@ -92,16 +101,23 @@ rest_still (unread rest) e = absurd (cc)
 rest_still (not_text rest) e = absurd (cc)
 
 -- where there was no item, and where memory was refused, the same is to come
-pub coming_still : {C : Type 0} (old new : C → Items → Type 0) (cursor next : C) (items : List ListItem) (s : Shown) (o : Option ListItem) → o ≡ None → ((l : Items) → old cursor l → NextIs new l (Ok o) next) → Coming (old cursor) s items → Coming (new next) s items
+pub coming_still : {C : Type 0} (old new : C → Items → Type 0) (cursor next : C) (items : List ListItem)
+    (s : Shown) (o : Option ListItem) → o ≡ None → ((l : Items) → old cursor l → NextIs new l (Ok o) next)
+    → Coming (old cursor) s items → Coming (new next) s items
 coming_still old new cursor next items (a_folder l) o none step h =
-    let n = step h.0 h.1 in
-    (rest_of h.0, n.1, ap (λ xs. map listed_of items ++ xs) (rest_still h.0 (sym (ap (option_map listed_of) none) ∙ n.0)) ∙ h.2)
+    let n = step h.0 h.1 in (
+      rest_of h.0,
+      n.1,
+      ap (λ xs. map listed_of items ++ xs)
+          (rest_still h.0 (sym (ap (option_map listed_of) none) ∙ n.0)) ∙ h.2,
+    )
 coming_still old new cursor next items (a_leaf link) o none step h = elim h [ ]
 coming_still old new cursor next items a_sealed o none step h = elim h [ ]
 coming_still old new cursor next items missing o none step h = elim h [ ]
 coming_still old new cursor next items failing o none step h = elim h [ ]
 
-pub coming_kept : (old new : Items → Type 0) (items : List ListItem) (s : Shown) → ((l : Items) → old l → new l) → Coming old s items → Coming new s items
+pub coming_kept : (old new : Items → Type 0) (items : List ListItem) (s : Shown)
+    → ((l : Items) → old l → new l) → Coming old s items → Coming new s items
 coming_kept old new items (a_folder l) step h = (h.0, step h.0 h.1, h.2)
 coming_kept old new items (a_leaf link) step h = elim h [ ]
 coming_kept old new items a_sealed step h = elim h [ ]
@@ -110,25 +126,34 @@ coming_kept old new items failing step h = elim h [ ]
 
 -- at the end all of them were taken
 module _ {Z : Type 0} (answer : Vec ListItem Z) (most : ℕ) where
-  all_taken : (l : Items) (rest : List Listed) → rest ≡ [] → map listed_of answer.items ++ rest ≡ listing l → length answer.items ≤ most → map listed_of answer.items ≡ take most (listing l)
+  all_taken : (l : Items) (rest : List Listed) → rest ≡ [] → map listed_of answer.items ++ rest ≡ listing l
+      → length answer.items ≤ most → map listed_of answer.items ≡ take most (listing l)
   all_taken l rest none e few =
-      let whole : map listed_of answer.items ≡ listing l = sym (append-nil (map listed_of answer.items)) ∙ ap (λ xs. map listed_of answer.items ++ xs) (sym none) ∙ e in
-      let fits : length (listing l) ≤ most = subst (λ xs. length xs ≤ most) whole (subst (λ n. n ≤ most) (sym (length-map answer.items listed_of)) few) in
+      let whole : map listed_of answer.items ≡ listing l = sym (append-nil (map listed_of answer.items)) ∙ ap
+      (λ xs. map listed_of answer.items ++ xs) (sym none) ∙ e in
+      let fits : length (listing l) ≤ most = subst (λ xs. length xs ≤ most) whole
+      (subst (λ n. n ≤ most) (sym (length-map answer.items listed_of)) few) in
       whole ∙ sym (take_all most (listing l) fits)
 
-  most_taken : (l : Items) (rest : List Listed) → map listed_of answer.items ++ rest ≡ listing l → length answer.items ≡ most → map listed_of answer.items ≡ take most (listing l)
+  most_taken : (l : Items) (rest : List Listed) → map listed_of answer.items ++ rest ≡ listing l
+      → length answer.items ≡ most → map listed_of answer.items ≡ take most (listing l)
   most_taken l rest e many =
       let xs : List Listed = map listed_of answer.items in
-      sym (take-append_seam xs rest) ∙ ap (λ n. take n (xs ++ rest)) (length-map answer.items listed_of ∙ many) ∙ ap (λ ys. take most ys) e
+      sym (take-append_seam xs rest) ∙ ap (λ n. take n (xs ++ rest))
+      (length-map answer.items listed_of ∙ many) ∙ ap (λ ys. take most ys) e
 
-  pub coming_end : {C : Type 0} (old new : C → Items → Type 0) (cursor next : C) (s : Shown) (o : Option ListItem) → o ≡ None → ((l : Items) → old cursor l → NextIs new l (Ok o) next) → Coming (old cursor) s answer.items → length answer.items ≤ most → ListIs most s (Ok answer)
-  coming_end old new cursor next (a_folder l) o none step h few = all_taken l (listing h.0) (no_first h.0 (sym (ap (option_map listed_of) none) ∙ (step h.0 h.1).0)) h.2 few
+  pub coming_end : {C : Type 0} (old new : C → Items → Type 0) (cursor next : C) (s : Shown)
+      (o : Option ListItem) → o ≡ None → ((l : Items) → old cursor l → NextIs new l (Ok o) next)
+      → Coming (old cursor) s answer.items → length answer.items ≤ most → ListIs most s (Ok answer)
+  coming_end old new cursor next (a_folder l) o none step h few = all_taken l (listing h.0)
+      (no_first h.0 (sym (ap (option_map listed_of) none) ∙ (step h.0 h.1).0)) h.2 few
   coming_end old new cursor next (a_leaf link) o none step h few = elim h [ ]
   coming_end old new cursor next a_sealed o none step h few = elim h [ ]
   coming_end old new cursor next missing o none step h few = elim h [ ]
   coming_end old new cursor next failing o none step h few = elim h [ ]
 
-  pub coming_most : (has : Items → Type 0) (s : Shown) → Coming has s answer.items → length answer.items ≡ most → ListIs most s (Ok answer)
+  pub coming_most : (has : Items → Type 0) (s : Shown) → Coming has s answer.items
+      → length answer.items ≡ most → ListIs most s (Ok answer)
   coming_most has (a_folder l) h many = most_taken l (listing h.0) h.2 many
   coming_most has (a_leaf link) h many = elim h [ ]
   coming_most has a_sealed h many = elim h [ ]
@@ -140,23 +165,30 @@ module _ {Z : Type 0} (answer : Vec ListItem Z) (most : ℕ) where
 module _ {D C : Type 0} (law : Law D C) where
   -- what is known after these items of the folder at a path were taken
   pub record Taken (path : List ℕ) (old new : D) (cursor : C) (items : List ListItem) : Type 0 where
-    pub coming : (s : Shown) (cursors : List C) (ls : List Items) → law.shows old path s → law.holds old cursors ls → Coming (HoldsLast law new cursors ls cursor) s items
+    pub coming : (s : Shown) (cursors : List C) (ls : List Items) → law.shows old path s
+        → law.holds old cursors ls → Coming (HoldsLast law new cursors ls cursor) s items
     pub shown : ShowsSame law old new
     pub told : (t : List (List ℕ)) → law.tells old t → law.tells new (t ++ path ∷ [])
     pub counted : Counts (items_counts items) (law.tally old) (law.tally new)
 
   -- no item was taken yet
-  pub taken_none : (path : List ℕ) (old new : D) (cursor : C) → OpenCall law old path (Ok cursor) new → Taken path old new cursor []
+  pub taken_none : (path : List ℕ) (old new : D) (cursor : C) → OpenCall law old path (Ok cursor) new
+      → Taken path old new cursor []
   taken_none path old new cursor o = record {
-    coming = λ s cursors ls shown held. coming_first (HoldsLast law new cursors ls) cursor s (o.opens cursors ls s held shown);
+    coming = λ s cursors ls shown held. coming_first (HoldsLast law new cursors ls) cursor s
+        (o.opens cursors ls s held shown);
     shown = o.shown;
     told = o.told;
     counted = o.counted;
   }
 
   -- one more item
-  pub taken_more : (path : List ℕ) (old now new : D) (cursor next : C) (items all : List ListItem) (o : Option ListItem) (x : ListItem) → Taken path old now cursor items → o ≡ Some x
-      → Nexts law now cursor (Ok o) new next → ShowsSame law now new → ((t : List (List ℕ)) → law.tells now t → law.tells new t) → Counts (next_counts (Ok o)) (law.tally now) (law.tally new) → all ≡ items ++ x ∷ [] → Taken path old new next all
+  pub taken_more : (path : List ℕ) (old now new : D) (cursor next : C) (items all : List ListItem)
+      (o : Option ListItem) (x : ListItem) → Taken path old now cursor items → o ≡ Some x
+      → Nexts law now cursor (Ok o) new next → ShowsSame law now new
+      → ((t : List (List ℕ)) → law.tells now t → law.tells new t)
+      → Counts (next_counts (Ok o)) (law.tally now) (law.tally new) → all ≡ items ++ x ∷ []
+      → Taken path old new next all
   taken_more path old now new cursor next items all o x h is nexts shown told counted grown =
       let P : List ListItem → Type 0 = λ l. Taken path old new next l in
       let N : Option ListItem → Type 0 = λ v. Nexts law now cursor (Ok v) new next in
@@ -164,15 +196,20 @@ module _ {D C : Type 0} (law : Law D C) where
       let step : Nexts law now cursor (Ok (Some x)) new next = subst N is nexts in
       let count : Counts (item_counts x) (law.tally now) (law.tally new) = subst K is counted in
       subst P (sym grown) (record {
-        coming = λ s cursors ls k held. coming_more (HoldsLast law now cursors ls) (HoldsLast law new cursors ls) cursor next items s x (λ l i. step cursors ls l i) (h.coming s cursors ls k held);
+        coming = λ s cursors ls k held. coming_more (HoldsLast law now cursors ls)
+            (HoldsLast law new cursors ls) cursor next items s x (λ l i. step cursors ls l i)
+            (h.coming s cursors ls k held);
         shown = λ at s k. shown at s (h.shown at s k);
         told = λ t k. told (t ++ path ∷ []) (h.told t k);
-        counted = let E : Tally → Type 0 = λ n. Counts n (law.tally old) (law.tally new) in subst E (sym (counted_more items x)) (counts_sum _ _ _ _ _ h.counted count);
+        counted = let E : Tally → Type 0 = λ n. Counts n (law.tally old) (law.tally new) in subst E
+            (sym (counted_more items x)) (counts_sum _ _ _ _ _ h.counted count);
       })
 
   -- what is left of the folder may be dropped
-  pub left_dropped : (d : D) (cursors : List C) (ls : List Items) (cursor : C) (s : Shown) (items : List ListItem)
-      → ((l : Items) → HoldsLast law d cursors ls cursor l → law.holds d cursors ls) → Coming (HoldsLast law d cursors ls cursor) s items → law.holds d cursors ls
+  pub left_dropped : (d : D) (cursors : List C) (ls : List Items) (cursor : C) (s : Shown)
+      (items : List ListItem)
+      → ((l : Items) → HoldsLast law d cursors ls cursor l → law.holds d cursors ls)
+      → Coming (HoldsLast law d cursors ls cursor) s items → law.holds d cursors ls
   left_dropped d cursors ls cursor (a_folder l) items drop h = drop h.0 h.1
   left_dropped d cursors ls cursor (a_leaf link) items drop h = elim h [ ]
   left_dropped d cursors ls cursor a_sealed items drop h = elim h [ ]

@@ -8,7 +8,8 @@ use Rattle.wax_directory.specs.declared.directory.ListItem.{ListItem}
 use Rattle.wax_directory.specs.declared.directory.ListItem.TheVariants as I
 use Rattle.wax_directory.specs.declared.directory.DirectoryFault.{DirectoryFault}
 use Rattle.wax_directory.specs.declared.directory.DirectoryFault.TheVariants.{Failed, Memory}
-use Rattle.wax_directory.specs.Shown.{Items, Shown, a_leaf, a_folder, a_sealed, missing, failing, Listed, named, no_item, no_name, leaf_kind, first_of, rest_of, listing}
+use Rattle.wax_directory.specs.Shown.{Items, Shown, a_leaf, a_folder, a_sealed, missing, failing, Listed}
+use Rattle.wax_directory.specs.Shown.{named, no_item, no_name, leaf_kind, first_of, rest_of, listing}
 
 abbrev pub listed_of : ListItem → Listed
 listed_of (I.Name x kind) = named (string_bytes x) kind
@@ -24,7 +25,8 @@ KindIs a_sealed r = r ≡ Ok (Some F.Folder)
 KindIs missing r = r ≡ Ok None
 KindIs failing r = r ≡ Err Failed
 
--- the answer where this is opened, unless memory was refused: a folder's items are to come, and nothing else can be opened
+-- the answer where this is opened, unless memory was refused: a folder's items are to come, and nothing else
+-- can be opened
 abbrev pub Opens : {C : Type 0} → (C → Items → Type 0) → Shown → Result C DirectoryFault → Type 0
 Opens holds s (Err Memory) = Unit {0}
 Opens holds (a_folder l) (Ok cursor) = holds cursor l
@@ -32,11 +34,13 @@ Opens holds (a_folder l) (Err Failed) = ⊥
 Opens holds s r = r ≡ Err Failed
 
 -- the answer where these items are to come, and then the others; all of them, where memory was refused
-abbrev pub NextIs : {C : Type 0} → (C → Items → Type 0) → Items → Result (Option ListItem) NoMemory → C → Type 0
+abbrev pub NextIs : {C : Type 0} → (C → Items → Type 0) → Items → Result (Option ListItem) NoMemory → C
+    → Type 0
 NextIs holds l (Ok answer) cursor = (option_map listed_of answer ≡ first_of l) × holds cursor (rest_of l)
 NextIs holds l (Err e) cursor = holds cursor l
 
--- the answer where so many items of this are asked for, unless memory was refused: the first ones of a folder; and nothing else can be listed
+-- the answer where so many items of this are asked for, unless memory was refused: the first ones of a
+-- folder; and nothing else can be listed
 abbrev pub ListIs : {Z : Type 0} → ℕ → Shown → Result (Vec ListItem Z) DirectoryFault → Type 0
 ListIs most s (Err Memory) = Unit {0}
 ListIs most (a_folder l) (Ok answer) = map listed_of answer.items ≡ take most (listing l)

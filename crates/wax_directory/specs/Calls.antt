@@ -10,19 +10,24 @@ use Rattle.wax_directory.specs.Counting.{Counts, kind_counts, opening_counts, ne
 use Rattle.wax_directory.specs.Law.{Law, ShowsSame, HoldsSame, HoldsLast}
 use Rattle.wax_directory.specs.Shown.{Items, Shown}
 
--- after this answer to `open`, of the folders that were told; where memory was refused, this one may be told or not
-abbrev pub TellsOpened : {A : Type 0} → (List (List ℕ) → Type 0) → List ℕ → Result A DirectoryFault → List (List ℕ) → Type 0
+-- after this answer to `open`, of the folders that were told; where memory was refused, this one may be told
+-- or not
+abbrev pub TellsOpened : {A : Type 0} → (List (List ℕ) → Type 0) → List ℕ → Result A DirectoryFault
+    → List (List ℕ) → Type 0
 TellsOpened tells path (Err Memory) told = tells told ⊎ tells (told ++ path ∷ [])
 TellsOpened tells path r told = tells (told ++ path ∷ [])
 
 module _ {D C : Type 0} (law : Law D C) where
   abbrev pub OpensAt : D → List ℕ → Result C DirectoryFault → D → Type 0
-  OpensAt old path r new = (cursors : List C) (ls : List Items) (s : Shown) → law.holds old cursors ls → law.shows old path s → Opens (HoldsLast law new cursors ls) s r
+  OpensAt old path r new = (cursors : List C) (ls : List Items) (s : Shown) → law.holds old cursors ls
+      → law.shows old path s → Opens (HoldsLast law new cursors ls) s r
 
   abbrev pub Nexts : D → C → Result (Option ListItem) NoMemory → D → C → Type 0
-  Nexts old cursor r new next = (cursors : List C) (ls : List Items) (l : Items) → HoldsLast law old cursors ls cursor l → NextIs (HoldsLast law new cursors ls) l r next
+  Nexts old cursor r new next = (cursors : List C) (ls : List Items) (l : Items)
+      → HoldsLast law old cursors ls cursor l → NextIs (HoldsLast law new cursors ls) l r next
 
-  pub record KindCall (old : D) (path : List ℕ) (r : Result (Option FileType) DirectoryFault) (new : D) : Type 0 where
+  pub record KindCall (old : D) (path : List ℕ) (r : Result (Option FileType) DirectoryFault) (new : D) : Type
+      0 where
     pub kind : (s : Shown) → law.shows old path s → KindIs s r
     pub shown : ShowsSame law old new
     pub held : HoldsSame law old new
@@ -36,7 +41,8 @@ module _ {D C : Type 0} (law : Law D C) where
     pub told : (t : List (List ℕ)) → law.tells old t → TellsOpened (law.tells new) path r t
     pub counted : Counts (opening_counts r) (law.tally old) (law.tally new)
 
-  pub record NextCall (old : D) (cursor : C) (r : Result (Option ListItem) NoMemory) (new : D) (next : C) : Type 0 where
+  pub record NextCall (old : D) (cursor : C) (r : Result (Option ListItem) NoMemory) (new : D)
+      (next : C) : Type 0 where
     pub nexts : Nexts old cursor r new next
     pub shown : ShowsSame law old new
     pub told : (t : List (List ℕ)) → law.tells old t → law.tells new t

@@ -1,5 +1,6 @@
 -- What a directory counts of the calls that were made.
-use Rattle.std.specs.Prelude.{◌≡◌, ℕ, ◌+◌, ◌^◌, ◌-◌, min, max, cond, List, [], ◌∷◌, Option, Some, None, Result, Ok, Err, string_bytes}
+use Rattle.std.specs.Prelude.{◌≡◌, ℕ, ◌+◌, ◌^◌, ◌-◌, min, max, cond, List, [], ◌∷◌, Option, Some, None}
+use Rattle.std.specs.Prelude.{Result, Ok, Err, string_bytes}
 use Rattle.wax_query.specs.declared.diagnostics.NoMemory.{NoMemory}
 use Rattle.wax_directory.specs.declared.directory.FileType.{FileType}
 use Rattle.wax_directory.specs.declared.directory.FileType.TheVariants as F
@@ -30,7 +31,8 @@ opening_counts (Err Memory) = no_counts
 
 -- what an item adds
 abbrev pub item_counts : ListItem → Tally
-item_counts (I.Name name kind) = record no_counts { items = 1; bad_names = cond (is_plain (string_bytes name)) 0 1 }
+item_counts (I.Name name kind) =
+    record no_counts { items = 1; bad_names = cond (is_plain (string_bytes name)) 0 1 }
 item_counts I.Failed = record no_counts { items = 1; failures = 1 }
 item_counts I.NotText = record no_counts { items = 1; failures = 1 }
 

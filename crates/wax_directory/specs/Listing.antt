@@ -11,10 +11,12 @@ use Rattle.wax_directory.specs.Shown.{Items, Shown}
 -- where something is shown at the path, the open cursors have what they had
 module _ {D C : Type 0} (law : Law D C) where
   abbrev pub HeldWhereShown : List ℕ → D → D → Type 0
-  HeldWhereShown path old new = (s : Shown) (cursors : List C) (ls : List Items) → law.shows old path s → law.holds old cursors ls → law.holds new cursors ls
+  HeldWhereShown path old new = (s : Shown) (cursors : List C) (ls : List Items) → law.shows old path s
+      → law.holds old cursors ls → law.holds new cursors ls
 
 -- the folder was told; where memory was refused, it may be told or not
-abbrev pub TellsListed : {Z : Type 0} → (List (List ℕ) → Type 0) → List ℕ → Result (Vec ListItem Z) DirectoryFault → List (List ℕ) → Type 0
+abbrev pub TellsListed : {Z : Type 0} → (List (List ℕ) → Type 0) → List ℕ
+    → Result (Vec ListItem Z) DirectoryFault → List (List ℕ) → Type 0
 TellsListed tells path (Err Memory) t = tells t ⊎ tells (t ++ path ∷ [])
 TellsListed tells path r t = tells (t ++ path ∷ [])
 
@@ -22,4 +24,5 @@ TellsListed tells path r t = tells (t ++ path ∷ [])
 abbrev pub CountsListed : {Z : Type 0} → ℕ → Result (Vec ListItem Z) DirectoryFault → Tally → Tally → Type 0
 CountsListed most (Ok answer) old new = Counts (items_counts answer.items) old new
 CountsListed most (Err Failed) old new = Counts (record no_counts { failures = 1 }) old new
-CountsListed most (Err Memory) old new = (items : List ListItem) × (length items ≤ most) × Counts (items_counts items) old new
+CountsListed most (Err Memory) old new = (items : List ListItem) × (length items ≤ most) × Counts
+    (items_counts items) old new

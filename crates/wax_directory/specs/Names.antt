@@ -5,7 +5,8 @@ use Rattle.std.specs.Str.{bytes_eq}
 
 -- neither empty nor `.` nor `..`
 abbrev pub is_entry_name : List ℕ → Bool
-is_entry_name name = not (bytes_eq name []) && (not (bytes_eq name (46 ∷ [])) && not (bytes_eq name (46 ∷ 46 ∷ [])))
+is_entry_name name = not (bytes_eq name []) &&
+    (not (bytes_eq name (46 ∷ [])) && not (bytes_eq name (46 ∷ 46 ∷ [])))
 
 -- a name that a path can hold
 abbrev pub is_plain : List ℕ → Bool

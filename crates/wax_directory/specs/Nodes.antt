@@ -1,5 +1,6 @@
 -- What a tree in memory holds, and what it shows.
-use Rattle.std.specs.Prelude.{◌≡◌, ℕ, true, false, cond, List, [], ◌∷◌, map, Option, Some, None, string_bytes, slice_get}
+use Rattle.std.specs.Prelude.{◌≡◌, ℕ, true, false, cond, List, [], ◌∷◌, map, Option, Some, None, string_bytes}
+use Rattle.std.specs.Prelude.{slice_get}
 use Rattle.std.specs.Str.{bytes_eq}
 use Rattle.wax_directory.specs.declared.directory.FileType.{FileType}
 use Rattle.wax_directory.specs.declared.directory.FileType.TheVariants.{Folder}
@@ -9,7 +10,9 @@ use Rattle.wax_directory.specs.declared.tree.Node.TheOpen.{Node-F, TreeItem-F}
 use Rattle.wax_directory.specs.declared.tree.Node.TheOpen as O
 use Rattle.wax_directory.specs.declared.tree.Node.TheViews.{out-Node, out-TreeItem}
 use Rattle.wax_directory.specs.declared.tree.Node.TheFolds.{fold-Node, fold-TreeItem}
-use Rattle.wax_directory.specs.Shown.{Items, end, leaf, folder, sealed, misnamed, unread, not_text, Shown, a_leaf, a_folder, a_sealed, missing, failing, Listed, named, no_item, no_name, leaf_kind}
+use Rattle.wax_directory.specs.Shown.{Items, end, leaf, folder, sealed, misnamed, unread, not_text, Shown}
+use Rattle.wax_directory.specs.Shown.{a_leaf, a_folder, a_sealed, missing, failing, Listed, named, no_item}
+use Rattle.wax_directory.specs.Shown.{no_name, leaf_kind}
 use Rattle.wax_directory.specs.Names.{is_plain, are_distinct}
 
 -- what a folder shows is of this kind
@@ -112,11 +115,13 @@ names_of (i ∷ items) = name_before (out-TreeItem i) (names_of items)
 
 -- no folder in this tree holds a name twice
 abbrev pub HasDistinctNames : Node → Type 0
-HasDistinctNames n = (places : List ℕ) (items : List TreeItem) → held_of (node_at places n) ≡ Some items → are_distinct (names_of items) ≡ true
+HasDistinctNames n = (places : List ℕ) (items : List TreeItem) → held_of (node_at places n) ≡ Some items
+    → are_distinct (names_of items) ≡ true
 
 -- some folder in this tree holds a name twice
 abbrev pub HasDuplicateName : Node → Type 0
-HasDuplicateName n = (places : List ℕ) × (items : List TreeItem) × (held_of (node_at places n) ≡ Some items) × (are_distinct (names_of items) ≡ false)
+HasDuplicateName n = (places : List ℕ) × (items : List TreeItem) × (held_of (node_at places n) ≡ Some items) ×
+    (are_distinct (names_of items) ≡ false)
 
 -- where the names of a path lead
 pub data Reached : Type 0 where
@@ -143,7 +148,8 @@ onward f (to_node n) = f n
 onward f to_nothing = to_nothing
 onward f to_sealed = to_sealed
 
--- from name to name: through a file or a link leads nothing, and a folder that can't be listed hides what is in it
+-- from name to name: through a file or a link leads nothing, and a folder that can't be listed hides what is
+-- in it
 abbrev pub reached : List (List ℕ) → Node → Reached
 reached [] n = to_node n
 reached (x ∷ names) n = onward (reached names) (below_layer x (out-Node n))

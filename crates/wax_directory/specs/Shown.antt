@@ -1,5 +1,6 @@
 -- What a directory shows: trees of files, links and folders, with faults at their places.
-use Rattle.std.specs.Prelude.{◌≡◌, ℕ, Bool, true, false, cond, List, [], ◌∷◌, ◌++◌, Option, Some, None, nat_eq}
+use Rattle.std.specs.Prelude.{◌≡◌, ℕ, Bool, true, false, cond, List, [], ◌∷◌, ◌++◌, Option, Some, None}
+use Rattle.std.specs.Prelude.{nat_eq}
 use Rattle.std.specs.List.{Contains}
 use Rattle.std.specs.Str.{bytes_eq, IsUtf8}
 use Rattle.wax_directory.specs.declared.directory.FileType.{FileType}
@@ -44,8 +45,10 @@ join path name = cond (is_open path) (path ++ name) (path ++ 47 ∷ name)
 -- each thing that a folder holds is shown at its path
 abbrev pub ShowsIn : (List ℕ → Shown → Type 0) → List ℕ → Items → Type 0
 ShowsIn shows path end = Unit {0}
-ShowsIn shows path (leaf x link rest) = IsPlain x × shows (join path x) (a_leaf link) × ShowsIn shows path rest
-ShowsIn shows path (folder x inner rest) = IsPlain x × shows (join path x) (a_folder inner) × ShowsIn shows path rest
+ShowsIn shows path (leaf x link rest) = IsPlain x × shows (join path x) (a_leaf link) × ShowsIn shows path
+    rest
+ShowsIn shows path (folder x inner rest) = IsPlain x × shows (join path x) (a_folder inner) × ShowsIn shows
+    path rest
 ShowsIn shows path (sealed x rest) = IsPlain x × shows (join path x) a_sealed × ShowsIn shows path rest
 ShowsIn shows path (misnamed x kind rest) = ¬ (IsPlain x) × ShowsIn shows path rest
 ShowsIn shows path (unread rest) = ShowsIn shows path rest
@@ -61,7 +64,8 @@ child_in x (misnamed y kind rest) = child_in x rest
 child_in x (unread rest) = child_in x rest
 child_in x (not_text rest) = child_in x rest
 
--- what stands under a name in what is shown: a folder that can't be listed hides it, and nothing is in a file or a link
+-- what stands under a name in what is shown: a folder that can't be listed hides it, and nothing is in a file
+-- or a link
 abbrev pub child_shown : List ℕ → Shown → Shown
 child_shown x (a_leaf link) = missing
 child_shown x (a_folder l) = child_in x l

@@ -1,9 +1,13 @@
 -- What a folder of a tree holds is shown at its path.
-use Rattle.std.proofs.Common.{◌≡◌, ◌<◌, ◌+◌, arith, ℕ, zero, suc, Bool, true, false, not, cond, ◌&&◌, ◌==◌, ◌⊎◌, List, [], ◌∷◌, ◌++◌, filter, Option, Some, None, string_bytes, slice_get, slice_index_or, if◌then◌else◌, refl, sym, ◌∙◌, ap, subst, inl, inr, append_assoc, append-nil}
+use Rattle.std.proofs.Common.{◌≡◌, ◌<◌, ◌+◌, arith, ℕ, zero, suc, Bool, true, false, not, cond, ◌&&◌, ◌==◌}
+use Rattle.std.proofs.Common.{◌⊎◌, List, [], ◌∷◌, ◌++◌, filter, Option, Some, None, string_bytes, slice_get}
+use Rattle.std.proofs.Common.{slice_index_or, if◌then◌else◌, refl, sym, ◌∙◌, ap, subst, inl, inr}
+use Rattle.std.proofs.Common.{append_assoc, append-nil}
 use Rattle.std.specs.List.{slice_split, onto_first, list_any, Contains, Any}
 use Rattle.std.specs.Str.{bytes_eq, IsUtf8}
 use Rattle.std.proofs.lemmas.Str.{IsUtf8-string_bytes}
-use Rattle.std.proofs.lemmas.Bool.{and_parts, and_cases, or_parts, not-true, not-false, cond-true, cond-false, false≢true}
+use Rattle.std.proofs.lemmas.Bool.{and_parts, and_cases, or_parts, not-true, not-false, cond-true, cond-false}
+use Rattle.std.proofs.lemmas.Bool.{false≢true}
 use Rattle.std.proofs.lemmas.Slice.Eq.{bytes_eq-Decides}
 use Rattle.std.proofs.lemmas.Bool.Decides.{Decides-eqb}
 use Rattle.std.proofs.lemmas.List.Folds.{Any-from_list_any, list_any_at}
@@ -13,27 +17,41 @@ use Rattle.wax_directory.specs.declared.tree.Node.{Node}
 use Rattle.wax_directory.specs.declared.tree.TreeItem.{TreeItem}
 use Rattle.wax_directory.specs.declared.tree.Node.TheOpen.{Node-F, TreeItem-F}
 use Rattle.wax_directory.specs.declared.tree.Node.TheOpen as O
-use Rattle.wax_directory.specs.declared.tree.Node.TheViews.{out-Node, out-TreeItem, roll-Node, roll-TreeItem, roll-out-Node, roll-out-TreeItem}
+use Rattle.wax_directory.specs.declared.tree.Node.TheViews.{out-Node, out-TreeItem, roll-Node, roll-TreeItem}
+use Rattle.wax_directory.specs.declared.tree.Node.TheViews.{roll-out-Node, roll-out-TreeItem}
 use Rattle.wax_directory.specs.declared.tree.Node.TheFolds.{fold-roll-Node, fold-roll-TreeItem}
-use Rattle.wax_directory.specs.Shown.{Items, end, leaf, folder, sealed, misnamed, unread, not_text, Shown, a_leaf, a_folder, a_sealed, missing, failing, IsPlain, is_open, join, ShowsIn, child_in, child_shown, IsNew, AreDistinct, IsDistinct}
-use Rattle.wax_directory.specs.Names.{is_entry_name, is_plain, is_some_name, names_in_path, is_rooted, are_distinct}
-use Rattle.wax_directory.specs.Nodes.{kind_of, with_plain, with_entry, item_step, node_step, shown_of, item_shown, items_shown, entry_layer, entry_of, held_layer, held, held_of, child_of, child_at, and_below, node_at, name_before, names_of, HasDistinctNames, Reached, to_node, to_nothing, to_sealed, named_before, named_in, below_layer, onward, reached, shown_reached}
+use Rattle.wax_directory.specs.Shown.{Items, end, leaf, folder, sealed, misnamed, unread, not_text, Shown}
+use Rattle.wax_directory.specs.Shown.{a_leaf, a_folder, a_sealed, missing, failing, IsPlain, is_open, join}
+use Rattle.wax_directory.specs.Shown.{ShowsIn, child_in, child_shown, IsNew, AreDistinct, IsDistinct}
+use Rattle.wax_directory.specs.Names.{is_entry_name, is_plain, is_some_name, names_in_path, is_rooted}
+use Rattle.wax_directory.specs.Names.{are_distinct}
+use Rattle.wax_directory.specs.Nodes.{kind_of, with_plain, with_entry, item_step, node_step, shown_of}
+use Rattle.wax_directory.specs.Nodes.{item_shown, items_shown, entry_layer, entry_of, held_layer, held}
+use Rattle.wax_directory.specs.Nodes.{held_of, child_of, child_at, and_below, node_at, name_before, names_of}
+use Rattle.wax_directory.specs.Nodes.{HasDistinctNames, Reached, to_node, to_nothing, to_sealed, named_before}
+use Rattle.wax_directory.specs.Nodes.{named_in, below_layer, onward, reached, shown_reached}
 use Rattle.wax_directory.specs.Trees.{tree_shows, reached_in}
 
 -- ---- places
 
-and_below_same : (f g h : Node → Option Node) → ((m : Node) → f m ≡ and_below g (h m)) → (o : Option Node) → and_below f o ≡ and_below g (and_below h o)
+and_below_same : (f g h : Node → Option Node) → ((m : Node) → f m ≡ and_below g (h m)) → (o : Option Node)
+    → and_below f o ≡ and_below g (and_below h o)
 and_below_same f g h e None = refl
 and_below_same f g h e (Some m) = e m
 
-pub node_at-append : (places more : List ℕ) (n : Node) → node_at (places ++ more) n ≡ and_below (node_at more) (node_at places n)
+pub node_at-append : (places more : List ℕ) (n : Node) → node_at (places ++ more) n ≡ and_below (node_at more)
+    (node_at places n)
 node_at-append [] more n = refl
-node_at-append (p ∷ places) more n = and_below_same (node_at (places ++ more)) (node_at more) (node_at places) (node_at-append places more) (child_at p n)
+node_at-append (p ∷ places) more n = and_below_same (node_at (places ++ more)) (node_at more) (node_at places)
+    (node_at-append places more) (child_at p n)
 
-pub distinct_at : (places : List ℕ) (n m : Node) → node_at places n ≡ Some m → HasDistinctNames n → HasDistinctNames m
-distinct_at places n m e d = λ more items h. d (places ++ more) items (ap held_of (node_at-append places more n ∙ ap (and_below (node_at more)) e) ∙ h)
+pub distinct_at : (places : List ℕ) (n m : Node) → node_at places n ≡ Some m → HasDistinctNames n
+    → HasDistinctNames m
+distinct_at places n m e d = λ more items h. d (places ++ more) items
+    (ap held_of (node_at-append places more n ∙ ap (and_below (node_at more)) e) ∙ h)
 
-pub distinct_child : (place : ℕ) (n m : Node) → child_at place n ≡ Some m → HasDistinctNames n → HasDistinctNames m
+pub distinct_child : (place : ℕ) (n m : Node) → child_at place n ≡ Some m → HasDistinctNames n
+    → HasDistinctNames m
 distinct_child place n m e = distinct_at (place ∷ []) n m (ap (and_below (node_at [])) e)
 
 -- ---- where names lead
@@ -53,19 +71,24 @@ IsPlaced items m = (place : ℕ) × (entry_of (slice_get items place) ≡ Some m
 one_later : (i : TreeItem) (items : List TreeItem) (m : Node) → IsPlaced items m → IsPlaced (i ∷ items) m
 one_later i items m p = (suc p.0, p.1)
 
-placed_layer : (x : List ℕ) (i : TreeItem) (items : List TreeItem) (m : Node) (k : TreeItem-F Node TreeItem) → out-TreeItem i ≡ k → (named_in x items ≡ to_node m → IsPlaced items m) → named_before x k (named_in x items) ≡ to_node m → IsPlaced (i ∷ items) m
-placed_layer x i items m (O.Entry name node) is later e = elim (bytes_eq (string_bytes name) x) as (λ b. cond b (to_node node) (named_in x items) ≡ to_node m → IsPlaced (i ∷ items) m) [
-  | true ↦ λ h. (0, ap entry_layer is ∙ ap Some (to_node_same node m h))
-  | false ↦ λ h. one_later i items m (later h)
-] e
+placed_layer : (x : List ℕ) (i : TreeItem) (items : List TreeItem) (m : Node) (k : TreeItem-F Node TreeItem)
+    → out-TreeItem i ≡ k → (named_in x items ≡ to_node m → IsPlaced items m)
+    → named_before x k (named_in x items) ≡ to_node m → IsPlaced (i ∷ items) m
+placed_layer x i items m (O.Entry name node) is later e = elim (bytes_eq (string_bytes name) x) as
+    (λ b. cond b (to_node node) (named_in x items) ≡ to_node m → IsPlaced (i ∷ items) m) [
+      | true ↦ λ h. (0, ap entry_layer is ∙ ap Some (to_node_same node m h))
+      | false ↦ λ h. one_later i items m (later h)
+    ] e
 placed_layer x i items m O.Failed is later e = one_later i items m (later e)
 placed_layer x i items m O.NotText is later e = one_later i items m (later e)
 
-named_placed : (x : List ℕ) (items : List TreeItem) (m : Node) → named_in x items ≡ to_node m → IsPlaced items m
+named_placed : (x : List ℕ) (items : List TreeItem) (m : Node) → named_in x items ≡ to_node m
+    → IsPlaced items m
 named_placed x [] m e = absurd (cc)
 named_placed x (i ∷ items) m e = placed_layer x i items m (out-TreeItem i) refl (named_placed x items m) e
 
-below_child_layer : (x : List ℕ) (n m : Node) (k : Node-F Node TreeItem) → out-Node n ≡ k → below_layer x k ≡ to_node m → (place : ℕ) × (child_at place n ≡ Some m)
+below_child_layer : (x : List ℕ) (n m : Node) (k : Node-F Node TreeItem) → out-Node n ≡ k
+    → below_layer x k ≡ to_node m → (place : ℕ) × (child_at place n ≡ Some m)
 below_child_layer x n m (O.Folder items) is e =
     let p : IsPlaced items.items m = named_placed x items.items m e in
     (p.0, ap (λ k. child_of (held_layer k) p.0) is ∙ p.1)
@@ -74,25 +97,33 @@ below_child_layer x n m O.Link is e = absurd (cc)
 below_child_layer x n m O.Sealed is e = absurd (cc)
 
 -- names are distinct below
-distinct_onward : (x : List ℕ) (names : List (List ℕ)) (n m : Node) (r : Reached) → below_layer x (out-Node n) ≡ r → onward (reached names) r ≡ to_node m → HasDistinctNames n → ((k : Node) → reached names k ≡ to_node m → HasDistinctNames k → HasDistinctNames m) → HasDistinctNames m
+distinct_onward : (x : List ℕ) (names : List (List ℕ)) (n m : Node) (r : Reached)
+    → below_layer x (out-Node n) ≡ r → onward (reached names) r ≡ to_node m → HasDistinctNames n
+    → ((k : Node) → reached names k ≡ to_node m → HasDistinctNames k → HasDistinctNames m)
+    → HasDistinctNames m
 distinct_onward x names n m (to_node k) is e d later =
     let c : (place : ℕ) × (child_at place n ≡ Some k) = below_child_layer x n k (out-Node n) refl is in
     later k e (distinct_child c.0 n k c.1 d)
 distinct_onward x names n m to_nothing is e d later = absurd (cc)
 distinct_onward x names n m to_sealed is e d later = absurd (cc)
 
-distinct_reached : (names : List (List ℕ)) (n m : Node) → reached names n ≡ to_node m → HasDistinctNames n → HasDistinctNames m
+distinct_reached : (names : List (List ℕ)) (n m : Node) → reached names n ≡ to_node m → HasDistinctNames n
+    → HasDistinctNames m
 distinct_reached [] n m e d = subst HasDistinctNames (to_node_same n m e) d
-distinct_reached (x ∷ names) n m e d = distinct_onward x names n m (below_layer x (out-Node n)) refl e d (λ k h g. distinct_reached names k m h g)
+distinct_reached (x ∷ names) n m e d = distinct_onward x names n m (below_layer x (out-Node n)) refl e d
+    (λ k h g. distinct_reached names k m h g)
 
-onward_same : (f g h : Node → Reached) → ((n : Node) → f n ≡ onward g (h n)) → (r : Reached) → onward f r ≡ onward g (onward h r)
+onward_same : (f g h : Node → Reached) → ((n : Node) → f n ≡ onward g (h n)) → (r : Reached)
+    → onward f r ≡ onward g (onward h r)
 onward_same f g h e (to_node n) = e n
 onward_same f g h e to_nothing = refl
 onward_same f g h e to_sealed = refl
 
-reached-append : (names more : List (List ℕ)) (n : Node) → reached (names ++ more) n ≡ onward (reached more) (reached names n)
+reached-append : (names more : List (List ℕ)) (n : Node) → reached (names ++ more) n ≡ onward (reached more)
+    (reached names n)
 reached-append [] more n = refl
-reached-append (x ∷ names) more n = onward_same (reached (names ++ more)) (reached more) (reached names) (reached-append names more) (below_layer x (out-Node n))
+reached-append (x ∷ names) more n = onward_same (reached (names ++ more)) (reached more) (reached names)
+    (reached-append names more) (below_layer x (out-Node n))
 
 -- ---- what a node shows
 
@@ -117,7 +148,8 @@ item_layer_shown O.Failed = unread
 item_layer_shown O.NotText = not_text
 
 roll_item_shown : (k : TreeItem-F Node TreeItem) → item_shown (roll-TreeItem k) ≡ item_layer_shown k
-roll_item_shown (O.Entry name n) = fold-roll-TreeItem Shown (Items → Items) node_step item_step (O.Entry name n)
+roll_item_shown (O.Entry name n) = fold-roll-TreeItem Shown (Items → Items) node_step item_step
+    (O.Entry name n)
 roll_item_shown O.Failed = fold-roll-TreeItem Shown (Items → Items) node_step item_step O.Failed
 roll_item_shown O.NotText = fold-roll-TreeItem Shown (Items → Items) node_step item_step O.NotText
 
@@ -129,34 +161,49 @@ items_or d (a_folder l) = l
 items_or d s = d
 
 -- what shows a folder is one
-folder_layer : (n : Node) (l : Items) (k : Node-F Node TreeItem) → out-Node n ≡ k → layer_shown k ≡ a_folder l → (items : List TreeItem) × (held n ≡ Some items) × ((x : List ℕ) → below_layer x (out-Node n) ≡ named_in x items) × (items_shown items ≡ l)
-folder_layer n l (O.Folder items) is e = (items.items, ap held_layer is, (λ x. ap (below_layer x) is), ap (items_or end) e)
+folder_layer : (n : Node) (l : Items) (k : Node-F Node TreeItem) → out-Node n ≡ k → layer_shown k ≡ a_folder l
+    → (items : List TreeItem) × (held n ≡ Some items) ×
+    ((x : List ℕ) → below_layer x (out-Node n) ≡ named_in x items) × (items_shown items ≡ l)
+folder_layer n l (O.Folder items) is e =
+    (items.items, ap held_layer is, (λ x. ap (below_layer x) is), ap (items_or end) e)
 folder_layer n l O.File is e = absurd (cc)
 folder_layer n l O.Link is e = absurd (cc)
 folder_layer n l O.Sealed is e = absurd (cc)
 
 -- ---- names
 
-split_cons : (xs : List ℕ) → (part : List ℕ) × (parts : List (List ℕ)) × (slice_split (λ c. c == 47) xs ≡ part ∷ parts)
+split_cons : (xs : List ℕ) → (part : List ℕ) × (parts : List (List ℕ)) ×
+    (slice_split (λ c. c == 47) xs ≡ part ∷ parts)
 split_cons [] = ([], [], refl)
 split_cons (x ∷ xs) =
-    let h : (part : List ℕ) × (parts : List (List ℕ)) × (slice_split (λ c. c == 47) xs ≡ part ∷ parts) = split_cons xs in
-    elim (x == 47) as (λ b. (part : List ℕ) × (parts : List (List ℕ)) × (cond b ([] ∷ slice_split (λ c. c == 47) xs) (onto_first x (slice_split (λ c. c == 47) xs)) ≡ part ∷ parts)) [
+    let h : (part : List ℕ) × (parts : List (List ℕ)) × (slice_split (λ c. c == 47) xs ≡ part ∷ parts) =
+    split_cons xs in
+    elim (x == 47) as (λ b. (part : List ℕ) × (parts : List (List ℕ)) ×
+    (cond b ([] ∷ slice_split (λ c. c == 47) xs) (onto_first x (slice_split (λ c. c == 47) xs)) ≡ part ∷
+    parts)) [
       | true ↦ ([], slice_split (λ c. c == 47) xs, refl)
       | false ↦ (x ∷ h.0, h.1, ap (onto_first x) h.2)
     ]
 
-onto_first-append : (x : ℕ) (one two : List (List ℕ)) (part : List ℕ) (parts : List (List ℕ)) → one ≡ part ∷ parts → onto_first x (one ++ two) ≡ onto_first x one ++ two
-onto_first-append x one two part parts e = let P : List (List ℕ) → Type 0 = λ a. onto_first x (a ++ two) ≡ onto_first x a ++ two in subst P (sym e) refl
+onto_first-append : (x : ℕ) (one two : List (List ℕ)) (part : List ℕ) (parts : List (List ℕ))
+    → one ≡ part ∷ parts → onto_first x (one ++ two) ≡ onto_first x one ++ two
+onto_first-append x one two part parts e = let P : List (List ℕ) → Type 0 =
+    λ a. onto_first x (a ++ two) ≡ onto_first x a ++ two in subst P (sym e) refl
 
 -- a path is cut at a `/` in it
-split_seam : (xs ys : List ℕ) → slice_split (λ c. c == 47) (xs ++ 47 ∷ ys) ≡ slice_split (λ c. c == 47) xs ++ slice_split (λ c. c == 47) ys
+split_seam : (xs ys : List ℕ) → slice_split (λ c. c == 47) (xs ++ 47 ∷ ys) ≡ slice_split (λ c. c == 47) xs ++
+    slice_split (λ c. c == 47) ys
 split_seam [] ys = refl
 split_seam (x ∷ xs) ys =
-    let s : (part : List ℕ) × (parts : List (List ℕ)) × (slice_split (λ c. c == 47) xs ≡ part ∷ parts) = split_cons xs in
-    elim (x == 47) as (λ b. cond b ([] ∷ slice_split (λ c. c == 47) (xs ++ 47 ∷ ys)) (onto_first x (slice_split (λ c. c == 47) (xs ++ 47 ∷ ys))) ≡ cond b ([] ∷ slice_split (λ c. c == 47) xs) (onto_first x (slice_split (λ c. c == 47) xs)) ++ slice_split (λ c. c == 47) ys) [
+    let s : (part : List ℕ) × (parts : List (List ℕ)) × (slice_split (λ c. c == 47) xs ≡ part ∷ parts) =
+    split_cons xs in
+    elim (x == 47) as (λ b. cond b ([] ∷ slice_split (λ c. c == 47) (xs ++ 47 ∷ ys))
+    (onto_first x (slice_split (λ c. c == 47) (xs ++ 47 ∷ ys))) ≡ cond b
+    ([] ∷ slice_split (λ c. c == 47) xs) (onto_first x (slice_split (λ c. c == 47) xs)) ++ slice_split
+    (λ c. c == 47) ys) [
       | true ↦ ap (λ r. [] ∷ r) (split_seam xs ys)
-      | false ↦ ap (onto_first x) (split_seam xs ys) ∙ onto_first-append x (slice_split (λ c. c == 47) xs) (slice_split (λ c. c == 47) ys) s.0 s.1 s.2
+      | false ↦ ap (onto_first x) (split_seam xs ys) ∙ onto_first-append x (slice_split (λ c. c == 47) xs)
+          (slice_split (λ c. c == 47) ys) s.0 s.1 s.2
     ]
 
 -- what is said of a plain name
@@ -168,7 +215,8 @@ pub record Plainly (x : List ℕ) : Type 0 where
 split_one : (x : List ℕ) → list_any (λ c. c == 47) x ≡ false → slice_split (λ c. c == 47) x ≡ x ∷ []
 split_one [] h = refl
 split_one (c ∷ x) h =
-    let p : ((c == 47) ≡ false) × (list_any (λ c. c == 47) x ≡ false) = or_parts (c == 47) (list_any (λ c. c == 47) x) h in
+    let p : ((c == 47) ≡ false) × (list_any (λ c. c == 47) x ≡ false) =
+    or_parts (c == 47) (list_any (λ c. c == 47) x) h in
     cond-false (c == 47) _ _ p.0 ∙ ap (onto_first c) (split_one x p.1)
 
 not_rooted : (x : List ℕ) → list_any (λ c. c == 47) x ≡ false → is_rooted x ≡ false
@@ -193,7 +241,12 @@ no_slash x h = elim (list_any (λ c. c == 47) x) as (λ b. list_any (λ c. c == 
 ] refl
 
 plainly : (x : List ℕ) → IsPlain x → Plainly x
-plainly x p = record { some = has_some x p.not_empty; whole = split_one x (no_slash x p.one_name); rooted = not_rooted x (no_slash x p.one_name) }
+plainly x p = record {
+  some = has_some x p.not_empty;
+  whole = split_one x (no_slash x p.one_name);
+  rooted =
+      not_rooted x (no_slash x p.one_name);
+}
 
 is_not : (x y : List ℕ) → not (bytes_eq x y) ≡ true → ¬ (x ≡ y)
 is_not x y h e = false≢true (sym (not-true (bytes_eq x y) h) ∙ (bytes_eq-Decides x y).1 e)
@@ -206,20 +259,32 @@ not_within x h k = false≢true (sym h ∙ list_any_at (λ c. c == 47) x k.0 47 
 
 pub plain_of : (x : List ℕ) → IsUtf8 x → is_plain x ≡ true → IsPlain x
 plain_of x text h =
-    let p : (is_entry_name x ≡ true) × (not (list_any (λ c. c == 47) x) ≡ true) = and_parts (is_entry_name x) (not (list_any (λ c. c == 47) x)) h in
-    let q : (not (bytes_eq x []) ≡ true) × ((not (bytes_eq x (46 ∷ [])) && not (bytes_eq x (46 ∷ 46 ∷ []))) ≡ true) = and_parts (not (bytes_eq x [])) (not (bytes_eq x (46 ∷ [])) && not (bytes_eq x (46 ∷ 46 ∷ []))) p.0 in
-    let r : (not (bytes_eq x (46 ∷ [])) ≡ true) × (not (bytes_eq x (46 ∷ 46 ∷ [])) ≡ true) = and_parts (not (bytes_eq x (46 ∷ []))) (not (bytes_eq x (46 ∷ 46 ∷ []))) q.1 in
-    record { text = text; not_empty = is_not x [] q.0; not_here = is_not x (46 ∷ []) r.0; not_above = is_not x (46 ∷ 46 ∷ []) r.1; one_name = not_within x (not-true (list_any (λ c. c == 47) x) p.1) }
+    let p : (is_entry_name x ≡ true) × (not (list_any (λ c. c == 47) x) ≡ true) = and_parts (is_entry_name x)
+    (not (list_any (λ c. c == 47) x)) h in
+    let q : (not (bytes_eq x []) ≡ true) ×
+    ((not (bytes_eq x (46 ∷ [])) && not (bytes_eq x (46 ∷ 46 ∷ []))) ≡ true) =
+    and_parts (not (bytes_eq x [])) (not (bytes_eq x (46 ∷ [])) && not (bytes_eq x (46 ∷ 46 ∷ []))) p.0 in
+    let r : (not (bytes_eq x (46 ∷ [])) ≡ true) × (not (bytes_eq x (46 ∷ 46 ∷ [])) ≡ true) =
+    and_parts (not (bytes_eq x (46 ∷ []))) (not (bytes_eq x (46 ∷ 46 ∷ []))) q.1 in
+    record {
+      text = text;
+      not_empty = is_not x [] q.0;
+      not_here = is_not x (46 ∷ []) r.0;
+      not_above =
+          is_not x (46 ∷ 46 ∷ []) r.1;
+      one_name = not_within x (not-true (list_any (λ c. c == 47) x) p.1);
+    }
 
 pub not_plain : (x : List ℕ) → is_plain x ≡ false → ¬ (IsPlain x)
 not_plain x h p = elim (and_cases (is_entry_name x) (not (list_any (λ c. c == 47) x)) h) [
-  | inl a ↦ elim (and_cases (not (bytes_eq x [])) (not (bytes_eq x (46 ∷ [])) && not (bytes_eq x (46 ∷ 46 ∷ []))) a) [
-    | inl b ↦ p.not_empty (is_it x [] b)
-    | inr b ↦ elim (and_cases (not (bytes_eq x (46 ∷ []))) (not (bytes_eq x (46 ∷ 46 ∷ []))) b) [
-      | inl c ↦ p.not_here (is_it x (46 ∷ []) c)
-      | inr c ↦ p.not_above (is_it x (46 ∷ 46 ∷ []) c)
-    ]
-  ]
+  | inl a ↦ elim (and_cases (not (bytes_eq x []))
+      (not (bytes_eq x (46 ∷ [])) && not (bytes_eq x (46 ∷ 46 ∷ []))) a) [
+        | inl b ↦ p.not_empty (is_it x [] b)
+        | inr b ↦ elim (and_cases (not (bytes_eq x (46 ∷ []))) (not (bytes_eq x (46 ∷ 46 ∷ []))) b) [
+          | inl c ↦ p.not_here (is_it x (46 ∷ []) c)
+          | inr c ↦ p.not_above (is_it x (46 ∷ 46 ∷ []) c)
+        ]
+      ]
   | inr a ↦ p.one_name (slash_within x (not-false (list_any (λ c. c == 47) x) a))
 ]
 
@@ -242,23 +307,32 @@ names_alone : (x : List ℕ) → Plainly x → names_in_path x ≡ x ∷ []
 names_alone x h = ap (filter is_some_name) h.whole ∙ cond-true (is_some_name x) (x ∷ []) [] h.some
 
 names_closed : (p : List ℕ) → names_in_path (p ++ 47 ∷ []) ≡ names_in_path p
-names_closed p = ap (filter is_some_name) (split_seam p []) ∙ filter-append is_some_name (slice_split (λ c. c == 47) p) ([] ∷ []) ∙ append-nil (names_in_path p)
+names_closed p = ap (filter is_some_name) (split_seam p []) ∙ filter-append is_some_name
+    (slice_split (λ c. c == 47) p) ([] ∷ []) ∙ append-nil (names_in_path p)
 
-names_open : (path x : List ℕ) → Plainly x → (path ≡ []) ⊎ ((p : List ℕ) × (path ≡ p ++ 47 ∷ [])) → names_in_path (path ++ x) ≡ names_in_path path ++ x ∷ []
-names_open path x h (inl e) = let P : List ℕ → Type 0 = λ q. names_in_path (q ++ x) ≡ names_in_path q ++ x ∷ [] in subst P (sym e) (names_alone x h)
+names_open : (path x : List ℕ) → Plainly x → (path ≡ []) ⊎ ((p : List ℕ) × (path ≡ p ++ 47 ∷ []))
+    → names_in_path (path ++ x) ≡ names_in_path path ++ x ∷ []
+names_open path x h (inl e) = let P : List ℕ → Type 0 = λ q. names_in_path (q ++ x) ≡ names_in_path q ++ x ∷
+    [] in subst P (sym e) (names_alone x h)
 names_open path x h (inr q) =
     let P : List ℕ → Type 0 = λ r. names_in_path (r ++ x) ≡ names_in_path r ++ x ∷ [] in
-    subst P (sym q.1) (ap names_in_path (append_assoc q.0 (47 ∷ []) x) ∙ names_seam q.0 x h ∙ ap (λ r. r ++ x ∷ []) (sym (names_closed q.0)))
+    subst P (sym q.1) (ap names_in_path (append_assoc q.0 (47 ∷ []) x) ∙ names_seam q.0 x h ∙ ap
+    (λ r. r ++ x ∷ []) (sym (names_closed q.0)))
 
 names_join : (path x : List ℕ) → Plainly x → names_in_path (join path x) ≡ names_in_path path ++ x ∷ []
-names_join path x h = elim (is_open path) as (λ b. is_open path ≡ b → names_in_path (cond b (path ++ x) (path ++ 47 ∷ x)) ≡ names_in_path path ++ x ∷ []) [
-  | true ↦ λ e. names_open path x h (open_cases path e)
-  | false ↦ λ e. names_seam path x h
-] refl
+names_join path x h =
+    elim (is_open path) as
+    (λ b. is_open path ≡ b → names_in_path (cond b (path ++ x) (path ++ 47 ∷ x)) ≡ names_in_path path ++ x ∷
+    []) [
+      | true ↦ λ e. names_open path x h (open_cases path e)
+      | false ↦ λ e. names_seam path x h
+    ] refl
 
 rooted_join : (path x : List ℕ) → Plainly x → is_rooted (join path x) ≡ is_rooted path
 rooted_join [] x h = h.rooted
-rooted_join (c ∷ path) x h = elim (is_open (c ∷ path)) as (λ b. is_rooted (cond b ((c ∷ path) ++ x) ((c ∷ path) ++ 47 ∷ x)) ≡ (c == 47)) [ true ↦ refl | false ↦ refl ]
+rooted_join (c ∷ path) x h = elim (is_open (c ∷ path)) as
+    (λ b. is_rooted (cond b ((c ∷ path) ++ x) ((c ∷ path) ++ 47 ∷ x)) ≡ (c == 47))
+    [ true ↦ refl | false ↦ refl ]
 
 -- ---- each item of a folder whose names are distinct is found
 
@@ -275,38 +349,56 @@ abbrev pub ApartLayer : TreeItem-F Node TreeItem → List (List ℕ) → Type 0
 ApartLayer (O.Entry name n) names = list_any (bytes_eq (string_bytes name)) names ≡ false
 ApartLayer k names = Unit {0}
 
-apart_rest : (a k : TreeItem-F Node TreeItem) (names : List (List ℕ)) → ApartLayer a (name_before k names) → ApartLayer a names
-apart_rest (O.Entry name n) (O.Entry other m) names h = (or_parts (bytes_eq (string_bytes name) (string_bytes other)) (list_any (bytes_eq (string_bytes name)) names) h).1
+apart_rest : (a k : TreeItem-F Node TreeItem) (names : List (List ℕ)) → ApartLayer a (name_before k names)
+    → ApartLayer a names
+apart_rest (O.Entry name n) (O.Entry other m) names h =
+    (or_parts (bytes_eq (string_bytes name) (string_bytes other))
+    (list_any (bytes_eq (string_bytes name)) names) h).1
 apart_rest (O.Entry name n) O.Failed names h = h
 apart_rest (O.Entry name n) O.NotText names h = h
 apart_rest O.Failed k names h = tt
 apart_rest O.NotText k names h = tt
 
-found_step : (i : TreeItem) (items : List TreeItem) (a k : TreeItem-F Node TreeItem) (names : List (List ℕ)) → out-TreeItem i ≡ a → ApartLayer a (name_before k names) → FoundLayer items k → FoundLayer (i ∷ items) k
+found_step : (i : TreeItem) (items : List TreeItem) (a k : TreeItem-F Node TreeItem) (names : List (List ℕ))
+    → out-TreeItem i ≡ a → ApartLayer a (name_before k names) → FoundLayer items k → FoundLayer (i ∷ items) k
 found_step i items (O.Entry name n) (O.Entry other m) names is h f =
     ap (λ l. named_before (string_bytes other) l (named_in (string_bytes other) items)) is
-    ∙ cond-false (bytes_eq (string_bytes name) (string_bytes other)) (to_node n) (named_in (string_bytes other) items) (or_parts (bytes_eq (string_bytes name) (string_bytes other)) (list_any (bytes_eq (string_bytes name)) names) h).0
+    ∙ cond-false (bytes_eq (string_bytes name) (string_bytes other)) (to_node n)
+    (named_in (string_bytes other) items)
+    (or_parts (bytes_eq (string_bytes name) (string_bytes other))
+    (list_any (bytes_eq (string_bytes name)) names) h).0
     ∙ f
-found_step i items O.Failed (O.Entry other m) names is h f = ap (λ l. named_before (string_bytes other) l (named_in (string_bytes other) items)) is ∙ f
-found_step i items O.NotText (O.Entry other m) names is h f = ap (λ l. named_before (string_bytes other) l (named_in (string_bytes other) items)) is ∙ f
+found_step i items O.Failed (O.Entry other m) names is h f =
+    ap (λ l. named_before (string_bytes other) l (named_in (string_bytes other) items)) is ∙ f
+found_step i items O.NotText (O.Entry other m) names is h f =
+    ap (λ l. named_before (string_bytes other) l (named_in (string_bytes other) items)) is ∙ f
 found_step i items a O.Failed names is h f = tt
 found_step i items a O.NotText names is h f = tt
 
-found_later : (i : TreeItem) (items suffix : List TreeItem) (a : TreeItem-F Node TreeItem) → out-TreeItem i ≡ a → ApartLayer a (names_of suffix) → Found items suffix → Found (i ∷ items) suffix
+found_later : (i : TreeItem) (items suffix : List TreeItem) (a : TreeItem-F Node TreeItem)
+    → out-TreeItem i ≡ a → ApartLayer a (names_of suffix) → Found items suffix → Found (i ∷ items) suffix
 found_later i items [] a is h f = tt
-found_later i items (j ∷ suffix) a is h f =
-    (found_step i items a (out-TreeItem j) (names_of suffix) is h f.0, found_later i items suffix a is (apart_rest a (out-TreeItem j) (names_of suffix) h) f.1)
+found_later i items (j ∷ suffix) a is h f = (
+  found_step i items a (out-TreeItem j) (names_of suffix) is h f.0,
+  found_later i items suffix a is
+      (apart_rest a (out-TreeItem j) (names_of suffix) h) f.1,
+)
 
-found_head : (i : TreeItem) (items : List TreeItem) (a : TreeItem-F Node TreeItem) → out-TreeItem i ≡ a → FoundLayer (i ∷ items) a
+found_head : (i : TreeItem) (items : List TreeItem) (a : TreeItem-F Node TreeItem) → out-TreeItem i ≡ a
+    → FoundLayer (i ∷ items) a
 found_head i items (O.Entry name n) is =
     ap (λ l. named_before (string_bytes name) l (named_in (string_bytes name) items)) is
-    ∙ cond-true (bytes_eq (string_bytes name) (string_bytes name)) (to_node n) (named_in (string_bytes name) items) ((bytes_eq-Decides (string_bytes name) (string_bytes name)).1 refl)
+    ∙ cond-true (bytes_eq (string_bytes name) (string_bytes name)) (to_node n)
+    (named_in (string_bytes name) items)
+    ((bytes_eq-Decides (string_bytes name) (string_bytes name)).1 refl)
 found_head i items O.Failed is = tt
 found_head i items O.NotText is = tt
 
-distinct_parts : (a : TreeItem-F Node TreeItem) (names : List (List ℕ)) → are_distinct (name_before a names) ≡ true → ApartLayer a names × (are_distinct names ≡ true)
+distinct_parts : (a : TreeItem-F Node TreeItem) (names : List (List ℕ))
+    → are_distinct (name_before a names) ≡ true → ApartLayer a names × (are_distinct names ≡ true)
 distinct_parts (O.Entry name n) names h =
-    let p : (not (list_any (bytes_eq (string_bytes name)) names) ≡ true) × (are_distinct names ≡ true) = and_parts (not (list_any (bytes_eq (string_bytes name)) names)) (are_distinct names) h in
+    let p : (not (list_any (bytes_eq (string_bytes name)) names) ≡ true) × (are_distinct names ≡ true) =
+    and_parts (not (list_any (bytes_eq (string_bytes name)) names)) (are_distinct names) h in
     (not-true (list_any (bytes_eq (string_bytes name)) names) p.0, p.1)
 distinct_parts O.Failed names h = (tt, h)
 distinct_parts O.NotText names h = (tt, h)
@@ -314,25 +406,35 @@ distinct_parts O.NotText names h = (tt, h)
 found_all : (items : List TreeItem) → are_distinct (names_of items) ≡ true → Found items items
 found_all [] h = tt
 found_all (i ∷ items) h =
-    let d : ApartLayer (out-TreeItem i) (names_of items) × (are_distinct (names_of items) ≡ true) = distinct_parts (out-TreeItem i) (names_of items) h in
-    (found_head i items (out-TreeItem i) refl, found_later i items items (out-TreeItem i) refl d.0 (found_all items d.1))
+    let d : ApartLayer (out-TreeItem i) (names_of items) × (are_distinct (names_of items) ≡ true) =
+    distinct_parts (out-TreeItem i) (names_of items) h in (
+      found_head i items (out-TreeItem i) refl,
+      found_later i items items (out-TreeItem i) refl d.0
+          (found_all items d.1),
+    )
 
 -- ---- what a folder holds is shown at its path
 
 module _ (shows : List ℕ → Shown → Type 0) (path : List ℕ) (all : List TreeItem)
-    (below : (x : List ℕ) (n : Node) → named_in x all ≡ to_node n → IsPlain x → shows (join path x) (shown_of n)) where
-  shows_plain : (x : List ℕ) (s : Shown) (rest : Items) → IsPlain x → shows (join path x) s → ShowsIn shows path rest → ShowsIn shows path (with_plain x s rest)
+    (below : (x : List ℕ) (n : Node) → named_in x all ≡ to_node n → IsPlain x
+    → shows (join path x) (shown_of n)) where
+  shows_plain : (x : List ℕ) (s : Shown) (rest : Items) → IsPlain x → shows (join path x) s
+      → ShowsIn shows path rest → ShowsIn shows path (with_plain x s rest)
   shows_plain x (a_leaf link) rest p h later = (p, h, later)
   shows_plain x (a_folder l) rest p h later = (p, h, later)
   shows_plain x a_sealed rest p h later = (p, h, later)
   shows_plain x missing rest p h later = later
   shows_plain x failing rest p h later = later
 
-  shows_layer : (k : TreeItem-F Node TreeItem) (rest : Items) → FoundLayer all k → ShowsIn shows path rest → ShowsIn shows path (item_layer_shown k rest)
+  shows_layer : (k : TreeItem-F Node TreeItem) (rest : Items) → FoundLayer all k → ShowsIn shows path rest
+      → ShowsIn shows path (item_layer_shown k rest)
   shows_layer (O.Entry name n) rest f later =
       let x : List ℕ = string_bytes name in
-      elim (is_plain x) as (λ b. is_plain x ≡ b → ShowsIn shows path (cond b (with_plain x (shown_of n) rest) (misnamed x (kind_of (shown_of n)) rest))) [
-        | true ↦ λ e. shows_plain x (shown_of n) rest (plain_of x (IsUtf8-string_bytes name) e) (below x n f (plain_of x (IsUtf8-string_bytes name) e)) later
+      elim (is_plain x) as (λ b. is_plain x ≡ b
+      → ShowsIn shows path (cond b (with_plain x (shown_of n) rest)
+      (misnamed x (kind_of (shown_of n)) rest))) [
+        | true ↦ λ e. shows_plain x (shown_of n) rest (plain_of x (IsUtf8-string_bytes name) e)
+            (below x n f (plain_of x (IsUtf8-string_bytes name) e)) later
         | false ↦ λ e. (not_plain x e, later)
       ] refl
   shows_layer O.Failed rest f later = later
@@ -342,34 +444,51 @@ module _ (shows : List ℕ → Shown → Type 0) (path : List ℕ) (all : List T
   shows_items [] f = tt
   shows_items (i ∷ items) f =
       let P : (Items → Items) → Type 0 = λ g. ShowsIn shows path (g (items_shown items)) in
-      subst P (sym (item_layer i)) (shows_layer (out-TreeItem i) (items_shown items) f.0 (shows_items items f.1))
+      subst P (sym (item_layer i))
+      (shows_layer (out-TreeItem i) (items_shown items) f.0 (shows_items items f.1))
 
-same_start : (a b : Bool) (root working : Node) → a ≡ b → (if a then root else working) ≡ (if b then root else working)
+same_start : (a b : Bool) (root working : Node) → a ≡ b → (if a then root else working) ≡
+    (if b then root else working)
 same_start a b root working e = ap (λ c. if c then root else working) e
 
 -- a name in the folder to which a path leads
-reached_join : (working root : Node) (path x : List ℕ) (m n : Node) (items : List TreeItem) → reached_in working root path ≡ to_node m → ((y : List ℕ) → below_layer y (out-Node m) ≡ named_in y items) → named_in x items ≡ to_node n → IsPlain x → reached_in working root (join path x) ≡ to_node n
+reached_join : (working root : Node) (path x : List ℕ) (m n : Node) (items : List TreeItem)
+    → reached_in working root path ≡ to_node m
+    → ((y : List ℕ) → below_layer y (out-Node m) ≡ named_in y items) → named_in x items ≡ to_node n
+    → IsPlain x → reached_in working root (join path x) ≡ to_node n
 reached_join working root path x m n items is below found p =
     let start : Node = if is_rooted path then root else working in
     let h : Plainly x = plainly x p in
-    ap (reached (names_in_path (join path x))) (same_start (is_rooted (join path x)) (is_rooted path) root working (rooted_join path x h))
+    ap (reached (names_in_path (join path x)))
+    (same_start (is_rooted (join path x)) (is_rooted path) root working (rooted_join path x h))
     ∙ ap (λ names. reached names start) (names_join path x h)
     ∙ reached-append (names_in_path path) (x ∷ []) start
     ∙ ap (onward (reached (x ∷ []))) is
     ∙ ap (onward (reached [])) (below x ∙ found)
 
-inner_at : (d : Tree) (path : List ℕ) (l : Items) (r : Reached) → HasDistinctNames d.working → HasDistinctNames d.root → reached_in d.working d.root path ≡ r → shown_reached r ≡ a_folder l → ShowsIn (tree_shows d) path l
+inner_at : (d : Tree) (path : List ℕ) (l : Items) (r : Reached) → HasDistinctNames d.working
+    → HasDistinctNames d.root → reached_in d.working d.root path ≡ r → shown_reached r ≡ a_folder l
+    → ShowsIn (tree_shows d) path l
 inner_at d path l to_nothing w o is e = absurd (cc)
 inner_at d path l to_sealed w o is e = absurd (cc)
 inner_at d path l (to_node m) w o is e =
-    let f : (items : List TreeItem) × (held m ≡ Some items) × ((x : List ℕ) → below_layer x (out-Node m) ≡ named_in x items) × (items_shown items ≡ l) = folder_layer m l (out-Node m) refl (sym (shown_layer m) ∙ e) in
-    let start : HasDistinctNames (if is_rooted path then d.root else d.working) = elim (is_rooted path) as (λ b. HasDistinctNames (if b then d.root else d.working)) [ true ↦ o | false ↦ w ] in
-    let distinct : are_distinct (names_of f.0) ≡ true = distinct_reached (names_in_path path) (if is_rooted path then d.root else d.working) m is start [] f.0 f.1 in
-    let below : (x : List ℕ) (n : Node) → named_in x f.0 ≡ to_node n → IsPlain x → tree_shows d (join path x) (shown_of n) = λ x n found p. (w, o, ap shown_reached (reached_join d.working d.root path x m n f.0 is f.2 found p)) in
+    let f : (items : List TreeItem) × (held m ≡ Some items) ×
+    ((x : List ℕ) → below_layer x (out-Node m) ≡ named_in x items) × (items_shown items ≡ l) =
+    folder_layer m l (out-Node m) refl (sym (shown_layer m) ∙ e) in
+    let start : HasDistinctNames (if is_rooted path then d.root else d.working) =
+    elim (is_rooted path) as (λ b. HasDistinctNames (if b then d.root else d.working))
+    [ true ↦ o | false ↦ w ] in
+    let distinct : are_distinct (names_of f.0) ≡ true = distinct_reached (names_in_path path)
+    (if is_rooted path then d.root else d.working) m is start [] f.0 f.1 in
+    let below : (x : List ℕ) (n : Node) → named_in x f.0 ≡ to_node n → IsPlain x
+    → tree_shows d (join path x) (shown_of n) =
+    λ x n found p. (w, o, ap shown_reached (reached_join d.working d.root path x m n f.0 is f.2 found p))
+    in
     let P : Items → Type 0 = λ k. ShowsIn (tree_shows d) path k in
     subst P f.3 (shows_items (tree_shows d) path f.0 below f.0 (found_all f.0 distinct))
 
-pub tree_inner : (d : Tree) (path : List ℕ) (l : Items) → tree_shows d path (a_folder l) → ShowsIn (tree_shows d) path l
+pub tree_inner : (d : Tree) (path : List ℕ) (l : Items) → tree_shows d path (a_folder l)
+    → ShowsIn (tree_shows d) path l
 tree_inner d path l h = inner_at d path l (reached_in d.working d.root path) h.0 h.1 refl h.2
 
 -- ---- what stands under a name
@@ -389,36 +508,46 @@ there_layer O.Sealed = tt
 there : (n : Node) → IsThere (shown_of n)
 there n = subst IsThere (sym (shown_layer n)) (there_layer (out-Node n))
 
-child_first : (x y : List ℕ) (s : Shown) (rest : Items) → IsThere s → child_in x (with_plain y s rest) ≡ cond (bytes_eq y x) s (child_in x rest)
+child_first : (x y : List ℕ) (s : Shown) (rest : Items) → IsThere s → child_in x (with_plain y s rest) ≡ cond
+    (bytes_eq y x) s (child_in x rest)
 child_first x y (a_leaf link) rest h = refl
 child_first x y (a_folder l) rest h = refl
 child_first x y a_sealed rest h = refl
 child_first x y missing rest h = absurd h
 child_first x y failing rest h = absurd h
 
-pick : (x y : List ℕ) (n : Node) (later : Reached) (b : Bool) (rest : Items) → shown_reached later ≡ child_in x rest → shown_reached (cond b (to_node n) later) ≡ cond b (shown_of n) (child_in x rest)
+pick : (x y : List ℕ) (n : Node) (later : Reached) (b : Bool) (rest : Items)
+    → shown_reached later ≡ child_in x rest → shown_reached (cond b (to_node n) later) ≡ cond b (shown_of n)
+    (child_in x rest)
 pick x y n later true rest h = refl
 pick x y n later false rest h = h
 
-child_layer : (x : List ℕ) (k : TreeItem-F Node TreeItem) (later : Reached) (rest : Items) → IsPlain x → shown_reached later ≡ child_in x rest → shown_reached (named_before x k later) ≡ child_in x (item_layer_shown k rest)
+child_layer : (x : List ℕ) (k : TreeItem-F Node TreeItem) (later : Reached) (rest : Items) → IsPlain x
+    → shown_reached later ≡ child_in x rest → shown_reached (named_before x k later) ≡ child_in x
+    (item_layer_shown k rest)
 child_layer x (O.Entry name n) later rest p h =
     let y : List ℕ = string_bytes name in
-    elim (is_plain y) as (λ b. is_plain y ≡ b → shown_reached (cond (bytes_eq y x) (to_node n) later) ≡ child_in x (cond b (with_plain y (shown_of n) rest) (misnamed y (kind_of (shown_of n)) rest))) [
+    elim (is_plain y) as (λ b. is_plain y ≡ b → shown_reached (cond (bytes_eq y x) (to_node n) later) ≡
+    child_in x (cond b (with_plain y (shown_of n) rest) (misnamed y (kind_of (shown_of n)) rest))) [
       | true ↦ λ e. pick x y n later (bytes_eq y x) rest h ∙ sym (child_first x y (shown_of n) rest (there n))
-      | false ↦ λ e. elim (bytes_eq y x) as (λ b. bytes_eq y x ≡ b → shown_reached (cond b (to_node n) later) ≡ child_in x rest) [
-        | true ↦ λ f. absurd (not_plain y e (subst IsPlain (sym ((bytes_eq-Decides y x).0 f)) p))
-        | false ↦ λ f. h
-      ] refl
+      | false ↦ λ e. elim (bytes_eq y x) as
+          (λ b. bytes_eq y x ≡ b → shown_reached (cond b (to_node n) later) ≡ child_in x rest) [
+            | true ↦ λ f. absurd (not_plain y e (subst IsPlain (sym ((bytes_eq-Decides y x).0 f)) p))
+            | false ↦ λ f. h
+          ] refl
     ] refl
 child_layer x O.Failed later rest p h = h
 child_layer x O.NotText later rest p h = h
 
-child_named : (x : List ℕ) (items : List TreeItem) → IsPlain x → shown_reached (named_in x items) ≡ child_in x (items_shown items)
+child_named : (x : List ℕ) (items : List TreeItem) → IsPlain x → shown_reached (named_in x items) ≡ child_in x
+    (items_shown items)
 child_named x [] p = refl
 child_named x (i ∷ items) p =
-    child_layer x (out-TreeItem i) (named_in x items) (items_shown items) p (child_named x items p) ∙ ap (λ g. child_in x (g (items_shown items))) (sym (item_layer i))
+    child_layer x (out-TreeItem i) (named_in x items) (items_shown items) p (child_named x items p) ∙ ap
+    (λ g. child_in x (g (items_shown items))) (sym (item_layer i))
 
-child_below : (x : List ℕ) (k : Node-F Node TreeItem) → IsPlain x → shown_reached (below_layer x k) ≡ child_shown x (layer_shown k)
+child_below : (x : List ℕ) (k : Node-F Node TreeItem) → IsPlain x
+    → shown_reached (below_layer x k) ≡ child_shown x (layer_shown k)
 child_below x O.File p = refl
 child_below x O.Link p = refl
 child_below x (O.Folder items) p = child_named x items.items p
@@ -429,53 +558,73 @@ onward_none (to_node n) = refl
 onward_none to_nothing = refl
 onward_none to_sealed = refl
 
-child_reached : (x : List ℕ) (r : Reached) → IsPlain x → shown_reached (onward (reached (x ∷ [])) r) ≡ child_shown x (shown_reached r)
-child_reached x (to_node n) p = (ap shown_reached (onward_none (below_layer x (out-Node n))) ∙ child_below x (out-Node n) p) ∙ ap (child_shown x) (sym (shown_layer n))
+child_reached : (x : List ℕ) (r : Reached) → IsPlain x
+    → shown_reached (onward (reached (x ∷ [])) r) ≡ child_shown x (shown_reached r)
+child_reached x (to_node n) p =
+    (ap shown_reached (onward_none (below_layer x (out-Node n))) ∙ child_below x (out-Node n) p) ∙ ap
+    (child_shown x) (sym (shown_layer n))
 child_reached x to_nothing p = refl
 child_reached x to_sealed p = refl
 
-reached_on : (working root : Node) (path x : List ℕ) → IsPlain x → reached_in working root (join path x) ≡ onward (reached (x ∷ [])) (reached_in working root path)
+reached_on : (working root : Node) (path x : List ℕ) → IsPlain x
+    → reached_in working root (join path x) ≡ onward (reached (x ∷ [])) (reached_in working root path)
 reached_on working root path x p =
     let start : Node = if is_rooted path then root else working in
     let h : Plainly x = plainly x p in
-    ap (reached (names_in_path (join path x))) (same_start (is_rooted (join path x)) (is_rooted path) root working (rooted_join path x h))
+    ap (reached (names_in_path (join path x)))
+    (same_start (is_rooted (join path x)) (is_rooted path) root working (rooted_join path x h))
     ∙ ap (λ names. reached names start) (names_join path x h)
     ∙ reached-append (names_in_path path) (x ∷ []) start
 
-pub tree_child : (d : Tree) (path x : List ℕ) (s : Shown) → tree_shows d path s → IsPlain x → tree_shows d (join path x) (child_shown x s)
-tree_child d path x s h p =
-    (h.0, h.1, (ap shown_reached (reached_on d.working d.root path x p) ∙ child_reached x (reached_in d.working d.root path) p) ∙ ap (child_shown x) h.2)
+pub tree_child : (d : Tree) (path x : List ℕ) (s : Shown) → tree_shows d path s → IsPlain x
+    → tree_shows d (join path x) (child_shown x s)
+tree_child d path x s h p = (
+  h.0,
+  h.1,
+  (ap shown_reached (reached_on d.working d.root path x p) ∙ child_reached x
+      (reached_in d.working d.root path) p) ∙ ap (child_shown x) h.2,
+)
 
 -- ---- the names in what is shown are distinct
 
-new_first : (x y : List ℕ) (s : Shown) (rest : Items) → ¬ (y ≡ x) → IsNew x rest → IsNew x (with_plain y s rest)
+new_first : (x y : List ℕ) (s : Shown) (rest : Items) → ¬ (y ≡ x) → IsNew x rest
+    → IsNew x (with_plain y s rest)
 new_first x y (a_leaf link) rest n h = (n, h)
 new_first x y (a_folder l) rest n h = (n, h)
 new_first x y a_sealed rest n h = (n, h)
 new_first x y missing rest n h = h
 new_first x y failing rest n h = h
 
-new_layer : (x : List ℕ) (k : TreeItem-F Node TreeItem) (names : List (List ℕ)) (rest : Items) → list_any (bytes_eq x) (name_before k names) ≡ false → IsNew x rest → IsNew x (item_layer_shown k rest)
+new_layer : (x : List ℕ) (k : TreeItem-F Node TreeItem) (names : List (List ℕ)) (rest : Items)
+    → list_any (bytes_eq x) (name_before k names) ≡ false → IsNew x rest → IsNew x (item_layer_shown k rest)
 new_layer x (O.Entry name n) names rest h later =
     let y : List ℕ = string_bytes name in
-    let differ : ¬ (y ≡ x) = λ e. false≢true (sym ((or_parts (bytes_eq x y) (list_any (bytes_eq x) names) h).0) ∙ (bytes_eq-Decides x y).1 (sym e)) in
-    elim (is_plain y) as (λ b. IsNew x (cond b (with_plain y (shown_of n) rest) (misnamed y (kind_of (shown_of n)) rest))) [
+    let differ : ¬ (y ≡ x) =
+    λ e. false≢true (sym ((or_parts (bytes_eq x y) (list_any (bytes_eq x) names) h).0) ∙
+    (bytes_eq-Decides x y).1 (sym e)) in
+    elim (is_plain y) as (λ b. IsNew x
+    (cond b (with_plain y (shown_of n) rest) (misnamed y (kind_of (shown_of n)) rest))) [
       | true ↦ new_first x y (shown_of n) rest differ later
       | false ↦ later
     ]
 new_layer x O.Failed names rest h later = later
 new_layer x O.NotText names rest h later = later
 
-none_after : (x : List ℕ) (k : TreeItem-F Node TreeItem) (names : List (List ℕ)) → list_any (bytes_eq x) (name_before k names) ≡ false → list_any (bytes_eq x) names ≡ false
-none_after x (O.Entry name n) names h = (or_parts (bytes_eq x (string_bytes name)) (list_any (bytes_eq x) names) h).1
+none_after : (x : List ℕ) (k : TreeItem-F Node TreeItem) (names : List (List ℕ))
+    → list_any (bytes_eq x) (name_before k names) ≡ false → list_any (bytes_eq x) names ≡ false
+none_after x (O.Entry name n) names h =
+    (or_parts (bytes_eq x (string_bytes name)) (list_any (bytes_eq x) names) h).1
 none_after x O.Failed names h = h
 none_after x O.NotText names h = h
 
-new_items : (x : List ℕ) (items : List TreeItem) → list_any (bytes_eq x) (names_of items) ≡ false → IsNew x (items_shown items)
+new_items : (x : List ℕ) (items : List TreeItem) → list_any (bytes_eq x) (names_of items) ≡ false
+    → IsNew x (items_shown items)
 new_items x [] h = tt
 new_items x (i ∷ items) h =
     let P : (Items → Items) → Type 0 = λ g. IsNew x (g (items_shown items)) in
-    subst P (sym (item_layer i)) (new_layer x (out-TreeItem i) (names_of items) (items_shown items) h (new_items x items (none_after x (out-TreeItem i) (names_of items) h)))
+    subst P (sym (item_layer i))
+    (new_layer x (out-TreeItem i) (names_of items) (items_shown items) h
+    (new_items x items (none_after x (out-TreeItem i) (names_of items) h)))
 
 -- each entry's names are distinct
 abbrev pub BelowItem : TreeItem-F Node TreeItem → Type 0
@@ -486,14 +635,18 @@ abbrev pub AllBelow : List TreeItem → Type 0
 AllBelow [] = Unit {0}
 AllBelow (i ∷ items) = BelowItem (out-TreeItem i) × AllBelow items
 
-first_below : (i : TreeItem) (k : TreeItem-F Node TreeItem) → out-TreeItem i ≡ k → ((m : Node) → entry_layer (out-TreeItem i) ≡ Some m → HasDistinctNames m) → BelowItem k
+first_below : (i : TreeItem) (k : TreeItem-F Node TreeItem) → out-TreeItem i ≡ k
+    → ((m : Node) → entry_layer (out-TreeItem i) ≡ Some m → HasDistinctNames m) → BelowItem k
 first_below i (O.Entry name n) is f = f n (ap entry_layer is)
 first_below i O.Failed is f = tt
 first_below i O.NotText is f = tt
 
-all_below : (items : List TreeItem) → ((place : ℕ) (m : Node) → entry_of (slice_get items place) ≡ Some m → HasDistinctNames m) → AllBelow items
+all_below : (items : List TreeItem)
+    → ((place : ℕ) (m : Node) → entry_of (slice_get items place) ≡ Some m → HasDistinctNames m)
+    → AllBelow items
 all_below [] f = tt
-all_below (i ∷ items) f = (first_below i (out-TreeItem i) refl (λ m e. f 0 m e), all_below items (λ place m e. f (suc place) m e))
+all_below (i ∷ items) f =
+    (first_below i (out-TreeItem i) refl (λ m e. f 0 m e), all_below items (λ place m e. f (suc place) m e))
 
 -- how many items there are in all
 abbrev pub size : Items → ℕ
@@ -507,45 +660,61 @@ size (not_text rest) = 1 + size rest
 
 -- the items of a folder whose names are distinct, to this size
 abbrev pub DistinctTo : ℕ → Type 0
-DistinctTo most = (items : List TreeItem) → size (items_shown items) < most → are_distinct (names_of items) ≡ true → AllBelow items → AreDistinct (items_shown items)
+DistinctTo most = (items : List TreeItem) → size (items_shown items) < most
+    → are_distinct (names_of items) ≡ true → AllBelow items → AreDistinct (items_shown items)
 
-folder_distinct : (most : ℕ) (n : Node) (k : Node-F Node TreeItem) → out-Node n ≡ k → DistinctTo most → HasDistinctNames n → ((l : Items) → layer_shown k ≡ a_folder l → size l < most) → IsDistinct (layer_shown k)
+folder_distinct : (most : ℕ) (n : Node) (k : Node-F Node TreeItem) → out-Node n ≡ k → DistinctTo most
+    → HasDistinctNames n → ((l : Items) → layer_shown k ≡ a_folder l → size l < most)
+    → IsDistinct (layer_shown k)
 folder_distinct most n (O.Folder items) is go d few =
-    go items.items (few (items_shown items.items) refl) (d [] items.items (ap held_layer is)) (all_below items.items (λ place m e. distinct_child place n m (ap (λ k. child_of (held_layer k) place) is ∙ e) d))
+    go items.items (few (items_shown items.items) refl) (d [] items.items (ap held_layer is))
+    (all_below items.items
+    (λ place m e. distinct_child place n m (ap (λ k. child_of (held_layer k) place) is ∙ e) d))
 folder_distinct most n O.File is go d few = tt
 folder_distinct most n O.Link is go d few = tt
 folder_distinct most n O.Sealed is go d few = tt
 
-node_distinct : (most : ℕ) (n : Node) → DistinctTo most → HasDistinctNames n → ((l : Items) → shown_of n ≡ a_folder l → size l < most) → IsDistinct (shown_of n)
+node_distinct : (most : ℕ) (n : Node) → DistinctTo most → HasDistinctNames n
+    → ((l : Items) → shown_of n ≡ a_folder l → size l < most) → IsDistinct (shown_of n)
 node_distinct most n go d few =
-    subst IsDistinct (sym (shown_layer n)) (folder_distinct most n (out-Node n) refl go d (λ l e. few l (shown_layer n ∙ e)))
+    subst IsDistinct (sym (shown_layer n))
+    (folder_distinct most n (out-Node n) refl go d (λ l e. few l (shown_layer n ∙ e)))
 
-first_distinct : (y : List ℕ) (s : Shown) (rest : Items) → IsNew y rest → IsDistinct s → AreDistinct rest → AreDistinct (with_plain y s rest)
+first_distinct : (y : List ℕ) (s : Shown) (rest : Items) → IsNew y rest → IsDistinct s → AreDistinct rest
+    → AreDistinct (with_plain y s rest)
 first_distinct y (a_leaf link) rest n s d = (n, d)
 first_distinct y (a_folder l) rest n s d = (n, s, d)
 first_distinct y a_sealed rest n s d = (n, d)
 first_distinct y missing rest n s d = d
 first_distinct y failing rest n s d = d
 
-size_first : (y : List ℕ) (s : Shown) (rest l : Items) (most : ℕ) → s ≡ a_folder l → size (with_plain y s rest) < suc most → size l < most
+size_first : (y : List ℕ) (s : Shown) (rest l : Items) (most : ℕ) → s ≡ a_folder l
+    → size (with_plain y s rest) < suc most → size l < most
 size_first y s rest l most e h =
     let P : Shown → Type 0 = λ v. size (with_plain y v rest) < suc most in
     let f : 1 + (size l + size rest) < suc most = subst P e h in omega (arith, f)
 
-size_rest : (y : List ℕ) (s : Shown) (rest : Items) (most : ℕ) → IsThere s → size (with_plain y s rest) < suc most → size rest < most
+size_rest : (y : List ℕ) (s : Shown) (rest : Items) (most : ℕ) → IsThere s
+    → size (with_plain y s rest) < suc most → size rest < most
 size_rest y (a_leaf link) rest most t h = omega (arith, h)
 size_rest y (a_folder l) rest most t h = omega (arith, h)
 size_rest y a_sealed rest most t h = omega (arith, h)
 size_rest y missing rest most t h = absurd t
 size_rest y failing rest most t h = absurd t
 
-layer_distinct : (most : ℕ) (k : TreeItem-F Node TreeItem) (items : List TreeItem) → DistinctTo most → ApartLayer k (names_of items) → BelowItem k → are_distinct (names_of items) ≡ true → AllBelow items → size (item_layer_shown k (items_shown items)) < suc most
+layer_distinct : (most : ℕ) (k : TreeItem-F Node TreeItem) (items : List TreeItem) → DistinctTo most
+    → ApartLayer k (names_of items) → BelowItem k → are_distinct (names_of items) ≡ true → AllBelow items
+    → size (item_layer_shown k (items_shown items)) < suc most
     → AreDistinct (item_layer_shown k (items_shown items))
 layer_distinct most (O.Entry name n) items go apart below d all h =
     let y : List ℕ = string_bytes name in
     let rest : Items = items_shown items in
-    elim (is_plain y) as (λ b. size (cond b (with_plain y (shown_of n) rest) (misnamed y (kind_of (shown_of n)) rest)) < suc most → AreDistinct (cond b (with_plain y (shown_of n) rest) (misnamed y (kind_of (shown_of n)) rest))) [
-      | true ↦ λ f. first_distinct y (shown_of n) rest (new_items y items apart) (node_distinct most n go below (λ l e. size_first y (shown_of n) rest l most e f)) (go items (size_rest y (shown_of n) rest most (there n) f) d all)
+    elim (is_plain y) as (λ b. size
+    (cond b (with_plain y (shown_of n) rest) (misnamed y (kind_of (shown_of n)) rest)) < suc most
+    → AreDistinct (cond b (with_plain y (shown_of n) rest) (misnamed y (kind_of (shown_of n)) rest))) [
+      | true ↦ λ f. first_distinct y (shown_of n) rest (new_items y items apart)
+          (node_distinct most n go below (λ l e. size_first y (shown_of n) rest l most e f))
+          (go items (size_rest y (shown_of n) rest most (there n) f) d all)
       | false ↦ λ f. go items (omega (arith, f)) d all
     ] h
 layer_distinct most O.Failed items go apart below d all h = go items (omega (arith, h)) d all
@@ -555,18 +724,27 @@ distinct_to : (most : ℕ) → DistinctTo most
 distinct_to zero items h d all = absurd (omega (arith, h))
 distinct_to (suc most) [] h d all = tt
 distinct_to (suc most) (i ∷ items) h d all =
-    let p : ApartLayer (out-TreeItem i) (names_of items) × (are_distinct (names_of items) ≡ true) = distinct_parts (out-TreeItem i) (names_of items) d in
-    let P : (Items → Items) → Type 0 = λ g. size (g (items_shown items)) < suc most → AreDistinct (g (items_shown items)) in
-    subst P (sym (item_layer i)) (λ f. layer_distinct most (out-TreeItem i) items (distinct_to most) p.0 all.0 p.1 all.1 f) h
+    let p : ApartLayer (out-TreeItem i) (names_of items) × (are_distinct (names_of items) ≡ true) =
+    distinct_parts (out-TreeItem i) (names_of items) d in
+    let P : (Items → Items) → Type 0 = λ g. size (g (items_shown items)) < suc most
+    → AreDistinct (g (items_shown items)) in
+    subst P (sym (item_layer i))
+    (λ f. layer_distinct most (out-TreeItem i) items (distinct_to most) p.0 all.0 p.1 all.1 f) h
 
-distinct_shown : (start : Node) (names : List (List ℕ)) (r : Reached) → reached names start ≡ r → HasDistinctNames start → IsDistinct (shown_reached r)
+distinct_shown : (start : Node) (names : List (List ℕ)) (r : Reached) → reached names start ≡ r
+    → HasDistinctNames start → IsDistinct (shown_reached r)
 distinct_shown start names (to_node m) is d =
-    node_distinct (suc (size (items_or end (shown_of m)))) m (distinct_to (suc (size (items_or end (shown_of m))))) (distinct_reached names start m is d)
-    (λ l e. let f : size (items_or end (shown_of m)) ≡ size l = ap (λ v. size (items_or end v)) e in omega (arith, f))
+    node_distinct (suc (size (items_or end (shown_of m)))) m
+    (distinct_to (suc (size (items_or end (shown_of m))))) (distinct_reached names start m is d)
+    (λ l e. let f : size (items_or end (shown_of m)) ≡ size l = ap (λ v. size (items_or end v)) e in omega
+    (arith, f))
 distinct_shown start names to_nothing is d = tt
 distinct_shown start names to_sealed is d = tt
 
 pub tree_distinct : (d : Tree) (path : List ℕ) (s : Shown) → tree_shows d path s → IsDistinct s
 tree_distinct d path s h =
-    let start : HasDistinctNames (if is_rooted path then d.root else d.working) = elim (is_rooted path) as (λ b. HasDistinctNames (if b then d.root else d.working)) [ true ↦ h.1 | false ↦ h.0 ] in
-    subst IsDistinct h.2 (distinct_shown (if is_rooted path then d.root else d.working) (names_in_path path) (reached_in d.working d.root path) refl start)
+    let start : HasDistinctNames (if is_rooted path then d.root else d.working) =
+    elim (is_rooted path) as (λ b. HasDistinctNames (if b then d.root else d.working))
+    [ true ↦ h.1 | false ↦ h.0 ] in
+    subst IsDistinct h.2 (distinct_shown (if is_rooted path then d.root else d.working) (names_in_path path)
+    (reached_in d.working d.root path) refl start)

@@ -1,5 +1,6 @@
 -- A tree as a directory.
-use Rattle.std.specs.Prelude.{◌≡◌, ℕ, if◌then◌else◌, List, [], ◌∷◌, map, drop, Option, Some, None, string_bytes, slice_get}
+use Rattle.std.specs.Prelude.{◌≡◌, ℕ, if◌then◌else◌, List, [], ◌∷◌, map, drop, Option, Some, None}
+use Rattle.std.specs.Prelude.{string_bytes, slice_get}
 use Rattle.wax_directory.specs.declared.tree.Node.{Node}
 use Rattle.wax_directory.specs.declared.tree.TreeItem.{TreeItem}
 use Rattle.wax_directory.specs.declared.tree.Tree.{Tree}
@@ -7,7 +8,8 @@ use Rattle.wax_directory.specs.declared.tree.TreeCursor.{TreeCursor}
 use Rattle.wax_directory.specs.Shown.{Items, Shown}
 use Rattle.wax_directory.specs.Law.{Law}
 use Rattle.wax_directory.specs.Names.{is_rooted, names_in_path}
-use Rattle.wax_directory.specs.Nodes.{Reached, reached, shown_reached, HasDistinctNames, node_at, held_of, items_shown}
+use Rattle.wax_directory.specs.Nodes.{Reached, reached, shown_reached, HasDistinctNames, node_at, held_of}
+use Rattle.wax_directory.specs.Nodes.{items_shown}
 
 -- where a path leads: one that begins with `/` from the root, any other from the working folder
 abbrev pub reached_in : Node → Node → List ℕ → Reached
@@ -21,21 +23,25 @@ tree_start t path = if is_rooted path then t.root else t.working
 
 -- a tree shows what each path leads to
 abbrev pub tree_shows : Tree → List ℕ → Shown → Type 0
-tree_shows t path s = HasDistinctNames t.working × HasDistinctNames t.root × (shown_in t.working t.root path ≡ s)
+tree_shows t path s = HasDistinctNames t.working × HasDistinctNames t.root ×
+    (shown_in t.working t.root path ≡ s)
 
 abbrev pub held_by : Node → Node → TreeCursor → Option (List TreeItem)
-held_by working root cursor = held_of (node_at cursor.places.items (if cursor.is_rooted then root else working))
+held_by working root cursor =
+    held_of (node_at cursor.places.items (if cursor.is_rooted then root else working))
 
 -- a cursor has the items from its place on
 abbrev pub Has : Node → Node → TreeCursor → Items → Type 0
-Has working root cursor l = (items : List TreeItem) × (held_by working root cursor ≡ Some items) × (l ≡ items_shown (drop cursor.next items))
+Has working root cursor l = (items : List TreeItem) × (held_by working root cursor ≡ Some items) ×
+    (l ≡ items_shown (drop cursor.next items))
 
 -- these cursors have these items, one for one
 abbrev pub HaveEach : Node → Node → List TreeCursor → List Items → Type 0
 HaveEach working root [] [] = Unit {0}
 HaveEach working root [] (l ∷ ls) = ⊥
 HaveEach working root (cursor ∷ cursors) [] = ⊥
-HaveEach working root (cursor ∷ cursors) (l ∷ ls) = Has working root cursor l × HaveEach working root cursors ls
+HaveEach working root (cursor ∷ cursors) (l ∷ ls) = Has working root cursor l × HaveEach working root cursors
+    ls
 
 abbrev pub item_among : ℕ → Option (List TreeItem) → Option TreeItem
 item_among k None = None

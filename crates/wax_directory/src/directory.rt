@@ -1,7 +1,8 @@
 //! What every directory answers, and its law.
 
 ghost use Rattle.std.specs.Prelude.{◌≡◌, [], ◌∷◌, ◌++◌, ℕ, List};
-ghost use Rattle.wax_directory.specs.Shown.{Items, Shown, a_folder, ShowsIn, IsPlain, join, child_shown, IsDistinct};
+ghost use Rattle.wax_directory.specs.Shown.{Items, Shown, a_folder, ShowsIn, IsPlain, join, child_shown};
+ghost use Rattle.wax_directory.specs.Shown.{IsDistinct};
 
 use crate::tally::Tally;
 use std::alloc::Global;
@@ -75,7 +76,8 @@ pub trait Directory: Drop {
         ensures opens { OpensAt law self.old path.now result self.new }
         ensures shown { ShowsSame law self.old self.new }
         ensures held { HoldsSame law self.old self.new }
-        ensures told { (t : List (List ℕ)) → law.tells self.old t → TellsOpened (law.tells self.new) path.now result t }
+        ensures told { (t : List (List ℕ)) → law.tells self.old t
+            → TellsOpened (law.tells self.new) path.now result t }
         ensures counted { Counts (opening_counts result) (law.tally self.old) (law.tally self.new) };
 
     /// The next item of the folder that was opened last and not dropped yet, in the directory's own
@@ -105,7 +107,8 @@ pub trait Directory: Drop {
         ensures list { (s : Shown) → law.shows self.old path.now s → ListIs most s result }
         ensures shown { ShowsSame law self.old self.new }
         ensures held { HeldWhereShown law path.now self.old self.new }
-        ensures told { (t : List (List ℕ)) → law.tells self.old t → TellsListed (law.tells self.new) path.now result t }
+        ensures told { (t : List (List ℕ)) → law.tells self.old t
+            → TellsListed (law.tells self.new) path.now result t }
         ensures counted { CountsListed most result (law.tally self.old) (law.tally self.new) }
     {
         let mut cursor = self.open(alloc, path)?;
@@ -145,12 +148,14 @@ pub trait Directory: Drop {
     ghost none_open: { (d : Self) (path : List ℕ) (s : Shown) → law.shows d path s → law.holds d [] [] };
 
     /// The cursor that was opened last may be dropped.
-    ghost dropped: { (d : Self) (cursors : List Self.Cursor) (ls : List Items) (cursor : Self.Cursor) (l : Items)
+    ghost dropped: { (d : Self) (cursors : List Self.Cursor) (ls : List Items) (cursor : Self.Cursor)
+        (l : Items)
         → HoldsLast law d cursors ls cursor l → law.holds d cursors ls };
 
     /// What a folder holds is shown at its path, and the names that a path can hold are those that
     /// are plain.
-    ghost inner: { (d : Self) (path : List ℕ) (l : Items) → law.shows d path (a_folder l) → ShowsIn (law.shows d) path l };
+    ghost inner: { (d : Self) (path : List ℕ) (l : Items) → law.shows d path (a_folder l)
+        → ShowsIn (law.shows d) path l };
 
     /// Below what is shown at a path, each name that a path can hold leads to what stands under it
     /// there: to nothing where no entry has it, and below a file, a link or nothing; below a folder

@@ -2,7 +2,8 @@
 
 ghost use Rattle.std.specs.Prelude.{◌≡◌, Some, Ok, Err};
 ghost use Rattle.wax_directory.specs.Calls.{KindCall, OpenCall, NextCall};
-ghost use Rattle.wax_directory.specs.Counting.{Counts, after_counting, no_counts, kind_counts, opening_counts, next_counts};
+ghost use Rattle.wax_directory.specs.Counting.{Counts, after_counting, no_counts, kind_counts};
+ghost use Rattle.wax_directory.specs.Counting.{opening_counts, next_counts};
 ghost use Rattle.wax_directory.specs.Turns.{fails_after, failing_inside, after_call};
 
 use crate::directory::{Directory, DirectoryFault, FileType, ListItem};
@@ -54,10 +55,10 @@ impl<D: Directory> Directory for Failing<D> {
     type Cursor = D::Cursor;
 
     ghost law = { record {
-        shows = λ _ _ _. ⊥;
-        holds = λ _ _ _. ⊥;
-        tells = λ _ _. ⊤;
-        tally = λ s. after_counting s.own (D.law.tally s.directory);
+      shows = λ _ _ _. ⊥;
+      holds = λ _ _ _. ⊥;
+      tells = λ _ _. ⊤;
+      tally = λ s. after_counting s.own (D.law.tally s.directory);
     } };
 
     fn kind(&mut self, alloc: Global, path: &str) -> Result<Option<FileType>, DirectoryFault>
@@ -99,7 +100,8 @@ impl<D: Directory> Directory for Failing<D> {
             × (failing_inside self.new ≡ failing_inside self.old) × (cursor.new ≡ cursor.old) }
         ensures left { fails_after self.new ≡ after_call (fails_after self.old) }
         ensures inside { ¬ (fails_after self.old ≡ Some 0)
-            → NextCall D.law (failing_inside self.old) cursor.old result (failing_inside self.new) cursor.new }
+            → NextCall D.law (failing_inside self.old) cursor.old result (failing_inside self.new)
+            cursor.new }
         ensures counted { Counts (next_counts result)
             (⟦<Self as Directory>⟧.law.tally self.old) (⟦<Self as Directory>⟧.law.tally self.new) }
     {

@@ -1,7 +1,8 @@
 //! What a directory counts.
 
 ghost use Rattle.std.specs.Prelude.{◌≡◌};
-ghost use Rattle.wax_directory.specs.Counting.{after_counting, kind_counts, opening_counts, item_counts, no_counts};
+ghost use Rattle.wax_directory.specs.Counting.{after_counting, kind_counts, opening_counts, item_counts};
+ghost use Rattle.wax_directory.specs.Counting.{no_counts};
 
 use crate::directory::{DirectoryFault, FileType, ListItem};
 use crate::name::is_plain;

@@ -1,11 +1,14 @@
 //! A directory in memory.
 
-ghost use Rattle.std.specs.Prelude.{◌≡◌, ◌⊎◌, ◌<◌, ◌-◌, ◌^◌, [], ℕ, if◌then◌else◌, OnOk, List, Some, map, option_map, string_bytes, IfOk, IfErr, IfSome, MatchBool};
+ghost use Rattle.std.specs.Prelude.{◌≡◌, ◌⊎◌, ◌<◌, ◌-◌, ◌^◌, [], ℕ, if◌then◌else◌, OnOk, List, Some, map};
+ghost use Rattle.std.specs.Prelude.{option_map, string_bytes, IfOk, IfErr, IfSome, MatchBool};
 ghost use Rattle.wax_directory.specs.declared.directory.DirectoryFault.TheVariants.{Failed};
 ghost use Rattle.wax_directory.specs.declared.tree.Node.TheViews.{out-Node};
 ghost use Rattle.wax_directory.specs.Answers.{listed_of, KindIs, Opens};
 ghost use Rattle.wax_directory.specs.Names.{names_in_path, is_rooted, are_distinct};
-ghost use Rattle.wax_directory.specs.Nodes.{node_at, child_at, held, entry_of, shown_of, listed_item, names_of, HasDistinctNames, HasDuplicateName, named_in, below_layer, reached};
+ghost use Rattle.wax_directory.specs.Nodes.{node_at, child_at, held, entry_of, shown_of, listed_item};
+ghost use Rattle.wax_directory.specs.Nodes.{names_of, HasDistinctNames, HasDuplicateName, named_in};
+ghost use Rattle.wax_directory.specs.Nodes.{below_layer, reached};
 ghost use Rattle.wax_query.specs.declared.diagnostics.Refusal.TheVariants.{Refused, Memory};
 ghost use Rattle.wax_directory.specs.Counting.{no_counts};
 ghost use Rattle.wax_directory.specs.Trees.{tree_law, Has, tree_start, reached_in, shown_in, item_at};
@@ -205,7 +208,8 @@ impl Tree {
     /// number of items.
     pub fn new(alloc: Global, working: Node, root: Node) -> Result<Tree, Refusal<DuplicateName>>
         ensures distinct { OnOk result (HasDistinctNames working × HasDistinctNames root) }
-        ensures shows { IfOk result (λ t. (path : List ℕ) → tree_law.shows t path (shown_in working root path)) }
+        ensures shows { IfOk result
+            (λ t. (path : List ℕ) → tree_law.shows t path (shown_in working root path)) }
         ensures untold { IfOk result (λ t. tree_law.tells t [] × (tree_law.tally t ≡ no_counts)) }
         ensures refused { IfErr result (λ e. (e ≡ Memory)
             ⊎ ((e ≡ Refused (record {})) × (HasDuplicateName working ⊎ HasDuplicateName root))) }
@@ -243,7 +247,8 @@ impl Tree {
 
     // the places that lead to where a path leads
     fn find(&self, alloc: Global, path: &str) -> Result<Option<Vec<usize>>, DirectoryFault>
-        ensures { Locates (reached_in self.now.working self.now.root path.now) (tree_start self.now path.now) result }
+        ensures { Locates (reached_in self.now.working self.now.root path.now) (tree_start self.now path.now)
+            result }
     {
         let Ok(names) = names_in(alloc, path) else {
             return Err(DirectoryFault::Memory);
@@ -267,7 +272,8 @@ impl Tree {
 
     // a cursor before the first item of the folder at a path
     fn begin(&self, alloc: Global, path: &str) -> Result<TreeCursor, DirectoryFault>
-        ensures { Opens (Has self.now.working self.now.root) (shown_in self.now.working self.now.root path.now) result }
+        ensures { Opens (Has self.now.working self.now.root)
+            (shown_in self.now.working self.now.root path.now) result }
     {
         let Some(places) = self.find(alloc, path)? else {
             return Err(DirectoryFault::Failed);
@@ -285,7 +291,8 @@ impl Tree {
 
     // the item that a cursor has next
     fn item(&self, alloc: Global, cursor: &TreeCursor) -> Result<Option<ListItem>, AllocError>
-        ensures listed { IfOk result (λ r. option_map listed_of r ≡ option_map listed_item (item_at self.now cursor.now)) }
+        ensures listed { IfOk result
+            (λ r. option_map listed_of r ≡ option_map listed_item (item_at self.now cursor.now)) }
         ensures small { IfOk result (λ r. IfSome r (λ x. cursor.now.next < 2 ^ 64 - 1)) }
     {
         let Some(node) = self.start(cursor.is_rooted).at(cursor.places.as_slice()) else {

@@ -13,7 +13,8 @@ pub(crate) struct Turn {
 impl Turn {
     // this call is the one
     pub(crate) fn comes(&mut self) -> bool
-        ensures over { MatchBool result ((self.old.is_over ≡ false) × (self.new.is_over ≡ true)) (self.new.is_over ≡ self.old.is_over) }
+        ensures over { MatchBool result ((self.old.is_over ≡ false) × (self.new.is_over ≡ true))
+            (self.new.is_over ≡ self.old.is_over) }
         ensures comes { MatchBool result (calls_left self.old ≡ Some 0) (¬ (calls_left self.old ≡ Some 0)) }
         ensures left { calls_left self.new ≡ after_call (calls_left self.old) }
     {

@@ -1,15 +1,20 @@
 -- The entries in range of a walk are those of the whole walk.
-use Rattle.std.proofs.Common.{◌≡◌, ℕ, ◌+◌, ◌<◌, ◌≤◌, Bool, true, false, cond, List, [], ◌∷◌, ◌++◌, filter, nat_lt, not, ◌&&◌, refl, sym, ◌∙◌, ap, subst, arith}
+use Rattle.std.proofs.Common.{◌≡◌, ℕ, ◌+◌, ◌<◌, ◌≤◌, Bool, true, false, cond, List, [], ◌∷◌, ◌++◌, filter}
+use Rattle.std.proofs.Common.{nat_lt, not, ◌&&◌, refl, sym, ◌∙◌, ap, subst, arith}
 use Rattle.std.proofs.lemmas.Bool.{lt-ltb}
 use Rattle.std.proofs.lemmas.Bool.Decides.{nat_tests}
 use Rattle.std.proofs.lemmas.List.Elements.{filter-append}
 use Rattle.wax_directory.specs.declared.directory.FileType.{FileType}
 use Rattle.wax_directory.specs.declared.directory.FileType.TheVariants.{Folder}
-use Rattle.wax_directory.specs.Shown.{Items, end, leaf, folder, sealed, misnamed, unread, not_text, Shown, a_leaf, a_folder, a_sealed, missing, failing, leaf_kind, join}
+use Rattle.wax_directory.specs.Shown.{Items, end, leaf, folder, sealed, misnamed, unread, not_text, Shown}
+use Rattle.wax_directory.specs.Shown.{a_leaf, a_folder, a_sealed, missing, failing, leaf_kind, join}
 use Rattle.wax_tree.specs.declared.steps.Range.{Range}
 use Rattle.wax_tree.specs.Begins.{scope_in}
-use Rattle.wax_tree.specs.Plain.{Scope, Spot, start_spot, item_spot, one_deeper, count_shown, at_depth, above_max, unlisted, plain_entry, items_forest, below_forest, entry_forest, plain}
-use Rattle.wax_tree.specs.Whole.{whole_entry, whole_items, whole_at, whole, is_in, EntriesAre, all_in_range, lacks_memory, over_budget}
+use Rattle.wax_tree.specs.Plain.{Scope, Spot, start_spot, item_spot, one_deeper, count_shown, at_depth}
+use Rattle.wax_tree.specs.Plain.{above_max, unlisted, plain_entry, items_forest, below_forest, entry_forest}
+use Rattle.wax_tree.specs.Plain.{plain}
+use Rattle.wax_tree.specs.Whole.{whole_entry, whole_items, whole_at, whole, is_in, EntriesAre, all_in_range}
+use Rattle.wax_tree.specs.Whole.{lacks_memory, over_budget}
 use Rattle.wax_walk.specs.Collected.{GaveAll}
 use Rattle.wax_walk.specs.Collected as given
 use Rattle.wax_walk.specs.Forest.{Forest, nothing, item, lists, followed_by, preorder, pending}
@@ -25,66 +30,99 @@ module _ (range : Range) (root : List ℕ) where
   wanted xs = filter (is_in range) xs
 
   -- an entry, what lies below it, and what comes after: the same where it is in range or not
-  at_depth_wanted : (at : Spot) (kind : FileType) (below after : Forest Given) → wanted (preorder (at_depth (scope_in range root) at.depth (whole_entry root at kind) below after))
+  at_depth_wanted : (at : Spot) (kind : FileType) (below after : Forest Given)
+      → wanted (preorder (at_depth (scope_in range root) at.depth (whole_entry root at kind) below after))
       ≡ wanted (whole_entry root at kind ∷ []) ++ (wanted (preorder below) ++ wanted (preorder after))
   at_depth_wanted at kind below after = go (nat_lt at.depth range.min) refl where
-    go : (b : Bool) → nat_lt at.depth range.min ≡ b → wanted (preorder (cond b (followed_by below after) (item (whole_entry root at kind) below after))) ≡ wanted (whole_entry root at kind ∷ []) ++ (wanted (preorder below) ++ wanted (preorder after))
-    go true e = ap wanted (preorder_append below after) ∙ (filter-append (is_in range) (preorder below) (preorder after) ∙ ap (λ b. cond (not b && not (nat_lt range.max at.depth)) (whole_entry root at kind ∷ []) [] ++ (wanted (preorder below) ++ wanted (preorder after))) (sym e))
-    go false e = filter-append (is_in range) (whole_entry root at kind ∷ []) (preorder below ++ preorder after) ∙ ap (λ ys. wanted (whole_entry root at kind ∷ []) ++ ys) (filter-append (is_in range) (preorder below) (preorder after))
+    go : (b : Bool) → nat_lt at.depth range.min ≡ b
+        → wanted (preorder (cond b (followed_by below after) (item (whole_entry root at kind) below after))) ≡
+        wanted (whole_entry root at kind ∷ []) ++ (wanted (preorder below) ++ wanted (preorder after))
+    go true e = ap wanted (preorder_append below after) ∙
+        (filter-append (is_in range) (preorder below) (preorder after) ∙ ap
+        (λ b. cond (not b && not (nat_lt range.max at.depth)) (whole_entry root at kind ∷ []) [] ++
+        (wanted (preorder below) ++ wanted (preorder after))) (sym e))
+    go false e = filter-append (is_in range) (whole_entry root at kind ∷ [])
+        (preorder below ++ preorder after) ∙ ap (λ ys. wanted (whole_entry root at kind ∷ []) ++ ys)
+        (filter-append (is_in range) (preorder below) (preorder after))
 
-  too_deep : (at : Spot) (kind : FileType) → range.max < at.depth → wanted (whole_entry root at kind ∷ []) ≡ []
-  too_deep at kind h = go (nat_lt at.depth range.min) (nat_lt range.max at.depth) (lt-ltb range.max at.depth h) where
-    go : (a b : Bool) → b ≡ true → cond (not a && not b) (whole_entry root at kind ∷ []) [] ≡ []
-    go true b e = refl
-    go false true e = refl
-    go false false e = cc
+  too_deep : (at : Spot) (kind : FileType) → range.max < at.depth
+      → wanted (whole_entry root at kind ∷ []) ≡ []
+  too_deep at kind h = go (nat_lt at.depth range.min) (nat_lt range.max at.depth)
+      (lt-ltb range.max at.depth h) where
+        go : (a b : Bool) → b ≡ true → cond (not a && not b) (whole_entry root at kind ∷ []) [] ≡ []
+        go true b e = refl
+        go false true e = refl
+        go false false e = cc
 
   -- nothing below the greatest depth is in range
   none_deeper : (at : Spot) (l : Items) → range.max < at.depth → wanted (whole_items root at l) ≡ []
   none_deeper at end h = refl
-  none_deeper at (leaf x link rest) h = filter-append (is_in range) (whole_entry root (item_spot at x) (leaf_kind link) ∷ []) (whole_items root at rest) ∙ (ap (λ ys. ys ++ wanted (whole_items root at rest)) (too_deep (item_spot at x) (leaf_kind link) h) ∙ none_deeper at rest h)
+  none_deeper at (leaf x link rest) h = filter-append (is_in range)
+      (whole_entry root (item_spot at x) (leaf_kind link) ∷ []) (whole_items root at rest) ∙
+      (ap (λ ys. ys ++ wanted (whole_items root at rest)) (too_deep (item_spot at x) (leaf_kind link) h) ∙
+      none_deeper at rest h)
   none_deeper at (folder x inner rest) h =
       let below = whole_items root (one_deeper (item_spot at x)) inner in
-      filter-append (is_in range) (whole_entry root (item_spot at x) Folder ∷ []) (below ++ whole_items root at rest)
+      filter-append (is_in range) (whole_entry root (item_spot at x) Folder ∷ [])
+      (below ++ whole_items root at rest)
       ∙ (ap (λ ys. ys ++ wanted (below ++ whole_items root at rest)) (too_deep (item_spot at x) Folder h)
       ∙ (filter-append (is_in range) below (whole_items root at rest)
-      ∙ (ap (λ ys. ys ++ wanted (whole_items root at rest)) (none_deeper (one_deeper (item_spot at x)) inner (omega (arith, h))) ∙ none_deeper at rest h)))
-  none_deeper at (sealed x rest) h = filter-append (is_in range) (whole_entry root (item_spot at x) Folder ∷ []) (fault Listing (join at.path x) at.depth ∷ whole_items root at rest) ∙ (ap (λ ys. ys ++ wanted (whole_items root at rest)) (too_deep (item_spot at x) Folder h) ∙ none_deeper at rest h)
+      ∙ (ap (λ ys. ys ++ wanted (whole_items root at rest))
+      (none_deeper (one_deeper (item_spot at x)) inner (omega (arith, h))) ∙ none_deeper at rest h)))
+  none_deeper at (sealed x rest) h = filter-append (is_in range)
+      (whole_entry root (item_spot at x) Folder ∷ [])
+      (fault Listing (join at.path x) at.depth ∷ whole_items root at rest) ∙
+      (ap (λ ys. ys ++ wanted (whole_items root at rest)) (too_deep (item_spot at x) Folder h) ∙ none_deeper
+      at rest h)
   none_deeper at (misnamed x kind rest) h = none_deeper at rest h
   none_deeper at (unread rest) h = none_deeper at rest h
   none_deeper at (not_text rest) h = none_deeper at rest h
 
   -- what lies below a folder, listed or not
-  below_wanted : (depth : ℕ) (path : List ℕ) (f : Forest Given) (ys : List Given) → wanted (preorder f) ≡ wanted ys → (range.max < depth + 1 → wanted ys ≡ []) → wanted (preorder (above_max (scope_in range root) depth (lists path f))) ≡ wanted ys
+  below_wanted : (depth : ℕ) (path : List ℕ) (f : Forest Given) (ys : List Given)
+      → wanted (preorder f) ≡ wanted ys → (range.max < depth + 1 → wanted ys ≡ [])
+      → wanted (preorder (above_max (scope_in range root) depth (lists path f))) ≡ wanted ys
   below_wanted depth path f ys e n = go (nat_lt depth range.max) refl where
-    go : (b : Bool) → nat_lt depth range.max ≡ b → wanted (preorder (cond b (lists path f) nothing)) ≡ wanted ys
+    go : (b : Bool) → nat_lt depth range.max ≡ b → wanted (preorder (cond b (lists path f) nothing)) ≡ wanted
+        ys
     go true h = e
     go false h = sym (n (omega (arith, not_less depth range.max h)))
 
-  unlisted_wanted : (depth : ℕ) (path : List ℕ) → wanted (preorder (above_max (scope_in range root) depth (unlisted (scope_in range root) path depth))) ≡ []
+  unlisted_wanted : (depth : ℕ) (path : List ℕ)
+      → wanted (preorder (above_max (scope_in range root) depth (unlisted (scope_in range root) path depth)))
+      ≡ []
   unlisted_wanted depth path = go (nat_lt depth range.max) where
     go : (b : Bool) → wanted (preorder (cond b (unlisted (scope_in range root) path depth) nothing)) ≡ []
     go true = refl
     go false = refl
 
-  items_wanted : (at : Spot) (l : Items) → wanted (preorder (items_forest (scope_in range root) at l)) ≡ wanted (whole_items root at l)
+  items_wanted : (at : Spot) (l : Items) → wanted (preorder (items_forest (scope_in range root) at l)) ≡
+      wanted (whole_items root at l)
   items_wanted at end = refl
   items_wanted at (leaf x link rest) =
       at_depth_wanted (item_spot at x) (leaf_kind link) nothing (items_forest (scope_in range root) at rest)
-      ∙ (ap (λ ys. wanted (whole_entry root (item_spot at x) (leaf_kind link) ∷ []) ++ ys) (items_wanted at rest) ∙ sym (filter-append (is_in range) (whole_entry root (item_spot at x) (leaf_kind link) ∷ []) (whole_items root at rest)))
+      ∙ (ap (λ ys. wanted (whole_entry root (item_spot at x) (leaf_kind link) ∷ []) ++ ys)
+      (items_wanted at rest) ∙ sym
+      (filter-append (is_in range) (whole_entry root (item_spot at x) (leaf_kind link) ∷ [])
+      (whole_items root at rest)))
   items_wanted at (folder x inner rest) =
       let deep = one_deeper (item_spot at x) in
       let below = whole_items root deep inner in
       let first = whole_entry root (item_spot at x) Folder ∷ [] in
       at_depth_wanted (item_spot at x) Folder _ (items_forest (scope_in range root) at rest)
-      ∙ (ap (λ ys. wanted first ++ (ys ++ wanted (preorder (items_forest (scope_in range root) at rest)))) (below_wanted at.depth (join at.path x) _ below (items_wanted deep inner) (none_deeper deep inner))
+      ∙ (ap (λ ys. wanted first ++ (ys ++ wanted (preorder (items_forest (scope_in range root) at rest))))
+      (below_wanted at.depth (join at.path x) _ below (items_wanted deep inner) (none_deeper deep inner))
       ∙ (ap (λ ys. wanted first ++ (wanted below ++ ys)) (items_wanted at rest)
-      ∙ (ap (λ ys. wanted first ++ ys) (sym (filter-append (is_in range) below (whole_items root at rest))) ∙ sym (filter-append (is_in range) first (below ++ whole_items root at rest)))))
+      ∙ (ap (λ ys. wanted first ++ ys) (sym (filter-append (is_in range) below (whole_items root at rest))) ∙
+      sym (filter-append (is_in range) first (below ++ whole_items root at rest)))))
   items_wanted at (sealed x rest) =
       let first = whole_entry root (item_spot at x) Folder ∷ [] in
       at_depth_wanted (item_spot at x) Folder _ (items_forest (scope_in range root) at rest)
-      ∙ (ap (λ ys. wanted first ++ (ys ++ wanted (preorder (items_forest (scope_in range root) at rest)))) (unlisted_wanted at.depth (join at.path x))
-      ∙ (ap (λ ys. wanted first ++ ys) (items_wanted at rest) ∙ sym (filter-append (is_in range) first (fault Listing (join at.path x) at.depth ∷ whole_items root at rest))))
+      ∙ (ap (λ ys. wanted first ++ (ys ++ wanted (preorder (items_forest (scope_in range root) at rest))))
+      (unlisted_wanted at.depth (join at.path x))
+      ∙ (ap (λ ys. wanted first ++ ys) (items_wanted at rest) ∙ sym
+      (filter-append (is_in range) first
+      (fault Listing (join at.path x) at.depth ∷ whole_items root at rest))))
   items_wanted at (misnamed x kind rest) = items_wanted at rest
   items_wanted at (unread rest) = items_wanted at rest
   items_wanted at (not_text rest) = items_wanted at rest
@@ -94,27 +132,40 @@ append-nil [] = refl
 append-nil (x ∷ xs) = ap (λ ys. x ∷ ys) (append-nil xs)
 
 -- the walk of some depths gives of the whole walk what is in range
-pub plain_wanted : (range : Range) (start : List ℕ) (s : Shown) → filter (is_in range) (preorder (plain (scope_in range start) s)) ≡ filter (is_in range) (whole start s)
-plain_wanted range start (a_leaf link) = at_depth_wanted range start (start_spot start) (leaf_kind link) nothing nothing ∙ append-nil _
+pub plain_wanted : (range : Range) (start : List ℕ) (s : Shown)
+    → filter (is_in range) (preorder (plain (scope_in range start) s)) ≡ filter (is_in range) (whole start s)
+plain_wanted range start (a_leaf link) = at_depth_wanted range start (start_spot start) (leaf_kind link)
+    nothing nothing ∙ append-nil _
 plain_wanted range start (a_folder l) =
     let first = whole_entry start (start_spot start) Folder ∷ [] in
     let deep = one_deeper (start_spot start) in
     at_depth_wanted range start (start_spot start) Folder _ nothing
-    ∙ (ap (λ ys. filter (is_in range) first ++ ys) (append-nil _ ∙ below_wanted range start 0 start _ (whole_items start deep l) (items_wanted range start deep l) (none_deeper range start deep l))
+    ∙ (ap (λ ys. filter (is_in range) first ++ ys)
+    (append-nil _ ∙ below_wanted range start 0 start _ (whole_items start deep l)
+    (items_wanted range start deep l) (none_deeper range start deep l))
     ∙ sym (filter-append (is_in range) first (whole_items start deep l)))
 plain_wanted range start a_sealed =
     let first = whole_entry start (start_spot start) Folder ∷ [] in
-    at_depth_wanted range start (start_spot start) Folder _ nothing ∙ (ap (λ ys. filter (is_in range) first ++ (ys ++ [])) (unlisted_wanted range start 0 start) ∙ sym (filter-append (is_in range) first (fault Listing start 0 ∷ [])))
+    at_depth_wanted range start (start_spot start) Folder _ nothing ∙
+    (ap (λ ys. filter (is_in range) first ++ (ys ++ [])) (unlisted_wanted range start 0 start) ∙ sym
+    (filter-append (is_in range) first (fault Listing start 0 ∷ [])))
 plain_wanted range start missing = refl
 plain_wanted range start failing = refl
 
-pub entries_are : (range : Range) (start : List ℕ) (s : Shown) (tells : List (List ℕ) → Type 0) (listed : List (List ℕ)) (xs : List Given) → GaveAll tells (range.budget + 1) (pending nothing (plain (scope_in range start) s) listed (count_shown s)) xs → EntriesAre range start s xs
-entries_are range start s tells listed xs (given.whole e t) = all_in_range (ap (filter (is_in range)) e ∙ plain_wanted range start s)
+pub entries_are : (range : Range) (start : List ℕ) (s : Shown) (tells : List (List ℕ) → Type 0)
+    (listed : List (List ℕ)) (xs : List Given) → GaveAll tells (range.budget + 1)
+    (pending nothing (plain (scope_in range start) s) listed (count_shown s)) xs → EntriesAre range start s xs
+entries_are range start s tells listed xs (given.whole e t) =
+    all_in_range (ap (filter (is_in range)) e ∙ plain_wanted range start s)
 entries_are range start s tells listed xs (given.lacks_memory c) = lacks_memory c
-entries_are range start s tells listed xs (given.over_budget path depth few c) = over_budget path depth (omega (arith, few)) c
+entries_are range start s tells listed xs (given.over_budget path depth few c) =
+    over_budget path depth (omega (arith, few)) c
 
 -- what is given, whether the directory tells the folders that it listed or not
-pub untold : (tells : List (List ℕ) → Type 0) (allowed : ℕ) (f : Forest Given) (listed other : List (List ℕ)) (items : ℕ) (xs : List Given) → GaveAll tells allowed (pending nothing f listed items) xs → GaveAll (λ _. Unit {0}) allowed (pending nothing f other items) xs
+pub untold : (tells : List (List ℕ) → Type 0) (allowed : ℕ) (f : Forest Given) (listed other : List (List ℕ))
+    (items : ℕ) (xs : List Given) → GaveAll tells allowed (pending nothing f listed items) xs
+    → GaveAll (λ _. Unit {0}) allowed (pending nothing f other items) xs
 untold tells allowed f listed other items xs (given.whole e t) = given.whole e tt
 untold tells allowed f listed other items xs (given.lacks_memory c) = given.lacks_memory c
-untold tells allowed f listed other items xs (given.over_budget path depth few c) = given.over_budget path depth few c
+untold tells allowed f listed other items xs (given.over_budget path depth few c) =
+    given.over_budget path depth few c

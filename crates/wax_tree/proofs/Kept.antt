@@ -1,12 +1,16 @@
 -- A plain walk leaves nothing out.
-use Rattle.std.proofs.Common.{◌≡◌, ℕ, Bool, true, false, cond, List, [], ◌∷◌, ◌++◌, filter, nat_lt, refl, sym, ◌∙◌, ap, subst}
+use Rattle.std.proofs.Common.{◌≡◌, ℕ, Bool, true, false, cond, List, [], ◌∷◌, ◌++◌, filter, nat_lt, refl, sym}
+use Rattle.std.proofs.Common.{◌∙◌, ap, subst}
 use Rattle.wax_directory.specs.declared.directory.FileType.{FileType}
 use Rattle.wax_directory.specs.declared.directory.FileType.TheVariants.{Folder}
-use Rattle.wax_directory.specs.Shown.{Items, end, leaf, folder, sealed, misnamed, unread, not_text, Shown, a_leaf, a_folder, a_sealed, missing, failing, leaf_kind, join}
+use Rattle.wax_directory.specs.Shown.{Items, end, leaf, folder, sealed, misnamed, unread, not_text, Shown}
+use Rattle.wax_directory.specs.Shown.{a_leaf, a_folder, a_sealed, missing, failing, leaf_kind, join}
 use Rattle.wax_walk.specs.Collected.{IsCutShort, GaveAll, whole, lacks_memory, over_budget}
-use Rattle.wax_walk.specs.Forest.{Forest, nothing, item, lists, followed_by, preorder, Pending, pending, all_pending}
+use Rattle.wax_walk.specs.Forest.{Forest, nothing, item, lists, followed_by, preorder, Pending, pending}
+use Rattle.wax_walk.specs.Forest.{all_pending}
 use Rattle.wax_walk.specs.Given.{Given, is_kept}
-use Rattle.wax_tree.specs.Plain.{Scope, Spot, start_spot, item_spot, one_deeper, at_depth, unlisted, items_forest, below_forest, entry_forest, plain}
+use Rattle.wax_tree.specs.Plain.{Scope, Spot, start_spot, item_spot, one_deeper, at_depth, unlisted}
+use Rattle.wax_tree.specs.Plain.{items_forest, below_forest, entry_forest, plain}
 
 -- each item is kept
 abbrev AllKept : List Given → Type 0
@@ -28,12 +32,14 @@ kept_before (x ∷ xs) ys h = (h.0, kept_before xs ys h.1)
 
 kept_preorder : (f : Forest Given) → AllKeptIn f → AllKept (preorder f)
 kept_preorder nothing h = tt
-kept_preorder (item x below after) h = (h.0, kept_append (preorder below) (preorder after) (kept_preorder below h.1) (kept_preorder after h.2))
+kept_preorder (item x below after) h =
+    (h.0, kept_append (preorder below) (preorder after) (kept_preorder below h.1) (kept_preorder after h.2))
 kept_preorder (lists path after) h = kept_preorder after h
 
 filter_kept : (xs : List Given) → AllKept xs → filter is_kept xs ≡ xs
 filter_kept [] h = refl
-filter_kept (x ∷ xs) h = ap (λ b. cond b (x ∷ filter is_kept xs) (filter is_kept xs)) h.0 ∙ ap (λ ys. x ∷ ys) (filter_kept xs h.1)
+filter_kept (x ∷ xs) h = ap (λ b. cond b (x ∷ filter is_kept xs) (filter is_kept xs)) h.0 ∙ ap (λ ys. x ∷ ys)
+    (filter_kept xs h.1)
 
 kept_followed : (f g : Forest Given) → AllKeptIn f → AllKeptIn g → AllKeptIn (followed_by f g)
 kept_followed nothing g h k = k
@@ -45,19 +51,25 @@ kept_either true f g h k = h
 kept_either false f g h k = k
 
 module _ (scope : Scope) where
-  kept_at : (depth : ℕ) (x : Given) (below after : Forest Given) → is_kept x ≡ true → AllKeptIn below → AllKeptIn after → AllKeptIn (at_depth scope depth x below after)
-  kept_at depth x below after e h k = kept_either (nat_lt depth scope.min) (followed_by below after) (item x below after) (kept_followed below after h k) (e, h, k)
+  kept_at : (depth : ℕ) (x : Given) (below after : Forest Given) → is_kept x ≡ true → AllKeptIn below
+      → AllKeptIn after → AllKeptIn (at_depth scope depth x below after)
+  kept_at depth x below after e h k = kept_either (nat_lt depth scope.min) (followed_by below after)
+      (item x below after) (kept_followed below after h k) (e, h, k)
 
   kept_items : (at : Spot) (l : Items) → AllKeptIn (items_forest scope at l)
   kept_items at end = tt
-  kept_items at (leaf x link rest) = kept_at at.depth _ nothing (items_forest scope at rest) refl tt (kept_items at rest)
+  kept_items at (leaf x link rest) = kept_at at.depth _ nothing (items_forest scope at rest) refl tt
+      (kept_items at rest)
   kept_items at (folder x inner rest) =
       kept_at at.depth _ _ (items_forest scope at rest) refl
-      (kept_either (nat_lt at.depth scope.max) (lists (join at.path x) (items_forest scope (one_deeper (item_spot at x)) inner)) nothing (kept_items (one_deeper (item_spot at x)) inner) tt)
+      (kept_either (nat_lt at.depth scope.max)
+      (lists (join at.path x) (items_forest scope (one_deeper (item_spot at x)) inner)) nothing
+      (kept_items (one_deeper (item_spot at x)) inner) tt)
       (kept_items at rest)
   kept_items at (sealed x rest) =
       kept_at at.depth _ _ (items_forest scope at rest) refl
-      (kept_either (nat_lt at.depth scope.max) (unlisted scope (join at.path x) at.depth) nothing (refl, tt, tt) tt)
+      (kept_either (nat_lt at.depth scope.max) (unlisted scope (join at.path x) at.depth) nothing
+      (refl, tt, tt) tt)
       (kept_items at rest)
   kept_items at (misnamed x kind rest) = (refl, tt, kept_items at rest)
   kept_items at (unread rest) = (refl, tt, kept_items at rest)
@@ -65,13 +77,17 @@ module _ (scope : Scope) where
 
   kept_below : (at : Spot) (s : Shown) → AllKeptIn (below_forest scope at s)
   kept_below at (a_leaf link) = tt
-  kept_below at (a_folder l) = kept_either (nat_lt at.depth scope.max) (lists at.path (items_forest scope (one_deeper at) l)) nothing (kept_items (one_deeper at) l) tt
-  kept_below at a_sealed = kept_either (nat_lt at.depth scope.max) (unlisted scope at.path at.depth) nothing (refl, tt, tt) tt
+  kept_below at (a_folder l) = kept_either (nat_lt at.depth scope.max)
+      (lists at.path (items_forest scope (one_deeper at) l)) nothing (kept_items (one_deeper at) l) tt
+  kept_below at a_sealed = kept_either (nat_lt at.depth scope.max) (unlisted scope at.path at.depth) nothing
+      (refl, tt, tt) tt
   kept_below at missing = tt
   kept_below at failing = tt
 
-  kept_entry : (kind : FileType) (s : Shown) → AllKeptIn (entry_forest scope (start_spot scope.root) kind s nothing)
-  kept_entry kind s = kept_at 0 _ (below_forest scope (start_spot scope.root) s) nothing refl (kept_below (start_spot scope.root) s) tt
+  kept_entry : (kind : FileType) (s : Shown)
+      → AllKeptIn (entry_forest scope (start_spot scope.root) kind s nothing)
+  kept_entry kind s = kept_at 0 _ (below_forest scope (start_spot scope.root) s) nothing refl
+      (kept_below (start_spot scope.root) s) tt
 
   kept_plain : (s : Shown) → AllKeptIn (plain scope s)
   kept_plain (a_leaf link) = kept_entry (leaf_kind link) (a_leaf link)
@@ -80,17 +96,25 @@ module _ (scope : Scope) where
   kept_plain missing = (refl, tt, tt)
   kept_plain failing = (refl, tt, tt)
 
-  kept_cut : (all : List Given) (x : Given) (xs : List Given) → is_kept x ≡ true → AllKept all → IsCutShort all x xs → AllKept xs
-  kept_cut all x xs e h c = subst AllKept (sym c.2) (kept_append c.0 (x ∷ []) (kept_before c.0 c.1 (subst AllKept (sym c.3) h)) (e, tt))
+  kept_cut : (all : List Given) (x : Given) (xs : List Given) → is_kept x ≡ true → AllKept all
+      → IsCutShort all x xs → AllKept xs
+  kept_cut all x xs e h c =
+      subst AllKept (sym c.2)
+      (kept_append c.0 (x ∷ []) (kept_before c.0 c.1 (subst AllKept (sym c.3) h)) (e, tt))
 
-  kept_given : (tells : List (List ℕ) → Type 0) (allowed : ℕ) (p : Pending Given) (xs : List Given) → AllKept (preorder (all_pending p)) → GaveAll tells allowed p xs → AllKept xs
+  kept_given : (tells : List (List ℕ) → Type 0) (allowed : ℕ) (p : Pending Given) (xs : List Given)
+      → AllKept (preorder (all_pending p)) → GaveAll tells allowed p xs → AllKept xs
   kept_given tells allowed p xs h (whole e t) = subst AllKept (sym e) h
   kept_given tells allowed p xs h (lacks_memory c) = kept_cut _ _ xs refl h c
   kept_given tells allowed p xs h (over_budget path depth few c) = kept_cut _ _ xs refl h c
 
   -- what is kept of a plain walk is all of it
-  pub plain_kept : (tells : List (List ℕ) → Type 0) (allowed : ℕ) (s : Shown) (listed : List (List ℕ)) (items : ℕ) (xs ys : List Given)
-      → GaveAll tells allowed (pending nothing (plain scope s) listed items) xs → ys ≡ filter is_kept xs → GaveAll tells allowed (pending nothing (plain scope s) listed items) ys
+  pub plain_kept : (tells : List (List ℕ) → Type 0) (allowed : ℕ) (s : Shown) (listed : List (List ℕ))
+      (items : ℕ) (xs ys : List Given)
+      → GaveAll tells allowed (pending nothing (plain scope s) listed items) xs → ys ≡ filter is_kept xs
+      → GaveAll tells allowed (pending nothing (plain scope s) listed items) ys
   plain_kept tells allowed s listed items xs ys g e =
       let p : Pending Given = pending nothing (plain scope s) listed items in
-      subst (GaveAll tells allowed p) (sym (e ∙ filter_kept xs (kept_given tells allowed p xs (kept_preorder (all_pending p) (kept_plain s)) g))) g
+      subst (GaveAll tells allowed p)
+      (sym (e ∙ filter_kept xs
+      (kept_given tells allowed p xs (kept_preorder (all_pending p) (kept_plain s)) g))) g

@@ -1,5 +1,6 @@
 -- A walk, when it is made and where memory was refused for its start.
-use Rattle.std.proofs.Common.{◌≡◌, ℕ, ◌+◌, ◌-◌, ◌^◌, ◌≤◌, length, true, false, List, [], ◌∷◌, ◌++◌, refl, sym, ap, subst, ◌∙◌, arith, inl, inr, string_bytes, length-append}
+use Rattle.std.proofs.Common.{◌≡◌, ℕ, ◌+◌, ◌-◌, ◌^◌, ◌≤◌, length, true, false, List, [], ◌∷◌, ◌++◌, refl, sym}
+use Rattle.std.proofs.Common.{ap, subst, ◌∙◌, arith, inl, inr, string_bytes, length-append}
 use Rattle.std.specs.Prelude.{Option, Some, None, String}
 use Rattle.std.specs.declared.alloc.Global.{Global}
 use Rattle.wax_directory.specs.Law.{Law}
@@ -19,9 +20,14 @@ use Rattle.wax_tree.specs.Prefix.{ArePlain, from_last, walk_from}
 use Rattle.wax_tree.specs.Walking.{PlainToCome, scope_of, steps_view, place_spot}
 
 module _ {D C : Type 0} (law : Law D C) where
-  made_comes : (w : Steps D C) (place : Place) (s : Shown) (listed : List (List ℕ)) → w.first ≡ Some place → w.entered ≡ None → w.levels.items ≡ [] → w.has_ended ≡ false
-      → law.shows w.directory (string_bytes place.path) s → ArePlain (from_last place.names.items) → place.depth + length place.names.items ≤ 2 ^ 64 - 1 → law.tells w.directory listed → law.holds w.directory [] []
-      → PlainToCome law w (pending nothing (walk_from (scope_of w) (place_spot place) s (from_last place.names.items) nothing) listed (count_shown s))
+  made_comes : (w : Steps D C) (place : Place) (s : Shown) (listed : List (List ℕ)) → w.first ≡ Some place
+      → w.entered ≡ None → w.levels.items ≡ [] → w.has_ended ≡ false
+      → law.shows w.directory (string_bytes place.path) s → ArePlain (from_last place.names.items)
+      → place.depth + length place.names.items ≤ 2 ^ 64 - 1 → law.tells w.directory listed
+      → law.holds w.directory [] []
+      → PlainToCome law w (pending nothing
+      (walk_from (scope_of w) (place_spot place) s (from_last place.names.items) nothing) listed
+      (count_shown s))
   made_comes w place s listed e n l f h p d told held = record {
     has = [];
     back = nothing;
@@ -38,16 +44,27 @@ module _ {D C : Type 0} (law : Law D C) where
     ended = λ t. absurd (let b : true ≡ false = sym t ∙ f in (cc));
   }
 
-  pub made_at : (w : Steps D C) (root : List ℕ) (place : Place) (at : Spot) (names : List (String Global)) (s : Shown) (listed : List (List ℕ)) → w.first ≡ Some place → w.entered ≡ None → w.levels.items ≡ [] → w.has_ended ≡ false
-      → string_bytes w.root ≡ root → string_bytes place.path ≡ at.path → string_bytes place.candidate ≡ at.candidate → place.depth ≡ at.depth → place.names.items ≡ names
-      → law.shows w.directory at.path s → ArePlain (from_last names) → at.depth + length names ≤ 2 ^ 64 - 1 → law.tells w.directory listed → law.holds w.directory [] []
-      → PlainToCome law w (pending nothing (walk_from (record { min = w.min; max = w.max; root = root }) at s (from_last names) nothing) listed (count_shown s))
+  pub made_at : (w : Steps D C) (root : List ℕ) (place : Place) (at : Spot) (names : List (String Global))
+      (s : Shown) (listed : List (List ℕ)) → w.first ≡ Some place → w.entered ≡ None → w.levels.items ≡ []
+      → w.has_ended ≡ false
+      → string_bytes w.root ≡ root → string_bytes place.path ≡ at.path
+      → string_bytes place.candidate ≡ at.candidate → place.depth ≡ at.depth → place.names.items ≡ names
+      → law.shows w.directory at.path s → ArePlain (from_last names) → at.depth + length names ≤ 2 ^ 64 - 1
+      → law.tells w.directory listed → law.holds w.directory [] []
+      → PlainToCome law w (pending nothing
+      (walk_from (record { min = w.min; max = w.max; root = root }) at s (from_last names) nothing) listed
+      (count_shown s))
   made_at w root place at names s listed e n l f o q k d i h plain fits told held =
       let long : length place.names.items ≡ length names = ap length i in
-      subst (λ v. PlainToCome law w (pending nothing v listed (count_shown s))) (λ j. walk_from (record { min = w.min; max = w.max; root = o j }) (record { path = q j; candidate = k j; depth = d j }) s (from_last (i j)) nothing)
-      (made_comes w place s listed e n l f (subst (λ v. law.shows w.directory v s) (sym q) h) (subst (λ v. ArePlain (from_last v)) (sym i) plain) (omega (arith, d, fits, long)) told held)
+      subst (λ v. PlainToCome law w (pending nothing v listed (count_shown s)))
+      (λ j. walk_from (record { min = w.min; max = w.max; root = o j })
+      (record { path = q j; candidate = k j; depth = d j }) s (from_last (i j)) nothing)
+      (made_comes w place s listed e n l f (subst (λ v. law.shows w.directory v s) (sym q) h)
+      (subst (λ v. ArePlain (from_last v)) (sym i) plain) (omega (arith, d, fits, long)) told held)
 
-  pub made_nothing : (w : Steps D C) (listed : List (List ℕ)) → w.first ≡ None → w.entered ≡ None → w.levels.items ≡ [] → law.tells w.directory listed → law.holds w.directory [] [] → PlainToCome law w (pending nothing nothing listed 0)
+  pub made_nothing : (w : Steps D C) (listed : List (List ℕ)) → w.first ≡ None → w.entered ≡ None
+      → w.levels.items ≡ [] → law.tells w.directory listed → law.holds w.directory [] []
+      → PlainToCome law w (pending nothing nothing listed 0)
   made_nothing w listed e n l told held = record {
     has = [];
     back = nothing;
@@ -64,23 +81,38 @@ module _ {D C : Type 0} (law : Law D C) where
     ended = λ t. (refl, refl);
   }
 
-  first_known : (then new : Pending Given → Type 0) (a : (q : Pending Given) → then q → new q) (p : Pending Given) (items : ℕ) (r : Option Given) → FirstIs then (all_pending p) p.listed items r → FirstIs new (all_pending p) p.listed items r
+  first_known : (then new : Pending Given → Type 0) (a : (q : Pending Given) → then q → new q)
+      (p : Pending Given) (items : ℕ) (r : Option Given) → FirstIs then (all_pending p) p.listed items r
+      → FirstIs new (all_pending p) p.listed items r
   first_known then new a p items r h = go (all_pending p) p.listed h where
-    go : (f : Forest Given) (listed : List (List ℕ)) → FirstIs then f listed items r → FirstIs new f listed items r
+    go : (f : Forest Given) (listed : List (List ℕ)) → FirstIs then f listed items r
+        → FirstIs new f listed items r
     go nothing listed h = (h.0, a _ h.1)
     go (item x below after) listed h = (h.0, a _ h.1)
     go (lists path after) listed h = go after (listed ++ path ∷ []) h
 
-  goes_on : (w v : WalkTree D C) (p : Pending Given) (r : Option Given) → v.lacks_memory ≡ false → GivesOrStops (steps_view law w.steps) p r (steps_view law v.steps) → GivesOrStops (tree_view law w) p r (tree_view law v)
+  goes_on : (w v : WalkTree D C) (p : Pending Given) (r : Option Given) → v.lacks_memory ≡ false
+      → GivesOrStops (steps_view law w.steps) p r (steps_view law v.steps)
+      → GivesOrStops (tree_view law w) p r (tree_view law v)
   goes_on w v p r d (lacks_memory e) = lacks_memory e
   goes_on w v p r d (over_budget path depth e few) = over_budget path depth e few
-  goes_on w v p r d (gives items few first) = gives items few (first_known (PlainToCome law v.steps) (MayCome law v) (λ q i. goes d i) p items r first)
+  goes_on w v p r d (gives items few first) =
+      gives items few (first_known (PlainToCome law v.steps) (MayCome law v) (λ q i. goes d i) p items r
+      first)
 
   -- a call of `feed` where no memory is lacked
-  pub fed_on : (w v : WalkTree D C) (r : Option Given) → w.lacks_memory ≡ false → v.lacks_memory ≡ false → FeedStep law (steps_view law w.steps) r (steps_view law v.steps) → FeedStep law (tree_view law w) r (tree_view law v)
+  pub fed_on : (w v : WalkTree D C) (r : Option Given) → w.lacks_memory ≡ false → v.lacks_memory ≡ false
+      → FeedStep law (steps_view law w.steps) r (steps_view law v.steps) → FeedStep law (tree_view law w) r
+      (tree_view law v)
   fed_on w v r e d f = record {
     gives = λ p c. known p c;
-    accounts = record { counts = f.accounts.counts; taken = f.accounts.taken; takes = f.accounts.takes; counted = f.accounts.counted; ends = λ i. (d, f.accounts.ends i) };
+    accounts = record {
+      counts = f.accounts.counts;
+      taken = f.accounts.taken;
+      takes = f.accounts.takes;
+      counted = f.accounts.counted;
+      ends = λ i. (d, f.accounts.ends i);
+    };
     at_end = λ i. (d, f.at_end i);
     stays = λ i. ((f.stays i.1).0, (d, (f.stays i.1).1));
     names = f.names;
@@ -92,16 +124,23 @@ module _ {D C : Type 0} (law : Law D C) where
 
 pub from_last_length : (names : List (String Global)) → length (from_last names) ≡ length names
 from_last_length [] = refl
-from_last_length (x ∷ names) = let e : length (from_last names) ≡ length names = from_last_length names in let l : length (from_last names ++ string_bytes x ∷ []) ≡ length (from_last names) + 1 = length-append (from_last names) (string_bytes x ∷ []) in omega (arith, e, l)
+from_last_length (x ∷ names) = let e : length (from_last names) ≡ length names = from_last_length names
+    in let l : length (from_last names ++ string_bytes x ∷ []) ≡ length (from_last names) + 1 =
+    length-append (from_last names) (string_bytes x ∷ []) in omega (arith, e, l)
 
 -- with no names to come it is the plain walk
-pub begins_plain : {D C : Type 0} (law : Law D C) (d : D) (start : List ℕ) (names : List (List ℕ)) (range : Range) (view : WalkView D) → names ≡ []
-    → BeginsAt law d (record { root = start; path = start; candidate = []; names = names }) range view → Begins law d start range view
+pub begins_plain : {D C : Type 0} (law : Law D C) (d : D) (start : List ℕ) (names : List (List ℕ))
+    (range : Range) (view : WalkView D) → names ≡ []
+    → BeginsAt law d (record { root = start; path = start; candidate = []; names = names }) range view
+    → Begins law d start range view
 begins_plain law d start names range view e b =
     let long : length names ≡ 0 = ap length e in
     record {
       shown = λ s listed h told.
-          subst (λ v. view.to_come (pending nothing (walk_from (record { min = range.min; max = range.max; root = start }) (record { path = start; candidate = []; depth = 0 }) s v nothing) listed (count_shown s))) e (b.shown s listed h told (subst ArePlain (sym e) tt) (omega (arith, long)));
+          subst (λ v. view.to_come
+          (pending nothing (walk_from (record { min = range.min; max = range.max; root = start })
+          (record { path = start; candidate = []; depth = 0 }) s v nothing) listed (count_shown s))) e
+          (b.shown s listed h told (subst ArePlain (sym e) tt) (omega (arith, long)));
       listings = b.listings;
       names = omega (arith, b.names, long);
       directory = b.directory;

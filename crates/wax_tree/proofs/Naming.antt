@@ -1,5 +1,6 @@
 -- Names, and paths that a name may follow at once.
-use Rattle.std.proofs.Common.{◌≡◌, ℕ, ◌-◌, ◌<◌, Bool, true, false, nat_eq, length, zero, suc, List, [], ◌∷◌, refl, ap, arith}
+use Rattle.std.proofs.Common.{◌≡◌, ℕ, ◌-◌, ◌<◌, Bool, true, false, nat_eq, length, zero, suc, List, [], ◌∷◌}
+use Rattle.std.proofs.Common.{refl, ap, arith}
 use Rattle.std.specs.Prelude.{Some, None, ◌||◌, slice_index_or}
 use Rattle.std.specs.List.{list_any, Contains, slice_get}
 use Rattle.std.proofs.lemmas.Bool.{eqb-true, eq-eqb}
@@ -25,7 +26,9 @@ pub open_some : (xs : List ℕ) (c : ℕ) → Some c ≡ slice_get xs (length xs
 open_some [] c h = cc
 open_some (d ∷ xs) c h = open_last (d ∷ xs) c (length (d ∷ xs) - 1) (omega arith) h
 
-slash_in : (x : ℕ) (xs : List ℕ) (b : Bool) → nat_eq x 47 ≡ b → (list_any (λ y. nat_eq y 47) xs ≡ true → Contains xs 47) → (b || list_any (λ y. nat_eq y 47) xs) ≡ true → Contains (x ∷ xs) 47
+slash_in : (x : ℕ) (xs : List ℕ) (b : Bool) → nat_eq x 47 ≡ b
+    → (list_any (λ y. nat_eq y 47) xs ≡ true → Contains xs 47) → (b || list_any (λ y. nat_eq y 47) xs) ≡ true
+    → Contains (x ∷ xs) 47
 slash_in x xs true e f h = (0, omega arith, eqb-true x 47 e)
 slash_in x xs false e f h = let c = f h in (suc c.0, omega (arith, c.1), c.2)
 
@@ -38,10 +41,12 @@ either_true : (a b : Bool) → b ≡ true → (a || b) ≡ true
 either_true true b h = refl
 either_true false b h = h
 
-found_at : (xs : List ℕ) (k : ℕ) → k < length xs → slice_index_or xs k 47 ≡ 47 → list_any (λ y. nat_eq y 47) xs ≡ true
+found_at : (xs : List ℕ) (k : ℕ) → k < length xs → slice_index_or xs k 47 ≡ 47
+    → list_any (λ y. nat_eq y 47) xs ≡ true
 found_at [] k l e = absurd (omega (arith, l))
 found_at (x ∷ xs) zero l e = ap (λ b. b || list_any (λ y. nat_eq y 47) xs) (eq-eqb x 47 e)
-found_at (x ∷ xs) (suc k) l e = either_true (nat_eq x 47) (list_any (λ y. nat_eq y 47) xs) (found_at xs k (omega (arith, l)) e)
+found_at (x ∷ xs) (suc k) l e = either_true (nat_eq x 47) (list_any (λ y. nat_eq y 47) xs)
+    (found_at xs k (omega (arith, l)) e)
 
 pub no_slash : (xs : List ℕ) → list_any (λ y. nat_eq y 47) xs ≡ false → ¬ (Contains xs 47)
 no_slash xs h c = let t = found_at xs c.0 c.1 c.2 in cc

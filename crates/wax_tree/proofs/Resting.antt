@@ -1,5 +1,6 @@
 -- States of a walk: levels that are pushed and popped, and directories that answered.
-use Rattle.std.proofs.Common.{◌≡◌, ℕ, ◌+◌, ◌-◌, ◌<◌, ◌≤◌, true, false, cond, nat_lt, length, map, List, [], ◌∷◌, ◌++◌, refl, sym, ap, subst, ◌∙◌, arith, inl, inr, string_bytes}
+use Rattle.std.proofs.Common.{◌≡◌, ℕ, ◌+◌, ◌-◌, ◌<◌, ◌≤◌, true, false, cond, nat_lt, length, map, List, []}
+use Rattle.std.proofs.Common.{◌∷◌, ◌++◌, refl, sym, ap, subst, ◌∙◌, arith, inl, inr, string_bytes}
 use Rattle.std.specs.Prelude.{Option, Some, None, Ok, Err}
 use Rattle.std.proofs.lemmas.Bool.{lt-ltb}
 use Rattle.std.proofs.lemmas.List.{map-append}
@@ -14,23 +15,42 @@ use Rattle.wax_tree.specs.declared.steps.Level.{Level}
 use Rattle.wax_tree.specs.declared.steps.Place.{Place}
 use Rattle.wax_tree.specs.declared.steps.Steps.{Steps}
 use Rattle.wax_tree.specs.Plain.{Scope, Spot, count, count_shown, below_forest, items_forest, unlisted}
-use Rattle.wax_tree.specs.Walking.{HasKind, IsAlone, IsFolder, entered_forest, folder_spot, scope_of, cursors_of, Rest, FirstShows, EnteredShows, LevelsShow, AtRest, PlainToCome}
+use Rattle.wax_tree.specs.Walking.{HasKind, IsAlone, IsFolder, entered_forest, folder_spot, scope_of}
+use Rattle.wax_tree.specs.Walking.{cursors_of, Rest, FirstShows, EnteredShows, LevelsShow, AtRest}
+use Rattle.wax_tree.specs.Walking.{PlainToCome}
 use Rattle.wax_tree.proofs.Showing.{followed_nothing, followed_assoc, shows_in_moved}
 
-pub levels_moved : {C : Type 0} (old new : List ℕ → Shown → Type 0) (scope : Scope) (same : (at : List ℕ) (s : Shown) → old at s → new at s) (ls : List (Level C)) (has : List Items) (f : Forest Given) (n : ℕ)
+pub levels_moved : {C : Type 0} (old new : List ℕ → Shown → Type 0) (scope : Scope)
+    (same : (at : List ℕ) (s : Shown) → old at s → new at s) (ls : List (Level C)) (has : List Items)
+    (f : Forest Given) (n : ℕ)
     → LevelsShow old scope ls has f n → LevelsShow new scope ls has f n
 levels_moved old new scope same [] [] f n h = h
 levels_moved old new scope same [] (l ∷ has) f n h = h
 levels_moved old new scope same (lv ∷ inner) [] f n h = h
-levels_moved old new scope same (lv ∷ inner) (l ∷ has) f n h =
-    (h.0, h.1, shows_in_moved old new same (string_bytes lv.folder.path) l h.2, levels_moved old new scope same inner has h.0 h.1 h.3, h.4, h.5)
+levels_moved old new scope same (lv ∷ inner) (l ∷ has) f n h = (
+  h.0,
+  h.1,
+  shows_in_moved old new same (string_bytes lv.folder.path) l h.2,
+  levels_moved old new scope same inner has h.0 h.1 h.3,
+  h.4,
+  h.5,
+)
 
 module _ {C : Type 0} (shows : List ℕ → Shown → Type 0) (scope : Scope) where
   -- one more level
-  pub levels_pushed : (ls : List (Level C)) (has : List Items) (lv : Level C) (l : Items) (f : Forest Given) (n : ℕ) → LevelsShow shows scope ls has f n → ShowsIn shows (string_bytes lv.folder.path) l
-      → LevelsShow shows scope (ls ++ lv ∷ []) (has ++ l ∷ []) (followed_by (items_forest scope (folder_spot lv.folder) l) f) (n + count l)
-  levels_pushed [] [] lv l f n h i =
-      (nothing, 0, i, (refl, refl), ap (followed_by (items_forest scope (folder_spot lv.folder) l)) h.0 ∙ followed_nothing (items_forest scope (folder_spot lv.folder) l), omega (arith, h.1))
+  pub levels_pushed : (ls : List (Level C)) (has : List Items) (lv : Level C) (l : Items) (f : Forest Given)
+      (n : ℕ) → LevelsShow shows scope ls has f n → ShowsIn shows (string_bytes lv.folder.path) l
+      → LevelsShow shows scope (ls ++ lv ∷ []) (has ++ l ∷ [])
+      (followed_by (items_forest scope (folder_spot lv.folder) l) f) (n + count l)
+  levels_pushed [] [] lv l f n h i = (
+    nothing,
+    0,
+    i,
+    (refl, refl),
+    ap (followed_by (items_forest scope (folder_spot lv.folder) l)) h.0 ∙
+        followed_nothing (items_forest scope (folder_spot lv.folder) l),
+    omega (arith, h.1),
+  )
   levels_pushed [] (m ∷ has) lv l f n h i = absurd h
   levels_pushed (lw ∷ inner) [] lv l f n h i = absurd h
   levels_pushed (lw ∷ inner) (m ∷ has) lv l f n h i = (
@@ -38,18 +58,34 @@ module _ {C : Type 0} (shows : List ℕ → Shown → Type 0) (scope : Scope) wh
     h.1 + count l,
     h.2,
     levels_pushed inner has lv l h.0 h.1 h.3 i,
-    ap (followed_by (items_forest scope (folder_spot lv.folder) l)) h.4 ∙ sym (followed_assoc (items_forest scope (folder_spot lv.folder) l) h.0 (items_forest scope (folder_spot lw.folder) m)),
+    ap (followed_by (items_forest scope (folder_spot lv.folder) l)) h.4 ∙ sym
+        (followed_assoc (items_forest scope (folder_spot lv.folder) l) h.0
+        (items_forest scope (folder_spot lw.folder) m)),
     omega (arith, h.5),
   )
 
   -- what the innermost level has to give, and what comes of the others
   abbrev pub Popped : List (Level C) → Level C → List Items → Forest Given → ℕ → Type 0
-  Popped ls lv has f n = (outer : List Items) × (l : Items) × (g : Forest Given) × (m : ℕ) × (has ≡ outer ++ l ∷ []) × ShowsIn shows (string_bytes lv.folder.path) l × LevelsShow shows scope ls outer g m
+  Popped ls lv has f n = (outer : List Items) × (l : Items) × (g : Forest Given) × (m : ℕ) ×
+      (has ≡ outer ++ l ∷ []) × ShowsIn shows (string_bytes lv.folder.path) l × LevelsShow shows scope ls
+      outer g m
       × (f ≡ followed_by (items_forest scope (folder_spot lv.folder) l) g) × (n ≡ m + count l)
 
-  pub levels_popped : (ls : List (Level C)) (lv : Level C) (has : List Items) (f : Forest Given) (n : ℕ) → LevelsShow shows scope (ls ++ lv ∷ []) has f n → Popped ls lv has f n
+  pub levels_popped : (ls : List (Level C)) (lv : Level C) (has : List Items) (f : Forest Given) (n : ℕ)
+      → LevelsShow shows scope (ls ++ lv ∷ []) has f n → Popped ls lv has f n
   levels_popped [] lv [] f n h = absurd h
-  levels_popped [] lv (l ∷ []) f n h = ([], l, nothing, 0, refl, h.2, (refl, refl), h.4 ∙ (ap (λ v. followed_by v (items_forest scope (folder_spot lv.folder) l)) h.3.0 ∙ sym (followed_nothing (items_forest scope (folder_spot lv.folder) l))), omega (arith, h.5, h.3.1))
+  levels_popped [] lv (l ∷ []) f n h = (
+    [],
+    l,
+    nothing,
+    0,
+    refl,
+    h.2,
+    (refl, refl),
+    h.4 ∙ (ap (λ v. followed_by v (items_forest scope (folder_spot lv.folder) l)) h.3.0 ∙ sym
+        (followed_nothing (items_forest scope (folder_spot lv.folder) l))),
+    omega (arith, h.5, h.3.1),
+  )
   levels_popped [] lv (l ∷ m ∷ has) f n h = absurd h.3
   levels_popped (lw ∷ inner) lv [] f n h = absurd h
   levels_popped (lw ∷ inner) lv (l ∷ has) f n h =
@@ -62,18 +98,21 @@ module _ {C : Type 0} (shows : List ℕ → Shown → Type 0) (scope : Scope) wh
         ap (λ v. l ∷ v) p.4,
         p.5,
         (p.2, p.3, h.2, p.6, refl, refl),
-        h.4 ∙ (ap (λ v. followed_by v back) p.7 ∙ followed_assoc (items_forest scope (folder_spot lv.folder) p.1) p.2 back),
+        h.4 ∙ (ap (λ v. followed_by v back) p.7 ∙ followed_assoc
+            (items_forest scope (folder_spot lv.folder) p.1) p.2 back),
         omega (arith, h.5, p.8),
       )
 
-  pub levels_none : (ls : List (Level C)) (has : List Items) (f : Forest Given) (n : ℕ) → LevelsShow shows scope ls has f n → ls ≡ [] → f ≡ nothing
+  pub levels_none : (ls : List (Level C)) (has : List Items) (f : Forest Given) (n : ℕ)
+      → LevelsShow shows scope ls has f n → ls ≡ [] → f ≡ nothing
   levels_none [] [] f n h e = h.0
   levels_none [] (l ∷ has) f n h e = absurd h
   levels_none (lv ∷ inner) has f n h e = cc
 
 -- a folder that will be entered
 pub enters_later : (shows : List ℕ → Shown → Type 0) (scope : Scope) (e : Folder) (at : Spot) (s : Shown)
-    → shows at.path s → HasKind s F.Folder → at.depth < scope.max → string_bytes e.path ≡ at.path → string_bytes e.candidate ≡ at.candidate → e.depth ≡ at.depth + 1
+    → shows at.path s → HasKind s F.Folder → at.depth < scope.max → string_bytes e.path ≡ at.path
+    → string_bytes e.candidate ≡ at.candidate → e.depth ≡ at.depth + 1
     → (n : ℕ) × (n ≤ count_shown s) × EnteredShows shows scope (Some e) (below_forest scope at s) n
 enters_later shows scope e at (a_folder l) h k d p q i = (
   count l,
@@ -82,7 +121,10 @@ enters_later shows scope e at (a_folder l) h k d p q i = (
     a_folder l,
     subst (λ v. shows v (a_folder l)) (sym p) h,
     tt,
-    rw (p, q, i) (ap (λ b. cond b (lists at.path (items_forest scope (record { path = at.path; candidate = at.candidate; depth = at.depth + 1 }) l)) nothing) (lt-ltb at.depth scope.max d)),
+    rw (p, q, i) (ap (λ b. cond b
+        (lists at.path (items_forest scope
+        (record { path = at.path; candidate = at.candidate; depth = at.depth + 1 }) l)) nothing)
+        (lt-ltb at.depth scope.max d)),
     refl,
   ),
 )
@@ -94,7 +136,8 @@ enters_later shows scope e at a_sealed h k d p q i =
         a_sealed,
         subst (λ v. shows v a_sealed) (sym p) h,
         tt,
-        rw p (ap (λ b. cond b (unlisted scope at.path at.depth) nothing) (lt-ltb at.depth scope.max d) ∙ ap (unlisted scope at.path) back),
+        rw p (ap (λ b. cond b (unlisted scope at.path at.depth) nothing) (lt-ltb at.depth scope.max d) ∙ ap
+            (unlisted scope at.path) back),
         refl,
       ),
     )
@@ -103,12 +146,14 @@ enters_later shows scope e at (a_leaf false) h k d p q i = cc
 enters_later shows scope e at missing h k d p q i = absurd k
 enters_later shows scope e at failing h k d p q i = absurd k
 
-pub cursors_pushed : {C : Type 0} (ls : List (Level C)) (lv : Level C) → cursors_of (ls ++ lv ∷ []) ≡ cursors_of ls ++ lv.cursor ∷ []
+pub cursors_pushed : {C : Type 0} (ls : List (Level C)) (lv : Level C)
+    → cursors_of (ls ++ lv ∷ []) ≡ cursors_of ls ++ lv.cursor ∷ []
 cursors_pushed ls lv = map-append (λ level. level.cursor) ls (lv ∷ [])
 
 module _ {D C : Type 0} (law : Law D C) where
   pub comes_after : (w : Steps D C) (e : Option Folder) (below : Forest Given) (k items : ℕ) (rest : Rest)
-      → AtRest law w rest → EnteredShows (law.shows w.directory) (scope_of w) e below k → k + rest.count ≤ items
+      → AtRest law w rest → EnteredShows (law.shows w.directory) (scope_of w) e below k
+      → k + rest.count ≤ items
       → PlainToCome law (record w { entered = e }) (pending below rest.forest rest.listed items)
   comes_after w e below k items rest r i few = record {
     has = rest.has;
@@ -116,7 +161,8 @@ module _ {D C : Type 0} (law : Law D C) where
     of_first = 0;
     of_entered = k;
     of_levels = rest.count;
-    first = subst (λ v. FirstShows (law.shows w.directory) (scope_of w) v rest.forest rest.forest 0) (sym r.first) (refl, refl);
+    first = subst (λ v. FirstShows (law.shows w.directory) (scope_of w) v rest.forest rest.forest 0)
+        (sym r.first) (refl, refl);
     entered = i;
     levels = r.levels;
     held = r.held;
@@ -126,15 +172,18 @@ module _ {D C : Type 0} (law : Law D C) where
     ended = λ t. absurd (let x : true ≡ false = sym t ∙ r.running in (cc));
   }
 
-  pub comes_rest : (w : Steps D C) (items : ℕ) (rest : Rest) → AtRest law w rest → rest.count ≤ items → PlainToCome law w (pending nothing rest.forest rest.listed items)
+  pub comes_rest : (w : Steps D C) (items : ℕ) (rest : Rest) → AtRest law w rest → rest.count ≤ items
+      → PlainToCome law w (pending nothing rest.forest rest.listed items)
   comes_rest w items rest r few = record {
     has = rest.has;
     back = rest.forest;
     of_first = 0;
     of_entered = 0;
     of_levels = rest.count;
-    first = subst (λ v. FirstShows (law.shows w.directory) (scope_of w) v rest.forest rest.forest 0) (sym r.first) (refl, refl);
-    entered = subst (λ v. EnteredShows (law.shows w.directory) (scope_of w) v nothing 0) (sym r.entered) (refl, refl);
+    first = subst (λ v. FirstShows (law.shows w.directory) (scope_of w) v rest.forest rest.forest 0)
+        (sym r.first) (refl, refl);
+    entered = subst (λ v. EnteredShows (law.shows w.directory) (scope_of w) v nothing 0) (sym r.entered)
+        (refl, refl);
     levels = r.levels;
     held = r.held;
     few = omega (arith, few);
@@ -144,7 +193,9 @@ module _ {D C : Type 0} (law : Law D C) where
   }
 
   -- the walk has ended
-  pub comes_ended : (w : Steps D C) (items : ℕ) (rest : Rest) → AtRest law w rest → w.levels.items ≡ [] → rest.count ≤ items → PlainToCome law (record w { has_ended = true }) (pending nothing rest.forest rest.listed items)
+  pub comes_ended : (w : Steps D C) (items : ℕ) (rest : Rest) → AtRest law w rest → w.levels.items ≡ []
+      → rest.count ≤ items → PlainToCome law (record w { has_ended = true })
+      (pending nothing rest.forest rest.listed items)
   comes_ended w items rest r none few =
       let c = comes_rest w items rest r few in
       record {
@@ -160,14 +211,20 @@ module _ {D C : Type 0} (law : Law D C) where
         few = c.few;
         alone = c.alone;
         told = c.told;
-        ended = λ t. (refl, levels_none (law.shows w.directory) (scope_of w) w.levels.items rest.has rest.forest rest.count r.levels none);
+        ended = λ t. (
+          refl,
+          levels_none (law.shows w.directory) (scope_of w) w.levels.items rest.has
+              rest.forest rest.count r.levels none,
+        );
       }
 
   -- the directory answered
-  pub rest_moved : (w : Steps D C) (d : D) (listed : List (List ℕ)) (rest : Rest) → AtRest law w rest → ShowsSame law w.directory d → law.holds d (cursors_of w.levels.items) rest.has → law.tells d listed
+  pub rest_moved : (w : Steps D C) (d : D) (listed : List (List ℕ)) (rest : Rest) → AtRest law w rest
+      → ShowsSame law w.directory d → law.holds d (cursors_of w.levels.items) rest.has → law.tells d listed
       → AtRest law (record w { directory = d }) (record rest { listed = listed })
   rest_moved w d listed rest r same held told = record {
-    levels = levels_moved (law.shows w.directory) (law.shows d) (scope_of w) same w.levels.items rest.has rest.forest rest.count r.levels;
+    levels = levels_moved (law.shows w.directory) (law.shows d) (scope_of w) same w.levels.items rest.has
+        rest.forest rest.count r.levels;
     held = held;
     told = told;
     first = r.first;
@@ -176,13 +233,28 @@ module _ {D C : Type 0} (law : Law D C) where
   }
 
   -- a folder was opened, or an item taken from it
-  pub rest_pushed : (w v : Steps D C) (lv : Level C) (l : Items) (rest : Rest) → AtRest law w rest → HoldsLast law w.directory (cursors_of w.levels.items) rest.has lv.cursor l → ShowsIn (law.shows w.directory) (string_bytes lv.folder.path) l
+  pub rest_pushed : (w v : Steps D C) (lv : Level C) (l : Items) (rest : Rest) → AtRest law w rest
+      → HoldsLast law w.directory (cursors_of w.levels.items) rest.has lv.cursor l
+      → ShowsIn (law.shows w.directory) (string_bytes lv.folder.path) l
       → v.levels.items ≡ w.levels.items ++ lv ∷ []
-      → AtRest law (record w { levels = v.levels }) (record { has = rest.has ++ l ∷ []; forest = followed_by (items_forest (scope_of w) (folder_spot lv.folder) l) rest.forest; count = rest.count + count l; listed = rest.listed })
+      → AtRest law (record w { levels = v.levels })
+      (record {
+        has = rest.has ++ l ∷ [];
+        forest =
+            followed_by (items_forest (scope_of w) (folder_spot lv.folder) l) rest.forest;
+        count =
+            rest.count + count l;
+        listed = rest.listed;
+      })
   rest_pushed w v lv l rest r held shown e = record {
-    levels = subst (λ ls. LevelsShow (law.shows w.directory) (scope_of w) ls (rest.has ++ l ∷ []) (followed_by (items_forest (scope_of w) (folder_spot lv.folder) l) rest.forest) (rest.count + count l)) (sym e)
-        (levels_pushed (law.shows w.directory) (scope_of w) w.levels.items rest.has lv l rest.forest rest.count r.levels shown);
-    held = subst (λ ls. law.holds w.directory (cursors_of ls) (rest.has ++ l ∷ [])) (sym e) (subst (λ cs. law.holds w.directory cs (rest.has ++ l ∷ [])) (sym (cursors_pushed w.levels.items lv)) held);
+    levels = subst (λ ls. LevelsShow (law.shows w.directory) (scope_of w) ls (rest.has ++ l ∷ [])
+        (followed_by (items_forest (scope_of w) (folder_spot lv.folder) l) rest.forest)
+        (rest.count + count l)) (sym e)
+        (levels_pushed (law.shows w.directory) (scope_of w) w.levels.items rest.has lv l rest.forest
+        rest.count r.levels shown);
+    held = subst (λ ls. law.holds w.directory (cursors_of ls) (rest.has ++ l ∷ [])) (sym e)
+        (subst (λ cs. law.holds w.directory cs (rest.has ++ l ∷ [])) (sym (cursors_pushed w.levels.items lv))
+        held);
     told = r.told;
     first = r.first;
     entered = r.entered;
@@ -190,5 +262,14 @@ module _ {D C : Type 0} (law : Law D C) where
   }
 
   -- an item was taken
-  pub rest_spent : (w : Steps D C) (budget : ℕ) (rest : Rest) → AtRest law w rest → AtRest law (record w { budget = budget }) rest
-  rest_spent w budget rest r = record { levels = r.levels; held = r.held; told = r.told; first = r.first; entered = r.entered; running = r.running }
+  pub rest_spent : (w : Steps D C) (budget : ℕ) (rest : Rest) → AtRest law w rest
+      → AtRest law (record w { budget = budget }) rest
+  rest_spent w budget rest r =
+      record {
+        levels = r.levels;
+        held = r.held;
+        told = r.told;
+        first = r.first;
+        entered = r.entered;
+        running = r.running;
+      }

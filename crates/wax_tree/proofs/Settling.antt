@@ -1,5 +1,6 @@
 -- What steps count, take and end.
-use Rattle.std.proofs.Common.{◌≡◌, ℕ, ◌+◌, ◌<◌, ◌≤◌, true, false, refl, sym, ap, subst, ◌∙◌, arith, inl, inr, List, [], ◌∷◌, ◌++◌}
+use Rattle.std.proofs.Common.{◌≡◌, ℕ, ◌+◌, ◌<◌, ◌≤◌, true, false, refl, sym, ap, subst, ◌∙◌, arith, inl, inr}
+use Rattle.std.proofs.Common.{List, [], ◌∷◌, ◌++◌}
 use Rattle.std.specs.Prelude.{Option, Some, None, Result, Ok, Err}
 use Rattle.wax_directory.specs.Counting.{Counts, no_counts, grown, kind_counts}
 use Rattle.wax_directory.specs.Law.{Law}
@@ -12,33 +13,52 @@ use Rattle.wax_walk.specs.declared.error.WalkError.{WalkError}
 use Rattle.wax_walk.specs.declared.entry.TreeEntry.{TreeEntry}
 use Rattle.wax_walk.specs.Given.{Given, fault, no_memory}
 use Rattle.wax_walk.specs.declared.error.FaultKind.TheVariants.{Budget}
-use Rattle.wax_walk.specs.View.{IsLast, IsMisplaced, Takes, fault_counts, CountsFaults, GivesOrStops, lacks_memory, over_budget, gives}
+use Rattle.wax_walk.specs.View.{IsLast, IsMisplaced, Takes, fault_counts, CountsFaults, GivesOrStops}
+use Rattle.wax_walk.specs.View.{lacks_memory, over_budget, gives}
 use Rattle.wax_tree.specs.declared.steps.Steps.{Steps}
 use Rattle.wax_tree.specs.declared.steps.Step.{Step}
 use Rattle.wax_tree.specs.declared.steps.Step.TheVariants.{Gives, GoesOn, Ends}
 use Rattle.wax_tree.specs.Stepping.{IsCounted, Asked, Settles, Answers, StepIs}
-use Rattle.wax_tree.specs.Walking.{step_given, tree_given, names_left, allowance, Rest, AtRest, PlainToCome, steps_view}
+use Rattle.wax_tree.specs.Walking.{step_given, tree_given, names_left, allowance, Rest, AtRest, PlainToCome}
+use Rattle.wax_tree.specs.Walking.{steps_view}
 use Rattle.wax_tree.proofs.Resting.{comes_ended}
 use Rattle.wax_tree.proofs.Stepping.{gives_fault}
 
-same_first : (then : Pending Given → Type 0) (p q : Pending Given) (n : ℕ) (r : Option Given) → all_pending p ≡ all_pending q → p.listed ≡ q.listed → FirstIs then (all_pending q) q.listed n r → FirstIs then (all_pending p) p.listed n r
-same_first then p q n r f l h = subst (λ v. FirstIs then v p.listed n r) (sym f) (subst (λ v. FirstIs then (all_pending q) v n r) (sym l) h)
+same_first : (then : Pending Given → Type 0) (p q : Pending Given) (n : ℕ) (r : Option Given)
+    → all_pending p ≡ all_pending q → p.listed ≡ q.listed → FirstIs then (all_pending q) q.listed n r
+    → FirstIs then (all_pending p) p.listed n r
+same_first then p q n r f l h = subst (λ v. FirstIs then v p.listed n r) (sym f)
+    (subst (λ v. FirstIs then (all_pending q) v n r) (sym l) h)
 
 pub counted_same : (k : Tally) → IsCounted k k
-counted_same k = record { misses = omega arith; leaves = omega arith; failures = omega arith; bad_names = omega arith }
+counted_same k = record {
+  misses = omega arith;
+  leaves = omega arith;
+  failures = omega arith;
+  bad_names =
+      omega arith;
+}
 
 -- a file or a link was counted
-pub leaf_counted : (kind : FileType) → ¬ (kind ≡ F.Folder) → IsCounted (record no_counts { leaves = 1 }) (kind_counts (Ok (Some kind)))
+pub leaf_counted : (kind : FileType) → ¬ (kind ≡ F.Folder) → IsCounted (record no_counts { leaves = 1 })
+    (kind_counts (Ok (Some kind)))
 leaf_counted F.File n = counted_same _
 leaf_counted F.Link n = counted_same _
 leaf_counted F.Folder n = absurd (n refl)
 
 none_counted : (k : Tally) → IsCounted no_counts k
-none_counted k = record { misses = omega arith; leaves = omega arith; failures = omega arith; bad_names = omega arith }
+none_counted k = record {
+  misses = omega arith;
+  leaves = omega arith;
+  failures = omega arith;
+  bad_names =
+      omega arith;
+}
 
 module _ {D C : Type 0} where
   -- memory was refused
-  pub failed_settles : (asked : Asked) (w : Steps D C) → names_left w ≤ asked.names → asked.taken ≤ allowance w → Settles asked w (Gives (Err Memory)) (record w { has_ended = true })
+  pub failed_settles : (asked : Asked) (w : Steps D C) → names_left w ≤ asked.names
+      → asked.taken ≤ allowance w → Settles asked w (Gives (Err Memory)) (record w { has_ended = true })
   failed_settles asked w few taken = record {
     goes_on = λ e. (cc);
     directory = refl;
@@ -50,7 +70,9 @@ module _ {D C : Type 0} where
   }
 
   -- the walk ends with a fault
-  pub stopped_settles : (asked : Asked) (w new : Steps D C) (r : Step) (x : Given) → step_given r ≡ Some x → new ≡ record w { has_ended = true } → IsCounted (fault_counts (Some x)) asked.counts → Takes (Some x) (allowance w) asked.taken 0
+  pub stopped_settles : (asked : Asked) (w new : Steps D C) (r : Step) (x : Given) → step_given r ≡ Some x
+      → new ≡ record w { has_ended = true } → IsCounted (fault_counts (Some x)) asked.counts
+      → Takes (Some x) (allowance w) asked.taken 0
       → (IsMisplaced (Some x) → 0 < asked.names) → names_left w ≤ asked.names → Settles asked w r new
   stopped_settles asked w new (Gives y) x e is c t m few =
       let K : Option Given → Type 0 = λ z. IsCounted (fault_counts z) asked.counts in
@@ -69,7 +91,10 @@ module _ {D C : Type 0} where
   stopped_settles asked w new Ends x e is c t m few = cc
 
   -- one item is given and nothing asked
-  pub gives_settles : (asked : Asked) (w : Steps D C) (y : Result TreeEntry WalkError) → IsCounted (fault_counts (Some (tree_given y))) asked.counts → Takes (Some (tree_given y)) (allowance w) asked.taken (allowance w) → (IsLast (Some (tree_given y)) → ⊥) → (IsMisplaced (Some (tree_given y)) → ⊥)
+  pub gives_settles : (asked : Asked) (w : Steps D C) (y : Result TreeEntry WalkError)
+      → IsCounted (fault_counts (Some (tree_given y))) asked.counts
+      → Takes (Some (tree_given y)) (allowance w) asked.taken (allowance w)
+      → (IsLast (Some (tree_given y)) → ⊥) → (IsMisplaced (Some (tree_given y)) → ⊥)
       → names_left w ≤ asked.names → Settles asked w (Gives y) w
   gives_settles asked w y c t l m few = record {
     goes_on = λ e. (cc);
@@ -83,9 +108,12 @@ module _ {D C : Type 0} where
 
 module _ {D C : Type 0} (law : Law D C) where
   -- the directory answered, and the step did with it what it did
-  pub answers_settled : (asked : Asked) (w : Steps D C) (d : D) (r : Step) (new : Steps D C) → Counts asked.counts (law.tally w.directory) (law.tally d) → asked.counts.items ≡ asked.taken → Settles asked (record w { directory = d }) r new → Answers law asked.names w r new
+  pub answers_settled : (asked : Asked) (w : Steps D C) (d : D) (r : Step) (new : Steps D C)
+      → Counts asked.counts (law.tally w.directory) (law.tally d) → asked.counts.items ≡ asked.taken
+      → Settles asked (record w { directory = d }) r new → Answers law asked.names w r new
   answers_settled asked w d r new c i s =
-      let A : D → Type 0 = λ v. CountsFaults (fault_counts (step_given r)) (law.tally w.directory) (law.tally v) in
+      let A : D → Type 0 = λ v. CountsFaults (fault_counts (step_given r)) (law.tally w.directory)
+      (law.tally v) in
       let B : D → Type 0 = λ v. (law.tally v).items ≡ grown asked.taken (law.tally w.directory).items in
       record {
         goes_on = s.goes_on;
@@ -106,30 +134,50 @@ module _ {D C : Type 0} (law : Law D C) where
       }
 
   -- the walk ends with a fault, and nothing more was to come
-  pub stops_with : (w new : Steps D C) (head : Forest Given) (rest : Rest) (items : ℕ) (x : Given) (r : Step) → step_given r ≡ Some x → IsLast (Some x) → new ≡ record w { has_ended = true } → head ≡ item x nothing rest.forest → AtRest law w rest → w.levels.items ≡ [] → rest.count ≤ items
+  pub stops_with : (w new : Steps D C) (head : Forest Given) (rest : Rest) (items : ℕ) (x : Given) (r : Step)
+      → step_given r ≡ Some x → IsLast (Some x) → new ≡ record w { has_ended = true }
+      → head ≡ item x nothing rest.forest → AtRest law w rest → w.levels.items ≡ [] → rest.count ≤ items
       → StepIs law w (pending nothing head rest.listed items) r new
   stops_with w new head rest items x (Gives y) e last is h r none few =
       let g : tree_given y ≡ x = cc in
-      gives_fault law w new head rest.forest rest.listed items x y h g (λ n. absurd (n last)) (subst (λ v. PlainToCome law v (pending nothing rest.forest rest.listed items)) (sym is) (comes_ended law w items rest r none few))
+      gives_fault law w new head rest.forest rest.listed items x y h g (λ n. absurd (n last))
+      (subst (λ v. PlainToCome law v (pending nothing rest.forest rest.listed items)) (sym is)
+      (comes_ended law w items rest r none few))
   stops_with w new head rest items x GoesOn e last is h r none few = cc
   stops_with w new head rest items x Ends e last is h r none few = cc
 
   -- the budget is reached
-  pub stops_over : (w new : Steps D C) (p : Pending Given) (path : List ℕ) (depth : ℕ) (r : Step) → step_given r ≡ Some (fault Budget path depth) → allowance w ≤ p.items → StepIs law w p r new
+  pub stops_over : (w new : Steps D C) (p : Pending Given) (path : List ℕ) (depth : ℕ) (r : Step)
+      → step_given r ≡ Some (fault Budget path depth) → allowance w ≤ p.items → StepIs law w p r new
   stops_over w new p path depth (Gives y) e few = over_budget path depth e few
   stops_over w new p path depth GoesOn e few = cc
   stops_over w new p path depth Ends e few = cc
 
   -- the same was to come of an earlier state, but for items that were taken
-  pub step_from : (w mid new : Steps D C) (p q : Pending Given) (r : Step) → all_pending p ≡ all_pending q → p.listed ≡ q.listed → p.items + allowance mid ≡ q.items + allowance w → StepIs law mid q r new → StepIs law w p r new
+  pub step_from : (w mid new : Steps D C) (p q : Pending Given) (r : Step) → all_pending p ≡ all_pending q
+      → p.listed ≡ q.listed → p.items + allowance mid ≡ q.items + allowance w → StepIs law mid q r new
+      → StepIs law w p r new
   step_from w mid new p q (Gives y) f l a s = go s where
-    go : GivesOrStops (steps_view law mid) q (Some (tree_given y)) (steps_view law new) → GivesOrStops (steps_view law w) p (Some (tree_given y)) (steps_view law new)
+    go : GivesOrStops (steps_view law mid) q (Some (tree_given y)) (steps_view law new)
+        → GivesOrStops (steps_view law w) p (Some (tree_given y)) (steps_view law new)
     go (lacks_memory e) = lacks_memory e
     go (over_budget path depth e few) = over_budget path depth e (omega (arith, few, a))
-    go (gives n few first) = gives n (λ m. omega (arith, few m, a)) (same_first (PlainToCome law new) p q n _ f l first)
-  step_from w mid new p q GoesOn f l a s = (s.0, s.1, elim s.2 [ inl e ↦ inl (f ∙ e.0, e.1 ∙ sym l) | inr e ↦ inr (e.0, f ∙ e.1, e.2 ∙ ap (λ v. v ++ e.0 ∷ []) (sym l)) ], omega (arith, s.3, a))
+    go (gives n few first) = gives n (λ m. omega (arith, few m, a))
+        (same_first (PlainToCome law new) p q n _ f l first)
+  step_from w mid new p q GoesOn f l a s = (
+    s.0,
+    s.1,
+    elim s.2 [
+      | inl e ↦ inl (f ∙ e.0, e.1 ∙ sym l)
+      | inr e ↦
+          inr (e.0, f ∙ e.1, e.2 ∙ ap (λ v. v ++ e.0 ∷ []) (sym l))
+    ],
+    omega (arith, s.3, a),
+  )
   step_from w mid new p q Ends f l a s = go s where
-    go : GivesOrStops (steps_view law mid) q None (steps_view law new) → GivesOrStops (steps_view law w) p None (steps_view law new)
+    go : GivesOrStops (steps_view law mid) q None (steps_view law new)
+        → GivesOrStops (steps_view law w) p None (steps_view law new)
     go (lacks_memory e) = lacks_memory e
     go (over_budget path depth e few) = over_budget path depth e (omega (arith, few, a))
-    go (gives n few first) = gives n (λ m. omega (arith, few m, a)) (same_first (PlainToCome law new) p q n _ f l first)
+    go (gives n few first) = gives n (λ m. omega (arith, few m, a))
+        (same_first (PlainToCome law new) p q n _ f l first)

@@ -27,29 +27,37 @@ pub record AtMost (most : ℕ) (left : Count) : Type 0 where
   pub ends : IsFinite left
   pub gives : size left ≤ most
 
--- a walk over this directory, of which this is seen: what is shown at the start will come, of the depths in range, and no
--- name is to be followed
-pub record Begins {D C : Type 0} (law : Law D C) (d : D) (start : List ℕ) (range : Range) (view : WalkView D) : Type 0 where
+-- a walk over this directory, of which this is seen: what is shown at the start will come, of the depths in
+-- range, and no name is to be followed
+pub record Begins {D C : Type 0} (law : Law D C) (d : D) (start : List ℕ) (range : Range)
+    (view : WalkView D) : Type 0 where
   pub shown : (s : Shown) (listed : List (List ℕ)) → law.shows d start s → law.tells d listed
       → view.to_come (pending nothing (plain (scope_in range start) s) listed (count_shown s))
   pub listings : view.listings_left ≡ range.budget + 1
   pub names : view.names_left ≡ 0
   pub directory : view.directory ≡ d
 
--- the start that the entries of a walk tell, the path where it begins to ask, the candidate of that path, and the names
--- below it that it follows
+-- the start that the entries of a walk tell, the path where it begins to ask, the candidate of that path, and
+-- the names below it that it follows
 pub record Way : Type 0 where
   pub root : List ℕ
   pub path : List ℕ
   pub candidate : List ℕ
   pub names : List (List ℕ)
 
--- the walk to the place of these names, and from there on: one question a name on the way, and one error and the end where
--- the names don't lead there; where there are more names than the greatest depth nothing comes, and the walk has ended
-pub record BeginsAt {D C : Type 0} (law : Law D C) (d : D) (way : Way) (range : Range) (view : WalkView D) : Type 0 where
-  pub shown : (s : Shown) (listed : List (List ℕ)) → law.shows d way.path s → law.tells d listed → ArePlain way.names → length way.names ≤ range.max
-      → view.to_come (pending nothing (walk_from (scope_in range way.root) (record { path = way.path; candidate = way.candidate; depth = 0 }) s way.names nothing) listed (count_shown s))
-  pub beyond : (s : Shown) (listed : List (List ℕ)) → law.shows d way.path s → law.tells d listed → range.max < length way.names
+-- the walk to the place of these names, and from there on: one question a name on the way, and one error and
+-- the end where the names don't lead there; where there are more names than the greatest depth nothing comes,
+-- and the walk has ended
+pub record BeginsAt {D C : Type 0} (law : Law D C) (d : D) (way : Way) (range : Range) (view : WalkView D) :
+    Type 0 where
+  pub shown : (s : Shown) (listed : List (List ℕ)) → law.shows d way.path s → law.tells d listed
+      → ArePlain way.names → length way.names ≤ range.max
+      → view.to_come (pending nothing
+      (walk_from (scope_in range way.root)
+      (record { path = way.path; candidate = way.candidate; depth = 0 }) s way.names nothing) listed
+      (count_shown s))
+  pub beyond : (s : Shown) (listed : List (List ℕ)) → law.shows d way.path s → law.tells d listed
+      → range.max < length way.names
       → view.to_come (pending nothing nothing listed 0)
   pub above : range.max < length way.names → view.has_ended
   pub listings : view.listings_left ≡ range.budget + 1

@@ -9,4 +9,5 @@ after_listing (path ∷ paths) f = lists path (after_listing paths f)
 
 -- from p the walk came to q, with no item between
 abbrev pub ListsBetween : Pending Given → Pending Given → Type 0
-ListsBetween p q = (paths : List (List ℕ)) × (all_pending p ≡ after_listing paths (all_pending q)) × (q.listed ≡ p.listed ++ paths)
+ListsBetween p q = (paths : List (List ℕ)) × (all_pending p ≡ after_listing paths (all_pending q)) ×
+    (q.listed ≡ p.listed ++ paths)

@@ -2,7 +2,8 @@
 use Rattle.std.specs.Prelude.{ℕ, ◌+◌, ◌-◌, cond, List, [], nat_lt}
 use Rattle.wax_directory.specs.declared.directory.FileType.{FileType}
 use Rattle.wax_directory.specs.declared.directory.FileType.TheVariants.{Folder}
-use Rattle.wax_directory.specs.Shown.{Items, end, leaf, folder, sealed, misnamed, unread, not_text, Shown, a_leaf, a_folder, a_sealed, missing, failing, leaf_kind, join}
+use Rattle.wax_directory.specs.Shown.{Items, end, leaf, folder, sealed, misnamed, unread, not_text, Shown}
+use Rattle.wax_directory.specs.Shown.{a_leaf, a_folder, a_sealed, missing, failing, leaf_kind, join}
 use Rattle.wax_walk.specs.declared.error.FaultKind.TheVariants.{NotFound, Listing, BadName, NotText}
 use Rattle.wax_walk.specs.Forest.{Forest, nothing, item, lists, followed_by}
 use Rattle.wax_walk.specs.Given.{Given, entry, fault, kept}
@@ -57,19 +58,29 @@ module _ (scope : Scope) where
   unlisted path depth = lists path (item (fault Listing path depth) nothing nothing)
 
   abbrev pub plain_entry : Spot → FileType → Given
-  plain_entry at kind = entry kept (record { path = at.path; root = scope.root; candidate = at.candidate; depth = at.depth; kind = kind })
+  plain_entry at kind =
+      entry kept (record {
+        path = at.path;
+        root = scope.root;
+        candidate = at.candidate;
+        depth = at.depth;
+        kind = kind;
+      })
 
   -- what is in a folder
   abbrev pub items_forest : Spot → Items → Forest Given
   items_forest at end = nothing
-  items_forest at (leaf x link rest) = at_depth at.depth (plain_entry (item_spot at x) (leaf_kind link)) nothing (items_forest at rest)
+  items_forest at (leaf x link rest) = at_depth at.depth (plain_entry (item_spot at x) (leaf_kind link))
+      nothing (items_forest at rest)
   items_forest at (folder x inner rest) =
       at_depth at.depth (plain_entry (item_spot at x) Folder)
-      (above_max at.depth (lists (join at.path x) (items_forest (one_deeper (item_spot at x)) inner))) (items_forest at rest)
+      (above_max at.depth (lists (join at.path x) (items_forest (one_deeper (item_spot at x)) inner)))
+      (items_forest at rest)
   items_forest at (sealed x rest) =
       at_depth at.depth (plain_entry (item_spot at x) Folder)
       (above_max at.depth (unlisted (join at.path x) at.depth)) (items_forest at rest)
-  items_forest at (misnamed x kind rest) = item (fault BadName at.path (at.depth - 1)) nothing (items_forest at rest)
+  items_forest at (misnamed x kind rest) = item (fault BadName at.path (at.depth - 1)) nothing
+      (items_forest at rest)
   items_forest at (unread rest) = item (fault Listing at.path (at.depth - 1)) nothing (items_forest at rest)
   items_forest at (not_text rest) = item (fault NotText at.path (at.depth - 1)) nothing (items_forest at rest)
 

@@ -1,7 +1,8 @@
 -- The walk to a place below the start, and from there on.
 use Rattle.std.specs.Prelude.{ℕ, ◌+◌, List, [], ◌∷◌, ◌++◌, String, string_bytes}
 use Rattle.std.specs.declared.alloc.Global.{Global}
-use Rattle.wax_directory.specs.Shown.{Shown, a_leaf, a_folder, a_sealed, missing, failing, IsPlain, join, child_in}
+use Rattle.wax_directory.specs.Shown.{Shown, a_leaf, a_folder, a_sealed, missing, failing, IsPlain, join}
+use Rattle.wax_directory.specs.Shown.{child_in}
 use Rattle.wax_walk.specs.declared.error.FaultKind.TheVariants.{NotFound, NotAFolder, Listing}
 use Rattle.wax_walk.specs.Forest.{Forest, nothing, item}
 use Rattle.wax_walk.specs.Given.{Given, fault}
@@ -17,12 +18,14 @@ abbrev pub from_last : List (String Global) → List (List ℕ)
 from_last [] = []
 from_last (x ∷ names) = from_last names ++ string_bytes x ∷ []
 
--- the kind of what stands at the spot is asked for, and then that of each name; one error, and after it what comes,
--- where they don't lead on; else the walk from the last of them
+-- the kind of what stands at the spot is asked for, and then that of each name; one error, and after it what
+-- comes, where they don't lead on; else the walk from the last of them
 abbrev pub walk_from : Scope → Spot → Shown → List (List ℕ) → Forest Given → Forest Given
 walk_from scope at s [] after = plain_at scope at s after
-walk_from scope at (a_folder l) (x ∷ names) after = walk_from scope (one_deeper (item_spot at x)) (child_in x l) names after
-walk_from scope at a_sealed (x ∷ names) after = item (fault Listing (join at.path x) (at.depth + 1)) nothing after
+walk_from scope at (a_folder l) (x ∷ names) after = walk_from scope (one_deeper (item_spot at x))
+    (child_in x l) names after
+walk_from scope at a_sealed (x ∷ names) after = item (fault Listing (join at.path x) (at.depth + 1)) nothing
+    after
 walk_from scope at (a_leaf link) (x ∷ names) after = item (fault NotAFolder at.path at.depth) nothing after
 walk_from scope at missing (x ∷ names) after = item (fault NotFound at.path at.depth) nothing after
 walk_from scope at failing (x ∷ names) after = item (fault Listing at.path at.depth) nothing after

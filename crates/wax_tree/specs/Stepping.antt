@@ -1,5 +1,6 @@
 -- What a step of a walk does.
-use Rattle.std.specs.Prelude.{◌≡◌, ℕ, ◌+◌, ◌*◌, ◌<◌, ◌≤◌, true, false, cond, length, List, Option, Some, None, Err, ◌⊎◌, string_bytes}
+use Rattle.std.specs.Prelude.{◌≡◌, ℕ, ◌+◌, ◌*◌, ◌<◌, ◌≤◌, true, false, cond, length, List, Option, Some, None}
+use Rattle.std.specs.Prelude.{Err, ◌⊎◌, string_bytes}
 use Rattle.wax_directory.specs.Counting.{no_counts}
 use Rattle.wax_directory.specs.declared.tally.Tally.{Tally}
 use Rattle.wax_directory.specs.Law.{Law, HoldsLast}
@@ -14,7 +15,8 @@ use Rattle.wax_tree.specs.declared.steps.Step.{Step}
 use Rattle.wax_tree.specs.declared.steps.Step.TheVariants.{Gives, GoesOn, Ends}
 use Rattle.wax_tree.specs.declared.steps.Steps.{Steps}
 use Rattle.wax_tree.specs.Plain.{Scope, Spot, items_forest}
-use Rattle.wax_tree.specs.Walking.{if_some, step_given, cursors_of, Rest, HasStopped, allowance, names_left, AtRest, PlainToCome, steps_view, Advances}
+use Rattle.wax_tree.specs.Walking.{if_some, step_given, cursors_of, Rest, HasStopped, allowance, names_left}
+use Rattle.wax_tree.specs.Walking.{AtRest, PlainToCome, steps_view, Advances}
 
 -- no more is counted
 pub record IsCounted (n k : Tally) : Type 0 where
@@ -23,7 +25,8 @@ pub record IsCounted (n k : Tally) : Type 0 where
   pub failures : n.failures ≤ k.failures
   pub bad_names : n.bad_names ≤ k.bad_names
 
--- what an answer of the directory counted, how many items were taken for it, and how many names the walk still followed
+-- what an answer of the directory counted, how many items were taken for it, and how many names the walk
+-- still followed
 pub record Asked : Type 0 where
   pub counts : Tally
   pub taken : ℕ
@@ -40,7 +43,8 @@ first_steps (Some place) = 4 + length place.names.items
 module _ {D C : Type 0} where
   -- the walk gives this fault, or that memory was refused, and ends
   abbrev pub Blames : Given → Steps D C → Step → Steps D C → Type 0
-  Blames x old r new = ((r ≡ Gives (Err Memory)) × (new ≡ record old { has_ended = true })) ⊎ ((step_given r ≡ Some x) × (new ≡ old))
+  Blames x old r new = ((r ≡ Gives (Err Memory)) × (new ≡ record old { has_ended = true })) ⊎
+      ((step_given r ≡ Some x) × (new ≡ old))
 
   -- what a step makes of an answer, with no further question
   pub record Settles (asked : Asked) (old : Steps D C) (r : Step) (new : Steps D C) : Type 0 where
@@ -67,7 +71,8 @@ module _ {D C : Type 0} where
 
   -- at most so many more items and steps are left, where so many names were to come
   abbrev pub AddsFirst : ℕ → Steps D C → Step → Steps D C → Type 0
-  AddsFirst names old GoesOn new = (items_left new ≤ items_left old + 2) × (steps_left new ≤ steps_left old + (3 + names))
+  AddsFirst names old GoesOn new =
+      (items_left new ≤ items_left old + 2) × (steps_left new ≤ steps_left old + (3 + names))
   AddsFirst names old r new = items_left new ≤ items_left old + 1
 
   -- an item takes one of those that are left
@@ -84,13 +89,15 @@ module _ {D C : Type 0} where
 
 -- what is to come of a folder and of what is at rest behind it
 abbrev pub listing_pending : Scope → Spot → Items → Rest → ℕ → Pending Given
-listing_pending scope at l rest items = pending nothing (followed_by (items_forest scope at l) rest.forest) rest.listed items
+listing_pending scope at l rest items = pending nothing (followed_by (items_forest scope at l) rest.forest)
+    rest.listed items
 
 module _ {D C : Type 0} (law : Law D C) where
   -- what a step does where this was to come
   abbrev pub StepIs : Steps D C → Pending Given → Step → Steps D C → Type 0
   StepIs old p (Gives x) new = GivesOrStops (steps_view law old) p (step_given (Gives x)) (steps_view law new)
-  StepIs old p GoesOn new = (q : Pending Given) × PlainToCome law new q × Advances p q × (q.items + allowance old ≤ p.items + allowance new)
+  StepIs old p GoesOn new = (q : Pending Given) × PlainToCome law new q × Advances p q ×
+      (q.items + allowance old ≤ p.items + allowance new)
   StepIs old p Ends new = GivesOrStops (steps_view law old) p None (steps_view law new)
 
   -- at rest, with a head that lists so many items, it does what the head and what comes after it ask for

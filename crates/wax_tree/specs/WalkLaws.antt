@@ -19,10 +19,12 @@ module _ {D C : Type 0} where
   cancel_once s t u h k = k ∙ ap uncancelled h
 
   pub cancel_no_longer : (s t : WalkTree D C) → t ≡ uncancelled s → gives_at_most t ≤ gives_at_most s
-  cancel_no_longer s t h = subst (λ (v : WalkTree D C). gives_at_most v ≤ gives_at_most s) (sym h) (omega arith)
+  cancel_no_longer s t h = subst (λ (v : WalkTree D C). gives_at_most v ≤ gives_at_most s) (sym h)
+      (omega arith)
 
   module _ (law : Law D C) where
-    cancel_steps : (s : Steps D C) (p : Pending Given) → PlainToCome law s p → PlainToCome law (record s { entered = None }) (cancelled p)
+    cancel_steps : (s : Steps D C) (p : Pending Given) → PlainToCome law s p
+        → PlainToCome law (record s { entered = None }) (cancelled p)
     cancel_steps s p c = record {
       has = c.has;
       back = c.back;
@@ -42,7 +44,8 @@ module _ {D C : Type 0} where
       alone None h = tt
       alone (Some x) h = (refl, h.1)
 
-    cancel_now : (s : WalkTree D C) (p : Pending Given) → MayCome law s p → MayCome law (uncancelled s) (cancelled p)
+    cancel_now : (s : WalkTree D C) (p : Pending Given) → MayCome law s p
+        → MayCome law (uncancelled s) (cancelled p)
     cancel_now s p (lacks e t) = lacks e t
     cancel_now s p (goes e c) = goes e (cancel_steps s.steps p c)
 
@@ -56,8 +59,10 @@ module _ {D C : Type 0} where
     }
 
     pub cancel_law : (s t : WalkTree D C) → t ≡ uncancelled s → CancelStep (tree_view law s) (tree_view law t)
-    cancel_law s t h = subst (λ (v : WalkTree D C). CancelStep (tree_view law s) (tree_view law v)) (sym h) (cancel_step s)
+    cancel_law s t h = subst (λ (v : WalkTree D C). CancelStep (tree_view law s) (tree_view law v)) (sym h)
+        (cancel_step s)
 
-    pub comes_told : (s : WalkTree D C) (p : Pending Given) → MayCome law s p → law.tells s.steps.directory p.listed
+    pub comes_told : (s : WalkTree D C) (p : Pending Given) → MayCome law s p
+        → law.tells s.steps.directory p.listed
     comes_told s p (lacks e t) = t
     comes_told s p (goes e c) = c.told

@@ -1,5 +1,6 @@
 -- What a walk's state says of what is to come.
-use Rattle.std.specs.Prelude.{◌≡◌, ℕ, ◌+◌, ◌*◌, ◌-◌, ◌^◌, ◌<◌, ◌≤◌, true, false, cond, length, map, List, [], ◌∷◌, ◌++◌, Option, Some, None, Result, string_bytes, ◌⊎◌}
+use Rattle.std.specs.Prelude.{◌≡◌, ℕ, ◌+◌, ◌*◌, ◌-◌, ◌^◌, ◌<◌, ◌≤◌, true, false, cond, length, map, List, []}
+use Rattle.std.specs.Prelude.{◌∷◌, ◌++◌, Option, Some, None, Result, string_bytes, ◌⊎◌}
 use Rattle.wax_directory.specs.declared.directory.FileType.{FileType}
 use Rattle.wax_directory.specs.declared.directory.FileType.TheVariants as F
 use Rattle.wax_directory.specs.Law.{Law}
@@ -38,10 +39,19 @@ tree_answer None = None
 tree_answer (Some x) = Some (tree_given x)
 
 abbrev pub place_spot : Place → Spot
-place_spot place = record { path = string_bytes place.path; candidate = string_bytes place.candidate; depth = place.depth }
+place_spot place = record {
+  path = string_bytes place.path;
+  candidate = string_bytes place.candidate;
+  depth =
+      place.depth;
+}
 
 abbrev pub folder_spot : Folder → Spot
-folder_spot folder = record { path = string_bytes folder.path; candidate = string_bytes folder.candidate; depth = folder.depth }
+folder_spot folder = record {
+  path = string_bytes folder.path;
+  candidate = string_bytes folder.candidate;
+  depth = folder.depth;
+}
 
 -- of a folder that was entered
 abbrev pub entered_forest : Scope → Spot → Shown → Forest Given
@@ -69,8 +79,8 @@ HasKind s k = ⊥
 abbrev pub cursors_of : {C : Type 0} → List (Level C) → List C
 cursors_of levels = map (λ level. level.cursor) levels
 
--- what a walk at rest has to give: what its cursors have, what comes of it, how many items that lists at most, and the
--- folders that were listed
+-- what a walk at rest has to give: what its cursors have, what comes of it, how many items that lists at
+-- most, and the folders that were listed
 pub record Rest : Type 0 where
   pub has : List Items
   pub forest : Forest Given
@@ -81,20 +91,23 @@ module _ (shows : List ℕ → Shown → Type 0) (scope : Scope) where
   -- what comes of the place to begin at, and after it, and at most how many items are listed for it
   abbrev pub FirstShows : Option Place → Forest Given → Forest Given → ℕ → Type 0
   FirstShows None f after n = (f ≡ after) × (n ≡ 0)
-  FirstShows (Some place) f after n = (s : Shown) × shows (string_bytes place.path) s × ArePlain (from_last place.names.items) × (place.depth + length place.names.items ≤ 2 ^ 64 - 1)
+  FirstShows (Some place) f after n = (s : Shown) × shows (string_bytes place.path) s × ArePlain
+      (from_last place.names.items) × (place.depth + length place.names.items ≤ 2 ^ 64 - 1)
       × (count_shown s ≤ n) × (f ≡ walk_from scope (place_spot place) s (from_last place.names.items) after)
 
   -- what comes of the folder that was given last
   abbrev pub EnteredShows : Option Folder → Forest Given → ℕ → Type 0
   EnteredShows None f n = (f ≡ nothing) × (n ≡ 0)
-  EnteredShows (Some e) f n = (s : Shown) × shows (string_bytes e.path) s × IsFolder s × (f ≡ entered_forest scope (folder_spot e) s) × (n ≡ count_shown s)
+  EnteredShows (Some e) f n = (s : Shown) × shows (string_bytes e.path) s × IsFolder s ×
+      (f ≡ entered_forest scope (folder_spot e) s) × (n ≡ count_shown s)
 
   -- what comes of the levels, the outermost first, whose cursors have this
   abbrev pub LevelsShow : {C : Type 0} → List (Level C) → List Items → Forest Given → ℕ → Type 0
   LevelsShow [] [] f n = (f ≡ nothing) × (n ≡ 0)
   LevelsShow [] (l ∷ has) f n = ⊥
   LevelsShow (level ∷ inner) [] f n = ⊥
-  LevelsShow (level ∷ inner) (l ∷ has) f n = (g : Forest Given) × (m : ℕ) × ShowsIn shows (string_bytes level.folder.path) l × LevelsShow inner has g m
+  LevelsShow (level ∷ inner) (l ∷ has) f n = (g : Forest Given) × (m : ℕ) × ShowsIn shows
+      (string_bytes level.folder.path) l × LevelsShow inner has g m
       × (f ≡ followed_by g (items_forest scope (folder_spot level.folder) l)) × (n ≡ m + count l)
 
 abbrev pub scope_of : {D C : Type 0} → Steps D C → Scope
@@ -119,7 +132,8 @@ names_left w = names_of_first w.first
 module _ {D C : Type 0} (law : Law D C) where
   -- nothing is to be begun or entered
   pub record AtRest (w : Steps D C) (rest : Rest) : Type 0 where
-    pub levels : LevelsShow (law.shows w.directory) (scope_of w) w.levels.items rest.has rest.forest rest.count
+    pub levels : LevelsShow (law.shows w.directory) (scope_of w) w.levels.items rest.has rest.forest
+        rest.count
     pub held : law.holds w.directory (cursors_of w.levels.items) rest.has
     pub told : law.tells w.directory rest.listed
     pub first : w.first ≡ None

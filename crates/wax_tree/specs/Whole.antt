@@ -1,8 +1,10 @@
 -- The whole plain walk, of all depths, and what a walk of some depths gives of it.
-use Rattle.std.specs.Prelude.{◌≡◌, ℕ, ◌+◌, ◌-◌, ◌<◌, Bool, true, false, cond, ◌&&◌, not, nat_lt, filter, List, [], ◌∷◌, ◌++◌}
+use Rattle.std.specs.Prelude.{◌≡◌, ℕ, ◌+◌, ◌-◌, ◌<◌, Bool, true, false, cond, ◌&&◌, not, nat_lt, filter, List}
+use Rattle.std.specs.Prelude.{[], ◌∷◌, ◌++◌}
 use Rattle.wax_directory.specs.declared.directory.FileType.{FileType}
 use Rattle.wax_directory.specs.declared.directory.FileType.TheVariants.{Folder}
-use Rattle.wax_directory.specs.Shown.{Items, end, leaf, folder, sealed, misnamed, unread, not_text, Shown, a_leaf, a_folder, a_sealed, missing, failing, leaf_kind, join}
+use Rattle.wax_directory.specs.Shown.{Items, end, leaf, folder, sealed, misnamed, unread, not_text, Shown}
+use Rattle.wax_directory.specs.Shown.{a_leaf, a_folder, a_sealed, missing, failing, leaf_kind, join}
 use Rattle.wax_tree.specs.declared.steps.Range.{Range}
 use Rattle.wax_tree.specs.Begins.{scope_in}
 use Rattle.wax_tree.specs.Plain.{Spot, start_spot, item_spot, one_deeper, count_shown, plain}
@@ -17,14 +19,24 @@ plain_pending range start s listed = pending nothing (plain (scope_in range star
 
 module _ (root : List ℕ) where
   abbrev pub whole_entry : Spot → FileType → Given
-  whole_entry at kind = entry kept (record { path = at.path; root = root; candidate = at.candidate; depth = at.depth; kind = kind })
+  whole_entry at kind =
+      entry kept (record {
+        path = at.path;
+        root = root;
+        candidate = at.candidate;
+        depth = at.depth;
+        kind =
+            kind;
+      })
 
   -- what is in a folder, each folder before what is in it, and faults at their places
   abbrev pub whole_items : Spot → Items → List Given
   whole_items at end = []
   whole_items at (leaf x link rest) = whole_entry (item_spot at x) (leaf_kind link) ∷ whole_items at rest
-  whole_items at (folder x inner rest) = whole_entry (item_spot at x) Folder ∷ (whole_items (one_deeper (item_spot at x)) inner ++ whole_items at rest)
-  whole_items at (sealed x rest) = whole_entry (item_spot at x) Folder ∷ fault Listing (join at.path x) at.depth ∷ whole_items at rest
+  whole_items at (folder x inner rest) = whole_entry (item_spot at x) Folder ∷
+      (whole_items (one_deeper (item_spot at x)) inner ++ whole_items at rest)
+  whole_items at (sealed x rest) = whole_entry (item_spot at x) Folder ∷ fault Listing (join at.path x)
+      at.depth ∷ whole_items at rest
   whole_items at (misnamed x kind rest) = fault BadName at.path (at.depth - 1) ∷ whole_items at rest
   whole_items at (unread rest) = fault Listing at.path (at.depth - 1) ∷ whole_items at rest
   whole_items at (not_text rest) = fault NotText at.path (at.depth - 1) ∷ whole_items at rest
@@ -46,9 +58,12 @@ abbrev pub is_in : Range → Given → Bool
 is_in range (entry m f) = not (nat_lt f.depth range.min) && not (nat_lt range.max f.depth)
 is_in range x = false
 
--- the entries are those of the whole walk whose depth is in range, unless memory was refused or the budget reached
+-- the entries are those of the whole walk whose depth is in range, unless memory was refused or the budget
+-- reached
 pub data EntriesAre (range : Range) (start : List ℕ) (s : Shown) (xs : List Given) : Type 0 where
   all_in_range : filter (is_in range) xs ≡ filter (is_in range) (whole start s) → EntriesAre range start s xs
-  lacks_memory : IsCutShort (preorder (plain (scope_in range start) s)) no_memory xs → EntriesAre range start s xs
+  lacks_memory : IsCutShort (preorder (plain (scope_in range start) s)) no_memory xs
+      → EntriesAre range start s xs
   over_budget : (path : List ℕ) (depth : ℕ) → range.budget < count_shown s
-      → IsCutShort (preorder (plain (scope_in range start) s)) (fault Budget path depth) xs → EntriesAre range start s xs
+      → IsCutShort (preorder (plain (scope_in range start) s)) (fault Budget path depth) xs
+      → EntriesAre range start s xs

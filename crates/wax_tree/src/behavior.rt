@@ -124,7 +124,8 @@ impl DepthBehavior {
     where
         P: Into<Option<usize>>,
         Q: Into<Option<usize>>,
-        ensures { (p : Option ℕ) × (q : Option ℕ) × P.converts min p × Q.converts max q × MatchOption result (IsUnbounded p q) (Bounds p q) }
+        ensures { (p : Option ℕ) × (q : Option ℕ) × P.converts min p × Q.converts max q × MatchOption result
+            (IsUnbounded p q) (Bounds p q) }
     {
         match (min.into(), max.into()) {
             (Some(min), None) => Some(DepthBehavior::Min(DepthMin(NonZeroUsize::new(min)?))),

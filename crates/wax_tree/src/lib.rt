@@ -8,9 +8,7 @@ mod plain;
 mod steps;
 mod walk_tree;
 
-pub use behavior::{
-    DepthBehavior, DepthMax, DepthMin, DepthMinMax, LinkBehavior, WalkBehavior,
-};
+pub use behavior::{DepthBehavior, DepthMax, DepthMin, DepthMinMax, LinkBehavior, WalkBehavior};
 pub use path_ext::PathExt;
 pub use plain::entries;
 pub use steps::Range;

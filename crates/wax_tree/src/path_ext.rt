@@ -5,10 +5,10 @@ ghost use Rattle.wax_tree.specs.Depths.{at_depth, greatest};
 ghost use Rattle.wax_tree.specs.declared.behavior.DepthBehavior.TheVariants.{Unbounded};
 ghost use Rattle.wax_tree.specs.Begins.{AtMost, Begins, or_greatest, range_of};
 
+use crate::behavior::{DepthBehavior, WalkBehavior};
 use crate::steps::Range;
 use crate::walk_tree::WalkTree;
 use std::alloc::Global;
-use crate::behavior::{DepthBehavior, WalkBehavior};
 use wax_directory::directory::Directory;
 use wax_filter::filter::SeparatingFilter;
 use wax_walk::FileIterator;
@@ -27,7 +27,8 @@ pub trait PathExt {
         Self: Sized,
         ensures begins { Begins D.law directory (text self) (range_of (at_depth Unbounded))
             (⟦<WalkTree<D> as FileIterator>⟧.view result) }
-        ensures gives { AtMost (2 * (at_depth Unbounded).budget + 3) (⟦<WalkTree<D> as SeparatingFilter>⟧.left result) };
+        ensures gives { AtMost (2 * (at_depth Unbounded).budget + 3)
+            (⟦<WalkTree<D> as SeparatingFilter>⟧.left result) };
 
     /// The walk from this path, of the depths that the behavior has, which takes at most as many
     /// items of folders as its budget. Where memory is refused for the path, the walk's one item
@@ -59,7 +60,8 @@ pub(crate) fn walk_from<D: Directory>(
     start: &str,
     behavior: WalkBehavior,
 ) -> WalkTree<D>
-    ensures begins { Begins D.law directory start.now (range_of behavior) (⟦<WalkTree<D> as FileIterator>⟧.view result) }
+    ensures begins { Begins D.law directory start.now (range_of behavior)
+        (⟦<WalkTree<D> as FileIterator>⟧.view result) }
     ensures gives { AtMost (2 * behavior.budget + 3) (⟦<WalkTree<D> as SeparatingFilter>⟧.left result) }
 {
     let range = Range {

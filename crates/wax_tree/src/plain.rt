@@ -7,9 +7,9 @@ ghost use Rattle.wax_tree.specs.Whole.{plain_pending, EntriesAre};
 ghost use Rattle.wax_walk.specs.Collected.{GaveAll};
 ghost use Rattle.wax_walk.specs.Entries.{given_outcome};
 
+use crate::behavior::WalkBehavior;
 use crate::path_ext::walk_from;
 use std::alloc::Global;
-use crate::behavior::WalkBehavior;
 use wax_directory::directory::Directory;
 use wax_query::diagnostics::NoMemory;
 use wax_walk::{Entry, TreeEntry, WalkError, collect};
@@ -27,14 +27,16 @@ pub fn entries<D: Directory>(
 ) -> Result<(Vec<Result<TreeEntry, WalkError>>, D), NoMemory>
     ensures items { IfOk result (λ r. (s : Shown) → D.law.shows directory start.now s
         → GaveAll (λ _. ⊤) (behavior.budget + 1) (plain_pending (range_of behavior) start.now s [])
-            (map (given_outcome ⟦<TreeEntry as Entry>⟧.facts ⟦<TreeEntry as Entry>⟧.facts) r.0.items)) }
+        (map (given_outcome ⟦<TreeEntry as Entry>⟧.facts ⟦<TreeEntry as Entry>⟧.facts) r.0.items)) }
     ensures entries { IfOk result (λ r. (s : Shown) → D.law.shows directory start.now s
         → EntriesAre (range_of behavior) start.now s
-            (map (given_outcome ⟦<TreeEntry as Entry>⟧.facts ⟦<TreeEntry as Entry>⟧.facts) r.0.items)) }
-    ensures folders { IfOk result (λ r. (s : Shown) (listed : List (List ℕ)) → D.law.shows directory start.now s
+        (map (given_outcome ⟦<TreeEntry as Entry>⟧.facts ⟦<TreeEntry as Entry>⟧.facts) r.0.items)) }
+    ensures folders { IfOk result
+        (λ r. (s : Shown) (listed : List (List ℕ)) → D.law.shows directory start.now s
         → D.law.tells directory listed
-        → GaveAll (D.law.tells r.1) (behavior.budget + 1) (plain_pending (range_of behavior) start.now s listed)
-            (map (given_outcome ⟦<TreeEntry as Entry>⟧.facts ⟦<TreeEntry as Entry>⟧.facts) r.0.items)) }
+        → GaveAll (D.law.tells r.1) (behavior.budget + 1)
+        (plain_pending (range_of behavior) start.now s listed)
+        (map (given_outcome ⟦<TreeEntry as Entry>⟧.facts ⟦<TreeEntry as Entry>⟧.facts) r.0.items)) }
 {
     collect(alloc, walk_from(alloc, directory, start, behavior))
 }

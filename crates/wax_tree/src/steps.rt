@@ -1,6 +1,8 @@
 //! The plain walk, step by step.
 
-ghost use Rattle.std.specs.Prelude.{◌≡◌, ◌≤◌, ◌+◌, ◌^◌, length, ◌-◌, ◌⊎◌, ◌++◌, ◌∷◌, ◌<◌, [], ℕ, List, Option, Some, None, Ok, true, false, OnOk, IfOk, string_bytes, MatchOption, ⊤};
+ghost use Rattle.std.specs.Prelude.{◌≡◌, ◌≤◌, ◌+◌, ◌^◌, length, ◌-◌, ◌⊎◌, ◌++◌, ◌∷◌, ◌<◌, [], ℕ, List};
+ghost use Rattle.std.specs.Prelude.{Option, Some, None, Ok, true, false, OnOk, IfOk, string_bytes};
+ghost use Rattle.std.specs.Prelude.{MatchOption, ⊤};
 ghost use Rattle.wax_directory.specs.Answers.{listed_of};
 ghost use Rattle.wax_directory.specs.Counting.{kind_counts, item_counts};
 ghost use Rattle.wax_directory.specs.Shown.{Items, Shown, ShowsIn, IsPlain, named, first_of, rest_of};
@@ -10,8 +12,12 @@ ghost use Rattle.wax_walk.specs.View.{Accounts, FeedStep};
 ghost use Rattle.wax_tree.specs.Heads.{first_item_forest, own_count};
 ghost use Rattle.wax_tree.specs.Plain.{Spot, entry_forest, below_forest, count, count_shown};
 ghost use Rattle.wax_tree.specs.Prefix.{ArePlain, from_last, walk_from};
-ghost use Rattle.wax_tree.specs.Stepping.{Settles, nothing_asked, Adds, AddsFirst, Saves, Spends, StepIs, Continues, Beside, listing_pending, Answers, IsStep, Blames, items_left};
-ghost use Rattle.wax_tree.specs.Walking.{HasKind, IsFolder, EnteredShows, PlainToCome, entered_forest, place_spot, folder_spot, scope_of, steps_view, names_left, step_given, tree_answer, Rest};
+ghost use Rattle.wax_tree.specs.Stepping.{Settles, nothing_asked, Adds, AddsFirst, Saves, Spends, StepIs};
+ghost use Rattle.wax_tree.specs.Stepping.{Continues, Beside, listing_pending, Answers, IsStep, Blames};
+ghost use Rattle.wax_tree.specs.Stepping.{items_left};
+ghost use Rattle.wax_tree.specs.Walking.{HasKind, IsFolder, EnteredShows, PlainToCome, entered_forest};
+ghost use Rattle.wax_tree.specs.Walking.{place_spot, folder_spot, scope_of, steps_view, names_left};
+ghost use Rattle.wax_tree.specs.Walking.{step_given, tree_answer, Rest};
 
 use crate::path_text::join;
 use std::alloc::{AllocError, Global};
@@ -86,16 +92,16 @@ impl<D: Directory> Steps<D> {
         range: Range,
     ) -> Steps<D>
         ensures fields { result ≡ record {
-            alloc = alloc;
-            directory = directory;
-            min = range.min;
-            max = range.max;
-            root = root;
-            first = first;
-            entered = None;
-            levels = result.levels;
-            budget = range.budget;
-            has_ended = false;
+          alloc = alloc;
+          directory = directory;
+          min = range.min;
+          max = range.max;
+          root = root;
+          first = first;
+          entered = None;
+          levels = result.levels;
+          budget = range.budget;
+          has_ended = false;
         } }
         ensures levels { result.levels.items ≡ [] }
     {
@@ -151,7 +157,7 @@ impl<D: Directory> Steps<D> {
             → D.law.shows self.old.directory path.now s → HasKind s kind
             → let at : Spot = record { path = path.now; candidate = candidate.now; depth = depth } in
             (n : ℕ) × (n ≤ count_shown s) × EnteredShows (D.law.shows self.old.directory) (scope_of self.old)
-                self.new.entered (below_forest (scope_of self.old) at s) n) }
+            self.new.entered (below_forest (scope_of self.old) at s) n) }
     {
         if kind == FileType::Folder && depth < self.max {
             let path = String::from_str(self.alloc, path)?;
@@ -169,9 +175,16 @@ impl<D: Directory> Steps<D> {
     // greatest depth.
     fn give(&mut self, path: String, candidate: String, kind: FileType, depth: usize) -> Step
         ensures settles { Settles (nothing_asked (names_left self.old)) self.old result self.new }
-        ensures continues { (s : Shown) → D.law.shows self.old.directory (string_bytes path) s → HasKind s kind
-            → let at : Spot = record { path = string_bytes path; candidate = string_bytes candidate; depth = depth } in
-            Continues D.law self.old (entry_forest (scope_of self.old) at kind s) (count_shown s) result self.new }
+        ensures continues { (s : Shown) → D.law.shows self.old.directory (string_bytes path) s
+            → HasKind s kind
+            → let at : Spot = record {
+              path = string_bytes path;
+              candidate = string_bytes candidate;
+              depth =
+                  depth;
+            } in
+            Continues D.law self.old (entry_forest (scope_of self.old) at kind s) (count_shown s) result
+            self.new }
         ensures adds { (self.old.entered ≡ None) → Adds 1 2 self.old result self.new }
     {
         let Ok(()) = self.enter_later(path.as_str(), candidate.as_str(), kind, depth) else {
@@ -190,16 +203,20 @@ impl<D: Directory> Steps<D> {
     // stands there.
     fn follow(&mut self, place: Place, kind: FileType) -> Step
         ensures settles { Settles (record {
-            counts = kind_counts (Ok (Some kind));
-            taken = 0;
-            names = names_left self.old + length place.names.items;
+          counts = kind_counts (Ok (Some kind));
+          taken = 0;
+          names = names_left self.old + length place.names.items;
         }) self.old result self.new }
-        ensures continues { (s : Shown) → D.law.shows self.old.directory (string_bytes place.path) s → HasKind s kind
+        ensures continues { (s : Shown) → D.law.shows self.old.directory (string_bytes place.path) s
+            → HasKind s kind
             → let names = from_last place.names.items in
-            ArePlain names → place.depth + length place.names.items ≤ 2 ^ 64 - 1 → (self.old.levels.items ≡ [])
-            → Continues D.law self.old (walk_from (scope_of self.old) (place_spot place) s names) (count_shown s)
-                result self.new }
-        ensures adds { (self.old.entered ≡ None) → AddsFirst (length place.names.items) self.old result self.new }
+            ArePlain names → place.depth + length place.names.items ≤ 2 ^ 64 - 1
+            → (self.old.levels.items ≡ [])
+            → Continues D.law self.old (walk_from (scope_of self.old) (place_spot place) s names)
+            (count_shown s)
+            result self.new }
+        ensures adds { (self.old.entered ≡ None) → AddsFirst (length place.names.items) self.old result
+            self.new }
     {
         let Place {
             path,
@@ -230,13 +247,17 @@ impl<D: Directory> Steps<D> {
 
     // What stands at the place to begin at.
     fn begin(&mut self, place: Place) -> Step
-        ensures answers { Answers D.law (names_left self.old + length place.names.items) self.old result self.new }
+        ensures answers { Answers D.law (names_left self.old + length place.names.items) self.old result
+            self.new }
         ensures continues { (s : Shown) → D.law.shows self.old.directory (string_bytes place.path) s
             → let names = from_last place.names.items in
-            ArePlain names → place.depth + length place.names.items ≤ 2 ^ 64 - 1 → (self.old.levels.items ≡ [])
-            → Continues D.law self.old (walk_from (scope_of self.old) (place_spot place) s names) (count_shown s)
-                result self.new }
-        ensures adds { (self.old.entered ≡ None) → AddsFirst (length place.names.items) self.old result self.new }
+            ArePlain names → place.depth + length place.names.items ≤ 2 ^ 64 - 1
+            → (self.old.levels.items ≡ [])
+            → Continues D.law self.old (walk_from (scope_of self.old) (place_spot place) s names)
+            (count_shown s)
+            result self.new }
+        ensures adds { (self.old.entered ≡ None) → AddsFirst (length place.names.items) self.old result
+            self.new }
     {
         match self.directory.kind(self.alloc, place.path.as_str()) {
             Ok(Some(kind)) => self.follow(place, kind),
@@ -255,7 +276,8 @@ impl<D: Directory> Steps<D> {
     // Opens a folder.
     fn enter(&mut self, folder: Folder) -> Step
         ensures answers { Answers D.law (names_left self.old) self.old result self.new }
-        ensures continues { (s : Shown) → D.law.shows self.old.directory (string_bytes folder.path) s → IsFolder s
+        ensures continues { (s : Shown) → D.law.shows self.old.directory (string_bytes folder.path) s
+            → IsFolder s
             → let entered = entered_forest (scope_of self.old) (folder_spot folder) s in
             Continues D.law self.old (followed_by entered) (count_shown s) result self.new }
         ensures adds { Adds 0 1 self.old result self.new }
@@ -296,7 +318,8 @@ impl<D: Directory> Steps<D> {
         ensures continues { (l : Items) → Some (named name.now kind) ≡ first_of l → IsPlain name.now
             → ShowsIn (D.law.shows self.old.directory) folder.now l
             → let at : Spot = record { path = folder.now; candidate = candidate.now; depth = depth } in
-            Continues D.law self.old (first_item_forest (scope_of self.old) at l) (own_count l) result self.new }
+            Continues D.law self.old (first_item_forest (scope_of self.old) at l) (own_count l) result
+            self.new }
         ensures adds { (self.old.entered ≡ None) → Adds 1 2 self.old result self.new }
     {
         let Ok(path) = join(self.alloc, folder, name) else {
@@ -310,12 +333,14 @@ impl<D: Directory> Steps<D> {
 
     // An item of a folder.
     fn take_item(&mut self, folder: &str, candidate: &str, depth: usize, item: ListItem) -> Step
-        ensures settles { Settles (record { counts = item_counts item; taken = 0; names = names_left self.old })
+        ensures settles { Settles
+            (record { counts = item_counts item; taken = 0; names = names_left self.old })
             self.old result self.new }
         ensures continues { (l : Items) → Some (listed_of item) ≡ first_of l
             → ShowsIn (D.law.shows self.old.directory) folder.now l
             → let at : Spot = record { path = folder.now; candidate = candidate.now; depth = depth } in
-            Continues D.law self.old (first_item_forest (scope_of self.old) at l) (own_count l) result self.new }
+            Continues D.law self.old (first_item_forest (scope_of self.old) at l) (own_count l) result
+            self.new }
         ensures adds { (self.old.entered ≡ None) → Adds 1 2 self.old result self.new }
     {
         match item {
@@ -335,13 +360,15 @@ impl<D: Directory> Steps<D> {
     fn take_from(&mut self, folder: Folder, cursor: D::Cursor, item: ListItem) -> Step
         ensures settles { (self.old.has_ended ≡ false)
             → Settles (record { counts = item_counts item; taken = 1; names = names_left self.old })
-                self.old result self.new }
+            self.old result self.new }
         ensures lists { (l : Items) (rest : Rest) (items : ℕ) → Some (listed_of item) ≡ first_of l
             → Beside D.law self.old (record { folder = folder; cursor = cursor }) (rest_of l) rest
-            → ShowsIn (D.law.shows self.old.directory) (string_bytes folder.path) l → rest.count + count l ≤ items
+            → ShowsIn (D.law.shows self.old.directory) (string_bytes folder.path) l
+            → rest.count + count l ≤ items
             → let p = listing_pending (scope_of self.old) (folder_spot folder) l rest items in
             StepIs D.law self.old p result self.new }
-        ensures saves { (self.old.entered ≡ None) → (self.old.has_ended ≡ false) → Saves self.old result self.new }
+        ensures saves { (self.old.entered ≡ None) → (self.old.has_ended ≡ false)
+            → Saves self.old result self.new }
     {
         if self.budget == 0 {
             let depth = folder.depth.saturating_sub(1);
@@ -369,7 +396,8 @@ impl<D: Directory> Steps<D> {
             → rest.count + count l ≤ items
             → let p = listing_pending (scope_of self.old) (folder_spot level.folder) l rest items in
             StepIs D.law self.old p result self.new }
-        ensures saves { (self.old.entered ≡ None) → (self.old.has_ended ≡ false) → Saves self.old result self.new }
+        ensures saves { (self.old.entered ≡ None) → (self.old.has_ended ≡ false)
+            → Saves self.old result self.new }
     {
         let Level { folder, mut cursor } = level;
         match self.directory.next(self.alloc, &mut cursor) {
@@ -382,7 +410,8 @@ impl<D: Directory> Steps<D> {
     // One step.
     fn step(&mut self) -> Step
         ensures is_step { IsStep D.law self.old result self.new }
-        ensures step { (p : Pending Given) → PlainToCome D.law self.old p → StepIs D.law self.old p result self.new }
+        ensures step { (p : Pending Given) → PlainToCome D.law self.old p
+            → StepIs D.law self.old p result self.new }
         ensures spends { Spends self.old result self.new }
     {
         if self.has_ended {
@@ -403,7 +432,8 @@ impl<D: Directory> Steps<D> {
 
     /// The next item; `None` at the end.
     pub(crate) fn run(&mut self) -> Option<Result<TreeEntry, WalkError>>
-        ensures feeds { FeedStep D.law (steps_view D.law self.old) (tree_answer result) (steps_view D.law self.new) }
+        ensures feeds { FeedStep D.law (steps_view D.law self.old) (tree_answer result)
+            (steps_view D.law self.new) }
         ensures fewer { MatchOption result ⊤ (λ _. items_left self.new < items_left self.old) }
     {
         loop {

@@ -57,7 +57,8 @@ fn place_at(
     candidate: &str,
     names: Vec<String>,
 ) -> Result<Place, AllocError>
-    ensures texts { IfOk result (λ r. (string_bytes r.path ≡ path.now) × (string_bytes r.candidate ≡ candidate.now)) }
+    ensures texts { IfOk result
+        (λ r. (string_bytes r.path ≡ path.now) × (string_bytes r.candidate ≡ candidate.now)) }
     ensures rest { IfOk result (λ r. (r.depth ≡ 0) × (r.names ≡ names)) }
 {
     let path = String::from_str(alloc, path)?;
@@ -73,7 +74,8 @@ fn place_at(
 impl<D: Directory> WalkTree<D> {
     // The walk from a start, of the entries whose depth is from the least to the greatest.
     pub(crate) fn with_range(alloc: Global, directory: D, start: &str, range: Range) -> WalkTree<D>
-        ensures begins { Begins D.law directory start.now range (⟦<WalkTree<D> as FileIterator>⟧.view result) }
+        ensures begins { Begins D.law directory start.now range
+            (⟦<WalkTree<D> as FileIterator>⟧.view result) }
         ensures gives { AtMost (2 * range.budget + 3) (⟦<WalkTree<D> as SeparatingFilter>⟧.left result) }
     {
         let none = Vec::new(alloc);
@@ -96,10 +98,10 @@ impl<D: Directory> WalkTree<D> {
         range: Range,
     ) -> WalkTree<D>
         ensures begins { BeginsAt D.law directory (record {
-            root = root.now;
-            path = start.now;
-            candidate = candidate.now;
-            names = from_last names.items;
+          root = root.now;
+          path = start.now;
+          candidate = candidate.now;
+          names = from_last names.items;
         }) range (⟦<WalkTree<D> as FileIterator>⟧.view result) }
         ensures gives { AtMost (2 * range.budget + 3) (⟦<WalkTree<D> as SeparatingFilter>⟧.left result) }
     {
@@ -131,7 +133,8 @@ impl<D: Directory> WalkTree<D> {
 impl<D: Directory> SeparatingFilter for WalkTree<D> {
     type Feed = TreeFeed;
 
-    ghost feeds = { λ s r t. FeedStep D.law (tree_view D.law s) (answer_of facts_of facts_of r) (tree_view D.law t) };
+    ghost feeds = { λ s r t. FeedStep D.law (tree_view D.law s) (answer_of facts_of facts_of r)
+        (tree_view D.law t) };
 
     ghost left = { λ s. at_most (gives_at_most s) };
 

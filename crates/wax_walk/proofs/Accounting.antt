@@ -4,13 +4,16 @@ use Rattle.std.specs.Prelude.{Option, Some, None, ◌⊎◌}
 use Rattle.wax_directory.specs.Counting.{no_counts, plus, grown}
 use Rattle.wax_directory.specs.Law.{Law}
 use Rattle.wax_directory.specs.declared.tally.Tally.{Tally}
-use Rattle.wax_walk.specs.declared.error.FaultKind.TheVariants.{NotFound, NotAFolder, Listing, BadName, NotText, Budget}
+use Rattle.wax_walk.specs.declared.error.FaultKind.TheVariants.{NotFound, NotAFolder, Listing, BadName}
+use Rattle.wax_walk.specs.declared.error.FaultKind.TheVariants.{NotText, Budget}
 use Rattle.wax_walk.specs.Given.{Given, Mark, entry, fault, no_memory, with_mark}
-use Rattle.wax_walk.specs.View.{WalkView, CountsFaults, fault_counts, IsLast, IsMisplaced, Takes, GivesOrStops, Accounts, FeedStep}
+use Rattle.wax_walk.specs.View.{WalkView, CountsFaults, fault_counts, IsLast, IsMisplaced, Takes}
+use Rattle.wax_walk.specs.View.{GivesOrStops, Accounts, FeedStep}
 use Rattle.wax_walk.specs.Forest.{Pending}
 
 -- so many items were taken before
-pub takes_more : (r : Option Given) (k allowed n left b m : ℕ) → k + allowed ≡ b → m ≡ k + n → Takes r allowed n left → Takes r b m left
+pub takes_more : (r : Option Given) (k allowed n left b m : ℕ) → k + allowed ≡ b → m ≡ k + n
+    → Takes r allowed n left → Takes r b m left
 takes_more None k allowed n left b m e f h = omega (arith, e, f, h)
 takes_more (Some no_memory) k allowed n left b m e f h = omega (arith, e, f, h)
 takes_more (Some (entry w x)) k allowed n left b m e f h = omega (arith, e, f, h)
@@ -22,7 +25,8 @@ takes_more (Some (fault NotText p d)) k allowed n left b m e f h = omega (arith,
 takes_more (Some (fault Budget p d)) k allowed n left b m e f h = (omega (arith, e, f, h.0), h.1)
 
 -- all others are left, as long as the walk goes on
-pub takes_exactly : (r : Option Given) (allowed n left : ℕ) → Takes r allowed n left → (n + left ≡ allowed) ⊎ (IsLast r × (n + left ≤ allowed))
+pub takes_exactly : (r : Option Given) (allowed n left : ℕ) → Takes r allowed n left
+    → (n + left ≡ allowed) ⊎ (IsLast r × (n + left ≤ allowed))
 takes_exactly None allowed n left h = inl h
 takes_exactly (Some no_memory) allowed n left h = inr (tt, h)
 takes_exactly (Some (entry w x)) allowed n left h = inl h
@@ -35,10 +39,12 @@ takes_exactly (Some (fault Budget p d)) allowed n left h = inl (omega (arith, h.
 
 -- no more is taken and left than was allowed
 pub takes_within : (r : Option Given) (allowed n left : ℕ) → Takes r allowed n left → n + left ≤ allowed
-takes_within r allowed n left h = elim (takes_exactly r allowed n left h) [ inl e ↦ omega (arith, e) | inr e ↦ e.1 ]
+takes_within r allowed n left h =
+    elim (takes_exactly r allowed n left h) [ inl e ↦ omega (arith, e) | inr e ↦ e.1 ]
 
 -- faults are counted, and then others
-pub counts_faults_then : (n k a b c : _) → CountsFaults n a b → CountsFaults k b c → CountsFaults (plus n k) a c
+pub counts_faults_then : (n k a b c : _) → CountsFaults n a b → CountsFaults k b c
+    → CountsFaults (plus n k) a c
 counts_faults_then n k a b c h i = record {
   misses = omega (arith, h.misses, i.misses);
   leaves = omega (arith, h.leaves, i.leaves);
@@ -71,7 +77,13 @@ counts_fewer n a b h = record {
 }
 
 pub counts_nothing : (t : Tally) → CountsFaults no_counts t t
-counts_nothing t = record { misses = omega arith; leaves = omega arith; failures = omega arith; bad_names = omega arith }
+counts_nothing t = record {
+  misses = omega arith;
+  leaves = omega arith;
+  failures = omega arith;
+  bad_names =
+      omega arith;
+}
 
 pub grown_then : (n k a b c : ℕ) → b ≡ grown n a → c ≡ grown k b → c ≡ grown (n + k) a
 grown_then n k a b c h i = omega (arith, h, i)
@@ -103,7 +115,8 @@ misplaced_marked (fault kind path depth) m i = i
 misplaced_marked no_memory m i = absurd i
 
 module _ {D C : Type 0} (law : Law D C) where
-  pub accounts_moved : (v w outer new : WalkView D) (r : Option Given) → Accounts law v r w → IsAsked outer v → HasAnswered new w → Accounts law outer r new
+  pub accounts_moved : (v w outer new : WalkView D) (r : Option Given) → Accounts law v r w → IsAsked outer v
+      → HasAnswered new w → Accounts law outer r new
   accounts_moved v w outer new r h b a =
       let A : D → Type 0 = λ d. CountsFaults (fault_counts r) (law.tally d) (law.tally w.directory) in
       let B : D → Type 0 = λ d. CountsFaults (fault_counts r) (law.tally outer.directory) (law.tally d) in
@@ -120,17 +133,28 @@ module _ {D C : Type 0} (law : Law D C) where
       }
 
   -- a filter changes no fault
-  accounts_marked : (v w : WalkView D) (x : Given) (m : Mark) → Accounts law v (Some x) w → Accounts law v (Some (with_mark x m)) w
-  accounts_marked v w (entry k f) m h = record { counts = h.counts; taken = h.taken; takes = h.takes; counted = h.counted; ends = λ i. absurd i }
+  accounts_marked : (v w : WalkView D) (x : Given) (m : Mark) → Accounts law v (Some x) w
+      → Accounts law v (Some (with_mark x m)) w
+  accounts_marked v w (entry k f) m h =
+      record {
+        counts = h.counts;
+        taken = h.taken;
+        takes = h.takes;
+        counted = h.counted;
+        ends =
+            λ i. absurd i;
+      }
   accounts_marked v w (fault kind path depth) m h = h
   accounts_marked v w no_memory m h = h
 
   -- nothing was given, and then r
-  pub accounts_then : (a b c : WalkView D) (r : Option Given) → Accounts law a None b → Accounts law b r c → Accounts law a r c
+  pub accounts_then : (a b c : WalkView D) (r : Option Given) → Accounts law a None b → Accounts law b r c
+      → Accounts law a r c
   accounts_then a b c r h i = record {
     counts = counts_none_then _ _ _ _ h.counts i.counts;
     taken = h.taken + i.taken;
-    takes = takes_more r h.taken b.listings_left i.taken c.listings_left a.listings_left (h.taken + i.taken) h.takes refl i.takes;
+    takes = takes_more r h.taken b.listings_left i.taken c.listings_left a.listings_left (h.taken + i.taken)
+        h.takes refl i.takes;
     counted = grown_then h.taken i.taken _ _ _ h.counted i.counted;
     ends = i.ends;
   }
@@ -139,7 +163,9 @@ module _ {D C : Type 0} (law : Law D C) where
 
   -- what was to come is given elsewhere
   module _ (v w outer new : WalkView D) (b : IsAsked outer v) (a : HasAnswered new w) where
-    pub step_ends : FeedStep law v None w → ((p : Pending Given) → outer.to_come p → GivesOrStops outer p None new) → FeedStep law outer None new
+    pub step_ends : FeedStep law v None w
+        → ((p : Pending Given) → outer.to_come p → GivesOrStops outer p None new)
+        → FeedStep law outer None new
     step_ends f gives = record {
       gives = gives;
       accounts = accounts_moved v w outer new None f.accounts b a;
@@ -149,15 +175,22 @@ module _ {D C : Type 0} (law : Law D C) where
       misplaced = λ i. absurd i;
     }
 
-    pub step_marked : (x y : Given) (m : Mark) → y ≡ with_mark x m → FeedStep law v (Some x) w → ((p : Pending Given) → outer.to_come p → GivesOrStops outer p (Some y) new) → FeedStep law outer (Some y) new
+    pub step_marked : (x y : Given) (m : Mark) → y ≡ with_mark x m → FeedStep law v (Some x) w
+        → ((p : Pending Given) → outer.to_come p → GivesOrStops outer p (Some y) new)
+        → FeedStep law outer (Some y) new
     step_marked x y m e f gives =
         let A : Given → Type 0 = λ z. Accounts law v (Some z) w in
         let M : Given → Type 0 = λ z. IsMisplaced (Some z) → 0 < v.names_left in
         record {
           gives = gives;
-          accounts = accounts_moved v w outer new (Some y) (subst A (sym e) (accounts_marked v w x m f.accounts)) b a;
+          accounts = accounts_moved v w outer new (Some y)
+              (subst A (sym e) (accounts_marked v w x m f.accounts)) b a;
           at_end = λ i. (cc);
           stays = λ i. let s : Some x ≡ None = (f.stays (b.ended i)).0 in absurd (cc);
           names = omega (arith, f.names, a.names_left, b.names_left);
-          misplaced = λ i. omega (arith, subst M (sym e) (λ j. f.misplaced (misplaced_marked x m j)) i, b.names_left);
+          misplaced = λ i. omega (
+            arith,
+            subst M (sym e) (λ j. f.misplaced (misplaced_marked x m j)) i,
+            b.names_left,
+          );
         }

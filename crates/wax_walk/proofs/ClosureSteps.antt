@@ -20,28 +20,45 @@ module _ {D C F : Type 0} (law : Law D C) (step : F → Bor TreeEntry → Option
   answered w f = record { directory = refl; listings_left = refl; names_left = refl; ended = λ i. i }
 
   answered_cut : (w u : WalkView D) (f : F) → CancelStep w u → HasAnswered (closure_view step u f) w
-  answered_cut w u f k = record { directory = k.directory; listings_left = k.listings_left; names_left = k.names_left; ended = k.ends }
+  answered_cut w u f k =
+      record {
+        directory = k.directory;
+        listings_left = k.listings_left;
+        names_left = k.names_left;
+        ended =
+            k.ends;
+      }
 
-  pub closure_ends : (v w : WalkView D) (f : F) → FeedStep law v None w → FeedStep law (closure_view step v f) None (closure_view step w f)
+  pub closure_ends : (v w : WalkView D) (f : F) → FeedStep law v None w
+      → FeedStep law (closure_view step v f) None (closure_view step w f)
   closure_ends v w f h = step_ends law v w _ _ (asked v f) (answered w f) h (λ q s.
-    let p = s.2 in
-    subst (λ z. GivesOrStops (closure_view step v f) z None (closure_view step w f)) (sym p.2)
-    (layer_ends s.0 v w (closure_view step v f) (closure_view step w f) p.0 refl refl (λ z i. (s.0, s.1, (z, i, refl))) (h.gives p.0 p.1)))
+      let p = s.2 in
+      subst (λ z. GivesOrStops (closure_view step v f) z None (closure_view step w f)) (sym p.2)
+      (layer_ends s.0 v w (closure_view step v f) (closure_view step w f) p.0 refl refl
+      (λ z i. (s.0, s.1, (z, i, refl))) (h.gives p.0 p.1)))
 
   -- what the closure says of an item, whatever rule it follows
   abbrev pub SaysOf : F → Given → Mark → F → Type 0
   SaysOf f x m t = (rule : Facts → Mark) → Says step rule f → (m ≡ mark_by rule x) × Says step rule t
 
-  pub closure_passes : (v w : WalkView D) (f t : F) (x y : Given) (m : Mark) → FeedStep law v (Some x) w → SaysOf f x m t → y ≡ with_mark x m → false ≡ is_cut x m → FeedStep law (closure_view step v f) (Some y) (closure_view step w t)
-  closure_passes v w f t x y m h says k n = step_marked law v w _ _ (asked v f) (answered w t) x y m k h (λ q s.
-    let p = s.2 in
-    let o = says s.0 s.1 in
-    subst (λ z. GivesOrStops (closure_view step v f) z (Some y) (closure_view step w t)) (sym p.2)
-    (layer_passes s.0 v w (closure_view step v f) (closure_view step w t) p.0 x y m o.0 k refl refl n (λ z i. (s.0, o.1, (z, i, refl))) (h.gives p.0 p.1)))
+  pub closure_passes : (v w : WalkView D) (f t : F) (x y : Given) (m : Mark) → FeedStep law v (Some x) w
+      → SaysOf f x m t → y ≡ with_mark x m → false ≡ is_cut x m → FeedStep law (closure_view step v f)
+      (Some y) (closure_view step w t)
+  closure_passes v w f t x y m h says k n = step_marked law v w _ _ (asked v f) (answered w t) x y m k h
+      (λ q s.
+      let p = s.2 in
+      let o = says s.0 s.1 in
+      subst (λ z. GivesOrStops (closure_view step v f) z (Some y) (closure_view step w t)) (sym p.2)
+      (layer_passes s.0 v w (closure_view step v f) (closure_view step w t) p.0 x y m o.0 k refl refl n
+      (λ z i. (s.0, o.1, (z, i, refl))) (h.gives p.0 p.1)))
 
-  pub closure_cuts : (v w u : WalkView D) (f t : F) (x y : Given) (m : Mark) → FeedStep law v (Some x) w → SaysOf f x m t → y ≡ with_mark x m → true ≡ is_cut x m → CancelStep w u → FeedStep law (closure_view step v f) (Some y) (closure_view step u t)
-  closure_cuts v w u f t x y m h says k n c = step_marked law v w _ _ (asked v f) (answered_cut w u t c) x y m k h (λ q s.
-    let p = s.2 in
-    let o = says s.0 s.1 in
-    subst (λ z. GivesOrStops (closure_view step v f) z (Some y) (closure_view step u t)) (sym p.2)
-    (layer_cuts s.0 v w (closure_view step v f) (closure_view step u t) p.0 x y m o.0 k refl c.listings_left n (λ z i. (s.0, o.1, (cancelled z, c.leaves_out z i, refl))) (h.gives p.0 p.1)))
+  pub closure_cuts : (v w u : WalkView D) (f t : F) (x y : Given) (m : Mark) → FeedStep law v (Some x) w
+      → SaysOf f x m t → y ≡ with_mark x m → true ≡ is_cut x m → CancelStep w u
+      → FeedStep law (closure_view step v f) (Some y) (closure_view step u t)
+  closure_cuts v w u f t x y m h says k n c = step_marked law v w _ _ (asked v f) (answered_cut w u t c) x y m
+      k h (λ q s.
+      let p = s.2 in
+      let o = says s.0 s.1 in
+      subst (λ z. GivesOrStops (closure_view step v f) z (Some y) (closure_view step u t)) (sym p.2)
+      (layer_cuts s.0 v w (closure_view step v f) (closure_view step u t) p.0 x y m o.0 k refl c.listings_left
+      n (λ z i. (s.0, o.1, (cancelled z, c.leaves_out z i, refl))) (h.gives p.0 p.1)))

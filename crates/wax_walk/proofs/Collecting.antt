@@ -1,5 +1,6 @@
 -- A loop that takes all that a walk gives.
-use Rattle.std.proofs.Common.{◌≡◌, ℕ, ◌+◌, ◌<◌, ◌≤◌, Bool, true, false, cond, length, length-append, List, [], ◌∷◌, ◌++◌, refl, sym, ap, subst, ◌∙◌, append_assoc, inl, inr, arith}
+use Rattle.std.proofs.Common.{◌≡◌, ℕ, ◌+◌, ◌<◌, ◌≤◌, Bool, true, false, cond, length, length-append, List, []}
+use Rattle.std.proofs.Common.{◌∷◌, ◌++◌, refl, sym, ap, subst, ◌∙◌, append_assoc, inl, inr, arith}
 use Rattle.std.specs.Prelude.{Some, None, Result, Ok, Err, IfOk, filter}
 use Rattle.std.specs.List.{Contains}
 use Rattle.std.proofs.lemmas.List.Elements.{filter-append, Contains-push_cases}
@@ -15,10 +16,13 @@ use Rattle.wax_walk.specs.declared.error.FaultKind.TheVariants.{NotAFolder, Budg
 use Rattle.wax_walk.specs.Collected.{IsCutShort, GaveAll, whole, Took, all_fault_counts}
 use Rattle.wax_walk.specs.Collected as all
 use Rattle.wax_walk.specs.Entries.{given_outcome, given_residue}
-use Rattle.wax_walk.specs.Forest.{Forest, nothing, item, lists, followed_by, Pending, pending, all_pending, FirstIs, preorder, listings}
+use Rattle.wax_walk.specs.Forest.{Forest, nothing, item, lists, followed_by, Pending, pending, all_pending}
+use Rattle.wax_walk.specs.Forest.{FirstIs, preorder, listings}
 use Rattle.wax_walk.specs.Given.{Given, Facts, fault, no_memory, is_kept}
-use Rattle.wax_walk.specs.View.{WalkView, FeedStep, GivesOrStops, lacks_memory, over_budget, gives, CountsFaults, fault_counts, IsLast, IsMisplaced, Takes}
-use Rattle.wax_walk.proofs.Accounting.{takes_within, takes_exactly, counts_faults_then, counts_then_none, counts_nothing, grown_then}
+use Rattle.wax_walk.specs.View.{WalkView, FeedStep, GivesOrStops, lacks_memory, over_budget, gives}
+use Rattle.wax_walk.specs.View.{CountsFaults, fault_counts, IsLast, IsMisplaced, Takes}
+use Rattle.wax_walk.proofs.Accounting.{takes_within, takes_exactly, counts_faults_then, counts_then_none}
+use Rattle.wax_walk.proofs.Accounting.{counts_nothing, grown_then}
 
 append-nil : {A : Type 0} (xs : List A) → xs ++ [] ≡ xs
 append-nil [] = refl
@@ -26,17 +30,22 @@ append-nil (x ∷ xs) = ap (λ ys. x ∷ ys) (append-nil xs)
 
 pub preorder_append : {A : Type 0} (f g : Forest A) → preorder (followed_by f g) ≡ preorder f ++ preorder g
 preorder_append nothing g = refl
-preorder_append (item x below after) g = ap (λ ys. x ∷ ys) (ap (λ ys. preorder below ++ ys) (preorder_append after g) ∙ sym (append_assoc (preorder below) (preorder after) (preorder g)))
+preorder_append (item x below after) g =
+    ap (λ ys. x ∷ ys) (ap (λ ys. preorder below ++ ys) (preorder_append after g) ∙ sym
+    (append_assoc (preorder below) (preorder after) (preorder g)))
 preorder_append (lists path after) g = preorder_append after g
 
 pub listings_append : {A : Type 0} (f g : Forest A) → listings (followed_by f g) ≡ listings f ++ listings g
 listings_append nothing g = refl
-listings_append (item x below after) g = ap (λ ys. listings below ++ ys) (listings_append after g) ∙ sym (append_assoc (listings below) (listings after) (listings g))
+listings_append (item x below after) g = ap (λ ys. listings below ++ ys) (listings_append after g) ∙ sym
+    (append_assoc (listings below) (listings after) (listings g))
 listings_append (lists path after) g = ap (λ ys. path ∷ ys) (listings_append after g)
 
 -- what an answer says of the lists of what is to come
-first_said : {A : Type 0} (then : Pending A → Type 0) (f : Forest A) (listed : List (List ℕ)) (items : ℕ) (x : A) → FirstIs then f listed items (Some x)
-    → (q : Pending A) × then q × (x ∷ preorder (all_pending q) ≡ preorder f) × (q.listed ++ listings (all_pending q) ≡ listed ++ listings f) × (q.items ≡ items)
+first_said : {A : Type 0} (then : Pending A → Type 0) (f : Forest A) (listed : List (List ℕ)) (items : ℕ)
+    (x : A) → FirstIs then f listed items (Some x)
+    → (q : Pending A) × then q × (x ∷ preorder (all_pending q) ≡ preorder f) ×
+    (q.listed ++ listings (all_pending q) ≡ listed ++ listings f) × (q.items ≡ items)
 first_said then nothing listed items x h = cc
 first_said then (item y below after) listed items x h =
     let e : x ≡ y = cc in (
@@ -50,42 +59,62 @@ first_said then (lists path after) listed items x h =
     let r = first_said then after (listed ++ path ∷ []) items x h in
     (r.0, r.1, r.2, r.3 ∙ append_assoc listed (path ∷ []) (listings after), r.4)
 
-first_none : {A : Type 0} (then : Pending A → Type 0) (f : Forest A) (listed : List (List ℕ)) (items : ℕ) → FirstIs then f listed items None
+first_none : {A : Type 0} (then : Pending A → Type 0) (f : Forest A) (listed : List (List ℕ)) (items : ℕ)
+    → FirstIs then f listed items None
     → (preorder f ≡ []) × then (pending nothing nothing (listed ++ listings f) items)
-first_none then nothing listed items h = (refl, subst (λ ps. then (pending nothing nothing ps items)) (sym (append-nil listed)) h.1)
+first_none then nothing listed items h =
+    (refl, subst (λ ps. then (pending nothing nothing ps items)) (sym (append-nil listed)) h.1)
 first_none then (item y below after) listed items h = cc
 first_none then (lists path after) listed items h =
-    let r = first_none then after (listed ++ path ∷ []) items h in
-    (r.0, subst (λ ps. then (pending nothing nothing ps items)) (append_assoc listed (path ∷ []) (listings after)) r.1)
+    let r = first_none then after (listed ++ path ∷ []) items h in (
+      r.0,
+      subst (λ ps. then (pending nothing nothing ps items))
+          (append_assoc listed (path ∷ []) (listings after)) r.1,
+    )
 
 -- ---- what was given so far
 
-pub data GaveSoFar {D : Type 0} (allowed : ℕ) (now : WalkView D) (p : Pending Given) (xs : List Given) : Type 0 where
-  goes_on : (q : Pending Given) → now.to_come q → xs ++ preorder (all_pending q) ≡ preorder (all_pending p) → q.listed ++ listings (all_pending q) ≡ p.listed ++ listings (all_pending p)
+pub data GaveSoFar {D : Type 0} (allowed : ℕ) (now : WalkView D) (p : Pending Given) (xs : List Given) : Type
+    0 where
+  goes_on : (q : Pending Given) → now.to_come q → xs ++ preorder (all_pending q) ≡ preorder (all_pending p)
+      → q.listed ++ listings (all_pending q) ≡ p.listed ++ listings (all_pending p)
       → ((now.has_ended → ⊥) → q.items + allowed ≤ p.items + now.listings_left) → GaveSoFar allowed now p xs
-  lacked_memory : now.has_ended → IsCutShort (preorder (all_pending p)) no_memory xs → GaveSoFar allowed now p xs
-  was_over_budget : now.has_ended → (path : List ℕ) (depth : ℕ) → allowed ≤ p.items → IsCutShort (preorder (all_pending p)) (fault Budget path depth) xs → GaveSoFar allowed now p xs
+  lacked_memory : now.has_ended → IsCutShort (preorder (all_pending p)) no_memory xs
+      → GaveSoFar allowed now p xs
+  was_over_budget : now.has_ended → (path : List ℕ) (depth : ℕ) → allowed ≤ p.items
+      → IsCutShort (preorder (all_pending p)) (fault Budget path depth) xs → GaveSoFar allowed now p xs
 
 module _ {D : Type 0} (allowed : ℕ) (mid new : WalkView D) (p : Pending Given) (xs : List Given) where
-  abbrev cut_after : (q : Pending Given) (x z : Given) → xs ++ preorder (all_pending q) ≡ preorder (all_pending p) → Some x ≡ Some z → IsCutShort (preorder (all_pending p)) z (xs ++ x ∷ [])
+  abbrev cut_after : (q : Pending Given) (x z : Given) → xs ++ preorder (all_pending q) ≡ preorder
+      (all_pending p) → Some x ≡ Some z → IsCutShort (preorder (all_pending p)) z (xs ++ x ∷ [])
   cut_after q x z e i = let v : x ≡ z = cc in (xs, preorder (all_pending q), ap (λ u. xs ++ u ∷ []) v, e)
 
-  more_given : (q : Pending Given) (x : Given) → xs ++ preorder (all_pending q) ≡ preorder (all_pending p) → q.listed ++ listings (all_pending q) ≡ p.listed ++ listings (all_pending p) → q.items + allowed ≤ p.items + mid.listings_left
-      → (IsLast (Some x) → new.has_ended) → GivesOrStops mid q (Some x) new → GaveSoFar allowed new p (xs ++ x ∷ [])
+  more_given : (q : Pending Given) (x : Given) → xs ++ preorder (all_pending q) ≡ preorder (all_pending p)
+      → q.listed ++ listings (all_pending q) ≡ p.listed ++ listings (all_pending p)
+      → q.items + allowed ≤ p.items + mid.listings_left
+      → (IsLast (Some x) → new.has_ended) → GivesOrStops mid q (Some x) new
+      → GaveSoFar allowed new p (xs ++ x ∷ [])
   more_given q x e k n f (lacks_memory i) = lacked_memory (f (subst IsLast (sym i) tt)) (cut_after q x _ e i)
-  more_given q x e k n f (over_budget path depth i few) = was_over_budget (f (subst IsLast (sym i) tt)) path depth (omega (arith, n, few)) (cut_after q x _ e i)
+  more_given q x e k n f (over_budget path depth i few) = was_over_budget (f (subst IsLast (sym i) tt)) path
+      depth (omega (arith, n, few)) (cut_after q x _ e i)
   more_given q x e k n f (gives items few first) =
       let r = first_said new.to_come (all_pending q) q.listed items x first in
-      goes_on r.0 r.1 (append_assoc xs (x ∷ []) (preorder (all_pending r.0)) ∙ (ap (λ ys. xs ++ ys) r.2 ∙ e)) (r.3 ∙ k) (λ m. omega (arith, n, few (λ i. m (f i)), r.4))
+      goes_on r.0 r.1 (append_assoc xs (x ∷ []) (preorder (all_pending r.0)) ∙ (ap (λ ys. xs ++ ys) r.2 ∙ e))
+      (r.3 ∙ k) (λ m. omega (arith, n, few (λ i. m (f i)), r.4))
 
   -- one more item
-  gave_more : (x : Given) → (mid.has_ended → ⊥) → ((q : Pending Given) → mid.to_come q → GivesOrStops mid q (Some x) new) → (IsLast (Some x) → new.has_ended) → GaveSoFar allowed mid p xs → GaveSoFar allowed new p (xs ++ x ∷ [])
+  gave_more : (x : Given) → (mid.has_ended → ⊥)
+      → ((q : Pending Given) → mid.to_come q → GivesOrStops mid q (Some x) new)
+      → (IsLast (Some x) → new.has_ended) → GaveSoFar allowed mid p xs
+      → GaveSoFar allowed new p (xs ++ x ∷ [])
   gave_more x n a f (goes_on q c e k few) = more_given q x e k (few n) f (a q c)
   gave_more x n a f (lacked_memory e c) = absurd (n e)
   gave_more x n a f (was_over_budget e path depth few c) = absurd (n e)
 
-  end_given : (tells : List (List ℕ) → Type 0) (q : Pending Given) → xs ++ preorder (all_pending q) ≡ preorder (all_pending p) → q.listed ++ listings (all_pending q) ≡ p.listed ++ listings (all_pending p)
-      → ((r : Pending Given) → new.to_come r → tells r.listed) → GivesOrStops mid q None new → GaveAll tells allowed p xs
+  end_given : (tells : List (List ℕ) → Type 0) (q : Pending Given) → xs ++ preorder (all_pending q) ≡ preorder
+      (all_pending p) → q.listed ++ listings (all_pending q) ≡ p.listed ++ listings (all_pending p)
+      → ((r : Pending Given) → new.to_come r → tells r.listed) → GivesOrStops mid q None new
+      → GaveAll tells allowed p xs
   end_given tells q e k told (lacks_memory i) = cc
   end_given tells q e k told (over_budget path depth i few) = cc
   end_given tells q e k told (gives items few first) =
@@ -93,7 +122,10 @@ module _ {D : Type 0} (allowed : ℕ) (mid new : WalkView D) (p : Pending Given)
       whole (sym (append-nil xs) ∙ (ap (λ ys. xs ++ ys) (sym r.0) ∙ e)) (subst tells k (told _ r.1))
 
   -- the end
-  gave_all : (tells : List (List ℕ) → Type 0) → ((q : Pending Given) → mid.to_come q → GivesOrStops mid q None new) → ((r : Pending Given) → new.to_come r → tells r.listed) → GaveSoFar allowed mid p xs → GaveAll tells allowed p xs
+  gave_all : (tells : List (List ℕ) → Type 0)
+      → ((q : Pending Given) → mid.to_come q → GivesOrStops mid q None new)
+      → ((r : Pending Given) → new.to_come r → tells r.listed) → GaveSoFar allowed mid p xs
+      → GaveAll tells allowed p xs
   gave_all tells a told (goes_on q c e k few) = end_given tells q e k told (a q c)
   gave_all tells a told (lacked_memory e c) = all.lacks_memory c
   gave_all tells a told (was_over_budget e path depth few c) = all.over_budget path depth few c
@@ -103,9 +135,11 @@ module _ {D : Type 0} (allowed : ℕ) (mid new : WalkView D) (p : Pending Given)
 contains_none : {A : Type 0} (x : A) → Contains [] x → ⊥
 contains_none x c = omega (arith, c.1)
 
-faults_more : (xs : List Given) (x : Given) → all_fault_counts (xs ++ x ∷ []) ≡ plus (all_fault_counts xs) (fault_counts (Some x))
+faults_more : (xs : List Given) (x : Given) → all_fault_counts (xs ++ x ∷ []) ≡ plus (all_fault_counts xs)
+    (fault_counts (Some x))
 faults_more [] x = plus_none (fault_counts (Some x))
-faults_more (y ∷ xs) x = ap (plus (fault_counts (Some y))) (faults_more xs x) ∙ plus_assoc (fault_counts (Some y)) (all_fault_counts xs) (fault_counts (Some x))
+faults_more (y ∷ xs) x = ap (plus (fault_counts (Some y))) (faults_more xs x) ∙ plus_assoc
+    (fault_counts (Some y)) (all_fault_counts xs) (fault_counts (Some x))
 
 module _ {D C : Type 0} (law : Law D C) where
   -- these items were given, and `now` is seen of the walk; at most `less` more will come, of `most` in all
@@ -117,54 +151,75 @@ module _ {D C : Type 0} (law : Law D C) where
     pub counted : (law.tally now.directory).items ≡ grown taken (law.tally walk.directory).items
     pub within : taken + now.listings_left ≤ walk.listings_left
     pub exactly : ¬ now.has_ended → taken + now.listings_left ≡ walk.listings_left
-    pub spent : (path : List ℕ) (depth : ℕ) → Contains xs (fault Budget path depth) → taken ≡ walk.listings_left
+    pub spent : (path : List ℕ) (depth : ℕ) → Contains xs (fault Budget path depth)
+        → taken ≡ walk.listings_left
     pub names : now.names_left ≤ walk.names_left
-    pub misplaced : (path : List ℕ) (depth : ℕ) → Contains xs (fault NotAFolder path depth) → 0 < walk.names_left
+    pub misplaced : (path : List ℕ) (depth : ℕ) → Contains xs (fault NotAFolder path depth)
+        → 0 < walk.names_left
 
   module _ (walk mid new : WalkView D) (most less fewer : ℕ) (xs : List Given) where
     -- what was taken, with what a call took that gave an item
-    taken_exactly : (h k : ℕ) (x : Given) → h + mid.listings_left ≡ walk.listings_left → Takes (Some x) mid.listings_left k new.listings_left → ¬ (IsLast (Some x)) → h + k + new.listings_left ≡ walk.listings_left
-    taken_exactly h k x e t n = elim (takes_exactly (Some x) mid.listings_left k new.listings_left t) [ inl i ↦ omega (arith, e, i) | inr i ↦ absurd (n i.0) ]
+    taken_exactly : (h k : ℕ) (x : Given) → h + mid.listings_left ≡ walk.listings_left
+        → Takes (Some x) mid.listings_left k new.listings_left → ¬ (IsLast (Some x))
+        → h + k + new.listings_left ≡ walk.listings_left
+    taken_exactly h k x e t n = elim (takes_exactly (Some x) mid.listings_left k new.listings_left t)
+        [ inl i ↦ omega (arith, e, i) | inr i ↦ absurd (n i.0) ]
 
-    taken_all : (h k : ℕ) (x : Given) (path : List ℕ) (depth : ℕ) → h + mid.listings_left ≡ walk.listings_left → Takes (Some x) mid.listings_left k new.listings_left → (Contains xs (fault Budget path depth) → h ≡ walk.listings_left)
+    taken_all : (h k : ℕ) (x : Given) (path : List ℕ) (depth : ℕ) → h + mid.listings_left ≡ walk.listings_left
+        → Takes (Some x) mid.listings_left k new.listings_left
+        → (Contains xs (fault Budget path depth) → h ≡ walk.listings_left)
         → Contains (xs ++ x ∷ []) (fault Budget path depth) → h + k ≡ walk.listings_left
     taken_all h k x path depth e t s c = elim (Contains-push_cases xs x (fault Budget path depth) c) [
       | inl d ↦ omega (arith, s d, takes_within (Some x) mid.listings_left k new.listings_left t, e)
-      | inr d ↦ let b : Takes (Some (fault Budget path depth)) mid.listings_left k new.listings_left = subst (λ v. Takes (Some v) mid.listings_left k new.listings_left) d t in omega (arith, b.0, e)
+      | inr d ↦ let b : Takes (Some (fault Budget path depth)) mid.listings_left k new.listings_left =
+          subst (λ v. Takes (Some v) mid.listings_left k new.listings_left) d t in omega (arith, b.0, e)
     ]
 
-    misplaced_more : (x : Given) (path : List ℕ) (depth : ℕ) → mid.names_left ≤ walk.names_left → (IsMisplaced (Some x) → 0 < mid.names_left) → (Contains xs (fault NotAFolder path depth) → 0 < walk.names_left)
+    misplaced_more : (x : Given) (path : List ℕ) (depth : ℕ) → mid.names_left ≤ walk.names_left
+        → (IsMisplaced (Some x) → 0 < mid.names_left)
+        → (Contains xs (fault NotAFolder path depth) → 0 < walk.names_left)
         → Contains (xs ++ x ∷ []) (fault NotAFolder path depth) → 0 < walk.names_left
     misplaced_more x path depth e m s c = elim (Contains-push_cases xs x (fault NotAFolder path depth) c) [
       | inl d ↦ s d
       | inr d ↦ omega (arith, e, m (subst (λ v. IsMisplaced (Some v)) (sym d) tt))
     ]
 
-    pub taking_more : (x : Given) → Taking walk mid most less xs → FeedStep law mid (Some x) new → fewer < less → Taking walk new most fewer (xs ++ x ∷ [])
+    pub taking_more : (x : Given) → Taking walk mid most less xs → FeedStep law mid (Some x) new
+        → fewer < less → Taking walk new most fewer (xs ++ x ∷ [])
     taking_more x h f l =
         let a = f.accounts in
         let n : mid.has_ended → ⊥ = λ i. let s : Some x ≡ None = (f.stays i).0 in cc in
         let e = h.exactly n in
         let P : Tally → Type 0 = λ c. CountsFaults c (law.tally walk.directory) (law.tally new.directory) in
         record {
-          gave = λ p c. gave_more walk.listings_left mid new p xs x n (λ q i. f.gives q i) a.ends (h.gave p c);
+          gave = λ p c. gave_more walk.listings_left mid new p xs x n (λ q i. f.gives q i) a.ends
+              (h.gave p c);
           few = let long = length-append xs (x ∷ []) in omega (arith, h.few, l, long);
           counts = subst P (sym (faults_more xs x)) (counts_faults_then _ _ _ _ _ h.counts a.counts);
           taken = h.taken + a.taken;
           counted = grown_then h.taken a.taken _ _ _ h.counted a.counted;
-          within = omega (arith, e, takes_within (Some x) mid.listings_left a.taken new.listings_left a.takes);
+          within = omega (
+            arith,
+            e,
+            takes_within (Some x) mid.listings_left a.taken new.listings_left
+                a.takes,
+          );
           exactly = λ m. taken_exactly h.taken a.taken x e a.takes (λ i. m (a.ends i));
           spent = λ path depth c. taken_all h.taken a.taken x path depth e a.takes (h.spent path depth) c;
           names = omega (arith, h.names, f.names);
-          misplaced = λ path depth c. misplaced_more x path depth h.names f.misplaced (h.misplaced path depth) c;
+          misplaced = λ path depth c. misplaced_more x path depth h.names f.misplaced (h.misplaced path depth)
+              c;
         }
 
-    pub taking_end : Taking walk mid most less xs → FeedStep law mid None new → ((q : Pending Given) → new.to_come q → law.tells new.directory q.listed) → Took law walk new.directory xs
+    pub taking_end : Taking walk mid most less xs → FeedStep law mid None new
+        → ((q : Pending Given) → new.to_come q → law.tells new.directory q.listed)
+        → Took law walk new.directory xs
     taking_end h f t =
         let a = f.accounts in
         let e : a.taken + new.listings_left ≡ mid.listings_left = a.takes in
         record {
-          all = λ p c. gave_all walk.listings_left mid new p xs (law.tells new.directory) (λ q i. f.gives q i) t (h.gave p c);
+          all = λ p c. gave_all walk.listings_left mid new p xs (law.tells new.directory) (λ q i. f.gives q i)
+              t (h.gave p c);
           counts = counts_then_none _ _ _ _ h.counts a.counts;
           taken = h.taken + a.taken;
           counted = grown_then h.taken a.taken _ _ _ h.counted a.counted;
@@ -189,7 +244,8 @@ module _ {D C : Type 0} (law : Law D C) where
 
 -- ---- what is kept of it
 
-pub kept_more : (zs ys xs : List Given) (y : Given) → zs ≡ cond (is_kept y) (ys ++ y ∷ []) ys → ys ≡ filter is_kept xs → zs ≡ filter is_kept (xs ++ y ∷ [])
+pub kept_more : (zs ys xs : List Given) (y : Given) → zs ≡ cond (is_kept y) (ys ++ y ∷ []) ys
+    → ys ≡ filter is_kept xs → zs ≡ filter is_kept (xs ++ y ∷ [])
 kept_more zs ys xs y e f = e ∙ (go (is_kept y) refl ∙ sym (filter-append is_kept xs (y ∷ []))) where
   go : (b : Bool) → is_kept y ≡ b → cond b (ys ++ y ∷ []) ys ≡ filter is_kept xs ++ cond b (y ∷ []) []
   go true i = ap (λ v. v ++ y ∷ []) f
@@ -206,6 +262,7 @@ module _ {T R : Type 0} (of_entry : T → Facts) (of_residue : R → Facts) wher
   residue_left (Tree e) = refl
 
 -- what is said of a value that is answered
-pub map_ok : {A E : Type 0} {P Q : A → Type 0} → ((a : A) → P a → Q a) → (r : Result A E) → IfOk r P → IfOk r Q
+pub map_ok : {A E : Type 0} {P Q : A → Type 0} → ((a : A) → P a → Q a) → (r : Result A E) → IfOk r P
+    → IfOk r Q
 map_ok f (Ok a) h = f a h
 map_ok f (Err e) h = h

@@ -3,7 +3,8 @@ use Rattle.std.proofs.Common.{◌≡◌, Bool, true, false, refl, sym, subst, in
 use Rattle.std.specs.Prelude.{Some, None, ◌⊎◌}
 use Rattle.wax_directory.specs.Law.{Law}
 use Rattle.wax_walk.specs.Forest.{Pending, cancelled, filtered_pending}
-use Rattle.wax_walk.specs.Given.{Given, Facts, Mark, mark_by, with_mark, is_cut, changed_by, cut_by, ToComeFiltered}
+use Rattle.wax_walk.specs.Given.{Given, Facts, Mark, mark_by, with_mark, is_cut, changed_by, cut_by}
+use Rattle.wax_walk.specs.Given.{ToComeFiltered}
 use Rattle.wax_walk.specs.Ruled.{ruled_view}
 use Rattle.wax_walk.specs.View.{WalkView, FeedStep, CancelStep, GivesOrStops}
 use Rattle.wax_walk.proofs.Accounting.{IsAsked, HasAnswered, step_ends, step_marked}
@@ -14,28 +15,50 @@ differ b e t = cc
 
 module _ {D C : Type 0} (law : Law D C) (rule : Facts → Mark) where
   asked : (v : WalkView D) (b : Bool) → b ≡ false → IsAsked (ruled_view v rule b) v
-  asked v b e = record { directory = refl; listings_left = refl; names_left = refl; ended = λ h. elim h [ inl t ↦ absurd (differ b e t) | inr i ↦ i ] }
+  asked v b e = record {
+    directory = refl;
+    listings_left = refl;
+    names_left = refl;
+    ended =
+        λ h. elim h [ inl t ↦ absurd (differ b e t) | inr i ↦ i ];
+  }
 
   answered : (w : WalkView D) (b : Bool) → HasAnswered (ruled_view w rule b) w
   answered w b = record { directory = refl; listings_left = refl; names_left = refl; ended = λ h. inr h }
 
   answered_cut : (w u : WalkView D) (b : Bool) → CancelStep w u → HasAnswered (ruled_view u rule b) w
-  answered_cut w u b k = record { directory = k.directory; listings_left = k.listings_left; names_left = k.names_left; ended = λ h. inr (k.ends h) }
+  answered_cut w u b k =
+      record {
+        directory = k.directory;
+        listings_left = k.listings_left;
+        names_left = k.names_left;
+        ended =
+            λ h. inr (k.ends h);
+      }
 
-  pub ruled_ends : (v w : WalkView D) (b : Bool) → b ≡ false → FeedStep law v None w → FeedStep law (ruled_view v rule b) None (ruled_view w rule b)
+  pub ruled_ends : (v w : WalkView D) (b : Bool) → b ≡ false → FeedStep law v None w
+      → FeedStep law (ruled_view v rule b) None (ruled_view w rule b)
   ruled_ends v w b e f = step_ends law v w _ _ (asked v b e) (answered w b) f (λ q h.
-    let p = h.1 in
-    subst (λ z. GivesOrStops (ruled_view v rule b) z None (ruled_view w rule b)) (sym p.2)
-    (layer_ends rule v w (ruled_view v rule b) (ruled_view w rule b) p.0 refl refl (λ z i. (e, (z, i, refl))) (f.gives p.0 p.1)))
+      let p = h.1 in
+      subst (λ z. GivesOrStops (ruled_view v rule b) z None (ruled_view w rule b)) (sym p.2)
+      (layer_ends rule v w (ruled_view v rule b) (ruled_view w rule b) p.0 refl refl
+      (λ z i. (e, (z, i, refl))) (f.gives p.0 p.1)))
 
-  pub ruled_passes : (v w : WalkView D) (b : Bool) → b ≡ false → (x y : Given) (m : Mark) → FeedStep law v (Some x) w → m ≡ mark_by rule x → y ≡ with_mark x m → false ≡ is_cut x m → FeedStep law (ruled_view v rule b) (Some y) (ruled_view w rule b)
+  pub ruled_passes : (v w : WalkView D) (b : Bool) → b ≡ false → (x y : Given) (m : Mark)
+      → FeedStep law v (Some x) w → m ≡ mark_by rule x → y ≡ with_mark x m → false ≡ is_cut x m
+      → FeedStep law (ruled_view v rule b) (Some y) (ruled_view w rule b)
   ruled_passes v w b e x y m f s k n = step_marked law v w _ _ (asked v b e) (answered w b) x y m k f (λ q h.
-    let p = h.1 in
-    subst (λ z. GivesOrStops (ruled_view v rule b) z (Some y) (ruled_view w rule b)) (sym p.2)
-    (layer_passes rule v w (ruled_view v rule b) (ruled_view w rule b) p.0 x y m s k refl refl n (λ z i. (e, (z, i, refl))) (f.gives p.0 p.1)))
+      let p = h.1 in
+      subst (λ z. GivesOrStops (ruled_view v rule b) z (Some y) (ruled_view w rule b)) (sym p.2)
+      (layer_passes rule v w (ruled_view v rule b) (ruled_view w rule b) p.0 x y m s k refl refl n
+      (λ z i. (e, (z, i, refl))) (f.gives p.0 p.1)))
 
-  pub ruled_cuts : (v w u : WalkView D) (b : Bool) → b ≡ false → (x y : Given) (m : Mark) → FeedStep law v (Some x) w → m ≡ mark_by rule x → y ≡ with_mark x m → true ≡ is_cut x m → CancelStep w u → FeedStep law (ruled_view v rule b) (Some y) (ruled_view u rule b)
-  ruled_cuts v w u b e x y m f s k n c = step_marked law v w _ _ (asked v b e) (answered_cut w u b c) x y m k f (λ q h.
-    let p = h.1 in
-    subst (λ z. GivesOrStops (ruled_view v rule b) z (Some y) (ruled_view u rule b)) (sym p.2)
-    (layer_cuts rule v w (ruled_view v rule b) (ruled_view u rule b) p.0 x y m s k refl c.listings_left n (λ z i. (e, (cancelled z, c.leaves_out z i, refl))) (f.gives p.0 p.1)))
+  pub ruled_cuts : (v w u : WalkView D) (b : Bool) → b ≡ false → (x y : Given) (m : Mark)
+      → FeedStep law v (Some x) w → m ≡ mark_by rule x → y ≡ with_mark x m → true ≡ is_cut x m
+      → CancelStep w u → FeedStep law (ruled_view v rule b) (Some y) (ruled_view u rule b)
+  ruled_cuts v w u b e x y m f s k n c = step_marked law v w _ _ (asked v b e) (answered_cut w u b c) x y m k
+      f (λ q h.
+      let p = h.1 in
+      subst (λ z. GivesOrStops (ruled_view v rule b) z (Some y) (ruled_view u rule b)) (sym p.2)
+      (layer_cuts rule v w (ruled_view v rule b) (ruled_view u rule b) p.0 x y m s k refl c.listings_left n
+      (λ z i. (e, (cancelled z, c.leaves_out z i, refl))) (f.gives p.0 p.1)))

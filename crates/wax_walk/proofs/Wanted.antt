@@ -11,13 +11,15 @@ NoneBelow wanted f = filter wanted (preorder f) ≡ []
 -- what is cut has nothing wanted below it
 abbrev pub CutsUnwanted : {A : Type 0} → (A → Bool) → (A → Bool) → Forest A → Type 0
 CutsUnwanted wanted cut nothing = Unit {0}
-CutsUnwanted wanted cut (item x below after) = (cut x ≡ true → NoneBelow wanted below) × CutsUnwanted wanted cut below × CutsUnwanted wanted cut after
+CutsUnwanted wanted cut (item x below after) = (cut x ≡ true → NoneBelow wanted below) × CutsUnwanted wanted
+    cut below × CutsUnwanted wanted cut after
 CutsUnwanted wanted cut (lists path after) = CutsUnwanted wanted cut after
 
 abbrev kept_below : {A : Type 0} → (A → Bool) → Bool → Forest A → Forest A
 kept_below cut b below = cond b nothing (filtered (λ x. x) cut below)
 
-cut_or_not : {A : Type 0} (wanted cut : A → Bool) (below : Forest A) (b c : Bool) → c ≡ b → (c ≡ true → NoneBelow wanted below)
+cut_or_not : {A : Type 0} (wanted cut : A → Bool) (below : Forest A) (b c : Bool) → c ≡ b
+    → (c ≡ true → NoneBelow wanted below)
     → filter wanted (preorder (filtered (λ x. x) cut below)) ≡ filter wanted (preorder below)
     → filter wanted (preorder (kept_below cut b below)) ≡ filter wanted (preorder below)
 cut_or_not wanted cut below true c e h i = sym (h e)

@@ -11,15 +11,19 @@ use Rattle.wax_walk.specs.View.{WalkView, CountsFaults, fault_counts}
 
 -- a beginning of all this, and then x
 abbrev pub IsCutShort : List Given → Given → List Given → Type 0
-IsCutShort all x xs = (before : List Given) × (rest : List Given) × (xs ≡ before ++ x ∷ []) × (before ++ rest ≡ all)
+IsCutShort all x xs = (before : List Given) × (rest : List Given) × (xs ≡ before ++ x ∷ []) ×
+    (before ++ rest ≡ all)
 
--- all that was to come was given, and these folders were listed; or a beginning of it, and then that memory was
--- refused, or that the budget is reached, since there was more to take than was allowed
-pub data GaveAll (tells : List (List ℕ) → Type 0) (allowed : ℕ) (p : Pending Given) (xs : List Given) : Type 0 where
-  whole : xs ≡ preorder (all_pending p) → tells (p.listed ++ listings (all_pending p)) → GaveAll tells allowed p xs
-  lacks_memory : IsCutShort (preorder (all_pending p)) no_memory xs → GaveAll tells allowed p xs
-  over_budget : (path : List ℕ) (depth : ℕ) → allowed ≤ p.items → IsCutShort (preorder (all_pending p)) (fault Budget path depth) xs
-      → GaveAll tells allowed p xs
+-- all that was to come was given, and these folders were listed; or a beginning of it, and then that memory
+-- was refused, or that the budget is reached, since there was more to take than was allowed
+pub data GaveAll (tells : List (List ℕ) → Type 0) (allowed : ℕ) (p : Pending Given) (xs : List Given) : Type 0
+  where
+    whole : xs ≡ preorder (all_pending p) → tells (p.listed ++ listings (all_pending p))
+        → GaveAll tells allowed p xs
+    lacks_memory : IsCutShort (preorder (all_pending p)) no_memory xs → GaveAll tells allowed p xs
+    over_budget : (path : List ℕ) (depth : ℕ) → allowed ≤ p.items → IsCutShort (preorder (all_pending p))
+        (fault Budget path depth) xs
+        → GaveAll tells allowed p xs
 
 -- what a directory has counted where these are given
 abbrev pub all_fault_counts : List Given → Tally
@@ -34,4 +38,5 @@ pub record Took {D C : Type 0} (law : Law D C) (walk : WalkView D) (new : D) (xs
   pub counted : (law.tally new).items ≡ grown taken (law.tally walk.directory).items
   pub within : taken ≤ walk.listings_left
   pub spent : (path : List ℕ) (depth : ℕ) → Contains xs (fault Budget path depth) → taken ≡ walk.listings_left
-  pub misplaced : (path : List ℕ) (depth : ℕ) → Contains xs (fault NotAFolder path depth) → 0 < walk.names_left
+  pub misplaced : (path : List ℕ) (depth : ℕ) → Contains xs (fault NotAFolder path depth)
+      → 0 < walk.names_left

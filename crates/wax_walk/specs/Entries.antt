@@ -77,6 +77,7 @@ module _ {T R : Type 0} (of_entry : T → Facts) (of_residue : R → Facts) wher
   given_of (Filtrate x) = given_outcome x.inner
   given_of (Residue x) = given_residue x.inner
 
-  abbrev pub answer_of : {S : Type 0} → Option (Separation S (Result T WalkError) (TreeResidue R)) → Option Given
+  abbrev pub answer_of : {S : Type 0} → Option (Separation S (Result T WalkError) (TreeResidue R))
+      → Option Given
   answer_of None = None
   answer_of (Some x) = Some (given_of x)

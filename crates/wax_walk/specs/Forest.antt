@@ -25,8 +25,8 @@ listings nothing = []
 listings (item x below after) = listings below ++ listings after
 listings (lists path after) = path ∷ listings after
 
--- what is to come: below the item that was given last, and after that; the folders that were listed; and how many
--- items are taken from listings for it, at most
+-- what is to come: below the item that was given last, and after that; the folders that were listed; and how
+-- many items are taken from listings for it, at most
 pub record Pending (A : Type 0) : Type 0 where
   pub below : Forest A
   pub after : Forest A
@@ -53,8 +53,10 @@ FirstIs then (lists path after) listed items r = FirstIs then after (listed ++ p
 -- the forest where each item is changed, and what lies below those that are cut is left out
 abbrev pub filtered : {A B : Type 0} → (A → B) → (A → Bool) → Forest A → Forest B
 filtered change cut nothing = nothing
-filtered change cut (item x below after) = item (change x) (cond (cut x) nothing (filtered change cut below)) (filtered change cut after)
+filtered change cut (item x below after) = item (change x) (cond (cut x) nothing (filtered change cut below))
+    (filtered change cut after)
 filtered change cut (lists path after) = lists path (filtered change cut after)
 
 abbrev pub filtered_pending : {A B : Type 0} → (A → B) → (A → Bool) → Pending A → Pending B
-filtered_pending change cut p = pending (filtered change cut p.below) (filtered change cut p.after) p.listed p.items
+filtered_pending change cut p = pending (filtered change cut p.below) (filtered change cut p.after) p.listed
+    p.items

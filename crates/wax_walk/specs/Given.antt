@@ -4,7 +4,8 @@ use Rattle.wax_directory.specs.declared.directory.FileType.{FileType}
 use Rattle.wax_walk.specs.declared.error.FaultKind.{FaultKind}
 use Rattle.wax_walk.specs.Forest.{Pending, filtered_pending}
 
--- an entry: its path, the start of its walk, the names from there joined by `/`, how many they are, and what stands there
+-- an entry: its path, the start of its walk, the names from there joined by `/`, how many they are, and what
+-- stands there
 pub record Facts : Type 0 where
   pub path : List ℕ
   pub root : List ℕ
@@ -60,4 +61,5 @@ cut_by rule x = is_cut x (mark_by rule x)
 
 -- what is to come after a filter, where `inner` says what is to come before it
 abbrev pub ToComeFiltered : (Pending Given → Type 0) → (Facts → Mark) → Pending Given → Type 0
-ToComeFiltered inner rule q = (p : Pending Given) × inner p × (q ≡ filtered_pending (changed_by rule) (cut_by rule) p)
+ToComeFiltered inner rule q =
+    (p : Pending Given) × inner p × (q ≡ filtered_pending (changed_by rule) (cut_by rule) p)

@@ -11,23 +11,33 @@ use Rattle.wax_walk.specs.Says.{Says, ToComeByClosure, closure_view}
 use Rattle.wax_walk.specs.View.{WalkView, CancelStep}
 
 filtered_cancelling : (rule : Facts → Mark) (inner new : Pending Given → Type 0) (q : Pending Given)
-    → ((p : Pending Given) → inner p → new (cancelled p)) → ToComeFiltered inner rule q → ToComeFiltered new rule (cancelled q)
+    → ((p : Pending Given) → inner p → new (cancelled p)) → ToComeFiltered inner rule q
+    → ToComeFiltered new rule (cancelled q)
 filtered_cancelling rule inner new q a h = (cancelled h.0, a h.0 h.1, ap cancelled h.2)
 
-filtered_telling : (rule : Facts → Mark) (inner : Pending Given → Type 0) (tells : List (List ℕ) → Type 0) (q : Pending Given)
+filtered_telling : (rule : Facts → Mark) (inner : Pending Given → Type 0) (tells : List (List ℕ) → Type 0)
+    (q : Pending Given)
     → ((p : Pending Given) → inner p → tells p.listed) → ToComeFiltered inner rule q → tells q.listed
-filtered_telling rule inner tells q a h = subst tells (sym (ap (λ (v : Pending Given). v.listed) h.2)) (a h.0 h.1)
+filtered_telling rule inner tells q a h = subst tells (sym (ap (λ (v : Pending Given). v.listed) h.2))
+    (a h.0 h.1)
 
-pub ruled_telling : {D : Type 0} (v : WalkView D) (rule : Facts → Mark) (tells : List (List ℕ) → Type 0) → ((p : Pending Given) → v.to_come p → tells p.listed)
+pub ruled_telling : {D : Type 0} (v : WalkView D) (rule : Facts → Mark) (tells : List (List ℕ) → Type 0)
+    → ((p : Pending Given) → v.to_come p → tells p.listed)
     → (q : Pending Given) → ToComeFiltered v.to_come rule q → tells q.listed
 ruled_telling v rule tells a q h = filtered_telling rule v.to_come tells q a h
 
-ended_either : (b c : Bool) (before after : Type 0) → c ≡ b → (before → after) → (b ≡ true) ⊎ before → (c ≡ true) ⊎ after
+ended_either : (b c : Bool) (before after : Type 0) → c ≡ b → (before → after) → (b ≡ true) ⊎ before
+    → (c ≡ true) ⊎ after
 ended_either b c before after e f h = elim h [ inl a ↦ inl (e ∙ a) | inr i ↦ inr (f i) ]
 
-pub ruled_cancelling : {D P : Type 0} (v w : WalkView D) (rules : P → Facts → Mark) (p q : P) (b c : Bool) → CancelStep v w → q ≡ p → c ≡ b → CancelStep (ruled_view v (rules p) b) (ruled_view w (rules q) c)
+pub ruled_cancelling : {D P : Type 0} (v w : WalkView D) (rules : P → Facts → Mark) (p q : P) (b c : Bool)
+    → CancelStep v w → q ≡ p → c ≡ b → CancelStep (ruled_view v (rules p) b) (ruled_view w (rules q) c)
 ruled_cancelling v w rules p q b c h e f = record {
-  leaves_out = λ o i. (f ∙ i.0, subst (λ r. ToComeFiltered w.to_come (rules r) (cancelled o)) (sym e) (filtered_cancelling (rules p) v.to_come w.to_come o h.leaves_out i.1));
+  leaves_out = λ o i. (
+    f ∙ i.0,
+    subst (λ r. ToComeFiltered w.to_come (rules r) (cancelled o)) (sym e)
+        (filtered_cancelling (rules p) v.to_come w.to_come o h.leaves_out i.1),
+  );
   directory = h.directory;
   listings_left = h.listings_left;
   names_left = h.names_left;
@@ -35,13 +45,20 @@ ruled_cancelling v w rules p q b c h e f = record {
 }
 
 module _ {F : Type 0} (step : F → Bor TreeEntry → Option EntryResidue → F → Type 0) where
-  pub closure_telling : {D : Type 0} (v : WalkView D) (f : F) (tells : List (List ℕ) → Type 0) → ((p : Pending Given) → v.to_come p → tells p.listed)
+  pub closure_telling : {D : Type 0} (v : WalkView D) (f : F) (tells : List (List ℕ) → Type 0)
+      → ((p : Pending Given) → v.to_come p → tells p.listed)
       → (q : Pending Given) → ToComeByClosure step v.to_come f q → tells q.listed
   closure_telling v f tells a q h = filtered_telling h.0 v.to_come tells q a h.2
 
-  pub closure_cancelling : {D : Type 0} (v w : WalkView D) (f g : F) → CancelStep v w → g ≡ f → CancelStep (closure_view step v f) (closure_view step w g)
+  pub closure_cancelling : {D : Type 0} (v w : WalkView D) (f g : F) → CancelStep v w → g ≡ f
+      → CancelStep (closure_view step v f) (closure_view step w g)
   closure_cancelling v w f g h e = record {
-    leaves_out = λ o i. (i.0, subst (λ s. Says step i.0 s) (sym e) i.1, filtered_cancelling i.0 v.to_come w.to_come o h.leaves_out i.2);
+    leaves_out = λ o i. (
+      i.0,
+      subst (λ s. Says step i.0 s) (sym e) i.1,
+      filtered_cancelling i.0 v.to_come
+          w.to_come o h.leaves_out i.2,
+    );
     directory = h.directory;
     listings_left = h.listings_left;
     names_left = h.names_left;

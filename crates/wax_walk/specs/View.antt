@@ -3,12 +3,13 @@ use Rattle.std.specs.Prelude.{◌≡◌, ℕ, ◌+◌, ◌<◌, ◌≤◌, ◌^�
 use Rattle.wax_directory.specs.Counting.{no_counts, grown}
 use Rattle.wax_directory.specs.Law.{Law}
 use Rattle.wax_directory.specs.declared.tally.Tally.{Tally}
-use Rattle.wax_walk.specs.declared.error.FaultKind.TheVariants.{NotFound, NotAFolder, Listing, BadName, NotText, Budget}
+use Rattle.wax_walk.specs.declared.error.FaultKind.TheVariants.{NotFound, NotAFolder, Listing, BadName}
+use Rattle.wax_walk.specs.declared.error.FaultKind.TheVariants.{NotText, Budget}
 use Rattle.wax_walk.specs.Forest.{Pending, all_pending, cancelled, FirstIs}
 use Rattle.wax_walk.specs.Given.{Given, entry, fault, no_memory}
 
--- what is still to come; the directory; at most how many items may still be taken from listings; how many names it
--- still has to follow to where it begins; and that nothing more comes
+-- what is still to come; the directory; at most how many items may still be taken from listings; how many
+-- names it still has to follow to where it begins; and that nothing more comes
 pub record WalkView (D : Type 0) : Type 1 where
   pub to_come : Pending Given → Type 0
   pub directory : D
@@ -40,8 +41,8 @@ abbrev pub IsMisplaced : Option Given → Type 0
 IsMisplaced (Some (fault NotAFolder path depth)) = Unit {0}
 IsMisplaced r = ⊥
 
--- n items were taken of those that were allowed and so many are left: all the others, as long as the walk goes on;
--- and where the budget is reached, all were taken
+-- n items were taken of those that were allowed and so many are left: all the others, as long as the walk
+-- goes on; and where the budget is reached, all were taken
 abbrev pub Takes : Option Given → ℕ → ℕ → ℕ → Type 0
 Takes (Some no_memory) allowed n left = n + left ≤ allowed
 Takes (Some (fault NotFound path depth)) allowed n left = n + left ≤ allowed
@@ -59,16 +60,20 @@ pub record CountsFaults (n old new : Tally) : Type 0 where
   pub bad_names : min (old.bad_names + n.bad_names) (2 ^ 64 - 1) ≤ new.bad_names
 
 module _ {D : Type 0} where
-  -- the answer is the first of what was to come; or memory was refused; or the budget is reached, since there is more
-  -- to take than was allowed
-  pub data GivesOrStops (old : WalkView D) (p : Pending Given) (r : Option Given) (new : WalkView D) : Type 0 where
-    lacks_memory : r ≡ Some no_memory → GivesOrStops old p r new
-    over_budget : (path : List ℕ) (depth : ℕ) → r ≡ Some (fault Budget path depth) → old.listings_left ≤ p.items → GivesOrStops old p r new
-    gives : (items : ℕ) → ((IsLast r → ⊥) → items + old.listings_left ≤ p.items + new.listings_left)
-        → FirstIs new.to_come (all_pending p) p.listed items r → GivesOrStops old p r new
+  -- the answer is the first of what was to come; or memory was refused; or the budget is reached, since there
+  -- is more to take than was allowed
+  pub data GivesOrStops (old : WalkView D) (p : Pending Given) (r : Option Given) (new : WalkView D) : Type 0
+    where
+      lacks_memory : r ≡ Some no_memory → GivesOrStops old p r new
+      over_budget : (path : List ℕ) (depth : ℕ) → r ≡ Some (fault Budget path depth)
+          → old.listings_left ≤ p.items → GivesOrStops old p r new
+      gives : (items : ℕ) → ((IsLast r → ⊥) → items + old.listings_left ≤ p.items + new.listings_left)
+          → FirstIs new.to_come (all_pending p) p.listed items r → GivesOrStops old p r new
 
-  -- what the directory counted, what was taken from listings, and that the walk has ended, where the item is the last
-  pub record Accounts {C : Type 0} (law : Law D C) (old : WalkView D) (r : Option Given) (new : WalkView D) : Type 0 where
+  -- what the directory counted, what was taken from listings, and that the walk has ended, where the item is
+  -- the last
+  pub record Accounts {C : Type 0} (law : Law D C) (old : WalkView D) (r : Option Given) (new : WalkView D) :
+      Type 0 where
     pub counts : CountsFaults (fault_counts r) (law.tally old.directory) (law.tally new.directory)
     pub taken : ℕ
     pub takes : Takes r old.listings_left taken new.listings_left
@@ -76,7 +81,8 @@ module _ {D : Type 0} where
     pub ends : IsLast r → new.has_ended
 
   -- what a call of `feed` does that answers r
-  pub record FeedStep {C : Type 0} (law : Law D C) (old : WalkView D) (r : Option Given) (new : WalkView D) : Type 0 where
+  pub record FeedStep {C : Type 0} (law : Law D C) (old : WalkView D) (r : Option Given) (new : WalkView D) :
+      Type 0 where
     pub gives : (p : Pending Given) → old.to_come p → GivesOrStops old p r new
     pub accounts : Accounts law old r new
     pub at_end : r ≡ None → new.has_ended

@@ -21,11 +21,11 @@ impl TreeEntry {
     /// they are.
     pub fn new(path: String, root: String, candidate: String, depth: usize, kind: FileType) -> Self
         ensures { ⟦<Self as Entry>⟧.facts result ≡ record {
-            path = string_bytes path;
-            root = string_bytes root;
-            candidate = string_bytes candidate;
-            depth = depth;
-            kind = kind;
+          path = string_bytes path;
+          root = string_bytes root;
+          candidate = string_bytes candidate;
+          depth = depth;
+          kind = kind;
         } }
     {
         TreeEntry {

@@ -90,7 +90,8 @@ where
 
     ghost once = { λ s t u a b. (I.once s.input t.input u.input a.0 b.0, b.1 ∙ a.1) };
 
-    ghost can_go_on = { λ s t h c. (I.can_go_on s.input t.input h.0 c.0, subst (λ v. F.IsAlwaysCallable v) (sym h.1) c.1) };
+    ghost can_go_on = { λ s t h c.
+        (I.can_go_on s.input t.input h.0 c.0, subst (λ v. F.IsAlwaysCallable v) (sym h.1) c.1) };
 
     ghost no_longer = { λ s t h e. I.no_longer s.input t.input h.0 e };
 }
@@ -118,13 +119,15 @@ where
         self.input.into_directory()
     }
 
-    ghost telling = { λ s q i. closure_telling F.step (I.view s.input) s.f (I.Directory.law.tells (I.view s.input).directory) (I.telling s.input) q i };
+    ghost telling = { λ s q i. closure_telling F.step (I.view s.input) s.f
+        (I.Directory.law.tells (I.view s.input).directory) (I.telling s.input) q i };
 
     ghost same_facts = { λ e r h. I.same_facts e r h };
 
     ghost feeding = { λ s t r f. f };
 
-    ghost cancelling = { λ s t h. closure_cancelling F.step (I.view s.input) (I.view t.input) s.f t.f (I.cancelling s.input t.input h.0) h.1 };
+    ghost cancelling = { λ s t h. closure_cancelling F.step (I.view s.input) (I.view t.input) s.f t.f
+        (I.cancelling s.input t.input h.0) h.1 };
 }
 
 impl<I, F> Iterator for FilterEntry<I, F>

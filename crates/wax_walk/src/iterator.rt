@@ -63,7 +63,8 @@ pub trait FileIterator: CancelWalk<
         → Self.Residue.facts r ≡ Self.Entry.facts e };
 
     /// What a call of `feed` gives and does.
-    ghost feeding: { (s t : Self) (r : Option (Separation Self.Feed (Result Self.Entry WalkError) (TreeResidue Self.Residue)))
+    ghost feeding: { (s t : Self)
+        (r : Option (Separation Self.Feed (Result Self.Entry WalkError) (TreeResidue Self.Residue)))
         → Self.feeds s r t
         → FeedStep Self.Directory.law (view s) (answer_of Self.Entry.facts Self.Residue.facts r) (view t) };
 

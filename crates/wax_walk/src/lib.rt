@@ -8,9 +8,9 @@ mod gather;
 mod iterator;
 mod without;
 
-pub use gather::{collect, collect_feed};
 pub use entry::{Entry, TreeEntry};
 pub use error::{FaultKind, WalkError, WalkErrorKind};
 pub use filter_entry::FilterEntry;
+pub use gather::{collect, collect_feed};
 pub use iterator::{EntryResidue, FileIterator};
 pub use without::{Rule, Without};

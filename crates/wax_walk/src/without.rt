@@ -37,7 +37,8 @@ where
     R: Entry,
     P: Rule,
     F: Feed<Filtrate = Result<T, WalkError>, Residue = TreeResidue<R>>,
-    ensures { IfOk result (λ r. mark_of r ≡ mark_by (P.rule rule.now) (given_of T.facts R.facts separation.now)) }
+    ensures { IfOk result
+        (λ r. mark_of r ≡ mark_by (P.rule rule.now) (given_of T.facts R.facts separation.now)) }
 {
     match separation {
         Separation::Filtrate(filtrate) => match filtrate.get() {
@@ -84,7 +85,8 @@ where
     R: Entry + From<T>,
     F: Feed<Filtrate = Result<T, WalkError>, Residue = TreeResidue<R>>,
     requires { (e : T) (r : R) → R.from_gives e r → R.facts r ≡ T.facts e }
-    ensures { given_of T.facts R.facts result ≡ with_mark (given_outcome T.facts R.facts outcome) (mark_of residue) }
+    ensures { given_of T.facts R.facts result ≡ with_mark (given_outcome T.facts R.facts outcome)
+        (mark_of residue) }
 {
     match (outcome, residue) {
         (Ok(entry), Some(EntryResidue::File)) => {
@@ -107,7 +109,8 @@ where
     R: Entry + From<T>,
     F: Feed<Filtrate = Result<T, WalkError>, Residue = TreeResidue<R>>,
     requires { (e : T) (r : R) → R.from_gives e r → R.facts r ≡ T.facts e }
-    ensures { given_of T.facts R.facts result ≡ with_mark (given_of T.facts R.facts separation) (mark_of residue) }
+    ensures { given_of T.facts R.facts result ≡ with_mark (given_of T.facts R.facts separation)
+        (mark_of residue) }
 {
     match separation {
         Separation::Filtrate(filtrate) => separated_outcome(filtrate.into_inner(), residue),
@@ -155,8 +158,10 @@ where
 
     ghost can_feed = { λ s. I.can_feed s.input };
 
-    ghost feeds = { λ s r t. FeedStep I.Directory.law (ruled_view (I.view s.input) (P.rule s.rule) s.has_ended)
-        (answer_of I.Entry.facts I.Residue.facts r) (ruled_view (I.view t.input) (P.rule t.rule) t.has_ended) };
+    ghost feeds = { λ s r t. FeedStep I.Directory.law
+        (ruled_view (I.view s.input) (P.rule s.rule) s.has_ended)
+        (answer_of I.Entry.facts I.Residue.facts r)
+        (ruled_view (I.view t.input) (P.rule t.rule) t.has_ended) };
 
     ghost left = { λ s. I.left s.input };
 
@@ -220,13 +225,15 @@ where
         self.input.into_directory()
     }
 
-    ghost telling = { λ s q i. ruled_telling (I.view s.input) (P.rule s.rule) (I.Directory.law.tells (I.view s.input).directory) (I.telling s.input) q i.1 };
+    ghost telling = { λ s q i. ruled_telling (I.view s.input) (P.rule s.rule)
+        (I.Directory.law.tells (I.view s.input).directory) (I.telling s.input) q i.1 };
 
     ghost same_facts = { λ e r h. I.same_facts e r h };
 
     ghost feeding = { λ s t r f. f };
 
-    ghost cancelling = { λ s t h. ruled_cancelling (I.view s.input) (I.view t.input) P.rule s.rule t.rule s.has_ended t.has_ended (I.cancelling s.input t.input h.0) h.1 h.2 };
+    ghost cancelling = { λ s t h. ruled_cancelling (I.view s.input) (I.view t.input) P.rule s.rule t.rule
+        s.has_ended t.has_ended (I.cancelling s.input t.input h.0) h.1 h.2 };
 }
 
 impl<I: FileIterator, P: Rule> Iterator for Without<I, P> {

@@ -7,4 +7,6 @@ use Rattle.wax_directory.specs.Nodes.{names_of}
 use Rattle.wax_directory.proofs.tree.hold_distinct_names.Given as goal
 
 abbrev pub invariant-loop-item : goal.invariant-loop-item
-invariant-loop-item l = ((q : Bor (List ℕ)) → contains_by (λ k. bytes_eq q.now k.now) l.seen ≡ list_any (λ x. bytes_eq q.now x) (names_of (take l.item-index l.items))) × (are_distinct (names_of (take l.item-index l.items)) ≡ true)
+invariant-loop-item l =
+    ((q : Bor (List ℕ)) → contains_by (λ k. bytes_eq q.now k.now) l.seen ≡ list_any (λ x. bytes_eq q.now x)
+    (names_of (take l.item-index l.items))) × (are_distinct (names_of (take l.item-index l.items)) ≡ true)

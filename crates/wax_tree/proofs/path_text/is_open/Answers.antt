@@ -5,4 +5,5 @@ pub returns-in-None : goal.returns-in-None
 returns-in-None c = open_none c.args.path.now (rw c.as_bytes.ensures.value at c.in-None.ensures.value)
 
 pub returns-in-Some : goal.returns-in-Some
-returns-in-Some c = open_some c.args.path.now c.in-Some.last.now (rw c.as_bytes.ensures.value at c.in-Some.ensures.value)
+returns-in-Some c = open_some c.args.path.now c.in-Some.last.now
+    (rw c.as_bytes.ensures.value at c.in-Some.ensures.value)

@@ -10,7 +10,8 @@ returns-in-Ok-clause-says g c rule s =
 
 pub returns-in-Residue-clause-says : goal.returns-in-Residue-clause-says
 returns-in-Residue-clause-says g c rule s =
-    let n = says_now _ rule c.args.f.now c.f-in-Residue.new.self c.as_tree_entry-in-Residue.result c.f-in-Residue.result s c.f-in-Residue.ensures in
+    let n = says_now _ rule c.args.f.now c.f-in-Residue.new.self c.as_tree_entry-in-Residue.result
+    c.f-in-Residue.result s c.f-in-Residue.ensures in
     rw c.in-Residue.is (
       n.0 ∙ (ap rule c.as_tree_entry-in-Residue.ensures
           ∙ (ap (λ v. rule (g.R.Entry.facts v)) c.get-in-Residue-2.ensures

@@ -25,7 +25,8 @@ loop-item-preserved g c =
       ends = search rules;
       taking = (
         _,
-        taking_more g.I.Directory.Directory.law _ _ _ _ _ _ taking.0 x taking.1 (g.met.I.FileIterator.feeding s t (Some c.in-Some.item) fed) goes.2,
+        taking_more g.I.Directory.Directory.law _ _ _ _ _ _ taking.0 x taking.1
+            (g.met.I.FileIterator.feeding s t (Some c.in-Some.item) fed) goes.2,
         kept_more _ _ taking.0 x c.in_ok-keep.ensures taking.2,
       );
     }
@@ -38,7 +39,9 @@ returns g c =
     let few : length taking.0 ≤ size (g.I.SeparatingFilter.left c.args.walk) = omega (arith, taking.1.few) in
     rw c.into_directory.ensures (
       taking.0,
-      taking_end g.I.Directory.Directory.law _ _ _ _ _ 0 _ taking.1 (g.met.I.FileIterator.feeding s t None c.in_default.ensures.steps) (λ q i. g.met.I.FileIterator.telling t q i),
+      taking_end g.I.Directory.Directory.law _ _ _ _ _ 0 _ taking.1
+          (g.met.I.FileIterator.feeding s t None c.in_default.ensures.steps)
+          (λ q i. g.met.I.FileIterator.telling t q i),
       few,
       taking.2,
     )

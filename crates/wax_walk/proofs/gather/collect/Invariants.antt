@@ -13,7 +13,10 @@ invariant-loop-item g l =
     record {
       can : g.I.SeparatingFilter.can_feed l.walk;
       ends : IsFinite (left l.walk);
-      taking : (xs : List Given) × Taking g.I.Directory.Directory.law (view l.fn.walk) (view l.walk) (size (left l.fn.walk)) (size (left l.walk)) xs × (map (given_outcome g.I.Entry.Entry.facts g.I.Residue.Entry.facts) l.items.items ≡ filter is_kept xs);
+      taking : (xs : List Given) × Taking g.I.Directory.Directory.law (view l.fn.walk) (view l.walk)
+          (size (left l.fn.walk)) (size (left l.walk)) xs ×
+          (map (given_outcome g.I.Entry.Entry.facts g.I.Residue.Entry.facts) l.items.items ≡ filter is_kept
+          xs);
     }
 
 abbrev pub decreases-loop-item : goal.decreases-loop-item

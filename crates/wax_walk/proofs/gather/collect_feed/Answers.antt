@@ -21,7 +21,9 @@ loop-item-preserved g c =
     record {
       can = search rules;
       ends = search rules;
-      taking = rw (c.in_ok-push.ensures, map-append) (taking_more g.I.Directory.Directory.law _ _ _ _ _ _ _ (given_of g.I.Entry.Entry.facts g.I.Residue.Entry.facts c.in-Some.item)
+      taking = rw (c.in_ok-push.ensures, map-append)
+          (taking_more g.I.Directory.Directory.law _ _ _ _ _ _ _
+          (given_of g.I.Entry.Entry.facts g.I.Residue.Entry.facts c.in-Some.item)
           c.loop-item.invariant.taking (g.met.I.FileIterator.feeding s t (Some c.in-Some.item) fed) goes.2);
     }
 
@@ -29,7 +31,16 @@ pub returns-clause-took : goal.returns-clause-took
 returns-clause-took g c =
     let s = c.loop-item.walk in
     let t = c.feed.new.self in
-    rw c.into_directory.ensures (taking_end g.I.Directory.Directory.law _ _ _ _ _ 0 _ c.loop-item.invariant.taking (g.met.I.FileIterator.feeding s t None c.in_default.ensures.steps) (λ q i. g.met.I.FileIterator.telling t q i))
+    rw c.into_directory.ensures
+    (taking_end g.I.Directory.Directory.law _ _ _ _ _ 0 _ c.loop-item.invariant.taking
+    (g.met.I.FileIterator.feeding s t None c.in_default.ensures.steps)
+    (λ q i. g.met.I.FileIterator.telling t q i))
 
 pub returns-clause-few : goal.returns-clause-few
-returns-clause-few g c = omega (arith, c.loop-item.invariant.taking.few, length-map c.loop-item.items.items (given_of g.I.Entry.Entry.facts g.I.Residue.Entry.facts))
+returns-clause-few g c =
+    omega (
+      arith,
+      c.loop-item.invariant.taking.few,
+      length-map c.loop-item.items.items
+          (given_of g.I.Entry.Entry.facts g.I.Residue.Entry.facts),
+    )

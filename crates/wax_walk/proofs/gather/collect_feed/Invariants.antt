@@ -11,7 +11,8 @@ invariant-loop-item g l =
     record {
       can : g.I.SeparatingFilter.can_feed l.walk;
       ends : IsFinite (left l.walk);
-      taking : Taking g.I.Directory.Directory.law (view l.fn.walk) (view l.walk) (size (left l.fn.walk)) (size (left l.walk)) (map (given_of g.I.Entry.Entry.facts g.I.Residue.Entry.facts) l.items.items);
+      taking : Taking g.I.Directory.Directory.law (view l.fn.walk) (view l.walk) (size (left l.fn.walk))
+          (size (left l.walk)) (map (given_of g.I.Entry.Entry.facts g.I.Residue.Entry.facts) l.items.items);
     }
 
 abbrev pub decreases-loop-item : goal.decreases-loop-item

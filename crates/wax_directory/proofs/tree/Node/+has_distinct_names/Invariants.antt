@@ -4,4 +4,5 @@ use Rattle.wax_directory.specs.Nodes.{entry_of, HasDistinctNames}
 use Rattle.wax_directory.proofs.tree.Node.+has_distinct_names.Given as goal
 
 abbrev pub invariant-loop-item : goal.invariant-loop-item
-invariant-loop-item l = (place : ℕ) (n : Node) → place < l.item-index → entry_of (slice_get l.item-items place) ≡ Some n → HasDistinctNames n
+invariant-loop-item l = (place : ℕ) (n : Node) → place < l.item-index
+    → entry_of (slice_get l.item-items place) ≡ Some n → HasDistinctNames n

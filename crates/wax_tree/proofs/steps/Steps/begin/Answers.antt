@@ -9,7 +9,8 @@ use Rattle.wax_tree.specs.Prefix.{from_last}
 use Rattle.wax_tree.specs.Walking.{scope_of, place_spot, cursors_of, names_left}
 use Rattle.wax_tree.proofs.Showing.{has_kind, begins_missing, begins_failing}
 use Rattle.wax_tree.proofs.Resting.{rest_moved, comes_rest}
-use Rattle.wax_tree.proofs.Settling.{counted_same, answers_settled, failed_settles, gives_settles, stopped_settles, stops_with, step_from}
+use Rattle.wax_tree.proofs.Settling.{counted_same, answers_settled, failed_settles, gives_settles}
+use Rattle.wax_tree.proofs.Settling.{stopped_settles, stops_with, step_from}
 use Rattle.wax_tree.proofs.Stepping.{gives_fault}
 use Rattle.wax_tree.proofs.steps.Steps.begin.Goals as goal
 
@@ -18,16 +19,28 @@ returns-in-Ok-Some-clause-continues g c s h p d none rest items r e =
     let law = g.D.Directory.law in
     let w = c.args.self.now in
     let o = rw (c.as_str.ensures.value, c.in-Ok-Some.field-0-is) at c.in-Ok-Some.ensures in
-    let moved = rest_moved law w c.kind.new.self rest.listed rest r o.shown (o.held (cursors_of w.levels.items) rest.has r.held) (o.told rest.listed r.told) in
-    step_from law w (record w { directory = c.kind.new.self }) c.follow.new.self _ _ c.follow.result refl refl refl
-    (c.follow.ensures.continues s (o.shown (string_bytes c.args.place.path) s h) (has_kind s c.in-Ok-Some.kind (o.kind s h)) p d none rest items moved e)
+    let moved = rest_moved law w c.kind.new.self rest.listed rest r o.shown
+    (o.held (cursors_of w.levels.items) rest.has r.held) (o.told rest.listed r.told) in
+    step_from law w (record w { directory = c.kind.new.self }) c.follow.new.self _ _ c.follow.result refl refl
+    refl
+    (c.follow.ensures.continues s (o.shown (string_bytes c.args.place.path) s h)
+    (has_kind s c.in-Ok-Some.kind (o.kind s h)) p d none rest items moved e)
 
 pub returns-in-Ok-None-clause-answers : goal.returns-in-Ok-None-clause-answers
 returns-in-Ok-None-clause-answers g c =
     let w = c.args.self.now in
     let o = rw c.in-Ok-None.field-0-is at c.in-Ok-None.ensures in
-    answers_settled g.D.Directory.law (record { counts = kind_counts (Ok None); taken = 0; names = names_left w + length c.args.place.names.items }) w c.kind.new.self c.stop.result c.stop.new.self o.counted refl
-    (stopped_settles _ (record w { directory = c.kind.new.self }) c.stop.new.self c.stop.result (fault NotFound (string_bytes c.args.place.path) c.args.place.depth) c.stop.ensures.gives c.stop.ensures.ended (counted_same _) (omega arith) (λ i. absurd i) (omega arith))
+    answers_settled g.D.Directory.law
+    (record {
+      counts = kind_counts (Ok None);
+      taken = 0;
+      names =
+          names_left w + length c.args.place.names.items;
+    }) w c.kind.new.self c.stop.result c.stop.new.self
+    o.counted refl
+    (stopped_settles _ (record w { directory = c.kind.new.self }) c.stop.new.self c.stop.result
+    (fault NotFound (string_bytes c.args.place.path) c.args.place.depth) c.stop.ensures.gives
+    c.stop.ensures.ended (counted_same _) (omega arith) (λ i. absurd i) (omega arith))
 
 pub returns-in-Ok-None-clause-continues : goal.returns-in-Ok-None-clause-continues
 returns-in-Ok-None-clause-continues g c s h p d none rest items r e =
@@ -35,17 +48,29 @@ returns-in-Ok-None-clause-continues g c s h p d none rest items r e =
     let w = c.args.self.now in
     let v = record w { directory = c.kind.new.self } in
     let o = rw (c.as_str.ensures.value, c.in-Ok-None.field-0-is) at c.in-Ok-None.ensures in
-    let is = begins_missing (scope_of w) (place_spot c.args.place) s (from_last c.args.place.names.items) rest.forest (o.kind s h) in
-    let moved = rest_moved law w c.kind.new.self rest.listed rest r o.shown (o.held (cursors_of w.levels.items) rest.has r.held) (o.told rest.listed r.told) in
+    let is = begins_missing (scope_of w) (place_spot c.args.place) s (from_last c.args.place.names.items)
+    rest.forest (o.kind s h) in
+    let moved = rest_moved law w c.kind.new.self rest.listed rest r o.shown
+    (o.held (cursors_of w.levels.items) rest.has r.held) (o.told rest.listed r.told) in
     step_from law w v c.stop.new.self _ _ c.stop.result refl refl refl
-    (stops_with law v c.stop.new.self _ rest items (fault NotFound (string_bytes c.args.place.path) c.args.place.depth) c.stop.result c.stop.ensures.gives tt c.stop.ensures.ended is moved none (omega (arith, e)))
+    (stops_with law v c.stop.new.self _ rest items
+    (fault NotFound (string_bytes c.args.place.path) c.args.place.depth) c.stop.result
+    c.stop.ensures.gives tt c.stop.ensures.ended is moved none (omega (arith, e)))
 
 pub returns-in-Err-Failed-clause-answers : goal.returns-in-Err-Failed-clause-answers
 returns-in-Err-Failed-clause-answers g c =
     let w = c.args.self.now in
     let o = rw c.in-Err-Failed.field-0-is at c.in-Err-Failed.ensures in
-    answers_settled g.D.Directory.law (record { counts = kind_counts (Err F.Failed); taken = 0; names = names_left w + length c.args.place.names.items }) w c.kind.new.self _ _ o.counted refl
-    (gives_settles _ (record w { directory = c.kind.new.self }) (Err (Fault Listing c.args.place.path c.args.place.depth)) (counted_same _) (omega arith) (λ i. i) (λ i. i) (omega arith))
+    answers_settled g.D.Directory.law
+    (record {
+      counts = kind_counts (Err F.Failed);
+      taken = 0;
+      names =
+          names_left w + length c.args.place.names.items;
+    }) w c.kind.new.self _ _ o.counted refl
+    (gives_settles _ (record w { directory = c.kind.new.self })
+    (Err (Fault Listing c.args.place.path c.args.place.depth)) (counted_same _) (omega arith) (λ i. i)
+    (λ i. i) (omega arith))
 
 pub returns-in-Err-Failed-clause-continues : goal.returns-in-Err-Failed-clause-continues
 returns-in-Err-Failed-clause-continues g c s h p d none rest items r e =
@@ -53,13 +78,25 @@ returns-in-Err-Failed-clause-continues g c s h p d none rest items r e =
     let w = c.args.self.now in
     let v = record w { directory = c.kind.new.self } in
     let o = rw (c.as_str.ensures.value, c.in-Err-Failed.field-0-is) at c.in-Err-Failed.ensures in
-    let is = begins_failing (scope_of w) (place_spot c.args.place) s (from_last c.args.place.names.items) rest.forest (o.kind s h) in
-    let moved = rest_moved law w c.kind.new.self rest.listed rest r o.shown (o.held (cursors_of w.levels.items) rest.has r.held) (o.told rest.listed r.told) in
-    gives_fault law w v _ rest.forest rest.listed items (fault Listing (string_bytes c.args.place.path) c.args.place.depth) (Err (Fault Listing c.args.place.path c.args.place.depth)) is refl (λ n. refl) (comes_rest law v items rest moved (omega (arith, e)))
+    let is = begins_failing (scope_of w) (place_spot c.args.place) s (from_last c.args.place.names.items)
+    rest.forest (o.kind s h) in
+    let moved = rest_moved law w c.kind.new.self rest.listed rest r o.shown
+    (o.held (cursors_of w.levels.items) rest.has r.held) (o.told rest.listed r.told) in
+    gives_fault law w v _ rest.forest rest.listed items
+    (fault Listing (string_bytes c.args.place.path) c.args.place.depth)
+    (Err (Fault Listing c.args.place.path c.args.place.depth)) is refl (λ n. refl)
+    (comes_rest law v items rest moved (omega (arith, e)))
 
 pub returns-in-Err-Memory-clause-answers : goal.returns-in-Err-Memory-clause-answers
 returns-in-Err-Memory-clause-answers g c =
     let w = c.args.self.now in
     let o = rw c.in-Err-Memory.field-0-is at c.in-Err-Memory.ensures in
-    rw (c.fail.ensures.memory, c.fail.ensures.ended) (answers_settled g.D.Directory.law (record { counts = kind_counts (Err F.Memory); taken = 0; names = names_left w + length c.args.place.names.items }) w c.kind.new.self _ _ o.counted refl
+    rw (c.fail.ensures.memory, c.fail.ensures.ended)
+    (answers_settled g.D.Directory.law
+    (record {
+      counts = kind_counts (Err F.Memory);
+      taken = 0;
+      names =
+          names_left w + length c.args.place.names.items;
+    }) w c.kind.new.self _ _ o.counted refl
     (failed_settles _ (record w { directory = c.kind.new.self }) (omega arith) (omega arith)))

@@ -17,10 +17,12 @@ returns-after-push-clause-continues g c s h i rest items r e =
     let o = rw c.as_str.ensures.value at c.in-Ok.ensures in
     elim c.match-push.branch [
       | in-Ok-push v ↦ rw (v.self-is, v.result-is)
-          (enters law w (record w { levels = c.push.new.self }) c.open.new.self (record { folder = c.args.folder; cursor = c.in-Ok.cursor }) s rest items i
+          (enters law w (record w { levels = c.push.new.self }) c.open.new.self
+          (record { folder = c.args.folder; cursor = c.in-Ok.cursor }) s rest items i
           (o.opens (cursors_of w.levels.items) rest.has s r.held h) (o.shown path s h)
           (λ l k. g.met.D.Directory.inner c.open.new.self path l k)
-          (λ l k. rest_moved law w c.open.new.self (rest.listed ++ path ∷ []) rest r o.shown (o.held (cursors_of w.levels.items) rest.has r.held) (o.told rest.listed r.told))
+          (λ l k. rest_moved law w c.open.new.self (rest.listed ++ path ∷ []) rest r o.shown
+          (o.held (cursors_of w.levels.items) rest.has r.held) (o.told rest.listed r.told))
           v.in-Ok-push.ensures.items e)
       | in-Err v ↦ rw (v.result-is, v.fail.ensures.memory) (lacks_memory refl)
     ]
@@ -31,7 +33,11 @@ returns-in-Err-Failed-clause-continues g c s h i rest items r e =
     let w = c.args.self.now in
     let path = string_bytes c.args.folder.path in
     let o = rw (c.as_str.ensures.value, c.in-Err-Failed.field-0-is) at c.in-Err-Failed.ensures in
-    let told : law.tells c.open.new.self (rest.listed ++ path ∷ []) = rw (sym c.as_str.ensures.value) (o.told rest.listed r.told) in
-    enters_sealed law w c.open.new.self (folder_spot c.args.folder) s rest items (Err (Fault Listing c.args.folder.path c.saturating_sub-depth.result)) i (o.opens (cursors_of w.levels.items) rest.has s r.held h)
+    let told : law.tells c.open.new.self (rest.listed ++ path ∷ []) = rw (sym c.as_str.ensures.value)
+    (o.told rest.listed r.told) in
+    enters_sealed law w c.open.new.self (folder_spot c.args.folder) s rest items
+    (Err (Fault Listing c.args.folder.path c.saturating_sub-depth.result)) i
+    (o.opens (cursors_of w.levels.items) rest.has s r.held h)
     (ap (fault Listing path) c.saturating_sub-depth.ensures)
-    (rest_moved law w c.open.new.self (rest.listed ++ path ∷ []) rest r o.shown (o.held (cursors_of w.levels.items) rest.has r.held) told) e
+    (rest_moved law w c.open.new.self (rest.listed ++ path ∷ []) rest r o.shown
+    (o.held (cursors_of w.levels.items) rest.has r.held) told) e

@@ -10,4 +10,5 @@ returns-in_ok-candidate-clause-entered g c s alone h k =
     enters_later (g.D.Directory.law.shows c.args.self.now.directory) (scope_of c.args.self.now)
     (record { path = c.in_ok-path.path; candidate = c.in_ok-candidate.candidate; depth = c.args.depth + 1 })
     (record { path = c.args.path.now; candidate = c.args.candidate.now; depth = c.args.depth })
-    s h (subst (λ v. HasKind s v) is k) c.if-depth-self.true c.in_ok-path.ensures.ok c.in_ok-candidate.ensures.ok refl
+    s h (subst (λ v. HasKind s v) is k) c.if-depth-self.true c.in_ok-path.ensures.ok
+    c.in_ok-candidate.ensures.ok refl

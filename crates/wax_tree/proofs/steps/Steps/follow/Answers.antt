@@ -1,4 +1,5 @@
-use Rattle.std.proofs.Common.{rules, true, false, ◌≡◌, ◌≤◌, ◌<◌, ◌+◌, ◌∷◌, [], length, arith, ap, sym, refl, subst, ◌∙◌, string_bytes, length-append}
+use Rattle.std.proofs.Common.{rules, true, false, ◌≡◌, ◌≤◌, ◌<◌, ◌+◌, ◌∷◌, [], length, arith, ap, sym, refl}
+use Rattle.std.proofs.Common.{subst, ◌∙◌, string_bytes, length-append}
 use Rattle.wax_directory.specs.declared.directory.FileType.TheVariants.{Folder}
 use Rattle.wax_directory.specs.Shown.{join}
 use Rattle.wax_walk.specs.declared.error.FaultKind.TheVariants.{NotAFolder}
@@ -15,31 +16,58 @@ use Rattle.wax_tree.proofs.steps.Steps.follow.Goals as goal
 pub returns-in_default-clause-continues : goal.returns-in_default-clause-continues
 returns-in_default-clause-continues g c s h k p d empty rest items r e =
     let w = c.args.self.now in
-    let none : c.args.place.names.items ≡ [] = none_left c.args.place.names.items (λ i. let bad : false ≡ true = c.in_default.ensures.variant.1 (omega (arith, i, c.args.place.names.ok.0)) in (cc)) in
-    let is = ap (λ v. walk_from (scope_of w) (place_spot c.args.place) s (from_last v) rest.forest) none ∙ plain_is (scope_of w) (place_spot c.args.place) s c.args.kind rest.forest k in
-    subst (λ v. StepIs g.D.Directory.law w (pending nothing v rest.listed items) c.give.result c.give.new.self) (sym is) (c.give.ensures.continues s h k rest items r e)
+    let none : c.args.place.names.items ≡ [] = none_left c.args.place.names.items
+    (λ i. let bad : false ≡ true = c.in_default.ensures.variant.1
+    (omega (arith, i, c.args.place.names.ok.0)) in (cc)) in
+    let is = ap (λ v. walk_from (scope_of w) (place_spot c.args.place) s (from_last v) rest.forest) none ∙
+    plain_is (scope_of w) (place_spot c.args.place) s c.args.kind rest.forest k in
+    subst (λ v. StepIs g.D.Directory.law w (pending nothing v rest.listed items) c.give.result
+    c.give.new.self) (sym is) (c.give.ensures.continues s h k rest items r e)
 
 pub returns-then-ne-clause-settles : goal.returns-then-ne-clause-settles
 returns-then-ne-clause-settles g c =
     let no_folder : c.args.kind ≡ Folder → ⊥ = search rules in
-    let long : length c.args.place.names.items ≡ length c.pop.new.self.items + 1 = ap length c.in-Some.ensures.items ∙ length-append c.pop.new.self.items (c.in-Some.name ∷ []) in
-    stopped_settles _ c.args.self.now c.stop.new.self c.stop.result (fault NotAFolder (string_bytes c.args.place.path) c.args.place.depth) c.stop.ensures.gives c.stop.ensures.ended (leaf_counted c.args.kind no_folder) (omega arith) (λ i. omega (arith, long)) (omega arith)
+    let long : length c.args.place.names.items ≡ length c.pop.new.self.items + 1 =
+    ap length c.in-Some.ensures.items ∙ length-append c.pop.new.self.items (c.in-Some.name ∷ []) in
+    stopped_settles _ c.args.self.now c.stop.new.self c.stop.result
+    (fault NotAFolder (string_bytes c.args.place.path) c.args.place.depth) c.stop.ensures.gives
+    c.stop.ensures.ended (leaf_counted c.args.kind no_folder) (omega arith) (λ i. omega (arith, long))
+    (omega arith)
 
 pub returns-then-ne-clause-continues : goal.returns-then-ne-clause-continues
 returns-then-ne-clause-continues g c s h k p d empty rest items r e =
     let w = c.args.self.now in
     let no_folder : c.args.kind ≡ Folder → ⊥ = search rules in
-    let names : from_last c.args.place.names.items ≡ string_bytes c.in-Some.name ∷ from_last c.pop.new.self.items = ap from_last c.in-Some.ensures.items ∙ from_last_end c.pop.new.self.items c.in-Some.name in
-    let is = ap (λ v. walk_from (scope_of w) (place_spot c.args.place) s v rest.forest) names ∙ follows_leaf (scope_of w) (place_spot c.args.place) s c.args.kind (string_bytes c.in-Some.name) (from_last c.pop.new.self.items) rest.forest k no_folder in
-    stops_with g.D.Directory.law w c.stop.new.self _ rest items (fault NotAFolder (string_bytes c.args.place.path) c.args.place.depth) c.stop.result c.stop.ensures.gives tt c.stop.ensures.ended is r empty (omega (arith, e))
+    let names : from_last c.args.place.names.items ≡ string_bytes c.in-Some.name ∷ from_last
+    c.pop.new.self.items = ap from_last c.in-Some.ensures.items ∙ from_last_end c.pop.new.self.items
+    c.in-Some.name in
+    let is = ap (λ v. walk_from (scope_of w) (place_spot c.args.place) s v rest.forest) names ∙ follows_leaf
+    (scope_of w) (place_spot c.args.place) s c.args.kind (string_bytes c.in-Some.name)
+    (from_last c.pop.new.self.items) rest.forest k no_folder in
+    stops_with g.D.Directory.law w c.stop.new.self _ rest items
+    (fault NotAFolder (string_bytes c.args.place.path) c.args.place.depth) c.stop.result
+    c.stop.ensures.gives tt c.stop.ensures.ended is r empty (omega (arith, e))
 
 pub returns-clause-continues : goal.returns-clause-continues
 returns-clause-continues g c s h k p d empty rest items r e =
     let w = c.args.self.now in
     let folder : c.args.kind ≡ Folder = search rules in
-    let path : string_bytes c.in-Ok.path ≡ join (string_bytes c.args.place.path) (string_bytes c.in-Some.name) = rw (c.as_str.ensures.value, c.as_str-2.ensures.value) at c.in-Ok.ensures in
-    let candidate : string_bytes c.in-Ok-join.candidate ≡ join (string_bytes c.args.place.candidate) (string_bytes c.in-Some.name) = rw (c.as_str-3.ensures.value, c.as_str-4.ensures.value) at c.in-Ok-join.ensures in
-    let long : length c.args.place.names.items ≡ length c.pop.new.self.items + 1 = ap length c.in-Some.ensures.items ∙ length-append c.pop.new.self.items (c.in-Some.name ∷ []) in
-    let depth : c.saturating_add.result ≡ c.args.place.depth + 1 = omega (arith, d, long, c.saturating_add.ensures) in
-    follows g.D.Directory.law w c.args.place (record { path = c.in-Ok.path; candidate = c.in-Ok-join.candidate; depth = c.saturating_add.result; names = c.pop.new.self }) c.in-Some.name s rest items r h
-    (subst (λ v. HasKind s v) folder k) p d empty e (λ at y t. g.met.D.Directory.child w.directory at y t) c.in-Some.ensures.items path candidate depth
+    let path : string_bytes c.in-Ok.path ≡ join (string_bytes c.args.place.path)
+    (string_bytes c.in-Some.name) = rw (c.as_str.ensures.value, c.as_str-2.ensures.value) at
+    c.in-Ok.ensures in
+    let candidate : string_bytes c.in-Ok-join.candidate ≡ join (string_bytes c.args.place.candidate)
+    (string_bytes c.in-Some.name) = rw (c.as_str-3.ensures.value, c.as_str-4.ensures.value) at
+    c.in-Ok-join.ensures in
+    let long : length c.args.place.names.items ≡ length c.pop.new.self.items + 1 =
+    ap length c.in-Some.ensures.items ∙ length-append c.pop.new.self.items (c.in-Some.name ∷ []) in
+    let depth : c.saturating_add.result ≡ c.args.place.depth + 1 =
+    omega (arith, d, long, c.saturating_add.ensures) in
+    follows g.D.Directory.law w c.args.place
+    (record {
+      path = c.in-Ok.path;
+      candidate = c.in-Ok-join.candidate;
+      depth = c.saturating_add.result;
+      names = c.pop.new.self;
+    }) c.in-Some.name s rest items r h
+    (subst (λ v. HasKind s v) folder k) p d empty e (λ at y t. g.met.D.Directory.child w.directory at y t)
+    c.in-Some.ensures.items path candidate depth

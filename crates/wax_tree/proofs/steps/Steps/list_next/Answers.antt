@@ -13,9 +13,12 @@ returns-in-Ok-None-clause-lists g c l rest items b e =
     let w = c.args.self.now in
     let o = rw c.in-Ok-None.field-0-is at c.in-Ok-None.ensures in
     let k = o.nexts (cursors_of w.levels.items) rest.has l b.held in
-    let held = g.met.D.Directory.dropped c.next.new.self (cursors_of w.levels.items) rest.has c.next.new.cursor (rest_of l) k.1 in
-    goes_up law w (record w { directory = c.next.new.self }) (folder_spot c.args.level.folder) l rest rest items k.0 refl refl
-    (rest_moved law w c.next.new.self rest.listed rest b.rests o.shown held (o.told rest.listed b.rests.told)) refl (omega (arith, e))
+    let held = g.met.D.Directory.dropped c.next.new.self (cursors_of w.levels.items) rest.has
+    c.next.new.cursor (rest_of l) k.1 in
+    goes_up law w (record w { directory = c.next.new.self }) (folder_spot c.args.level.folder) l rest rest
+    items k.0 refl refl
+    (rest_moved law w c.next.new.self rest.listed rest b.rests o.shown held (o.told rest.listed b.rests.told))
+    refl (omega (arith, e))
 
 pub returns-in-Ok-Some-clause-lists : goal.returns-in-Ok-Some-clause-lists
 returns-in-Ok-Some-clause-lists g c l rest items b e =
@@ -24,12 +27,15 @@ returns-in-Ok-Some-clause-lists g c l rest items b e =
     let path = string_bytes c.args.level.folder.path in
     let o = rw c.in-Ok-Some.field-0-is at c.in-Ok-Some.ensures in
     let k = o.nexts (cursors_of w.levels.items) rest.has l b.held in
-    let held = g.met.D.Directory.dropped c.next.new.self (cursors_of w.levels.items) rest.has c.next.new.cursor (rest_of l) k.1 in
+    let held = g.met.D.Directory.dropped c.next.new.self (cursors_of w.levels.items) rest.has
+    c.next.new.cursor (rest_of l) k.1 in
     let shown = shows_in_moved (law.shows w.directory) (law.shows c.next.new.self) o.shown path l b.shown in
-    step_from law w (record w { directory = c.next.new.self }) c.take_from.new.self _ _ c.take_from.result refl refl refl
+    step_from law w (record w { directory = c.next.new.self }) c.take_from.new.self _ _ c.take_from.result
+    refl refl refl
     (c.take_from.ensures.lists l rest items k.0
     (record {
-      rests = rest_moved law w c.next.new.self rest.listed rest b.rests o.shown held (o.told rest.listed b.rests.told);
+      rests = rest_moved law w c.next.new.self rest.listed rest b.rests o.shown held
+          (o.told rest.listed b.rests.told);
       held = k.1;
       shown = shows_rest (law.shows c.next.new.self) path l shown;
     }) shown e)

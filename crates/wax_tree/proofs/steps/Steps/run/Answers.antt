@@ -11,10 +11,12 @@ returns-in-Gives g c =
     let st = c.in-Gives.ensures.is_step in
     record {
       feeds = record {
-        gives = λ p h. let q = i.leads p h in run_gives law c.args.self.now c.loop-item.self c.step.new.self p q.0 _ q.2 q.3 (c.in-Gives.ensures.step q.0 q.1);
+        gives = λ p h. let q = i.leads p h in run_gives law c.args.self.now c.loop-item.self c.step.new.self p
+            q.0 _ q.2 q.3 (c.in-Gives.ensures.step q.0 q.1);
         accounts = accounts_then law _ _ _ _ i.accounts st.accounts;
         at_end = λ e. (cc);
-        stays = λ e. let s : Gives c.in-Gives.item ≡ Ends = (st.stays (i.stays e)).0 in (cc, (st.stays (i.stays e)).1);
+        stays = λ e. let s : Gives c.in-Gives.item ≡ Ends =
+            (st.stays (i.stays e)).0 in (cc, (st.stays (i.stays e)).1);
         names = omega (arith, st.names, i.names);
         misplaced = λ m. omega (arith, st.misplaced m, i.names);
       };
@@ -28,7 +30,8 @@ returns-in-Ends g c =
     let st = c.in-Ends.ensures.is_step in
     record {
       feeds = record {
-        gives = λ p h. let q = i.leads p h in run_gives law c.args.self.now c.loop-item.self c.step.new.self p q.0 _ q.2 q.3 (c.in-Ends.ensures.step q.0 q.1);
+        gives = λ p h. let q = i.leads p h in run_gives law c.args.self.now c.loop-item.self c.step.new.self p
+            q.0 _ q.2 q.3 (c.in-Ends.ensures.step q.0 q.1);
         accounts = accounts_then law _ _ _ _ i.accounts st.accounts;
         at_end = λ e. st.at_end refl;
         stays = λ e. (refl, st.at_end refl);

@@ -16,7 +16,9 @@ invariant-loop-item g l =
       stays : HasStopped l.fn.self → HasStopped l.self;
       names : names_left l.self ≤ names_left l.fn.self;
       accounts : Accounts law (steps_view law l.fn.self) None (steps_view law l.self);
-      leads : (p : Pending Given) → PlainToCome law l.fn.self p → (q : Pending Given) × PlainToCome law l.self q × ListsBetween p q × (q.items + allowance l.fn.self ≤ p.items + allowance l.self);
+      leads : (p : Pending Given) → PlainToCome law l.fn.self p
+          → (q : Pending Given) × PlainToCome law l.self q × ListsBetween p q ×
+          (q.items + allowance l.fn.self ≤ p.items + allowance l.self);
     }
 
 abbrev pub decreases-loop-item : goal.decreases-loop-item

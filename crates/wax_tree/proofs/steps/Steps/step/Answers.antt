@@ -10,28 +10,39 @@ returns-then-self-clause-step g c p h = steps_ended g.D.Directory.law c.args.sel
 pub returns-in-Some-clause-step : goal.returns-in-Some-clause-step
 returns-in-Some-clause-step g c p h =
     let law = g.D.Directory.law in
-    let t = steps_begin law c.args.self.now c.in-Some.place c.take.new.self _ p h (sym c.take.ensures.value ∙ c.in-Some.is) c.take.ensures.after refl c.if-self.false in
-    step_from law c.args.self.now _ c.begin.new.self p _ c.begin.result t.9 (ap (λ v. v.listed) t.8) refl (c.begin.ensures.continues t.0 t.3 t.4 t.5 t.6 t.1 p.items t.2 t.7)
+    let t = steps_begin law c.args.self.now c.in-Some.place c.take.new.self _ p h
+    (sym c.take.ensures.value ∙ c.in-Some.is) c.take.ensures.after refl c.if-self.false in
+    step_from law c.args.self.now _ c.begin.new.self p _ c.begin.result t.9 (ap (λ v. v.listed) t.8) refl
+    (c.begin.ensures.continues t.0 t.3 t.4 t.5 t.6 t.1 p.items t.2 t.7)
 
 pub returns-in-Some-take-clause-step : goal.returns-in-Some-take-clause-step
 returns-in-Some-take-clause-step g c p h =
     let law = g.D.Directory.law in
     let t = steps_enter law c.args.self.now c.in-Some-take.folder c.take.new.self c.take-2.new.self p h
-    (sym c.take.ensures.value ∙ c.in_default.is) (sym c.take-2.ensures.value ∙ c.in-Some-take.is) c.take.ensures.after c.take-2.ensures.after c.if-self.false in
-    step_from law c.args.self.now _ c.enter.new.self p _ c.enter.result t.7 (ap (λ v. v.listed) t.6) refl (c.enter.ensures.continues t.0 t.3 t.4 t.1 p.items t.2 t.5)
+    (sym c.take.ensures.value ∙ c.in_default.is) (sym c.take-2.ensures.value ∙ c.in-Some-take.is)
+    c.take.ensures.after c.take-2.ensures.after c.if-self.false in
+    step_from law c.args.self.now _ c.enter.new.self p _ c.enter.result t.7 (ap (λ v. v.listed) t.6) refl
+    (c.enter.ensures.continues t.0 t.3 t.4 t.1 p.items t.2 t.5)
 
 pub returns-in-Some-pop-clause-step : goal.returns-in-Some-pop-clause-step
 returns-in-Some-pop-clause-step g c p h =
     let law = g.D.Directory.law in
-    let t = steps_list law c.args.self.now (record c.args.self.now { levels = c.pop.new.self }) c.in-Some-pop.level c.take.new.self c.take-2.new.self p h
-    (sym c.take.ensures.value ∙ c.in_default.is) (sym c.take-2.ensures.value ∙ c.in_default-take.is) c.take.ensures.after c.take-2.ensures.after c.if-self.false c.in-Some-pop.ensures.items
+    let t = steps_list law c.args.self.now (record c.args.self.now { levels = c.pop.new.self })
+    c.in-Some-pop.level c.take.new.self c.take-2.new.self p h
+    (sym c.take.ensures.value ∙ c.in_default.is) (sym c.take-2.ensures.value ∙ c.in_default-take.is)
+    c.take.ensures.after c.take-2.ensures.after c.if-self.false c.in-Some-pop.ensures.items
     (λ cs ls k l. g.met.D.Directory.dropped c.args.self.now.directory cs ls k l) in
-    step_from law c.args.self.now _ c.list_next.new.self p _ c.list_next.result t.5 (ap (λ v. v.listed) t.4) refl (c.list_next.ensures.lists t.0 t.1 p.items t.2 t.3)
+    step_from law c.args.self.now _ c.list_next.new.self p _ c.list_next.result t.5 (ap (λ v. v.listed) t.4)
+    refl (c.list_next.ensures.lists t.0 t.1 p.items t.2 t.3)
 
 pub returns-in-None-clause-step : goal.returns-in-None-clause-step
 returns-in-None-clause-step g c p h =
     let levels = c.args.self.now.levels in
-    let none : levels.items ≡ [] = none_left levels.items (λ i. let bad : false ≡ true = c.in-None.ensures.variant.1 (omega (arith, i, levels.ok.0)) in (cc)) in
+    let none : levels.items ≡ [] =
+    none_left levels.items
+    (λ i. let bad : false ≡ true = c.in-None.ensures.variant.1 (omega (arith, i, levels.ok.0)) in (cc)) in
     let gone : c.pop.new.self.items ≡ [] = search rules in
-    steps_none g.D.Directory.law c.args.self.now (record c.args.self.now { levels = c.pop.new.self }) c.take.new.self c.take-2.new.self p h
-    (sym c.take.ensures.value ∙ c.in_default.is) (sym c.take-2.ensures.value ∙ c.in_default-take.is) none gone c.take.ensures.after c.take-2.ensures.after
+    steps_none g.D.Directory.law c.args.self.now (record c.args.self.now { levels = c.pop.new.self })
+    c.take.new.self c.take-2.new.self p h
+    (sym c.take.ensures.value ∙ c.in_default.is) (sym c.take-2.ensures.value ∙ c.in_default-take.is) none gone
+    c.take.ensures.after c.take-2.ensures.after

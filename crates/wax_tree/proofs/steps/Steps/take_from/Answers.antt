@@ -1,4 +1,5 @@
-use Rattle.std.proofs.Common.{arith, ap, sym, refl, subst, string_bytes, ◌≡◌, ◌≤◌, ◌+◌, ◌∙◌, cond, length-append, length, ◌-◌}
+use Rattle.std.proofs.Common.{arith, ap, sym, refl, subst, string_bytes, ◌≡◌, ◌≤◌, ◌+◌, ◌∙◌, cond}
+use Rattle.std.proofs.Common.{length-append, length, ◌-◌}
 use Rattle.wax_directory.specs.Answers.{listed_of}
 use Rattle.wax_directory.specs.Shown.{rest_of}
 use Rattle.wax_walk.specs.Forest.{pending, nothing, followed_by}
@@ -18,7 +19,8 @@ returns-then-self-eq0-clause-lists g c l rest items h b i e =
     let none : w.budget ≡ 0 = c.if-self-eq0.true in
     let allowed : allowance w ≡ w.budget + 1 = ap (λ v. cond v 0 (w.budget + 1)) b.rests.running in
     let one = count_rest (listed_of c.args.item) l h in
-    stops_over g.D.Directory.law w c.stop.new.self _ (string_bytes c.args.folder.path) _ c.stop.result c.stop.ensures.gives (omega (arith, none, allowed, one, e))
+    stops_over g.D.Directory.law w c.stop.new.self _ (string_bytes c.args.folder.path) _ c.stop.result
+    c.stop.ensures.gives (omega (arith, none, allowed, one, e))
 
 pub returns-clause-lists : goal.returns-clause-lists
 returns-clause-lists g c l rest items h b i e =
@@ -33,14 +35,19 @@ returns-clause-lists g c l rest items h b i e =
     let running = b.rests.running in
     let allowed : allowance w ≡ w.budget + 1 = ap (λ v. cond v 0 (w.budget + 1)) running in
     let allowed_then : allowance mid ≡ w.budget - 1 + 1 = ap (λ v. cond v 0 (w.budget - 1 + 1)) running in
-    let at_rest = rest_spent law pushed (w.budget - 1) _ (rest_pushed law w pushed (record { folder = c.args.folder; cursor = c.args.cursor }) (rest_of l) rest b.rests b.held b.shown c.in-Ok-push.ensures.items) in
+    let at_rest = rest_spent law pushed (w.budget - 1) _
+    (rest_pushed law w pushed (record { folder = c.args.folder; cursor = c.args.cursor }) (rest_of l) rest
+    b.rests b.held b.shown c.in-Ok-push.ensures.items) in
     let few : own_count l + (rest.count + count (rest_of l)) ≤ items - 1 = omega (arith, one, e) in
     let st = rw (p, q) at (c.take_item.ensures.continues l h (rw p i) _ (items - 1) at_rest few) in
-    step_from law w mid c.take_item.new.self _ _ c.take_item.result (headed_is (scope_of w) (folder_spot c.args.folder) (listed_of c.args.item) l rest.forest h) refl (omega (arith, none, allowed, allowed_then, one, e)) st
+    step_from law w mid c.take_item.new.self _ _ c.take_item.result
+    (headed_is (scope_of w) (folder_spot c.args.folder) (listed_of c.args.item) l rest.forest h) refl
+    (omega (arith, none, allowed, allowed_then, one, e)) st
 
 pub returns-clause-saves : goal.returns-clause-saves
 returns-clause-saves g c e n =
     let none : c.args.self.now.budget ≡ 0 → ⊥ = c.if-self-eq0.false in
     let mid = record c.args.self.now { levels = c.push.new.self; budget = c.args.self.now.budget - 1 } in
     let long = ap length c.in-Ok-push.ensures.items ∙ length-append c.args.self.now.levels.items _ in
-    saves_after c.args.self.now mid c.take_item.new.self c.take_item.result (omega arith) (omega (arith, long)) (c.take_item.ensures.adds e)
+    saves_after c.args.self.now mid c.take_item.new.self c.take_item.result (omega arith)
+    (omega (arith, long)) (c.take_item.ensures.adds e)

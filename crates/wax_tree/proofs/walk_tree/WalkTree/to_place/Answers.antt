@@ -8,13 +8,29 @@ use Rattle.wax_tree.proofs.walk_tree.WalkTree.to_place.Goals as goal
 pub returns-then-range-len-clause-begins : goal.returns-then-range-len-clause-begins
 returns-then-range-len-clause-begins g c =
     let law = g.D.Directory.law in
-    let long : length (from_last c.args.names.items) ≡ length c.args.names.items = from_last_length c.args.names.items in
-    let less : c.args.range.max < length c.args.names.items = omega (arith, c.if-range-len.true, c.len.ensures, c.args.names.ok.0) in
+    let long : length (from_last c.args.names.items) ≡ length c.args.names.items =
+    from_last_length c.args.names.items in
+    let less : c.args.range.max < length c.args.names.items =
+    omega (arith, c.if-range-len.true, c.len.ensures, c.args.names.ok.0) in
     rw c.new-then-range-len.ensures.fields (record {
       shown = λ s listed h told p d. absurd (omega (arith, d, less, long));
       beyond = λ s listed h told d. goes refl (made_nothing law
-          (record { alloc = c.args.alloc; directory = c.args.directory; min = c.args.range.min; max = c.args.range.max; root = c.new.result; first = None; entered = None; levels = c.new-then-range-len.result.levels; budget = c.args.range.budget; has_ended = false })
-          listed refl refl c.new-then-range-len.ensures.levels told (g.met.D.Directory.none_open c.args.directory c.args.start.now s h));
+          (record {
+            alloc = c.args.alloc;
+            directory = c.args.directory;
+            min = c.args.range.min;
+            max =
+                c.args.range.max;
+            root = c.new.result;
+            first = None;
+            entered = None;
+            levels =
+                c.new-then-range-len.result.levels;
+            budget = c.args.range.budget;
+            has_ended = false;
+          })
+          listed refl refl c.new-then-range-len.ensures.levels told
+          (g.met.D.Directory.none_open c.args.directory c.args.start.now s h));
       above = λ d. (refl, inr (refl, refl, c.new-then-range-len.ensures.levels));
       listings = refl;
       names = omega arith;
@@ -23,8 +39,10 @@ returns-then-range-len-clause-begins g c =
 
 pub returns-in_default-clause-begins : goal.returns-in_default-clause-begins
 returns-in_default-clause-begins g c =
-    let long : length (from_last c.args.names.items) ≡ length c.args.names.items = from_last_length c.args.names.items in
-    let less : length c.args.names.items ≤ c.args.range.max = omega (arith, c.if-range-len.false, c.len.ensures, c.args.names.ok.0) in
+    let long : length (from_last c.args.names.items) ≡ length c.args.names.items =
+    from_last_length c.args.names.items in
+    let less : length c.args.names.items ≤ c.args.range.max =
+    omega (arith, c.if-range-len.false, c.len.ensures, c.args.names.ok.0) in
     rw c.new-in_default-2.ensures.fields (record {
       shown = λ s listed h told p d. lacks refl told;
       beyond = λ s listed h told d. lacks refl told;
@@ -37,17 +55,37 @@ returns-in_default-clause-begins g c =
 pub returns-in-Ok-place_at-clause-begins : goal.returns-in-Ok-place_at-clause-begins
 returns-in-Ok-place_at-clause-begins g c =
     let law = g.D.Directory.law in
-    let long : length (from_last c.args.names.items) ≡ length c.args.names.items = from_last_length c.args.names.items in
-    let less : length c.args.names.items ≤ c.args.range.max = omega (arith, c.if-range-len.false, c.len.ensures, c.args.names.ok.0) in
-    let fits : 0 + length c.args.names.items ≤ 2 ^ 64 - 1 = omega (arith, c.args.names.small, c.args.names.ok.0) in
+    let long : length (from_last c.args.names.items) ≡ length c.args.names.items =
+    from_last_length c.args.names.items in
+    let less : length c.args.names.items ≤ c.args.range.max =
+    omega (arith, c.if-range-len.false, c.len.ensures, c.args.names.ok.0) in
+    let fits : 0 + length c.args.names.items ≤ 2 ^ 64 - 1 =
+    omega (arith, c.args.names.small, c.args.names.ok.0) in
     let texts = c.in-Ok-place_at.ensures.texts in
     let rest = c.in-Ok-place_at.ensures.rest in
     let names : c.in-Ok-place_at.place.names.items ≡ c.args.names.items = ap (λ v. v.items) rest.1 in
     let root : string_bytes c.in-Ok.root ≡ c.args.root.now = c.in-Ok.ensures.ok in
     rw c.new-in-Ok-place_at.ensures.fields (record {
       shown = λ s listed h told p d. goes refl (made_at law
-          (record { alloc = c.args.alloc; directory = c.args.directory; min = c.args.range.min; max = c.args.range.max; root = c.in-Ok.root; first = Some c.in-Ok-place_at.place; entered = None; levels = c.new-in-Ok-place_at.result.levels; budget = c.args.range.budget; has_ended = false })
-          c.args.root.now c.in-Ok-place_at.place (record { path = c.args.start.now; candidate = c.args.candidate.now; depth = 0 }) c.args.names.items s listed refl refl c.new-in-Ok-place_at.ensures.levels refl root texts.0 texts.1 rest.0 names h p fits told
+          (record {
+            alloc = c.args.alloc;
+            directory = c.args.directory;
+            min = c.args.range.min;
+            max =
+                c.args.range.max;
+            root = c.in-Ok.root;
+            first = Some c.in-Ok-place_at.place;
+            entered =
+                None;
+            levels = c.new-in-Ok-place_at.result.levels;
+            budget = c.args.range.budget;
+            has_ended =
+                false;
+          })
+          c.args.root.now c.in-Ok-place_at.place
+          (record { path = c.args.start.now; candidate = c.args.candidate.now; depth = 0 })
+          c.args.names.items s listed refl refl c.new-in-Ok-place_at.ensures.levels refl root texts.0
+          texts.1 rest.0 names h p fits told
           (g.met.D.Directory.none_open c.args.directory c.args.start.now s h));
       beyond = λ s listed h told d. absurd (omega (arith, d, less, long));
       above = λ d. absurd (omega (arith, d, less, long));
@@ -58,8 +96,10 @@ returns-in-Ok-place_at-clause-begins g c =
 
 pub returns-in-Err-clause-begins : goal.returns-in-Err-clause-begins
 returns-in-Err-clause-begins g c =
-    let long : length (from_last c.args.names.items) ≡ length c.args.names.items = from_last_length c.args.names.items in
-    let less : length c.args.names.items ≤ c.args.range.max = omega (arith, c.if-range-len.false, c.len.ensures, c.args.names.ok.0) in
+    let long : length (from_last c.args.names.items) ≡ length c.args.names.items =
+    from_last_length c.args.names.items in
+    let less : length c.args.names.items ≤ c.args.range.max =
+    omega (arith, c.if-range-len.false, c.len.ensures, c.args.names.ok.0) in
     rw c.new-in-Err.ensures.fields (record {
       shown = λ s listed h told p d. lacks refl told;
       beyond = λ s listed h told d. lacks refl told;

@@ -2,4 +2,12 @@ use Rattle.std.proofs.Common.{refl}
 use Rattle.wax_walk.proofs.iterator.FileIterator.filter_entry.Goals as goal
 
 pub returns-clause-view : goal.returns-clause-view
-returns-clause-view g c = rw c.new.ensures (record { to_come = λ p h. h; directory = refl; listings_left = refl; names_left = refl; ends = λ h. h })
+returns-clause-view g c =
+    rw c.new.ensures (record {
+      to_come = λ p h. h;
+      directory = refl;
+      listings_left = refl;
+      names_left =
+          refl;
+      ends = λ h. h;
+    })

@@ -7,8 +7,11 @@ use Rattle.wax_walk.proofs.without.WithoutSeparatingFilter.feed.Goals.{then-cuts
 pub returns-in_err-separation-clause-steps : goal.returns-in_err-separation-clause-steps
 returns-in_err-separation-clause-steps g c =
     let view = g.I.FileIterator.view in
-    let fed = g.met.I.FileIterator.feeding c.args.self.now.input c.feed.new.self None c.in_err-separation.ensures.steps in
-    rw c.from_residual.ensures (ruled_ends g.I.Directory.Directory.law (g.P.Rule.rule c.args.self.now.rule) (view c.args.self.now.input) (view c.feed.new.self) c.args.self.now.has_ended c.if-self.false fed)
+    let fed = g.met.I.FileIterator.feeding c.args.self.now.input c.feed.new.self None
+    c.in_err-separation.ensures.steps in
+    rw c.from_residual.ensures
+    (ruled_ends g.I.Directory.Directory.law (g.P.Rule.rule c.args.self.now.rule)
+    (view c.args.self.now.input) (view c.feed.new.self) c.args.self.now.has_ended c.if-self.false fed)
 
 pub returns-clause-steps : goal.returns-clause-steps
 returns-clause-steps g c =
@@ -17,9 +20,16 @@ returns-clause-steps g c =
     let rule = g.P.Rule.rule c.args.self.now.rule in
     let x = given_of g.I.Entry.Entry.facts g.I.Residue.Entry.facts c.in_ok-separation.separation in
     let y = given_of g.I.Entry.Entry.facts g.I.Residue.Entry.facts c.separated.result in
-    let fed = g.met.I.FileIterator.feeding c.args.self.now.input c.feed.new.self (Some c.in_ok-separation.separation) c.in_ok-separation.ensures.steps in
+    let fed = g.met.I.FileIterator.feeding c.args.self.now.input c.feed.new.self
+    (Some c.in_ok-separation.separation) c.in_ok-separation.ensures.steps in
     elim c.if-cuts.branch [
-      | then-cuts w ↦ rw w.self-is (ruled_cuts law rule (view c.args.self.now.input) (view c.feed.new.self) (view w.cancel_walk_tree.new.self) c.args.self.now.has_ended c.if-self.false x y _ fed c.in-Ok.ensures c.separated.ensures w.if-cuts.ensures
-          (g.met.I.FileIterator.cancelling c.feed.new.self w.cancel_walk_tree.new.self w.cancel_walk_tree.ensures))
-      | else-cuts w ↦ rw w.self-is (ruled_passes law rule (view c.args.self.now.input) (view c.feed.new.self) c.args.self.now.has_ended c.if-self.false x y _ fed c.in-Ok.ensures c.separated.ensures w.if-cuts.ensures)
+      | then-cuts w ↦ rw w.self-is
+          (ruled_cuts law rule (view c.args.self.now.input) (view c.feed.new.self)
+          (view w.cancel_walk_tree.new.self) c.args.self.now.has_ended c.if-self.false x y _ fed
+          c.in-Ok.ensures c.separated.ensures w.if-cuts.ensures
+          (g.met.I.FileIterator.cancelling c.feed.new.self w.cancel_walk_tree.new.self
+          w.cancel_walk_tree.ensures))
+      | else-cuts w ↦ rw w.self-is
+          (ruled_passes law rule (view c.args.self.now.input) (view c.feed.new.self) c.args.self.now.has_ended
+          c.if-self.false x y _ fed c.in-Ok.ensures c.separated.ensures w.if-cuts.ensures)
     ]
