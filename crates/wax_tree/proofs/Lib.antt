@@ -1,3 +1,4 @@
+pub mod Lead
 pub mod Showing
 pub mod Resting
 pub mod Stepping

@@ -29,7 +29,7 @@ use Rattle.wax_tree.specs.declared.steps.Place.{Place}
 use Rattle.wax_tree.specs.declared.steps.Steps.{Steps}
 use Rattle.wax_tree.specs.declared.steps.Step.{Step}
 use Rattle.wax_tree.specs.declared.steps.Step.TheVariants.{Gives, GoesOn, Ends}
-use Rattle.wax_tree.specs.Lead.{after_listing, ListsBetween}
+use Rattle.wax_tree.proofs.Lead.{after_listing, ListsBetween}
 use Rattle.wax_tree.specs.Plain.{Scope, Spot, count, count_shown, below_forest, entry_forest, plain_entry}
 use Rattle.wax_tree.specs.Plain.{items_forest, unlisted}
 use Rattle.wax_tree.specs.Prefix.{ArePlain, from_last, walk_from}

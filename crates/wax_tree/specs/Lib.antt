@@ -6,6 +6,5 @@ pub mod Walking
 pub mod Stepping
 pub mod Lacking
 pub mod WalkLaws
-pub mod Lead
 pub mod Begins
 pub mod Whole

@@ -3,7 +3,7 @@ use Rattle.std.specs.Prelude.{None}
 use Rattle.wax_walk.specs.Forest.{Pending}
 use Rattle.wax_walk.specs.Given.{Given}
 use Rattle.wax_walk.specs.View.{Accounts}
-use Rattle.wax_tree.specs.Lead.{ListsBetween}
+use Rattle.wax_tree.proofs.Lead.{ListsBetween}
 use Rattle.wax_tree.specs.Stepping.{items_left, steps_left}
 use Rattle.wax_tree.specs.Walking.{PlainToCome, allowance, names_left, HasStopped, steps_view}
 use Rattle.wax_tree.proofs.steps.Steps.run.Given as goal
