@@ -1,7 +1,7 @@
 -- A glob's tokens mean and cost what its tree does.
 use Rattle.std.proofs.Common.{◌≡◌, ◌↔◌, ℕ, ◌+◌, Bool, false, List, [], ◌∷◌, refl, sym, ap, ◌∙◌, subst, add-zero}
-use Rattle.wax_prefilter.specs.Known.{AllPass}
-use Rattle.wax_prefilter.specs.declared.needle.Place.{Place}
+use Rattle.wax_prefilter.specs.Known.{MeantPass}
+use Rattle.wax_prefilter.specs.Facts.{PrefilterView}
 use Rattle.wax_program.specs.Machine.{Accepts}
 use Rattle.wax_program.specs.declared.instruction.Instruction.{Instruction}
 use Rattle.wax_token.specs.Reads.{Reads}
@@ -26,15 +26,15 @@ costs_members (concatenation a ts) = refl
 costs_members (repetition a t low high) = add-zero _
 
 -- what was made of a tree's tokens
-pub is_compiled : (t : Tree Span) (ts : Trees Span) (program : List Instruction × ℕ) (facts : List (Place × List (Bool × List ℕ))) → ts ≡ members t
-    → ((s : List ℕ) → Accepts program.0 0 s ↔ MeansEach ts false false s) → program.1 ≡ costs ts + 1 → AllPass ts facts → IsCompiled t program facts
-is_compiled t ts program facts same accepts len passes = record {
+pub is_compiled : (t : Tree Span) (ts : Trees Span) (program : List Instruction × ℕ) (prefilter : PrefilterView) → ts ≡ members t
+    → ((s : List ℕ) → Accepts program.0 0 s ↔ MeansEach ts false false s) → program.1 ≡ costs ts + 1 → MeantPass ts prefilter → IsCompiled t program prefilter
+is_compiled t ts program prefilter same accepts len passes = record {
   accepts = λ s.
       let whole = subst (λ z. Accepts program.0 0 s ↔ MeansEach z false false s) same (accepts s) in
       let parts = means_members t false false s in
       (λ h. parts.0 (whole.0 h), λ h. whole.1 (parts.1 h));
   len = len ∙ ap (λ z. costs z + 1) same ∙ ap (λ n. n + 1) (costs_members t);
-  passes = λ s h. subst (λ z. AllPass z facts) same passes s ((means_members t false false s).1 h);
+  passes = λ s h. subst (λ z. MeantPass z prefilter) same passes s ((means_members t false false s).1 h);
 }
 
 -- an empty literal means the empty text

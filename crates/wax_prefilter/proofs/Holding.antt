@@ -9,7 +9,7 @@ use Rattle.std.specs.List.{Any}
 use Rattle.wax_prefilter.proofs.MeantEdges.{first_meant, last_meant}
 use Rattle.wax_prefilter.proofs.MeantPieces.{each_meant, regroup}
 use Rattle.wax_prefilter.specs.Facts.{StandsAt, HoldsOne}
-use Rattle.wax_prefilter.specs.Known.{CanBeAfter, AllHold, AllPass}
+use Rattle.wax_prefilter.specs.Known.{CanBeAfter, AllHold, MeantHold}
 use Rattle.wax_prefilter.specs.declared.needle.Place.{Place}
 use Rattle.wax_prefilter.specs.declared.needle.Place.TheVariants.{Beginning, End, Anywhere}
 use Rattle.wax_token.specs.Meaning.{Begins, Means, MeansEach, SameText, TreeMeans}
@@ -117,6 +117,6 @@ at_front End = tt
 at_front Anywhere = tt
 
 pub more_facts : (ts : Trees Span) (facts : List (Place × List (Bool × List ℕ))) (place : Place) (needles : List (Bool × List ℕ))
-    → AllPass ts facts → AllHold place needles (MeansEach ts) → AllPass ts (facts ++ (place, needles) ∷ [])
+    → MeantHold ts facts → AllHold place needles (MeansEach ts) → MeantHold ts (facts ++ (place, needles) ∷ [])
 more_facts ts facts place needles pass known text h =
     All-push (λ fact. HoldsOne fact.0 fact.1 text) facts (place, needles) (pass text h) (known false false text (at_front place) h)

@@ -1,4 +1,5 @@
 pub mod AnyCase
 pub mod Holding
+pub mod Lengths
 pub mod MeantEdges
 pub mod MeantPieces

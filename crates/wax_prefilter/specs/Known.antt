@@ -1,8 +1,8 @@
 -- What is known of all meant texts.
-use Rattle.std.specs.Prelude.{◌≡◌, ℕ, Bool, false, List}
+use Rattle.std.specs.Prelude.{◌≡◌, ◌≤◌, ℕ, Bool, false, List, length}
 use Rattle.wax_token.specs.Meaning.{MeansEach}
 use Rattle.wax_token.specs.Syntax.{Trees}
-use Rattle.wax_prefilter.specs.Facts.{StandsAt, HoldsOne, Passes}
+use Rattle.wax_prefilter.specs.Facts.{NeedleView, FactView, PrefilterView, StandsAt, HoldsOne, HoldsEach, Passes}
 use Rattle.wax_prefilter.specs.declared.needle.Place.{Place}
 use Rattle.wax_prefilter.specs.declared.needle.Place.TheVariants.{Beginning, End, Anywhere}
 
@@ -13,15 +13,23 @@ CanBeAfter End before = Unit {0}
 CanBeAfter Anywhere before = Unit {0}
 
 -- these characters stand there in each text that is meant so
-abbrev pub AllStand : Place → Bool × List ℕ → (Bool → Bool → List ℕ → Type 0) → Type 0
+abbrev pub AllStand : Place → NeedleView → (Bool → Bool → List ℕ → Type 0) → Type 0
 AllStand place held Meant =
     (before after : Bool) (text : List ℕ) → CanBeAfter place before → Meant before after text → StandsAt place held text
 
 -- each text that is meant so holds one of these
-abbrev pub AllHold : Place → List (Bool × List ℕ) → (Bool → Bool → List ℕ → Type 0) → Type 0
+abbrev pub AllHold : Place → List NeedleView → (Bool → Bool → List ℕ → Type 0) → Type 0
 AllHold place needles Meant =
     (before after : Bool) (text : List ℕ) → CanBeAfter place before → Meant before after text → HoldsOne place needles text
 
--- each text that the tokens mean, with nothing around it, passes
-abbrev pub AllPass : {A : Type 0} → Trees A → List (Place × List (Bool × List ℕ)) → Type 0
-AllPass tokens facts = (text : List ℕ) → MeansEach tokens false false text → Passes facts text
+-- and has at least so many characters
+abbrev pub IsAtMostAll : ℕ → (Bool → Bool → List ℕ → Type 0) → Type 0
+IsAtMostAll n Meant = (before after : Bool) (text : List ℕ) → Meant before after text → n ≤ length text
+
+-- each text that the tokens mean, with nothing around it, holds one of each
+abbrev pub MeantHold : {A : Type 0} → Trees A → List FactView → Type 0
+MeantHold tokens facts = (text : List ℕ) → MeansEach tokens false false text → HoldsEach facts text
+
+-- each such text passes
+abbrev pub MeantPass : {A : Type 0} → Trees A → PrefilterView → Type 0
+MeantPass tokens prefilter = (text : List ℕ) → MeansEach tokens false false text → Passes prefilter text

@@ -3,7 +3,7 @@ ghost use Rattle.std.specs.Prelude.{◌≡◌, ◌<◌, IfOk, IfSome, OnOk, char
 ghost use Rattle.wax_token.specs.Meaning.{LeafMeans, Means, MeansEach, MeansSome};
 ghost use Rattle.wax_token.specs.View.{leaf_of, wildcard_leaf};
 ghost use Rattle.wax_token.specs.Words.{trees};
-ghost use Rattle.wax_prefilter.specs.Known.{AllHold, AllPass, AllStand};
+ghost use Rattle.wax_prefilter.specs.Known.{AllHold, MeantHold, AllStand};
 
 use crate::needle::{Needle, Place};
 use crate::prefilter::Fact;
@@ -22,7 +22,7 @@ pub fn all_facts<'t>(
     alloc: Global,
     tokens: &[Token<'t, ExpressionMetadata>],
 ) -> Result<Vec<Fact>, NoMemory>
-    ensures { IfOk result (λ facts. AllPass (trees tokens.now) facts.items) }
+    ensures { IfOk result (λ facts. MeantHold (trees tokens.now) facts.items) }
 {
     let mut facts = Vec::new(alloc);
     let ends = add_edge(alloc, Place::End, tokens, &mut facts)?;
@@ -44,8 +44,8 @@ fn add_within<'t>(
     facts: &mut Vec<Fact>,
 ) -> Result<(), NoMemory>
     requires in_range { i < length tokens.now }
-    requires facts { AllPass (trees tokens.now) facts.old.items }
-    ensures { OnOk result (AllPass (trees tokens.now) facts.new.items) }
+    requires facts { MeantHold (trees tokens.now) facts.old.items }
+    ensures { OnOk result (MeantHold (trees tokens.now) facts.new.items) }
 {
     let Some(needles) = needles_of(alloc, Place::Anywhere, &tokens[i])? else {
         return Ok(());
@@ -61,8 +61,8 @@ fn add_edge<'t>(
     tokens: &[Token<'t, ExpressionMetadata>],
     facts: &mut Vec<Fact>,
 ) -> Result<bool, NoMemory>
-    requires { AllPass (trees tokens.now) facts.old.items }
-    ensures { OnOk result (AllPass (trees tokens.now) facts.new.items) }
+    requires { MeantHold (trees tokens.now) facts.old.items }
+    ensures { OnOk result (MeantHold (trees tokens.now) facts.new.items) }
 {
     let Some(needles) = needles_of_each(alloc, place, tokens)? else {
         return Ok(false);

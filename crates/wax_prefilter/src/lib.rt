@@ -3,6 +3,7 @@
 
 mod any_case;
 mod facts;
+mod least;
 mod needle;
 mod prefilter;
 

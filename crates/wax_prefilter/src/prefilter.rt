@@ -2,9 +2,10 @@
 ghost use Rattle.std.specs.Prelude.{◌≡◌, ℕ, List, [], ◌∷◌, ◌++◌, IsTrue, IfOk, OnOk, chars};
 ghost use Rattle.wax_token.specs.Words.{trees};
 ghost use Rattle.wax_prefilter.specs.Facts.{HoldsOne, Passes};
-ghost use Rattle.wax_prefilter.specs.Known.{AllPass};
+ghost use Rattle.wax_prefilter.specs.Known.{MeantPass};
 
 use crate::facts::all_facts;
+use crate::least::least_of_each;
 use crate::needle::{Needle, Place};
 use std::alloc::{AllocError, Global};
 use std::marker::Model;
@@ -19,10 +20,9 @@ pub struct Fact {
 }
 
 impl Model for Fact {
-    ghost use Rattle.std.specs.Prelude.{Bool, List, ℕ};
-    ghost use Rattle.wax_prefilter.specs.declared.needle.Place.{Place};
+    ghost use Rattle.wax_prefilter.specs.Facts.{FactView};
 
-    ghost Value = { Place × List (Bool × List ℕ) };
+    ghost Value = { FactView };
 
     ghost view = { λ f. (f.place, f.needles.items) };
 }
@@ -48,20 +48,21 @@ impl Fact {
     }
 }
 
-/// What each text that some tokens mean begins with, ends with and holds. It keeps at most 16 facts, each of
-/// at most 64 texts, and no tokens. Contracts see the facts.
+/// How long each text is at least that some tokens mean, and what it begins with, ends with and holds. It
+/// keeps at most 16 facts, each of at most 64 texts, and no tokens. Contracts see the least length in
+/// characters, and the facts.
 #[derive(Drop)]
 pub struct Prefilter {
+    least: usize,
     facts: Vec<Fact>,
 }
 
 impl Model for Prefilter {
-    ghost use Rattle.std.specs.Prelude.{Bool, List, ℕ};
-    ghost use Rattle.wax_prefilter.specs.declared.needle.Place.{Place};
+    ghost use Rattle.wax_prefilter.specs.Facts.{PrefilterView};
 
-    ghost Value = { List (Place × List (Bool × List ℕ)) };
+    ghost Value = { PrefilterView };
 
-    ghost view = { λ p. p.facts.items };
+    ghost view = { λ p. (p.least, p.facts.items) };
 }
 
 impl Prefilter {
@@ -71,10 +72,13 @@ impl Prefilter {
         alloc: Global,
         tokens: &[Token<'t, ExpressionMetadata>],
     ) -> Result<Prefilter, NoMemory>
-        ensures { IfOk result (AllPass (trees tokens.now)) }
+        ensures { IfOk result (MeantPass (trees tokens.now)) }
     {
         let facts = all_facts(alloc, tokens)?;
-        Ok(Prefilter { facts })
+        Ok(Prefilter {
+            least: least_of_each(tokens),
+            facts,
+        })
     }
 
     /// Whether the text may be meant. It takes no memory, and time of the order of the text for each fact and
@@ -82,6 +86,9 @@ impl Prefilter {
     pub fn may_match(&self, text: &str) -> bool
         ensures { Passes self.now (chars text.now) → IsTrue result }
     {
+        if text.len() < self.least {
+            return false;
+        }
         for fact in &self.facts {
             if !fact.may_hold(text) {
                 return false;
