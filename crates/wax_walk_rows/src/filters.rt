@@ -4,7 +4,8 @@ use crate::printed::{print_item, print_walk};
 use crate::trees::{project, tree_of};
 use std::io;
 use wax_filter::filter::CancelWalk;
-use wax_tree::{Entry, EntryResidue, FileIterator, PathExt, TreeEntry};
+use wax_tree::PathExt;
+use wax_walk::{Entry, EntryResidue, FileIterator, TreeEntry};
 
 /// Leaves out what stands at the path.
 pub fn leaves_out(entry: &TreeEntry, path: &str, residue: EntryResidue) -> Option<EntryResidue> {

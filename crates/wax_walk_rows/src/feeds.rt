@@ -10,10 +10,8 @@ use std::io;
 use wax_directory::tree::Tree;
 use wax_filter::filter::{Separation, TreeResidue};
 use wax_query::diagnostics::NoMemory;
-use wax_tree::{
-    DepthMax, DepthMin, Entry, EntryResidue, FileIterator, PathExt, Rule, TreeEntry, TreeFeed,
-    WalkBehavior, collect_feed, entries,
-};
+use wax_tree::{DepthMax, DepthMin, PathExt, TreeFeed, WalkBehavior, entries};
+use wax_walk::{Entry, EntryResidue, FileIterator, Rule, TreeEntry, collect_feed};
 
 /// Leaves out the entries from a depth on.
 #[derive(Drop)]
@@ -24,8 +22,8 @@ struct FromDepth {
 
 impl Rule for FromDepth {
     ghost use Rattle.std.specs.Prelude.{cond, nat_lt, Some};
-    ghost use Rattle.wax_tree.specs.Given.{kept};
-    ghost use Rattle.wax_tree.specs.Said.{mark_of};
+    ghost use Rattle.wax_walk.specs.Given.{kept};
+    ghost use Rattle.wax_walk.specs.Said.{mark_of};
 
     ghost rule = { λ s f. cond (nat_lt f.depth s.depth) kept (mark_of (Some s.residue)) };
 

@@ -5,7 +5,8 @@ use crate::trees::{odd, project, sealed, tree_of};
 use std::alloc::{AllocError, Global};
 use std::io;
 use wax_directory::tree::{Node, Tree, TreeItem};
-use wax_tree::{DepthBehavior, DepthMax, DepthMin, DepthMinMax, Entry, PathExt, WalkBehavior};
+use wax_tree::{DepthBehavior, DepthMax, DepthMin, DepthMinMax, PathExt, WalkBehavior};
+use wax_walk::Entry;
 
 fn project_tree(rt: &HostRuntime) -> io::Result<Tree> {
     tree_of(rt.alloc(), project(rt.alloc()))

@@ -4,7 +4,7 @@ ghost use Rattle.std.specs.Iterator.{IsFinite};
 
 use std::io::{self, ErrorKind};
 use wax_directory::tree::Tree;
-use wax_tree::{Entry, FileIterator, TreeEntry, WalkError, collect};
+use wax_walk::{Entry, FileIterator, TreeEntry, WalkError, collect};
 
 /// An entry by its path, an error in brackets.
 pub fn print_item<E: Entry>(rt: &HostRuntime, item: &Result<E, WalkError>) -> io::Result<()> {
