@@ -1,5 +1,5 @@
 -- The open cursors of a tree, of which the last one is moved or dropped.
-use Rattle.std.proofs.Common.{◌≡◌, ℕ, List, [], ◌∷◌, ◌++◌, Result, Ok, Err, subst}
+use Rattle.std.proofs.Common.{◌≡◌, List, [], ◌∷◌, ◌++◌, Result, Ok, Err, subst}
 use Rattle.wax_directory.specs.declared.directory.DirectoryFault.{DirectoryFault}
 use Rattle.wax_directory.specs.declared.directory.DirectoryFault.TheVariants.{Failed, Memory}
 use Rattle.wax_directory.specs.Answers.{Opens}

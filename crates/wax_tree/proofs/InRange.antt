@@ -1,6 +1,6 @@
 -- The entries in range of a walk are those of the whole walk.
 use Rattle.std.proofs.Common.{◌≡◌, ℕ, ◌+◌, ◌<◌, ◌≤◌, Bool, true, false, cond, List, [], ◌∷◌, ◌++◌, filter}
-use Rattle.std.proofs.Common.{nat_lt, not, ◌&&◌, refl, sym, ◌∙◌, ap, subst, arith}
+use Rattle.std.proofs.Common.{nat_lt, not, ◌&&◌, refl, sym, ◌∙◌, ap, arith}
 use Rattle.std.proofs.lemmas.Bool.{lt-ltb}
 use Rattle.std.proofs.lemmas.Bool.Decides.{nat_tests}
 use Rattle.std.proofs.lemmas.List.Elements.{filter-append}
@@ -10,10 +10,10 @@ use Rattle.wax_directory.specs.Shown.{Items, end, leaf, folder, sealed, misnamed
 use Rattle.wax_directory.specs.Shown.{a_leaf, a_folder, a_sealed, missing, failing, leaf_kind, join}
 use Rattle.wax_tree.specs.declared.steps.Range.{Range}
 use Rattle.wax_tree.specs.Begins.{scope_in}
-use Rattle.wax_tree.specs.Plain.{Scope, Spot, start_spot, item_spot, one_deeper, count_shown, at_depth}
-use Rattle.wax_tree.specs.Plain.{above_max, unlisted, plain_entry, items_forest, below_forest, entry_forest}
+use Rattle.wax_tree.specs.Plain.{Spot, start_spot, item_spot, one_deeper, count_shown, at_depth}
+use Rattle.wax_tree.specs.Plain.{above_max, unlisted, items_forest}
 use Rattle.wax_tree.specs.Plain.{plain}
-use Rattle.wax_tree.specs.Whole.{whole_entry, whole_items, whole_at, whole, is_in, EntriesAre, all_in_range}
+use Rattle.wax_tree.specs.Whole.{whole_entry, whole_items, whole, is_in, EntriesAre, all_in_range}
 use Rattle.wax_tree.specs.Whole.{lacks_memory, over_budget}
 use Rattle.wax_walk.specs.Collected.{GaveAll}
 use Rattle.wax_walk.specs.Collected as given

@@ -1,19 +1,18 @@
 -- A walk, when it is made and where memory was refused for its start.
 use Rattle.std.proofs.Common.{◌≡◌, ℕ, ◌+◌, ◌-◌, ◌^◌, ◌≤◌, length, true, false, List, [], ◌∷◌, ◌++◌, refl, sym}
-use Rattle.std.proofs.Common.{ap, subst, ◌∙◌, arith, inl, inr, string_bytes, length-append}
+use Rattle.std.proofs.Common.{ap, subst, ◌∙◌, arith, string_bytes, length-append}
 use Rattle.std.specs.Prelude.{Option, Some, None, String}
 use Rattle.std.specs.declared.alloc.Global.{Global}
 use Rattle.wax_directory.specs.Law.{Law}
 use Rattle.wax_directory.specs.Shown.{Shown}
 use Rattle.wax_walk.specs.Forest.{Forest, nothing, item, lists, Pending, pending, all_pending, FirstIs}
-use Rattle.wax_walk.specs.Given.{Given, no_memory}
-use Rattle.wax_walk.specs.View.{WalkView, GivesOrStops, lacks_memory, over_budget, gives, FeedStep, Accounts}
-use Rattle.wax_walk.proofs.Accounting.{counts_nothing}
+use Rattle.wax_walk.specs.Given.{Given}
+use Rattle.wax_walk.specs.View.{WalkView, GivesOrStops, lacks_memory, over_budget, gives, FeedStep}
 use Rattle.wax_tree.specs.declared.steps.Place.{Place}
 use Rattle.wax_tree.specs.declared.steps.Range.{Range}
 use Rattle.wax_tree.specs.declared.steps.Steps.{Steps}
 use Rattle.wax_tree.specs.declared.walk_tree.WalkTree.{WalkTree}
-use Rattle.wax_tree.specs.Begins.{Begins, BeginsAt, Way}
+use Rattle.wax_tree.specs.Begins.{Begins, BeginsAt}
 use Rattle.wax_tree.specs.Lacking.{MayCome, lacks, goes, tree_view}
 use Rattle.wax_tree.specs.Plain.{Spot, count_shown}
 use Rattle.wax_tree.specs.Prefix.{ArePlain, from_last, walk_from}

@@ -1,21 +1,19 @@
 -- States of a walk: levels that are pushed and popped, and directories that answered.
-use Rattle.std.proofs.Common.{◌≡◌, ℕ, ◌+◌, ◌-◌, ◌<◌, ◌≤◌, true, false, cond, nat_lt, length, map, List, []}
-use Rattle.std.proofs.Common.{◌∷◌, ◌++◌, refl, sym, ap, subst, ◌∙◌, arith, inl, inr, string_bytes}
-use Rattle.std.specs.Prelude.{Option, Some, None, Ok, Err}
+use Rattle.std.proofs.Common.{◌≡◌, ℕ, ◌+◌, ◌-◌, ◌<◌, ◌≤◌, true, false, cond, List, []}
+use Rattle.std.proofs.Common.{◌∷◌, ◌++◌, refl, sym, ap, subst, ◌∙◌, arith, string_bytes}
+use Rattle.std.specs.Prelude.{Option, Some}
 use Rattle.std.proofs.lemmas.Bool.{lt-ltb}
 use Rattle.std.proofs.lemmas.List.{map-append}
 use Rattle.wax_directory.specs.declared.directory.FileType.TheVariants as F
-use Rattle.wax_directory.specs.Answers.{Opens}
 use Rattle.wax_directory.specs.Law.{Law, ShowsSame, HoldsLast}
 use Rattle.wax_directory.specs.Shown.{Items, Shown, a_leaf, a_folder, a_sealed, missing, failing, ShowsIn}
-use Rattle.wax_walk.specs.Forest.{Forest, nothing, item, lists, followed_by, Pending, pending, all_pending}
+use Rattle.wax_walk.specs.Forest.{Forest, nothing, lists, followed_by, pending}
 use Rattle.wax_walk.specs.Given.{Given}
 use Rattle.wax_tree.specs.declared.steps.Folder.{Folder}
 use Rattle.wax_tree.specs.declared.steps.Level.{Level}
-use Rattle.wax_tree.specs.declared.steps.Place.{Place}
 use Rattle.wax_tree.specs.declared.steps.Steps.{Steps}
 use Rattle.wax_tree.specs.Plain.{Scope, Spot, count, count_shown, below_forest, items_forest, unlisted}
-use Rattle.wax_tree.specs.Walking.{HasKind, IsAlone, IsFolder, entered_forest, folder_spot, scope_of}
+use Rattle.wax_tree.specs.Walking.{HasKind, IsAlone, folder_spot, scope_of}
 use Rattle.wax_tree.specs.Walking.{cursors_of, Rest, FirstShows, EnteredShows, LevelsShow, AtRest}
 use Rattle.wax_tree.specs.Walking.{PlainToCome}
 use Rattle.wax_tree.proofs.Showing.{followed_nothing, followed_assoc, shows_in_moved}

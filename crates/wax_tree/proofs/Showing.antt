@@ -1,7 +1,7 @@
 -- What directories show, and what comes of it.
-use Rattle.std.proofs.Common.{◌≡◌, ℕ, ◌+◌, ◌-◌, ◌^◌, ◌<◌, ◌≤◌, Bool, true, false, cond, nat_lt, length, List}
-use Rattle.std.proofs.Common.{[], ◌∷◌, ◌++◌, refl, sym, ap, subst, ◌∙◌, arith, string_bytes}
-use Rattle.std.specs.Prelude.{Option, Some, None, Ok, Err, String}
+use Rattle.std.proofs.Common.{◌≡◌, ℕ, ◌+◌, ◌-◌, ◌<◌, ◌≤◌, Bool, true, false, cond, nat_lt, length, List}
+use Rattle.std.proofs.Common.{[], ◌∷◌, ◌++◌, refl, sym, ap, subst, arith, string_bytes}
+use Rattle.std.specs.Prelude.{Some, None, Ok, Err, String}
 use Rattle.std.specs.declared.alloc.Global.{Global}
 use Rattle.std.proofs.lemmas.Bool.{lt-ltb, le-ltb}
 use Rattle.std.specs.Str.{bytes_eq}
@@ -19,7 +19,7 @@ use Rattle.wax_walk.specs.Forest.{Forest, nothing, item, lists, followed_by}
 use Rattle.wax_walk.specs.Given.{Given, fault}
 use Rattle.wax_tree.specs.Plain.{Scope, Spot, item_spot, one_deeper, count, count_shown, at_depth}
 use Rattle.wax_tree.specs.Plain.{entry_forest, plain_at, items_forest}
-use Rattle.wax_tree.specs.Prefix.{ArePlain, from_last, walk_from}
+use Rattle.wax_tree.specs.Prefix.{from_last, walk_from}
 use Rattle.wax_tree.specs.Heads.{first_item_forest, own_count}
 use Rattle.wax_tree.specs.Walking.{HasKind}
 

@@ -1,28 +1,25 @@
 -- Steps of a walk.
-use Rattle.std.proofs.Common.{◌≡◌, ℕ, ◌+◌, ◌-◌, ◌^◌, ◌<◌, ◌≤◌, Bool, true, false, length, List, [], ◌∷◌, ◌++◌}
+use Rattle.std.proofs.Common.{◌≡◌, ℕ, ◌+◌, ◌-◌, ◌^◌, ◌<◌, ◌≤◌, true, false, length, List, [], ◌∷◌, ◌++◌}
 use Rattle.std.proofs.Common.{refl, sym, ap, subst, ◌∙◌, arith, inl, inr, string_bytes, append_assoc}
 use Rattle.std.proofs.Common.{length-append}
-use Rattle.std.specs.Prelude.{Option, Some, None, ◌⊎◌, Result, Ok, Err, String}
+use Rattle.std.specs.Prelude.{Option, Some, None, Result, Ok, Err, String}
 use Rattle.std.specs.declared.alloc.Global.{Global}
 use Rattle.wax_directory.specs.declared.directory.FileType.{FileType}
 use Rattle.wax_directory.specs.declared.directory.FileType.TheVariants as F
 use Rattle.wax_directory.specs.declared.directory.DirectoryFault.TheVariants as Fault_of
-use Rattle.wax_directory.specs.declared.tally.Tally.{Tally}
-use Rattle.wax_directory.specs.Answers.{Opens, NextIs}
-use Rattle.wax_directory.specs.Counting.{Counts, no_counts, grown}
-use Rattle.wax_directory.specs.Law.{Law, ShowsSame, HoldsLast}
+use Rattle.wax_directory.specs.Answers.{Opens}
+use Rattle.wax_directory.specs.Law.{Law, HoldsLast}
 use Rattle.wax_directory.specs.Shown.{Items, end, leaf, folder, sealed, misnamed, unread, not_text, Shown}
 use Rattle.wax_directory.specs.Shown.{a_leaf, a_folder, a_sealed, missing, failing, IsPlain, ShowsIn, join}
-use Rattle.wax_directory.specs.Shown.{Listed, first_of, rest_of, child_shown}
+use Rattle.wax_directory.specs.Shown.{first_of, child_shown}
 use Rattle.wax_walk.specs.declared.entry.TreeEntry.{TreeEntry}
 use Rattle.wax_walk.specs.declared.error.WalkError.{WalkError}
 use Rattle.wax_walk.specs.declared.error.WalkError.TheVariants.{Memory}
-use Rattle.wax_walk.specs.declared.error.FaultKind.TheVariants.{Listing, Budget}
+use Rattle.wax_walk.specs.declared.error.FaultKind.TheVariants.{Listing}
 use Rattle.wax_walk.specs.Forest.{Forest, nothing, item, lists, followed_by, Pending, pending, all_pending}
 use Rattle.wax_walk.specs.Forest.{FirstIs}
-use Rattle.wax_walk.specs.Given.{Given, fault, no_memory}
-use Rattle.wax_walk.specs.View.{GivesOrStops, lacks_memory, over_budget, gives, IsLast, Accounts}
-use Rattle.wax_walk.specs.View.{CountsFaults, fault_counts, IsMisplaced, Takes}
+use Rattle.wax_walk.specs.Given.{Given, fault}
+use Rattle.wax_walk.specs.View.{GivesOrStops, lacks_memory, over_budget, gives, IsLast}
 use Rattle.wax_tree.specs.declared.steps.Folder.{Folder}
 use Rattle.wax_tree.specs.declared.steps.Level.{Level}
 use Rattle.wax_tree.specs.declared.steps.Place.{Place}
@@ -30,19 +27,17 @@ use Rattle.wax_tree.specs.declared.steps.Steps.{Steps}
 use Rattle.wax_tree.specs.declared.steps.Step.{Step}
 use Rattle.wax_tree.specs.declared.steps.Step.TheVariants.{Gives, GoesOn, Ends}
 use Rattle.wax_tree.proofs.Lead.{after_listing, ListsBetween}
-use Rattle.wax_tree.specs.Plain.{Scope, Spot, count, count_shown, below_forest, entry_forest, plain_entry}
-use Rattle.wax_tree.specs.Plain.{items_forest, unlisted}
+use Rattle.wax_tree.specs.Plain.{Spot, count, count_shown, below_forest, entry_forest, plain_entry}
+use Rattle.wax_tree.specs.Plain.{items_forest}
 use Rattle.wax_tree.specs.Prefix.{ArePlain, from_last, walk_from}
-use Rattle.wax_tree.specs.Heads.{first_item_forest, own_count}
-use Rattle.wax_tree.specs.Walking.{HasKind, IsAlone, IsFolder, tree_given, step_given, entered_forest}
-use Rattle.wax_tree.specs.Walking.{folder_spot, place_spot, scope_of, cursors_of, names_left, allowance}
-use Rattle.wax_tree.specs.Walking.{HasStopped, Rest, FirstShows, EnteredShows, LevelsShow, AtRest}
+use Rattle.wax_tree.specs.Walking.{HasKind, IsAlone, IsFolder, tree_given, entered_forest}
+use Rattle.wax_tree.specs.Walking.{folder_spot, place_spot, scope_of, cursors_of, allowance}
+use Rattle.wax_tree.specs.Walking.{Rest, FirstShows, EnteredShows, LevelsShow, AtRest}
 use Rattle.wax_tree.specs.Walking.{PlainToCome, steps_view, Advances}
-use Rattle.wax_tree.specs.Stepping.{IsCounted, Asked, Settles, Answers, Blames, StepIs, Continues, Beside}
+use Rattle.wax_tree.specs.Stepping.{Blames, StepIs, Beside}
 use Rattle.wax_tree.specs.Stepping.{listing_pending, Adds, AddsFirst, Saves, items_left, steps_left}
-use Rattle.wax_tree.proofs.Showing.{silent, in_range, from_last_end, follows_folder, child_counts, headed_is}
-use Rattle.wax_tree.proofs.Showing.{count_rest, shows_rest, followed_nothing}
-use Rattle.wax_tree.proofs.Resting.{comes_after, comes_rest, comes_ended, rest_moved, rest_pushed}
+use Rattle.wax_tree.proofs.Showing.{silent, in_range, from_last_end, follows_folder, child_counts}
+use Rattle.wax_tree.proofs.Resting.{comes_after, comes_rest, rest_pushed}
 use Rattle.wax_tree.proofs.Resting.{levels_popped, levels_none, cursors_pushed}
 
 module _ {D C : Type 0} (law : Law D C) where

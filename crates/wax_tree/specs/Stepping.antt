@@ -1,10 +1,10 @@
 -- What a step of a walk does.
-use Rattle.std.specs.Prelude.{◌≡◌, ℕ, ◌+◌, ◌*◌, ◌<◌, ◌≤◌, true, false, cond, length, List, Option, Some, None}
+use Rattle.std.specs.Prelude.{◌≡◌, ℕ, ◌+◌, ◌*◌, ◌<◌, ◌≤◌, true, cond, length, Option, Some, None}
 use Rattle.std.specs.Prelude.{Err, ◌⊎◌, string_bytes}
 use Rattle.wax_directory.specs.Counting.{no_counts}
 use Rattle.wax_directory.specs.declared.tally.Tally.{Tally}
 use Rattle.wax_directory.specs.Law.{Law, HoldsLast}
-use Rattle.wax_directory.specs.Shown.{Items, Shown, ShowsIn}
+use Rattle.wax_directory.specs.Shown.{Items, ShowsIn}
 use Rattle.wax_walk.specs.declared.error.WalkError.TheVariants.{Memory}
 use Rattle.wax_walk.specs.Forest.{Forest, nothing, followed_by, Pending, pending}
 use Rattle.wax_walk.specs.Given.{Given}

@@ -1,11 +1,11 @@
 -- Proofs of the laws of the plain walk.
-use Rattle.std.proofs.Common.{◌≡◌, ℕ, ◌≤◌, refl, sym, ap, subst, ◌∙◌, arith, inl, inr}
+use Rattle.std.proofs.Common.{◌≡◌, ◌≤◌, refl, sym, ap, subst, ◌∙◌, arith, inl, inr}
 use Rattle.std.specs.Prelude.{Some, None}
 use Rattle.wax_directory.specs.Law.{Law}
 use Rattle.wax_tree.specs.declared.steps.Steps.{Steps}
 use Rattle.wax_tree.specs.declared.walk_tree.WalkTree.{WalkTree}
 use Rattle.wax_tree.specs.Lacking.{MayCome, lacks, goes, tree_view, gives_at_most}
-use Rattle.wax_tree.specs.Walking.{IsAlone, PlainToCome, HasStopped}
+use Rattle.wax_tree.specs.Walking.{IsAlone, PlainToCome}
 use Rattle.wax_walk.specs.Forest.{Pending, cancelled}
 use Rattle.wax_walk.specs.Given.{Given}
 use Rattle.wax_walk.specs.View.{CancelStep}

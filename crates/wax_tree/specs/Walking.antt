@@ -1,5 +1,5 @@
 -- What a walk's state says of what is to come.
-use Rattle.std.specs.Prelude.{◌≡◌, ℕ, ◌+◌, ◌*◌, ◌-◌, ◌^◌, ◌<◌, ◌≤◌, true, false, cond, length, map, List, []}
+use Rattle.std.specs.Prelude.{◌≡◌, ℕ, ◌+◌, ◌-◌, ◌^◌, ◌≤◌, true, false, cond, length, map, List, []}
 use Rattle.std.specs.Prelude.{◌∷◌, ◌++◌, Option, Some, None, Result, string_bytes, ◌⊎◌}
 use Rattle.wax_directory.specs.declared.directory.FileType.{FileType}
 use Rattle.wax_directory.specs.declared.directory.FileType.TheVariants as F
@@ -10,12 +10,12 @@ use Rattle.wax_walk.specs.declared.entry.TreeEntry.{TreeEntry}
 use Rattle.wax_walk.specs.Entries.{facts_of, given_outcome}
 use Rattle.wax_walk.specs.Forest.{Forest, nothing, lists, followed_by, Pending, all_pending}
 use Rattle.wax_walk.specs.Given.{Given}
-use Rattle.wax_walk.specs.View.{WalkView, GivesOrStops}
+use Rattle.wax_walk.specs.View.{WalkView}
 use Rattle.wax_tree.specs.declared.steps.Folder.{Folder}
 use Rattle.wax_tree.specs.declared.steps.Level.{Level}
 use Rattle.wax_tree.specs.declared.steps.Place.{Place}
 use Rattle.wax_tree.specs.declared.steps.Step.{Step}
-use Rattle.wax_tree.specs.declared.steps.Step.TheVariants.{Gives, GoesOn, Ends}
+use Rattle.wax_tree.specs.declared.steps.Step.TheVariants.{Gives}
 use Rattle.wax_tree.specs.declared.steps.Steps.{Steps}
 use Rattle.wax_tree.specs.Plain.{Scope, Spot, count, count_shown, items_forest, unlisted}
 use Rattle.wax_tree.specs.Prefix.{ArePlain, from_last, walk_from}

@@ -1,5 +1,5 @@
 -- Steps of a filter by a closure.
-use Rattle.std.proofs.Common.{◌≡◌, Bool, true, false, refl, sym, subst, ◌∙◌}
+use Rattle.std.proofs.Common.{◌≡◌, true, false, refl, sym, subst}
 use Rattle.std.specs.Prelude.{Option, Some, None}
 use denote.Ref.{Bor}
 use Rattle.wax_directory.specs.Law.{Law}

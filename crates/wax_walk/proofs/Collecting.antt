@@ -4,7 +4,7 @@ use Rattle.std.proofs.Common.{◌∷◌, ◌++◌, refl, sym, ap, subst, ◌∙�
 use Rattle.std.specs.Prelude.{Some, None, Result, Ok, Err, IfOk, filter}
 use Rattle.std.specs.List.{Contains}
 use Rattle.std.proofs.lemmas.List.Elements.{filter-append, Contains-push_cases}
-use Rattle.wax_directory.specs.Counting.{grown, plus, no_counts}
+use Rattle.wax_directory.specs.Counting.{grown, plus}
 use Rattle.wax_directory.specs.Law.{Law}
 use Rattle.wax_directory.specs.declared.tally.Tally.{Tally}
 use Rattle.wax_directory.proofs.Counts.{plus_assoc, plus_none}

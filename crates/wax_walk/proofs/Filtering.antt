@@ -1,8 +1,8 @@
 -- What comes after a filter, from what comes before it.
-use Rattle.std.proofs.Common.{◌≡◌, ℕ, ◌+◌, ◌≤◌, Bool, true, false, cond, List, [], ◌∷◌, ◌++◌, refl, sym, ap}
+use Rattle.std.proofs.Common.{◌≡◌, ℕ, Bool, true, false, cond, List, [], ◌∷◌, ◌++◌, refl, sym, ap}
 use Rattle.std.proofs.Common.{subst, ◌∙◌, arith}
 use Rattle.std.specs.Prelude.{Option, Some, None}
-use Rattle.wax_walk.specs.Given.{Facts, Mark, Given, entry, fault, no_memory, ToComeFiltered, mark_by}
+use Rattle.wax_walk.specs.Given.{Facts, Mark, Given, entry, fault, no_memory, mark_by}
 use Rattle.wax_walk.specs.Given.{with_mark, is_cut, changed_by, cut_by}
 use Rattle.wax_walk.specs.Forest.{Forest, nothing, item, lists, followed_by, Pending, pending, cancelled}
 use Rattle.wax_walk.specs.Forest.{all_pending, FirstIs, filtered, filtered_pending}

@@ -1,10 +1,9 @@
 -- Steps of a filter by a rule.
-use Rattle.std.proofs.Common.{◌≡◌, Bool, true, false, refl, sym, subst, inl, inr, ◌∙◌}
-use Rattle.std.specs.Prelude.{Some, None, ◌⊎◌}
+use Rattle.std.proofs.Common.{◌≡◌, Bool, true, false, refl, sym, subst, inl, inr}
+use Rattle.std.specs.Prelude.{Some, None}
 use Rattle.wax_directory.specs.Law.{Law}
-use Rattle.wax_walk.specs.Forest.{Pending, cancelled, filtered_pending}
-use Rattle.wax_walk.specs.Given.{Given, Facts, Mark, mark_by, with_mark, is_cut, changed_by, cut_by}
-use Rattle.wax_walk.specs.Given.{ToComeFiltered}
+use Rattle.wax_walk.specs.Forest.{cancelled}
+use Rattle.wax_walk.specs.Given.{Given, Facts, Mark, mark_by, with_mark, is_cut}
 use Rattle.wax_walk.specs.Ruled.{ruled_view}
 use Rattle.wax_walk.specs.View.{WalkView, FeedStep, CancelStep, GivesOrStops}
 use Rattle.wax_walk.proofs.Accounting.{IsAsked, HasAnswered, step_ends, step_marked}

@@ -1,5 +1,5 @@
 -- What a walk gives.
-use Rattle.std.specs.Prelude.{◌≡◌, ℕ, Bool, true, false, List, Option, Some, None}
+use Rattle.std.specs.Prelude.{◌≡◌, ℕ, Bool, true, false, List}
 use Rattle.wax_directory.specs.declared.directory.FileType.{FileType}
 use Rattle.wax_walk.specs.declared.error.FaultKind.{FaultKind}
 use Rattle.wax_walk.specs.Forest.{Pending, filtered_pending}

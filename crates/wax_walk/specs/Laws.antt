@@ -1,6 +1,6 @@
 -- Proofs of laws that impls cite.
-use Rattle.std.specs.Prelude.{◌≡◌, List, ℕ, Bool, true, false, Option, ◌⊎◌}
-use Rattle.std.proofs.Common.{refl, ap, subst, sym, ◌∙◌, inl, inr}
+use Rattle.std.specs.Prelude.{◌≡◌, List, ℕ, Bool, true, Option, ◌⊎◌}
+use Rattle.std.proofs.Common.{ap, subst, sym, ◌∙◌, inl, inr}
 use denote.Ref.{Bor}
 use Rattle.wax_walk.specs.declared.entry.TreeEntry.{TreeEntry}
 use Rattle.wax_walk.specs.declared.iterator.EntryResidue.{EntryResidue}

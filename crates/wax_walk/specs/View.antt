@@ -6,7 +6,7 @@ use Rattle.wax_directory.specs.declared.tally.Tally.{Tally}
 use Rattle.wax_walk.specs.declared.error.FaultKind.TheVariants.{NotFound, NotAFolder, Listing, BadName}
 use Rattle.wax_walk.specs.declared.error.FaultKind.TheVariants.{NotText, Budget}
 use Rattle.wax_walk.specs.Forest.{Pending, all_pending, cancelled, FirstIs}
-use Rattle.wax_walk.specs.Given.{Given, entry, fault, no_memory}
+use Rattle.wax_walk.specs.Given.{Given, fault, no_memory}
 
 -- what is still to come; the directory; at most how many items may still be taken from listings; how many
 -- names it still has to follow to where it begins; and that nothing more comes

@@ -1,4 +1,4 @@
-use Rattle.std.proofs.Common.{rules, ap, sym, ◌∙◌, arith}
+use Rattle.std.proofs.Common.{rules, arith}
 use Rattle.std.specs.Prelude.{Some, None}
 use Rattle.std.proofs.lemmas.List.{map-append, length-map}
 use Rattle.wax_walk.specs.Entries.{given_of}

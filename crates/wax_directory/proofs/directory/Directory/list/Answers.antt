@@ -1,8 +1,7 @@
-use Rattle.std.proofs.Common.{rules, arith, ap, sym, subst, ◌∙◌, length, length-append, ◌+◌, ◌≤◌, ◌++◌, ◌∷◌}
-use Rattle.std.proofs.Common.{[], refl, inr}
-use Rattle.std.specs.Prelude.{Ok, Some, None}
+use Rattle.std.proofs.Common.{rules, arith, ap, ◌∙◌, length, length-append, ◌+◌, ◌++◌, ◌∷◌}
+use Rattle.std.proofs.Common.{[], refl}
 use Rattle.wax_directory.specs.Law.{HoldsLast}
-use Rattle.wax_directory.proofs.Listing.{Taken, taken_none, taken_more, counts_on, coming_end, coming_most}
+use Rattle.wax_directory.proofs.Listing.{taken_none, taken_more, coming_end, coming_most}
 use Rattle.wax_directory.proofs.Listing.{coming_still, coming_kept, left_dropped}
 use Rattle.wax_directory.proofs.directory.Directory.list.Goals as goal
 

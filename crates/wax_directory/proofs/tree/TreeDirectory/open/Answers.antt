@@ -1,4 +1,3 @@
-use Rattle.wax_directory.specs.Trees.{Has}
 use Rattle.wax_directory.specs.TreeCursors.{opens_last}
 use Rattle.wax_directory.proofs.tree.TreeDirectory.open.Goals as goal
 

@@ -1,4 +1,4 @@
-use Rattle.std.proofs.Common.{arith, refl, ap, sym, string_bytes, length, ◌≤◌, ◌+◌}
+use Rattle.std.proofs.Common.{arith, refl, string_bytes, length, ◌+◌}
 use Rattle.std.specs.Prelude.{Ok, Err, None}
 use Rattle.wax_directory.specs.declared.directory.DirectoryFault.TheVariants as F
 use Rattle.wax_directory.specs.Counting.{kind_counts}

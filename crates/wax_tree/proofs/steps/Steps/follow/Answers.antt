@@ -1,4 +1,4 @@
-use Rattle.std.proofs.Common.{rules, true, false, ◌≡◌, ◌≤◌, ◌<◌, ◌+◌, ◌∷◌, [], length, arith, ap, sym, refl}
+use Rattle.std.proofs.Common.{rules, true, false, ◌≡◌, ◌+◌, ◌∷◌, [], length, arith, ap, sym}
 use Rattle.std.proofs.Common.{subst, ◌∙◌, string_bytes, length-append}
 use Rattle.wax_directory.specs.declared.directory.FileType.TheVariants.{Folder}
 use Rattle.wax_directory.specs.Shown.{join}

@@ -1,4 +1,4 @@
-use Rattle.std.proofs.Common.{arith, string_bytes, ◌≤◌, refl}
+use Rattle.std.proofs.Common.{arith, string_bytes, refl}
 use Rattle.wax_directory.specs.Shown.{rest_of}
 use Rattle.wax_tree.specs.Walking.{cursors_of, folder_spot}
 use Rattle.wax_tree.proofs.Resting.{rest_moved}

@@ -1,6 +1,6 @@
 use Rattle.std.proofs.Common.{◌≡◌, refl, arith}
 use Rattle.wax_walk.proofs.Accounting.{accounts_then}
-use Rattle.wax_tree.specs.declared.steps.Step.TheVariants.{Gives, GoesOn, Ends}
+use Rattle.wax_tree.specs.declared.steps.Step.TheVariants.{Gives, Ends}
 use Rattle.wax_tree.proofs.Stepping.{leads_on, run_gives}
 use Rattle.wax_tree.proofs.steps.Steps.run.Goals as goal
 

@@ -1,4 +1,4 @@
-use Rattle.std.proofs.Common.{◌≤◌, ◌+◌, ◌<◌}
+use Rattle.std.proofs.Common.{◌≤◌, ◌+◌}
 use Rattle.std.specs.Prelude.{None}
 use Rattle.wax_walk.specs.Forest.{Pending}
 use Rattle.wax_walk.specs.Given.{Given}

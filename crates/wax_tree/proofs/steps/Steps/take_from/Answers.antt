@@ -1,11 +1,9 @@
-use Rattle.std.proofs.Common.{arith, ap, sym, refl, subst, string_bytes, ◌≡◌, ◌≤◌, ◌+◌, ◌∙◌, cond}
+use Rattle.std.proofs.Common.{arith, ap, refl, string_bytes, ◌≡◌, ◌≤◌, ◌+◌, ◌∙◌, cond}
 use Rattle.std.proofs.Common.{length-append, length, ◌-◌}
 use Rattle.wax_directory.specs.Answers.{listed_of}
 use Rattle.wax_directory.specs.Shown.{rest_of}
-use Rattle.wax_walk.specs.Forest.{pending, nothing, followed_by}
 use Rattle.wax_tree.specs.Heads.{own_count}
-use Rattle.wax_tree.specs.Plain.{count, items_forest}
-use Rattle.wax_tree.specs.Stepping.{StepIs}
+use Rattle.wax_tree.specs.Plain.{count}
 use Rattle.wax_tree.specs.Walking.{scope_of, folder_spot, allowance}
 use Rattle.wax_tree.proofs.Resting.{rest_pushed, rest_spent}
 use Rattle.wax_tree.proofs.Settling.{stops_over, step_from}

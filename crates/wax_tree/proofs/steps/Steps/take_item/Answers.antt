@@ -1,4 +1,4 @@
-use Rattle.std.proofs.Common.{arith, string_bytes, ◌≤◌, sym, ◌∙◌, false}
+use Rattle.std.proofs.Common.{arith, string_bytes, sym, ◌∙◌}
 use Rattle.wax_directory.specs.TreeLaw.{not_plain}
 use Rattle.wax_tree.specs.Walking.{scope_of}
 use Rattle.wax_tree.proofs.Resting.{comes_rest}
