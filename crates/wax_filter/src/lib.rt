@@ -2,5 +2,3 @@
 #![tactic(auto)]
 
 pub mod filter;
-#[cfg(test)]
-mod tests;

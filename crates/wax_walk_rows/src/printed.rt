@@ -2,16 +2,25 @@
 
 ghost use Rattle.std.specs.Iterator.{IsFinite};
 
+use std::alloc::{AllocError, Global};
 use std::io::{self, ErrorKind};
 use wax_directory::tree::Tree;
 use wax_walk::{Entry, FileIterator, TreeEntry, WalkError, collect};
 
 /// An entry by its path, an error in brackets.
-pub fn print_item<E: Entry>(rt: &HostRuntime, item: &Result<E, WalkError>) -> io::Result<()> {
+pub fn item_text<E: Entry>(
+    alloc: Global,
+    item: &Result<E, WalkError>,
+) -> Result<String, AllocError> {
     match item {
-        Ok(entry) => print!(rt; " \"{}\"", entry.path()),
-        Err(error) => print!(rt; " [{error}; {}]", error.depth()),
+        Ok(entry) => format!(in alloc; " \"{}\"", entry.path()),
+        Err(error) => format!(in alloc; " [{error}; {}]", error.depth()),
     }
+}
+
+pub fn print_item<E: Entry>(rt: &HostRuntime, item: &Result<E, WalkError>) -> io::Result<()> {
+    let text = item_text(rt.alloc(), item)?;
+    print!(rt; "{text}")
 }
 
 pub fn no_memory() -> io::Error {

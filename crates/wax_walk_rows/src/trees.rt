@@ -74,6 +74,31 @@ pub fn odd(alloc: Global) -> Result<Node, AllocError> {
     Ok(Node::Folder(items))
 }
 
+/// A folder with a file, a link, and items that can't be listed, can't be read or aren't text.
+pub fn mixed(alloc: Global) -> Result<Node, AllocError> {
+    let mut items = Vec::new(alloc);
+    items.push(entry(alloc, "doc", folder_of_files(alloc, &["guide.md"])?)?)?;
+    items.push(entry(alloc, "link", Node::Link)?)?;
+    items.push(TreeItem::Failed)?;
+    items.push(entry(alloc, "sealed", Node::Sealed)?)?;
+    items.push(TreeItem::NotText)?;
+    Ok(Node::Folder(items))
+}
+
+/// A folder `all` with an item of each kind, two of them under names that no path can hold.
+pub fn all_kinds(alloc: Global) -> Result<Node, AllocError> {
+    let mut items = Vec::new(alloc);
+    items.push(entry(alloc, "doc", folder_of_files(alloc, &["x"])?)?)?;
+    items.push(file(alloc, "file")?)?;
+    items.push(TreeItem::Failed)?;
+    items.push(entry(alloc, "link", Node::Link)?)?;
+    items.push(TreeItem::NotText)?;
+    items.push(entry(alloc, "..", Node::Sealed)?)?;
+    items.push(file(alloc, "a/b")?)?;
+    let all = Node::Folder(items);
+    Ok(Node::Folder(vec![in alloc; entry(alloc, "all", all)?]?))
+}
+
 /// The root: a folder `a` with a file `b`, and a file `x`.
 fn root(alloc: Global) -> Result<Node, AllocError> {
     let mut items = Vec::new(alloc);
