@@ -33,23 +33,31 @@ LeavesOut {R = R} makes (Filtrate x) r = (y : Product ResidueKind R) × makes x.
 LeavesOut {R = R} makes (Residue x) r = r ≡ Residue x
 
 -- an item that is kept becomes one of these and is left out alone, any other stays
-abbrev pub LeavesOutNode : {S F R : Type 0} → (F → R → Type 0) → Separation S F (TreeResidue R) → Separation S F (TreeResidue R) → Type 0
+abbrev pub LeavesOutNode : {S F R : Type 0} → (F → R → Type 0) → Separation S F (TreeResidue R)
+    → Separation S F (TreeResidue R) → Type 0
 LeavesOutNode {R = R} makes = LeavesOut (λ x y. (z : R) × makes x z × (y ≡ Node z))
 
 -- an item that is kept becomes one of these, and each item is left out with all below it
-abbrev pub LeavesOutTree : {S F R : Type 0} → (F → R → Type 0) → Separation S F (TreeResidue R) → Separation S F (TreeResidue R) → Type 0
-LeavesOutTree {R = R} makes (Filtrate x) r = (y : Product ResidueKind (TreeResidue R)) × (z : R) × makes x.inner z × (y.inner ≡ Tree z) × (r ≡ Residue y)
-LeavesOutTree {R = R} makes (Residue x) r = (y : Product ResidueKind (TreeResidue R)) × (y.inner ≡ tree_of x.inner) × (r ≡ Residue y)
+abbrev pub LeavesOutTree : {S F R : Type 0} → (F → R → Type 0) → Separation S F (TreeResidue R)
+    → Separation S F (TreeResidue R) → Type 0
+LeavesOutTree {R = R} makes (Filtrate x) r = (y : Product ResidueKind (TreeResidue R)) × (z : R)
+    × makes x.inner z × (y.inner ≡ Tree z) × (r ≡ Residue y)
+LeavesOutTree {R = R} makes (Residue x) r = (y : Product ResidueKind (TreeResidue R))
+    × (y.inner ≡ tree_of x.inner) × (r ≡ Residue y)
 
 -- an item that is kept becomes one of these, any other stays
-abbrev pub MapsFiltrate : {S T F G R : Type 0} → (F → G → Type 0) → Separation S F R → Separation T G R → Type 0
-MapsFiltrate {G = G} makes (Filtrate x) r = (y : Product FiltrateKind G) × makes x.inner y.inner × (r ≡ Filtrate y)
+abbrev pub MapsFiltrate : {S T F G R : Type 0} → (F → G → Type 0) → Separation S F R → Separation T G R
+    → Type 0
+MapsFiltrate {G = G} makes (Filtrate x) r = (y : Product FiltrateKind G) × makes x.inner y.inner
+    × (r ≡ Filtrate y)
 MapsFiltrate {G = G} makes (Residue x) r = r ≡ Residue x
 
 -- an item that is left out becomes one of these, any other stays
-abbrev pub MapsLeftOut : {S T F R Q : Type 0} → (R → Q → Type 0) → Separation S F R → Separation T F Q → Type 0
+abbrev pub MapsLeftOut : {S T F R Q : Type 0} → (R → Q → Type 0) → Separation S F R → Separation T F Q
+    → Type 0
 MapsLeftOut {Q = Q} makes (Filtrate x) r = r ≡ Filtrate x
-MapsLeftOut {Q = Q} makes (Residue x) r = (y : Product ResidueKind Q) × makes x.inner y.inner × (r ≡ Residue y)
+MapsLeftOut {Q = Q} makes (Residue x) r = (y : Product ResidueKind Q) × makes x.inner y.inner
+    × (r ≡ Residue y)
 
 -- references to the item, kept or left out as it is
 abbrev pub RefersTo : {S T F R : Type 0} → Separation S F R → Separation T (Bor F) (Bor R) → Type 0
@@ -64,7 +72,8 @@ abbrev pub CancelsBelow : {I R : Type 0} → (I → I → Type 0) → TreeResidu
 CancelsBelow cancels (Node x) i j = cancels i j
 CancelsBelow cancels (Tree x) i j = j ≡ i
 
-abbrev pub CancelsTree : {I S F R : Type 0} → (I → I → Type 0) → Separation S F (TreeResidue R) → I → I → Type 0
+abbrev pub CancelsTree : {I S F R : Type 0} → (I → I → Type 0) → Separation S F (TreeResidue R) → I → I
+    → Type 0
 CancelsTree cancels (Filtrate x) i j = cancels i j
 CancelsTree cancels (Residue x) i j = CancelsBelow cancels x.inner i j
 
@@ -81,13 +90,15 @@ Says says (Some x) r = says x r
 Says says None r = r ≡ None
 
 -- the item is separated as was said
-abbrev pub SeparatesBy : {S F R : Type 0} → (F → R → Type 0) → Option (TreeResidue (Unit {0})) → Separation S F (TreeResidue R) → Separation S F (TreeResidue R) → Type 0
+abbrev pub SeparatesBy : {S F R : Type 0} → (F → R → Type 0) → Option (TreeResidue (Unit {0}))
+    → Separation S F (TreeResidue R) → Separation S F (TreeResidue R) → Type 0
 SeparatesBy makes None x r = r ≡ x
 SeparatesBy makes (Some (Node u)) x r = LeavesOutNode makes x r
 SeparatesBy makes (Some (Tree u)) x r = LeavesOutTree makes x r
 
 -- what lies below is cancelled as was said
-abbrev pub CancelsBy : {I S F R : Type 0} → (I → I → Type 0) → Option (TreeResidue (Unit {0})) → Separation S F (TreeResidue R) → I → I → Type 0
+abbrev pub CancelsBy : {I S F R : Type 0} → (I → I → Type 0) → Option (TreeResidue (Unit {0}))
+    → Separation S F (TreeResidue R) → I → I → Type 0
 CancelsBy cancels None x i j = j ≡ i
 CancelsBy cancels (Some (Node u)) x i j = j ≡ i
 CancelsBy cancels (Some (Tree u)) x i j = CancelsTree cancels x i j

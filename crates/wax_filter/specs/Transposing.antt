@@ -13,7 +13,8 @@ Transposes (Filtrate x) (Some (Residue y)) = ⊥
 Transposes (Residue x) r = r ≡ Some (Residue x)
 
 -- the item inside one that is kept, or the error; any other stays
-abbrev pub TransposesOk : {S T A E R : Type 0} → Separation S (Result A E) R → Result (Separation T A R) (Product FiltrateKind E) → Type 0
+abbrev pub TransposesOk : {S T A E R : Type 0} → Separation S (Result A E) R
+    → Result (Separation T A R) (Product FiltrateKind E) → Type 0
 TransposesOk (Filtrate x) (Err y) = x.inner ≡ Err y.inner
 TransposesOk (Filtrate x) (Ok (Filtrate y)) = x.inner ≡ Ok y.inner
 TransposesOk (Filtrate x) (Ok (Residue y)) = ⊥

@@ -1,4 +1,5 @@
--- The entry of an item, where what is kept and what is left out are entries: an implementer of `Isomeric` names it.
+-- The entry of an item, where what is kept and what is left out are entries: an implementer of `Isomeric`
+-- names it.
 use Rattle.wax_filter.specs.declared.filter.separation.Separation.{Separation}
 use Rattle.wax_filter.specs.declared.filter.separation.Separation.TheVariants.{Filtrate, Residue}
 use Rattle.wax_filter.specs.declared.filter.tree_residue.TreeResidue.{TreeResidue}

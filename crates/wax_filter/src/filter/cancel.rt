@@ -15,7 +15,8 @@ pub trait SeparatingFilter: Drop {
     ghost can_feed: { Self → Type 0 } = { λ _. ⊤ };
 
     /// Holds of the state before a call of `feed`, its answer and the state after.
-    ghost feeds: { Self → Option (Separation Self.Feed Self.Feed.Filtrate Self.Feed.Residue) → Self → Type 0 } = { λ _ _ _. ⊤ };
+    ghost feeds: { Self → Option (Separation Self.Feed Self.Feed.Filtrate Self.Feed.Residue) → Self
+        → Type 0 } = { λ _ _ _. ⊤ };
 
     /// Where `feed` may be called, no more items than this come before `None`.
     ghost left: { Self → Count } = { λ _. endless };
@@ -43,7 +44,8 @@ pub trait CancelWalk: SeparatingFilter {
     ghost can_go_on: { (s t : Self) → cancels s t → Self.can_feed s → Self.can_feed t };
 
     /// No more items come than would have come before.
-    ghost no_longer: { (s t : Self) → cancels s t → IsFinite (Self.left s) → UpTo (Self.left t) (size (Self.left s)) };
+    ghost no_longer: { (s t : Self) → cancels s t → IsFinite (Self.left s)
+        → UpTo (Self.left t) (size (Self.left s)) };
 }
 
 /// Lends a walk for cancelling alone.

@@ -57,7 +57,8 @@ where
 
     ghost can_feed = { λ s. I.can_feed s.input × F.IsAlwaysCallable s.f };
 
-    ghost feeds = { λ s r t. Feeds I.feeds (ByEntry F.step I.Feed.shown R.from_gives I.cancels) s.input s.f r t.input t.f };
+    ghost feeds = { λ s r t. Feeds I.feeds (ByEntry F.step I.Feed.shown R.from_gives I.cancels)
+        s.input s.f r t.input t.f };
 
     ghost left = { λ s. I.left s.input };
 
@@ -84,7 +85,10 @@ where
 
     ghost once = { λ s t u a b. (I.once s.input t.input u.input a.0 b.0, b.1 ∙ a.1) };
 
-    ghost can_go_on = { λ s t h c. (I.can_go_on s.input t.input h.0 c.0, subst (λ v. F.IsAlwaysCallable v) (sym h.1) c.1) };
+    ghost can_go_on = { λ s t h c. (
+      I.can_go_on s.input t.input h.0 c.0,
+      subst (λ v. F.IsAlwaysCallable v) (sym h.1) c.1,
+    ) };
 
     ghost no_longer = { λ s t h e. I.no_longer s.input t.input h.0 e };
 }
@@ -100,7 +104,8 @@ where
 
     ghost can_next = { λ s. I.can_feed s.input × F.IsAlwaysCallable s.f × IsFinite (I.left s.input) };
 
-    ghost next_gives = { λ s r t. NextFiltrate (λ u o v. Feeds I.feeds (ByEntry F.step I.Feed.shown R.from_gives I.cancels) u.input u.f o v.input v.f) s r t };
+    ghost next_gives = { λ s r t. NextFiltrate (λ u o v. Feeds I.feeds
+        (ByEntry F.step I.Feed.shown R.from_gives I.cancels) u.input u.f o v.input v.f) s r t };
 
     ghost remaining = { λ s. I.left s.input };
 

@@ -3,7 +3,9 @@
 ghost use Rattle.std.specs.Prelude.{◌≡◌, Option};
 ghost use Rattle.std.specs.Option.{option_map};
 ghost use Rattle.std.specs.Fn.{FnOnceReturnsAt};
-ghost use Rattle.wax_filter.specs.Separating.{filtrate_of, AtFiltrate, AtResidue, LeavesOut, LeavesOutNode, LeavesOutTree, MapsFiltrate, MapsLeftOut, RefersTo, CancelsTree, Answers, Says, SeparatesBy, CancelsBy};
+ghost use Rattle.wax_filter.specs.Separating.{filtrate_of, AtFiltrate, AtResidue, LeavesOut, LeavesOutNode};
+ghost use Rattle.wax_filter.specs.Separating.{LeavesOutTree, MapsFiltrate, MapsLeftOut, RefersTo};
+ghost use Rattle.wax_filter.specs.Separating.{CancelsTree, Answers, Says, SeparatesBy, CancelsBy};
 ghost use Rattle.wax_filter.specs.Transposing.{Transposes, TransposesOk};
 
 use crate::filter::cancel::{CancelWalk, WalkCancellation};
@@ -212,7 +214,9 @@ where
         I: CancelWalk,
         F: FnOnce(&S::Substituent) -> Option<TreeResidue<()>>,
         requires { F.IsAlwaysCallable f }
-        ensures separates { (said : _) × Says (FnOnceReturnsAt F.FnOnce f) (S.shown self) said × SeparatesBy R.from_gives said self result × CancelsBy I.cancels said self cancellation.old.0.now cancellation.new.0.now }
+        ensures separates { (said : _) × Says (FnOnceReturnsAt F.FnOnce f) (S.shown self) said
+            × SeparatesBy R.from_gives said self result
+            × CancelsBy I.cancels said self cancellation.old.0.now cancellation.new.0.now }
         ensures same { cancellation.new.0.ghost_name ≡ cancellation.old.0.ghost_name }
     {
         match self.substituent(f) {
