@@ -73,7 +73,7 @@ const STOPS: [(&str, &str); 11] = [
     ("\"README.md\"", ""),
 ];
 
-/// Over its budget a walk gives a beginning of what it gives without one, then the one error, and nothing more.
+/// Over its budget a walk gives a beginning of what it gives without one, then one error and no more.
 fn compare_budgets(alloc: Global, report: &mut Report) -> io::Result<()> {
     let mut given = String::new(alloc);
     let mut budget = 0u32;

@@ -19,7 +19,7 @@ pub fn report(alloc: Global) -> io::Result<Report> {
     Ok(report)
 }
 
-/// What the tree with this working folder has counted after the walk from a start; `None` where memory is refused.
+/// What a tree has counted after the walk from a start; `None` where memory is refused.
 fn tally(
     alloc: Global,
     working: Result<Node, AllocError>,
