@@ -27,16 +27,16 @@ abbrev pub NextFiltrate : {S G F R : Type 0} → (S → Option (Separation G F R
 NextFiltrate {S = S} {G = G} {F = F} {R = R} feeds s r t = (xs : List (Product ResidueKind R)) × (u : S)
     × (o : Option (Separation G F R)) × Passes feeds s xs u × feeds u o t × Keeps o r
 
--- a filter's answer for the answer of the walk below it
-abbrev pub Turns : {I F A B : Type 0} → (I → F → A → B → I → F → Type 0) → I → F → Option A → Option B → I
-    → F → Type 0
-Turns {B = B} turns u f None r j g = (r ≡ None) × (j ≡ u) × (g ≡ f)
-Turns {B = B} turns u f (Some x) r j g = (y : B) × turns u f x y j g × (r ≡ Some y)
+-- a layer's answer for the answer of the walk below it; a layer is a walk and a closure
+abbrev pub Turns : {L A B : Type 0} → (L → A → B → L → Type 0) → L → Option A → Option B → L → Type 0
+Turns turns s None r t = (r ≡ None) × (t ≡ s)
+Turns {B = B} turns s (Some x) r t = (y : B) × turns s x y t × (r ≡ Some y)
 
--- a filter over a walk: the walk is asked, and its answer is turned
-abbrev pub Feeds : {I F A B : Type 0} → (I → Option A → I → Type 0) → (I → F → A → B → I → F → Type 0) → I
-    → F → Option B → I → F → Type 0
-Feeds {I = I} {A = A} feeds turns i f r j g = (o : Option A) × (u : I) × feeds i o u × Turns turns u f o r j g
+-- a layer over a walk: the walk is asked, and its answer is turned
+abbrev pub Feeds : {I F A B : Type 0} → (I → Option A → I → Type 0) → (I × F → A → B → I × F → Type 0)
+    → I × F → Option B → I × F → Type 0
+Feeds {I = I} {A = A} feeds turns s r t = (o : Option A) × (u : I)
+    × feeds s.0 o u × Turns turns (u, s.1) o r t
 
 -- what a closure says of an entry, if there is one
 abbrev pub SaysAt : {F A B : Type 0} → (F → Bor A → Option B → F → Type 0) → F → Option A → Option B → F
@@ -44,13 +44,23 @@ abbrev pub SaysAt : {F A B : Type 0} → (F → Bor A → Option B → F → Typ
 SaysAt {A = A} step f (Some x) r g = (b : Bor A) × (b.now ≡ x) × step f b r g
 SaysAt step f None r g = (r ≡ None) × (g ≡ f)
 
+-- a closure's call with an entry, the entry of an item, what is left out of what is kept, and cancelling
+pub record EntryLayer (I E G F R A : Type 0) : Type 1 where
+  pub step : E → Bor A → Option (TreeResidue (Unit {0})) → E → Type 0
+  pub shown : Separation G F (TreeResidue R) → Option A
+  pub makes : F → R → Type 0
+  pub cancels : I → I → Type 0
+
+abbrev pub entry_layer : {I E G F R A : Type 0} → (E → Bor A → Option (TreeResidue (Unit {0})) → E → Type 0)
+    → (Separation G F (TreeResidue R) → Option A) → (F → R → Type 0) → (I → I → Type 0)
+    → EntryLayer I E G F R A
+entry_layer step shown makes cancels = record { step = step; shown = shown; makes = makes; cancels = cancels }
+
 -- an item is separated, and what lies below is cancelled, as the closure says of the entry
-abbrev pub ByEntry : {I E G F R A : Type 0} → (E → Bor A → Option (TreeResidue (Unit {0})) → E → Type 0)
-    → (Separation G F (TreeResidue R) → Option A)
-    → (F → R → Type 0) → (I → I → Type 0) → I → E → Separation G F (TreeResidue R)
-    → Separation G F (TreeResidue R) → I → E → Type 0
-ByEntry step shown makes cancels u f x y j g = (said : Option (TreeResidue (Unit {0})))
-    × SaysAt step f (shown x) said g × SeparatesBy makes said x y × CancelsBy cancels said x u j
+abbrev pub ByEntry : {I E G F R A : Type 0} → EntryLayer I E G F R A → I × E
+    → Separation G F (TreeResidue R) → Separation G F (TreeResidue R) → I × E → Type 0
+ByEntry by s x y t = (said : Option (TreeResidue (Unit {0}))) × SaysAt by.step s.1 (by.shown x) said t.1
+    × SeparatesBy by.makes said x y × CancelsBy by.cancels said x s.0 t.0
 
 -- the walk is as it was, or cancelled
 abbrev pub AtMostCancels : {I : Type 0} → (I → I → Type 0) → I → I → Type 0
@@ -67,10 +77,9 @@ OnlyCancels {I = I} {E = E} {A = A} {B = B} step cancels =
 -- an item becomes what the closure makes of it, and the walk is what it was lent, or cancelled
 abbrev pub ByItem : {I E A B : Type 0} → (E → MutBor (WalkCancellation I) → A → B
     → MutBor (WalkCancellation I) → E → Type 0)
-    → (I → I → Type 0) → I → E → A → B → I → E → Type 0
-ByItem {I = I} step cancels u f x y j g = (w : MutBor (WalkCancellation I))
-    × (v : MutBor (WalkCancellation I))
-    × (w.now.0.now ≡ u) × step f w x y v g × (v.now.0.now ≡ j) × AtMostCancels cancels u j
+    → (I → I → Type 0) → I × E → A → B → I × E → Type 0
+ByItem {I = I} step cancels s x y t = (w : MutBor (WalkCancellation I)) × (v : MutBor (WalkCancellation I))
+    × (w.now.0.now ≡ s.0) × step s.1 w x y v t.1 × (v.now.0.now ≡ t.0) × AtMostCancels cancels s.0 t.0
 
 -- the iterator's answer, kept
 abbrev pub KeepsAll : {I G F R : Type 0} → (I → Option F → I → Type 0) → I → Option (Separation G F R) → I

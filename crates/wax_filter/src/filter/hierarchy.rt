@@ -4,7 +4,7 @@ ghost use Rattle.std.specs.Prelude.{◌≡◌, ◌⊎◌};
 ghost use Rattle.std.specs.Option.{option_map};
 ghost use Rattle.std.specs.Iterator.{IsFinite};
 ghost use Rattle.std.proofs.Common.{subst, sym, ◌∙◌};
-ghost use Rattle.wax_filter.specs.Feeding.{Feeds, SaysAt, ByEntry, NextFiltrate};
+ghost use Rattle.wax_filter.specs.Feeding.{Feeds, SaysAt, ByEntry, NextFiltrate, entry_layer};
 
 use crate::filter::cancel::{CancelWalk, SeparatingFilter, WalkCancellation};
 use crate::filter::layers::filtrate;
@@ -57,8 +57,8 @@ where
 
     ghost can_feed = { λ s. I.can_feed s.input × F.IsAlwaysCallable s.f };
 
-    ghost feeds = { λ s r t. Feeds I.feeds (ByEntry F.step I.Feed.shown R.from_gives I.cancels)
-        s.input s.f r t.input t.f };
+    ghost feeds = { λ s r t. Feeds I.feeds (ByEntry (entry_layer F.step I.Feed.shown R.from_gives I.cancels))
+        (s.input, s.f) r (t.input, t.f) };
 
     ghost left = { λ s. I.left s.input };
 
@@ -105,7 +105,8 @@ where
     ghost can_next = { λ s. I.can_feed s.input × F.IsAlwaysCallable s.f × IsFinite (I.left s.input) };
 
     ghost next_gives = { λ s r t. NextFiltrate (λ u o v. Feeds I.feeds
-        (ByEntry F.step I.Feed.shown R.from_gives I.cancels) u.input u.f o v.input v.f) s r t };
+        (ByEntry (entry_layer F.step I.Feed.shown R.from_gives I.cancels))
+        (u.input, u.f) o (v.input, v.f)) s r t };
 
     ghost remaining = { λ s. I.left s.input };
 

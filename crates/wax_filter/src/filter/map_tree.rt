@@ -24,7 +24,8 @@ where
     requires callable { F.IsAlwaysCallable f.old }
     requires cancels { OnlyCancels F.step I.cancels }
     ensures callable { F.IsAlwaysCallable f.new }
-    ensures makes { ByItem F.step I.cancels cancellation.old.0.now f.old item result cancellation.new.0.now f.new }
+    ensures makes { ByItem F.step I.cancels (cancellation.old.0.now, f.old) item result
+        (cancellation.new.0.now, f.new) }
     ensures same { cancellation.new.0.ghost_name ≡ cancellation.old.0.ghost_name }
 {
     f(cancellation, item)
@@ -64,7 +65,7 @@ where
 
     ghost can_feed = { λ s. I.can_feed s.input × F.IsAlwaysCallable s.f × OnlyCancels F.step I.cancels };
 
-    ghost feeds = { λ s r t. Feeds I.feeds (ByItem F.step I.cancels) s.input s.f r t.input t.f };
+    ghost feeds = { λ s r t. Feeds I.feeds (ByItem F.step I.cancels) (s.input, s.f) r (t.input, t.f) };
 
     ghost left = { λ s. I.left s.input };
 
@@ -111,7 +112,7 @@ where
         × IsFinite (I.left s.input) };
 
     ghost next_gives = { λ s r t. NextFiltrate (λ u o v. Feeds I.feeds (ByItem F.step I.cancels)
-        u.input u.f o v.input v.f) s r t };
+        (u.input, u.f) o (v.input, v.f)) s r t };
 
     ghost remaining = { λ s. I.left s.input };
 
