@@ -1,9 +1,10 @@
 -- How long meant texts are.
 use Rattle.std.proofs.Common.{◌≡◌, ℕ, zero, suc, ◌+◌, ◌*◌, ◌<◌, ◌≤◌, Bool, true, false, List, [], ◌∷◌, ◌++◌, length, get_or, drop, chars}
-use Rattle.std.proofs.Common.{refl, sym, ◌∙◌, ap, subst, arith, append-nil, length-append, drop-cons}
+use Rattle.std.proofs.Common.{refl, sym, ◌∙◌, ap, subst, arith, append-nil, length-append}
 use Rattle.std.proofs.Math.Nat.{mul-le-mul_left}
 use Rattle.std.specs.Str.{IsUtf8}
 use Rattle.std.proofs.lemmas.Str.{encodes-chars, length-le-encodes}
+use Rattle.wax_prefilter.proofs.MeantEdges.{drop_here}
 use Rattle.wax_token.specs.Meaning.{Means, MeansEach, SameText, Copies}
 use Rattle.wax_token.specs.Reads.{Span}
 use Rattle.wax_token.specs.Syntax.{Tree}
@@ -46,10 +47,8 @@ LeftAfter ts i sum = (before after : Bool) (s : List ℕ) → MeansEach (trees t
 pub left_more : (ts : List (Tree Span)) (i : ℕ) (t : Tree Span) (sum least sum' : ℕ) → i < length ts → t ≡ get_or ts i t
     → ((b a : Bool) (x : List ℕ) → Means t b a x → least ≤ length x) → sum' ≤ sum + least → LeftAfter ts i sum → LeftAfter ts (i + 1) sum'
 left_more ts i t sum least sum' lt e short le so_far before after s h =
-    let n : suc i ≡ i + 1 = omega arith in
-    let d : drop i ts ≡ t ∷ drop (i + 1) ts = drop-cons ts i t lt ∙ ap (λ z. z ∷ drop (suc i) ts) (sym e) ∙ ap (λ k. t ∷ drop k ts) n in
     let r : (b : Bool) × (y : List ℕ) × (sum + length y ≤ length s) × MeansEach (trees (drop i ts)) b after y = so_far before after s h in
     let q : (c : Bool) × (f : Bool) × (x : List ℕ) × (z : List ℕ) × (r.1 ≡ x ++ z) × Means t r.0 c x × MeansEach (trees (drop (i + 1) ts)) f after z =
-    first_then t (drop (i + 1) ts) r.0 after r.1 (subst (λ z. MeansEach (trees z) r.0 after r.1) d r.3) in
+    first_then t (drop (i + 1) ts) r.0 after r.1 (subst (λ z. MeansEach (trees z) r.0 after r.1) (drop_here ts i t lt e) r.3) in
     let whole : length r.1 ≡ length q.2 + length q.3 = ap length q.4 ∙ length-append q.2 q.3 in
     (q.1, q.3, (omega (arith, r.2, whole, short r.0 q.0 q.2 q.5, le)), q.6)

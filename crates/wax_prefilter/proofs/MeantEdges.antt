@@ -45,13 +45,15 @@ first_meant [] t e after s h = absurd (none_some t e)
 first_meant (u ∷ []) t e after s h = (after, s, [], sym (append-nil s), subst (λ z. Means z false after s) (same_some u t e) h)
 first_meant (u ∷ v ∷ vs) t e after s h = (true, h.0, h.1, h.2, subst (λ z. Means z false true h.0) (same_some u t e) h.3)
 
+pub drop_here : (ts : List (Tree Span)) (i : ℕ) (t : Tree Span) → i < length ts → t ≡ get_or ts i t → drop i ts ≡ t ∷ drop (i + 1) ts
+drop_here ts i t lt e =
+    let n : suc i ≡ i + 1 = omega arith in
+    drop-cons ts i t lt ∙ ap (λ z. z ∷ drop (suc i) ts) (sym e) ∙ ap (λ k. t ∷ drop k ts) n
+
 -- of the branches, the first means the text, or a later one does
 pub next_branch : (ts : List (Tree Span)) (i : ℕ) (t : Tree Span) → i < length ts → t ≡ get_or ts i t → (before after : Bool) (s : List ℕ)
     → MeansSome (trees (drop i ts)) before after s → Means t before after s ⊎ MeansSome (trees (drop (i + 1) ts)) before after s
-next_branch ts i t lt e before after s h =
-    let n : suc i ≡ i + 1 = omega arith in
-    let d : drop i ts ≡ t ∷ drop (i + 1) ts = drop-cons ts i t lt ∙ ap (λ z. z ∷ drop (suc i) ts) (sym e) ∙ ap (λ k. t ∷ drop k ts) n in
-    subst (λ z. MeansSome (trees z) before after s) d h
+next_branch ts i t lt e before after s h = subst (λ z. MeansSome (trees z) before after s) (drop_here ts i t lt e) h
 
 pub no_branch : (ts : List (Tree Span)) (i : ℕ) → length ts ≤ i → (before after : Bool) (s : List ℕ) → MeansSome (trees (drop i ts)) before after s → ⊥
 no_branch ts i le before after s h = subst (λ z. MeansSome (trees z) before after s) (drop_all i ts le) h
