@@ -43,7 +43,10 @@ fn time_match(rt: HostRuntime, expression: &str, lines: &[&str]) -> io::Result<(
     let time = start.elapsed(&rt)?;
     let count = (lines.len() as u128).max(1);
     let (nanoseconds, visits) = (time.as_nanos() / count, matches.visits / count);
-    println!(rt; "{expression}\t{nanoseconds}\t{visits}\t{}", matches.matched)
+    println!(rt;
+        "{expression}\t{nanoseconds}\t{visits}\t{}",
+        matches.matched
+    )
 }
 
 /// How many entries and errors the walk from a path gives.
