@@ -1,6 +1,6 @@
 //! Prints walks of trees in memory, row by row: what is given, the paths that were listed, and how many items
-//! were asked for. Then it compares answers with those that have to come, prints each that is other,
-//! with both values, and how many are the same. The file `stdout` beside this folder has what has to be printed.
+//! were asked for. Then it compares answers with those that have to come, prints each that is other, with both
+//! values, and how many are the same. The file `stdout` beside this folder has what has to be printed.
 #![tactic(auto)]
 
 mod depth_rows;
