@@ -6,7 +6,7 @@
 
 globs:
 	@echo 'proving the crates below globs, side by side; some 15 minutes on 4 processors the first time'
-	./prove wax wax_lines
+	./prove wax_commands
 	cd crates/globs && mkdir -p out && rm -f out/globs && { rt run </dev/null >/dev/null 2>out/prove.log || true; }
 	test -x crates/globs/out/globs || { cat crates/globs/out/prove.log; exit 1; }
 	cp crates/globs/out/globs globs

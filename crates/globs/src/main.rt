@@ -3,14 +3,7 @@
 
 use std::process::ExitCode;
 use wax::Counted;
-
-mod run;
-#[cfg(test)]
-mod tests;
-mod words;
-
-pub use run::run_globs;
-use words::words;
+use wax_commands::{run_globs, words};
 
 fn main(rt: HostRuntime) -> ExitCode {
     let alloc = rt.alloc();

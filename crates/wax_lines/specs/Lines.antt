@@ -78,7 +78,7 @@ pub record StoppedWriting (Means : List ℕ → Type 0) (left left' held held' :
   pub writes : Appends held held' out
   pub filters : Filters Means (complete_lines has_ended front) (out ++ unwritten) bad
 
--- What the whole lines give was written, of all bytes that were read but a rest, which is of the last read.
+-- What the whole lines give was written, of all bytes read but a rest, no longer than one read gives.
 pub record StoppedShort (Means : List ℕ → Type 0) (left left' held held' : Option (List ℕ)) : Type 0 where
   pub front : List ℕ
   pub rest : List ℕ

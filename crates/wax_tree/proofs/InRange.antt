@@ -17,7 +17,7 @@ use Rattle.wax_tree.specs.Whole.{whole_entry, whole_items, whole, is_in, Entries
 use Rattle.wax_tree.specs.Whole.{lacks_memory, over_budget}
 use Rattle.wax_walk.specs.Collected.{GaveAll}
 use Rattle.wax_walk.specs.Collected as given
-use Rattle.wax_walk.specs.Forest.{Forest, nothing, item, lists, followed_by, preorder, pending}
+use Rattle.wax_walk.specs.Forest.{Forest, nothing, item, lists, followed_by, preorder, Pending, pending}
 use Rattle.wax_walk.specs.declared.error.FaultKind.TheVariants.{Listing}
 use Rattle.wax_walk.specs.Given.{Given, fault}
 use Rattle.wax_walk.proofs.Collecting.{preorder_append}
@@ -158,14 +158,12 @@ pub entries_are : (range : Range) (start : List ℕ) (s : Shown) (tells : List (
 entries_are range start s tells listed xs (given.whole e t) =
     all_in_range (ap (filter (is_in range)) e ∙ plain_wanted range start s)
 entries_are range start s tells listed xs (given.lacks_memory c) = lacks_memory c
-entries_are range start s tells listed xs (given.over_budget path depth few c) =
+entries_are range start s tells listed xs (given.over_budget path depth few h c) =
     over_budget path depth (omega (arith, few)) c
 
 -- what is given, whether the directory tells the folders that it listed or not
-pub untold : (tells : List (List ℕ) → Type 0) (allowed : ℕ) (f : Forest Given) (listed other : List (List ℕ))
-    (items : ℕ) (xs : List Given) → GaveAll tells allowed (pending nothing f listed items) xs
-    → GaveAll (λ _. Unit {0}) allowed (pending nothing f other items) xs
-untold tells allowed f listed other items xs (given.whole e t) = given.whole e tt
-untold tells allowed f listed other items xs (given.lacks_memory c) = given.lacks_memory c
-untold tells allowed f listed other items xs (given.over_budget path depth few c) =
-    given.over_budget path depth few c
+pub untold : (tells : List (List ℕ) → Type 0) (allowed : ℕ) (p : Pending Given) (xs : List Given)
+    → GaveAll tells allowed p xs → GaveAll (λ _. Unit {0}) allowed p xs
+untold tells allowed p xs (given.whole e t) = given.whole e tt
+untold tells allowed p xs (given.lacks_memory c) = given.lacks_memory c
+untold tells allowed p xs (given.over_budget path depth few h c) = given.over_budget path depth few h c

@@ -106,7 +106,7 @@ module _ (scope : Scope) where
       → AllKept (preorder (all_pending p)) → GaveAll tells allowed p xs → AllKept xs
   kept_given tells allowed p xs h (whole e t) = subst AllKept (sym e) h
   kept_given tells allowed p xs h (lacks_memory c) = kept_cut _ _ xs refl h c
-  kept_given tells allowed p xs h (over_budget path depth few c) = kept_cut _ _ xs refl h c
+  kept_given tells allowed p xs h (over_budget path depth few listed c) = kept_cut _ _ xs refl h c
 
   -- what is kept of a plain walk is all of it
   pub plain_kept : (tells : List (List ℕ) → Type 0) (allowed : ℕ) (s : Shown) (listed : List (List ℕ))

@@ -40,6 +40,7 @@ module _ {D C : Type 0} (law : Law D C) where
     few = omega arith;
     alone = rw (e, n, l) (refl, refl);
     told = told;
+    opened = rw l tt;
     ended = λ t. absurd (let b : true ≡ false = sym t ∙ f in (cc));
   }
 
@@ -77,6 +78,7 @@ module _ {D C : Type 0} (law : Law D C) where
     few = omega arith;
     alone = rw e tt;
     told = told;
+    opened = rw l tt;
     ended = λ t. (refl, refl);
   }
 
@@ -94,7 +96,7 @@ module _ {D C : Type 0} (law : Law D C) where
       → GivesOrStops (steps_view law w.steps) p r (steps_view law v.steps)
       → GivesOrStops (tree_view law w) p r (tree_view law v)
   goes_on w v p r d (lacks_memory e) = lacks_memory e
-  goes_on w v p r d (over_budget path depth e few) = over_budget path depth e few
+  goes_on w v p r d (over_budget path depth e few h) = over_budget path depth e few h
   goes_on w v p r d (gives items few first) =
       gives items few (first_known (PlainToCome law v.steps) (MayCome law v) (λ q i. goes d i) p items r
       first)

@@ -3,7 +3,9 @@ use Rattle.std.proofs.Common.{◌≡◌, ℕ, ◌+◌, ◌-◌, ◌<◌, ◌≤�
 use Rattle.std.proofs.Common.{◌∷◌, ◌++◌, refl, sym, ap, subst, ◌∙◌, arith, string_bytes}
 use Rattle.std.specs.Prelude.{Option, Some}
 use Rattle.std.proofs.lemmas.Bool.{lt-ltb}
+use Rattle.std.specs.List.{Contains}
 use Rattle.std.proofs.lemmas.List.{map-append}
+use Rattle.std.proofs.lemmas.List.Elements.{Contains-append_left}
 use Rattle.wax_directory.specs.declared.directory.FileType.TheVariants as F
 use Rattle.wax_directory.specs.Law.{Law, ShowsSame, HoldsLast}
 use Rattle.wax_directory.specs.Shown.{Items, Shown, a_leaf, a_folder, a_sealed, missing, failing, ShowsIn}
@@ -15,7 +17,7 @@ use Rattle.wax_tree.specs.declared.steps.Steps.{Steps}
 use Rattle.wax_tree.specs.Plain.{Scope, Spot, count, count_shown, below_forest, items_forest, unlisted}
 use Rattle.wax_tree.specs.Walking.{HasKind, IsAlone, folder_spot, scope_of}
 use Rattle.wax_tree.specs.Walking.{cursors_of, Rest, FirstShows, EnteredShows, LevelsShow, AtRest}
-use Rattle.wax_tree.specs.Walking.{PlainToCome}
+use Rattle.wax_tree.specs.Walking.{PlainToCome, WereListed}
 use Rattle.wax_tree.proofs.Showing.{followed_nothing, followed_assoc, shows_in_moved}
 
 pub levels_moved : {C : Type 0} (old new : List ℕ → Shown → Type 0) (scope : Scope)
@@ -148,6 +150,26 @@ pub cursors_pushed : {C : Type 0} (ls : List (Level C)) (lv : Level C)
     → cursors_of (ls ++ lv ∷ []) ≡ cursors_of ls ++ lv.cursor ∷ []
 cursors_pushed ls lv = map-append (λ level. level.cursor) ls (lv ∷ [])
 
+module _ {C : Type 0} where
+  listed_pushed : (levels : List (Level C)) (last : Level C) (listed : List (List ℕ))
+      → WereListed levels listed → Contains listed (string_bytes last.folder.path)
+      → WereListed (levels ++ last ∷ []) listed
+  listed_pushed [] last listed h k = (k, tt)
+  listed_pushed (level ∷ levels) last listed h k = (h.0, listed_pushed levels last listed h.1 k)
+
+  pub listed_popped : (levels : List (Level C)) (last : Level C) (listed : List (List ℕ))
+      → WereListed (levels ++ last ∷ []) listed
+      → WereListed levels listed × Contains listed (string_bytes last.folder.path)
+  listed_popped [] last listed h = (tt, h.0)
+  listed_popped (level ∷ levels) last listed h =
+      let rest = listed_popped levels last listed h.1 in ((h.0, rest.0), rest.1)
+
+  pub listed_more : (levels : List (Level C)) (listed more : List (List ℕ)) → WereListed levels listed
+      → WereListed levels (listed ++ more)
+  listed_more [] listed more h = tt
+  listed_more (level ∷ levels) listed more h =
+      (Contains-append_left listed more _ h.0, listed_more levels listed more h.1)
+
 module _ {D C : Type 0} (law : Law D C) where
   pub comes_after : (w : Steps D C) (e : Option Folder) (below : Forest Given) (k items : ℕ) (rest : Rest)
       → AtRest law w rest → EnteredShows (law.shows w.directory) (scope_of w) e below k
@@ -167,6 +189,7 @@ module _ {D C : Type 0} (law : Law D C) where
     few = omega (arith, few);
     alone = subst (λ v. IsAlone v e w.levels.items) (sym r.first) tt;
     told = r.told;
+    opened = r.opened;
     ended = λ t. absurd (let x : true ≡ false = sym t ∙ r.running in (cc));
   }
 
@@ -187,6 +210,7 @@ module _ {D C : Type 0} (law : Law D C) where
     few = omega (arith, few);
     alone = subst (λ v. IsAlone v w.entered w.levels.items) (sym r.first) tt;
     told = r.told;
+    opened = r.opened;
     ended = λ t. absurd (let x : true ≡ false = sym t ∙ r.running in (cc));
   }
 
@@ -209,6 +233,7 @@ module _ {D C : Type 0} (law : Law D C) where
         few = c.few;
         alone = c.alone;
         told = c.told;
+        opened = c.opened;
         ended = λ t. (
           refl,
           levels_none (law.shows w.directory) (scope_of w) w.levels.items rest.has
@@ -219,12 +244,14 @@ module _ {D C : Type 0} (law : Law D C) where
   -- the directory answered
   pub rest_moved : (w : Steps D C) (d : D) (listed : List (List ℕ)) (rest : Rest) → AtRest law w rest
       → ShowsSame law w.directory d → law.holds d (cursors_of w.levels.items) rest.has → law.tells d listed
+      → WereListed w.levels.items listed
       → AtRest law (record w { directory = d }) (record rest { listed = listed })
-  rest_moved w d listed rest r same held told = record {
+  rest_moved w d listed rest r same held told opened = record {
     levels = levels_moved (law.shows w.directory) (law.shows d) (scope_of w) same w.levels.items rest.has
         rest.forest rest.count r.levels;
     held = held;
     told = told;
+    opened = opened;
     first = r.first;
     entered = r.entered;
     running = r.running;
@@ -234,6 +261,7 @@ module _ {D C : Type 0} (law : Law D C) where
   pub rest_pushed : (w v : Steps D C) (lv : Level C) (l : Items) (rest : Rest) → AtRest law w rest
       → HoldsLast law w.directory (cursors_of w.levels.items) rest.has lv.cursor l
       → ShowsIn (law.shows w.directory) (string_bytes lv.folder.path) l
+      → Contains rest.listed (string_bytes lv.folder.path)
       → v.levels.items ≡ w.levels.items ++ lv ∷ []
       → AtRest law (record w { levels = v.levels })
       (record {
@@ -244,7 +272,7 @@ module _ {D C : Type 0} (law : Law D C) where
             rest.count + count l;
         listed = rest.listed;
       })
-  rest_pushed w v lv l rest r held shown e = record {
+  rest_pushed w v lv l rest r held shown opened e = record {
     levels = subst (λ ls. LevelsShow (law.shows w.directory) (scope_of w) ls (rest.has ++ l ∷ [])
         (followed_by (items_forest (scope_of w) (folder_spot lv.folder) l) rest.forest)
         (rest.count + count l)) (sym e)
@@ -254,6 +282,8 @@ module _ {D C : Type 0} (law : Law D C) where
         (subst (λ cs. law.holds w.directory cs (rest.has ++ l ∷ [])) (sym (cursors_pushed w.levels.items lv))
         held);
     told = r.told;
+    opened = subst (λ ls. WereListed ls rest.listed) (sym e)
+        (listed_pushed w.levels.items lv rest.listed r.opened opened);
     first = r.first;
     entered = r.entered;
     running = r.running;
@@ -267,6 +297,7 @@ module _ {D C : Type 0} (law : Law D C) where
         levels = r.levels;
         held = r.held;
         told = r.told;
+        opened = r.opened;
         first = r.first;
         entered = r.entered;
         running = r.running;

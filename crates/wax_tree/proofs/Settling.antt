@@ -2,11 +2,14 @@
 use Rattle.std.proofs.Common.{◌≡◌, ℕ, ◌+◌, ◌<◌, ◌≤◌, true, refl, sym, ap, subst, ◌∙◌, arith, inl, inr}
 use Rattle.std.proofs.Common.{List, [], ◌∷◌, ◌++◌}
 use Rattle.std.specs.Prelude.{Option, Some, None, Result, Ok, Err}
+use Rattle.std.specs.List.{Contains}
+use Rattle.std.proofs.lemmas.List.Elements.{Contains-append_left}
 use Rattle.wax_directory.specs.Counting.{Counts, no_counts, grown, kind_counts}
 use Rattle.wax_directory.specs.Law.{Law}
 use Rattle.wax_directory.specs.declared.tally.Tally.{Tally}
 use Rattle.wax_walk.specs.declared.error.WalkError.TheVariants.{Memory}
 use Rattle.wax_walk.specs.Forest.{Forest, nothing, item, pending, Pending, all_pending, FirstIs}
+use Rattle.wax_walk.specs.Forest.{IsListed, listed_next}
 use Rattle.wax_directory.specs.declared.directory.FileType.{FileType}
 use Rattle.wax_directory.specs.declared.directory.FileType.TheVariants as F
 use Rattle.wax_walk.specs.declared.error.WalkError.{WalkError}
@@ -29,6 +32,11 @@ same_first : (then : Pending Given → Type 0) (p q : Pending Given) (n : ℕ) (
     → FirstIs then (all_pending p) p.listed n r
 same_first then p q n r f l h = subst (λ v. FirstIs then v p.listed n r) (sym f)
     (subst (λ v. FirstIs then (all_pending q) v n r) (sym l) h)
+
+same_listed : (p q : Pending Given) (path : List ℕ) → all_pending p ≡ all_pending q → p.listed ≡ q.listed
+    → IsListed q path → IsListed p path
+same_listed p q path f l h = subst (λ ps. Contains ps path)
+    (λ i. sym l i ++ listed_next (sym f i)) h
 
 pub counted_same : (k : Tally) → IsCounted k k
 counted_same k = record {
@@ -148,10 +156,12 @@ module _ {D C : Type 0} (law : Law D C) where
 
   -- the budget is reached
   pub stops_over : (w new : Steps D C) (p : Pending Given) (path : List ℕ) (depth : ℕ) (r : Step)
-      → step_given r ≡ Some (fault Budget path depth) → allowance w ≤ p.items → StepIs law w p r new
-  stops_over w new p path depth (Gives y) e few = over_budget path depth e few
-  stops_over w new p path depth GoesOn e few = cc
-  stops_over w new p path depth Ends e few = cc
+      → step_given r ≡ Some (fault Budget path depth) → allowance w ≤ p.items → Contains p.listed path
+      → StepIs law w p r new
+  stops_over w new p path depth (Gives y) e few h =
+      over_budget path depth e few (Contains-append_left p.listed (listed_next (all_pending p)) path h)
+  stops_over w new p path depth GoesOn e few h = cc
+  stops_over w new p path depth Ends e few h = cc
 
   -- the same was to come of an earlier state, but for items that were taken
   pub step_from : (w mid new : Steps D C) (p q : Pending Given) (r : Step) → all_pending p ≡ all_pending q
@@ -161,7 +171,8 @@ module _ {D C : Type 0} (law : Law D C) where
     go : GivesOrStops (steps_view law mid) q (Some (tree_given y)) (steps_view law new)
         → GivesOrStops (steps_view law w) p (Some (tree_given y)) (steps_view law new)
     go (lacks_memory e) = lacks_memory e
-    go (over_budget path depth e few) = over_budget path depth e (omega (arith, few, a))
+    go (over_budget path depth e few h) =
+        over_budget path depth e (omega (arith, few, a)) (same_listed p q path f l h)
     go (gives n few first) = gives n (λ m. omega (arith, few m, a))
         (same_first (PlainToCome law new) p q n _ f l first)
   step_from w mid new p q GoesOn f l a s = (
@@ -178,6 +189,7 @@ module _ {D C : Type 0} (law : Law D C) where
     go : GivesOrStops (steps_view law mid) q None (steps_view law new)
         → GivesOrStops (steps_view law w) p None (steps_view law new)
     go (lacks_memory e) = lacks_memory e
-    go (over_budget path depth e few) = over_budget path depth e (omega (arith, few, a))
+    go (over_budget path depth e few h) =
+        over_budget path depth e (omega (arith, few, a)) (same_listed p q path f l h)
     go (gives n few first) = gives n (λ m. omega (arith, few m, a))
         (same_first (PlainToCome law new) p q n _ f l first)

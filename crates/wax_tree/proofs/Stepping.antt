@@ -3,7 +3,9 @@ use Rattle.std.proofs.Common.{◌≡◌, ℕ, ◌+◌, ◌-◌, ◌^◌, ◌<◌
 use Rattle.std.proofs.Common.{refl, sym, ap, subst, ◌∙◌, arith, inl, inr, string_bytes, append_assoc}
 use Rattle.std.proofs.Common.{length-append}
 use Rattle.std.specs.Prelude.{Option, Some, None, Result, Ok, Err, String}
+use Rattle.std.specs.List.{Contains}
 use Rattle.std.specs.declared.alloc.Global.{Global}
+use Rattle.std.proofs.lemmas.List.Elements.{Contains-append_right, Contains-push}
 use Rattle.wax_directory.specs.declared.directory.FileType.{FileType}
 use Rattle.wax_directory.specs.declared.directory.FileType.TheVariants as F
 use Rattle.wax_directory.specs.declared.directory.DirectoryFault.TheVariants as Fault_of
@@ -17,7 +19,7 @@ use Rattle.wax_walk.specs.declared.error.WalkError.{WalkError}
 use Rattle.wax_walk.specs.declared.error.WalkError.TheVariants.{Memory}
 use Rattle.wax_walk.specs.declared.error.FaultKind.TheVariants.{Listing}
 use Rattle.wax_walk.specs.Forest.{Forest, nothing, item, lists, followed_by, Pending, pending, all_pending}
-use Rattle.wax_walk.specs.Forest.{FirstIs}
+use Rattle.wax_walk.specs.Forest.{FirstIs, IsListed, listed_next}
 use Rattle.wax_walk.specs.Given.{Given, fault}
 use Rattle.wax_walk.specs.View.{GivesOrStops, lacks_memory, over_budget, gives, IsLast}
 use Rattle.wax_tree.specs.declared.steps.Folder.{Folder}
@@ -33,12 +35,12 @@ use Rattle.wax_tree.specs.Prefix.{ArePlain, from_last, walk_from}
 use Rattle.wax_tree.specs.Walking.{HasKind, IsAlone, IsFolder, tree_given, entered_forest}
 use Rattle.wax_tree.specs.Walking.{folder_spot, place_spot, scope_of, cursors_of, allowance}
 use Rattle.wax_tree.specs.Walking.{Rest, FirstShows, EnteredShows, LevelsShow, AtRest}
-use Rattle.wax_tree.specs.Walking.{PlainToCome, steps_view, Advances}
+use Rattle.wax_tree.specs.Walking.{PlainToCome, WereListed, steps_view, Advances}
 use Rattle.wax_tree.specs.Stepping.{Blames, StepIs, Beside}
 use Rattle.wax_tree.specs.Stepping.{listing_pending, Adds, AddsFirst, Saves, items_left, steps_left}
 use Rattle.wax_tree.proofs.Showing.{silent, in_range, from_last_end, follows_folder, child_counts}
 use Rattle.wax_tree.proofs.Resting.{comes_after, comes_rest, rest_pushed}
-use Rattle.wax_tree.proofs.Resting.{levels_popped, levels_none, cursors_pushed}
+use Rattle.wax_tree.proofs.Resting.{levels_popped, levels_none, cursors_pushed, listed_popped}
 
 module _ {D C : Type 0} (law : Law D C) where
   -- an entry below the least depth isn't given
@@ -127,7 +129,8 @@ module _ {D C : Type 0} (law : Law D C) where
   enters w v d lv (a_folder l) rest items i o h inner r e few =
       let path = string_bytes lv.folder.path in
       let pushed = rest_pushed law (record w { directory = d }) v lv l
-      (record rest { listed = rest.listed ++ path ∷ [] }) (r l o) o (inner l h) e in (
+      (record rest { listed = rest.listed ++ path ∷ [] }) (r l o) o (inner l h)
+      (Contains-append_right rest.listed (path ∷ []) path (Contains-push [] path)) e in (
         pending nothing (followed_by (items_forest (scope_of w) (folder_spot lv.folder) l) rest.forest)
             (rest.listed ++ path ∷ []) items,
         comes_rest law (record w { directory = d; levels = v.levels }) items _ pushed (omega (arith, few)),
@@ -214,6 +217,7 @@ module _ {D C : Type 0} (law : Law D C) where
           few = omega (arith, fewer, few);
           alone = (r.entered, none);
           told = r.told;
+          opened = r.opened;
           ended = λ t. absurd (let b : true ≡ false = sym t ∙ r.running in (cc));
         },
         inl (
@@ -246,7 +250,15 @@ module _ {D C : Type 0} (law : Law D C) where
       alone.0 h.entered in (
         f.0,
         record { has = h.has; forest = h.back; count = h.of_levels; listed = p.listed },
-        record { levels = h.levels; held = h.held; told = h.told; first = i; entered = j; running = running },
+        record {
+          levels = h.levels;
+          held = h.held;
+          told = h.told;
+          opened = h.opened;
+          first = i;
+          entered = j;
+          running = running;
+        },
         f.1,
         f.2,
         f.3,
@@ -269,7 +281,15 @@ module _ {D C : Type 0} (law : Law D C) where
       h.entered in (
         below.0,
         record { has = h.has; forest = h.back; count = h.of_levels; listed = p.listed },
-        record { levels = h.levels; held = h.held; told = h.told; first = i; entered = j; running = running },
+        record {
+          levels = h.levels;
+          held = h.held;
+          told = h.told;
+          opened = h.opened;
+          first = i;
+          entered = j;
+          running = running;
+        },
         below.1,
         below.2,
         omega (arith, h.few, below.4),
@@ -297,7 +317,8 @@ module _ {D C : Type 0} (law : Law D C) where
       let held : HoldsLast law w.directory (cursors_of v.levels.items) q.0 lv.cursor q.1 =
       subst (λ cs. law.holds w.directory cs (q.0 ++ q.1 ∷ [])) (cursors_pushed v.levels.items lv)
       (subst (λ ls. law.holds w.directory (cursors_of ls) (q.0 ++ q.1 ∷ [])) e
-      (subst (λ has. law.holds w.directory (cursors_of w.levels.items) has) q.4 h.held)) in (
+      (subst (λ has. law.holds w.directory (cursors_of w.levels.items) has) q.4 h.held)) in
+      let listed = listed_popped v.levels.items lv p.listed (subst (λ ls. WereListed ls p.listed) e h.opened) in (
         q.1,
         record { has = q.0; forest = q.2; count = q.3; listed = p.listed },
         record {
@@ -305,13 +326,14 @@ module _ {D C : Type 0} (law : Law D C) where
             levels = q.6;
             held = drop _ _ _ _ held;
             told = h.told;
+            opened = listed.0;
             first = i;
-            entered =
-                j;
+            entered = j;
             running = running;
           };
           held = held;
           shown = q.5;
+          opened = listed.1;
         },
         omega (arith, h.few, q.8),
         refl,
@@ -364,6 +386,7 @@ module _ {D C : Type 0} (law : Law D C) where
           few = omega (arith, h.few);
           alone = subst (λ v. IsAlone v b new.levels.items) (sym i) tt;
           told = h.told;
+          opened = subst (λ ls. WereListed ls p.listed) same h.opened;
           ended = λ t. (refl, refl);
         },
       ))
@@ -419,6 +442,19 @@ leads_first then p q items r h f = subst (λ g. FirstIs then g p.listed items r)
     (first_listed then h.0 (all_pending q) p.listed items r
     (subst (λ ps. FirstIs then (all_pending q) ps items r) h.2 f))
 
+next_after : (paths : List (List ℕ)) (f : Forest Given)
+    → listed_next (after_listing paths f) ≡ paths ++ listed_next f
+next_after [] f = refl
+next_after (path ∷ paths) f = ap (λ ps. path ∷ ps) (next_after paths f)
+
+leads_listed : (p q : Pending Given) (path : List ℕ) → ListsBetween p q → IsListed q path → IsListed p path
+leads_listed p q path h listed =
+    let ahead = listed_next (all_pending q) in
+    let same : q.listed ++ ahead ≡ p.listed ++ listed_next (all_pending p) =
+    ap (λ ps. ps ++ ahead) h.2 ∙ (append_assoc p.listed h.0 ahead ∙ ap (λ ps. p.listed ++ ps)
+    (sym (ap listed_next h.1 ∙ next_after h.0 (all_pending q)))) in
+    subst (λ ps. Contains ps path) same listed
+
 -- ---- the run
 
 pub run_gives : {D C : Type 0} (law : Law D C) (old mid new : Steps D C) (p q : Pending Given)
@@ -426,7 +462,7 @@ pub run_gives : {D C : Type 0} (law : Law D C) (old mid new : Steps D C) (p q : 
     → GivesOrStops (steps_view law mid) q r (steps_view law new) → GivesOrStops (steps_view law old) p r
     (steps_view law new)
 run_gives law old mid new p q r h few (lacks_memory e) = lacks_memory e
-run_gives law old mid new p q r h few (over_budget path depth e m) =
-    over_budget path depth e (omega (arith, few, m))
+run_gives law old mid new p q r h few (over_budget path depth e m listed) =
+    over_budget path depth e (omega (arith, few, m)) (leads_listed p q path h listed)
 run_gives law old mid new p q r h few (gives items k f) = gives items (λ n. omega (arith, few, k n))
     (leads_first (PlainToCome law new) p q items r h f)

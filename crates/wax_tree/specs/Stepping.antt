@@ -1,6 +1,7 @@
 -- What a step of a walk does.
 use Rattle.std.specs.Prelude.{◌≡◌, ℕ, ◌+◌, ◌*◌, ◌<◌, ◌≤◌, true, cond, length, Option, Some, None}
 use Rattle.std.specs.Prelude.{Err, ◌⊎◌, string_bytes}
+use Rattle.std.specs.List.{Contains}
 use Rattle.wax_directory.specs.Counting.{no_counts}
 use Rattle.wax_directory.specs.declared.tally.Tally.{Tally}
 use Rattle.wax_directory.specs.Law.{Law, HoldsLast}
@@ -110,6 +111,7 @@ module _ {D C : Type 0} (law : Law D C) where
     pub rests : AtRest law w rest
     pub held : HoldsLast law w.directory (cursors_of w.levels.items) rest.has level.cursor l
     pub shown : ShowsIn (law.shows w.directory) (string_bytes level.folder.path) l
+    pub opened : Contains rest.listed (string_bytes level.folder.path)
 
   -- what a step asks, takes and counts, where so many names were to be followed
   pub record Answers (names : ℕ) (old : Steps D C) (r : Step) (new : Steps D C) : Type 0 where

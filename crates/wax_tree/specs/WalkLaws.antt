@@ -38,6 +38,7 @@ module _ {D C : Type 0} where
       few = omega (arith, c.few);
       alone = alone s.first c.alone;
       told = c.told;
+      opened = c.opened;
       ended = λ e. (refl, (c.ended e).1);
     } where
       alone : (o : _) → IsAlone o s.entered s.levels.items → IsAlone o None s.levels.items

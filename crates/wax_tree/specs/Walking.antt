@@ -1,6 +1,7 @@
 -- What a walk's state says of what is to come.
 use Rattle.std.specs.Prelude.{◌≡◌, ℕ, ◌+◌, ◌-◌, ◌^◌, ◌≤◌, true, false, cond, length, map, List, []}
 use Rattle.std.specs.Prelude.{◌∷◌, ◌++◌, Option, Some, None, Result, string_bytes, ◌⊎◌}
+use Rattle.std.specs.List.{Contains}
 use Rattle.wax_directory.specs.declared.directory.FileType.{FileType}
 use Rattle.wax_directory.specs.declared.directory.FileType.TheVariants as F
 use Rattle.wax_directory.specs.Law.{Law}
@@ -79,6 +80,12 @@ HasKind s k = ⊥
 abbrev pub cursors_of : {C : Type 0} → List (Level C) → List C
 cursors_of levels = map (λ level. level.cursor) levels
 
+-- the folders of these levels were listed
+abbrev pub WereListed : {C : Type 0} → List (Level C) → List (List ℕ) → Type 0
+WereListed [] listed = Unit {0}
+WereListed (level ∷ inner) listed =
+    Contains listed (string_bytes level.folder.path) × WereListed inner listed
+
 -- what a walk at rest has to give: what its cursors have, what comes of it, how many items that lists at
 -- most, and the folders that were listed
 pub record Rest : Type 0 where
@@ -136,6 +143,7 @@ module _ {D C : Type 0} (law : Law D C) where
         rest.count
     pub held : law.holds w.directory (cursors_of w.levels.items) rest.has
     pub told : law.tells w.directory rest.listed
+    pub opened : WereListed w.levels.items rest.listed
     pub first : w.first ≡ None
     pub entered : w.entered ≡ None
     pub running : w.has_ended ≡ false
@@ -154,6 +162,7 @@ module _ {D C : Type 0} (law : Law D C) where
     pub few : of_first + (of_entered + of_levels) ≤ p.items
     pub alone : IsAlone w.first w.entered w.levels.items
     pub told : law.tells w.directory p.listed
+    pub opened : WereListed w.levels.items p.listed
     pub ended : w.has_ended ≡ true → (p.below ≡ nothing) × (p.after ≡ nothing)
 
   -- what is seen of it

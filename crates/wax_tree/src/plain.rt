@@ -1,6 +1,6 @@
 //! The plain walk, whole.
 
-ghost use Rattle.std.specs.Prelude.{◌+◌, List, [], ℕ, IfOk, map, ⊤};
+ghost use Rattle.std.specs.Prelude.{◌+◌, List, ℕ, IfOk, map, ⊤};
 ghost use Rattle.wax_directory.specs.Shown.{Shown};
 ghost use Rattle.wax_tree.specs.Begins.{range_of};
 ghost use Rattle.wax_tree.specs.Whole.{plain_pending, EntriesAre};
@@ -26,7 +26,8 @@ pub fn entries<D: Directory>(
     behavior: WalkBehavior,
 ) -> Result<(Vec<Result<TreeEntry, WalkError>>, D), NoMemory>
     ensures items { IfOk result (λ r. (s : Shown) → D.law.shows directory start.now s
-        → GaveAll (λ _. ⊤) (behavior.budget + 1) (plain_pending (range_of behavior) start.now s [])
+        → (listed : List (List ℕ))
+        × GaveAll (λ _. ⊤) (behavior.budget + 1) (plain_pending (range_of behavior) start.now s listed)
         (map (given_outcome ⟦<TreeEntry as Entry>⟧.facts ⟦<TreeEntry as Entry>⟧.facts) r.0.items)) }
     ensures entries { IfOk result (λ r. (s : Shown) → D.law.shows directory start.now s
         → EntriesAre (range_of behavior) start.now s

@@ -3,7 +3,7 @@ use Rattle.std.proofs.Common.{◌≡◌, ℕ, ◌+◌, ◌<◌, ◌≤◌, Bool,
 use Rattle.std.proofs.Common.{◌∷◌, ◌++◌, refl, sym, ap, subst, ◌∙◌, append_assoc, inl, inr, arith}
 use Rattle.std.specs.Prelude.{Some, None, Result, Ok, Err, IfOk, filter}
 use Rattle.std.specs.List.{Contains}
-use Rattle.std.proofs.lemmas.List.Elements.{filter-append, Contains-push_cases}
+use Rattle.std.proofs.lemmas.List.Elements.{filter-append, Contains-append_left, Contains-push_cases}
 use Rattle.wax_directory.specs.Counting.{grown, plus}
 use Rattle.wax_directory.specs.Law.{Law}
 use Rattle.wax_directory.specs.declared.tally.Tally.{Tally}
@@ -17,7 +17,7 @@ use Rattle.wax_walk.specs.Collected.{IsCutShort, GaveAll, whole, Took, all_fault
 use Rattle.wax_walk.specs.Collected as all
 use Rattle.wax_walk.specs.Entries.{given_outcome, given_residue}
 use Rattle.wax_walk.specs.Forest.{Forest, nothing, item, lists, followed_by, Pending, pending, all_pending}
-use Rattle.wax_walk.specs.Forest.{FirstIs, preorder, listings}
+use Rattle.wax_walk.specs.Forest.{FirstIs, IsListed, listed_next, preorder, listings}
 use Rattle.wax_walk.specs.Given.{Given, Facts, fault, no_memory, is_kept}
 use Rattle.wax_walk.specs.View.{WalkView, FeedStep, GivesOrStops, lacks_memory, over_budget, gives}
 use Rattle.wax_walk.specs.View.{CountsFaults, fault_counts, IsLast, IsMisplaced, Takes}
@@ -72,6 +72,22 @@ first_none then (lists path after) listed items h =
           (append_assoc listed (path ∷ []) (listings after)) r.1,
     )
 
+listed_first : (f : Forest Given) → (others : List (List ℕ)) × (listings f ≡ listed_next f ++ others)
+listed_first nothing = ([], refl)
+listed_first (item x below after) = (listings (item x below after), refl)
+listed_first (lists path after) =
+    let rest = listed_first after in (rest.0, ap (λ v. path ∷ v) rest.1)
+
+-- what is listed before the next item is listed in the end
+listed_within : (p : Pending Given) (path : List ℕ) → IsListed p path
+    → Contains (p.listed ++ listings (all_pending p)) path
+listed_within p path h =
+    let rest = listed_first (all_pending p) in
+    let same = ap (λ v. p.listed ++ v) rest.1 ∙ sym
+    (append_assoc p.listed (listed_next (all_pending p)) rest.0) in
+    subst (λ v. Contains v path) (sym same)
+    (Contains-append_left (p.listed ++ listed_next (all_pending p)) rest.0 path h)
+
 -- ---- what was given so far
 
 pub data GaveSoFar {D : Type 0} (allowed : ℕ) (now : WalkView D) (p : Pending Given) (xs : List Given) : Type
@@ -82,6 +98,7 @@ pub data GaveSoFar {D : Type 0} (allowed : ℕ) (now : WalkView D) (p : Pending 
   lacked_memory : now.has_ended → IsCutShort (preorder (all_pending p)) no_memory xs
       → GaveSoFar allowed now p xs
   was_over_budget : now.has_ended → (path : List ℕ) (depth : ℕ) → allowed ≤ p.items
+      → Contains (p.listed ++ listings (all_pending p)) path
       → IsCutShort (preorder (all_pending p)) (fault Budget path depth) xs → GaveSoFar allowed now p xs
 
 module _ {D : Type 0} (allowed : ℕ) (mid new : WalkView D) (p : Pending Given) (xs : List Given) where
@@ -95,8 +112,9 @@ module _ {D : Type 0} (allowed : ℕ) (mid new : WalkView D) (p : Pending Given)
       → (IsLast (Some x) → new.has_ended) → GivesOrStops mid q (Some x) new
       → GaveSoFar allowed new p (xs ++ x ∷ [])
   more_given q x e k n f (lacks_memory i) = lacked_memory (f (subst IsLast (sym i) tt)) (cut_after q x _ e i)
-  more_given q x e k n f (over_budget path depth i few) = was_over_budget (f (subst IsLast (sym i) tt)) path
-      depth (omega (arith, n, few)) (cut_after q x _ e i)
+  more_given q x e k n f (over_budget path depth i few listed) =
+      was_over_budget (f (subst IsLast (sym i) tt)) path depth (omega (arith, n, few))
+      (subst (λ ps. Contains ps path) k (listed_within q path listed)) (cut_after q x _ e i)
   more_given q x e k n f (gives items few first) =
       let r = first_said new.to_come (all_pending q) q.listed items x first in
       goes_on r.0 r.1 (append_assoc xs (x ∷ []) (preorder (all_pending r.0)) ∙ (ap (λ ys. xs ++ ys) r.2 ∙ e))
@@ -109,14 +127,14 @@ module _ {D : Type 0} (allowed : ℕ) (mid new : WalkView D) (p : Pending Given)
       → GaveSoFar allowed new p (xs ++ x ∷ [])
   gave_more x n a f (goes_on q c e k few) = more_given q x e k (few n) f (a q c)
   gave_more x n a f (lacked_memory e c) = absurd (n e)
-  gave_more x n a f (was_over_budget e path depth few c) = absurd (n e)
+  gave_more x n a f (was_over_budget e path depth few listed c) = absurd (n e)
 
   end_given : (tells : List (List ℕ) → Type 0) (q : Pending Given) → xs ++ preorder (all_pending q) ≡ preorder
       (all_pending p) → q.listed ++ listings (all_pending q) ≡ p.listed ++ listings (all_pending p)
       → ((r : Pending Given) → new.to_come r → tells r.listed) → GivesOrStops mid q None new
       → GaveAll tells allowed p xs
   end_given tells q e k told (lacks_memory i) = cc
-  end_given tells q e k told (over_budget path depth i few) = cc
+  end_given tells q e k told (over_budget path depth i few listed) = cc
   end_given tells q e k told (gives items few first) =
       let r = first_none new.to_come (all_pending q) q.listed items first in
       whole (sym (append-nil xs) ∙ (ap (λ ys. xs ++ ys) (sym r.0) ∙ e)) (subst tells k (told _ r.1))
@@ -128,7 +146,8 @@ module _ {D : Type 0} (allowed : ℕ) (mid new : WalkView D) (p : Pending Given)
       → GaveAll tells allowed p xs
   gave_all tells a told (goes_on q c e k few) = end_given tells q e k told (a q c)
   gave_all tells a told (lacked_memory e c) = all.lacks_memory c
-  gave_all tells a told (was_over_budget e path depth few c) = all.over_budget path depth few c
+  gave_all tells a told (was_over_budget e path depth few listed c) =
+      all.over_budget path depth few listed c
 
 -- ---- a loop over a walk
 

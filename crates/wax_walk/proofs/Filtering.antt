@@ -2,10 +2,11 @@
 use Rattle.std.proofs.Common.{◌≡◌, ℕ, Bool, true, false, cond, List, [], ◌∷◌, ◌++◌, refl, sym, ap}
 use Rattle.std.proofs.Common.{subst, ◌∙◌, arith}
 use Rattle.std.specs.Prelude.{Option, Some, None}
+use Rattle.std.specs.List.{Contains}
 use Rattle.wax_walk.specs.Given.{Facts, Mark, Given, entry, fault, no_memory, mark_by}
 use Rattle.wax_walk.specs.Given.{with_mark, is_cut, changed_by, cut_by}
 use Rattle.wax_walk.specs.Forest.{Forest, nothing, item, lists, followed_by, Pending, pending, cancelled}
-use Rattle.wax_walk.specs.Forest.{all_pending, FirstIs, filtered, filtered_pending}
+use Rattle.wax_walk.specs.Forest.{all_pending, FirstIs, IsListed, listed_next, filtered, filtered_pending}
 use Rattle.wax_walk.specs.View.{WalkView, GivesOrStops, lacks_memory, over_budget, gives, IsLast}
 use Rattle.wax_walk.proofs.Accounting.{last_marked}
 
@@ -57,6 +58,19 @@ gives_filtered change cut inner outer p items r r' h a =
     subst (λ f. FirstIs outer f p.listed items r') (filtered_append change cut p.below p.after)
     (first_filtered change cut inner outer (followed_by p.below p.after) p.listed items r r' h a)
 
+next_filtered : {A B : Type 0} (change : A → B) (cut : A → Bool) (f : Forest A)
+    → listed_next (filtered change cut f) ≡ listed_next f
+next_filtered change cut nothing = refl
+next_filtered change cut (item x below after) = refl
+next_filtered change cut (lists path after) = ap (λ ps. path ∷ ps) (next_filtered change cut after)
+
+listed_filtered : {A B : Type 0} (change : A → B) (cut : A → Bool) (p : Pending A) (path : List ℕ)
+    → IsListed p path → IsListed (filtered_pending change cut p) path
+listed_filtered change cut p path h =
+    let same = ap listed_next (sym (filtered_append change cut p.below p.after)) ∙
+    next_filtered change cut (all_pending p) in
+    subst (λ ps. Contains (p.listed ++ ps) path) (sym same) h
+
 -- ---- a filter of entries
 
 failed : (x y : Given) (m : Mark) → Some x ≡ Some no_memory → y ≡ with_mark x m → Some y ≡ Some no_memory
@@ -78,8 +92,9 @@ module _ {D : Type 0} (rule : Facts → Mark) (v w outer new : WalkView D) (p : 
       → GivesOrStops v p (Some x) w → GivesOrStops outer (filtered_pending (changed_by rule) (cut_by rule) p)
       (Some y) new
   layer_gives x y m s e l k a (lacks_memory i) = lacks_memory (failed x y m i e)
-  layer_gives x y m s e l k a (over_budget path depth i few) =
+  layer_gives x y m s e l k a (over_budget path depth i few listed) =
       over_budget path depth (faulty x y m _ i (λ n. refl) e) (omega (arith, few, l))
+      (listed_filtered (changed_by rule) (cut_by rule) p path listed)
   layer_gives x y m s e l k a (gives items few f) =
       gives items (λ n. omega (
         arith,
@@ -99,7 +114,7 @@ module _ {D : Type 0} (rule : Facts → Mark) (v w outer new : WalkView D) (p : 
       → GivesOrStops v p None w → GivesOrStops outer (filtered_pending (changed_by rule) (cut_by rule) p) None
       new
   layer_ends l k a (lacks_memory i) = cc
-  layer_ends l k a (over_budget path depth i few) = cc
+  layer_ends l k a (over_budget path depth i few listed) = cc
   layer_ends l k a (gives items few f) = gives items (λ n. omega (arith, few n, l, k))
       (gives_filtered (changed_by rule) (cut_by rule) w.to_come new.to_come p items None None f (refl, a))
 

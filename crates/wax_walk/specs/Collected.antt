@@ -15,15 +15,16 @@ IsCutShort all x xs = (before : List Given) × (rest : List Given) × (xs ≡ be
     (before ++ rest ≡ all)
 
 -- all that was to come was given, and these folders were listed; or a beginning of it, and then that memory
--- was refused, or that the budget is reached, since there was more to take than was allowed
+-- was refused, or that the budget is reached in a folder that is listed, since there was more to take than
+-- was allowed
 pub data GaveAll (tells : List (List ℕ) → Type 0) (allowed : ℕ) (p : Pending Given) (xs : List Given) : Type 0
   where
     whole : xs ≡ preorder (all_pending p) → tells (p.listed ++ listings (all_pending p))
         → GaveAll tells allowed p xs
     lacks_memory : IsCutShort (preorder (all_pending p)) no_memory xs → GaveAll tells allowed p xs
-    over_budget : (path : List ℕ) (depth : ℕ) → allowed ≤ p.items → IsCutShort (preorder (all_pending p))
-        (fault Budget path depth) xs
-        → GaveAll tells allowed p xs
+    over_budget : (path : List ℕ) (depth : ℕ) → allowed ≤ p.items
+        → Contains (p.listed ++ listings (all_pending p)) path
+        → IsCutShort (preorder (all_pending p)) (fault Budget path depth) xs → GaveAll tells allowed p xs
 
 -- what a directory has counted where these are given
 abbrev pub all_fault_counts : List Given → Tally

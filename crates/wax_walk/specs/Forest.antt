@@ -1,5 +1,6 @@
 -- What a walk will still give.
 use Rattle.std.specs.Prelude.{◌≡◌, ℕ, List, [], ◌∷◌, ◌++◌, Option, Some, None, Bool, cond}
+use Rattle.std.specs.List.{Contains}
 
 -- items in order, each with what lies below it; a path where a folder is listed
 pub data Forest (A : Type 0) : Type 0 where
@@ -25,6 +26,12 @@ listings nothing = []
 listings (item x below after) = listings below ++ listings after
 listings (lists path after) = path ∷ listings after
 
+-- the folders that are listed before the next item
+abbrev pub listed_next : {A : Type 0} → Forest A → List (List ℕ)
+listed_next nothing = []
+listed_next (item x below after) = []
+listed_next (lists path after) = path ∷ listed_next after
+
 -- what is to come: below the item that was given last, and after that; the folders that were listed; and how
 -- many items are taken from listings for it, at most
 pub record Pending (A : Type 0) : Type 0 where
@@ -39,6 +46,10 @@ pending below after listed items = record { below = below; after = after; listed
 -- what comes where nothing more is cancelled
 abbrev pub all_pending : {A : Type 0} → Pending A → Forest A
 all_pending p = followed_by p.below p.after
+
+-- a folder that was listed, or is listed before the next item
+abbrev pub IsListed : {A : Type 0} → Pending A → List ℕ → Type 0
+IsListed p path = Contains (p.listed ++ listed_next (all_pending p)) path
 
 -- what is to come once what lies below the item that was given last is cancelled
 abbrev pub cancelled : {A : Type 0} → Pending A → Pending A

@@ -5,7 +5,7 @@ use Rattle.wax_directory.specs.Law.{Law}
 use Rattle.wax_directory.specs.declared.tally.Tally.{Tally}
 use Rattle.wax_walk.specs.declared.error.FaultKind.TheVariants.{NotFound, NotAFolder, Listing, BadName}
 use Rattle.wax_walk.specs.declared.error.FaultKind.TheVariants.{NotText, Budget}
-use Rattle.wax_walk.specs.Forest.{Pending, all_pending, cancelled, FirstIs}
+use Rattle.wax_walk.specs.Forest.{Pending, all_pending, cancelled, FirstIs, IsListed}
 use Rattle.wax_walk.specs.Given.{Given, fault, no_memory}
 
 -- what is still to come; the directory; at most how many items may still be taken from listings; how many
@@ -60,13 +60,13 @@ pub record CountsFaults (n old new : Tally) : Type 0 where
   pub bad_names : min (old.bad_names + n.bad_names) (2 ^ 64 - 1) ≤ new.bad_names
 
 module _ {D : Type 0} where
-  -- the answer is the first of what was to come; or memory was refused; or the budget is reached, since there
-  -- is more to take than was allowed
+  -- the answer is the first of what was to come; or memory was refused; or the budget is reached in a folder
+  -- that is listed, since there is more to take than was allowed
   pub data GivesOrStops (old : WalkView D) (p : Pending Given) (r : Option Given) (new : WalkView D) : Type 0
     where
       lacks_memory : r ≡ Some no_memory → GivesOrStops old p r new
       over_budget : (path : List ℕ) (depth : ℕ) → r ≡ Some (fault Budget path depth)
-          → old.listings_left ≤ p.items → GivesOrStops old p r new
+          → old.listings_left ≤ p.items → IsListed p path → GivesOrStops old p r new
       gives : (items : ℕ) → ((IsLast r → ⊥) → items + old.listings_left ≤ p.items + new.listings_left)
           → FirstIs new.to_come (all_pending p) p.listed items r → GivesOrStops old p r new
 

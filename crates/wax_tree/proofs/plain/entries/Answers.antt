@@ -1,4 +1,4 @@
-use Rattle.std.proofs.Common.{◌+◌, [], subst}
+use Rattle.std.proofs.Common.{◌+◌, subst}
 use Rattle.wax_walk.proofs.Collecting.{map_ok}
 use Rattle.wax_walk.specs.Collected.{GaveAll}
 use Rattle.wax_tree.specs.Begins.{range_of, scope_in}
@@ -16,9 +16,11 @@ returns-clause-items g c =
     map_ok (λ r h s shows.
     let told = g.met.D.Directory.tells_some c.args.directory in
     let all = subst (λ n. GaveAll (law.tells r.1) n (plain_pending range start s told.0) h.0) b.listings
-    (h.1.all (plain_pending range start s told.0) (b.shown s told.0 shows told.1)) in
-    untold (law.tells r.1) (range.budget + 1) _ told.0 [] _ _
-    (plain_kept (scope_in range start) (law.tells r.1) (range.budget + 1) s told.0 _ h.0 _ all h.3))
+    (h.1.all (plain_pending range start s told.0) (b.shown s told.0 shows told.1)) in (
+      told.0,
+      untold (law.tells r.1) (range.budget + 1) _ _
+          (plain_kept (scope_in range start) (law.tells r.1) (range.budget + 1) s told.0 _ h.0 _ all h.3),
+    ))
     c.collect.result c.collect.ensures
 
 pub returns-clause-entries : goal.returns-clause-entries

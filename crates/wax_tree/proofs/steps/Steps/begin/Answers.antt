@@ -20,7 +20,7 @@ returns-in-Ok-Some-clause-continues g c s h p d none rest items r e =
     let w = c.args.self.now in
     let o = rw (c.as_str.ensures.value, c.in-Ok-Some.field-0-is) at c.in-Ok-Some.ensures in
     let moved = rest_moved law w c.kind.new.self rest.listed rest r o.shown
-    (o.held (cursors_of w.levels.items) rest.has r.held) (o.told rest.listed r.told) in
+    (o.held (cursors_of w.levels.items) rest.has r.held) (o.told rest.listed r.told) r.opened in
     step_from law w (record w { directory = c.kind.new.self }) c.follow.new.self _ _ c.follow.result refl refl
     refl
     (c.follow.ensures.continues s (o.shown (string_bytes c.args.place.path) s h)
@@ -51,7 +51,7 @@ returns-in-Ok-None-clause-continues g c s h p d none rest items r e =
     let is = begins_missing (scope_of w) (place_spot c.args.place) s (from_last c.args.place.names.items)
     rest.forest (o.kind s h) in
     let moved = rest_moved law w c.kind.new.self rest.listed rest r o.shown
-    (o.held (cursors_of w.levels.items) rest.has r.held) (o.told rest.listed r.told) in
+    (o.held (cursors_of w.levels.items) rest.has r.held) (o.told rest.listed r.told) r.opened in
     step_from law w v c.stop.new.self _ _ c.stop.result refl refl refl
     (stops_with law v c.stop.new.self _ rest items
     (fault NotFound (string_bytes c.args.place.path) c.args.place.depth) c.stop.result
@@ -81,7 +81,7 @@ returns-in-Err-Failed-clause-continues g c s h p d none rest items r e =
     let is = begins_failing (scope_of w) (place_spot c.args.place) s (from_last c.args.place.names.items)
     rest.forest (o.kind s h) in
     let moved = rest_moved law w c.kind.new.self rest.listed rest r o.shown
-    (o.held (cursors_of w.levels.items) rest.has r.held) (o.told rest.listed r.told) in
+    (o.held (cursors_of w.levels.items) rest.has r.held) (o.told rest.listed r.told) r.opened in
     gives_fault law w v _ rest.forest rest.listed items
     (fault Listing (string_bytes c.args.place.path) c.args.place.depth)
     (Err (Fault Listing c.args.place.path c.args.place.depth)) is refl (λ n. refl)

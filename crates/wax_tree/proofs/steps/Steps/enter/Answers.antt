@@ -4,7 +4,7 @@ use Rattle.wax_walk.specs.declared.error.WalkError.TheVariants.{Fault}
 use Rattle.wax_walk.specs.Given.{fault}
 use Rattle.wax_walk.specs.View.{lacks_memory}
 use Rattle.wax_tree.specs.Walking.{cursors_of, folder_spot}
-use Rattle.wax_tree.proofs.Resting.{rest_moved}
+use Rattle.wax_tree.proofs.Resting.{rest_moved, listed_more}
 use Rattle.wax_tree.proofs.Stepping.{enters, enters_sealed}
 use Rattle.wax_tree.proofs.steps.Steps.enter.Goals as goal
 use Rattle.wax_tree.proofs.steps.Steps.enter.Goals.{in-Ok-push, in-Err}
@@ -22,7 +22,8 @@ returns-after-push-clause-continues g c s h i rest items r e =
           (o.opens (cursors_of w.levels.items) rest.has s r.held h) (o.shown path s h)
           (λ l k. g.met.D.Directory.inner c.open.new.self path l k)
           (λ l k. rest_moved law w c.open.new.self (rest.listed ++ path ∷ []) rest r o.shown
-          (o.held (cursors_of w.levels.items) rest.has r.held) (o.told rest.listed r.told))
+          (o.held (cursors_of w.levels.items) rest.has r.held) (o.told rest.listed r.told)
+          (listed_more w.levels.items rest.listed (path ∷ []) r.opened))
           v.in-Ok-push.ensures.items e)
       | in-Err v ↦ rw (v.result-is, v.fail.ensures.memory) (lacks_memory refl)
     ]
@@ -40,4 +41,5 @@ returns-in-Err-Failed-clause-continues g c s h i rest items r e =
     (o.opens (cursors_of w.levels.items) rest.has s r.held h)
     (ap (fault Listing path) c.saturating_sub-depth.ensures)
     (rest_moved law w c.open.new.self (rest.listed ++ path ∷ []) rest r o.shown
-    (o.held (cursors_of w.levels.items) rest.has r.held) told) e
+    (o.held (cursors_of w.levels.items) rest.has r.held) told
+    (listed_more w.levels.items rest.listed (path ∷ []) r.opened)) e

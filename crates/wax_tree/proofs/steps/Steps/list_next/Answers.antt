@@ -17,7 +17,8 @@ returns-in-Ok-None-clause-lists g c l rest items b e =
     c.next.new.cursor (rest_of l) k.1 in
     goes_up law w (record w { directory = c.next.new.self }) (folder_spot c.args.level.folder) l rest rest
     items k.0 refl refl
-    (rest_moved law w c.next.new.self rest.listed rest b.rests o.shown held (o.told rest.listed b.rests.told))
+    (rest_moved law w c.next.new.self rest.listed rest b.rests o.shown held (o.told rest.listed b.rests.told)
+    b.rests.opened)
     refl (omega (arith, e))
 
 pub returns-in-Ok-Some-clause-lists : goal.returns-in-Ok-Some-clause-lists
@@ -35,7 +36,8 @@ returns-in-Ok-Some-clause-lists g c l rest items b e =
     (c.take_from.ensures.lists l rest items k.0
     (record {
       rests = rest_moved law w c.next.new.self rest.listed rest b.rests o.shown held
-          (o.told rest.listed b.rests.told);
+          (o.told rest.listed b.rests.told) b.rests.opened;
       held = k.1;
       shown = shows_rest (law.shows c.next.new.self) path l shown;
+      opened = b.opened;
     }) shown e)

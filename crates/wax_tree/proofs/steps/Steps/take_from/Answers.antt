@@ -18,7 +18,7 @@ returns-then-self-eq0-clause-lists g c l rest items h b i e =
     let allowed : allowance w ≡ w.budget + 1 = ap (λ v. cond v 0 (w.budget + 1)) b.rests.running in
     let one = count_rest (listed_of c.args.item) l h in
     stops_over g.D.Directory.law w c.stop.new.self _ (string_bytes c.args.folder.path) _ c.stop.result
-    c.stop.ensures.gives (omega (arith, none, allowed, one, e))
+    c.stop.ensures.gives (omega (arith, none, allowed, one, e)) b.opened
 
 pub returns-clause-lists : goal.returns-clause-lists
 returns-clause-lists g c l rest items h b i e =
@@ -35,7 +35,7 @@ returns-clause-lists g c l rest items h b i e =
     let allowed_then : allowance mid ≡ w.budget - 1 + 1 = ap (λ v. cond v 0 (w.budget - 1 + 1)) running in
     let at_rest = rest_spent law pushed (w.budget - 1) _
     (rest_pushed law w pushed (record { folder = c.args.folder; cursor = c.args.cursor }) (rest_of l) rest
-    b.rests b.held b.shown c.in-Ok-push.ensures.items) in
+    b.rests b.held b.shown b.opened c.in-Ok-push.ensures.items) in
     let few : own_count l + (rest.count + count (rest_of l)) ≤ items - 1 = omega (arith, one, e) in
     let st = rw (p, q) at (c.take_item.ensures.continues l h (rw p i) _ (items - 1) at_rest few) in
     step_from law w mid c.take_item.new.self _ _ c.take_item.result

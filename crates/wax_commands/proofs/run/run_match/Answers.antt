@@ -1,8 +1,8 @@
 use Rattle.std.proofs.Common.{refl, subst}
 use Rattle.wax.specs.GlobView.{IsMeant}
 use Rattle.wax_lines.specs.Lines.{Filtered}
-use Rattle.globs.specs.Endings.{done, not_text, stopped, refused}
-use Rattle.globs.proofs.run.run_match.Goals as goal
+use Rattle.wax_commands.specs.Endings.{done, not_text, stopped, refused}
+use Rattle.wax_commands.proofs.run.run_match.Goals as goal
 
 pub returns-in-Err-clause-ends : goal.returns-in-Err-clause-ends
 returns-in-Err-clause-ends g c = refused c.in-Err.error c.in-Err.ensures refl refl refl

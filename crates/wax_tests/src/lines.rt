@@ -2,7 +2,7 @@
 ghost use Rattle.std.specs.Prelude.{◌≡◌, ◌==◌, nat_eq, true, codes, encode_utf8_all};
 ghost use Rattle.std.specs.List.{ends_with};
 
-use super::streams::{Asked, Narrow, Slow};
+use crate::streams::{Asked, Narrow, Slow};
 use std::alloc::Global;
 use std::convert::AsStr;
 use std::io::{Read, Write};
@@ -11,7 +11,7 @@ use wax::{CandidatePath, Counted, LinesError, NoMemory, Program, filter_lines};
 
 const NAMES: &[u8] = b"logo.png\nlogo.svg\na/b.png\nx.png";
 
-// Means the texts that end in `.png`.
+// Means the texts that end in `.png`. It finds no memory for the text `starve`.
 struct Pictures;
 
 impl Program for Pictures {
@@ -29,6 +29,9 @@ impl Program for Pictures {
         path: &CandidatePath<'_>,
     ) -> Result<(bool, u128), NoMemory> {
         let text = path.as_str();
+        if text == "starve" {
+            return Err(NoMemory);
+        }
         let count = text.chars().count();
         Ok((text.as_bytes().ends_with(b".png"), count as u128))
     }
@@ -104,6 +107,22 @@ fn lines_before_a_failed_read_are_written(rt: HostRuntime) -> Result<(), Fail> {
     assert_eq!(rt; input.calls(), 11);
     assert_eq!(rt; input.failures(), 1);
     assert_eq!(rt; output.into_inner().as_slice(), b"logo.png\n".as_slice());
+    Ok(())
+}
+
+#[test]
+fn lines_of_the_reads_before_want_of_memory_are_written(rt: HostRuntime) -> Result<(), Fail> {
+    let cases: [(&[u8], &[u8]); 2] = [
+        (b"a.png\nb.png\nstarve\nc.png\n", b"a.png\nb.png\n"),
+        (b"starve", b""),
+    ];
+    for (bytes, want) in cases {
+        let mut input = Counted::new(Slow { bytes, left: 1000 });
+        let mut output = Counted::new(Vec::new(rt.alloc()));
+        let answer = filter_lines(rt.alloc(), &mut input, &mut output, &Pictures);
+        assert!(rt; answer == Err(LinesError::Memory));
+        assert_eq!(rt; output.into_inner().as_slice(), want);
+    }
     Ok(())
 }
 

@@ -1,8 +1,8 @@
 use Rattle.std.proofs.Common.{◌≡◌, ◌∙◌, List, [], ◌∷◌, ℕ, Option, Some, None, subst, sym}
 use Rattle.std.specs.Prelude.{String}
-use Rattle.globs.specs.Commands.{AsksMatch}
-use Rattle.globs.specs.Endings.{Ends}
-use Rattle.globs.proofs.run.run_globs.Goals as goal
+use Rattle.wax_commands.specs.Commands.{AsksMatch}
+use Rattle.wax_commands.specs.Endings.{Ends}
+use Rattle.wax_commands.proofs.run.run_globs.Goals as goal
 
 -- the words ask for one expression at most
 one_expression : {A : Type 0} (words : List (Option (String A))) (d e : List ℕ) → AsksMatch words d → AsksMatch words e → d ≡ e

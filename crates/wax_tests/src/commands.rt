@@ -1,16 +1,12 @@
 //! What `run_globs` does, and how words are read.
 
-mod lines;
-mod streams;
-mod walks;
-
-use crate::{run_globs, words};
+use crate::streams::{Narrow, Slow};
 use std::alloc::{AllocError, Global};
 use std::env::FillError;
 use std::rt::Env;
 use std::test::*;
-use streams::{Narrow, Slow};
 use wax::Counted;
+use wax_commands::{run_globs, words};
 
 const USAGE: &[u8] = b"usage: globs match EXPR
        globs captures EXPR

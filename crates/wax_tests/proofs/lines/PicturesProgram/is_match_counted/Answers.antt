@@ -1,7 +1,7 @@
 use Rattle.std.proofs.Common.{◌≡◌, ◌∙◌, ap, sym, rules, arith, length, chars, codes, encode_utf8_all, nat_eq}
 use Rattle.std.specs.List.{ends_with}
 use Rattle.std.proofs.lemmas.Str.{encodes-chars, chars_from_encodes}
-use Rattle.globs.proofs.tests.lines.PicturesProgram.is_match_counted.Goals as goal
+use Rattle.wax_tests.proofs.lines.PicturesProgram.is_match_counted.Goals as goal
 
 pub returns-clause-decides : goal.returns-clause-decides
 returns-clause-decides c =

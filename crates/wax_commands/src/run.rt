@@ -1,7 +1,7 @@
 //! What the program does with its words and its streams.
 ghost use Rattle.std.specs.Prelude.{◌≡◌, ℕ, List, IfSome, IfNone};
-ghost use Rattle.globs.specs.Commands.{AsksMatch, HasNoCommand};
-ghost use Rattle.globs.specs.Endings.{Ends};
+ghost use Rattle.wax_commands.specs.Commands.{AsksMatch, HasNoCommand};
+ghost use Rattle.wax_commands.specs.Endings.{Ends};
 
 use std::alloc::Global;
 use std::io::{Read, Write};
@@ -33,8 +33,10 @@ pub fn run_globs<R: Read, W: Write, F: Write>(
     output: &mut Counted<W>,
     faults: &mut F,
 ) -> u8
-    ensures wrong_words { HasNoCommand words.now → (result ≡ 2) × (input.new ≡ input.old) × (output.new ≡ output.old) }
-    ensures right_words { (e : List ℕ) → AsksMatch words.now e → Ends e (R.remaining input.old.inner) (R.remaining input.new.inner)
+    ensures wrong_words { HasNoCommand words.now
+        → (result ≡ 2) × (input.new ≡ input.old) × (output.new ≡ output.old) }
+    ensures right_words { (e : List ℕ) → AsksMatch words.now e
+        → Ends e (R.remaining input.old.inner) (R.remaining input.new.inner)
         (W.contents output.old.inner) (W.contents output.new.inner) result }
     ensures quiet { result ≡ 0 → faults.new ≡ faults.old }
 {

@@ -3,7 +3,8 @@ use Rattle.std.specs.Prelude.{◌≡◌, ℕ, List, [], ◌∷◌, Option, Some,
 
 -- the two words `match` and an expression
 abbrev pub AsksMatch : {A : Type 0} → List (Option (String A)) → List ℕ → Type 0
-AsksMatch (Some command ∷ Some word ∷ []) e = (string_bytes command ≡ codes "match") × (e ≡ string_bytes word)
+AsksMatch (Some command ∷ Some word ∷ []) e =
+    (string_bytes command ≡ codes "match") × (e ≡ string_bytes word)
 AsksMatch _ e = ⊥
 
 -- they ask for nothing that there is

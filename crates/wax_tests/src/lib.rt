@@ -1,0 +1,12 @@
+//! Tests of the commands, of lines and of walks. They stand in a crate of their own, since a crate with
+//! tests is proved twice.
+#![tactic(auto)]
+
+#[cfg(test)]
+mod commands;
+#[cfg(test)]
+mod lines;
+#[cfg(test)]
+mod streams;
+#[cfg(test)]
+mod walks;
