@@ -1,57 +1,88 @@
-//! Filters over walks, and cancelling.
+//! Filters and rules over walks, and cancelling.
 
-use crate::printed::{print_item, print_walk};
-use crate::trees::{project, tree_of};
+ghost use Rattle.std.specs.Iterator.{IsFinite};
+
+use crate::printed::{print_feed, print_item, print_walk};
+use crate::trees::{FAULTY, PROJECT, tree_of};
+use std::alloc::Global;
 use std::io;
+use wax_directory::tree::Tree;
 use wax_filter::filter::CancelWalk;
-use wax_tree::PathExt;
-use wax_walk::{Entry, EntryResidue, FileIterator, TreeEntry};
+use wax_query::diagnostics::NoMemory;
+use wax_tree::{PathExt, TreeFeed, WalkTree};
+use wax_walk::{Entry, EntryResidue, FileIterator, Rule, TreeEntry};
+
+const ALONE: EntryResidue = EntryResidue::File;
+
+const BELOW: EntryResidue = EntryResidue::Tree;
 
 /// Leaves out what stands at the path.
-pub fn leaves_out(entry: &TreeEntry, path: &str, residue: EntryResidue) -> Option<EntryResidue> {
-    if entry.path() == path {
-        Some(residue)
+fn leaves_out(entry: &TreeEntry, path: &str, residue: EntryResidue) -> Option<EntryResidue> {
+    (entry.path() == path).then_some(residue)
+}
+
+fn project(rt: &HostRuntime) -> io::Result<WalkTree<Tree>> {
+    Ok("".walk(rt.alloc(), tree_of(rt.alloc(), PROJECT)?))
+}
+
+/// A walk without what stands at the path: its feed, or what is kept.
+fn print_without<I>(
+    rt: &HostRuntime,
+    name: &str,
+    walk: I,
+    path: &str,
+    residue: EntryResidue,
+    is_feed: bool,
+) -> io::Result<()>
+where
+    I: FileIterator<Feed = TreeFeed, Entry = TreeEntry, Residue = TreeEntry, Directory = Tree>,
+    requires can { I.can_feed walk }
+    requires ends { IsFinite (I.left walk) }
+{
+    let filtered = walk.filter_entry(|entry| leaves_out(entry, path, residue));
+    if is_feed {
+        print_feed(rt, name, filtered)
     } else {
-        None
+        print_walk(rt, name, filtered)
     }
 }
 
-fn print_filtered(
-    rt: &HostRuntime,
-    name: &str,
-    path: &str,
-    residue: EntryResidue,
-) -> io::Result<()> {
-    let tree = tree_of(rt.alloc(), project(rt.alloc()))?;
-    let walk = "".walk(rt.alloc(), tree);
-    print_walk(
-        rt,
-        name,
-        walk.filter_entry(|entry| leaves_out(entry, path, residue)),
-    )
+const ONCE: &[(&str, &str, EntryResidue)] = &[
+    ("without src and below", "src", BELOW),
+    ("without src alone", "src", ALONE),
+    ("without a file and below", "README.md", BELOW),
+    ("without the start", "", BELOW),
+];
+
+/// What lies at a path is left out by one filter.
+pub fn print_filtered(rt: &HostRuntime) -> io::Result<()> {
+    for (name, path, residue) in ONCE {
+        print_without(rt, name, project(rt)?, path, *residue, false)?;
+    }
+    Ok(())
 }
 
-/// One filter, and two.
-pub fn print_rows(rt: &HostRuntime) -> io::Result<()> {
-    print_filtered(rt, "without src and below", "src", EntryResidue::Tree)?;
-    print_filtered(rt, "without src alone", "src", EntryResidue::File)?;
-    print_filtered(
-        rt,
-        "without a file and below",
-        "README.md",
-        EntryResidue::Tree,
-    )?;
-    print_filtered(rt, "without the start", "", EntryResidue::Tree)?;
-    let tree = tree_of(rt.alloc(), project(rt.alloc()))?;
-    let walk = "".walk(rt.alloc(), tree);
-    let once = walk.filter_entry(|entry| leaves_out(entry, "tests/harness", EntryResidue::Tree));
-    let twice = once.filter_entry(|entry| leaves_out(entry, "tests/harness", EntryResidue::Tree));
-    print_walk(rt, "twice without tests/harness and below", twice)
+const TWICE: &[(&str, &str, EntryResidue, EntryResidue, bool)] = &[
+    ("a folder, twice", "tests/harness", BELOW, BELOW, false),
+    ("src alone, twice", "src", ALONE, ALONE, true),
+    ("src alone, then with all below", "src", ALONE, BELOW, true),
+    ("src with all below, then alone", "src", BELOW, ALONE, true),
+    ("src with all below, twice", "src", BELOW, BELOW, true),
+];
+
+/// What lies at a path is left out by one filter and then by another.
+pub fn print_filtered_twice(rt: &HostRuntime) -> io::Result<()> {
+    for (name, path, first, second, is_feed) in TWICE {
+        let first = *first;
+        let once = project(rt)?.filter_entry(|entry| leaves_out(entry, path, first));
+        print_without(rt, name, once, path, *second, *is_feed)?;
+    }
+    Ok(())
 }
 
 /// What lies below an item is cancelled once and again.
 pub fn print_cancelling(rt: &HostRuntime) -> io::Result<()> {
-    let mut walk = "".walk(rt.alloc(), tree_of(rt.alloc(), project(rt.alloc()))?);
+    let mut walk = project(rt)?;
     print!(rt; "cancelled below src, twice:")?;
     while let Some(item) = walk.next() {
         if let Ok(entry) = &item {
@@ -63,4 +94,58 @@ pub fn print_cancelling(rt: &HostRuntime) -> io::Result<()> {
         print_item(rt, &item)?;
     }
     println!(rt; "; then {}", walk.next().is_none())
+}
+
+/// Leaves out the entries from a depth on.
+#[derive(Drop)]
+struct FromDepth {
+    depth: usize,
+    residue: EntryResidue,
+}
+
+impl Rule for FromDepth {
+    ghost use Rattle.std.specs.Prelude.{cond, nat_lt, Some};
+    ghost use Rattle.wax_walk.specs.Given.{kept};
+    ghost use Rattle.wax_walk.specs.Said.{mark_of};
+
+    ghost rule = { λ s f. cond (nat_lt f.depth s.depth) kept (mark_of (Some s.residue)) };
+
+    fn residue<E: Entry>(&self, _: Global, entry: &E) -> Result<Option<EntryResidue>, NoMemory> {
+        if entry.depth() < self.depth {
+            return Ok(None);
+        }
+        Ok(Some(self.residue))
+    }
+}
+
+/// The feed of a walk without the entries from a depth on.
+fn print_rule<I>(
+    rt: &HostRuntime,
+    name: &str,
+    walk: I,
+    depth: usize,
+    residue: EntryResidue,
+) -> io::Result<()>
+where
+    I: FileIterator<Feed = TreeFeed, Entry = TreeEntry, Residue = TreeEntry, Directory = Tree>,
+    requires can { I.can_feed walk }
+    requires ends { IsFinite (I.left walk) }
+{
+    let rule = FromDepth { depth, residue };
+    print_feed(rt, name, walk.without(rt.alloc(), rule))
+}
+
+/// Feeds with faults, of a rule, and of a rule over another.
+pub fn print_rules(rt: &HostRuntime) -> io::Result<()> {
+    let tree = tree_of(rt.alloc(), FAULTY)?;
+    print_feed(rt, "faults", "".walk(rt.alloc(), tree))?;
+    print_rule(rt, "a rule, depth 2", project(rt)?, 2, ALONE)?;
+    print_rule(rt, "a rule, depth 2", project(rt)?, 2, BELOW)?;
+    print_rule(rt, "a rule, depth 0", project(rt)?, 0, BELOW)?;
+    let inner = FromDepth {
+        depth: 1,
+        residue: ALONE,
+    };
+    let walk = project(rt)?.without(rt.alloc(), inner);
+    print_rule(rt, "two rules", walk, 2, BELOW)
 }

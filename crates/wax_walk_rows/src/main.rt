@@ -1,51 +1,52 @@
-//! Prints walks of trees in memory, row by row: what is given, the paths that were listed, and how many items
-//! were asked for. Then it compares answers with those that have to come, prints each that is other, with both
-//! values, and how many are the same. The file `stdout` beside this folder has what has to be printed.
+//! Prints what walks of trees in memory give, with the paths that were listed and what was counted, and what
+//! directories, filters and depths answer, row by row. The file `stdout` beside this folder has what has to
+//! be printed.
 #![tactic(auto)]
 
-mod depth_rows;
-mod directory_rows;
-mod end_rows;
-mod faults;
-mod feeds;
-mod filter_rows;
+mod depths;
+mod directories;
+mod ends;
 mod filters;
-mod plain;
 mod printed;
-mod report;
-mod tally_rows;
+mod separations;
 mod trees;
+mod walks;
 
-use report::Report;
 use std::io;
-use std::io::Print;
 
 fn main(rt: HostRuntime) -> io::Result<()> {
-    plain::print_rows(&rt)?;
-    plain::print_budgets(&rt)?;
-    plain::print_places(&rt)?;
-    plain::print_first_items(&rt)?;
-    faults::print_rows(&rt)?;
-    faults::print_failing(&rt)?;
-    faults::print_starving(&rt)?;
-    filters::print_rows(&rt)?;
+    walks::print_ranges(&rt)?;
+    walks::print_starts(&rt)?;
+    walks::print_budgets(&rt)?;
+    walks::print_all_places(&rt)?;
+    walks::print_whole(&rt)?;
+    walks::print_ways_counted(&rt)?;
+    ends::print_faults(&rt)?;
+    ends::print_budgets(&rt)?;
+    ends::print_starved(&rt)?;
+    ends::print_all_ended(&rt)?;
+    ends::print_ways(&rt)?;
+    filters::print_filtered(&rt)?;
+    filters::print_filtered_twice(&rt)?;
     filters::print_cancelling(&rt)?;
-    feeds::print_rows(&rt)?;
-    feeds::print_rules(&rt)?;
-    feeds::print_whole(&rt)?;
-    compare_all(&rt)
-}
-
-fn compare_all(rt: &HostRuntime) -> io::Result<()> {
-    show(rt, "filters", &filter_rows::report(rt.alloc())?)?;
-    show(rt, "directories", &directory_rows::report(rt)?)?;
-    show(rt, "depths", &depth_rows::report(rt.alloc())?)?;
-    show(rt, "ends", &end_rows::report(rt.alloc())?)?;
-    show(rt, "counts", &tally_rows::report(rt.alloc())?)
-}
-
-/// Prints the rows that are other, and how many are the same.
-fn show(rt: &impl Print, name: &str, report: &Report) -> io::Result<()> {
-    let lines = report.lines();
-    println!(rt; "{lines}{name}: {report}")
+    filters::print_rules(&rt)?;
+    depths::print_bounds(&rt)?;
+    depths::print_depths(&rt)?;
+    depths::print_behaviors(&rt)?;
+    directories::print_lookups(&rt)?;
+    directories::print_sealed(&rt)?;
+    directories::print_lists(&rt)?;
+    directories::print_starved_lists(&rt)?;
+    directories::print_all_items(&rt)?;
+    directories::print_duplicate(&rt)?;
+    directories::print_system(&rt)?;
+    separations::print_marks(&rt)?;
+    separations::print_hashes(&rt)?;
+    separations::print_residues(&rt)?;
+    separations::print_separations(&rt)?;
+    separations::print_cancelling(&rt)?;
+    separations::print_left_out(&rt)?;
+    separations::print_turned(&rt)?;
+    separations::print_tree_of_item(&rt)?;
+    separations::print_asked(&rt)
 }

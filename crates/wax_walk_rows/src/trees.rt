@@ -1,116 +1,86 @@
 //! The trees that are walked.
+//!
+//! A plan of a folder has a word for each item: `a/` begins a folder `a` and `;` ends it, `a@` is a link,
+//! `a#` a folder that can't be listed, `!` an item that can't be read and `?` one whose name isn't text. Any
+//! other word is a file; `''` is one with an empty name.
 
 use std::alloc::{AllocError, Global};
 use std::io::{self, ErrorKind};
+use std::mem;
 use wax_directory::tree::{Node, Tree, TreeItem};
 
+/// Six files in folders: what most rows walk.
+pub const PROJECT: &str =
+    "doc/ guide.md ; src/ glob.rs lib.rs ; tests/ harness/ mod.rs ; walk.rs ; README.md";
+
+/// A folder that can't be listed, and then a file.
+pub const SEALED: &str = "a# x";
+
+/// Files and a folder among items that can't be read, aren't text, or have a bad name.
+pub const FAULTY: &str = "a ! b/ c ; ? .. d";
+
+/// A link, and names that no path can hold.
+pub const ODD: &str = "link@ ./ x ; '' p/q ...";
+
+/// A folder with a file, a link, and items that can't be listed, can't be read or aren't text.
+pub const MIXED: &str = "doc/ guide.md ; link@ ! sealed# ?";
+
+/// A folder `all` with an item of each kind, two of them under names that no path can hold.
+pub const ALL_KINDS: &str = "all/ doc/ x ; file ! link@ ? ..# a/b ;";
+
+/// A folder that holds a name twice.
+pub const TWICE: &str = "b/ a a@ ;";
+
+/// A folder, and a file.
+const ROOT: &str = "a/ b ; x";
+
 /// An entry with this name.
-pub fn entry(alloc: Global, name: &str, node: Node) -> Result<TreeItem, AllocError> {
+fn entry(alloc: Global, name: &str, node: Node) -> Result<TreeItem, AllocError> {
     Ok(TreeItem::Entry(String::from_str(alloc, name)?, node))
 }
 
-pub fn file(alloc: Global, name: &str) -> Result<TreeItem, AllocError> {
-    entry(alloc, name, Node::File)
-}
-
-/// A folder of files with these names.
-pub fn folder_of_files(alloc: Global, names: &[&str]) -> Result<Node, AllocError> {
-    let mut items = Vec::new(alloc);
-    for name in names {
-        items.push(file(alloc, name)?)?;
+/// The item that a word stands for which begins and ends no folder.
+fn item_of(alloc: Global, word: &str) -> Result<TreeItem, AllocError> {
+    if let Some(name) = word.strip_suffix('@') {
+        return entry(alloc, name, Node::Link);
     }
-    Ok(Node::Folder(items))
+    if let Some(name) = word.strip_suffix('#') {
+        return entry(alloc, name, Node::Sealed);
+    }
+    match word {
+        "!" => Ok(TreeItem::Failed),
+        "?" => Ok(TreeItem::NotText),
+        "''" => entry(alloc, "", Node::File),
+        _ => entry(alloc, word, Node::File),
+    }
 }
 
-fn tests(alloc: Global) -> Result<Node, AllocError> {
+/// The folder of this plan.
+pub fn folder_of(alloc: Global, plan: &str) -> Result<Node, AllocError> {
     let mut items = Vec::new(alloc);
-    items.push(entry(alloc, "harness", folder_of_files(alloc, &["mod.rs"])?)?)?;
-    items.push(file(alloc, "walk.rs")?)?;
-    Ok(Node::Folder(items))
-}
-
-/// Six files in folders: what most rows walk.
-pub fn project(alloc: Global) -> Result<Node, AllocError> {
-    let mut items = Vec::new(alloc);
-    items.push(entry(alloc, "doc", folder_of_files(alloc, &["guide.md"])?)?)?;
-    items.push(entry(
-        alloc,
-        "src",
-        folder_of_files(alloc, &["glob.rs", "lib.rs"])?,
-    )?)?;
-    items.push(entry(alloc, "tests", tests(alloc)?)?)?;
-    items.push(file(alloc, "README.md")?)?;
-    Ok(Node::Folder(items))
-}
-
-/// A folder that can't be listed, and then a file.
-pub fn sealed(alloc: Global) -> Result<Node, AllocError> {
-    let mut items = Vec::new(alloc);
-    items.push(entry(alloc, "a", Node::Sealed)?)?;
-    items.push(file(alloc, "x")?)?;
-    Ok(Node::Folder(items))
-}
-
-/// Files and a folder among items that can't be read, aren't text, or have a bad name.
-pub fn faulty(alloc: Global) -> Result<Node, AllocError> {
-    let mut items = Vec::new(alloc);
-    items.push(file(alloc, "a")?)?;
-    items.push(TreeItem::Failed)?;
-    items.push(entry(alloc, "b", folder_of_files(alloc, &["c"])?)?)?;
-    items.push(TreeItem::NotText)?;
-    items.push(file(alloc, "..")?)?;
-    items.push(file(alloc, "d")?)?;
-    Ok(Node::Folder(items))
-}
-
-/// A link, and names that no path can hold.
-pub fn odd(alloc: Global) -> Result<Node, AllocError> {
-    let mut items = Vec::new(alloc);
-    items.push(entry(alloc, "link", Node::Link)?)?;
-    items.push(entry(alloc, ".", folder_of_files(alloc, &["x"])?)?)?;
-    items.push(file(alloc, "")?)?;
-    items.push(file(alloc, "p/q")?)?;
-    items.push(file(alloc, "...")?)?;
-    Ok(Node::Folder(items))
-}
-
-/// A folder with a file, a link, and items that can't be listed, can't be read or aren't text.
-pub fn mixed(alloc: Global) -> Result<Node, AllocError> {
-    let mut items = Vec::new(alloc);
-    items.push(entry(alloc, "doc", folder_of_files(alloc, &["guide.md"])?)?)?;
-    items.push(entry(alloc, "link", Node::Link)?)?;
-    items.push(TreeItem::Failed)?;
-    items.push(entry(alloc, "sealed", Node::Sealed)?)?;
-    items.push(TreeItem::NotText)?;
-    Ok(Node::Folder(items))
-}
-
-/// A folder `all` with an item of each kind, two of them under names that no path can hold.
-pub fn all_kinds(alloc: Global) -> Result<Node, AllocError> {
-    let mut items = Vec::new(alloc);
-    items.push(entry(alloc, "doc", folder_of_files(alloc, &["x"])?)?)?;
-    items.push(file(alloc, "file")?)?;
-    items.push(TreeItem::Failed)?;
-    items.push(entry(alloc, "link", Node::Link)?)?;
-    items.push(TreeItem::NotText)?;
-    items.push(entry(alloc, "..", Node::Sealed)?)?;
-    items.push(file(alloc, "a/b")?)?;
-    let all = Node::Folder(items);
-    Ok(Node::Folder(vec![in alloc; entry(alloc, "all", all)?]?))
-}
-
-/// The root: a folder `a` with a file `b`, and a file `x`.
-fn root(alloc: Global) -> Result<Node, AllocError> {
-    let mut items = Vec::new(alloc);
-    items.push(entry(alloc, "a", folder_of_files(alloc, &["b"])?)?)?;
-    items.push(file(alloc, "x")?)?;
+    let mut outer = Vec::new(alloc);
+    for word in plan.split(' ') {
+        if let Some(name) = word.strip_suffix('/') {
+            outer.push((name, mem::replace(&mut items, Vec::new(alloc))))?;
+        } else if word != ";" {
+            items.push(item_of(alloc, word)?)?;
+        } else if let Some((name, before)) = outer.pop() {
+            let folder = Node::Folder(mem::replace(&mut items, before));
+            items.push(entry(alloc, name, folder)?)?;
+        }
+    }
     Ok(Node::Folder(items))
 }
 
 /// The tree with this working folder.
-pub fn tree_of(alloc: Global, working: Result<Node, AllocError>) -> io::Result<Tree> {
-    match Tree::new(alloc, working?, root(alloc)?) {
+pub fn tree_with(alloc: Global, working: Node) -> io::Result<Tree> {
+    match Tree::new(alloc, working, folder_of(alloc, ROOT)?) {
         Ok(tree) => Ok(tree),
         Err(_) => Err(io::Error::from(ErrorKind::InvalidData)),
     }
+}
+
+/// The tree whose working folder has this plan.
+pub fn tree_of(alloc: Global, plan: &str) -> io::Result<Tree> {
+    tree_with(alloc, folder_of(alloc, plan)?)
 }

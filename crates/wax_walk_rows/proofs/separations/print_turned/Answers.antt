@@ -1,6 +1,6 @@
 use Rattle.std.proofs.Common.{rules}
 use denote.Param.Always.{mut_total}
-use Rattle.wax_walk_rows.proofs.filter_rows.turned.Goals as goal
+use Rattle.wax_walk_rows.proofs.separations.print_turned.Goals as goal
 
 pub next-first-requires : goal.next-first-requires
 next-first-requires c = (tt, mut_total _ _ (λ s a. tt), (λ f w x y v s h. search rules), tt)
