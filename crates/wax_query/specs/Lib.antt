@@ -1,4 +1,7 @@
+pub mod Components
 pub mod Labels
 pub mod Lending
 pub mod Outcome
+pub mod Ranges
 pub mod Spans
+pub mod Whens

@@ -1,0 +1,6 @@
+//! What a static query answers.
+
+mod when;
+
+pub use crate::diagnostics::{LocatedError, Span};
+pub use when::When;
