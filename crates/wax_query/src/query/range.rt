@@ -13,8 +13,8 @@ use super::variance::{Boundedness, Variance};
 use std::marker::Model;
 use std::num::NonZeroUsize;
 
-/// The numbers from a lower to an upper bound, of which at least one is there, and more than one
-/// number. Contracts see the two bounds, where a lower one of 0 is none.
+/// The numbers from a lower to an upper bound. At least one of the two is there, and more than one
+/// number is held. Contracts see the two bounds, where a lower one of 0 is none.
 #[derive(Clone, Copy, Debug, PartialEq, Eq, Hash)]
 pub struct BoundedVariantRange {
     lower: usize,
