@@ -1,0 +1,48 @@
+-- Profiles whose numbers stay at the greatest of 128 bits.
+use Rattle.std.specs.Prelude.{◌≡◌, ◌+◌, ◌-◌, ◌^◌, Bool, None, Option, Some, ℕ, false, min, true}
+use Rattle.wax_depth.specs.Depth.{saturated_bound, usize_max}
+use Rattle.wax_depth.specs.declared.profile.Profile.{Profile}
+use Rattle.wax_depth.specs.declared.profiles.Profiles.{Profiles}
+use Rattle.wax_depth.specs.inner.Intervals.{Interval, hull, or_zero, saturated_interval}
+use Rattle.wax_depth.specs.inner.Profiles.{at, profile}
+
+abbrev pub u128_max : ℕ
+u128_max = 2 ^ 128 - 1
+
+abbrev pub saturated : Profile → Profile
+saturated p = profile (λ a. saturated_interval u128_max (at p a))
+
+-- with nothing around it, with something after it, before it, and on both sides
+abbrev pub in_context : Profiles → Bool → Bool → Profile
+in_context p false false = p.alone
+in_context p false true = p.first
+in_context p true false = p.last
+in_context p true true = p.middle
+
+abbrev pub profiles : (Bool → Bool → Profile) → Profiles
+profiles f = record { alone = f false false; first = f false true; last = f true false; middle = f true true }
+
+-- they differ only past the greatest number
+abbrev pub ProfilesOf : Profiles → (Bool → Bool → Profile) → Type 0
+ProfilesOf p f = (before after : Bool) → saturated (in_context p before after) ≡ saturated (f before after)
+
+-- the numbers of components of texts with so many `/` at their ends
+abbrev pub saturated_component_bound : ℕ → Option ℕ → Option ℕ
+saturated_component_bound ends None = None
+saturated_component_bound ends (Some n) = Some (min (n + 1) u128_max - ends)
+
+abbrev pub saturated_components : ℕ → Interval → Interval
+saturated_components ends None = None
+saturated_components ends (Some x) = Some (min (x.0 + 1) u128_max - ends, saturated_component_bound ends x.1)
+
+-- the empty text has no component
+abbrev pub no_components : Interval → Interval
+no_components None = None
+no_components (Some x) = Some (0, Some 0)
+
+abbrev pub saturated_depth : Profile → Interval
+saturated_depth p = hull (no_components p.nothing) (hull (saturated_components 0 p.bare) (hull (saturated_components 1 p.ending)
+    (hull (saturated_components 1 p.beginning) (saturated_components 2 p.enclosed))))
+
+abbrev pub in_words : Interval → ℕ × Option ℕ
+in_words x = or_zero (saturated_interval usize_max x)
