@@ -4,4 +4,5 @@ pub mod Lending
 pub mod Outcome
 pub mod Ranges
 pub mod Spans
+pub mod Variances
 pub mod Whens
