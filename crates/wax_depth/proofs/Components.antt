@@ -125,9 +125,9 @@ module _ {r : Profile} {P : List ℕ → Type 0} (f : Exact r P) where
       (hull_at (ended true true) r.enclosed (f.hulls (ended true true)))))))
 
 -- the number of the code is the depth
-pub depth_exact : {A : Type 0} (t : Tree A) → Depth t (or_zero (component_hull (tree_profile t false false))).0 (or_zero (component_hull (tree_profile t false false))).1
+pub depth_exact : {A : Type 0} (t : Tree A) → Depth t (or_zero (component_hull (tree_profile t false false)))
 depth_exact t = depth_from (component_hull (tree_profile t false false)) (hull_components (exact_tree_profile t false false))
   where
-    depth_from : (d : Interval) → IsHull d (HasComponents t) → Depth t (or_zero d).0 (or_zero d).1
-    depth_from None h = inr (h, refl, refl)
+    depth_from : (d : Interval) → IsHull d (HasComponents t) → Depth t (or_zero d)
+    depth_from None h = inr (h, refl)
     depth_from (Some x) h = inl h

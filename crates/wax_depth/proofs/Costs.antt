@@ -1,8 +1,9 @@
 -- The depth of a tree is bounded by its cost.
-use Rattle.std.proofs.Common.{◌*◌, ◌++◌, ◌+◌, ◌==◌, ◌∷◌, ◌≤◌, Bool, List, None, Option, Some, ℕ, [], arith}
-use Rattle.std.proofs.Common.{false, inl, inr, length, refl, suc, true, zero}
+use Rattle.std.proofs.Common.{◌≡◌, ◌*◌, ◌++◌, ◌+◌, ◌==◌, ◌∷◌, ◌≤◌, Bool, List, None, Option, Some, ℕ, [], ap}
+use Rattle.std.proofs.Common.{arith, false, inl, inr, length, refl, suc, true, zero}
 use Rattle.std.proofs.Math.Nat.{mul-le-mul_left, mul-le-mul_right}
 use Rattle.wax_query.specs.Components.{components, slash, slashes}
+use Rattle.wax_query.specs.Ranges.{Bounds}
 use Rattle.wax_token.specs.Cost.{branches_cost, copies_of, cost, costs, holds_tree, leaf_cost}
 use Rattle.wax_token.specs.Meaning.{AtMost, Copies, LeafMeans, Means, MeansEach, MeansSome, TreeMeans}
 use Rattle.wax_token.specs.Syntax.{Leaf, Tree, Trees, alternation, class, concatenation, leaf, literal, more}
@@ -104,10 +105,10 @@ few_components [] = omega arith
 few_components (c ∷ s) = omega arith
 
 -- the least number is bounded by the cost
-pub least_bounded : {A : Type 0} (t : Tree A) (low : ℕ) (high : Option ℕ) → Depth t low high → low ≤ cost t + 1
-least_bounded t low high (inl h) =
-    let w : HasComponents t low = h.0.0 in
+pub least_bounded : {A : Type 0} (t : Tree A) (r : Bounds) → Depth t r → r.0 ≤ cost t + 1
+least_bounded t r (inl h) =
+    let w : HasComponents t r.0 = h.0.0 in
     let u : HasFew (Means (thinned t) false false) (cost t) = has_few t false false w.0 w.1 false false in
-    let le : low ≤ components u.0 = h.0.1 (components u.0) (u.0, u.1, refl) in
+    let le : r.0 ≤ components u.0 = h.0.1 (components u.0) (u.0, u.1, refl) in
     omega (arith, le, few_components u.0, u.2)
-least_bounded t low high (inr h) = omega (arith, h.1)
+least_bounded t r (inr h) = let e : r.0 ≡ 0 = ap (λ z. z.0) h.1 in omega (arith, e)

@@ -176,7 +176,7 @@ many_components : (s : List ℕ) → slashes s ≤ components s + 1
 many_components [] = omega arith
 many_components (c ∷ s) = omega (arith, bit_at_most (c == 47), last_at_most c s)
 
-pub greatest_bounded : {A : Type 0} (t : Tree A) (low high : ℕ) → Depth t low (Some high) → high ≤ cost t + 1
+pub greatest_bounded : {A : Type 0} (t : Tree A) (low high : ℕ) → Depth t (low, Some high) → high ≤ cost t + 1
 greatest_bounded t low high (inl h) =
     let w : HasComponents t high = h.1.0 in
     elim (few_or_pumps t false false w.0 w.1) [
@@ -185,7 +185,7 @@ greatest_bounded t low high (inl h) =
           let le : components u.0 ≤ high = h.1.1 (components u.0) (u.0, u.1, refl) in
           absurd (omega (arith, le, many_components u.0, u.3)))
     ]
-greatest_bounded t low high (inr h) = let e : high ≡ 0 = same h.2 in omega (arith, e)
+greatest_bounded t low high (inr h) = let e : high ≡ 0 = same (ap (λ z. z.1) h.1) in omega (arith, e)
   where
     same : Some high ≡ Some 0 → high ≡ 0
     same e = cc

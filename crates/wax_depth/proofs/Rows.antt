@@ -1,10 +1,14 @@
--- Worked rows.
-use Rattle.std.proofs.Common.{◌≡◌, Bool, List, None, Option, Some, ℕ, [], codes, false, refl, true}
-use Rattle.wax_token.specs.Syntax.{Tree, alternation, concatenation, leaf, literal, more, none, repetition}
-use Rattle.wax_token.specs.Syntax.{separator, tree, zero_or_more}
+-- The depth of worked globs.
+use Rattle.std.proofs.Common.{◌≡◌, ◌∷◌, Bool, List, None, Option, Some, ℕ, [], codes, false, refl, subst}
+use Rattle.std.proofs.Common.{true}
+use Rattle.wax_token.specs.Syntax.{Tree, alternation, concatenation, leaf, literal, repetition, separator}
+use Rattle.wax_token.specs.Syntax.{tree, zero_or_more}
+use Rattle.wax_token.specs.Words.{trees}
 use Rattle.wax_token.specs.declared.token.Evaluation.TheVariants.{Eager}
+use Rattle.wax_depth.specs.Depth.{Depth}
 use Rattle.wax_depth.specs.inner.Intervals.{or_zero}
 use Rattle.wax_depth.specs.inner.TreeProfiles.{component_hull, tree_profile}
+use Rattle.wax_depth.proofs.Components.{depth_exact}
 
 abbrev u : Unit {0}
 u = tt
@@ -12,8 +16,29 @@ u = tt
 abbrev T : Type 0
 T = Tree (Unit {0})
 
+record HasDepth (t : T) (low : ℕ) (high : Option ℕ) : Type 0 where
+  holds : Depth t (low, high)
+
+computed : {t : T} {low : ℕ} {high : Option ℕ} → or_zero (component_hull (tree_profile t false false)) ≡ (low, high) → HasDepth t low high
+computed {t} e = record { holds = subst (Depth t) e (depth_exact t) }
+
 abbrev word : List ℕ → T
 word t = leaf u (literal false t)
+
+abbrev a : T
+a = word (codes "a")
+
+abbrev b : T
+b = word (codes "b")
+
+abbrev c : T
+c = word (codes "c")
+
+abbrev x : T
+x = word (codes "x")
+
+abbrev ext : T
+ext = word (codes ".ext")
 
 abbrev slash : T
 slash = leaf u separator
@@ -21,89 +46,158 @@ slash = leaf u separator
 abbrev star : T
 star = leaf u (zero_or_more Eager)
 
-abbrev stars : Bool → T
-stars b = leaf u (tree b)
+abbrev tree_wildcard : Bool → T
+tree_wildcard rooted = leaf u (tree rooted)
 
-abbrev answer : T → ℕ × Option ℕ
-answer t = or_zero (component_hull (tree_profile t false false))
+abbrev glob : List T → T
+glob ts = concatenation u (trees ts)
 
-abbrev depth_is : T → ℕ → Option ℕ → Type 0
-depth_is t low high = answer t ≡ (low, high)
+abbrev branches : List T → T
+branches ts = alternation u (trees ts)
 
-abbrev a : T
-a = word (codes "a")
+abbrev copies : List T → ℕ → Option ℕ → T
+copies ts low high = repetition u (glob ts) low high
 
-abbrev seq2 : T → T → T
-seq2 s t = concatenation u (more s (more t none))
+-- `a`
+row_word : HasDepth (glob (a ∷ [])) 1 (Some 1)
+row_word = computed refl
 
-abbrev seq3 : T → T → T → T
-seq3 s t r = concatenation u (more s (more t (more r none)))
+-- `a/`
+row_slash_last : HasDepth (glob (a ∷ slash ∷ [])) 1 (Some 1)
+row_slash_last = computed refl
 
-abbrev alone_in : T → T
-alone_in s = concatenation u (more s none)
+-- `(?i)a(?-i)b`
+row_two_literals : HasDepth (glob (leaf u (literal true (codes "a")) ∷ b ∷ [])) 1 (Some 1)
+row_two_literals = computed refl
 
-abbrev alt2 : T → T → T
-alt2 s t = alternation u (more s (more t none))
+-- `*`
+row_wildcard : HasDepth (glob (star ∷ [])) 1 (Some 1)
+row_wildcard = computed refl
 
-abbrev rep : T → ℕ → Option ℕ → T
-rep t low high = repetition u t low high
+-- `{a,*}`
+row_branches : HasDepth (glob (branches (glob (a ∷ []) ∷ glob (star ∷ []) ∷ []) ∷ [])) 1 (Some 1)
+row_branches = computed refl
 
-row_word : depth_is (alone_in a) 1 (Some 1)
-row_word = refl
+-- `a/b`
+row_two : HasDepth (glob (a ∷ slash ∷ b ∷ [])) 2 (Some 2)
+row_two = computed refl
 
-row_ends : depth_is (seq2 a slash) 1 (Some 1)
-row_ends = refl
+-- `{a/b}`
+row_one_branch : HasDepth (glob (branches (glob (a ∷ slash ∷ b ∷ []) ∷ []) ∷ [])) 2 (Some 2)
+row_one_branch = computed refl
 
-row_slash : depth_is (alone_in slash) 0 (Some 0)
-row_slash = refl
+-- `a/*`
+row_star_last : HasDepth (glob (a ∷ slash ∷ star ∷ [])) 2 (Some 2)
+row_star_last = computed refl
 
-row_two : depth_is (seq3 a slash a) 2 (Some 2)
-row_two = refl
+-- `*/a`
+row_star_first : HasDepth (glob (star ∷ slash ∷ a ∷ [])) 2 (Some 2)
+row_star_first = computed refl
 
-row_star : depth_is (seq3 star slash a) 2 (Some 2)
-row_star = refl
+-- `a/*/b`
+row_star_between : HasDepth (glob (a ∷ slash ∷ star ∷ slash ∷ b ∷ [])) 3 (Some 3)
+row_star_between = computed refl
 
-row_empty : depth_is (alone_in (word [])) 0 (Some 0)
-row_empty = refl
+-- `<a/:3>`
+row_copies : HasDepth (glob (copies (a ∷ slash ∷ []) 3 (Some 3) ∷ [])) 3 (Some 3)
+row_copies = computed refl
 
-row_any : depth_is (alone_in (stars false)) 0 None
-row_any = refl
+-- `x<a/:3>`
+row_copies_after : HasDepth (glob (x ∷ copies (a ∷ slash ∷ []) 3 (Some 3) ∷ [])) 3 (Some 3)
+row_copies_after = computed refl
+
+-- `{a,a/b}`
+row_one_or_two : HasDepth (glob (branches (glob (a ∷ []) ∷ glob (a ∷ slash ∷ b ∷ []) ∷ []) ∷ [])) 1 (Some 2)
+row_one_or_two = computed refl
+
+-- `x{a,a/b}`
+row_one_or_two_after : HasDepth (glob (x ∷ branches (glob (a ∷ []) ∷ glob (a ∷ slash ∷ b ∷ []) ∷ []) ∷ [])) 1 (Some 2)
+row_one_or_two_after = computed refl
+
+-- `{a,a/b}x`
+row_one_or_two_before : HasDepth (glob (branches (glob (a ∷ []) ∷ glob (a ∷ slash ∷ b ∷ []) ∷ []) ∷ x ∷ [])) 1 (Some 2)
+row_one_or_two_before = computed refl
+
+-- `x/{a,a/b}`
+row_below : HasDepth (glob (x ∷ slash ∷ branches (glob (a ∷ []) ∷ glob (a ∷ slash ∷ b ∷ []) ∷ []) ∷ [])) 2 (Some 3)
+row_below = computed refl
+
+-- `{a,a/b}/x`
+row_above : HasDepth (glob (branches (glob (a ∷ []) ∷ glob (a ∷ slash ∷ b ∷ []) ∷ []) ∷ slash ∷ x ∷ [])) 2 (Some 3)
+row_above = computed refl
+
+-- `{a/,{a/b/,a/b/c/}}x`
+row_nested : HasDepth (glob (branches (glob (a ∷ slash ∷ []) ∷ glob (branches (glob (a ∷ slash ∷ b ∷ slash ∷ []) ∷ glob (a ∷ slash ∷ b ∷ slash ∷ c ∷ slash ∷ []) ∷ []) ∷ []) ∷ []) ∷ x ∷ [])) 2 (Some 4)
+row_nested = computed refl
+
+-- `<*/>`
+row_open : HasDepth (glob (copies (star ∷ slash ∷ []) 0 None ∷ [])) 0 None
+row_open = computed refl
+
+-- `**`
+row_tree_wildcard : HasDepth (glob (tree_wildcard false ∷ [])) 0 None
+row_tree_wildcard = computed refl
+
+-- `a/**`
+row_tree_last : HasDepth (glob (a ∷ tree_wildcard true ∷ [])) 1 None
+row_tree_last = computed refl
+
+-- `<*/>*`
+row_open_before : HasDepth (glob (copies (star ∷ slash ∷ []) 0 None ∷ star ∷ [])) 1 None
+row_open_before = computed refl
+
+-- `**/*`
+row_tree_first : HasDepth (glob (tree_wildcard false ∷ star ∷ [])) 1 None
+row_tree_first = computed refl
+
+-- `**/*/**`
+row_tree_twice : HasDepth (glob (tree_wildcard false ∷ star ∷ tree_wildcard true ∷ [])) 1 None
+row_tree_twice = computed refl
+
+-- `a/<*/>`
+row_open_after : HasDepth (glob (a ∷ slash ∷ copies (star ∷ slash ∷ []) 0 None ∷ [])) 1 None
+row_open_after = computed refl
+
+-- `<*/>a</*>`
+row_open_around : HasDepth (glob (copies (star ∷ slash ∷ []) 0 None ∷ a ∷ copies (slash ∷ star ∷ []) 0 None ∷ [])) 1 None
+row_open_around = computed refl
 
 -- `a/**/b`
-row_between : depth_is (seq3 a (stars true) a) 2 None
-row_between = refl
-
--- `<a/:3>x`
-row_copies : depth_is (seq2 (rep (seq2 a slash) 3 (Some 3)) a) 4 (Some 4)
-row_copies = refl
-
--- `<a/:0,3>`
-row_up_to : depth_is (alone_in (rep (seq2 a slash) 0 (Some 3))) 0 (Some 3)
-row_up_to = refl
-
--- `<*/>` and `<*/>*`
-row_open : depth_is (alone_in (rep (seq2 star slash) 0 None)) 0 None
-row_open = refl
-
-row_open_star : depth_is (seq2 (rep (seq2 star slash) 0 None) star) 1 None
-row_open_star = refl
-
--- `<a:1,><b:0,1>`
-row_plain : depth_is (seq2 (rep (alone_in a) 1 None) (rep (alone_in a) 0 (Some 1))) 1 (Some 1)
-row_plain = refl
+row_tree_between : HasDepth (glob (a ∷ tree_wildcard true ∷ b ∷ [])) 2 None
+row_tree_between = computed refl
 
 -- `<a*/:1,>*`
-row_more : depth_is (seq2 (rep (seq3 a star slash) 1 None) star) 2 None
-row_more = refl
+row_once_at_least : HasDepth (glob (copies (a ∷ star ∷ slash ∷ []) 1 None ∷ star ∷ [])) 2 None
+row_once_at_least = computed refl
 
--- `{a,{a/b,a/b/c}}`
-row_nested : depth_is (alone_in (alt2 (alone_in a) (alone_in (alt2 (seq3 a slash a) (seq2 (seq3 a slash a) (seq2 slash a)))))) 1 (Some 3)
-row_nested = refl
+-- `{a/b/,c/**/}*.ext`
+row_tree_in_branch : HasDepth (glob (branches (glob (a ∷ slash ∷ b ∷ slash ∷ []) ∷ glob (c ∷ tree_wildcard true ∷ []) ∷ []) ∷ star ∷ ext ∷ [])) 2 None
+row_tree_in_branch = computed refl
 
--- `<a/**:2>`
-row_wild : depth_is (alone_in (rep (seq2 a (stars true)) 2 (Some 2))) 2 None
-row_wild = refl
+-- `a/<*/>b`
+row_open_between : HasDepth (glob (a ∷ slash ∷ copies (star ∷ slash ∷ []) 0 None ∷ b ∷ [])) 2 None
+row_open_between = computed refl
+
+-- `a/**/b/**/c`
+row_two_trees : HasDepth (glob (a ∷ tree_wildcard true ∷ b ∷ tree_wildcard true ∷ c ∷ [])) 3 None
+row_two_trees = computed refl
+
+-- the empty expression
+row_empty : HasDepth (glob (word [] ∷ [])) 0 (Some 0)
+row_empty = computed refl
+
+-- `/`
+row_root : HasDepth (glob (slash ∷ [])) 0 (Some 0)
+row_root = computed refl
+
+-- `<a/:0,3>`
+row_up_to : HasDepth (glob (copies (a ∷ slash ∷ []) 0 (Some 3) ∷ [])) 0 (Some 3)
+row_up_to = computed refl
+
+-- `<a:1,><b:0,1>`
+row_no_slash : HasDepth (glob (copies (a ∷ []) 1 None ∷ copies (b ∷ []) 0 (Some 1) ∷ [])) 1 (Some 1)
+row_no_slash = computed refl
 
 -- `<a:3,1>`, which means no text
-row_none : depth_is (alone_in (rep (alone_in a) 3 (Some 1))) 0 (Some 0)
-row_none = refl
+row_no_text : HasDepth (glob (copies (a ∷ []) 3 (Some 1) ∷ [])) 0 (Some 0)
+row_no_text = computed refl

@@ -3,12 +3,13 @@ use Rattle.std.proofs.Common.{if◌then◌else◌, ◌++◌, ◌+◌, ◌==◌, 
 use Rattle.std.proofs.Common.{Option, Some, ℕ, [], ap, append-nil, arith, false, inl, inr, refl, subst, suc}
 use Rattle.std.proofs.Common.{sym, true, zero}
 use Rattle.wax_query.specs.Components.{Bare, components, first_slash, last_slash, slash, slashes}
-use Rattle.wax_token.specs.Meaning.{AtMost, Begins, Copies, Ends, HasNoSlash, LeafMeans, Means, MeansEach}
-use Rattle.wax_token.specs.Meaning.{MeansSome, in_class}
+use Rattle.wax_query.specs.Ranges.{AtMost, Bounds}
+use Rattle.wax_token.specs.Meaning.{Begins, Copies, Ends, HasNoSlash, LeafMeans, Means, MeansEach, MeansSome}
+use Rattle.wax_token.specs.Meaning.{in_class}
 use Rattle.wax_token.specs.Syntax.{Leaf, Tree, Trees, alternation, class, concatenation, leaf, literal, more}
 use Rattle.wax_token.specs.Syntax.{none, one, repetition, separator, tree, zero_or_more}
 use Rattle.wax_token.specs.declared.token.Archetype.{Archetype}
-use Rattle.wax_depth.specs.Bounds.{Bounds}
+use Rattle.wax_depth.specs.Bounds.{BoundsComponents}
 use Rattle.wax_depth.specs.Depth.{Depth, HasComponents, IsGreatest, thinned, thinned_each, thinned_leaf}
 use Rattle.wax_depth.proofs.Basics.{is_slash, not_slash}
 use Rattle.wax_depth.proofs.Shapes.{slashes_append}
@@ -160,14 +161,14 @@ most_components : (X : ℕ → Type 0) (h : Option ℕ) (m n : ℕ) → IsGreate
 most_components X None m n g x le = tt
 most_components X (Some high) m n g x le = let k : n ≤ high = g.1 n x in omega (arith, k, le)
 
-pub depth_bounds : {A : Type 0} (t : Tree A) (low : ℕ) (high : Option ℕ) → Depth t low high → Bounds t low high
-depth_bounds t low high (inl h) = record {
+pub depth_bounds : {A : Type 0} (t : Tree A) (r : Bounds) → Depth t r → BoundsComponents t r
+depth_bounds t r (inl h) = record {
   least = λ s m b. let u : Thinner (Means (thinned t) false false) s = thinned_means t false false s m in
-      let le : low ≤ components u.0 = h.0.1 (components u.0) (u.0, u.1, refl) in omega (arith, le, as_many s u.0 b u.2);
+      let le : r.0 ≤ components u.0 = h.0.1 (components u.0) (u.0, u.1, refl) in omega (arith, le, as_many s u.0 b u.2);
   greatest = λ s m. let u : Thinner (Means (thinned t) false false) s = thinned_means t false false s m in
-      most_components (HasComponents t) high (components s) (components u.0) h.1 (u.0, u.1, refl) (fewer s u.0 u.2);
+      most_components (HasComponents t) r.1 (components s) (components u.0) h.1 (u.0, u.1, refl) (fewer s u.0 u.2);
 }
-depth_bounds t low high (inr h) = record {
+depth_bounds t r (inr h) = record {
   least = λ s m b. let u : Thinner (Means (thinned t) false false) s = thinned_means t false false s m in absurd (h.0 (components u.0) (u.0, u.1, refl));
   greatest = λ s m. let u : Thinner (Means (thinned t) false false) s = thinned_means t false false s m in absurd (h.0 (components u.0) (u.0, u.1, refl));
 }

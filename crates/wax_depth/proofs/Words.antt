@@ -1,11 +1,11 @@
 -- The depth that is read from a profile whose numbers stay at the greatest of 128 bits.
 use Rattle.std.proofs.Common.{if◌then◌else◌, ◌+◌, ◌-◌, ◌∙◌, ◌≡◌, ◌≤◌, Bool, List, None, Option, Some, ℕ, ap}
-use Rattle.std.proofs.Common.{arith, false, min, refl, subst, sym, true}
+use Rattle.std.proofs.Common.{arith, false, inl, inr, min, refl, subst, sym, true}
 use Rattle.wax_query.specs.Components.{components, slashes}
-use Rattle.wax_token.specs.Meaning.{AtMost}
+use Rattle.wax_query.specs.Ranges.{AtMost, Bounds}
 use Rattle.wax_token.specs.Syntax.{Tree}
-use Rattle.wax_depth.specs.Bounds.{AtMostSaturated, Bounds, SaturatedBounds}
-use Rattle.wax_depth.specs.Depth.{SaturatedDepth, saturated_bound, usize_max}
+use Rattle.wax_depth.specs.Bounds.{AtMostSaturated, BoundsComponents, SaturatedBounds}
+use Rattle.wax_depth.specs.Depth.{Depth, SaturatedDepth, saturated_bound, saturated_bounds, usize_max}
 use Rattle.wax_depth.specs.declared.profile.Profile.{Profile}
 use Rattle.wax_depth.specs.inner.Intervals.{Interval, hull, or_zero, saturated_interval}
 use Rattle.wax_depth.specs.inner.Saturation.{in_words, no_components, saturated_component_bound}
@@ -71,7 +71,7 @@ no_components_close (Some x) (Some (low, Some high)) e h = refl
 in_words_cut : (d f : Interval) → cut d ≡ cut f → in_words d ≡ in_words f
 in_words_cut d f e = ap or_zero e
 
-words_of : (d : Interval) → in_words d ≡ (min (or_zero d).0 usize_max, saturated_bound usize_max (or_zero d).1)
+words_of : (d : Interval) → in_words d ≡ saturated_bounds usize_max (or_zero d)
 words_of None = refl
 words_of (Some x) = refl
 
@@ -102,16 +102,38 @@ module _ {A : Type 0} (t : Tree A) (c : Profile) (e : Close c (tree_profile t fa
       (ended_components true false 1 refl (omega arith) c.beginning exact.beginning (close_at c exact e (ended true false)))
       (ended_components true true 2 refl (omega arith) c.enclosed exact.enclosed (close_at c exact e (ended true true))))))
 
-  pub saturated_depth_of : (range : ℕ × Option ℕ) → range ≡ in_words (saturated_depth c) → SaturatedDepth t range
-  saturated_depth_of range r = ((or_zero (component_hull exact)).0, (or_zero (component_hull exact)).1, depth_exact t, r ∙ in_words_cut (saturated_depth c) (component_hull exact) same ∙ words_of (component_hull exact))
+  pub saturated_depth_of : (s : Bounds) → s ≡ in_words (saturated_depth c) → SaturatedDepth t s
+  saturated_depth_of s i = (or_zero (component_hull exact), depth_exact t, i ∙ in_words_cut (saturated_depth c) (component_hull exact) same ∙ words_of (component_hull exact))
 
+-- ---- what the depth says of texts, in 64 bits
 below : (n : ℕ) (high : Option ℕ) → AtMost n high → AtMostSaturated n (saturated_bound usize_max high)
 below n None le = tt
 below n (Some high) le = λ lt. omega (arith, le, lt)
 
-pub saturated_bounds_of : {A : Type 0} (t : Tree A) (range : ℕ × Option ℕ) → SaturatedDepth t range → SaturatedBounds t range.0 range.1
-saturated_bounds_of t range h s m =
-    let b : Bounds t h.0 h.1 = depth_bounds t h.0 h.1 h.2 in
-    let low : range.0 ≡ min h.0 usize_max = ap (λ z. z.0) h.3 in
-    let high : range.1 ≡ saturated_bound usize_max h.1 = ap (λ z. z.1) h.3 in
-    (λ bare. (let le : h.0 ≤ components s = b.least s m bare in omega (arith, le, low)), subst (AtMostSaturated (components s)) (sym high) (below (components s) h.1 (b.greatest s m)))
+pub saturated_bounds_of : {A : Type 0} (t : Tree A) (s : Bounds) → SaturatedDepth t s → SaturatedBounds t s
+saturated_bounds_of t s h = record {
+  least = λ x m bare. let le : h.0.0 ≤ components x = b.least x m bare in omega (arith, le, low);
+  greatest = λ x m. subst (AtMostSaturated (components x)) (sym high) (below (components x) h.0.1 (b.greatest x m));
+}
+  where
+    b : BoundsComponents t h.0
+    b = depth_bounds t h.0 h.1
+
+    low : s.0 ≡ min h.0.0 usize_max
+    low = ap (λ z. z.0) h.2
+
+    high : s.1 ≡ saturated_bound usize_max h.0.1
+    high = ap (λ z. z.1) h.2
+
+-- ---- the least number is at most the greatest
+in_order : {A : Type 0} (t : Tree A) (low : ℕ) (high : Option ℕ) → Depth t (low, high) → AtMost low high
+in_order t low None h = tt
+in_order t low (Some high) (inl h) = h.1.1 low h.0.0
+in_order t low (Some high) (inr h) = let e : low ≡ 0 = ap (λ z. z.0) h.1 in omega (arith, e)
+
+pub saturated_in_order : {A : Type 0} (t : Tree A) (s : Bounds) → SaturatedDepth t s → AtMost s.0 s.1
+saturated_in_order t s h = subst (λ z. AtMost z.0 z.1) (sym h.2) (saturated h.0.0 h.0.1 (in_order t h.0.0 h.0.1 h.1))
+  where
+    saturated : (low : ℕ) (high : Option ℕ) → AtMost low high → AtMost (min low usize_max) (saturated_bound usize_max high)
+    saturated low None le = tt
+    saturated low (Some high) le = omega (arith, le)

@@ -1,6 +1,7 @@
 -- The least and the greatest number of components of the texts that a tree means.
 use Rattle.std.specs.Prelude.{◌≡◌, ◌-◌, ◌^◌, ◌≤◌, ◌⊎◌, List, None, Option, Some, ℕ, false, min}
 use Rattle.wax_query.specs.Components.{components}
+use Rattle.wax_query.specs.Ranges.{Bounds}
 use Rattle.wax_token.specs.Meaning.{Means}
 use Rattle.wax_token.specs.Syntax.{Leaf, Tree, Trees, alternation, class, concatenation, leaf, literal, more}
 use Rattle.wax_token.specs.Syntax.{none, one, repetition, separator, tree, zero_or_more}
@@ -37,21 +38,24 @@ abbrev pub IsGreatest : (ℕ → Type 0) → Option ℕ → Type 0
 IsGreatest X None = (m : ℕ) → (n : ℕ) × X n × (m ≤ n)
 IsGreatest X (Some high) = X high × ((n : ℕ) → X n → n ≤ high)
 
--- 0 where there is no text
-abbrev pub Depth : {A : Type 0} → Tree A → ℕ → Option ℕ → Type 0
-Depth t low high =
-    (IsLeast (HasComponents t) low × IsGreatest (HasComponents t) high)
-    ⊎ (((n : ℕ) → HasComponents t n → ⊥) × (low ≡ 0) × (high ≡ Some 0))
+-- the numbers of components of the thinned tree's texts lie between these bounds, and reach both; 0 and 0
+-- where there is no text
+abbrev pub Depth : {A : Type 0} → Tree A → Bounds → Type 0
+Depth t r =
+    (IsLeast (HasComponents t) r.0 × IsGreatest (HasComponents t) r.1)
+    ⊎ (((n : ℕ) → HasComponents t n → ⊥) × (r ≡ (0, Some 0)))
 
 abbrev pub usize_max : ℕ
 usize_max = 2 ^ 64 - 1
 
--- at most k
+-- the greatest is at most k
 abbrev pub saturated_bound : ℕ → Option ℕ → Option ℕ
 saturated_bound k None = None
 saturated_bound k (Some n) = Some (min n k)
 
+abbrev pub saturated_bounds : ℕ → Bounds → Bounds
+saturated_bounds k r = (min r.0 k, saturated_bound k r.1)
+
 -- the depth, where the greatest number that fits into 64 bits stands for each greater one
-abbrev pub SaturatedDepth : {A : Type 0} → Tree A → ℕ × Option ℕ → Type 0
-SaturatedDepth t range =
-    (low : ℕ) × (high : Option ℕ) × Depth t low high × (range ≡ (min low usize_max, saturated_bound usize_max high))
+abbrev pub SaturatedDepth : {A : Type 0} → Tree A → Bounds → Type 0
+SaturatedDepth t s = (r : Bounds) × Depth t r × (s ≡ saturated_bounds usize_max r)

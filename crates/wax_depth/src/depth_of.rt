@@ -2,10 +2,11 @@
 ghost use Rattle.std.specs.Prelude.{◌≡◌, ◌≤◌, ◌∷◌, []};
 ghost use Rattle.std.specs.Str.{chars};
 ghost use Rattle.wax_query.specs.Components.{slash, slashes};
+ghost use Rattle.wax_query.specs.Ranges.{bounds};
 ghost use Rattle.wax_token.specs.Cost.{cost};
 ghost use Rattle.wax_token.specs.View.{leaf_of};
 ghost use Rattle.wax_token.specs.Words.{trees};
-ghost use Rattle.wax_depth.specs.Bounds.{Bounds, SaturatedBounds};
+ghost use Rattle.wax_depth.specs.Bounds.{BoundsComponents, SaturatedBounds};
 ghost use Rattle.wax_depth.specs.Depth.{Depth, SaturatedDepth};
 ghost use Rattle.wax_depth.specs.inner.Profiles.{single};
 ghost use Rattle.wax_depth.specs.inner.Saturation.{ProfilesOf, saturated};
@@ -14,6 +15,7 @@ ghost use Rattle.wax_depth.specs.inner.TreeProfiles.{each_profile, leaf_profile,
 
 use crate::profile::Profile;
 use crate::profiles::Profiles;
+use wax_query::query::{DepthVariance, NaturalRange};
 use wax_token::token::{BranchKind, LeafKind, Token, Topology, Wildcard};
 
 /// The profile of one character.
@@ -105,17 +107,19 @@ fn each_profiles<'t, A>(tokens: &[Token<'t, A>]) -> Profiles
     all
 }
 
-/// The least and the greatest number of components of the texts that the token means, where `*`, `$` and
-/// a class stand for one character; none where there is no greatest. A number that doesn't fit into 64
-/// bits is the greatest that does.
+/// How many components the texts of the token have, from the least number to the greatest; open above
+/// where there is no greatest. `*`, `$` and a class count as one character, and a text that is empty or
+/// `/` has none. A number that doesn't fit into 64 bits is given as the greatest that does, which no token
+/// of a cost of at most 1,048,575 has.
 ///
 /// Each token is visited once, each character of a literal once, and a repetition takes as many steps
-/// more as its bounds have binary digits. Takes no memory but the stack, as deep as the tree.
-pub fn depth<'t, A>(token: &Token<'t, A>) -> (usize, Option<usize>)
-    ensures saturated_depth { SaturatedDepth token.now result }
-    ensures saturated_bounds { SaturatedBounds token.now result.0 result.1 }
-    ensures depth { cost token.now ≤ 1048575 → Depth token.now result.0 result.1 }
-    ensures bounds { cost token.now ≤ 1048575 → Bounds token.now result.0 result.1 }
+/// more as its bounds have binary digits. Takes no memory but the stack's, as deep as the tree.
+pub fn depth<'t, A>(token: &Token<'t, A>) -> DepthVariance
+    ensures depth { cost token.now ≤ 1048575 → Depth token.now (bounds result) }
+    ensures bounds { cost token.now ≤ 1048575 → BoundsComponents token.now (bounds result) }
+    ensures saturated_depth { SaturatedDepth token.now (bounds result) }
+    ensures saturated_bounds { SaturatedBounds token.now (bounds result) }
 {
-    token_profiles(token).alone.components()
+    let (least, greatest) = token_profiles(token).alone.components();
+    NaturalRange::from_closed_and_open(least, greatest)
 }

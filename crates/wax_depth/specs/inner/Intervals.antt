@@ -1,10 +1,11 @@
 -- The least and the greatest number of a set.
 use Rattle.std.specs.Prelude.{◌+◌, Bool, None, Option, Some, ℕ, false, max, min, suc, true, zero}
-use Rattle.wax_depth.specs.Depth.{saturated_bound}
+use Rattle.wax_query.specs.Ranges.{Bounds}
+use Rattle.wax_depth.specs.Depth.{saturated_bounds}
 
 -- the greatest is none where each number is passed; none where the set is empty
 abbrev pub Interval : Type 0
-Interval = Option (ℕ × Option ℕ)
+Interval = Option Bounds
 
 abbrev pub greater_bound : Option ℕ → Option ℕ → Option ℕ
 greater_bound None h = None
@@ -46,8 +47,8 @@ kept false x = None
 -- each number is at most k
 abbrev pub saturated_interval : ℕ → Interval → Interval
 saturated_interval k None = None
-saturated_interval k (Some x) = Some (min x.0 k, saturated_bound k x.1)
+saturated_interval k (Some x) = Some (saturated_bounds k x)
 
-abbrev pub or_zero : Interval → ℕ × Option ℕ
+abbrev pub or_zero : Interval → Bounds
 or_zero None = (0, Some 0)
 or_zero (Some x) = x

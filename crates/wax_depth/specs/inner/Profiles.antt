@@ -1,6 +1,6 @@
 -- How many `/` the texts of a set have, shape by shape.
-use Rattle.std.specs.Prelude.{◌+◌, ◌-◌, ◌/◌, ◌%◌, ◌||◌, if◌then◌else◌, Bool, None, Option, Some, ℕ, false}
-use Rattle.std.specs.Prelude.{nat_le, suc, true, zero}
+use Rattle.std.specs.Prelude.{◌-◌, ◌/◌, ◌%◌, ◌||◌, if◌then◌else◌, Bool, None, Option, Some, ℕ, false, nat_le}
+use Rattle.std.specs.Prelude.{suc, true, zero}
 use Rattle.wax_depth.specs.declared.profile.Profile.{Profile}
 use Rattle.wax_depth.specs.inner.Intervals.{Interval, exceeds_zero, hull, interval_sum, kept, unbounded}
 use Rattle.wax_depth.specs.inner.Shapes.{Shape, empty, ended, same_shape}

@@ -1,6 +1,7 @@
 -- Profiles whose numbers stay at the greatest of 128 bits.
 use Rattle.std.specs.Prelude.{◌≡◌, ◌+◌, ◌-◌, ◌^◌, Bool, None, Option, Some, ℕ, false, min, true}
-use Rattle.wax_depth.specs.Depth.{saturated_bound, usize_max}
+use Rattle.wax_query.specs.Ranges.{Bounds}
+use Rattle.wax_depth.specs.Depth.{usize_max}
 use Rattle.wax_depth.specs.declared.profile.Profile.{Profile}
 use Rattle.wax_depth.specs.declared.profiles.Profiles.{Profiles}
 use Rattle.wax_depth.specs.inner.Intervals.{Interval, hull, or_zero, saturated_interval}
@@ -44,5 +45,5 @@ abbrev pub saturated_depth : Profile → Interval
 saturated_depth p = hull (no_components p.nothing) (hull (saturated_components 0 p.bare) (hull (saturated_components 1 p.ending)
     (hull (saturated_components 1 p.beginning) (saturated_components 2 p.enclosed))))
 
-abbrev pub in_words : Interval → ℕ × Option ℕ
+abbrev pub in_words : Interval → Bounds
 in_words x = or_zero (saturated_interval usize_max x)
