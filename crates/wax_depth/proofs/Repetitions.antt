@@ -61,9 +61,6 @@ module _ {r : Profile} {P : List ℕ → Type 0} (f : Exact r P) where
     | false ↦ λ e. exact_same (λ s h. absurd h) (λ s h. not_le_from low high e (omega (arith, h.1, h.2))) exact_no_text
   ] refl
 
-  abbrev pub Where : Bool → List ℕ → Type 0
-  Where b s = (b ≡ true) × P s
-
   pub exact_only : (b : Bool) → Exact (only b r) (λ s. (b ≡ true) × P s)
   exact_only true = exact_same (λ s p. (refl, p)) (λ s h. h.1) f
   exact_only false = exact_same (λ s h. absurd h) (λ s h. not_true h.0) exact_no_text

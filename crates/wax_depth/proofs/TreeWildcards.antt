@@ -113,13 +113,6 @@ ends_from (c ∷ d ∷ s) x e =
     let g : Ends (d ∷ s) = ends_from (d ∷ s) r.0 (r.2 ∙ ap (λ z. ended r.0 z) k) in
     (c ∷ g.0, ap (λ z. c ∷ z) g.1)
 
-nothing_ends : {C : Type 0} → Ends [] → C
-nothing_ends h = absurd (nil h.0 h.1)
-  where
-    nil : (t : List ℕ) → [] ≡ t ++ 47 ∷ [] → ⊥
-    nil [] e = cc
-    nil (c ∷ t) e = cc
-
 nothing_begins : {C : Type 0} → Begins [] → C
 nothing_begins h = absurd (nil h.0 h.1)
   where

@@ -1,8 +1,9 @@
 //! The profiles of a token, with what may stand around it.
-ghost use Rattle.std.specs.Prelude.{◌≡◌, ◌-◌, true};
+ghost use Rattle.std.specs.Prelude.{◌≡◌};
 ghost use Rattle.wax_token.specs.Syntax.{tree};
-ghost use Rattle.wax_depth.specs.inner.Profiles.{concatenated, empty_text, only, power_range, union};
-ghost use Rattle.wax_depth.specs.inner.Saturation.{in_context, profiles, saturated};
+ghost use Rattle.wax_depth.specs.inner.Profiles.{concatenated, empty_text, only, union};
+ghost use Rattle.wax_depth.specs.inner.Saturation.{either_profile, profiles, saturated, saturated_beside};
+ghost use Rattle.wax_depth.specs.inner.Saturation.{saturated_repeated};
 ghost use Rattle.wax_depth.specs.inner.TreeProfiles.{admits, admits_two, leaf_profile, less_two};
 
 use crate::profile::Profile;
@@ -79,8 +80,7 @@ impl Profiles {
     }
 
     pub fn union(self, other: Profiles) -> Profiles
-        ensures { result ≡ profiles (λ before after.
-            union (in_context self before after) (in_context other before after)) }
+        ensures { result ≡ profiles (either_profile self other) }
     {
         Profiles {
             alone: self.alone.union(other.alone),
@@ -92,8 +92,7 @@ impl Profiles {
 
     /// A text of this, and after it one of the other: each has something beside it.
     pub fn then(self, other: Profiles) -> Profiles
-        ensures { result ≡ profiles (λ before after.
-            saturated (concatenated (in_context self before true) (in_context other true after))) }
+        ensures { result ≡ profiles (saturated_beside self other) }
     {
         Profiles {
             alone: self.first.then(other.last),
@@ -105,10 +104,7 @@ impl Profiles {
 
     /// From `lower` to `upper` copies, each with the others around it.
     pub fn repeated(self, lower: usize, upper: Option<usize>) -> Profiles
-        ensures { result ≡ profiles (λ before after. union (only (admits 0 lower upper) empty_text)
-            (union (only (admits 1 lower upper) (in_context self before after)) (only (admits_two lower upper)
-            (saturated (concatenated (in_context self before true) (saturated (concatenated
-            (saturated (power_range (lower - 2) (less_two upper) self.middle)) (in_context self true after)))))))) }
+        ensures { result ≡ profiles (saturated_repeated self lower upper) }
     {
         let copies = Copies {
             none: admits(0, lower, upper),

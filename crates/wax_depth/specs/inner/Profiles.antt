@@ -13,13 +13,25 @@ at p (ended true false) = p.beginning
 at p (ended true true) = p.enclosed
 
 abbrev pub profile : (Shape → Interval) → Profile
-profile f = record { nothing = f empty; bare = f (ended false false); ending = f (ended false true); beginning = f (ended true false); enclosed = f (ended true true) }
+profile f = record {
+  nothing = f empty;
+  bare = f (ended false false);
+  ending = f (ended false true);
+  beginning = f (ended true false);
+  enclosed = f (ended true true);
+}
 
 abbrev pub no_text : Profile
 no_text = profile (λ a. None)
 
 abbrev pub empty_text : Profile
-empty_text = record { nothing = Some (0, Some 0); bare = None; ending = None; beginning = None; enclosed = None }
+empty_text = record {
+  nothing = Some (0, Some 0);
+  bare = None;
+  ending = None;
+  beginning = None;
+  enclosed = None;
+}
 
 -- texts of one shape with n `/`
 abbrev pub single : Shape → ℕ → Profile
@@ -38,7 +50,8 @@ concatenated_at p q empty = interval_sum (at p empty) (at q empty)
 concatenated_at p q (ended x y) =
     hull (interval_sum (at p empty) (at q (ended x y)))
     (hull (interval_sum (at p (ended x y)) (at q empty))
-    (interval_sum (hull (at p (ended x false)) (at p (ended x true))) (hull (at q (ended false y)) (at q (ended true y)))))
+    (interval_sum (hull (at p (ended x false)) (at p (ended x true)))
+    (hull (at q (ended false y)) (at q (ended true y)))))
 
 abbrev pub concatenated : Profile → Profile → Profile
 concatenated p q = profile (concatenated_at p q)
@@ -58,10 +71,17 @@ power n p = power_in n n p
 
 -- some text has a `/`
 abbrev pub has_slash : Profile → Bool
-has_slash p = exceeds_zero p.bare || (exceeds_zero p.ending || (exceeds_zero p.beginning || exceeds_zero p.enclosed))
+has_slash p =
+    exceeds_zero p.bare || (exceeds_zero p.ending || (exceeds_zero p.beginning || exceeds_zero p.enclosed))
 
 abbrev pub unbounded_profile : Profile → Profile
-unbounded_profile p = record { nothing = p.nothing; bare = unbounded p.bare; ending = unbounded p.ending; beginning = unbounded p.beginning; enclosed = unbounded p.enclosed }
+unbounded_profile p = record {
+  nothing = p.nothing;
+  bare = unbounded p.bare;
+  ending = unbounded p.ending;
+  beginning = unbounded p.beginning;
+  enclosed = unbounded p.enclosed;
+}
 
 -- two copies or fewer have the least numbers; where a text has a `/`, further copies pass every number
 abbrev pub kleene_star : Profile → Profile
@@ -72,4 +92,5 @@ kleene_star p =
 -- from low to high copies
 abbrev pub power_range : ℕ → Option ℕ → Profile → Profile
 power_range low None p = concatenated (power low p) (kleene_star p)
-power_range low (Some high) p = if nat_le low high then concatenated (power low p) (power (high - low) (union empty_text p)) else no_text
+power_range low (Some high) p =
+    if nat_le low high then concatenated (power low p) (power (high - low) (union empty_text p)) else no_text

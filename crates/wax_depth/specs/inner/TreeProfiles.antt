@@ -37,7 +37,8 @@ leaf_profile (class negated xs) before after = single (ended false false) 0
 leaf_profile separator before after = single (ended true true) 1
 leaf_profile one before after = single (ended false false) 0
 leaf_profile (zero_or_more evaluation) before after = single (ended false false) 0
-leaf_profile (tree rooted) before after = profile (λ a. kept (tree_allows before after rooted a) (every_text a))
+leaf_profile (tree rooted) before after =
+    profile (λ a. kept (tree_allows before after rooted a) (every_text a))
 
 -- the first copy, those between, the last
 abbrev pub two_or_more : ℕ → Option ℕ → (Bool → Bool → Profile) → Bool → Bool → Profile
@@ -67,7 +68,8 @@ abbrev mutual
   tree_profile (leaf a l) before after = leaf_profile l before after
   tree_profile (alternation a ts) before after = some_profile ts before after
   tree_profile (concatenation a ts) before after = each_profile ts before after
-  tree_profile (repetition a t low high) before after = repeated_profile low high (tree_profile t) before after
+  tree_profile (repetition a t low high) before after =
+      repeated_profile low high (tree_profile t) before after
 
   pub some_profile : {A : Type 0} → Trees A → Bool → Bool → Profile
   some_profile none before after = no_text
@@ -76,7 +78,8 @@ abbrev mutual
   pub each_profile : {A : Type 0} → Trees A → Bool → Bool → Profile
   each_profile none before after = empty_text
   each_profile (more t none) before after = tree_profile t before after
-  each_profile (more t (more u us)) before after = concatenated (tree_profile t before true) (each_profile (more u us) true after)
+  each_profile (more t (more u us)) before after =
+      concatenated (tree_profile t before true) (each_profile (more u us) true after)
 
 -- the number of components of a text of a shape with n `/`
 abbrev pub component_count : Shape → ℕ → ℕ
@@ -92,6 +95,7 @@ component_interval a None = None
 component_interval a (Some x) = Some (component_count a x.0, component_bound a x.1)
 
 abbrev pub component_hull : Profile → Interval
-component_hull p = hull (component_interval empty p.nothing) (hull (component_interval (ended false false) p.bare)
-    (hull (component_interval (ended false true) p.ending) (hull (component_interval (ended true false) p.beginning)
-    (component_interval (ended true true) p.enclosed))))
+component_hull p =
+    hull (component_interval empty p.nothing) (hull (component_interval (ended false false) p.bare)
+    (hull (component_interval (ended false true) p.ending)
+    (hull (component_interval (ended true false) p.beginning) (component_interval (ended true true) p.enclosed))))
