@@ -2,9 +2,9 @@
 use Rattle.std.proofs.Common.{◌*◌, ◌++◌, ◌∙◌, ◌≡◌, ◌≤◌, List, ℕ, [], ap, append-nil, arith, refl, subst, suc}
 use Rattle.std.proofs.Common.{sym, zero}
 use Rattle.wax_query.specs.Components.{slashes}
+use Rattle.wax_token.proofs.Copies.{Many, many_add}
 use Rattle.wax_depth.specs.inner.Shapes.{Shape, empty, ended, join, shape}
 use Rattle.wax_depth.proofs.Basics.{suc_mul}
-use Rattle.wax_depth.proofs.Copies.{Many, many_add}
 use Rattle.wax_depth.proofs.Shapes.{shape_append, slashes_append}
 
 pub again : ℕ → List ℕ → List ℕ

@@ -2,12 +2,12 @@
 use Rattle.std.proofs.Common.{◌++◌, ◌+◌, ◌∙◌, ◌≡◌, ◌⊎◌, Bool, List, None, ℕ, [], ap, arith, false, inl, inr}
 use Rattle.std.proofs.Common.{refl, sym, true}
 use Rattle.wax_query.specs.Components.{slashes}
+use Rattle.wax_token.proofs.Copies.{OneThen}
 use Rattle.wax_depth.specs.declared.profile.Profile.{Profile}
 use Rattle.wax_depth.specs.inner.Intervals.{Interval, hull, interval_sum}
 use Rattle.wax_depth.specs.inner.Profiles.{at, concatenated, concatenated_at, empty_text, no_text, profile}
 use Rattle.wax_depth.specs.inner.Profiles.{union}
 use Rattle.wax_depth.specs.inner.Shapes.{Shape, empty, ended, join, shape}
-use Rattle.wax_depth.proofs.Copies.{OneThen}
 use Rattle.wax_depth.proofs.Hulls.{IsHull, Plus, hull_same, hull_sum, hull_union}
 use Rattle.wax_depth.proofs.Shapes.{both_empty, joined_from, not_ended, shape_append, slashes_append}
 

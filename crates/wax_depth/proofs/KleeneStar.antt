@@ -1,9 +1,10 @@
 -- Any number of copies: two or fewer have the least numbers, and a copy with a `/` passes every number.
-use Rattle.std.proofs.Common.{if◌then◌else◌, ◌*◌, ◌++◌, ◌+◌, ◌||◌, ◌∙◌, ◌∷◌, ◌≡◌, ◌≤◌, Bool, List, None, Some}
-use Rattle.std.proofs.Common.{ℕ, [], ap, append-nil, arith, false, inl, inr, refl, subst, suc, sym, true}
-use Rattle.std.proofs.Common.{zero}
+use Rattle.std.proofs.Common.{◌⊎◌, if◌then◌else◌, ◌*◌, ◌++◌, ◌+◌, ◌||◌, ◌∙◌, ◌∷◌, ◌≡◌, ◌≤◌, Bool, List, None}
+use Rattle.std.proofs.Common.{Some, ℕ, [], ap, append-nil, arith, false, inl, inr, refl, subst, suc, sym}
+use Rattle.std.proofs.Common.{true, zero}
 use Rattle.std.proofs.lemmas.Bool.{or_parts}
 use Rattle.wax_query.specs.Components.{slashes}
+use Rattle.wax_token.proofs.Copies.{AnyNumber, Many, OneThen, many_add}
 use Rattle.wax_depth.specs.declared.profile.Profile.{Profile}
 use Rattle.wax_depth.specs.inner.Intervals.{Interval, exceeds_zero, unbounded}
 use Rattle.wax_depth.specs.inner.Profiles.{at, concatenated, empty_text, has_slash, kleene_star}
@@ -11,18 +12,17 @@ use Rattle.wax_depth.specs.inner.Profiles.{unbounded_profile, union}
 use Rattle.wax_depth.specs.inner.Shapes.{Shape, empty, ended, join, shape}
 use Rattle.wax_depth.proofs.Again.{again, again_many, again_slashes}
 use Rattle.wax_depth.proofs.Basics.{either}
-use Rattle.wax_depth.proofs.Copies.{Many, OneThen, OrNone, many_add}
 use Rattle.wax_depth.proofs.Exact.{Exact, Has, exact_concatenated, exact_empty_text, exact_union}
 use Rattle.wax_depth.proofs.Hulls.{IsHull, hull_same}
 use Rattle.wax_depth.proofs.Shapes.{between_ends, shape_append, shape_empty, shape_of_some, slashes_append}
 
-abbrev pub KleeneStar : (List ℕ → Type 0) → List ℕ → Type 0
-KleeneStar P s = (k : ℕ) × Many P k s
+abbrev pub OrNone : (List ℕ → Type 0) → List ℕ → Type 0
+OrNone P s = (s ≡ []) ⊎ P s
 
-star_append : (P : List ℕ → Type 0) (x y : List ℕ) → KleeneStar P x → KleeneStar P y → KleeneStar P (x ++ y)
+star_append : (P : List ℕ → Type 0) (x y : List ℕ) → AnyNumber P x → AnyNumber P y → AnyNumber P (x ++ y)
 star_append P x y h k = (h.0 + k.0, many_add P h.0 k.0 x y h.1 k.1)
 
-star_one : (P : List ℕ → Type 0) (x : List ℕ) → P x → KleeneStar P x
+star_one : (P : List ℕ → Type 0) (x : List ℕ) → P x → AnyNumber P x
 star_one P x p = (1, (x, [], sym (append-nil x), p, refl))
 
 module _ {r : Profile} {P : List ℕ → Type 0} (f : Exact r P) where
@@ -53,12 +53,12 @@ module _ {r : Profile} {P : List ℕ → Type 0} (f : Exact r P) where
       let g : Fewer h.1 = fewer k h.1 h.4 in
       subst Fewer (sym h.2) (fewer_step h.0 h.1 g.1.0 g.1.1 h.3 g.1.3 g.1.4 (ap shape (sym g.1.2) ∙ g.2) (let e : slashes g.0 ≡ slashes (g.1.0 ++ g.1.1) = ap slashes g.1.2 in omega (arith, e, g.3)))
 
-  some_of : (s : List ℕ) → OrNone P s → KleeneStar P s
+  some_of : (s : List ℕ) → OrNone P s → AnyNumber P s
   some_of s (inl e) = (0, e)
   some_of s (inr p) = star_one P s p
 
-  two_are_star : (s : List ℕ) → OneThen (OrNone P) (OrNone P) s → KleeneStar P s
-  two_are_star s h = subst (KleeneStar P) (sym h.2) (star_append P h.0 h.1 (some_of h.0 h.3) (some_of h.1 h.4))
+  two_are_star : (s : List ℕ) → OneThen (OrNone P) (OrNone P) s → AnyNumber P s
+  two_are_star s h = subst (AnyNumber P) (sym h.2) (star_append P h.0 h.1 (some_of h.0 h.3) (some_of h.1 h.4))
 
   abbrev twice : Profile
   twice = concatenated (union empty_text r) (union empty_text r)
@@ -66,7 +66,7 @@ module _ {r : Profile} {P : List ℕ → Type 0} (f : Exact r P) where
   exact_twice : Exact twice (OneThen (OrNone P) (OrNone P))
   exact_twice = exact_concatenated (exact_union exact_empty_text f) (exact_union exact_empty_text f)
 
-  two_to : (a : Shape) (n : ℕ) → Has (OneThen (OrNone P) (OrNone P)) a n → Has (KleeneStar P) a n
+  two_to : (a : Shape) (n : ℕ) → Has (OneThen (OrNone P) (OrNone P)) a n → Has (AnyNumber P) a n
   two_to a n h = (h.0, two_are_star h.0 h.1, h.2, h.3)
 
   -- ---- where no text has a `/`
@@ -100,7 +100,7 @@ module _ {r : Profile} {P : List ℕ → Type 0} (f : Exact r P) where
   none_have e (suc k) s h = let g : slashes s ≡ slashes (h.0 ++ h.1) = ap slashes h.2 in
       omega (arith, g, slashes_append h.0 h.1, none_has e h.0 h.3, none_have e k h.1 h.4)
 
-  none_from : has_slash r ≡ false → (a : Shape) (n : ℕ) → Has (KleeneStar P) a n → Has (OneThen (OrNone P) (OrNone P)) a n
+  none_from : has_slash r ≡ false → (a : Shape) (n : ℕ) → Has (AnyNumber P) a n → Has (OneThen (OrNone P) (OrNone P)) a n
   none_from e a n h = let g : Fewer h.0 = fewer h.1.0 h.0 h.1.1 in
       (g.0, g.1, g.2 ∙ h.2, omega (arith, g.3, h.3, none_have e h.1.0 h.0 h.1.1))
 
@@ -131,7 +131,7 @@ module _ {r : Profile} {P : List ℕ → Type 0} (f : Exact r P) where
       shape_append u (m ++ u) ∙ ap (λ z. join (shape u) z) (shape_append m u) ∙ ap (λ z. join z (join (shape m) (shape u))) e
       ∙ ap (λ z. join (ended x y) (join (shape m) z)) e ∙ between_ends x y x y (shape m)
 
-  unbounded_hull : WithSlash → (x y : Bool) (d : Interval) → IsHull d (Has (OneThen (OrNone P) (OrNone P)) (ended x y)) → IsHull (unbounded d) (Has (KleeneStar P) (ended x y))
+  unbounded_hull : WithSlash → (x y : Bool) (d : Interval) → IsHull d (Has (OneThen (OrNone P) (OrNone P)) (ended x y)) → IsHull (unbounded d) (Has (AnyNumber P) (ended x y))
   unbounded_hull w x y None h = λ n g. let k : Fewer g.0 = fewer g.1.0 g.0 g.1.1 in h (slashes k.0) (k.0, k.1, k.2 ∙ g.2, refl)
   unbounded_hull w x y (Some d) h = (
     (
@@ -142,24 +142,24 @@ module _ {r : Profile} {P : List ℕ → Type 0} (f : Exact r P) where
     λ m.
         let u : List ℕ = h.0.0.0 in
         let v : List ℕ = again m w.0 in
-        let a : KleeneStar P u = two_are_star u h.0.0.1 in (
+        let a : AnyNumber P u = two_are_star u h.0.0.1 in (
           slashes (u ++ (v ++ u)),
           (u ++ (v ++ u), star_append P u (v ++ u) a (star_append P v u (m * 1, again_many P 1 m w.0 (w.0, [], sym (append-nil w.0), w.1, refl)) a), surrounded x y u v h.0.0.2, refl),
           omega (arith, slashes_append u (v ++ u), slashes_append v u, again_slashes m w.0 w.2),
         ),
   )
 
-  empty_from : (n : ℕ) → Has (KleeneStar P) empty n → Has (OneThen (OrNone P) (OrNone P)) empty n
+  empty_from : (n : ℕ) → Has (AnyNumber P) empty n → Has (OneThen (OrNone P) (OrNone P)) empty n
   empty_from n h = ([], ([], [], refl, inl refl, inl refl), refl, sym (ap slashes (shape_empty h.0 h.2)) ∙ h.3)
 
-  pub exact_kleene_star : Exact (kleene_star r) (KleeneStar P)
-  exact_kleene_star = elim (has_slash r) as (λ b. has_slash r ≡ b → Exact (if b then unbounded_profile twice else twice) (KleeneStar P)) [
+  pub exact_kleene_star : Exact (kleene_star r) (AnyNumber P)
+  exact_kleene_star = elim (has_slash r) as (λ b. has_slash r ≡ b → Exact (if b then unbounded_profile twice else twice) (AnyNumber P)) [
     | true ↦ λ e. record { hulls = each (with_slash e) }
-    | false ↦ λ e. record { hulls = λ a. hull_same (Has (OneThen (OrNone P) (OrNone P)) a) (Has (KleeneStar P) a) (two_to a) (none_from e a) (at twice a) (exact_twice.hulls a) }
+    | false ↦ λ e. record { hulls = λ a. hull_same (Has (OneThen (OrNone P) (OrNone P)) a) (Has (AnyNumber P) a) (two_to a) (none_from e a) (at twice a) (exact_twice.hulls a) }
   ] refl
     where
-      each : WithSlash → (a : Shape) → IsHull (at (unbounded_profile twice) a) (Has (KleeneStar P) a)
-      each w empty = hull_same (Has (OneThen (OrNone P) (OrNone P)) empty) (Has (KleeneStar P) empty) (two_to empty) empty_from (at twice empty) (exact_twice.hulls empty)
+      each : WithSlash → (a : Shape) → IsHull (at (unbounded_profile twice) a) (Has (AnyNumber P) a)
+      each w empty = hull_same (Has (OneThen (OrNone P) (OrNone P)) empty) (Has (AnyNumber P) empty) (two_to empty) empty_from (at twice empty) (exact_twice.hulls empty)
       each w (ended false false) = unbounded_hull w false false (at twice (ended false false)) (exact_twice.hulls (ended false false))
       each w (ended false true) = unbounded_hull w false true (at twice (ended false true)) (exact_twice.hulls (ended false true))
       each w (ended true false) = unbounded_hull w true false (at twice (ended true false)) (exact_twice.hulls (ended true false))

@@ -2,7 +2,6 @@ pub mod Again
 pub mod Basics
 pub mod Components
 pub mod Contexts
-pub mod Copies
 pub mod Costs
 pub mod Exact
 pub mod Exactness
@@ -11,7 +10,6 @@ pub mod Intervals
 pub mod KleeneStar
 pub mod Leaves
 pub mod Literals
-pub mod Moved
 pub mod Powers
 pub mod Pumping
 pub mod Repetitions
@@ -19,7 +17,6 @@ pub mod Rows
 pub mod Saturation
 pub mod Shapes
 pub mod Singles
-pub mod Sizes
 pub mod Slash
 pub mod Thinning
 pub mod TreeWildcards

@@ -1,9 +1,12 @@
 -- Copies by halves.
 use Rattle.std.proofs.Common.{◌%◌, ◌+◌, ◌/◌, ◌<◌, ◌≡◌, ◌≤◌, List, ℕ, arith, refl, subst, suc, sym, zero}
+use Rattle.wax_token.proofs.Copies.{Many, OneThen, many_add, many_split}
 use Rattle.wax_depth.specs.declared.profile.Profile.{Profile}
 use Rattle.wax_depth.specs.inner.Profiles.{doubled, power, power_in}
-use Rattle.wax_depth.proofs.Copies.{Many, OneThen, many_add, many_same, many_split}
 use Rattle.wax_depth.proofs.Exact.{Exact, exact_concatenated, exact_empty_text, exact_same}
+
+many_same : (P : List ℕ → Type 0) (m n : ℕ) (s : List ℕ) → m ≡ n → Many P m s → Many P n s
+many_same P m n s e h = subst (λ k. Many P k s) e h
 
 module _ {r : Profile} {P : List ℕ → Type 0} (f : Exact r P) where
   double_from : (h n : ℕ) (s : List ℕ) → n ≡ h + h → OneThen (Many P h) (Many P h) s → Many P n s

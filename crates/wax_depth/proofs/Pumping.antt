@@ -3,6 +3,8 @@ use Rattle.std.proofs.Common.{◌*◌, ◌++◌, ◌+◌, ◌==◌, ◌||◌, �
 use Rattle.std.proofs.Common.{[], ap, arith, false, inl, inr, refl, suc, sym, true, zero}
 use Rattle.std.proofs.Math.Nat.{mul-le-mul_left, mul-le-mul_right}
 use Rattle.wax_query.specs.Components.{components, last_slash, slashes}
+use Rattle.wax_token.proofs.Copies.{Many, OneThen, same_from, same_to, tail_from, tail_to}
+use Rattle.wax_token.proofs.Moved.{means_moved}
 use Rattle.wax_token.specs.Cost.{branches_cost, copies_of, cost, costs, holds_tree, is_tree, leaf_cost}
 use Rattle.wax_token.specs.Cost.{some_holds_tree}
 use Rattle.wax_token.specs.Meaning.{AtMost, Copies, LeafMeans, Means, MeansEach, MeansSome, TreeMeans}
@@ -13,11 +15,9 @@ use Rattle.wax_depth.specs.inner.Shapes.{Shape, ended, join, shape}
 use Rattle.wax_depth.specs.inner.TreeProfiles.{tree_allows}
 use Rattle.wax_depth.proofs.Again.{again, again_many, again_shape, again_slashes}
 use Rattle.wax_depth.proofs.Basics.{bit_at_most, suc_mul, zero_or_some}
-use Rattle.wax_depth.proofs.Copies.{Many, OneThen, same_from, same_to, tail_from, tail_to}
 use Rattle.wax_depth.proofs.Costs.{few_components, slashes_length}
 use Rattle.wax_depth.proofs.Exact.{Has}
 use Rattle.wax_depth.proofs.Literals.{same_text}
-use Rattle.wax_depth.proofs.Moved.{means_moved}
 use Rattle.wax_depth.proofs.Shapes.{shape_append, shape_of_some, slashes_append, some_shape}
 use Rattle.wax_depth.proofs.TreeWildcards.{Anything, long, tree_from, tree_to}
 

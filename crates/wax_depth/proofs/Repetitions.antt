@@ -3,16 +3,16 @@ use Rattle.std.proofs.Common.{if◌then◌else◌, ◌++◌, ◌+◌, ◌-◌, �
 use Rattle.std.proofs.Common.{Some, ℕ, [], ap, arith, false, inl, inr, nat_le, refl, subst, suc, sym, true}
 use Rattle.std.proofs.Common.{zero}
 use Rattle.std.proofs.lemmas.Bool.{and_from}
+use Rattle.wax_token.proofs.Copies.{Many, ManyWithin, OneThen, Repeats, TwoMore, many_add, many_split}
+use Rattle.wax_token.proofs.Copies.{open_from, open_to, two_more_from, two_more_to}
 use Rattle.wax_token.specs.Meaning.{AtMost, Copies}
 use Rattle.wax_depth.specs.declared.profile.Profile.{Profile}
 use Rattle.wax_depth.specs.inner.Profiles.{concatenated, empty_text, no_text, only, power, power_range, union}
 use Rattle.wax_depth.specs.inner.TreeProfiles.{admits, admits_two, less_two, repeated_profile, two_or_more}
 use Rattle.wax_depth.proofs.Basics.{both_true, le_from, le_to, not_le_from, not_true}
-use Rattle.wax_depth.proofs.Copies.{Many, ManyWithin, OneThen, OrNone, many_add, many_split, tail_from}
-use Rattle.wax_depth.proofs.Copies.{tail_to}
 use Rattle.wax_depth.proofs.Exact.{Exact, exact_concatenated, exact_empty_text, exact_no_text, exact_same}
 use Rattle.wax_depth.proofs.Exact.{exact_union}
-use Rattle.wax_depth.proofs.KleeneStar.{KleeneStar, exact_kleene_star}
+use Rattle.wax_depth.proofs.KleeneStar.{OrNone, exact_kleene_star}
 use Rattle.wax_depth.proofs.Powers.{exact_power}
 
 module _ {r : Profile} {P : List ℕ → Type 0} (f : Exact r P) where
@@ -34,15 +34,6 @@ module _ {r : Profile} {P : List ℕ → Type 0} (f : Exact r P) where
   up_to_to (suc n) zero s le h = ([], s, refl, inl refl, up_to_to n zero s (omega arith) h)
   up_to_to (suc n) (suc k) s le h = (h.0, h.1, h.2, inr h.3, up_to_to n k h.1 (omega (arith, le)) h.4)
 
-  open_from : (low : ℕ) (s : List ℕ) → OneThen (Many P low) (KleeneStar P) s → ManyWithin P low None s
-  open_from low s h = (low + h.4.0, omega arith, tt, subst (Many P (low + h.4.0)) (sym h.2) (many_add P low h.4.0 h.0 h.1 h.3 h.4.1))
-
-  open_to : (low : ℕ) (s : List ℕ) → ManyWithin P low None s → OneThen (Many P low) (KleeneStar P) s
-  open_to low s h =
-      let e : h.0 ≡ low + (h.0 - low) = omega (arith, h.1) in
-      let r : OneThen (Many P low) (Many P (h.0 - low)) s = many_split P low (h.0 - low) s (subst (λ z. Many P z s) e h.3) in
-      (r.0, r.1, r.2, r.3, (h.0 - low, r.4))
-
   closed_from : (low high : ℕ) → low ≤ high → (s : List ℕ) → OneThen (Many P low) (Many (OrNone P) (high - low)) s → ManyWithin P low (Some high) s
   closed_from low high le s h =
       let u : UpTo (high - low) h.1 = up_to_from (high - low) h.1 h.4 in
@@ -55,7 +46,7 @@ module _ {r : Profile} {P : List ℕ → Type 0} (f : Exact r P) where
       (r.0, r.1, r.2, r.3, up_to_to (high - low) (h.0 - low) r.1 (omega (arith, h.1, h.2)) r.4)
 
   pub exact_power_range : (low : ℕ) (high : Option ℕ) → Exact (power_range low high r) (ManyWithin P low high)
-  exact_power_range low None = exact_same (open_from low) (open_to low) (exact_concatenated (exact_power f low) (exact_kleene_star f))
+  exact_power_range low None = exact_same (open_from P low) (open_to P low) (exact_concatenated (exact_power f low) (exact_kleene_star f))
   exact_power_range low (Some high) = elim (nat_le low high) as (λ b. nat_le low high ≡ b → Exact (if b then concatenated (power low r) (power (high - low) (union empty_text r)) else no_text) (ManyWithin P low (Some high))) [
     | true ↦ λ e. exact_same (closed_from low high (le_from low high e)) (closed_to low high) (exact_concatenated (exact_power f low) (exact_power (exact_union exact_empty_text f) (high - low)))
     | false ↦ λ e. exact_same (λ s h. absurd h) (λ s h. not_le_from low high e (omega (arith, h.1, h.2))) exact_no_text
@@ -66,27 +57,9 @@ module _ {r : Profile} {P : List ℕ → Type 0} (f : Exact r P) where
   exact_only false = exact_same (λ s h. absurd h) (λ s h. not_true h.0) exact_no_text
 
 module _ (Body : Bool → Bool → List ℕ → Type 0) where
-  abbrev pub Repeats : ℕ → Option ℕ → Bool → Bool → List ℕ → Type 0
-  Repeats low high before after s = (k : ℕ) × (low ≤ k) × AtMost k high × Copies k Body before after s
-
-  -- two copies or more
-  abbrev pub TwoOrMore : ℕ → Option ℕ → Bool → Bool → List ℕ → Type 0
-  TwoOrMore low high before after s = (k : ℕ) × (low ≤ k) × AtMost k high × Copies (suc (suc k)) Body before after s
-
-  many_from : (low : ℕ) (high : Option ℕ) (before after : Bool) (s : List ℕ) →
-      OneThen (Body before true) (OneThen (ManyWithin (Body true true) low high) (Body true after)) s → TwoOrMore low high before after s
-  many_from low high before after s h =
-      (h.4.3.0, h.4.3.1, h.4.3.2, (h.0, h.1, h.2, h.3, tail_from Body h.4.3.0 after h.1 (h.4.0, h.4.1, h.4.2, h.4.3.3, h.4.4)))
-
-  many_to : (low : ℕ) (high : Option ℕ) (before after : Bool) (s : List ℕ) →
-      TwoOrMore low high before after s → OneThen (Body before true) (OneThen (ManyWithin (Body true true) low high) (Body true after)) s
-  many_to low high before after s h =
-      let r : OneThen (Many (Body true true) h.0) (Body true after) h.3.1 = tail_to Body h.0 after h.3.1 h.3.4 in
-      (h.3.0, h.3.1, h.3.2, h.3.3, (r.0, r.1, r.2, (h.0, h.1, h.2, r.3), r.4))
-
   module _ (low : ℕ) (high : Option ℕ) (before after : Bool) where
     abbrev Ways : List ℕ → Type 0
-    Ways s = ((admits 0 low high ≡ true) × (s ≡ [])) ⊎ (((admits 1 low high ≡ true) × Body before after s) ⊎ ((admits_two low high ≡ true) × TwoOrMore (low - 2) (less_two high) before after s))
+    Ways s = ((admits 0 low high ≡ true) × (s ≡ [])) ⊎ (((admits 1 low high ≡ true) × Body before after s) ⊎ ((admits_two low high ≡ true) × TwoMore Body (low - 2) (less_two high) before after s))
 
     admits_to : (k : ℕ) (high : Option ℕ) → low ≤ k → AtMost k high → admits k low high ≡ true
     admits_to k None le h = le_to low k le
@@ -110,17 +83,17 @@ module _ (Body : Bool → Bool → List ℕ → Type 0) where
     ways_to s (suc (suc k)) le h c = let p : (admits_two low high ≡ true) × AtMost k (less_two high) = two_to k high le h in
         inr (inr (p.0, (k, omega (arith, le), p.1, c)))
 
-    ways_from : (s : List ℕ) → Ways s → Repeats low high before after s
+    ways_from : (s : List ℕ) → Ways s → Repeats Body low high before after s
     ways_from s (inl h) = let p : (low ≤ 0) × AtMost 0 high = admits_from 0 high h.0 in (0, p.0, p.1, h.1)
     ways_from s (inr (inl h)) = let p : (low ≤ 1) × AtMost 1 high = admits_from 1 high h.0 in (1, p.0, p.1, h.1)
     ways_from s (inr (inr h)) = (suc (suc h.1.0), omega (arith, h.1.1), two_from h.1.0 high h.0 h.1.2, h.1.3)
 
     module _ {body : Bool → Bool → Profile} (f : (before after : Bool) → Exact (body before after) (Body before after)) where
-      exact_many : (low : ℕ) (high : Option ℕ) → Exact (two_or_more low high body before after) (TwoOrMore low high before after)
-      exact_many low high = exact_same (many_from low high before after) (many_to low high before after)
+      exact_many : (low : ℕ) (high : Option ℕ) → Exact (two_or_more low high body before after) (TwoMore Body low high before after)
+      exact_many low high = exact_same (two_more_from Body low high before after) (two_more_to Body low high before after)
           (exact_concatenated (f before true) (exact_concatenated (exact_power_range (f true true) low high) (f true after)))
 
-      pub exact_repeated : Exact (repeated_profile low high body before after) (Repeats low high before after)
+      pub exact_repeated : Exact (repeated_profile low high body before after) (Repeats Body low high before after)
       exact_repeated = exact_same ways_from (λ s h. ways_to s h.0 h.1 h.2 h.3)
           (exact_union (exact_only exact_empty_text (admits 0 low high))
           (exact_union (exact_only (f before after) (admits 1 low high)) (exact_only (exact_many (low - 2) (less_two high)) (admits_two low high))))

@@ -75,7 +75,7 @@ fn token_profiles<'t, A>(token: &Token<'t, A>) -> Profiles
 
 /// Of branches.
 #[cycle(measure)]
-#[tactic(auto, using(crate::proofs::Sizes::element_size))]
+#[tactic(auto, using(wax_token::proofs::Sizes::element_size))]
 fn some_profiles<'t, A>(tokens: &[Token<'t, A>]) -> Profiles
     ensures { ProfilesOf result (some_profile (trees tokens.now)) }
 {
@@ -90,7 +90,7 @@ fn some_profiles<'t, A>(tokens: &[Token<'t, A>]) -> Profiles
 
 /// Of tokens that stand one after another.
 #[cycle(measure)]
-#[tactic(auto, using(crate::proofs::Sizes::element_size))]
+#[tactic(auto, using(wax_token::proofs::Sizes::element_size))]
 fn each_profiles<'t, A>(tokens: &[Token<'t, A>]) -> Profiles
     ensures { ProfilesOf result (each_profile (trees tokens.now)) }
 {

@@ -125,7 +125,7 @@ impl Profile {
     }
 
     /// So many copies, by halves.
-    #[tactic(auto, using(crate::proofs::Saturation::power_even, crate::proofs::Saturation::power_odd, crate::proofs::Saturation::power_none,))]
+    #[tactic(auto, using(crate::proofs::Saturation::power_none))]
     pub fn power(self, copies: usize) -> Profile
         ensures { result ≡ saturated (power copies self) }
     {
@@ -178,7 +178,7 @@ impl Profile {
     }
 
     /// From `lower` to `upper` copies.
-    #[tactic(auto, using(crate::proofs::Saturation::power_range_open, crate::proofs::Saturation::power_range_closed, crate::proofs::Saturation::power_range_none,))]
+    #[tactic(auto, using(crate::proofs::Saturation::power_range_none))]
     pub fn power_range(self, lower: usize, upper: Option<usize>) -> Profile
         ensures { result ≡ saturated (power_range lower upper self) }
     {

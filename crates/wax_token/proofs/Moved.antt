@@ -5,7 +5,7 @@ use Rattle.wax_token.specs.Cost.{holds_tree, is_tree, some_holds_tree}
 use Rattle.wax_token.specs.Meaning.{LeafMeans, Means, MeansEach, MeansSome}
 use Rattle.wax_token.specs.Syntax.{Leaf, Tree, Trees, alternation, class, concatenation, leaf, literal, more}
 use Rattle.wax_token.specs.Syntax.{none, one, repetition, separator, tree, zero_or_more}
-use Rattle.wax_depth.proofs.Copies.{copies_moved}
+use Rattle.wax_token.proofs.Copies.{copies_moved}
 
 leaf_moved : (l : Leaf) → is_tree l ≡ false → (b f b' f' : Bool) (s : List ℕ) → LeafMeans l b f s → LeafMeans l b' f' s
 leaf_moved (literal insensitive t) e b f b' f' s h = h
