@@ -13,8 +13,8 @@ use super::variance::{Boundedness, Variance};
 use std::marker::Model;
 use std::num::NonZeroUsize;
 
-/// The numbers from a lower to an upper bound, of which at least one is there, and more than one
-/// number. Contracts see the two bounds, where a lower one of 0 is none.
+/// The numbers from a lower to an upper bound. At least one of the two is there, and more than one
+/// number is held. Contracts see the two bounds, where a lower one of 0 is none.
 #[derive(Clone, Copy, Debug, PartialEq, Eq, Hash)]
 pub struct BoundedVariantRange {
     lower: usize,
@@ -44,12 +44,14 @@ impl BoundedVariantRange {
         }
     }
 
+    /// The lower bound, if it is there.
     pub fn lower(&self) -> Boundedness<NonZeroUsize>
         ensures { bound_number result ≡ present self.now.0 }
     {
         non_zero(self.lower)
     }
 
+    /// The upper bound; `Unbounded` where the range is open above.
     pub fn upper(&self) -> Boundedness<NonZeroUsize>
         ensures { bound_number result ≡ self.now.1 }
     {
@@ -115,6 +117,7 @@ fn between(lower: usize, upper: Option<usize>) -> VariantRange
 pub type VariantRange = Boundedness<BoundedVariantRange>;
 
 impl VariantRange {
+    /// The lower bound, if it is there.
     pub fn lower(&self) -> Boundedness<NonZeroUsize>
         ensures { bound_number result ≡ present (variant_bounds self.now).0 }
     {
@@ -124,6 +127,7 @@ impl VariantRange {
         }
     }
 
+    /// The upper bound; `Unbounded` where the range is open above.
     pub fn upper(&self) -> Boundedness<NonZeroUsize>
         ensures { bound_number result ≡ (variant_bounds self.now).1 }
     {
@@ -141,20 +145,21 @@ pub type NaturalRange = Variance<usize, VariantRange>;
 pub type DepthVariance = NaturalRange;
 
 impl NaturalRange {
-    /// The numbers from the lesser of the two to the greater; without the other one, all from the
-    /// first on.
-    pub fn from_closed_and_open(one: usize, other: Option<usize>) -> Self
-        ensures range { result ≡ range_of (ordered one other) }
-        ensures bounds { bounds result ≡ ordered one other }
-        ensures in_order { AtMost one other → bounds result ≡ (one, other) }
+    /// The numbers from the lesser of the two bounds to the greater; without the other one, all from
+    /// the first on.
+    pub fn from_closed_and_open(closed: usize, other: Option<usize>) -> Self
+        ensures range { result ≡ range_of (ordered closed other) }
+        ensures bounds { bounds result ≡ ordered closed other }
+        ensures in_order { AtMost closed other → bounds result ≡ (closed, other) }
     {
         match other {
-            Some(other) if other == one => Variance::Invariant(one),
-            Some(other) => Variance::Variant(between(one.min(other), Some(one.max(other)))),
-            None => Variance::Variant(between(one, None)),
+            Some(other) if other == closed => Variance::Invariant(closed),
+            Some(other) => Variance::Variant(between(closed.min(other), Some(closed.max(other)))),
+            None => Variance::Variant(between(closed, None)),
         }
     }
 
+    /// The lower bound; 0 where none is there.
     pub fn lower(&self) -> usize
         ensures { result ≡ (bounds self.now).0 }
     {
@@ -165,7 +170,7 @@ impl NaturalRange {
         }
     }
 
-    /// None where the range is open above.
+    /// The upper bound; None where the range is open above.
     pub fn upper(&self) -> Option<usize>
         ensures value { result ≡ (bounds self.now).1 }
         ensures ordered { AtMost (bounds self.now).0 result }
@@ -177,12 +182,14 @@ impl NaturalRange {
         }
     }
 
+    /// Whether it is the number 1 alone.
     pub fn is_one(&self) -> bool
         ensures { IsTrue result ↔ (self.now ≡ Invariant 1) }
     {
         matches!(self, Variance::Invariant(1))
     }
 
+    /// Whether it is the number 0 alone.
     pub fn is_zero(&self) -> bool
         ensures { IsTrue result ↔ (self.now ≡ Invariant 0) }
     {

@@ -182,7 +182,8 @@ impl<'t> TextVariance<'t> {
 
     /// The text as a path of its own. Refusal 10 where memory is refused.
     pub fn into_path_buf(self, alloc: Global) -> Result<Option<String>, NoMemory>
-        ensures { IfOk result (λ path. option_map string_bytes path ≡ text_of self.entry) }
+        ensures path { IfOk result (λ path. option_map string_bytes path ≡ text_of self.entry) }
+        ensures varying { IsSome (variant self.entry) → result ≡ Ok None }
     {
         match self {
             Variance::Invariant(text) => Ok(Some(text.into_owned(alloc)?)),
