@@ -1,7 +1,6 @@
 -- The profiles of a token in its contexts.
 use Rattle.std.proofs.Common.{◌++◌, ◌+◌, ◌-◌, ◌<◌, ◌∙◌, ◌∷◌, ◌≡◌, ◌≤◌, Bool, List, Option, ℕ, [], ap, arith}
 use Rattle.std.proofs.Common.{drop, drop-cons, false, get_or, length, refl, subst, suc, sym, true, zero}
-use Rattle.std.proofs.lemmas.List.{drop_all}
 use Rattle.wax_query.specs.Components.{slash, slashes}
 use Rattle.wax_token.specs.Syntax.{Tree}
 use Rattle.wax_token.specs.Words.{trees}
