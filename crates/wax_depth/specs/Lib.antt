@@ -1,0 +1,3 @@
+pub mod Bounds
+pub mod Depth
+pub mod inner

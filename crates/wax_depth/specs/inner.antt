@@ -1,0 +1,5 @@
+pub mod Intervals
+pub mod Profiles
+pub mod Saturation
+pub mod Shapes
+pub mod TreeProfiles

@@ -1,0 +1,9 @@
+-- A token of a row is smaller than the row.
+use Rattle.std.proofs.Common.{◌<◌, ◌∷◌, ◌≡◌, List, ℕ, [], ap, arith, get_or, length, suc, zero}
+use Rattle.wax_token.specs.Syntax.{Tree, tree_size, trees_size}
+use Rattle.wax_token.specs.Words.{trees}
+
+pub element_size : {A : Type 0} (ts : List (Tree A)) (i : ℕ) (t : Tree A) → i < length ts → t ≡ get_or ts i t → tree_size t < trees_size (trees ts)
+element_size [] i t h e = omega (arith, h)
+element_size (u ∷ ts) zero t h e = let f : tree_size t ≡ tree_size u = ap tree_size e in omega (arith, f)
+element_size (u ∷ ts) (suc i) t h e = omega (arith, element_size ts i t (omega (arith, h)) e)
