@@ -1,0 +1,6 @@
+pub mod Commons
+pub mod Examples
+pub mod Exhaustives
+pub mod Roots
+pub mod Sizes
+pub mod Whens

@@ -1,0 +1,10 @@
+//! What all texts that a token means have in common: how they begin, what lies below them, the one text
+//! that they are, and the prefix before what differs.
+#![tactic(auto)]
+
+mod exhaustive;
+mod optional;
+mod root;
+
+pub use exhaustive::is_exhaustive;
+pub use root::has_root;
