@@ -5,7 +5,6 @@ use Rattle.wax_query.specs.declared.query.when.When.{When}
 use Rattle.wax_query.specs.declared.query.when.When.TheVariants.{Always, Never, Sometimes}
 use Rattle.wax_facts.specs.Optional.{optional}
 
--- Where the queries are sure, they say so of each text that is meant.
 pub never_always : {C : Type 0} → Never ≡ Always → C
 never_always e = absurd (let f : ⊥ = cc in f)
 
