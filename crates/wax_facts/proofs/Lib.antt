@@ -8,6 +8,8 @@ pub mod CutFree
 pub mod Endings
 pub mod Examples
 pub mod Exhaustives
+pub mod FoldTable
+pub mod FoldedAlone
 pub mod Fronts
 pub mod Lists
 pub mod Moved
@@ -35,6 +37,7 @@ pub mod Splits
 pub mod TextEnds
 pub mod TextMeant
 pub mod TextSound
+pub mod TextSteps
 pub mod TextUnique
 pub mod Trees
 pub mod Truths

@@ -35,9 +35,10 @@ is_in c (Character d) o = (refl, ap (λ z. c == z) (is_equal d c o) ∙ eq_self 
 is_in c (Range low high) o =
     let p : ((low == c) ≡ true) × ((high == c) ≡ true) = and_parts (low == c) (high == c) o in
     let l : low ≡ c = is_equal low c p.0 in
-    let h : high ≡ c = is_equal high c p.1 in
-    (ap (λ z. nat_le z high) l ∙ ap (nat_le c) h ∙ le_self c,
-     true_and (nat_le low c) (nat_le c high) (ap (λ z. nat_le z c) l ∙ le_self c) (ap (nat_le c) h ∙ le_self c))
+    let h : high ≡ c = is_equal high c p.1 in (
+      ap (λ z. nat_le z high) l ∙ ap (nat_le c) h ∙ le_self c,
+      true_and (nat_le low c) (nat_le c high) (ap (λ z. nat_le z c) l ∙ le_self c) (ap (nat_le c) h ∙ le_self c),
+    )
 
 are_forward : (c : ℕ) (xs : List Archetype) → list_all (is_only c) xs ≡ true → list_all is_forward xs ≡ true
 are_forward c [] o = refl

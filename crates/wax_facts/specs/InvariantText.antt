@@ -1,5 +1,5 @@
 -- The one text that a tree means, where there is only one by how it is written.
-use Rattle.std.specs.Prelude.{◌≡◌, ◌≢◌, ℕ, zero, suc, ◌==◌, ◌&&◌, Bool, true, false, List, [], ◌∷◌, ◌++◌, Some}
+use Rattle.std.specs.Prelude.{◌≡◌, ◌≢◌, ℕ, zero, suc, ◌==◌, ◌&&◌, Bool, true, false, List, [], ◌∷◌, ◌++◌, Option, Some}
 use Rattle.std.specs.List.{list_all}
 use Rattle.wax_token.specs.declared.token.Archetype.{Archetype}
 use Rattle.wax_token.specs.declared.token.Archetype.TheVariants.{Character, Range}
@@ -34,13 +34,17 @@ LeafText one s = ⊥
 LeafText (zero_or_more evaluation) s = ⊥
 LeafText (tree rooted) s = ⊥
 
+-- one number of copies of the one text
+abbrev pub IsRepeated : (List ℕ → Type 0) → ℕ → Option ℕ → List ℕ → Type 0
+IsRepeated P low high s = (x : List ℕ) × P x × (high ≡ Some low) × (s ≡ times low x)
+
 -- the tree's text is invariant, and is s
 abbrev mutual
   pub Text : {A : Type 0} → Tree A → List ℕ → Type 0
   Text (leaf a l) s = LeafText l s
   Text (alternation a ts) s = TextOfAll ts s
   Text (concatenation a ts) s = TextOfEach ts s
-  Text (repetition a t low high) s = (x : List ℕ) × Text t x × (high ≡ Some low) × (s ≡ times low x)
+  Text (repetition a t low high) s = IsRepeated (Text t) low high s
 
   -- of branches: the same text of each
   pub TextOfAll : {A : Type 0} → Trees A → List ℕ → Type 0

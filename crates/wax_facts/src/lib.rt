@@ -3,8 +3,10 @@
 #![tactic(auto)]
 
 mod exhaustive;
+mod invariant;
 mod optional;
 mod root;
 
 pub use exhaustive::is_exhaustive;
+pub use invariant::text;
 pub use root::has_root;
