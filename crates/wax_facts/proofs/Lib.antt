@@ -5,6 +5,7 @@ pub mod BuiltOrderly
 pub mod Commons
 pub mod CutEnds
 pub mod CutFree
+pub mod CutSteps
 pub mod Endings
 pub mod Examples
 pub mod Exhaustives
@@ -20,6 +21,7 @@ pub mod OneCopy
 pub mod OpenedApart
 pub mod OpenedMeans
 pub mod OpenedRest
+pub mod Openings
 pub mod OwnerBegins
 pub mod OwnerFull
 pub mod Owners

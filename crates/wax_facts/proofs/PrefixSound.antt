@@ -5,6 +5,7 @@ use Rattle.wax_token.specs.Meaning.{Begins, Means, MeansEach}
 use Rattle.wax_token.specs.Syntax.{Tree, Trees, alternation, concatenation, leaf, more, none, repetition}
 use Rattle.wax_facts.specs.Prefix.{Cut, IsRooted, Prefix, is_separator, opened, opened_last, or_nothing}
 use Rattle.wax_facts.specs.Prefix.{taken}
+use Rattle.wax_facts.specs.Joined.{Front}
 use Rattle.wax_facts.proofs.OneCopy.{one_copy}
 use Rattle.wax_facts.proofs.Roots.{root_sound}
 use Rattle.wax_facts.proofs.TextSound.{text_sound}
@@ -35,9 +36,6 @@ mutual
   last_loosely none before after s h = h
   last_loosely (more t none) before after s h = opened_loosely t before after s h
   last_loosely (more t (more u us)) before after s h = (h.0, h.1, h.2, (true, h.3), last_loosely (more u us) true after h.1 h.4)
-
-abbrev pub Front : List ℕ → List ℕ → Type 0
-Front p s = (q : List ℕ) × (s ≡ p ++ q)
 
 abbrev FrontOf : Option (ℕ × List ℕ) → List ℕ → Type 0
 FrontOf cut s = Front (or_nothing cut).1 s

@@ -11,7 +11,8 @@ use Rattle.wax_facts.proofs.CutEnds.{ends_at}
 use Rattle.wax_facts.proofs.Fronts.{FrontText, cut_text, take_to}
 use Rattle.wax_facts.proofs.Lists.{same_nil}
 use Rattle.wax_facts.proofs.OpenedMeans.{opened_to}
-use Rattle.wax_facts.proofs.PrefixSound.{Front, prefix_sound}
+use Rattle.wax_facts.specs.Joined.{Front}
+use Rattle.wax_facts.proofs.PrefixSound.{prefix_sound}
 use Rattle.wax_facts.proofs.TextSound.{text_sound}
 use Rattle.wax_facts.proofs.Trees.{BeginsWithTree, begins_so}
 

@@ -98,3 +98,9 @@ found_is o x P Q e h = subst (λ z. MatchOption z P Q) e h
 
 pub none_is : {X : Type 0} (o : Option X) (P : Type 0) (Q : X → Type 0) → o ≡ None → MatchOption o P Q → P
 none_is o P Q e h = subst (λ z. MatchOption z P Q) e h
+
+pub chars_pushed : (a b n : List ℕ) → IsUtf8 a → n ≡ a ++ b → chars n ≡ chars a ++ chars b
+chars_pushed a b n u e = ap chars e ∙ chars-append a b u
+
+pub chars_none : (bs : List ℕ) → bs ≡ [] → chars bs ≡ []
+chars_none bs e = ap chars e ∙ chars-nil

@@ -1,7 +1,11 @@
 -- How the texts of a prefix and of a rest are joined.
-use Rattle.std.specs.Prelude.{◌≡◌, ℕ, Bool, true, false, ◌⊎◌, List, [], ◌∷◌, ◌==◌, if◌then◌else◌}
+use Rattle.std.specs.Prelude.{◌≡◌, ℕ, Bool, true, false, ◌⊎◌, List, [], ◌∷◌, ◌++◌, ◌==◌, if◌then◌else◌}
 use Rattle.wax_token.specs.Syntax.{Tree, leaf, alternation, concatenation, repetition, Trees, none, more}
 use Rattle.wax_token.specs.Meaning.{Begins, Ends}
+
+-- the text begins with the prefix
+abbrev pub Front : List ℕ → List ℕ → Type 0
+Front p s = (q : List ℕ) × (s ≡ p ++ q)
 
 -- two parts of a path, with one `/` between them unless the first is empty or ends with one
 abbrev pub path : List ℕ → List ℕ → List ℕ

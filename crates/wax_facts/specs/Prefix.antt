@@ -56,11 +56,14 @@ abbrev pub IsRooted : {A : Type 0} → Trees A → Type 0
 IsRooted none = ⊥
 IsRooted (more t ts) = (root t ≡ Always) × Variant t
 
+-- so many tokens stand before the cut, with this text
+abbrev pub CutBefore : {A : Type 0} → Trees A → ℕ → List ℕ → Type 0
+CutBefore ts n p = (cut : Option (ℕ × List ℕ)) × Cut ts cut × (n ≡ (or_nothing cut).0) × (p ≡ (or_nothing cut).1)
+
 -- how many tokens of the list are taken, and the prefix
 abbrev pub PrefixOf : {A : Type 0} → Trees A → ℕ → List ℕ → Type 0
-PrefixOf ts n p =
-    (IsRooted ts × (n ≡ 0) × (p ≡ 47 ∷ []))
-    ⊎ ((IsRooted ts → ⊥) × ((cut : Option (ℕ × List ℕ)) × Cut ts cut × (n ≡ (or_nothing cut).0) × (p ≡ (or_nothing cut).1)))
+PrefixOf ts n p = (IsRooted ts × (n ≡ 0) × (p ≡ 47 ∷ [])) ⊎ ((IsRooted ts → ⊥) × CutBefore ts n p)
 
+-- of a glob: how many tokens of its opened list are taken, and the prefix
 abbrev pub Prefix : {A : Type 0} → Tree A → ℕ → List ℕ → Type 0
 Prefix t n p = PrefixOf (opened t) n p

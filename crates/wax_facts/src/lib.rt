@@ -4,9 +4,12 @@
 
 mod exhaustive;
 mod invariant;
+mod opened;
 mod optional;
+mod prefix;
 mod root;
 
 pub use exhaustive::is_exhaustive;
 pub use invariant::text;
+pub use prefix::invariant_text_prefix;
 pub use root::has_root;
