@@ -1,0 +1,9 @@
+pub mod Exhaustive
+pub mod InvariantText
+pub mod Joined
+pub mod Optional
+pub mod Orderly
+pub mod Prefix
+pub mod Rest
+pub mod Root
+pub mod inner

@@ -1,0 +1,90 @@
+-- What the parser and the rules keep of a glob.
+use Rattle.std.specs.Prelude.{◌≡◌, ℕ, Bool, true, false}
+use Rattle.wax_token.specs.Syntax.{Leaf, literal, class, separator, one, zero_or_more, tree, Tree, leaf}
+use Rattle.wax_token.specs.Syntax.{alternation, concatenation, repetition, Trees, none, more}
+use Rattle.wax_token.specs.Reads.{IsLiteralText}
+use Rattle.wax_rule.specs.Situated.{is_boundary_leaf, first_starts_in, ends_in}
+use Rattle.wax_rule.specs.Rules.{are_incompatible}
+
+abbrev pub IsSome : {A : Type 0} → Trees A → Type 0
+IsSome none = ⊥
+IsSome (more t ts) = Unit {0}
+
+-- no alternation and no concatenation is without a token
+abbrev mutual
+  pub Full : {A : Type 0} → Tree A → Type 0
+  Full (leaf a l) = Unit {0}
+  Full (alternation a ts) = IsSome ts × FullEach ts
+  Full (concatenation a ts) = IsSome ts × FullEach ts
+  Full (repetition a t low high) = Full t
+
+  pub FullEach : {A : Type 0} → Trees A → Type 0
+  FullEach none = Unit {0}
+  FullEach (more t ts) = Full t × FullEach ts
+
+-- a token of a concatenation is no concatenation
+abbrev pub is_token : {A : Type 0} → Tree A → Bool
+is_token (leaf a l) = true
+is_token (alternation a ts) = true
+is_token (concatenation a ts) = false
+is_token (repetition a t low high) = true
+
+abbrev mutual
+  pub Flat : {A : Type 0} → Tree A → Type 0
+  Flat (leaf a l) = Unit {0}
+  Flat (alternation a ts) = FlatSome ts
+  Flat (concatenation a ts) = FlatEach ts
+  Flat (repetition a t low high) = Flat t
+
+  pub FlatSome : {A : Type 0} → Trees A → Type 0
+  FlatSome none = Unit {0}
+  FlatSome (more t ts) = Flat t × FlatSome ts
+
+  pub FlatEach : {A : Type 0} → Trees A → Type 0
+  FlatEach none = Unit {0}
+  FlatEach (more t ts) = (is_token t ≡ true) × Flat t × FlatEach ts
+
+-- each literal has a text, and no `/` in it
+abbrev pub WordedLeaf : Leaf → Type 0
+WordedLeaf (literal insensitive t) = IsLiteralText t
+WordedLeaf (class negated xs) = Unit {0}
+WordedLeaf separator = Unit {0}
+WordedLeaf one = Unit {0}
+WordedLeaf (zero_or_more evaluation) = Unit {0}
+WordedLeaf (tree rooted) = Unit {0}
+
+abbrev mutual
+  pub Worded : {A : Type 0} → Tree A → Type 0
+  Worded (leaf a l) = WordedLeaf l
+  Worded (alternation a ts) = WordedEach ts
+  Worded (concatenation a ts) = WordedEach ts
+  Worded (repetition a t low high) = Worded t
+
+  pub WordedEach : {A : Type 0} → Trees A → Type 0
+  WordedEach none = Unit {0}
+  WordedEach (more t ts) = Worded t × WordedEach ts
+
+-- where a token of a concatenation ends in a boundary, the next one starts in none; and no repetition has
+-- bounds that the rules refuse
+abbrev mutual
+  pub Apart : {A : Type 0} → Tree A → Type 0
+  Apart (leaf a l) = Unit {0}
+  Apart (alternation a ts) = ApartSome ts
+  Apart (concatenation a ts) = ApartEach ts
+  Apart (repetition a t low high) = (are_incompatible low high ≡ false) × Apart t
+
+  pub ApartSome : {A : Type 0} → Trees A → Type 0
+  ApartSome none = Unit {0}
+  ApartSome (more t ts) = Apart t × ApartSome ts
+
+  pub ApartEach : {A : Type 0} → Trees A → Type 0
+  ApartEach none = Unit {0}
+  ApartEach (more t ts) =
+      Apart t × (ends_in is_boundary_leaf t ≡ true → first_starts_in is_boundary_leaf ts ≡ false) × ApartEach ts
+
+-- holds of each expression that parses, isn't empty and breaks no rule, and of each rest
+abbrev pub Orderly : {A : Type 0} → Tree A → Type 0
+Orderly t = Full t × Flat t × Worded t × Apart t
+
+abbrev pub OrderlyEach : {A : Type 0} → Trees A → Type 0
+OrderlyEach ts = FullEach ts × FlatEach ts × WordedEach ts × ApartEach ts

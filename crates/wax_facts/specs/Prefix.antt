@@ -1,0 +1,69 @@
+-- The prefix of a glob: the text before the first token that isn't invariant, cut back to a `/`.
+use Rattle.std.specs.Prelude.{◌≡◌, ℕ, zero, suc, Bool, true, false, ◌⊎◌, List, [], ◌∷◌, ◌++◌, Option, Some, None}
+use Rattle.wax_token.specs.Syntax.{Tree, leaf, alternation, concatenation, repetition, Trees, none, more}
+use Rattle.wax_rule.specs.Rules.{is_such, is_separator_leaf, is_tree_leaf}
+use Rattle.wax_query.specs.declared.query.when.When.TheVariants.{Always}
+use Rattle.wax_facts.specs.Root.{root}
+use Rattle.wax_facts.specs.InvariantText.{Text, Variant}
+
+-- the tokens of a glob, where a last alternation of one branch and a last repetition of exactly one
+-- copy stand open
+abbrev mutual
+  pub opened : {A : Type 0} → Tree A → Trees A
+  opened (leaf a l) = more (leaf a l) none
+  opened (alternation a none) = more (alternation a none) none
+  opened (alternation a (more t none)) = opened t
+  opened (alternation a (more t (more u us))) = more (alternation a (more t (more u us))) none
+  opened (concatenation a ts) = opened_last ts
+  opened (repetition a t zero high) = more (repetition a t zero high) none
+  opened (repetition a t (suc zero) None) = more (repetition a t 1 None) none
+  opened (repetition a t (suc zero) (Some zero)) = more (repetition a t 1 (Some 0)) none
+  opened (repetition a t (suc zero) (Some (suc zero))) = opened t
+  opened (repetition a t (suc zero) (Some (suc (suc n)))) = more (repetition a t 1 (Some (suc (suc n)))) none
+  opened (repetition a t (suc (suc low)) high) = more (repetition a t (suc (suc low)) high) none
+
+  pub opened_last : {A : Type 0} → Trees A → Trees A
+  opened_last none = none
+  opened_last (more t none) = opened t
+  opened_last (more t (more u us)) = more t (opened_last (more u us))
+
+abbrev pub is_tree : {A : Type 0} → Tree A → Bool
+is_tree t = is_such is_tree_leaf t
+
+abbrev pub is_separator : {A : Type 0} → Tree A → Bool
+is_separator t = is_such is_separator_leaf t
+
+-- one more invariant token before the cut; a `/` before a variant token is where it falls
+abbrev pub taken : Bool → List ℕ → Option (ℕ × List ℕ) → Option (ℕ × List ℕ)
+taken is_slash x (Some cut) = Some (suc cut.0, x ++ cut.1)
+taken true x None = Some (1, x)
+taken false x None = None
+
+-- how many tokens stand before the cut, and their text; none where there is no place for one
+abbrev pub Cut : {A : Type 0} → Trees A → Option (ℕ × List ℕ) → Type 0
+Cut none cut = cut ≡ Some (0, [])
+Cut (more t ts) cut =
+    ((is_tree t ≡ true) × (cut ≡ Some (0, [])))
+    ⊎ (((is_tree t ≡ false) × Variant t × (cut ≡ None))
+    ⊎ ((x : List ℕ) × (later : Option (ℕ × List ℕ)) × Text t x × Cut ts later × (cut ≡ taken (is_separator t) x later)))
+
+abbrev pub or_nothing : Option (ℕ × List ℕ) → ℕ × List ℕ
+or_nothing None = (0, [])
+or_nothing (Some cut) = cut
+
+-- the first token always begins with `/`, and its text isn't one
+abbrev pub IsRooted : {A : Type 0} → Trees A → Type 0
+IsRooted none = ⊥
+IsRooted (more t ts) = (root t ≡ Always) × Variant t
+
+-- so many tokens stand before the cut, with this text
+abbrev pub CutBefore : {A : Type 0} → Trees A → ℕ → List ℕ → Type 0
+CutBefore ts n p = (cut : Option (ℕ × List ℕ)) × Cut ts cut × (n ≡ (or_nothing cut).0) × (p ≡ (or_nothing cut).1)
+
+-- how many tokens of the list are taken, and the prefix
+abbrev pub PrefixOf : {A : Type 0} → Trees A → ℕ → List ℕ → Type 0
+PrefixOf ts n p = (IsRooted ts × (n ≡ 0) × (p ≡ 47 ∷ [])) ⊎ ((IsRooted ts → ⊥) × CutBefore ts n p)
+
+-- of a glob: how many tokens of its opened list are taken, and the prefix
+abbrev pub Prefix : {A : Type 0} → Tree A → ℕ → List ℕ → Type 0
+Prefix t n p = PrefixOf (opened t) n p

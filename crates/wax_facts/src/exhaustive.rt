@@ -1,0 +1,75 @@
+//! Whether a token means whatever lies below the paths that it means.
+ghost use Rattle.std.specs.Prelude.{◌≡◌, ◌++◌, ◌∷◌, List, ℕ, false};
+ghost use Rattle.wax_token.specs.Meaning.{Means};
+ghost use Rattle.wax_token.specs.View.{leaf_of};
+ghost use Rattle.wax_token.specs.Words.{trees};
+ghost use Rattle.wax_facts.specs.Exhaustive.{leaf_exhaustive, exhaustive, exhaustive_some, exhaustive_last};
+ghost use Rattle.wax_query.specs.declared.query.when.When.TheVariants.{Always};
+
+use crate::optional::optional;
+use wax_query::query::When;
+use wax_token::token::{BranchKind, LeafKind, Token, Topology, Wildcard};
+
+fn leaf_exhaustive(leaf: &LeafKind<'_>) -> When
+    ensures { result ≡ leaf_exhaustive (leaf_of leaf.now) }
+{
+    match leaf {
+        LeafKind::Wildcard(wildcard) => match wildcard {
+            Wildcard::Tree { has_root: _ } => When::Always,
+            _ => When::Never,
+        },
+        _ => When::Never,
+    }
+}
+
+/// Whether the token means whatever lies below a path that it means.
+pub fn is_exhaustive<'t, A>(token: &Token<'t, A>) -> When
+    ensures value { result ≡ exhaustive token.now }
+    ensures always { result ≡ Always → (s r : List ℕ) → Means token.now false false s
+        → Means token.now false false (s ++ 47 ∷ r) }
+{
+    find_exhaustive(token)
+}
+
+#[cycle(end)]
+fn find_exhaustive<'t, A>(token: &Token<'t, A>) -> When
+    ensures { result ≡ exhaustive token.now }
+{
+    match token.topology() {
+        Topology::Branch(branch) => match branch {
+            BranchKind::Alternation(a) => find_common_end(a.tokens.as_slice()),
+            BranchKind::Concatenation(c) => find_last(c.tokens.as_slice()),
+            BranchKind::Repetition(r) => optional(r.lower, find_exhaustive(&r.token)),
+        },
+        Topology::Leaf(leaf) => leaf_exhaustive(leaf),
+    }
+}
+
+#[cycle(end)]
+#[tactic(auto, using(crate::proofs::Sizes::element_size, crate::proofs::Commons::last_is))]
+fn find_last<'t, A>(tokens: &[Token<'t, A>]) -> When
+    ensures { result ≡ exhaustive_last (trees tokens.now) }
+{
+    if tokens.is_empty() {
+        return When::Never;
+    }
+    find_exhaustive(&tokens[tokens.len() - 1])
+}
+
+#[cycle(end)]
+#[tactic(auto, using(crate::proofs::Sizes::element_size))]
+fn find_common_end<'t, A>(tokens: &[Token<'t, A>]) -> When
+    ensures { result ≡ exhaustive_some (trees tokens.now) }
+{
+    let mut index = tokens.len();
+    if index == 0 {
+        return When::Never;
+    }
+    index -= 1;
+    let mut common = find_exhaustive(&tokens[index]);
+    while index > 0 {
+        index -= 1;
+        common = find_exhaustive(&tokens[index]).certainty(common);
+    }
+    common
+}

@@ -1,0 +1,27 @@
+//! Which characters share their simple folding with no other.
+ghost use Rattle.std.specs.Prelude.{◌≡◌, ◌↔◌, IsTrue, chars};
+ghost use Rattle.wax_facts.specs.InvariantText.{FoldsAlone, AllFoldAlone};
+
+use unicode::case::fold_pairs;
+
+/// Whether no character of the text shares its folding with another.
+pub fn all_fold_alone(text: &str) -> bool
+    ensures { IsTrue result ↔ AllFoldAlone (chars text.now) }
+{
+    for c in text.chars() {
+        if !folds_alone(c) {
+            return false;
+        }
+    }
+    true
+}
+
+// The table has both orders of each pair.
+fn folds_alone(c: char) -> bool
+    ensures { IsTrue result ↔ FoldsAlone c }
+{
+    let code = c as u32;
+    fold_pairs()
+        .binary_search_by_key(&code, |&(character, _)| character)
+        .is_err()
+}

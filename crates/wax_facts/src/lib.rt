@@ -1,0 +1,15 @@
+//! What all texts that a token means have in common: how they begin, what lies below them, the one text
+//! that they are, and the prefix before what differs.
+#![tactic(auto)]
+
+mod exhaustive;
+mod invariant;
+mod opened;
+mod optional;
+mod prefix;
+mod root;
+
+pub use exhaustive::is_exhaustive;
+pub use invariant::text;
+pub use prefix::invariant_text_prefix;
+pub use root::has_root;

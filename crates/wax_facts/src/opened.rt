@@ -1,0 +1,42 @@
+//! The tokens of a glob, where a last branch of one sub-glob stands open.
+ghost use Rattle.std.specs.Prelude.{◌≡◌, ◌<◌, ◌≤◌, ◌+◌, ℕ, MatchOption};
+ghost use Rattle.wax_token.specs.Syntax.{more, none, tree_size, trees_size};
+ghost use Rattle.wax_token.specs.Words.{trees};
+ghost use Rattle.wax_facts.specs.Prefix.{opened, opened_last};
+ghost use Rattle.wax_facts.specs.inner.Opening.{IsOpened};
+
+use wax_token::token::{Annotation, BranchKind, Token};
+
+/// The tokens of a glob, or those of the innermost sub-glob where the last token alone is left and stands
+/// open.
+#[tactic(auto, using(crate::proofs::Sizes::element_size))]
+pub fn opened_from<'i, 't, A: Annotation>(tokens: &'i [Token<'t, A>]) -> &'i [Token<'t, A>]
+    ensures same { opened_last (trees result.now) ≡ opened_last (trees tokens.now) }
+    ensures open { IsOpened (trees result.now) }
+    ensures fewer { trees_size (trees result.now) ≤ trees_size (trees tokens.now) }
+{
+    if tokens.len() == 1 {
+        if let Some(inside) = tokens_inside(&tokens[0]) {
+            return opened_from(inside);
+        }
+    }
+    tokens
+}
+
+// The tokens that stand in the place of a last token: those of a glob, of an only branch and of exactly one
+// copy.
+fn tokens_inside<'i, 't, A: Annotation>(token: &'i Token<'t, A>) -> Option<&'i [Token<'t, A>]>
+    ensures tokens { MatchOption result (opened token.now ≡ more token.now none) (λ inside.
+        opened_last (trees inside.now) ≡ opened token.now) }
+    ensures fewer { MatchOption result (Unit {0}) (λ inside.
+        trees_size (trees inside.now) < tree_size token.now + 1) }
+{
+    match token.as_branch()? {
+        BranchKind::Alternation(a) if a.tokens.len() == 1 => Some(a.tokens()),
+        BranchKind::Concatenation(c) => Some(c.tokens()),
+        BranchKind::Repetition(r) if r.lower == 1 && r.upper == Some(1) => {
+            Some(r.token().concatenation())
+        }
+        _ => None,
+    }
+}

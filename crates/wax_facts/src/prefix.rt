@@ -1,0 +1,96 @@
+//! The text with which all texts of a glob begin, up to a `/`.
+ghost use Rattle.std.specs.Prelude.{◌≡◌, ◌↔◌, ℕ, IfOk, IsTrue, List, chars, false, string_bytes};
+ghost use Rattle.wax_token.specs.Meaning.{Means};
+ghost use Rattle.wax_token.specs.Words.{trees};
+ghost use Rattle.wax_facts.specs.Joined.{Front};
+ghost use Rattle.wax_facts.specs.Prefix.{CutBefore, IsRooted, Prefix, is_separator, is_tree, opened_last};
+ghost use Rattle.wax_facts.specs.inner.Opening.{IsOpened};
+
+use crate::invariant::text;
+use crate::opened::opened_from;
+use crate::root::has_root;
+use std::alloc::Global;
+use wax_query::diagnostics::NoMemory;
+use wax_token::token::{Annotation, LeafKind, Token, Wildcard};
+
+/// The prefix of a glob, and how many tokens it takes, of those of the glob where a last alternation of
+/// one branch or a last repetition of exactly one copy stands open: the text before the first token that
+/// isn't of one text, up to its last `/` unless that token is `**`; `/` and no token where the first one
+/// always begins with `/` and isn't of one text. Refused with 10 where memory is. It takes the time and
+/// memory of the tokens' texts.
+pub fn invariant_text_prefix<'t, A: Annotation>(
+    alloc: Global,
+    token: &Token<'t, A>,
+) -> Result<(usize, String), NoMemory>
+    ensures prefix { IfOk result (λ r. Prefix token.now r.0 (chars (string_bytes r.1))) }
+    ensures front { IfOk result (λ r. (s : List ℕ)
+        → Means token.now false false s → Front (chars (string_bytes r.1)) s) }
+{
+    let tokens = opened_from(token.concatenation());
+    if begins_rooted(alloc, tokens)? {
+        return Ok((0, String::from_str(alloc, "/")?));
+    }
+    cut_prefix(alloc, tokens)
+}
+
+// Whether the first token always begins with `/` and isn't of one text.
+fn begins_rooted<'t, A>(alloc: Global, tokens: &[Token<'t, A>]) -> Result<bool, NoMemory>
+    requires { IsOpened (trees tokens.now) }
+    ensures { IfOk result (λ b. IsTrue b ↔ IsRooted (opened_last (trees tokens.now))) }
+{
+    let Some(first) = tokens.first() else {
+        return Ok(false);
+    };
+    if !has_root(first).is_always() {
+        return Ok(false);
+    }
+    Ok(text(alloc, first)?.is_none())
+}
+
+// How many tokens stand before the cut, and their text.
+fn cut_prefix<'t, A: Annotation>(
+    alloc: Global,
+    tokens: &[Token<'t, A>],
+) -> Result<(usize, String), NoMemory>
+    requires { IsOpened (trees tokens.now) }
+    ensures { IfOk result (λ r.
+        CutBefore (opened_last (trees tokens.now)) r.0 (chars (string_bytes r.1))) }
+{
+    let mut left = tokens;
+    let mut taken: usize = 0;
+    let mut after_slash = String::new(alloc);
+    let mut cut = (0, String::new(alloc));
+    while let Some((first, others)) = left.split_first() {
+        if is_tree(first) {
+            break;
+        }
+        let Some(text) = text(alloc, first)? else {
+            return Ok(cut);
+        };
+        taken = taken.checked_add(1).ok_or(NoMemory)?;
+        after_slash.push_str(text.as_str())?;
+        if is_separator(first) {
+            cut.0 = taken;
+            cut.1.push_str(after_slash.as_str())?;
+            after_slash.clear();
+        }
+        left = opened_from(others);
+    }
+    cut.1.push_str(after_slash.as_str())?;
+    Ok((taken, cut.1))
+}
+
+fn is_tree<'t, A>(token: &Token<'t, A>) -> bool
+    ensures { result ≡ is_tree token.now }
+{
+    match token.as_leaf() {
+        Some(LeafKind::Wildcard(wildcard)) => matches!(wildcard, Wildcard::Tree { .. }),
+        _ => false,
+    }
+}
+
+fn is_separator<'t, A>(token: &Token<'t, A>) -> bool
+    ensures { result ≡ is_separator token.now }
+{
+    matches!(token.as_leaf(), Some(LeafKind::Separator(_)))
+}

@@ -1,0 +1,75 @@
+//! Whether the texts that a token means begin with `/`.
+ghost use Rattle.std.specs.Prelude.{◌≡◌, ◌++◌, ◌∷◌, List, ℕ, false};
+ghost use Rattle.wax_token.specs.Meaning.{Begins, Means};
+ghost use Rattle.wax_token.specs.View.{leaf_of};
+ghost use Rattle.wax_token.specs.Words.{trees};
+ghost use Rattle.wax_facts.specs.Root.{leaf_root, root, root_some, root_first};
+ghost use Rattle.wax_query.specs.declared.query.when.When.TheVariants.{Always};
+
+use crate::optional::optional;
+use wax_query::query::When;
+use wax_token::token::{BranchKind, LeafKind, Token, Topology, Wildcard};
+
+fn leaf_root(leaf: &LeafKind<'_>) -> When
+    ensures { result ≡ leaf_root (leaf_of leaf.now) }
+{
+    match leaf {
+        LeafKind::Separator(_) => When::Always,
+        LeafKind::Wildcard(wildcard) => match wildcard {
+            Wildcard::Tree { has_root } => When::from(*has_root),
+            _ => When::Never,
+        },
+        _ => When::Never,
+    }
+}
+
+/// Whether each text that the token means begins with `/`.
+pub fn has_root<'t, A>(token: &Token<'t, A>) -> When
+    ensures value { result ≡ root token.now }
+    ensures always { result ≡ Always → (s : List ℕ) → Means token.now false false s → Begins s }
+{
+    find_root(token)
+}
+
+#[cycle(find)]
+fn find_root<'t, A>(token: &Token<'t, A>) -> When
+    ensures { result ≡ root token.now }
+{
+    match token.topology() {
+        Topology::Branch(branch) => match branch {
+            BranchKind::Alternation(a) => find_common(a.tokens.as_slice()),
+            BranchKind::Concatenation(c) => find_first(c.tokens.as_slice()),
+            BranchKind::Repetition(r) => optional(r.lower, find_root(&r.token)),
+        },
+        Topology::Leaf(leaf) => leaf_root(leaf),
+    }
+}
+
+#[cycle(find)]
+#[tactic(auto, using(crate::proofs::Sizes::element_size))]
+fn find_first<'t, A>(tokens: &[Token<'t, A>]) -> When
+    ensures { result ≡ root_first (trees tokens.now) }
+{
+    if tokens.is_empty() {
+        return When::Never;
+    }
+    find_root(&tokens[0])
+}
+
+#[cycle(find)]
+#[tactic(auto, using(crate::proofs::Sizes::element_size))]
+fn find_common<'t, A>(tokens: &[Token<'t, A>]) -> When
+    ensures { result ≡ root_some (trees tokens.now) }
+{
+    let mut index = tokens.len();
+    if index == 0 {
+        return When::Never;
+    }
+    index -= 1;
+    let mut common = find_root(&tokens[index]);
+    while index > 0 {
+        index -= 1;
+        common = find_root(&tokens[index]).certainty(common);
+    }
+    common
+}
