@@ -4,7 +4,7 @@ use std::io;
 use wax_tree::{DepthBehavior, DepthMax, DepthMin, DepthMinMax, WalkBehavior};
 
 /// Bounds from the least and the greatest depth, each of which may be missing.
-pub fn print_bounds(rt: &HostRuntime) -> io::Result<()> {
+fn print_bounds(rt: &HostRuntime) -> io::Result<()> {
     println!(rt;
         "bounds 0 to 5: {:?}\nunbounded: {:?}\n6 to 5: {:?}\n2 to 5: {:?}\nto 5: {:?}\nfrom 2: {:?}",
         DepthBehavior::bounded(0, 5),
@@ -17,7 +17,7 @@ pub fn print_bounds(rt: &HostRuntime) -> io::Result<()> {
 }
 
 /// Bounds from one or two depths in any order.
-pub fn print_depths(rt: &HostRuntime) -> io::Result<()> {
+fn print_depths(rt: &HostRuntime) -> io::Result<()> {
     let between = DepthMinMax::from_depths_or_max(5, 2);
     println!(rt;
         "from 0 to 4: {:?}\nfrom 4 to 0: {:?}\nfrom 5 to 2: {between:?}, {:?}\nat least 0: {:?}",
@@ -29,7 +29,7 @@ pub fn print_depths(rt: &HostRuntime) -> io::Result<()> {
 }
 
 /// The greatest depth is at most the greatest number. How a walk goes, from one of its parts.
-pub fn print_behaviors(rt: &HostRuntime) -> io::Result<()> {
+fn print_behaviors(rt: &HostRuntime) -> io::Result<()> {
     if let Ok(least) = DepthMin::try_from(2) {
         let bounds = DepthMinMax {
             min: least.0,
@@ -43,4 +43,10 @@ pub fn print_behaviors(rt: &HostRuntime) -> io::Result<()> {
         WalkBehavior::from(()),
         WalkBehavior::from(DepthMax(1))
     )
+}
+
+pub fn print_rows(rt: &HostRuntime) -> io::Result<()> {
+    print_bounds(rt)?;
+    print_depths(rt)?;
+    print_behaviors(rt)
 }

@@ -86,7 +86,7 @@ const LOOKUPS: &[&str] = &[
 ];
 
 /// A tree answers by paths.
-pub fn print_lookups(rt: &HostRuntime) -> io::Result<()> {
+fn print_lookups(rt: &HostRuntime) -> io::Result<()> {
     let mut nowhere = Nowhere {
         tally: Tally::none(),
     };
@@ -110,7 +110,7 @@ fn print_counts(rt: &HostRuntime, tree: &Tree) -> io::Result<()> {
 }
 
 /// Below a sealed folder each question fails.
-pub fn print_sealed(rt: &HostRuntime) -> io::Result<()> {
+fn print_sealed(rt: &HostRuntime) -> io::Result<()> {
     let mut tree = tree_of(rt.alloc(), MIXED)?;
     print_kind(rt, &mut tree, "sealed/x")?;
     for path in &["sealed", "link"] {
@@ -134,7 +134,7 @@ fn print_list<D: Directory>(
 }
 
 /// As many items as were asked for are listed, and counted. What is no folder isn't listed.
-pub fn print_lists(rt: &HostRuntime) -> io::Result<()> {
+fn print_lists(rt: &HostRuntime) -> io::Result<()> {
     for most in [0, 2, 7, 9] {
         let mut tree = tree_of(rt.alloc(), ALL_KINDS)?;
         print_list(rt, &mut tree, "all", most)?;
@@ -148,7 +148,7 @@ pub fn print_lists(rt: &HostRuntime) -> io::Result<()> {
 }
 
 /// A list that lacks memory may be asked for again; one that fails goes on.
-pub fn print_starved_lists(rt: &HostRuntime) -> io::Result<()> {
+fn print_starved_lists(rt: &HostRuntime) -> io::Result<()> {
     for calls in 0..10u64 {
         let mut starving = Starving::new(tree_of(rt.alloc(), ALL_KINDS)?, calls);
         print!(rt; "starving {calls}: ")?;
@@ -179,7 +179,7 @@ fn print_items<D: Directory>(rt: &HostRuntime, directory: &mut D, path: &str) ->
 }
 
 /// A tree gives items in order; one call fails, or lacks memory.
-pub fn print_all_items(rt: &HostRuntime) -> io::Result<()> {
+fn print_all_items(rt: &HostRuntime) -> io::Result<()> {
     let mut tree = tree_of(rt.alloc(), MIXED)?;
     print_items(rt, &mut tree, "")?;
     print_counts(rt, &tree)?;
@@ -201,14 +201,14 @@ pub fn print_all_items(rt: &HostRuntime) -> io::Result<()> {
 }
 
 /// A tree is not made of a folder that holds a name twice.
-pub fn print_duplicate(rt: &HostRuntime) -> io::Result<()> {
+fn print_duplicate(rt: &HostRuntime) -> io::Result<()> {
     let answer = Tree::new(rt.alloc(), folder_of(rt.alloc(), TWICE)?, Node::File);
     let is_refused = matches!(answer, Err(Refusal::Refused(DuplicateName)));
     println!(rt; "a name twice is refused: {is_refused}")
 }
 
 /// The real system: its working folder, and a folder with one file.
-pub fn print_system(rt: &HostRuntime) -> io::Result<()> {
+fn print_system(rt: &HostRuntime) -> io::Result<()> {
     let mut folders = Folders::new(*rt);
     print_kind(rt, &mut folders, "")?;
     print_kind(rt, &mut folders, "no such name")?;
@@ -221,4 +221,14 @@ pub fn print_system(rt: &HostRuntime) -> io::Result<()> {
     print_kind(rt, &mut folders, "listed/a/x")?;
     fs::remove_file(rt, "listed/a")?;
     fs::remove_dir(rt, "listed")
+}
+
+pub fn print_rows(rt: &HostRuntime) -> io::Result<()> {
+    print_lookups(rt)?;
+    print_sealed(rt)?;
+    print_lists(rt)?;
+    print_starved_lists(rt)?;
+    print_all_items(rt)?;
+    print_duplicate(rt)?;
+    print_system(rt)
 }

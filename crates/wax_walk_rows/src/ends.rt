@@ -21,7 +21,7 @@ fn print_fault<D: Directory>(rt: &HostRuntime, name: &str, calls: u64, tree: D) 
 }
 
 /// Each call failing in turn, and each starving: one of `kind`, five of `open`, 15 of `next`; and one more.
-pub fn print_faults(rt: &HostRuntime) -> io::Result<()> {
+fn print_faults(rt: &HostRuntime) -> io::Result<()> {
     for calls in 0..22u64 {
         let failing = Failing::new(project(rt.alloc())?, calls);
         print_fault(rt, "failing", calls, failing)?;
@@ -65,7 +65,7 @@ fn print_ended<D: Directory>(rt: &HostRuntime, directories: (D, D, D)) -> io::Re
 
 /// A directory that fails later than it is asked, one that starves later, and one that fails before its
 /// budget is used up.
-pub fn print_all_ended(rt: &HostRuntime) -> io::Result<()> {
+fn print_all_ended(rt: &HostRuntime) -> io::Result<()> {
     let alloc = rt.alloc();
     print_ended(rt, (project(alloc)?, project(alloc)?, project(alloc)?))?;
     print_ended(
@@ -88,7 +88,7 @@ pub fn print_all_ended(rt: &HostRuntime) -> io::Result<()> {
 }
 
 /// Over its budget a walk gives a beginning of what it gives without one, then one error and no more.
-pub fn print_budgets(rt: &HostRuntime) -> io::Result<()> {
+fn print_budgets(rt: &HostRuntime) -> io::Result<()> {
     for budget in 0..11u32 {
         print_within(rt, "over budget", project(rt.alloc())?, budget)?;
     }
@@ -96,7 +96,7 @@ pub fn print_budgets(rt: &HostRuntime) -> io::Result<()> {
 }
 
 /// After error 17 nothing more comes.
-pub fn print_starved(rt: &HostRuntime) -> io::Result<()> {
+fn print_starved(rt: &HostRuntime) -> io::Result<()> {
     for calls in &[0u64, 1, 4] {
         let starving = Starving::new(project(rt.alloc())?, *calls);
         print_within(rt, "after 17", starving, u32::MAX)?;
@@ -129,7 +129,7 @@ const WAYS: &[(&str, &[&str], usize, usize)] = &[
 ];
 
 /// Walks to a place: from there on, or one error; also to and through what can't be listed.
-pub fn print_ways(rt: &HostRuntime) -> io::Result<()> {
+fn print_ways(rt: &HostRuntime) -> io::Result<()> {
     for (plan, names, min, max) in WAYS {
         let range = Range {
             min: *min,
@@ -139,4 +139,12 @@ pub fn print_ways(rt: &HostRuntime) -> io::Result<()> {
         print_way(rt, "way", tree_of(rt.alloc(), plan)?, names, range)?;
     }
     Ok(())
+}
+
+pub fn print_rows(rt: &HostRuntime) -> io::Result<()> {
+    print_faults(rt)?;
+    print_budgets(rt)?;
+    print_starved(rt)?;
+    print_all_ended(rt)?;
+    print_ways(rt)
 }

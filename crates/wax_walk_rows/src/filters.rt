@@ -55,7 +55,7 @@ const ONCE: &[(&str, &str, EntryResidue)] = &[
 ];
 
 /// What lies at a path is left out by one filter.
-pub fn print_filtered(rt: &HostRuntime) -> io::Result<()> {
+fn print_filtered(rt: &HostRuntime) -> io::Result<()> {
     for (name, path, residue) in ONCE {
         print_without(rt, name, project(rt)?, path, *residue, false)?;
     }
@@ -71,7 +71,7 @@ const TWICE: &[(&str, &str, EntryResidue, EntryResidue, bool)] = &[
 ];
 
 /// What lies at a path is left out by one filter and then by another.
-pub fn print_filtered_twice(rt: &HostRuntime) -> io::Result<()> {
+fn print_filtered_twice(rt: &HostRuntime) -> io::Result<()> {
     for (name, path, first, second, is_feed) in TWICE {
         let first = *first;
         let once = project(rt)?.filter_entry(|entry| leaves_out(entry, path, first));
@@ -81,7 +81,7 @@ pub fn print_filtered_twice(rt: &HostRuntime) -> io::Result<()> {
 }
 
 /// What lies below an item is cancelled once and again.
-pub fn print_cancelling(rt: &HostRuntime) -> io::Result<()> {
+fn print_cancelling(rt: &HostRuntime) -> io::Result<()> {
     let mut walk = project(rt)?;
     print!(rt; "cancelled below src, twice:")?;
     while let Some(item) = walk.next() {
@@ -136,7 +136,7 @@ where
 }
 
 /// Feeds with faults, of a rule, and of a rule over another.
-pub fn print_rules(rt: &HostRuntime) -> io::Result<()> {
+fn print_rules(rt: &HostRuntime) -> io::Result<()> {
     let tree = tree_of(rt.alloc(), FAULTY)?;
     print_feed(rt, "faults", "".walk(rt.alloc(), tree))?;
     print_rule(rt, "a rule, depth 2", project(rt)?, 2, ALONE)?;
@@ -148,4 +148,11 @@ pub fn print_rules(rt: &HostRuntime) -> io::Result<()> {
     };
     let walk = project(rt)?.without(rt.alloc(), inner);
     print_rule(rt, "two rules", walk, 2, BELOW)
+}
+
+pub fn print_rows(rt: &HostRuntime) -> io::Result<()> {
+    print_filtered(rt)?;
+    print_filtered_twice(rt)?;
+    print_cancelling(rt)?;
+    print_rules(rt)
 }

@@ -102,7 +102,7 @@ fn third(number: u8) -> u8 {
 }
 
 /// Items with a mark, and items that are kept no longer.
-pub fn print_marks(rt: &HostRuntime) -> io::Result<()> {
+fn print_marks(rt: &HostRuntime) -> io::Result<()> {
     let kept: Filtrate<u8> = Product::new(3);
     let none: Filtrate<Option<u8>> = Product::new(None);
     let err: Residue<Result<u8, u8>> = Product::new(Err(4));
@@ -147,7 +147,7 @@ fn residues_hash_alike<T: Hash>(first: &TreeResidue<T>, second: &TreeResidue<T>)
 }
 
 /// Equal values hash alike.
-pub fn print_hashes(rt: &HostRuntime) -> io::Result<()> {
+fn print_hashes(rt: &HostRuntime) -> io::Result<()> {
     let kept: Filtrate<u8> = Product::new(3);
     let tree: TreeResidue<u8> = TreeResidue::Tree(3);
     println!(rt;
@@ -167,7 +167,7 @@ fn residue_of(separation: Separation<(u8, TreeResidue<u8>)>) -> Option<TreeResid
 }
 
 /// How much is left out.
-pub fn print_residues(rt: &HostRuntime) -> io::Result<()> {
+fn print_residues(rt: &HostRuntime) -> io::Result<()> {
     let tree: TreeResidue<u8> = TreeResidue::Tree(6);
     let lent = **tree.as_ref().get();
     println!(rt;
@@ -179,7 +179,7 @@ pub fn print_residues(rt: &HostRuntime) -> io::Result<()> {
 }
 
 /// What is kept, and then left out; what is kept, if it is there.
-pub fn print_separations(rt: &HostRuntime) -> io::Result<()> {
+fn print_separations(rt: &HostRuntime) -> io::Result<()> {
     let kept: Separation<(u8, TreeResidue<u8>)> = Separation::Filtrate(Product::new(6));
     let item = kept.as_filtrate().map(|x| x.into_inner());
     let out = kept.filter_map_node(half);
@@ -195,7 +195,7 @@ pub fn print_separations(rt: &HostRuntime) -> io::Result<()> {
 }
 
 /// Cancelling skips what lies below, and twice is once.
-pub fn print_cancelling(rt: &HostRuntime) -> io::Result<()> {
+fn print_cancelling(rt: &HostRuntime) -> io::Result<()> {
     for is_twice in [false, true] {
         let mut names = walk();
         let first = names.next();
@@ -211,7 +211,7 @@ pub fn print_cancelling(rt: &HostRuntime) -> io::Result<()> {
 }
 
 /// A tree that is left out drops what lies below; a node is left out alone.
-pub fn print_left_out(rt: &HostRuntime) -> io::Result<()> {
+fn print_left_out(rt: &HostRuntime) -> io::Result<()> {
     for residue in [TreeResidue::Tree(()), TreeResidue::Node(())] {
         let mut kept = walk().filter_tree_by_substituent(|x| (x.0 == 'b').then_some(residue));
         let items = [
@@ -239,7 +239,7 @@ where
 }
 
 /// A closure turns the first three items, and cancels below one of them.
-pub fn print_turned(rt: &HostRuntime) -> io::Result<()> {
+fn print_turned(rt: &HostRuntime) -> io::Result<()> {
     let mut kept = walk().filter_map_tree(|cancellation, item: Separation<Entries>| {
         cancel_if(cancellation, item.substituent(|x| x.0) == Some('b'));
         item.map_filtrate(|x| x.0)
@@ -250,7 +250,7 @@ pub fn print_turned(rt: &HostRuntime) -> io::Result<()> {
 }
 
 /// An item becomes a tree, and what lies below is cancelled.
-pub fn print_tree_of_item(rt: &HostRuntime) -> io::Result<()> {
+fn print_tree_of_item(rt: &HostRuntime) -> io::Result<()> {
     let mut names = walk();
     let first = names.next();
     let kept: Separation<(u8, TreeResidue<u8>)> = Separation::Filtrate(Product::new(6));
@@ -260,7 +260,7 @@ pub fn print_tree_of_item(rt: &HostRuntime) -> io::Result<()> {
 }
 
 /// An entry is asked; one that is left out with what lies below is still asked.
-pub fn print_asked(rt: &HostRuntime) -> io::Result<()> {
+fn print_asked(rt: &HostRuntime) -> io::Result<()> {
     let kept: Separation<Entries> = Separation::Filtrate(Product::new(FIVE[0]));
     let depth = kept.substituent(|x| x.1);
     let mut names = walk();
@@ -276,4 +276,16 @@ pub fn print_asked(rt: &HostRuntime) -> io::Result<()> {
         out.substituent(|x| x.0),
         names.next()
     )
+}
+
+pub fn print_rows(rt: &HostRuntime) -> io::Result<()> {
+    print_marks(rt)?;
+    print_hashes(rt)?;
+    print_residues(rt)?;
+    print_separations(rt)?;
+    print_cancelling(rt)?;
+    print_left_out(rt)?;
+    print_turned(rt)?;
+    print_tree_of_item(rt)?;
+    print_asked(rt)
 }

@@ -16,7 +16,7 @@ fn print_range(rt: &HostRuntime, name: &str, plan: &str, depth: DepthBehavior) -
 }
 
 /// Ranges of depths.
-pub fn print_ranges(rt: &HostRuntime) -> io::Result<()> {
+fn print_ranges(rt: &HostRuntime) -> io::Result<()> {
     let from_two = DepthMin::from_min_or_unbounded(2);
     print_range(rt, "all", PROJECT, DepthBehavior::Unbounded)?;
     print_range(rt, "at most 0", PROJECT, DepthBehavior::from(DepthMax(0)))?;
@@ -49,7 +49,7 @@ const STARTS: &[(&str, &str, &str)] = &[
     ("faults", FAULTY, ""),
 ];
 
-pub fn print_starts(rt: &HostRuntime) -> io::Result<()> {
+fn print_starts(rt: &HostRuntime) -> io::Result<()> {
     for (name, plan, start) in STARTS {
         let tree = tree_of(rt.alloc(), plan)?;
         print_walk(rt, name, start.walk(rt.alloc(), tree))?;
@@ -82,7 +82,7 @@ fn large(alloc: Global) -> Result<Node, AllocError> {
 
 /// Each budget from 0 to 10, where 10 items are to be taken. A budget of one item: in a folder of 100,000,
 /// and where the first item can't be listed.
-pub fn print_budgets(rt: &HostRuntime) -> io::Result<()> {
+fn print_budgets(rt: &HostRuntime) -> io::Result<()> {
     for budget in 0..11u32 {
         print_within(rt, "10", tree_of(rt.alloc(), PROJECT)?, budget)?;
     }
@@ -123,7 +123,7 @@ pub fn names_of(alloc: Global, names: &[&str]) -> Result<Vec<String>, AllocError
 
 /// Places in walks from starts. The entries of a walk to a place tell the root that they were given, and all
 /// names below it.
-pub fn print_all_places(rt: &HostRuntime) -> io::Result<()> {
+fn print_all_places(rt: &HostRuntime) -> io::Result<()> {
     let alloc = rt.alloc();
     for start in ["", "tests", "tests/", "/"] {
         print_places(rt, start.walk(alloc, tree_of(alloc, PROJECT)?))?;
@@ -164,7 +164,7 @@ const ENTRIES: &[(&str, &str)] = &[
     (SEALED, ""),
 ];
 
-pub fn print_whole(rt: &HostRuntime) -> io::Result<()> {
+fn print_whole(rt: &HostRuntime) -> io::Result<()> {
     for (plan, start) in ENTRIES {
         print_entries(rt, plan, start, WalkBehavior::default())?;
     }
@@ -187,7 +187,7 @@ const COUNTED: &[(&[&str], usize)] = &[
 ];
 
 /// Each place on the way is asked for once.
-pub fn print_ways_counted(rt: &HostRuntime) -> io::Result<()> {
+fn print_ways_counted(rt: &HostRuntime) -> io::Result<()> {
     let alloc = rt.alloc();
     for (names, max) in COUNTED {
         let range = Range {
@@ -204,4 +204,13 @@ pub fn print_ways_counted(rt: &HostRuntime) -> io::Result<()> {
         print_counted(rt, items.as_slice(), &tree)?;
     }
     Ok(())
+}
+
+pub fn print_rows(rt: &HostRuntime) -> io::Result<()> {
+    print_ranges(rt)?;
+    print_starts(rt)?;
+    print_budgets(rt)?;
+    print_all_places(rt)?;
+    print_whole(rt)?;
+    print_ways_counted(rt)
 }
