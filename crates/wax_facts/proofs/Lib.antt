@@ -12,6 +12,7 @@ pub mod Exhaustives
 pub mod FoldTable
 pub mod FoldedAlone
 pub mod Fronts
+pub mod Insides
 pub mod Lists
 pub mod Moved
 pub mod NoBreak
@@ -32,6 +33,7 @@ pub mod PrefixWhole
 pub mod ReadsFull
 pub mod ReadsWorded
 pub mod RestOrderly
+pub mod RestSteps
 pub mod Roots
 pub mod Seams
 pub mod Sizes

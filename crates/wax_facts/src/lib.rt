@@ -7,6 +7,7 @@ mod invariant;
 mod opened;
 mod optional;
 mod prefix;
+mod rest;
 mod root;
 
 pub use exhaustive::is_exhaustive;

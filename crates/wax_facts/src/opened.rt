@@ -1,11 +1,13 @@
 //! The tokens of a glob, where a last branch of one sub-glob stands open.
-ghost use Rattle.std.specs.Prelude.{◌≡◌, ◌<◌, ◌≤◌, ◌+◌, ℕ, MatchOption};
+ghost use Rattle.std.specs.Prelude.{◌≡◌, ◌<◌, ◌≤◌, ◌+◌, ℕ, MatchOption, None, Some};
 ghost use Rattle.wax_token.specs.Syntax.{more, none, tree_size, trees_size};
 ghost use Rattle.wax_token.specs.Words.{trees};
-ghost use Rattle.wax_facts.specs.Prefix.{opened, opened_last};
+ghost use Rattle.wax_facts.specs.Prefix.{is_tree, opened, opened_last};
+ghost use Rattle.wax_facts.specs.Rest.{begins_with_tree};
+ghost use Rattle.wax_facts.specs.inner.Bodies.{open_body};
 ghost use Rattle.wax_facts.specs.inner.Opening.{IsOpened};
 
-use wax_token::token::{Annotation, BranchKind, Token};
+use wax_token::token::{Annotation, BranchKind, LeafKind, Token, Wildcard};
 
 /// The tokens of a glob, or those of the innermost sub-glob where the last token alone is left and stands
 /// open.
@@ -23,8 +25,7 @@ pub fn opened_from<'i, 't, A: Annotation>(tokens: &'i [Token<'t, A>]) -> &'i [To
     tokens
 }
 
-// The tokens that stand in the place of a last token: those of a glob, of an only branch and of exactly one
-// copy.
+// The tokens that stand in the place of a last token: those of a glob or of the sub-glob that stands open.
 fn tokens_inside<'i, 't, A: Annotation>(token: &'i Token<'t, A>) -> Option<&'i [Token<'t, A>]>
     ensures tokens { MatchOption result (opened token.now ≡ more token.now none) (λ inside.
         opened_last (trees inside.now) ≡ opened token.now) }
@@ -32,11 +33,37 @@ fn tokens_inside<'i, 't, A: Annotation>(token: &'i Token<'t, A>) -> Option<&'i [
         trees_size (trees inside.now) < tree_size token.now + 1) }
 {
     match token.as_branch()? {
-        BranchKind::Alternation(a) if a.tokens.len() == 1 => Some(a.tokens()),
         BranchKind::Concatenation(c) => Some(c.tokens()),
-        BranchKind::Repetition(r) if r.lower == 1 && r.upper == Some(1) => {
-            Some(r.token().concatenation())
-        }
+        _ => Some(open_body(token)?.concatenation()),
+    }
+}
+
+/// The only branch of an alternation, and the body of exactly one copy.
+pub fn open_body<'i, 't, A>(token: &'i Token<'t, A>) -> Option<&'i Token<'t, A>>
+    ensures { MatchOption result (open_body token.now ≡ None) (λ b. open_body token.now ≡ Some b.now) }
+{
+    match token.as_branch()? {
+        BranchKind::Alternation(a) if a.tokens.len() == 1 => a.tokens.first(),
+        BranchKind::Repetition(r) if r.lower == 1 && r.upper == Some(1) => Some(r.token()),
         _ => None,
+    }
+}
+
+/// Whether the opened list of the glob begins with `**`.
+pub fn begins_with_tree<'t, A: Annotation>(glob: &Token<'t, A>) -> bool
+    ensures { result ≡ begins_with_tree (opened glob.now) }
+{
+    match opened_from(glob.concatenation()).first() {
+        Some(first) => is_tree(first),
+        None => false,
+    }
+}
+
+pub fn is_tree<'t, A>(token: &Token<'t, A>) -> bool
+    ensures { result ≡ is_tree token.now }
+{
+    match token.as_leaf() {
+        Some(LeafKind::Wildcard(wildcard)) => matches!(wildcard, Wildcard::Tree { .. }),
+        _ => false,
     }
 }

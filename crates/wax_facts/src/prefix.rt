@@ -7,11 +7,11 @@ ghost use Rattle.wax_facts.specs.Prefix.{CutBefore, IsRooted, Prefix, is_separat
 ghost use Rattle.wax_facts.specs.inner.Opening.{IsOpened};
 
 use crate::invariant::text;
-use crate::opened::opened_from;
+use crate::opened::{is_tree, opened_from};
 use crate::root::has_root;
 use std::alloc::Global;
 use wax_query::diagnostics::NoMemory;
-use wax_token::token::{Annotation, LeafKind, Token, Wildcard};
+use wax_token::token::{Annotation, LeafKind, Token};
 
 /// The prefix of a glob, and how many tokens it takes, of those of the glob where a last alternation of
 /// one branch or a last repetition of exactly one copy stands open: the text before the first token that
@@ -78,15 +78,6 @@ fn cut_prefix<'t, A: Annotation>(
     }
     cut.1.push_str(after_slash.as_str())?;
     Ok((taken, cut.1))
-}
-
-fn is_tree<'t, A>(token: &Token<'t, A>) -> bool
-    ensures { result ≡ is_tree token.now }
-{
-    match token.as_leaf() {
-        Some(LeafKind::Wildcard(wildcard)) => matches!(wildcard, Wildcard::Tree { .. }),
-        _ => false,
-    }
 }
 
 fn is_separator<'t, A>(token: &Token<'t, A>) -> bool

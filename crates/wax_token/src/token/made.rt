@@ -1,9 +1,9 @@
-//! How tokens are made.
+//! How tokens are made and taken apart.
 ghost use Rattle.std.specs.Prelude.{◌≡◌, false, []};
 ghost use Rattle.wax_token.specs.Syntax.{leaf, literal};
-ghost use Rattle.wax_token.specs.View.{leaf_of, branch_tree};
+ghost use Rattle.wax_token.specs.View.{leaf_of, branch_tree, topology_tree};
 
-use super::{BranchKind, LeafKind, Literal, Token, Topology};
+use super::{BranchKind, LeafKind, Literal, Token, TokenTopology, Topology};
 use std::borrow::CowStr;
 
 impl<'t, A> Token<'t, A> {
@@ -15,6 +15,13 @@ impl<'t, A> Token<'t, A> {
             LeafKind::Literal(Literal::new(CowStr::Borrowed(""), false)),
             annotation,
         )
+    }
+
+    /// What the token is, and its annotation.
+    pub fn into_parts(self) -> (TokenTopology<'t, A>, A)
+        ensures { topology_tree result.0 result.1 ≡ self.entry }
+    {
+        (self.topology, self.annotation)
     }
 }
 
