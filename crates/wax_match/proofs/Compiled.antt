@@ -1,14 +1,17 @@
 -- The instructions of a token tree lead through exactly the texts that the tree means.
-use Rattle.std.proofs.Common.{◌≡◌, ℕ, zero, suc, ◌+◌, ◌-◌, ◌<◌, ◌≤◌, ◌⊎◌, ◌||◌, Bool, true, false, List, [], ◌∷◌, ◌++◌, Option, Some, None, nat_le, if◌then◌else◌, refl, sym, ◌∙◌, ap, subst, inl, inr, arith, rules, append_assoc, append-nil}
+use Rattle.std.proofs.Common.{◌≡◌, ℕ, zero, suc, ◌+◌, ◌-◌, ◌<◌, ◌≤◌, ◌⊎◌, Bool, true, false, List, [], ◌∷◌, ◌++◌, Option, Some, None, nat_le, if◌then◌else◌, refl, sym, ◌∙◌, ap, subst, inl, inr, arith, rules}
 use Rattle.wax_program.specs.declared.instruction.Test.TheVariants.{Char, Folded, Class, NotSlash, Any, Never}
 use Rattle.wax_program.specs.declared.instruction.Instruction.{Instruction}
 use Rattle.wax_program.specs.declared.instruction.Instruction.TheVariants.{Repeat, Components}
 use Rattle.unicode.specs.CaseFolding.{simple_fold}
 use Rattle.wax_token.specs.Syntax.{Leaf, literal, class, separator, one, zero_or_more, tree, Tree, leaf, alternation, concatenation, repetition, Trees, none, more}
 use Rattle.wax_token.specs.Meaning.{Begins, Ends, TreeMeans, HasNoSlash, SameFold, SameText, LeafMeans, Copies, AtMost, Means, MeansSome, MeansEach}
-use Rattle.wax_token.specs.Cost.{is_tree, holds_tree, some_holds_tree}
+use Rattle.wax_token.specs.Cost.{holds_tree}
 use Rattle.wax_match.specs.Code.{slash, never, skip, choose, literal_code, wildcard_code, leaf_code, copies_code, up_to_code, counted_code, many_code, copied_code, tree_code, branches_code, sequence_code}
-use Rattle.wax_match.proofs.Fragments.{Spells, OneOf, OneThen, Many, AnyNumber, spells_empty, spells_test, spells_repeat, spells_components, spells_append, spells_same, spells_loop, spells_skip, spells_choose}
+use Rattle.wax_match.proofs.Fragments.{Spells, OneOf, spells_empty, spells_test, spells_repeat, spells_components, spells_append, spells_same, spells_loop, spells_skip, spells_choose}
+use Rattle.wax_token.proofs.Copies.{Many, ManyWithin, OneThen, Repeats, TwoMore, open_from, open_to}
+use Rattle.wax_token.proofs.Copies.{many_add, many_split, same_from, same_to, two_more_from, two_more_to}
+use Rattle.wax_token.proofs.Moved.{means_moved}
 
 pub spells_slash : Spells slash (λ s. s ≡ 47 ∷ [])
 spells_slash = spells_same (λ s h. h.1 ∙ ap (λ c. c ∷ []) h.2) (λ s h. (47, h, refl)) (spells_test (Char 47))
@@ -91,12 +94,9 @@ le_from m n e = search rules
 pub not_le_from : (m n : ℕ) → nat_le m n ≡ false → m ≤ n → ⊥
 not_le_from m n e h = search rules
 
--- at most n texts of P; as many as the bounds say
+-- at most n texts of P
 abbrev pub UpTo : (List ℕ → Type 0) → ℕ → List ℕ → Type 0
 UpTo P n s = (k : ℕ) × (k ≤ n) × Many P k s
-
-abbrev pub Counted : (List ℕ → Type 0) → ℕ → Option ℕ → List ℕ → Type 0
-Counted P low high s = (k : ℕ) × (low ≤ k) × AtMost k high × Many P k s
 
 module _ {a : List Instruction} {P : List ℕ → Type 0} (f : Spells a P) where
   spells_copies : (n : ℕ) → Spells (copies_code n a) (Many P n)
@@ -119,86 +119,29 @@ module _ {a : List Instruction} {P : List ℕ → Type 0} (f : Spells a P) where
       none_left (suc k) s le h = absurd (omega (arith, le))
   spells_up_to (suc n) = spells_same (up_to_from n) (λ s h. up_to_to n h.0 s h.1 h.2) (spells_skip (spells_append f (spells_up_to n)))
 
-  many_add : (m n : ℕ) (x y : List ℕ) → Many P m x → Many P n y → Many P (m + n) (x ++ y)
-  many_add zero n x y h k = let e : n ≡ 0 + n = omega arith in subst (λ z. Many P z (x ++ y)) e (subst (λ z. Many P n (z ++ y)) (sym h) k)
-  many_add (suc m) n x y h k = let e : suc (m + n) ≡ suc m + n = omega arith in
-      subst (λ z. Many P z (x ++ y)) e (h.0, h.1 ++ y, ap (λ z. z ++ y) h.2 ∙ append_assoc h.0 h.1 y, h.3, many_add m n h.1 y h.4 k)
+  closed_from : (low high : ℕ) → low ≤ high → (s : List ℕ) → OneThen (Many P low) (UpTo P (high - low)) s → ManyWithin P low (Some high) s
+  closed_from low high le s h = (low + h.4.0, omega arith, omega (arith, h.4.1, le), subst (Many P (low + h.4.0)) (sym h.2) (many_add P low h.4.0 h.0 h.1 h.3 h.4.2))
 
-  many_split : (m n : ℕ) (s : List ℕ) → Many P (m + n) s → OneThen (Many P m) (Many P n) s
-  many_split zero n s h = let e : 0 + n ≡ n = omega arith in ([], s, refl, refl, subst (λ z. Many P z s) e h)
-  many_split (suc m) n s h =
-      let e : suc m + n ≡ suc (m + n) = omega arith in
-      let g : Many P (suc (m + n)) s = subst (λ z. Many P z s) e h in
-      let r : OneThen (Many P m) (Many P n) g.1 = many_split m n g.1 g.4 in
-      (g.0 ++ r.0, r.1, g.2 ∙ ap (λ z. g.0 ++ z) r.2 ∙ sym (append_assoc g.0 r.0 r.1), (g.0, r.0, refl, g.3, r.3), r.4)
-
-  open_from : (low : ℕ) (s : List ℕ) → OneThen (Many P low) (AnyNumber P) s → Counted P low None s
-  open_from low s h = (low + h.4.0, omega arith, tt, subst (Many P (low + h.4.0)) (sym h.2) (many_add low h.4.0 h.0 h.1 h.3 h.4.1))
-
-  open_to : (low : ℕ) (s : List ℕ) → Counted P low None s → OneThen (Many P low) (AnyNumber P) s
-  open_to low s h =
-      let e : h.0 ≡ low + (h.0 - low) = omega (arith, h.1) in
-      let r : OneThen (Many P low) (Many P (h.0 - low)) s = many_split low (h.0 - low) s (subst (λ z. Many P z s) e h.3) in
-      (r.0, r.1, r.2, r.3, (h.0 - low, r.4))
-
-  closed_from : (low high : ℕ) → low ≤ high → (s : List ℕ) → OneThen (Many P low) (UpTo P (high - low)) s → Counted P low (Some high) s
-  closed_from low high le s h = (low + h.4.0, omega arith, omega (arith, h.4.1, le), subst (Many P (low + h.4.0)) (sym h.2) (many_add low h.4.0 h.0 h.1 h.3 h.4.2))
-
-  closed_to : (low high : ℕ) → (s : List ℕ) → Counted P low (Some high) s → OneThen (Many P low) (UpTo P (high - low)) s
+  closed_to : (low high : ℕ) → (s : List ℕ) → ManyWithin P low (Some high) s → OneThen (Many P low) (UpTo P (high - low)) s
   closed_to low high s h =
       let e : h.0 ≡ low + (h.0 - low) = omega (arith, h.1) in
-      let r : OneThen (Many P low) (Many P (h.0 - low)) s = many_split low (h.0 - low) s (subst (λ z. Many P z s) e h.3) in
+      let r : OneThen (Many P low) (Many P (h.0 - low)) s = many_split P low (h.0 - low) s (subst (λ z. Many P z s) e h.3) in
       (r.0, r.1, r.2, r.3, (h.0 - low, omega (arith, h.1, h.2), r.4))
 
   spells_closed : (low high : ℕ) (b : Bool) → nat_le low high ≡ b →
-      Spells (if b then copies_code low a ++ up_to_code (high - low) a else never) (Counted P low (Some high))
+      Spells (if b then copies_code low a ++ up_to_code (high - low) a else never) (ManyWithin P low (Some high))
   spells_closed low high true e = spells_same (closed_from low high (le_from low high e)) (closed_to low high) (spells_append (spells_copies low) (spells_up_to (high - low)))
   spells_closed low high false e = spells_same (λ s h. absurd h) (λ s h. not_le_from low high e (omega (arith, h.1, h.2))) spells_never
 
-  pub spells_counted : (low : ℕ) (high : Option ℕ) → Spells (counted_code low high a) (Counted P low high)
-  spells_counted low None = spells_same (open_from low) (open_to low) (spells_append (spells_copies low) (spells_loop f))
+  pub spells_counted : (low : ℕ) (high : Option ℕ) → Spells (counted_code low high a) (ManyWithin P low high)
+  spells_counted low None = spells_same (open_from P low) (open_to P low) (spells_append (spells_copies low) (spells_loop f))
   spells_counted low (Some high) = spells_closed low high (nat_le low high) refl
 
 -- ---- repetitions
 module _ (Body : Bool → Bool → List ℕ → Type 0) where
-  abbrev pub Repeats : ℕ → Option ℕ → Bool → Bool → List ℕ → Type 0
-  Repeats low high before after s = (k : ℕ) × (low ≤ k) × AtMost k high × Copies k Body before after s
-
-  -- the copies after the first: all but the last have others on both sides
-  tail_to : (k : ℕ) (after : Bool) (s : List ℕ) → Copies (suc k) Body true after s → OneThen (Many (Body true true) k) (Body true after) s
-  tail_to zero after s h = ([], s, refl, refl, h)
-  tail_to (suc k) after s h =
-      let r : OneThen (Many (Body true true) k) (Body true after) h.1 = tail_to k after h.1 h.4 in
-      (h.0 ++ r.0, r.1, h.2 ∙ ap (λ z. h.0 ++ z) r.2 ∙ sym (append_assoc h.0 r.0 r.1), (h.0, r.0, refl, h.3, r.3), r.4)
-
-  tail_from : (k : ℕ) (after : Bool) (s : List ℕ) → OneThen (Many (Body true true) k) (Body true after) s → Copies (suc k) Body true after s
-  tail_from zero after s h = subst (Body true after) (sym (h.2 ∙ ap (λ z. z ++ h.1) h.3)) h.4
-  tail_from (suc k) after s h = (
-    h.3.0,
-    h.3.1 ++ h.1,
-    h.2 ∙ ap (λ z. z ++ h.1) h.3.2 ∙ append_assoc h.3.0 h.3.1 h.1,
-    h.3.3,
-    tail_from k after (h.3.1 ++ h.1) (h.3.1, h.1, refl, h.3.4, h.4),
-  )
-
-  -- two copies or more
-  abbrev pub TwoOrMore : ℕ → Option ℕ → Bool → Bool → List ℕ → Type 0
-  TwoOrMore low high before after s = (k : ℕ) × (low ≤ k) × AtMost k high × Copies (suc (suc k)) Body before after s
-
-  many_from : (low : ℕ) (high : Option ℕ) (before after : Bool) (s : List ℕ) →
-      OneThen (Body before true) (OneThen (Counted (Body true true) low high) (Body true after)) s → TwoOrMore low high before after s
-  many_from low high before after s h =
-      (h.4.3.0, h.4.3.1, h.4.3.2, (h.0, h.1, h.2, h.3, tail_from h.4.3.0 after h.1 (h.4.0, h.4.1, h.4.2, h.4.3.3, h.4.4)))
-
-  many_to : (low : ℕ) (high : Option ℕ) (before after : Bool) (s : List ℕ) →
-      TwoOrMore low high before after s → OneThen (Body before true) (OneThen (Counted (Body true true) low high) (Body true after)) s
-  many_to low high before after s h =
-      let r : OneThen (Many (Body true true) h.0) (Body true after) h.3.1 = tail_to h.0 after h.3.1 h.3.4 in
-      (h.3.0, h.3.1, h.3.2, h.3.3, (r.0, r.1, r.2, (h.0, h.1, h.2, r.3), r.4))
-
   module _ {code : Bool → Bool → List Instruction} (f : (before after : Bool) → Spells (code before after) (Body before after)) where
-    spells_many : (low : ℕ) (high : Option ℕ) (before after : Bool) → Spells (many_code low high code before after) (TwoOrMore low high before after)
-    spells_many low high before after = spells_same (many_from low high before after) (many_to low high before after)
+    spells_many : (low : ℕ) (high : Option ℕ) (before after : Bool) → Spells (many_code low high code before after) (TwoMore Body low high before after)
+    spells_many low high before after = spells_same (two_more_from Body low high before after) (two_more_to Body low high before after)
         (spells_append (f before true) (spells_append (spells_counted (f true true) low high) (f true after)))
 
   abbrev two_more : Option ℕ → Option ℕ
@@ -219,31 +162,31 @@ module _ (Body : Bool → Bool → List ℕ → Type 0) where
 
   module _ (before after : Bool) (s : List ℕ) where
     any_to : (high : Option ℕ) (k : ℕ) → AtMost k (two_more high) → Copies k Body before after s →
-        (s ≡ []) ⊎ (Body before after s ⊎ TwoOrMore 0 high before after s)
+        (s ≡ []) ⊎ (Body before after s ⊎ TwoMore Body 0 high before after s)
     any_to high zero le c = inl c
     any_to high (suc zero) le c = inr (inl c)
     any_to high (suc (suc k)) le c = inr (inr (k, omega arith, fewer k high le, c))
 
     some_to : (high : Option ℕ) (k : ℕ) → 1 ≤ k → AtMost k (two_more high) → Copies k Body before after s →
-        Body before after s ⊎ TwoOrMore 0 high before after s
+        Body before after s ⊎ TwoMore Body 0 high before after s
     some_to high zero low le c = absurd (omega (arith, low))
     some_to high (suc zero) low le c = inl c
     some_to high (suc (suc k)) low le c = inr (k, omega arith, fewer k high le, c)
 
-    some_from : (low : ℕ) (high : Option ℕ) → low ≤ 1 → Body before after s ⊎ TwoOrMore 0 high before after s → Repeats low (two_more high) before after s
+    some_from : (low : ℕ) (high : Option ℕ) → low ≤ 1 → Body before after s ⊎ TwoMore Body 0 high before after s → Repeats Body low (two_more high) before after s
     some_from low high l (inl p) = (1, l, few 1 high (omega arith), p)
     some_from low high l (inr h) = (suc (suc h.0), omega (arith, l), further h.0 high h.2, h.3)
 
-    any_from : (high : Option ℕ) → (s ≡ []) ⊎ (Body before after s ⊎ TwoOrMore 0 high before after s) → Repeats 0 (two_more high) before after s
+    any_from : (high : Option ℕ) → (s ≡ []) ⊎ (Body before after s ⊎ TwoMore Body 0 high before after s) → Repeats Body 0 (two_more high) before after s
     any_from high (inl e) = (0, omega arith, few 0 high (omega arith), e)
     any_from high (inr h) = some_from 0 high (omega arith) h
 
-    many_more_to : (low : ℕ) (high : Option ℕ) (k : ℕ) → suc (suc low) ≤ k → AtMost k (two_more high) → Copies k Body before after s → TwoOrMore low high before after s
+    many_more_to : (low : ℕ) (high : Option ℕ) (k : ℕ) → suc (suc low) ≤ k → AtMost k (two_more high) → Copies k Body before after s → TwoMore Body low high before after s
     many_more_to low high zero l le c = absurd (omega (arith, l))
     many_more_to low high (suc zero) l le c = absurd (omega (arith, l))
     many_more_to low high (suc (suc k)) l le c = (k, omega (arith, l), fewer k high le, c)
 
-    many_more_from : (low : ℕ) (high : Option ℕ) → TwoOrMore low high before after s → Repeats (suc (suc low)) (two_more high) before after s
+    many_more_from : (low : ℕ) (high : Option ℕ) → TwoMore Body low high before after s → Repeats Body (suc (suc low)) (two_more high) before after s
     many_more_from low high h = (suc (suc h.0), omega (arith, h.1), further h.0 high h.2, h.3)
 
     at_one_to : (k : ℕ) → k ≤ 1 → Copies k Body before after s → (s ≡ []) ⊎ Body before after s
@@ -261,21 +204,21 @@ module _ (Body : Bool → Bool → List ℕ → Type 0) where
     zero_to (suc k) l c = absurd (omega (arith, l))
 
   module _ {code : Bool → Bool → List Instruction} (f : (before after : Bool) → Spells (code before after) (Body before after)) (before after : Bool) where
-    no_way : (low high : ℕ) → high < low → Spells never (Repeats low (Some high) before after)
+    no_way : (low high : ℕ) → high < low → Spells never (Repeats Body low (Some high) before after)
     no_way low high lt = spells_same (λ s h. absurd h) (λ s h. let e : high < high = omega (arith, lt, h.1, h.2) in omega (arith, e)) spells_never
 
-    any_way : (high : Option ℕ) → Spells (skip (choose (code before after) (many_code 0 high code before after))) (Repeats 0 (two_more high) before after)
+    any_way : (high : Option ℕ) → Spells (skip (choose (code before after) (many_code 0 high code before after))) (Repeats Body 0 (two_more high) before after)
     any_way high = spells_same (λ s. any_from before after s high) (λ s h. any_to before after s high h.0 h.2 h.3)
         (spells_skip (spells_choose (f before after) (spells_many f 0 high before after)))
 
-    some_way : (high : Option ℕ) → Spells (choose (code before after) (many_code 0 high code before after)) (Repeats 1 (two_more high) before after)
+    some_way : (high : Option ℕ) → Spells (choose (code before after) (many_code 0 high code before after)) (Repeats Body 1 (two_more high) before after)
     some_way high = spells_same (λ s. some_from before after s 1 high (omega arith)) (λ s h. some_to before after s high h.0 h.1 h.2 h.3)
         (spells_choose (f before after) (spells_many f 0 high before after))
 
-    many_way : (low : ℕ) (high : Option ℕ) → Spells (many_code low high code before after) (Repeats (suc (suc low)) (two_more high) before after)
+    many_way : (low : ℕ) (high : Option ℕ) → Spells (many_code low high code before after) (Repeats Body (suc (suc low)) (two_more high) before after)
     many_way low high = spells_same (λ s. many_more_from before after s low high) (λ s h. many_more_to before after s low high h.0 h.1 h.2 h.3) (spells_many f low high before after)
 
-    pub spells_copied : (low : ℕ) (high : Option ℕ) → Spells (copied_code low high code before after) (Repeats low high before after)
+    pub spells_copied : (low : ℕ) (high : Option ℕ) → Spells (copied_code low high code before after) (Repeats Body low high before after)
     spells_copied zero (Some zero) = spells_same (λ s e. (0, omega arith, omega arith, e)) (λ s h. zero_to before after s h.0 h.2 h.3) spells_empty
     spells_copied zero (Some (suc zero)) =
         spells_same (λ s h. elim h [ inl e ↦ (0, omega arith, omega arith, e) | inr p ↦ (1, omega arith, omega arith, p) ])
@@ -290,79 +233,6 @@ module _ (Body : Bool → Bool → List ℕ → Type 0) where
     spells_copied (suc (suc low)) (Some (suc zero)) = no_way (suc (suc low)) 1 (omega arith)
     spells_copied (suc (suc low)) (Some (suc (suc high))) = many_way low (Some high)
     spells_copied (suc (suc low)) None = many_way low None
-
--- ---- a tree without a tree wildcard means the same in each context
-neither : (a b : Bool) → (a || b) ≡ false → (a ≡ false) × (b ≡ false)
-neither true b e = absurd (yes_no e)
-  where
-    yes_no : true ≡ false → ⊥
-    yes_no h = cc
-neither false b e = (refl, e)
-
-copies_moved : (Body : Bool → Bool → List ℕ → Type 0) → ((b f b' f' : Bool) (s : List ℕ) → Body b f s → Body b' f' s) →
-    (k : ℕ) (b f b' f' : Bool) (s : List ℕ) → Copies k Body b f s → Copies k Body b' f' s
-copies_moved Body move zero b f b' f' s h = h
-copies_moved Body move (suc zero) b f b' f' s h = move b f b' f' s h
-copies_moved Body move (suc (suc k)) b f b' f' s h =
-    (h.0, h.1, h.2, move b true b' true h.0 h.3, copies_moved Body move (suc k) true f true f' h.1 h.4)
-
-leaf_moved : (l : Leaf) → is_tree l ≡ false → (b f b' f' : Bool) (s : List ℕ) → LeafMeans l b f s → LeafMeans l b' f' s
-leaf_moved (literal _ t) e b f b' f' s h = h
-leaf_moved (class _ _) e b f b' f' s h = h
-leaf_moved separator e b f b' f' s h = h
-leaf_moved one e b f b' f' s h = h
-leaf_moved (zero_or_more _) e b f b' f' s h = h
-leaf_moved (tree _) e b f b' f' s h = absurd (yes_no e)
-  where
-    yes_no : true ≡ false → ⊥
-    yes_no h = cc
-
-mutual
-  pub means_moved : {A : Type 0} (t : Tree A) → holds_tree t ≡ false → (b f b' f' : Bool) (s : List ℕ) → Means t b f s → Means t b' f' s
-  means_moved (leaf a l) e b f b' f' s h = leaf_moved l e b f b' f' s h
-  means_moved (alternation a ts) e b f b' f' s h = some_moved ts e b f b' f' s h
-  means_moved (concatenation a ts) e b f b' f' s h = each_moved ts e b f b' f' s h
-  means_moved (repetition a t low high) e b f b' f' s h = (h.0, h.1, h.2, copies_moved (Means t) (means_moved t e) h.0 b f b' f' s h.3)
-
-  some_moved : {A : Type 0} (ts : Trees A) → some_holds_tree ts ≡ false → (b f b' f' : Bool) (s : List ℕ) → MeansSome ts b f s → MeansSome ts b' f' s
-  some_moved none e b f b' f' s h = h
-  some_moved (more t ts) e b f b' f' s (inl h) = inl (means_moved t (neither (holds_tree t) (some_holds_tree ts) e).0 b f b' f' s h)
-  some_moved (more t ts) e b f b' f' s (inr h) = inr (some_moved ts (neither (holds_tree t) (some_holds_tree ts) e).1 b f b' f' s h)
-
-  each_moved : {A : Type 0} (ts : Trees A) → some_holds_tree ts ≡ false → (b f b' f' : Bool) (s : List ℕ) → MeansEach ts b f s → MeansEach ts b' f' s
-  each_moved none e b f b' f' s h = h
-  each_moved (more t none) e b f b' f' s h = means_moved t (neither (holds_tree t) false e).0 b f b' f' s h
-  each_moved (more t (more u us)) e b f b' f' s h = (
-    h.0,
-    h.1,
-    h.2,
-    means_moved t (neither (holds_tree t) (some_holds_tree (more u us)) e).0 b true b' true h.0 h.3,
-    each_moved (more u us) (neither (holds_tree t) (some_holds_tree (more u us)) e).1 true f true f' h.1 h.4,
-  )
-
--- where the context says nothing, the copies are texts of one meaning
-module _ (Body : Bool → Bool → List ℕ → Type 0) (move : (b f b' f' : Bool) (s : List ℕ) → Body b f s → Body b' f' s) where
-  same_to : (k : ℕ) (b f : Bool) (s : List ℕ) → Copies k Body b f s → Many (Body b f) k s
-  same_to zero b f s h = h
-  same_to (suc zero) b f s h = (s, [], sym (append-nil s), h, refl)
-  same_to (suc (suc k)) b f s h = (
-    h.0,
-    h.1,
-    h.2,
-    move b true b f h.0 h.3,
-    same_to (suc k) b f h.1 (copies_moved Body move (suc k) true f b f h.1 h.4),
-  )
-
-  same_from : (k : ℕ) (b f : Bool) (s : List ℕ) → Many (Body b f) k s → Copies k Body b f s
-  same_from zero b f s h = h
-  same_from (suc zero) b f s h = subst (Body b f) (sym (h.2 ∙ ap (λ z. h.0 ++ z) h.4 ∙ append-nil h.0)) h.3
-  same_from (suc (suc k)) b f s h = (
-    h.0,
-    h.1,
-    h.2,
-    move b f b true h.0 h.3,
-    copies_moved Body move (suc k) b f true f h.1 (same_from (suc k) b f h.1 h.4),
-  )
 
 -- ---- the main theorem
 mutual

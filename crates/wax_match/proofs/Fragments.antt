@@ -1,6 +1,7 @@
 -- Pieces of a program, and which texts lead through them.
 use Rattle.std.proofs.Common.{◌≡◌, ℕ, zero, suc, ◌+◌, ◌-◌, ◌≤◌, ◌⊎◌, List, [], ◌∷◌, ◌++◌, length, Some, slice_get, refl, sym, ◌∙◌, ap, subst, inl, inr, arith, length-append, append_assoc}
 use Rattle.std.proofs.lemmas.Option.{slice_get_within}
+use Rattle.wax_token.proofs.Copies.{AnyNumber, Many, OneThen}
 use Rattle.wax_program.specs.declared.instruction.Test.{Test}
 use Rattle.wax_program.specs.declared.instruction.Instruction.{Instruction}
 use Rattle.wax_program.specs.declared.instruction.Instruction.TheVariants.{Check, Repeat, Components, Fork, Jump, Back}
@@ -121,9 +122,6 @@ spells_components = record {
   complete = λ code at end x y st e p h. subst (λ z. Accepts code at (z ++ y)) (sym p.1) (components_complete code at end st.0 e p.0 y h);
 }
 
-abbrev pub OneThen : (List ℕ → Type 0) → (List ℕ → Type 0) → List ℕ → Type 0
-OneThen P Q s = (x : List ℕ) × (y : List ℕ) × (s ≡ x ++ y) × P x × Q y
-
 module _ {a b : List Instruction} {P Q : List ℕ → Type 0} where
   pub spells_append : Spells a P → Spells b Q → Spells (a ++ b) (OneThen P Q)
   spells_append f g = record {
@@ -156,14 +154,6 @@ module _ {a : List Instruction} {P Q : List ℕ → Type 0} where
         record { front = r.front; back = r.back; left = r.left; splits = r.splits; meant = to r.front r.meant; fewer = r.fewer; on = r.on };
     complete = λ code at end x y st e p h. f.complete code at end x y st e (from x p) h;
   }
-
--- zero or more texts of P
-abbrev pub Many : (List ℕ → Type 0) → ℕ → List ℕ → Type 0
-Many P zero s = s ≡ []
-Many P (suc k) s = OneThen P (Many P k) s
-
-abbrev pub AnyNumber : (List ℕ → Type 0) → List ℕ → Type 0
-AnyNumber P s = (k : ℕ) × Many P k s
 
 module _ {a : List Instruction} {P : List ℕ → Type 0} (f : Spells a P) where
   module _ (code : List Instruction) (at end : ℕ) (st : Stands code at (loop a)) (e : end ≡ at + length (loop a)) where

@@ -4,6 +4,5 @@ pub mod Fragments
 pub mod Lengths
 pub mod Rows
 pub mod Sequences
-pub mod Sizes
 pub mod Tails
 pub mod Whole

@@ -82,8 +82,3 @@ pub slash_begin : (text x y s : List ℕ) → IsUtf8 text → chars text ≡ x +
 unfolding lib.Utf8.encode
 slash_begin text x y s u f e =
     sym (encodes-chars text u) ∙ ap encode_utf8_all (f ∙ ap (λ z. z ++ y) e) ∙ encodes-append (47 ∷ []) (s ++ y)
-
-pub element_size : {A : Type 0} (ts : List (Tree A)) (i : ℕ) (t : Tree A) → i < length ts → t ≡ get_or ts i t → tree_size t < trees_size (trees ts)
-element_size [] i t h e = omega (arith, h)
-element_size (u ∷ ts) zero t h e = let f : tree_size t ≡ tree_size u = ap tree_size e in omega (arith, f)
-element_size (u ∷ ts) (suc i) t h e = omega (arith, element_size ts i t (omega (arith, h)) e)

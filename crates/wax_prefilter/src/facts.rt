@@ -117,7 +117,7 @@ fn needles_of_each<'t>(
 
 // Of tokens one after another, what the first holds of which something is known.
 #[cycle(needles_of)]
-#[tactic(auto, using(crate::proofs::MeantEdges::element_size))]
+#[tactic(auto, using(wax_token::proofs::Sizes::element_size))]
 fn needles_of_any<'t>(
     alloc: Global,
     tokens: &[Token<'t, ExpressionMetadata>],
@@ -136,7 +136,7 @@ fn needles_of_any<'t>(
 
 // Of branches, the texts of all of them.
 #[cycle(needles_of)]
-#[tactic(auto, using(crate::proofs::MeantEdges::element_size))]
+#[tactic(auto, using(wax_token::proofs::Sizes::element_size))]
 fn needles_of_some<'t>(
     alloc: Global,
     place: Place,

@@ -9,7 +9,7 @@ use wax_token::token::{BranchKind, ExpressionMetadata, LeafKind, Token, Topology
 
 /// A number of characters that each text has at least that the tokens mean, one after another.
 #[cycle(least_of)]
-#[tactic(auto, using(crate::proofs::MeantEdges::element_size))]
+#[tactic(auto, using(wax_token::proofs::Sizes::element_size))]
 pub fn least_of_each<'t>(tokens: &[Token<'t, ExpressionMetadata>]) -> usize
     ensures { IsAtMostAll result (MeansEach (trees tokens.now)) }
 {
@@ -35,7 +35,7 @@ fn least_of<'t>(token: &Token<'t, ExpressionMetadata>) -> usize
 }
 
 #[cycle(least_of)]
-#[tactic(auto, using(crate::proofs::MeantEdges::element_size))]
+#[tactic(auto, using(wax_token::proofs::Sizes::element_size))]
 fn least_of_some<'t>(tokens: &[Token<'t, ExpressionMetadata>]) -> usize
     ensures { IsAtMostAll result (MeansSome (trees tokens.now)) }
 {

@@ -40,7 +40,7 @@ pub fn weigh<'t, A>(token: &Token<'t, A>) -> Weight
 
 /// The weight of tokens that stand one after another.
 #[cycle(weigh)]
-#[tactic(auto, using(crate::proofs::Sizes::element_size))]
+#[tactic(auto, using(wax_token::proofs::Sizes::element_size))]
 pub fn weigh_all<'t, A>(tokens: &[Token<'t, A>]) -> Weight
     ensures cost { result.cost ≡ min (costs (trees tokens.now)) longest }
     ensures holds_tree { result.holds_tree ≡ some_holds_tree (trees tokens.now) }

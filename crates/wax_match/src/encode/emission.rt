@@ -41,7 +41,7 @@ fn put_token<'t, A>(
 
 /// Writes tokens that stand one after another.
 #[cycle(put)]
-#[tactic(auto, using(crate::proofs::Sizes::element_size))]
+#[tactic(auto, using(wax_token::proofs::Sizes::element_size))]
 pub fn put_sequence<'t, A>(
     alloc: Global,
     tail: &mut Tail,
@@ -63,7 +63,7 @@ pub fn put_sequence<'t, A>(
 
 /// Writes the branches of an alternation.
 #[cycle(put)]
-#[tactic(auto, using(crate::proofs::Sizes::element_size))]
+#[tactic(auto, using(wax_token::proofs::Sizes::element_size))]
 fn put_branches<'t, A>(
     alloc: Global,
     tail: &mut Tail,
