@@ -32,13 +32,15 @@ abbrev pub either_profile : Profiles → Profiles → Bool → Bool → Profile
 either_profile l r before after = union (in_context l before after) (in_context r before after)
 
 abbrev pub saturated_beside : Profiles → Profiles → Bool → Bool → Profile
-saturated_beside l r before after = saturated (concatenated (in_context l before true) (in_context r true after))
+saturated_beside l r before after =
+    saturated (concatenated (in_context l before true) (in_context r true after))
 
 -- none, one, and two copies or more, where the profiles of two or more are saturated
 abbrev pub saturated_repeated : Profiles → ℕ → Option ℕ → Bool → Bool → Profile
 saturated_repeated body low high before after =
     let between : Profile = saturated (power_range (low - 2) (less_two high) body.middle) in
-    union (only (admits 0 low high) empty_text) (union (only (admits 1 low high) (in_context body before after))
+    union (only (admits 0 low high) empty_text)
+    (union (only (admits 1 low high) (in_context body before after))
     (only (admits_two low high) (saturated (concatenated (in_context body before true)
     (saturated (concatenated between (in_context body true after)))))))
 
@@ -58,7 +60,8 @@ no_components (Some x) = Some (0, Some 0)
 
 abbrev pub saturated_depth : Profile → Interval
 saturated_depth p =
-    hull (no_components p.nothing) (hull (saturated_components 0 p.bare) (hull (saturated_components 1 p.ending)
+    hull (no_components p.nothing) (hull (saturated_components 0 p.bare)
+    (hull (saturated_components 1 p.ending)
     (hull (saturated_components 1 p.beginning) (saturated_components 2 p.enclosed))))
 
 abbrev pub in_words : Interval → Bounds

@@ -98,4 +98,5 @@ abbrev pub component_hull : Profile → Interval
 component_hull p =
     hull (component_interval empty p.nothing) (hull (component_interval (ended false false) p.bare)
     (hull (component_interval (ended false true) p.ending)
-    (hull (component_interval (ended true false) p.beginning) (component_interval (ended true true) p.enclosed))))
+    (hull (component_interval (ended true false) p.beginning)
+    (component_interval (ended true true) p.enclosed))))
