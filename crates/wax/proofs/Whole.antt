@@ -1,11 +1,12 @@
 -- A glob's tokens mean and cost what its tree does.
-use Rattle.std.proofs.Common.{◌≡◌, ◌↔◌, ℕ, ◌+◌, Bool, false, List, [], ◌∷◌, refl, sym, ap, ◌∙◌, subst, add-zero}
+use Rattle.std.proofs.Common.{◌≡◌, ◌↔◌, ℕ, ◌+◌, ◌≤◌, Bool, false, List, [], ◌∷◌, refl, sym, ap, ◌∙◌, subst, add-zero}
+use Rattle.std.proofs.Common.{arith}
 use Rattle.wax_prefilter.specs.Known.{MeantPass}
 use Rattle.wax_prefilter.specs.Facts.{PrefilterView}
 use Rattle.wax_program.specs.Machine.{Accepts}
 use Rattle.wax_program.specs.declared.instruction.Instruction.{Instruction}
 use Rattle.wax_token.specs.Reads.{Reads}
-use Rattle.wax_token.specs.Cost.{cost, costs}
+use Rattle.wax_token.specs.Cost.{cost, costs, program_length}
 use Rattle.wax_token.specs.Meaning.{Means, MeansEach}
 use Rattle.wax_token.specs.Reads.{Span}
 use Rattle.wax_token.specs.Syntax.{Tree, leaf, alternation, concatenation, repetition, literal, Trees}
@@ -27,15 +28,19 @@ costs_members (repetition a t low high) = add-zero _
 
 -- what was made of a tree's tokens
 pub is_compiled : (t : Tree Span) (ts : Trees Span) (program : List Instruction × ℕ) (prefilter : PrefilterView) → ts ≡ members t
-    → ((s : List ℕ) → Accepts program.0 0 s ↔ MeansEach ts false false s) → program.1 ≡ costs ts + 1 → MeantPass ts prefilter → IsCompiled t program prefilter
-is_compiled t ts program prefilter same accepts len passes = record {
+    → ((s : List ℕ) → Accepts program.0 0 s ↔ MeansEach ts false false s) → program.1 ≡ costs ts + 1 → program.1 ≤ 1048576
+    → MeantPass ts prefilter → IsCompiled t program prefilter
+is_compiled t ts program prefilter same accepts len fits passes = record {
   accepts = λ s.
       let whole = subst (λ z. Accepts program.0 0 s ↔ MeansEach z false false s) same (accepts s) in
       let parts = means_members t false false s in
       (λ h. parts.0 (whole.0 h), λ h. whole.1 (parts.1 h));
-  len = len ∙ ap (λ z. costs z + 1) same ∙ ap (λ n. n + 1) (costs_members t);
+  len = total;
+  fits = omega (arith, total, fits);
   passes = λ s h. subst (λ z. MeantPass z prefilter) same passes s ((means_members t false false s).1 h);
-}
+} where
+  total : program.1 ≡ program_length t
+  total = len ∙ ap (λ z. costs z + 1) same ∙ ap (λ n. n + 1) (costs_members t)
 
 -- an empty literal means the empty text
 abbrev nothing : Tree Span

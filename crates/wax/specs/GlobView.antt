@@ -1,5 +1,5 @@
 -- What contracts see of a glob.
-use Rattle.std.specs.Prelude.{◌≡◌, ◌↔◌, ℕ, false, List, refl}
+use Rattle.std.specs.Prelude.{◌≡◌, ◌↔◌, ◌≤◌, ℕ, false, List, refl}
 use Rattle.std.specs.Coded.{Coded, code_by, coded×, coded_list, coded_ℕ}
 use Rattle.wax_prefilter.specs.Facts.{PrefilterView, Passes}
 use Rattle.wax_program.specs.Machine.{Accepts}
@@ -20,11 +20,13 @@ abbrev pub glob_code : Coded GlobView
 glob_code = code_by (List ℕ × Tree Span) (coded× (coded_list coded_ℕ) (tree_code (coded× coded_ℕ coded_ℕ)))
     (λ g. (g.expression, g.tree)) (λ p. record { expression = p.0; tree = p.1 }) (λ _. refl)
 
--- The program accepts what the tree means with nothing around it, and has the length of the tree's cost; each such text
--- passes the prefilter.
-pub record IsCompiled (t : Tree Span) (program : List Instruction × ℕ) (prefilter : PrefilterView) : Type 0 where
+-- The program accepts what the tree means with nothing around it, and has the length of the tree's cost, which
+-- fits; each such text passes the prefilter.
+pub record IsCompiled (t : Tree Span) (program : List Instruction × ℕ) (prefilter : PrefilterView) : Type 0
+  where
   pub accepts : (text : List ℕ) → Accepts program.0 0 text ↔ Means t false false text
   pub len : program.1 ≡ program_length t
+  pub fits : program_length t ≤ 1048576
   pub passes : (text : List ℕ) → Means t false false text → Passes prefilter text
 
 -- the glob means the text, with nothing around it

@@ -1,20 +1,32 @@
 //! A glob: an expression with its tokens and its program.
-ghost use Rattle.std.specs.Prelude.{◌≡◌, ◌≤◌, ◌↔◌, ◌+◌, ◌*◌, [], ℕ, List, IsTrue, IfOk, Some};
-ghost use Rattle.std.specs.Prelude.{chars, encode_utf8_all, length, false};
+ghost use Rattle.std.specs.Prelude.{◌≡◌, ◌≤◌, ◌↔◌, ◌+◌, ◌*◌, ◌++◌, ◌∷◌, [], ℕ, List, IsTrue, IfOk, IfSome};
+ghost use Rattle.std.specs.Prelude.{MatchOption, Some, chars, encode_utf8_all, length, false};
+ghost use Rattle.wax_depth.specs.Depth.{Depth};
+ghost use Rattle.wax_facts.specs.Exhaustive.{exhaustive};
+ghost use Rattle.wax_facts.specs.InvariantText.{Text, Variant};
+ghost use Rattle.wax_facts.specs.Root.{root};
+ghost use Rattle.wax_query.specs.Components.{Bare, BeginsWithSlash, components};
+ghost use Rattle.wax_query.specs.Ranges.{AtMost, bounds};
+ghost use Rattle.wax_query.specs.Variances.{text_of};
+ghost use Rattle.wax_query.specs.declared.query.when.When.TheVariants.{Always};
 ghost use Rattle.wax_token.specs.Cost.{program_length};
 ghost use Rattle.wax_token.specs.Decided.{means_test, means_tested};
 ghost use Rattle.wax.specs.GlobView.{IsMeant};
 
 use crate::build_error::{BuildError, rule_refused};
 use std::alloc::Global;
+use std::borrow::CowStr;
 use std::fmt;
 use std::marker::Model;
 use wax_candidate::{CandidatePath, Program};
+use wax_depth::depth;
+use wax_facts::{has_root, is_exhaustive, text};
 use wax_match::encode;
 use wax_match::encode::Meter;
 use wax_parse::parse::parse;
 use wax_prefilter::Prefilter;
 use wax_query::diagnostics::NoMemory;
+use wax_query::query::{DepthVariance, TextVariance, Variance, When};
 use wax_rule::rule::check;
 use wax_token::token::{ExpressionMetadata, Tokenized};
 
@@ -129,5 +141,45 @@ impl Program for Glob<'_> {
         let mut meter = Meter::new();
         let answer = encode::run(alloc, &self.program, text, &mut meter)?;
         Ok((answer, meter.ticks()))
+    }
+
+    /// The least and the greatest number of components of the texts of its tree, where `*`, `$` and a class
+    /// count as one character. It takes no memory, and time in proportion to the tree.
+    fn depth(&self) -> DepthVariance
+        ensures depth { Depth self.now.tree (bounds result) }
+        ensures least { (s : List ℕ) → IsMeant self.now s → Bare s → (bounds result).0 ≤ components s }
+        ensures greatest { (s : List ℕ) → IsMeant self.now s → AtMost (components s) (bounds result).1 }
+    {
+        depth(&self.tokenized.token)
+    }
+
+    /// The one text that it means, where it is written as one. Refused with 10 where memory is.
+    fn text(&self, alloc: Global) -> Result<TextVariance<'static>, NoMemory>
+        ensures exact { IfOk result (λ text. MatchOption (text_of text) (Variant self.now.tree) (λ t.
+            Text self.now.tree (chars t))) }
+        ensures only { IfOk result (λ text. IfSome (text_of text) (λ t. (s : List ℕ)
+            → IsMeant self.now s → s ≡ chars t)) }
+    {
+        Ok(match text(alloc, &self.tokenized.token)? {
+            Some(text) => Variance::Invariant(CowStr::Owned(text)),
+            None => Variance::Variant(()),
+        })
+    }
+
+    /// Whether each text that it means begins with `/`, by its first token.
+    fn has_root(&self) -> When
+        ensures root { result ≡ root self.now.tree }
+        ensures always { result ≡ Always → (s : List ℕ) → IsMeant self.now s → BeginsWithSlash s }
+    {
+        has_root(&self.tokenized.token)
+    }
+
+    /// Whether it means whatever lies below a text that it means, by its last token.
+    fn is_exhaustive(&self) -> When
+        ensures exhaustive { result ≡ exhaustive self.now.tree }
+        ensures always { result ≡ Always → (s r : List ℕ)
+            → IsMeant self.now s → IsMeant self.now (s ++ 47 ∷ r) }
+    {
+        is_exhaustive(&self.tokenized.token)
     }
 }

@@ -8,6 +8,7 @@ pub mod filter;
 mod glob;
 mod location;
 pub mod prelude;
+pub mod query;
 pub mod rule;
 pub mod token;
 pub mod walk;

@@ -1,9 +1,15 @@
 //! What can be matched against a path.
-ghost use Rattle.std.specs.Prelude.{◌≡◌, ◌↔◌, ◌≤◌, ◌+◌, ◌*◌, ℕ, Bool, List, IsTrue, IfOk, length};
+ghost use Rattle.std.specs.Prelude.{◌≡◌, ◌↔◌, ◌≤◌, ◌+◌, ◌*◌, ◌++◌, ◌∷◌, ℕ, Bool, List, IsTrue, IfOk, IfSome};
+ghost use Rattle.std.specs.Prelude.{chars, length};
+ghost use Rattle.wax_query.specs.Components.{Bare, BeginsWithSlash, components};
+ghost use Rattle.wax_query.specs.Ranges.{AtMost, bounds};
+ghost use Rattle.wax_query.specs.Variances.{text_of};
+ghost use Rattle.wax_query.specs.declared.query.when.When.TheVariants.{Always};
 
 use crate::candidate::CandidatePath;
 use std::alloc::Global;
 use wax_query::diagnostics::NoMemory;
+use wax_query::query::{DepthVariance, TextVariance, Variance, When};
 
 /// A set of texts, whose membership is decided by a program of instructions.
 pub trait Program {
@@ -35,6 +41,40 @@ pub trait Program {
     {
         let (answer, _) = self.is_match_counted(alloc, path)?;
         Ok(answer)
+    }
+
+    /// How many components the meant texts have: none that isn't empty and has no `/` at its ends has
+    /// fewer than the lower bound, and none has more than the upper one. Any number, where nothing is known.
+    fn depth(&self) -> DepthVariance
+        ensures least { (s : List ℕ) → means self.now s → Bare s → (bounds result).0 ≤ components s }
+        ensures greatest { (s : List ℕ) → means self.now s → AtMost (components s) (bounds result).1 }
+    {
+        DepthVariance::from_closed_and_open(0, None)
+    }
+
+    /// The only text that may be meant, where there is one. Refused with 10 where memory is.
+    fn text(&self, _alloc: Global) -> Result<TextVariance<'static>, NoMemory>
+        ensures only { IfOk result (λ text. IfSome (text_of text) (λ t. (s : List ℕ)
+            → means self.now s → s ≡ chars t)) }
+    {
+        Ok(Variance::Variant(()))
+    }
+
+    /// Whether the meant texts begin with `/`: each one, where the answer is `Always`; of the other answers
+    /// nothing is claimed.
+    fn has_root(&self) -> When
+        ensures always { result ≡ Always → (s : List ℕ) → means self.now s → BeginsWithSlash s }
+    {
+        When::Sometimes
+    }
+
+    /// Whether what lies below a meant text is meant too: whatever it is, where the answer is `Always`; of
+    /// the other answers nothing is claimed.
+    fn is_exhaustive(&self) -> When
+        ensures always { result ≡ Always → (s r : List ℕ)
+            → means self.now s → means self.now (s ++ 47 ∷ r) }
+    {
+        When::Sometimes
     }
 
     // What it decides is what it means.

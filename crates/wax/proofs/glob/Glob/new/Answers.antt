@@ -6,4 +6,5 @@ invariant_of-result c =
     let token = c.release-tokenized.result.token in
     let program = c.in_ok-program.program in
     let compiled = c.in_ok-program.ensures in
-    is_compiled token _ program _ c.concatenation-tokens.ensures compiled.means compiled.length.0 c.in_ok-prefilter.ensures
+    is_compiled token _ program _ c.concatenation-tokens.ensures compiled.means compiled.length.0 compiled.length.1
+    c.in_ok-prefilter.ensures

@@ -1,0 +1,6 @@
+//! What static queries answer.
+
+pub use wax_query::query::{
+    Bounded, BoundedVariantRange, Boundedness, CapturingToken, DepthVariance, NaturalRange,
+    TextVariance, Unbounded, VariantRange, Variance, When,
+};
