@@ -1,15 +1,10 @@
 -- A token of a row is smaller than the row.
-use Rattle.std.proofs.Common.{◌≡◌, ℕ, zero, suc, ◌-◌, ◌<◌, Bool, List, [], ◌∷◌, length, get_or, Some, slice_get, arith, ap, subst}
+use Rattle.std.proofs.Common.{◌≡◌, ℕ, zero, suc, ◌-◌, ◌<◌, Bool, List, [], ◌∷◌, length, Some, slice_get, arith, ap, subst}
 use Rattle.wax_token.specs.Syntax.{Leaf, Tree, tree_size, trees_size}
 use Rattle.wax_rule.specs.Situated.{ends_in, last_ends_in}
 use Rattle.wax_token.specs.Words.{trees}
 
-pub element_size : {A : Type 0} (ts : List (Tree A)) (i : ℕ) (t : Tree A) → i < length ts → t ≡ get_or ts i t → tree_size t < trees_size (trees ts)
-element_size [] i t h e = omega (arith, h)
-element_size (u ∷ ts) zero t h e = let f : tree_size t ≡ tree_size u = ap tree_size e in omega (arith, f)
-element_size (u ∷ ts) (suc i) t h e = omega (arith, element_size ts i t (omega (arith, h)) e)
-
--- ---- the last token
+-- the last token
 pub at_size : {A : Type 0} (ts : List (Tree A)) (i : ℕ) (t : Tree A) → slice_get ts i ≡ Some t → tree_size t < trees_size (trees ts)
 at_size [] i t e = absurd (cc)
 at_size (u ∷ ts) zero t e = let f : u ≡ t = (cc) in let g : tree_size u ≡ tree_size t = ap tree_size f in omega (arith, g)

@@ -101,7 +101,7 @@ fn found_at_start<'t>(token: &Token<'t, ExpressionMetadata>) -> Found
 
 /// The same of some of the tokens.
 #[cycle(found_at_start)]
-#[tactic(auto, using(crate::proofs::Rows::element_size))]
+#[tactic(auto, using(wax_token::proofs::Sizes::element_size))]
 fn found_at_starts<'t>(tokens: &[Token<'t, ExpressionMetadata>]) -> Found
     ensures boundary { result.boundary ≡ some_starts_in is_boundary_leaf (trees tokens.now) }
     ensures zero_or_more { result.zero_or_more ≡ some_starts_in is_zero_or_more_leaf (trees tokens.now) }
@@ -143,7 +143,7 @@ fn found_at_end<'t>(token: &Token<'t, ExpressionMetadata>) -> Found
 
 /// The same of some of the tokens.
 #[cycle(found_at_end)]
-#[tactic(auto, using(crate::proofs::Rows::element_size))]
+#[tactic(auto, using(wax_token::proofs::Sizes::element_size))]
 fn found_at_ends<'t>(tokens: &[Token<'t, ExpressionMetadata>]) -> Found
     ensures boundary { result.boundary ≡ some_ends_in is_boundary_leaf (trees tokens.now) }
     ensures zero_or_more { result.zero_or_more ≡ some_ends_in is_zero_or_more_leaf (trees tokens.now) }

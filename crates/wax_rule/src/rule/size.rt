@@ -51,7 +51,7 @@ fn fixed_size<'t>(
 
 /// The sum of the fixed sizes of tokens, if all have one.
 #[cycle(sizes)]
-#[tactic(auto, using(crate::proofs::Rows::element_size))]
+#[tactic(auto, using(wax_token::proofs::Sizes::element_size))]
 fn total_size<'t>(
     alloc: Global,
     tokens: &[Token<'t, ExpressionMetadata>],
@@ -88,7 +88,7 @@ fn common_size<'t>(
 
 /// Whether each of the tokens has the size.
 #[cycle(sizes)]
-#[tactic(auto, using(crate::proofs::Rows::element_size))]
+#[tactic(auto, using(wax_token::proofs::Sizes::element_size))]
 fn are_of_size<'t>(
     alloc: Global,
     size: &Natural,
