@@ -5,6 +5,7 @@
 mod costs;
 mod places;
 mod programs;
+mod queries;
 mod report;
 mod rows;
 mod worked;
@@ -21,6 +22,8 @@ fn main(rt: HostRuntime) -> io::Result<()> {
         ("worked_labels.tsv", Kind::Labels),
         ("worked_match.tsv", Kind::Match),
         ("match.tsv", Kind::Match),
+        ("worked_query.tsv", Kind::Query),
+        ("query.tsv", Kind::Query),
     ] {
         let rows = fs::read_to_string(&rt, name)?;
         show(&rt, name, &compared(rt.alloc(), kind, rows.as_str())?)?;

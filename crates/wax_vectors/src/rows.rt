@@ -1,5 +1,6 @@
 //! Rows of answers: an expression, with a path or alone, and what the Rust crate answers.
 
+use crate::queries::query_row;
 use crate::report::Report;
 use std::alloc::{AllocError, Global};
 use wax::diagnostics::{LocatedError, Span};
@@ -15,6 +16,8 @@ pub enum Kind {
     Labels,
     /// An expression, a path, and whether the one means the other.
     Match,
+    /// An expression, and what is known of its glob.
+    Query,
 }
 
 /// Each row of a file, made anew.
@@ -25,6 +28,7 @@ pub fn compared(alloc: Global, kind: Kind, rows: &str) -> Result<Report, AllocEr
             Kind::Accept => accept_row(alloc, row),
             Kind::Labels => labels_row(alloc, row),
             Kind::Match => match_row(alloc, row),
+            Kind::Query => query_row(alloc, field(row, 0)),
         };
         report.compare_text(alloc, field(row, 0), made.ok(), row)?;
     }
