@@ -3,6 +3,7 @@
 #![tactic(auto)]
 
 mod exhaustive;
+mod facts;
 mod invariant;
 mod opened;
 mod optional;
@@ -12,6 +13,7 @@ mod rest;
 mod root;
 
 pub use exhaustive::is_exhaustive;
+pub use facts::TokenFacts;
 pub use invariant::text;
 pub use parts::{built_is_orderly, partition};
 pub use prefix::invariant_text_prefix;
