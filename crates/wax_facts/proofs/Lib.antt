@@ -26,6 +26,7 @@ pub mod Openings
 pub mod OwnerBegins
 pub mod OwnerFull
 pub mod Owners
+pub mod Partitions
 pub mod Paths
 pub mod PrefixSound
 pub mod PrefixUnique

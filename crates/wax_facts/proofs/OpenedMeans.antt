@@ -31,7 +31,7 @@ mutual
   opened_some (repetition a t (suc zero) (Some (suc (suc n)))) w = tt
   opened_some (repetition a t (suc (suc low)) high) w = tt
 
-  last_some : {A : Type 0} (ts : Trees A) → IsSome ts → FullEach ts → IsSome (opened_last ts)
+  pub last_some : {A : Type 0} (ts : Trees A) → IsSome ts → FullEach ts → IsSome (opened_last ts)
   last_some none some w = absurd some
   last_some (more t none) some w = opened_some t w.0
   last_some (more t (more u us)) some w = tt

@@ -70,7 +70,7 @@ unrooted_orderly (more (alternation a us) ts) o = o
 unrooted_orderly (more (concatenation a us) ts) o = o
 unrooted_orderly (more (repetition a t low high) ts) o = o
 
-unrooted_some : {A : Type 0} (ts : Trees A) → IsSome ts → IsSome (unrooted ts)
+pub unrooted_some : {A : Type 0} (ts : Trees A) → IsSome ts → IsSome (unrooted ts)
 unrooted_some none s = s
 unrooted_some (more (leaf a (literal i t)) ts) s = tt
 unrooted_some (more (leaf a (class n xs)) ts) s = tt

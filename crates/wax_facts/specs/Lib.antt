@@ -1,9 +1,9 @@
 pub mod Exhaustive
 pub mod InvariantText
 pub mod Joined
-pub mod Moved
 pub mod Optional
 pub mod Orderly
+pub mod Partition
 pub mod Prefix
 pub mod Rest
 pub mod Root

@@ -3,14 +3,18 @@
 #![tactic(auto)]
 
 mod exhaustive;
+mod facts;
 mod invariant;
 mod opened;
 mod optional;
+mod parts;
 mod prefix;
 mod rest;
 mod root;
 
 pub use exhaustive::is_exhaustive;
+pub use facts::TokenFacts;
 pub use invariant::text;
+pub use parts::{built_is_orderly, partition};
 pub use prefix::invariant_text_prefix;
 pub use root::has_root;

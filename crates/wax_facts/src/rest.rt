@@ -1,4 +1,5 @@
 //! The tokens of a glob after its prefix.
+ghost use Rattle.std.specs.Prelude.{◌+◌, ◌^◌, ◌<◌};
 ghost use Rattle.std.specs.Prelude.{◌≡◌, ◌∷◌, [], ℕ, IfOk, List, MatchOption, None, Some, ◌||◌, nat_lt};
 ghost use Rattle.wax_token.specs.Reads.{Span};
 ghost use Rattle.wax_token.specs.Syntax.{alternation, repetition};
@@ -22,7 +23,8 @@ pub fn rest_of<'t>(
     glob: Token<'t, ExpressionMetadata>,
     taken: usize,
 ) -> Result<(Vec<Token<'t, ExpressionMetadata>>, Span), AllocError>
-    ensures { IfOk result (λ r. IsRest glob.entry taken r.0.items r.1) }
+    ensures rest { IfOk result (λ r. IsRest glob.entry taken r.0.items r.1) }
+    ensures fits { IfOk result (λ r. r.1.0 + r.1.1 < 2 ^ 64) }
 {
     let span = glob.annotation().span();
     let mut tokens = into_members(alloc, glob)?;

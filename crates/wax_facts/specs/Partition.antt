@@ -1,0 +1,37 @@
+-- A glob in two: its prefix, and the rest.
+use Rattle.std.specs.Prelude.{◌≡◌, ◌⊎◌, ◌↔◌, ℕ, ◌-◌, true, false, List, Option, Some, None}
+use Rattle.wax_token.specs.Meaning.{Means}
+use Rattle.wax_token.specs.Reads.{Span}
+use Rattle.wax_token.specs.Spelled.{span_end}
+use Rattle.wax_token.specs.Syntax.{Tree, concatenation, Trees, none, more}
+use Rattle.wax_token.specs.Words.{annotation_of}
+use Rattle.wax_facts.specs.Joined.{begins_with_leaf, path}
+use Rattle.wax_facts.specs.Orderly.{Flat, Orderly}
+use Rattle.wax_facts.specs.Prefix.{IsRooted, Prefix, opened}
+use Rattle.wax_facts.specs.Rest.{owner, rest}
+
+-- the tokens as a glob, from the first one up to a byte
+abbrev pub glob_up_to : ℕ → Trees Span → Option (Tree Span)
+glob_up_to end none = None
+glob_up_to end (more t ts) = Some (concatenation ((annotation_of t).0, end - (annotation_of t).0) (more t ts))
+
+-- the rest, up to the end of the glob or sub-glob that it belongs to
+abbrev pub rest_glob : Tree Span → ℕ → Option (Tree Span)
+rest_glob t n = glob_up_to (span_end (annotation_of (owner t n).0)) (rest t n)
+
+-- the prefix, and for a flat tree the rest; spans are those of the whole expression
+abbrev pub IsPartition : Tree Span → List ℕ → Option (Tree Span) → Type 0
+IsPartition t p u = (n : ℕ) × Prefix t n p × (Flat t → u ≡ rest_glob t n)
+
+-- the first token isn't a branch that isn't of one text and always begins with `/`
+abbrev pub BeginsPlainly : Tree Span → Type 0
+BeginsPlainly t = IsRooted (opened t) → begins_with_leaf (opened t) ≡ true
+
+-- the rest means what the whole means after the prefix
+abbrev pub MeansAfter : Tree Span → List ℕ → Tree Span → Type 0
+MeansAfter t p u = (s : List ℕ) → Means u false false s ↔ Means t false false (path p s)
+
+-- each text of the whole is the prefix, or the prefix and then a text of the rest
+abbrev pub SplitsAll : Tree Span → List ℕ → Tree Span → Type 0
+SplitsAll t p u = (s : List ℕ) → Means t false false s →
+    (s ≡ p) ⊎ ((r : List ℕ) × (s ≡ path p r) × Means u false false r)

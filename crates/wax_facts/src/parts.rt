@@ -1,0 +1,92 @@
+//! A glob in two: its prefix, and the rest.
+ghost use Rattle.std.specs.Prelude.{◌≡◌, ◌↔◌, ◌∷◌, [], ℕ, IfOk, IfSome, List, MatchOption, None, false};
+ghost use Rattle.std.specs.Prelude.{chars, string_bytes};
+ghost use Rattle.wax_rule.specs.Rules.{broken};
+ghost use Rattle.wax_token.specs.Meaning.{Means};
+ghost use Rattle.wax_token.specs.Reads.{Reads};
+ghost use Rattle.wax_token.specs.Words.{trees};
+ghost use Rattle.wax_facts.specs.Joined.{begins_with_leaf};
+ghost use Rattle.wax_facts.specs.Orderly.{Orderly};
+ghost use Rattle.wax_facts.specs.Partition.{BeginsPlainly, IsPartition, MeansAfter, SplitsAll, glob_up_to};
+ghost use Rattle.wax_facts.specs.Prefix.{IsRooted, opened};
+ghost use Rattle.wax_facts.specs.Rest.{unrooted};
+ghost use Rattle.wax_facts.specs.inner.RootedTrees.{is_rooted_tree};
+
+use crate::prefix::invariant_text_prefix;
+use crate::rest::rest_of;
+use std::alloc::Global;
+use wax_query::diagnostics::NoMemory;
+use wax_token::token::{
+    BranchKind, Concatenation, ExpressionMetadata, LeafKind, Token, Wildcard, new_branch, new_leaf,
+};
+
+/// What the parser reads and the rules let pass is orderly, unless it is empty.
+pub fn built_is_orderly<'t>(token: &Token<'t, ExpressionMetadata>)
+    ensures { (c : ℕ) (cs : List ℕ) → Reads (c ∷ cs) token.now → broken token.now ≡ []
+        → Orderly token.now }
+{}
+
+/// The prefix of a glob, and the rest as a glob of its own where tokens are left: from the cut up to the end
+/// of the sub-glob that it belongs to, where a leading `**` has lost its `/`. Spans stay those of the whole
+/// expression. Refused with 10 where memory is. It takes the time and memory of the tokens' texts.
+pub fn partition<'t>(
+    alloc: Global,
+    token: Token<'t, ExpressionMetadata>,
+) -> Result<(String, Option<Token<'t, ExpressionMetadata>>), NoMemory>
+    ensures parts { IfOk result (λ r. IsPartition token.entry (chars (string_bytes r.0)) r.1) }
+    ensures rest { IfOk result (λ r. IfSome r.1 (λ u. Orderly token.entry → BeginsPlainly token.entry
+        → MeansAfter token.entry (chars (string_bytes r.0)) u)) }
+    ensures split { IfOk result (λ r. IfSome r.1 (λ u. Orderly token.entry → BeginsPlainly token.entry
+        → SplitsAll token.entry (chars (string_bytes r.0)) u)) }
+    ensures branch { IfOk result (λ r. IfSome r.1 (λ u. Orderly token.entry
+        → IsRooted (opened token.entry) → begins_with_leaf (opened token.entry) ≡ false
+        → (s : List ℕ) → Means u false false s ↔ Means token.entry false false s)) }
+    ensures whole { IfOk result (λ r. MatchOption r.1 (Orderly token.entry → (s : List ℕ)
+        → Means token.entry false false s ↔ (s ≡ chars (string_bytes r.0))) (λ _. Unit {0})) }
+    ensures orderly { IfOk result (λ r. IfSome r.1 (λ u. Orderly token.entry → Orderly u)) }
+{
+    let (taken, prefix) = invariant_text_prefix(alloc, &token)?;
+    let (tokens, owner) = rest_of(alloc, token, taken)?;
+    Ok((prefix, glob_up_to(owner.0 + owner.1, unrooted(tokens))))
+}
+
+// The tokens as a glob, from the first one up to a byte.
+fn glob_up_to<'t>(
+    end: usize,
+    tokens: Vec<Token<'t, ExpressionMetadata>>,
+) -> Option<Token<'t, ExpressionMetadata>>
+    ensures { result ≡ glob_up_to end (trees tokens.entry.items) }
+{
+    let start = tokens.first()?.annotation().span().0;
+    let span = (start, end.saturating_sub(start));
+    let glob = BranchKind::Concatenation(Concatenation { tokens });
+    Some(new_branch(glob, ExpressionMetadata::new(span)))
+}
+
+// A leading `**` loses its `/`.
+fn unrooted<'t>(
+    mut tokens: Vec<Token<'t, ExpressionMetadata>>,
+) -> Vec<Token<'t, ExpressionMetadata>>
+    ensures { trees result.items ≡ unrooted (trees tokens.entry.items) }
+{
+    let Some(first) = tokens.first() else {
+        return tokens;
+    };
+    if is_rooted_tree(first) {
+        let here = *first.annotation();
+        let leaf = LeafKind::Wildcard(Wildcard::Tree { has_root: false });
+        tokens[0] = new_leaf(leaf, here);
+    }
+    tokens
+}
+
+fn is_rooted_tree<'t>(token: &Token<'t, ExpressionMetadata>) -> bool
+    ensures { result ≡ is_rooted_tree token.now }
+{
+    match token.as_leaf() {
+        Some(LeafKind::Wildcard(wildcard)) => {
+            matches!(wildcard, Wildcard::Tree { has_root: true })
+        }
+        _ => false,
+    }
+}
