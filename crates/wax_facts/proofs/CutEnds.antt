@@ -9,7 +9,6 @@ use Rattle.wax_facts.specs.Orderly.{IsSome}
 use Rattle.wax_facts.specs.Prefix.{Cut, is_separator, taken}
 use Rattle.wax_facts.specs.Rest.{after, begins_with_tree}
 use Rattle.wax_facts.proofs.Endings.{ends_append}
-use Rattle.wax_facts.proofs.Fronts.{later}
 use Rattle.wax_facts.proofs.Truths.{true_false}
 
 abbrev pub EndsAt : {A : Type 0} → Trees A → Option (ℕ × List ℕ) → Type 0

@@ -1,5 +1,5 @@
 -- Where it is sure, what lies below each meant text is meant too.
-use Rattle.std.proofs.Common.{Bool, List, [], ap, append_assoc, arith, false, inl, inr, refl, suc, true, zero}
+use Rattle.std.proofs.Common.{Bool, List, ap, append_assoc, arith, false, inl, inr, refl, suc, true, zero}
 use Rattle.std.proofs.Common.{ℕ, ◌++◌, ◌∙◌, ◌∷◌, ◌≡◌, ◌≤◌}
 use Rattle.wax_token.specs.Meaning.{Copies, LeafMeans, Means, MeansEach, MeansSome}
 use Rattle.wax_token.specs.Syntax.{Leaf, Tree, Trees, alternation, class, concatenation, leaf, literal, more}

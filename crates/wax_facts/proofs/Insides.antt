@@ -1,7 +1,6 @@
 -- Which sub-glob the rest belongs to.
-use Rattle.std.proofs.Common.{◌≡◌, ℕ, zero, suc, ◌+◌, ◌-◌, ◌<◌, ◌≤◌, ◌||◌, nat_lt, Bool, true, false, List, [], ◌∷◌, ◌++◌, length, Option, Some, None, if◌then◌else◌}
+use Rattle.std.proofs.Common.{◌≡◌, ℕ, zero, suc, ◌-◌, ◌<◌, ◌≤◌, ◌||◌, nat_lt, Bool, true, false, List, [], ◌∷◌, ◌++◌, length, Option, Some, None, if◌then◌else◌}
 use Rattle.std.proofs.Common.{refl, sym, ◌∙◌, ap, subst, arith, rules, length-append, drop, min}
-use Rattle.std.proofs.lemmas.List.{drop_all}
 use Rattle.wax_token.specs.Syntax.{tree_size, trees_size, Tree, leaf, alternation, concatenation, repetition, Trees, none, more}
 use Rattle.wax_token.specs.Words.{members, trees}
 use Rattle.wax_facts.specs.Prefix.{opened}

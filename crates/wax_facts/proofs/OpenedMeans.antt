@@ -1,5 +1,5 @@
 -- The opened list means what the glob means.
-use Rattle.std.proofs.Common.{Bool, List, None, Some, [], arith, inl, inr, suc, true, zero, ℕ, ◌++◌, ◌≡◌}
+use Rattle.std.proofs.Common.{Bool, List, None, Some, arith, inl, inr, suc, true, zero, ℕ, ◌++◌, ◌≡◌}
 use Rattle.wax_token.specs.Meaning.{Means, MeansEach}
 use Rattle.wax_token.specs.Syntax.{Tree, Trees, alternation, concatenation, leaf, more, none, repetition}
 use Rattle.wax_facts.specs.Orderly.{Full, FullEach, IsSome}

@@ -1,6 +1,6 @@
 -- Which last tokens stand open.
-use Rattle.std.proofs.Common.{◌≡◌, ◌≢◌, ℕ, zero, suc, ◌+◌, ◌<◌, ◌≤◌, List, [], ◌∷◌, length, Option, Some, None, slice_get, true, refl, sym, ◌∙◌, ap, subst, arith}
-use Rattle.wax_token.specs.Syntax.{tree_size, trees_size, Tree, leaf, alternation, concatenation, repetition, Trees, none, more}
+use Rattle.std.proofs.Common.{◌≡◌, ◌≢◌, ℕ, zero, suc, List, [], ◌∷◌, length, Option, Some, None, slice_get, refl, sym, ◌∙◌, ap, subst, arith}
+use Rattle.wax_token.specs.Syntax.{Tree, leaf, alternation, concatenation, repetition, Trees, none, more}
 use Rattle.wax_token.specs.Words.{members, trees}
 use Rattle.wax_facts.specs.Prefix.{is_tree, opened, opened_last}
 use Rattle.wax_facts.specs.Rest.{begins_with_tree}

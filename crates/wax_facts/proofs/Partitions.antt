@@ -1,13 +1,13 @@
 -- What is known of the two parts of a glob.
-use Rattle.std.proofs.Common.{◌≡◌, ◌↔◌, ◌⊎◌, ℕ, true, false, List, Option, Some, None, IfSome, MatchOption, refl, sym, ap, subst}
+use Rattle.std.proofs.Common.{◌≡◌, ◌↔◌, ◌⊎◌, ℕ, false, List, Option, Some, None, IfSome, MatchOption, refl, sym, subst}
 use Rattle.wax_token.specs.Meaning.{Means}
 use Rattle.wax_token.specs.Reads.{Span}
-use Rattle.wax_token.specs.Syntax.{tree, literal, class, separator, one, zero_or_more, Tree, leaf, alternation, concatenation, repetition, Trees, none, more}
+use Rattle.wax_token.specs.Syntax.{Tree, concatenation, Trees, none, more}
 use Rattle.wax_token.specs.Words.{members}
 use Rattle.wax_facts.specs.Joined.{begins_with_leaf, path}
 use Rattle.wax_facts.specs.Orderly.{Flat, Full, FullEach, IsSome, Orderly}
 use Rattle.wax_facts.specs.Partition.{BeginsPlainly, IsPartition, MeansAfter, SplitsAll, glob_up_to}
-use Rattle.wax_facts.specs.Prefix.{IsRooted, opened, opened_last}
+use Rattle.wax_facts.specs.Prefix.{IsRooted, opened}
 use Rattle.wax_facts.specs.Rest.{after, inner, owner, rest, unrooted}
 use Rattle.wax_facts.proofs.BranchRest.{branch_rest}
 use Rattle.wax_facts.proofs.OpenedMeans.{last_some}

@@ -1,5 +1,5 @@
 -- The rest of a glob by one step into its last sub-glob.
-use Rattle.std.proofs.Common.{◌≡◌, ℕ, List, length, drop, min, Option, Some, None, refl, sym, ◌∙◌, ap}
+use Rattle.std.proofs.Common.{◌≡◌, ℕ, List, length, drop, min, Some, None, sym, ◌∙◌, ap}
 use Rattle.wax_token.specs.Reads.{Span}
 use Rattle.wax_token.specs.Syntax.{Tree, Trees}
 use Rattle.wax_token.specs.Words.{annotation_of, members, trees}

@@ -1,6 +1,6 @@
 -- The texts of branches and of tokens one after another, token by token.
 use Rattle.std.proofs.Common.{◌≡◌, ℕ, zero, suc, ◌+◌, ◌<◌, ◌≤◌, List, [], ◌∷◌, ◌++◌, length, take, drop, get_or, refl, sym, ◌∙◌, ap, subst}
-use Rattle.std.proofs.Common.{arith, append_assoc, append-nil, drop-cons, chars, IsUtf8, Option, Some, None, IfSome, false, encode_utf8, encode_utf8_all}
+use Rattle.std.proofs.Common.{arith, append-nil, drop-cons, chars, IsUtf8, Option, Some, None, IfSome, false, encode_utf8, encode_utf8_all}
 use Rattle.std.proofs.Common.{String, string_bytes}
 use Rattle.std.proofs.lemmas.List.{drop_all}
 use Rattle.std.proofs.lemmas.Str.{chars-append, chars-nil, chars_past_char, encodes-chars, IsUtf8-string_bytes}

@@ -1,6 +1,6 @@
 -- How the texts of a prefix and of a rest are joined.
 use Rattle.std.specs.Prelude.{◌≡◌, ℕ, Bool, true, false, ◌⊎◌, List, [], ◌∷◌, ◌++◌, ◌==◌, if◌then◌else◌}
-use Rattle.wax_token.specs.Syntax.{Tree, leaf, alternation, concatenation, repetition, Trees, none, more}
+use Rattle.wax_token.specs.Syntax.{leaf, alternation, concatenation, repetition, Trees, none, more}
 use Rattle.wax_token.specs.Meaning.{Begins, Ends}
 
 -- the text begins with the prefix

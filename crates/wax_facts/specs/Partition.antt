@@ -6,7 +6,7 @@ use Rattle.wax_token.specs.Spelled.{span_end}
 use Rattle.wax_token.specs.Syntax.{Tree, concatenation, Trees, none, more}
 use Rattle.wax_token.specs.Words.{annotation_of}
 use Rattle.wax_facts.specs.Joined.{begins_with_leaf, path}
-use Rattle.wax_facts.specs.Orderly.{Flat, Orderly}
+use Rattle.wax_facts.specs.Orderly.{Flat}
 use Rattle.wax_facts.specs.Prefix.{IsRooted, Prefix, opened}
 use Rattle.wax_facts.specs.Rest.{owner, rest}
 

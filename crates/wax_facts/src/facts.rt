@@ -55,6 +55,8 @@ pub trait TokenFacts {
     /// Refused with 10 where memory is.
     fn invariant_text_prefix(&self, alloc: Global) -> Result<(usize, String), NoMemory>
         ensures prefix { IfOk result (λ r. prefix_is self.now r.0 (chars (string_bytes r.1))) }
+        ensures only { IfOk result (λ r. (n : ℕ) (p : List ℕ) → prefix_is self.now n p
+            → (n ≡ r.0) × (p ≡ chars (string_bytes r.1))) }
         ensures front { IfOk result (λ r. (s : List ℕ)
             → meant self.now s → Front (chars (string_bytes r.1)) s) };
 }
@@ -68,9 +70,13 @@ impl<'t, A: Annotation> TokenFacts for Token<'t, A> {
     ghost use Rattle.wax_facts.specs.Root.{root};
 
     ghost meant = { λ t. Means t false false };
+
     ghost root_is = { λ t. root t };
+
     ghost exhaustive_is = { λ t. exhaustive t };
+
     ghost text_is = { λ t. Text t };
+
     ghost prefix_is = { λ t. Prefix t };
 
     fn has_root(&self) -> When {

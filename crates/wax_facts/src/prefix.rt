@@ -23,6 +23,8 @@ pub fn invariant_text_prefix<'t, A: Annotation>(
     token: &Token<'t, A>,
 ) -> Result<(usize, String), NoMemory>
     ensures prefix { IfOk result (λ r. Prefix token.now r.0 (chars (string_bytes r.1))) }
+    ensures only { IfOk result (λ r. (n : ℕ) (p : List ℕ) → Prefix token.now n p
+        → (n ≡ r.0) × (p ≡ chars (string_bytes r.1))) }
     ensures front { IfOk result (λ r. (s : List ℕ)
         → Means token.now false false s → Front (chars (string_bytes r.1)) s) }
 {

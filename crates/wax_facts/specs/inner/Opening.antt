@@ -1,6 +1,6 @@
 -- Lists whose first token is that of the opened list.
 use Rattle.std.specs.Prelude.{◌≡◌}
-use Rattle.wax_token.specs.Syntax.{Tree, Trees, none, more}
+use Rattle.wax_token.specs.Syntax.{Trees, none, more}
 use Rattle.wax_facts.specs.Prefix.{opened}
 
 -- where one token is left, it doesn't stand open

@@ -1,5 +1,5 @@
 -- Tree wildcards with a `/` before them.
-use Rattle.std.specs.Prelude.{Bool, true, false}
+use Rattle.std.specs.Prelude.{Bool, false}
 use Rattle.wax_token.specs.Syntax.{Leaf, literal, class, separator, one, zero_or_more, tree, Tree}
 use Rattle.wax_rule.specs.Rules.{is_such}
 

@@ -1,4 +1,4 @@
-use Rattle.std.proofs.Common.{◌≡◌, ◌∙◌, ◌∷◌, ◌++◌, [], ℕ, List, ap, sym, subst, refl, rules, arith, IfOk, MatchOption, Some, chars, string_bytes, append_assoc, append-nil}
+use Rattle.std.proofs.Common.{◌≡◌, ◌∙◌, ◌++◌, [], ℕ, List, ap, sym, subst, rules, arith, IfOk, MatchOption, Some, chars, string_bytes, append_assoc, append-nil}
 use Rattle.std.proofs.lemmas.List.{nil_from_length}
 use Rattle.std.proofs.lemmas.Str.{chars-append, chars-nil, IsUtf8-string_bytes}
 use Rattle.std.specs.List.{repeat}
@@ -7,7 +7,7 @@ use Rattle.wax_token.specs.View.{topology_tree}
 use Rattle.wax_token.specs.Words.{trees, annotation_of}
 use Rattle.wax_token.specs.declared.token.Topology.TheVariants.{Branch}
 use Rattle.wax_facts.specs.InvariantText.{Text, TextOfAll, TextOfEach, Variant}
-use Rattle.wax_facts.proofs.TextSteps.{all_at, all_end, all_kept, all_same, bytes_same, chars_repeat, each_at, each_end, each_step, found_is, none_is}
+use Rattle.wax_facts.proofs.TextSteps.{all_at, all_kept, all_same, bytes_same, chars_repeat, each_at, each_end, each_step, found_is, none_is}
 use Rattle.wax_facts.proofs.invariant.+find_text.Goals as goal
 
 pub find_text-returns-in-Repetition : goal.find_text-returns-in-Repetition

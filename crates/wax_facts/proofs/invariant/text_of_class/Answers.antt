@@ -1,4 +1,4 @@
-use Rattle.std.proofs.Common.{◌≡◌, ◌∙◌, ◌∷◌, [], ap, subst, sym, chars, string_bytes, rules, encode_utf8}
+use Rattle.std.proofs.Common.{◌≡◌, subst, sym, string_bytes, rules, encode_utf8}
 use Rattle.std.proofs.lemmas.Str.{IsUtf8-string_bytes}
 use Rattle.wax_token.specs.Syntax.{class}
 use Rattle.wax_facts.specs.InvariantText.{LeafText}

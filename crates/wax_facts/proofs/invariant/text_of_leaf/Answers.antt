@@ -1,6 +1,4 @@
-use Rattle.std.proofs.Common.{◌≡◌, ◌∙◌, ◌∷◌, [], ap, subst, sym, chars, string_bytes}
-use Rattle.wax_token.specs.View.{leaf_of}
-use Rattle.wax_facts.specs.InvariantText.{LeafText}
+use Rattle.std.proofs.Common.{◌∙◌, ap, chars}
 use Rattle.wax_facts.proofs.TextSteps.{chars_slash}
 use Rattle.wax_facts.proofs.invariant.text_of_leaf.Goals as goal
 

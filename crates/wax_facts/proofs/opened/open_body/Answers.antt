@@ -1,7 +1,6 @@
-use Rattle.std.proofs.Common.{◌≡◌, ◌≢◌, ◌∙◌, ℕ, ap, refl, sym, subst, rules, length, None}
+use Rattle.std.proofs.Common.{◌≡◌, ◌≢◌, refl, sym, subst, rules, length, None}
 use Rattle.wax_token.specs.Syntax.{alternation, concatenation, repetition}
 use Rattle.wax_token.specs.Words.{trees, annotation_of}
-use Rattle.wax_token.specs.View.{branch_tree}
 use Rattle.wax_facts.specs.inner.Bodies.{open_body}
 use Rattle.wax_facts.proofs.Openings.{closed_branches, closed_copies}
 use Rattle.wax_facts.proofs.opened.open_body.Goals as goal

@@ -1,9 +1,9 @@
-use Rattle.std.proofs.Common.{◌≡◌, ◌∙◌, ◌+◌, ◌++◌, ◌∷◌, [], ℕ, List, ap, sym, subst, refl, true, false, rules, chars, string_bytes, Some}
+use Rattle.std.proofs.Common.{◌≡◌, ◌∙◌, ◌+◌, ◌++◌, [], ℕ, List, ap, sym, subst, refl, true, false, rules, chars, string_bytes, Some}
 use Rattle.std.proofs.lemmas.List.{nil_from_length}
 use Rattle.std.proofs.lemmas.Str.{IsUtf8-string_bytes}
-use Rattle.wax_token.specs.Syntax.{more, none}
+use Rattle.wax_token.specs.Syntax.{more}
 use Rattle.wax_token.specs.Words.{trees}
-use Rattle.wax_facts.specs.InvariantText.{Text, Variant}
+use Rattle.wax_facts.specs.InvariantText.{Text}
 use Rattle.wax_facts.specs.Prefix.{Cut, CutBefore, is_separator, is_tree, opened_last}
 use Rattle.wax_facts.proofs.CutSteps.{Taken, cut_at_end, cut_at_tree, same_taken, taken_all, taken_back, taken_none, taken_plain, taken_slash}
 use Rattle.wax_facts.proofs.Openings.{left_cons}

@@ -1,9 +1,10 @@
-use Rattle.std.proofs.Common.{◌≡◌, ◌∙◌, ◌∷◌, [], ℕ, List, ap, sym, subst, refl, false, inl, inr, rules, true≢false, IsTrue, IfOk, chars, string_bytes}
+use Rattle.std.proofs.Common.{◌≡◌, ◌∙◌, ap, sym, subst, refl, inl, inr, true≢false, chars, string_bytes}
 use Rattle.std.proofs.lemmas.Result.{IfOk-weaker}
 use Rattle.wax_token.specs.Words.{trees}
-use Rattle.wax_facts.specs.Prefix.{CutBefore, IsRooted, Prefix, PrefixOf, opened, opened_last}
+use Rattle.wax_facts.specs.Prefix.{IsRooted, PrefixOf, opened, opened_last}
 use Rattle.wax_facts.proofs.Openings.{opened_members}
 use Rattle.wax_facts.proofs.PrefixSound.{prefix_sound}
+use Rattle.wax_facts.proofs.PrefixUnique.{prefix_unique}
 use Rattle.wax_facts.proofs.TextSteps.{chars_slash}
 use Rattle.wax_facts.proofs.prefix.invariant_text_prefix.Goals as goal
 
@@ -26,3 +27,10 @@ returns-clause-prefix g c =
 pub returns-clause-front : goal.returns-clause-front
 returns-clause-front g c =
     IfOk-weaker c.cut_prefix.result _ _ (λ r h s m. prefix_sound c.args.token.now r.0 (chars (string_bytes r.1)) s h m) (returns-clause-prefix g c)
+
+pub returns-then-branch-clause-only : goal.returns-then-branch-clause-only
+returns-then-branch-clause-only g c = λ n p h. prefix_unique c.args.token.now n 0 p _ h (returns-then-branch-clause-prefix g c)
+
+pub returns-clause-only : goal.returns-clause-only
+returns-clause-only g c =
+    IfOk-weaker c.cut_prefix.result _ _ (λ r h n p k. prefix_unique c.args.token.now n r.0 p (chars (string_bytes r.1)) k h) (returns-clause-prefix g c)

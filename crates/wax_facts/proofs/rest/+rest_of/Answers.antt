@@ -1,4 +1,4 @@
-use Rattle.std.proofs.Common.{◌≡◌, ◌∙◌, ap, sym, refl, rules, length, drop, min, Some, None}
+use Rattle.std.proofs.Common.{◌≡◌, ◌∙◌, sym, rules, length, drop, min, Some, None}
 use Rattle.std.proofs.lemmas.Result.{IfOk-weaker}
 use Rattle.wax_token.specs.Words.{annotation_of, trees}
 use Rattle.wax_facts.specs.inner.Bodies.{IsInside, inside, last_body}
