@@ -1,5 +1,7 @@
 //! Expressions and the tokens that they spell.
 
+pub use wax_depth::depth;
+pub use wax_facts::{TokenFacts, partition};
 pub use wax_parse::parse::{ErrorEntry, ParseError, parse};
 pub use wax_token::token::{
     Alternation, Archetype, BranchKind, Class, Concatenation, Evaluation, ExpressionMetadata,
