@@ -24,10 +24,10 @@ glob_code = code_by (List ℕ × Tree Span) (coded× (coded_list coded_ℕ) (tre
 -- fits; each such text passes the prefilter.
 pub record IsCompiled (t : Tree Span) (program : List Instruction × ℕ) (prefilter : PrefilterView) : Type 0
   where
-  pub accepts : (text : List ℕ) → Accepts program.0 0 text ↔ Means t false false text
-  pub len : program.1 ≡ program_length t
-  pub fits : program_length t ≤ 1048576
-  pub passes : (text : List ℕ) → Means t false false text → Passes prefilter text
+    pub accepts : (text : List ℕ) → Accepts program.0 0 text ↔ Means t false false text
+    pub len : program.1 ≡ program_length t
+    pub fits : program_length t ≤ 1048576
+    pub passes : (text : List ℕ) → Means t false false text → Passes prefilter text
 
 -- the glob means the text, with nothing around it
 abbrev pub IsMeant : GlobView → List ℕ → Type 0

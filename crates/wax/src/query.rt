@@ -2,5 +2,5 @@
 
 pub use wax_query::query::{
     Bounded, BoundedVariantRange, Boundedness, CapturingToken, DepthVariance, NaturalRange,
-    TextVariance, Unbounded, VariantRange, Variance, When,
+    TextVariance, Unbounded, Variance, VariantRange, When,
 };
