@@ -60,14 +60,14 @@ module _ (t : Tree Span) (p : List ℕ) where
       subst (λ z. (s ≡ p) ⊎ ((x : List ℕ) × (s ≡ path p x) × Means z false false x)) (sym r.1) (orderly_split t k.0 p s w k.1 (left_some t k.0 w.0 w.1 r.2) b m)
 
   pub partition_branch : (o : Option (Tree Span)) → IsPartition t p o →
-      IfSome o (λ u. Orderly t → IsRooted (opened t) → begins_with_leaf (opened t) ≡ false → (s : List ℕ) → Means u false false s ↔ Means t false false s)
+      IfSome o (λ u. Full t → Flat t → IsRooted (opened t) → begins_with_leaf (opened t) ≡ false → (s : List ℕ) → Means u false false s ↔ Means t false false s)
   partition_branch None k = tt
-  partition_branch (Some u) k = λ w b e s.
-      let r : (a : Span) × (u ≡ concatenation a (rest t k.0)) × IsSome (rest t k.0) = glob_some _ (rest t k.0) u (sym (k.2 w.1)) in
-      subst (λ z. Means z false false s ↔ Means t false false s) (sym r.1) (branch_rest t k.0 p s w.0 w.1 k.1 b e)
+  partition_branch (Some u) k = λ w v b e s.
+      let r : (a : Span) × (u ≡ concatenation a (rest t k.0)) × IsSome (rest t k.0) = glob_some _ (rest t k.0) u (sym (k.2 v)) in
+      subst (λ z. Means z false false s ↔ Means t false false s) (sym r.1) (branch_rest t k.0 p s w v k.1 b e)
 
-  pub partition_whole : (o : Option (Tree Span)) → IsPartition t p o → MatchOption o (Orderly t → (s : List ℕ) → Means t false false s ↔ (s ≡ p)) (λ u. Unit {0})
-  partition_whole None k = λ w s. prefix_whole t k.0 p s w.0 k.1 (none_left t k.0 w.1 (glob_none _ (rest t k.0) (sym (k.2 w.1))))
+  pub partition_whole : (o : Option (Tree Span)) → IsPartition t p o → MatchOption o (Full t → Flat t → (s : List ℕ) → Means t false false s ↔ (s ≡ p)) (λ u. Unit {0})
+  partition_whole None k = λ w v s. prefix_whole t k.0 p s w k.1 (none_left t k.0 v (glob_none _ (rest t k.0) (sym (k.2 v))))
   partition_whole (Some u) k = tt
 
   pub partition_orderly : (o : Option (Tree Span)) → IsPartition t p o → IfSome o (λ u. Orderly t → Orderly u)

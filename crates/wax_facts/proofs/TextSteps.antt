@@ -46,11 +46,6 @@ all_at t [] i u lt e s h = absurd (omega (arith, lt))
 all_at t (v ∷ us) zero u lt e s h = subst (λ z. Text z s) (sym e) (all_first v (trees us) s h.1)
 all_at t (v ∷ us) (suc i) u lt e s h = all_at v us i u (omega (arith, lt)) e s h.1
 
-pub all_end : {A : Type 0} (ts : List (Tree A)) (t : Tree A) (us : List (Tree A)) (i : ℕ) (s : List ℕ) → ts ≡ t ∷ us → length us ≤ i → Text t s →
-    TextOfAll (trees (take 1 ts ++ drop i us)) s
-all_end ts t us i s e le h =
-    subst (λ z. TextOfAll (trees (take 1 z ++ drop i us)) s) (sym e) (subst (λ z. TextOfAll (more t (trees z)) s) (sym (drop_all i us le)) h)
-
 -- two branches with two texts
 pub all_same : {A : Type 0} (t : Tree A) (us : List (Tree A)) (i : ℕ) (u : Tree A) (x y s : List ℕ) → i < length us → u ≡ get_or us i u →
     Text t x → Text u y → TextOfAll (trees (t ∷ us)) s → y ≡ x

@@ -80,7 +80,8 @@ abbrev mutual
   pub ApartEach : {A : Type 0} → Trees A → Type 0
   ApartEach none = Unit {0}
   ApartEach (more t ts) =
-      Apart t × (ends_in is_boundary_leaf t ≡ true → first_starts_in is_boundary_leaf ts ≡ false) × ApartEach ts
+      Apart t × (ends_in is_boundary_leaf t ≡ true → first_starts_in is_boundary_leaf ts ≡ false)
+      × ApartEach ts
 
 -- holds of each expression that parses, isn't empty and breaks no rule, and of each rest
 abbrev pub Orderly : {A : Type 0} → Tree A → Type 0

@@ -23,7 +23,7 @@ rest_glob t n = glob_up_to (span_end (annotation_of (owner t n).0)) (rest t n)
 abbrev pub IsPartition : Tree Span → List ℕ → Option (Tree Span) → Type 0
 IsPartition t p u = (n : ℕ) × Prefix t n p × (Flat t → u ≡ rest_glob t n)
 
--- the first token isn't a branch that isn't of one text and always begins with `/`
+-- where the first token of the opened list always begins with `/` and isn't of one text, it is no branch
 abbrev pub BeginsPlainly : Tree Span → Type 0
 BeginsPlainly t = IsRooted (opened t) → begins_with_leaf (opened t) ≡ true
 

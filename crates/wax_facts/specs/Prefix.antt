@@ -1,5 +1,6 @@
 -- The prefix of a glob: the text before the first token that isn't invariant, cut back to a `/`.
-use Rattle.std.specs.Prelude.{◌≡◌, ℕ, zero, suc, Bool, true, false, ◌⊎◌, List, [], ◌∷◌, ◌++◌, Option, Some, None}
+use Rattle.std.specs.Prelude.{◌≡◌, ℕ, zero, suc, Bool, true, false, ◌⊎◌}
+use Rattle.std.specs.Prelude.{List, [], ◌∷◌, ◌++◌, Option, Some, None}
 use Rattle.wax_token.specs.Syntax.{Tree, leaf, alternation, concatenation, repetition, Trees, none, more}
 use Rattle.wax_rule.specs.Rules.{is_such, is_separator_leaf, is_tree_leaf}
 use Rattle.wax_query.specs.declared.query.when.When.TheVariants.{Always}
@@ -45,7 +46,8 @@ Cut none cut = cut ≡ Some (0, [])
 Cut (more t ts) cut =
     ((is_tree t ≡ true) × (cut ≡ Some (0, [])))
     ⊎ (((is_tree t ≡ false) × Variant t × (cut ≡ None))
-    ⊎ ((x : List ℕ) × (later : Option (ℕ × List ℕ)) × Text t x × Cut ts later × (cut ≡ taken (is_separator t) x later)))
+    ⊎ ((x : List ℕ) × (later : Option (ℕ × List ℕ)) × Text t x × Cut ts later
+    × (cut ≡ taken (is_separator t) x later)))
 
 abbrev pub or_nothing : Option (ℕ × List ℕ) → ℕ × List ℕ
 or_nothing None = (0, [])
@@ -58,7 +60,8 @@ IsRooted (more t ts) = (root t ≡ Always) × Variant t
 
 -- so many tokens stand before the cut, with this text
 abbrev pub CutBefore : {A : Type 0} → Trees A → ℕ → List ℕ → Type 0
-CutBefore ts n p = (cut : Option (ℕ × List ℕ)) × Cut ts cut × (n ≡ (or_nothing cut).0) × (p ≡ (or_nothing cut).1)
+CutBefore ts n p =
+    (cut : Option (ℕ × List ℕ)) × Cut ts cut × (n ≡ (or_nothing cut).0) × (p ≡ (or_nothing cut).1)
 
 -- how many tokens of the list are taken, and the prefix
 abbrev pub PrefixOf : {A : Type 0} → Trees A → ℕ → List ℕ → Type 0

@@ -1,6 +1,7 @@
 -- The rest of a glob after its prefix.
 use Rattle.std.specs.Prelude.{ℕ, zero, suc, Bool, true, false, Option, Some, None}
-use Rattle.wax_token.specs.Syntax.{tree, Tree, leaf, alternation, concatenation, repetition, Trees, none, more}
+use Rattle.wax_token.specs.Syntax.{tree, Tree, leaf, alternation, concatenation, repetition}
+use Rattle.wax_token.specs.Syntax.{Trees, none, more}
 use Rattle.wax_token.specs.Words.{members}
 use Rattle.wax_facts.specs.Prefix.{opened, is_tree}
 
@@ -29,7 +30,8 @@ abbrev mutual
   inner (repetition a t zero high) n = None
   inner (repetition a t (suc zero) None) n = None
   inner (repetition a t (suc zero) (Some zero)) n = None
-  inner (repetition a t (suc zero) (Some (suc zero))) n = entered n (begins_with_tree (opened t)) (or_here (t, n) (inner t n))
+  inner (repetition a t (suc zero) (Some (suc zero))) n =
+      entered n (begins_with_tree (opened t)) (or_here (t, n) (inner t n))
   inner (repetition a t (suc zero) (Some (suc (suc m)))) n = None
   inner (repetition a t (suc (suc low)) high) n = None
 

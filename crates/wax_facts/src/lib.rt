@@ -1,5 +1,5 @@
-//! What all texts that a token means have in common: how they begin, what lies below them, the one text
-//! that they are, and the prefix before what differs.
+//! What all texts that a token means have in common: whether they begin with `/`, what lies below them,
+//! the one text that they are, and the prefix before what differs, with the rest after it.
 #![tactic(auto)]
 
 mod exhaustive;

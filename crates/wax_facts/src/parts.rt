@@ -6,7 +6,7 @@ ghost use Rattle.wax_token.specs.Meaning.{Means};
 ghost use Rattle.wax_token.specs.Reads.{Reads};
 ghost use Rattle.wax_token.specs.Words.{trees};
 ghost use Rattle.wax_facts.specs.Joined.{begins_with_leaf};
-ghost use Rattle.wax_facts.specs.Orderly.{Orderly};
+ghost use Rattle.wax_facts.specs.Orderly.{Flat, Full, Orderly};
 ghost use Rattle.wax_facts.specs.Partition.{BeginsPlainly, IsPartition, MeansAfter, SplitsAll, glob_up_to};
 ghost use Rattle.wax_facts.specs.Prefix.{IsRooted, opened};
 ghost use Rattle.wax_facts.specs.Rest.{unrooted};
@@ -20,9 +20,10 @@ use wax_token::token::{
     BranchKind, Concatenation, ExpressionMetadata, LeafKind, Token, Wildcard, new_branch, new_leaf,
 };
 
-/// What the parser reads and the rules let pass is orderly, unless it is empty.
+/// What the parser reads is full and flat, and where the rules let it pass and it isn't empty, orderly.
 pub fn built_is_orderly<'t>(token: &Token<'t, ExpressionMetadata>)
-    ensures { (c : ℕ) (cs : List ℕ) → Reads (c ∷ cs) token.now → broken token.now ≡ []
+    ensures read { (e : List ℕ) → Reads e token.now → Full token.now × Flat token.now }
+    ensures built { (c : ℕ) (cs : List ℕ) → Reads (c ∷ cs) token.now → broken token.now ≡ []
         → Orderly token.now }
 {}
 
@@ -38,11 +39,11 @@ pub fn partition<'t>(
         → MeansAfter token.entry (chars (string_bytes r.0)) u)) }
     ensures split { IfOk result (λ r. IfSome r.1 (λ u. Orderly token.entry → BeginsPlainly token.entry
         → SplitsAll token.entry (chars (string_bytes r.0)) u)) }
-    ensures branch { IfOk result (λ r. IfSome r.1 (λ u. Orderly token.entry
+    ensures branch { IfOk result (λ r. IfSome r.1 (λ u. Full token.entry → Flat token.entry
         → IsRooted (opened token.entry) → begins_with_leaf (opened token.entry) ≡ false
         → (s : List ℕ) → Means u false false s ↔ Means token.entry false false s)) }
-    ensures whole { IfOk result (λ r. MatchOption r.1 (Orderly token.entry → (s : List ℕ)
-        → Means token.entry false false s ↔ (s ≡ chars (string_bytes r.0))) (λ _. Unit {0})) }
+    ensures whole { IfOk result (λ r. MatchOption r.1 (Full token.entry → Flat token.entry
+        → (s : List ℕ) → Means token.entry false false s ↔ (s ≡ chars (string_bytes r.0))) (λ _. Unit {0})) }
     ensures orderly { IfOk result (λ r. IfSome r.1 (λ u. Orderly token.entry → Orderly u)) }
 {
     let (taken, prefix) = invariant_text_prefix(alloc, &token)?;

@@ -31,8 +31,8 @@ abbrev pub entered_body : {A : Type 0} → ℕ → Option (Tree A) → Option (T
 entered_body n None = None
 entered_body n (Some b) = if nat_lt 0 n || begins_with_tree (opened b) then Some (b, n) else None
 
--- where n tokens are taken of the opened list of these: the sub-glob at their end that is entered, and how many
--- tokens of it are taken
+-- where n tokens are taken of the opened list of these: the sub-glob at their end that is entered, and how
+-- many tokens of it are taken
 abbrev pub inside : {A : Type 0} → Trees A → ℕ → Option (Tree A × ℕ)
 inside none n = None
 inside (more t none) n = entered_body n (open_body t)
@@ -45,4 +45,5 @@ IsInside {A = A} ts n k = (b : Tree A) × (inside ts n ≡ Some (b, k))
 
 -- of a flat tree: the tokens of the rest, and the span of the glob or sub-glob that they belong to
 abbrev pub IsRest : Tree Span → ℕ → List (Tree Span) → Span → Type 0
-IsRest t n ts s = Flat t → (trees ts ≡ after (owner t n).1 (members (owner t n).0)) × (s ≡ annotation_of (owner t n).0)
+IsRest t n ts s =
+    Flat t → (trees ts ≡ after (owner t n).1 (members (owner t n).0)) × (s ≡ annotation_of (owner t n).0)

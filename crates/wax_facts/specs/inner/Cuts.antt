@@ -19,4 +19,5 @@ first_starts_with_tree ts = first_starts_in is_tree_leaf ts
 -- before a `**` the prefix isn't empty and doesn't end with `/`, and after a `/` no `**` begins what follows
 pub record IsFree {A : Type 0} (ts : Trees A) (n : ℕ) (p : List ℕ) : Type 0 where
   pub at_tree : 1 ≤ n → begins_with_tree (after n ts) ≡ true → (p ≢ []) × (Ends p → ⊥)
-  pub after_slash : 1 ≤ n → begins_with_tree (after n ts) ≡ false → first_starts_with_tree (after n ts) ≡ false
+  pub after_slash : 1 ≤ n → begins_with_tree (after n ts) ≡ false →
+      first_starts_with_tree (after n ts) ≡ false
