@@ -14,7 +14,7 @@ use Rattle.wax_escape.proofs.Escaped.{slash_is_no_backslash}
 use Rattle.wax_escape.proofs.Literals.{backslash_append, literal_text}
 
 -- no flag group stands in an escaped text
-pub flagless : (p q : Place) (s : List ℕ) → p.rest ≡ escaped s → Flags p q → p ≡ q
+flagless : (p q : Place) (s : List ℕ) → p.rest ≡ escaped s → Flags p q → p ≡ q
 flagless p q s e no_flags = refl
 flagless p q s e (group b bs m f g) = absurd (not_meta_first 40 s _ refl (sym e ∙ f.0))
 

@@ -1,7 +1,7 @@
 //! Meta characters, and texts in which they are escaped.
-ghost use Rattle.std.specs.Prelude.{◌≡◌, ◌++◌, ◌↔◌, ℕ, IfOk, List, OnOk, false};
+ghost use Rattle.std.specs.Prelude.{◌≡◌, ◌++◌, ◌↔◌, ℕ, IfOk, IsOkAnd, List, OnOk, false};
 ghost use Rattle.std.specs.Prelude.{chars, codes, encode_utf8_all, string_bytes};
-ghost use Rattle.std.specs.Cow.{cow_str_bytes};
+ghost use Rattle.std.specs.Cow.{IsBorrowedStr, cow_str_bytes};
 ghost use Rattle.std.specs.List.{list_any};
 ghost use Rattle.wax_token.specs.Meaning.{Means};
 ghost use Rattle.wax_token.specs.Reads.{Reads, Span, all_spelled, escapable, is_one_of, spelled};
@@ -32,14 +32,16 @@ pub fn is_contextual_meta_character(character: char) -> bool
 
 /// The text with a backslash before each meta character, borrowed where it has none. This is an
 /// expression that means the text and nothing else, unless the text holds a backslash: those can't be
-/// escaped, and then it is no expression at all. Refused with 10 where memory is. It takes two passes over
-/// the text, and memory for one copy.
+/// escaped, and then it is no expression at all. Refused with 10 where memory is, and never where the
+/// text is borrowed. It takes two passes over the text, and memory for one copy.
 pub fn escape<'t>(alloc: Global, text: &'t str) -> Result<CowStr<'t>, NoMemory>
     ensures exact { IfOk result (λ e. chars (cow_str_bytes e) ≡ all_spelled escapable (chars text.now)) }
     ensures means { IfOk result (λ e. (t : Tree Span) → Reads (chars (cow_str_bytes e)) t
         → (s : List ℕ) → Means t false false s ↔ (s ≡ chars text.now)) }
     ensures spells { IfOk result (λ e. ((t : Tree Span) × Reads (chars (cow_str_bytes e)) t)
         ↔ HasNoBackslash (chars text.now)) }
+    ensures borrowed { list_any (is_one_of escapable) (chars text.now) ≡ false
+        → IsOkAnd result IsBorrowedStr }
 {
     if !has_meta_character(text) {
         return Ok(CowStr::Borrowed(text));

@@ -1,4 +1,4 @@
-use Rattle.std.proofs.Common.{◌≡◌, ◌∙◌, false, sym, chars, string_bytes}
+use Rattle.std.proofs.Common.{true≢false, ◌≡◌, ◌∙◌, false, sym, chars, string_bytes}
 use Rattle.wax_escape.proofs.Escaped.{escaped, nothing_escaped}
 use Rattle.wax_escape.proofs.Meant.{means_only}
 use Rattle.wax_escape.proofs.Trees.{spells}
@@ -8,9 +8,11 @@ pub returns : goal.returns
 returns c =
     let exact : chars (string_bytes c.in_ok-escaped.escaped) ≡ escaped (chars c.args.text.now) =
     c.in_ok-escaped.ensures in
+    let has = sym c.has_meta_character.ensures ∙ c.if-not-has_meta_character.false in
     record {
       exact = exact;
       means = λ t r. (means_only _ _ t exact r).1 false false;
+      borrowed = λ e. absurd (true≢false (sym has ∙ e));
       spells = ((λ h. (means_only _ _ h.0 exact h.1).0), spells _ _ exact);
     }
 
@@ -21,5 +23,6 @@ returns-then-not-has_meta_character c =
     record {
       exact = exact;
       means = λ t r. (means_only _ _ t exact r).1 false false;
+      borrowed = λ e. tt;
       spells = ((λ h. (means_only _ _ h.0 exact h.1).0), spells _ _ exact);
     }
