@@ -1,0 +1,4 @@
+pub mod Escaped
+pub mod Literals
+pub mod Meant
+pub mod Trees
