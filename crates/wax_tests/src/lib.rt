@@ -5,6 +5,8 @@
 #[cfg(test)]
 mod commands;
 #[cfg(test)]
+mod escapes;
+#[cfg(test)]
 mod lines;
 #[cfg(test)]
 mod streams;
