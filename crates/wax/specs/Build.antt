@@ -45,11 +45,13 @@ pub record IsOversized (e : List ℕ) : Type 0 where
   pub keeps_rules : broken tree ≡ []
   pub oversized : 1048576 < program_length tree
 
--- what a build of the expression e answers: a glob, or the first reason against one; nothing is said where memory was refused
+-- what a build of the expression e answers: a glob, or the first reason against one; nothing is said where
+-- memory was refused
 abbrev pub MatchGlob : List ℕ → Result GlobView BuildError → Type 0
 MatchGlob e (Ok g) = IsGlob e g
 MatchGlob e (Err (Parse place)) = ((t : Tree Span) → Reads e t → ⊥) × IsPlace e place
-MatchGlob e (Err (Rule error)) = (t : Tree Span) × Reads e t × IsFirst (broken t) error × (error.expression ≡ e)
+MatchGlob e (Err (Rule error)) =
+    (t : Tree Span) × Reads e t × IsFirst (broken t) error × (error.expression ≡ e)
 MatchGlob e (Err (Compile _)) = IsOversized e
 MatchGlob e (Err Memory) = Unit {0}
 

@@ -20,8 +20,8 @@ abbrev pub glob_code : Coded GlobView
 glob_code = code_by (List ℕ × Tree Span) (coded× (coded_list coded_ℕ) (tree_code (coded× coded_ℕ coded_ℕ)))
     (λ g. (g.expression, g.tree)) (λ p. record { expression = p.0; tree = p.1 }) (λ _. refl)
 
--- The program accepts what the tree means with nothing around it, and has the length of the tree's cost, which
--- fits; each such text passes the prefilter.
+-- The program accepts what the tree means with nothing around it, and has the length of the tree's cost,
+-- which fits; each such text passes the prefilter.
 pub record IsCompiled (t : Tree Span) (program : List Instruction × ℕ) (prefilter : PrefilterView) : Type 0
   where
     pub accepts : (text : List ℕ) → Accepts program.0 0 text ↔ Means t false false text

@@ -78,5 +78,6 @@ pub trait Program {
     }
 
     // What it decides is what it means.
-    ghost is_decided: { (program : Self) (text : List ℕ) → IsTrue (decides program text) ↔ means program text };
+    ghost is_decided: { (program : Self) (text : List ℕ)
+        → IsTrue (decides program text) ↔ means program text };
 }

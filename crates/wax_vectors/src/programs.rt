@@ -33,7 +33,8 @@ pub fn length(alloc: Global, expression: &str) -> Option<usize> {
     Some(compiled(alloc, expression)?.len())
 }
 
-/// The answer of the expression's program on the text, and how many visits it takes; `None` where there is none.
+/// The answer of the expression's program on the text, and how many visits it takes; `None` where there is
+/// none.
 fn answer(alloc: Global, expression: &str, text: &str) -> Option<(bool, u128)> {
     let program = compiled(alloc, expression)?;
     let mut meter = Meter::new();
