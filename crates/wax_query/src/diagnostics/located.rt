@@ -44,7 +44,8 @@ impl CorrelatedSpan {
 
     /// The list with them at its end.
     fn added_to(&self, mut labels: Labels) -> Result<Labels, AllocError>
-        ensures { IfOk result (λ ls. map seen ls.items ≡ map seen labels.entry.items ++ map here (spans_of self.now)) }
+        ensures { IfOk result (λ ls.
+            map seen ls.items ≡ map seen labels.entry.items ++ map here (spans_of self.now)) }
     {
         match *self {
             CorrelatedSpan::Contiguous(span) => {

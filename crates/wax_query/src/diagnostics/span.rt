@@ -17,7 +17,8 @@ pub trait SpanExt: Sized {
 }
 
 impl SpanExt for Span {
-    ghost union_gives = { λ s t r. MatchOption r ((2 ^ 64 ≤ end_of s) ⊎ (2 ^ 64 ≤ end_of t)) (λ u. (u ≡ span_union s t) × IsUnion s t u) };
+    ghost union_gives = { λ s t r. MatchOption r ((2 ^ 64 ≤ end_of s) ⊎ (2 ^ 64 ≤ end_of t))
+        (λ u. (u ≡ span_union s t) × IsUnion s t u) };
 
     fn union(self, other: Self) -> Option<Self> {
         let end = self

@@ -1,0 +1,13 @@
+//! What a static query answers.
+
+mod capturing;
+mod range;
+mod variance;
+mod when;
+
+pub use crate::diagnostics::{LocatedError, Span};
+pub use capturing::CapturingToken;
+pub use range::{BoundedVariantRange, DepthVariance, NaturalRange, VariantRange};
+pub use variance::Boundedness::{Bounded, Unbounded};
+pub use variance::{Boundedness, TextVariance, Variance};
+pub use when::When;

@@ -1,0 +1,235 @@
+//! Ranges of whole numbers.
+ghost use Rattle.std.specs.Prelude.{◌≡◌, ◌<◌, ◌↔◌, IfSome, IsSome, IsTrue, SomeIff};
+ghost use Rattle.std.specs.Option.{ForSome};
+ghost use Rattle.wax_query.specs.Ranges.{AtMost, Bounds, Fits, IsVariant, IsRangeThatFits};
+ghost use Rattle.wax_query.specs.Ranges.{HoldsBoth, HoldsProducts, HoldsShifted, HoldsSums};
+ghost use Rattle.wax_query.specs.Ranges.{bound_number, bounds, given_bounds, ordered, present, shifted};
+ghost use Rattle.wax_query.specs.Ranges.{product_bounds, range_of, sum_bounds, union_bounds};
+ghost use Rattle.wax_query.specs.Ranges.{variant_bounds, variant_range};
+ghost use Rattle.wax_query.specs.declared.query.variance.Variance.TheVariants.{Invariant};
+
+use super::variance::Boundedness::{Bounded, Unbounded};
+use super::variance::{Boundedness, Variance};
+use std::marker::Model;
+use std::num::NonZeroUsize;
+
+/// The numbers from a lower to an upper bound. At least one of the two is there, and more than one
+/// number is held. Contracts see the two bounds, where a lower one of 0 is none.
+#[derive(Clone, Copy, Debug, PartialEq, Eq, Hash)]
+pub struct BoundedVariantRange {
+    lower: usize,
+    upper: Option<usize>,
+}
+
+impl Model for BoundedVariantRange {
+    ghost Value = { Bounds };
+
+    ghost view = { λ r. (r.lower, r.upper) };
+
+    ghost invariant = { λ r. IsVariant (r.lower, r.upper) };
+
+    ghost inverse = { λ r. record { lower = r.0; upper = r.1 } };
+}
+
+impl BoundedVariantRange {
+    /// The numbers between the bounds, where 0 stands for a bound that isn't there. None without a
+    /// bound, and where the bounds hold no more than one number.
+    pub fn try_from_lower_and_upper(lower: usize, upper: Option<usize>) -> Option<Self>
+        ensures { SomeIff result (IsVariant (given_bounds lower upper)) (given_bounds lower upper) }
+    {
+        match upper {
+            None | Some(0) if lower > 0 => Some(BoundedVariantRange { lower, upper: None }),
+            Some(high) if lower < high => Some(BoundedVariantRange { lower, upper }),
+            _ => None,
+        }
+    }
+
+    /// The lower bound, if it is there.
+    pub fn lower(&self) -> Boundedness<NonZeroUsize>
+        ensures { bound_number result ≡ present self.now.0 }
+    {
+        non_zero(self.lower)
+    }
+
+    /// The upper bound; `Unbounded` where the range is open above.
+    pub fn upper(&self) -> Boundedness<NonZeroUsize>
+        ensures { bound_number result ≡ self.now.1 }
+    {
+        non_zero(self.upper.unwrap_or(0))
+    }
+
+    /// The numbers from the lesser lower to the greater upper bound.
+    pub fn union(self, other: NaturalRange) -> VariantRange
+        ensures bounds { result ≡ variant_range (union_bounds self (bounds other)) }
+        ensures members { HoldsBoth self (bounds other) (variant_bounds result) }
+    {
+        let upper = self.upper.zip(other.upper());
+        between(
+            self.lower.min(other.lower()),
+            upper.map(|(left, right)| left.max(right)),
+        )
+    }
+
+    /// The vector is added to the bounds that are there. None where one would be past 64 bits.
+    pub fn translation(self, vector: usize) -> Option<Self>
+        ensures bounds { SomeIff result (Fits (shifted vector self)) (shifted vector self) }
+        ensures members { IfSome result (HoldsShifted vector self) }
+    {
+        let lower = match self.lower {
+            0 => 0,
+            lower => lower.checked_add(vector)?,
+        };
+        let upper = match self.upper {
+            None => None,
+            Some(upper) => Some(upper.checked_add(vector)?),
+        };
+        Some(BoundedVariantRange { lower, upper })
+    }
+
+    /// The numbers up to the upper bound.
+    pub fn opened_lower_bound(self) -> VariantRange
+        ensures { result ≡ variant_range (0, self.1) }
+    {
+        between(0, self.upper)
+    }
+}
+
+/// A bound of 0 is none.
+fn non_zero(number: usize) -> Boundedness<NonZeroUsize>
+    ensures { bound_number result ≡ present number }
+{
+    NonZeroUsize::new(number).map_or(Unbounded, Bounded)
+}
+
+/// The numbers between the bounds.
+fn between(lower: usize, upper: Option<usize>) -> VariantRange
+    requires { ForSome upper (λ high. lower < high) }
+    ensures { result ≡ variant_range (lower, upper) }
+{
+    if lower == 0 && upper.is_none() {
+        Unbounded
+    } else {
+        Bounded(BoundedVariantRange { lower, upper })
+    }
+}
+
+/// A range of more than one number; all numbers where no bound is there.
+pub type VariantRange = Boundedness<BoundedVariantRange>;
+
+impl VariantRange {
+    /// The lower bound, if it is there.
+    pub fn lower(&self) -> Boundedness<NonZeroUsize>
+        ensures { bound_number result ≡ present (variant_bounds self.now).0 }
+    {
+        match self {
+            Bounded(range) => range.lower(),
+            Unbounded => Unbounded,
+        }
+    }
+
+    /// The upper bound; `Unbounded` where the range is open above.
+    pub fn upper(&self) -> Boundedness<NonZeroUsize>
+        ensures { bound_number result ≡ (variant_bounds self.now).1 }
+    {
+        match self {
+            Bounded(range) => range.upper(),
+            Unbounded => Unbounded,
+        }
+    }
+}
+
+/// One number, or a range of more.
+pub type NaturalRange = Variance<usize, VariantRange>;
+
+/// How many components the texts of a glob have.
+pub type DepthVariance = NaturalRange;
+
+impl NaturalRange {
+    /// The numbers from the lesser of the two bounds to the greater; without the other one, all from
+    /// the first on.
+    pub fn from_closed_and_open(closed: usize, other: Option<usize>) -> Self
+        ensures range { result ≡ range_of (ordered closed other) }
+        ensures bounds { bounds result ≡ ordered closed other }
+        ensures in_order { AtMost closed other → bounds result ≡ (closed, other) }
+    {
+        match other {
+            Some(other) if other == closed => Variance::Invariant(closed),
+            Some(other) => Variance::Variant(between(closed.min(other), Some(closed.max(other)))),
+            None => Variance::Variant(between(closed, None)),
+        }
+    }
+
+    /// The lower bound; 0 where none is there.
+    pub fn lower(&self) -> usize
+        ensures { result ≡ (bounds self.now).0 }
+    {
+        match self {
+            Variance::Invariant(number) => *number,
+            Variance::Variant(Bounded(range)) => range.lower,
+            Variance::Variant(Unbounded) => 0,
+        }
+    }
+
+    /// The upper bound; None where the range is open above.
+    pub fn upper(&self) -> Option<usize>
+        ensures value { result ≡ (bounds self.now).1 }
+        ensures ordered { AtMost (bounds self.now).0 result }
+    {
+        match self {
+            Variance::Invariant(number) => Some(*number),
+            Variance::Variant(Bounded(range)) => range.upper,
+            Variance::Variant(Unbounded) => None,
+        }
+    }
+
+    /// Whether it is the number 1 alone.
+    pub fn is_one(&self) -> bool
+        ensures { IsTrue result ↔ (self.now ≡ Invariant 1) }
+    {
+        matches!(self, Variance::Invariant(1))
+    }
+
+    /// Whether it is the number 0 alone.
+    pub fn is_zero(&self) -> bool
+        ensures { IsTrue result ↔ (self.now ≡ Invariant 0) }
+    {
+        matches!(self, Variance::Invariant(0))
+    }
+
+    pub fn has_upper_bound(&self) -> bool
+        ensures { IsTrue result ↔ IsSome (bounds self.now).1 }
+    {
+        self.upper().is_some()
+    }
+
+    /// Both lower bounds together, to both upper bounds together. None where a bound would be past
+    /// 64 bits.
+    pub fn sum(self, other: Self) -> Option<Self>
+        ensures bounds { IsRangeThatFits result (sum_bounds (bounds self) (bounds other)) }
+        ensures members { IfSome result (λ r. HoldsSums (bounds self) (bounds other) (bounds r)) }
+    {
+        let lower = self.lower().checked_add(other.lower())?;
+        let upper = match self.upper().zip(other.upper()) {
+            None => None,
+            Some((left, right)) => Some(left.checked_add(right)?),
+        };
+        Some(Self::from_closed_and_open(lower, upper))
+    }
+
+    /// The product of the lower bounds, to that of the upper bounds; 0 alone where a range is 0
+    /// alone. None where a bound would be past 64 bits.
+    pub fn product(self, other: Self) -> Option<Self>
+        ensures bounds { IsRangeThatFits result (product_bounds (bounds self) (bounds other)) }
+        ensures members { IfSome result (λ r. HoldsProducts (bounds self) (bounds other) (bounds r)) }
+    {
+        if self.upper() == Some(0) || other.upper() == Some(0) {
+            return Some(Variance::Invariant(0));
+        }
+        let lower = self.lower().checked_mul(other.lower())?;
+        let upper = match self.upper().zip(other.upper()) {
+            None => None,
+            Some((left, right)) => Some(left.checked_mul(right)?),
+        };
+        Some(Self::from_closed_and_open(lower, upper))
+    }
+}

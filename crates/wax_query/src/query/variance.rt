@@ -1,0 +1,193 @@
+//! What is the same for each text of a glob, and what varies within bounds.
+ghost use Rattle.std.specs.Prelude.{◌≡◌, ◌↔◌, IfOk, IsNone, IsSome, IsTrue};
+ghost use Rattle.std.specs.Prelude.{option_copied, option_map, string_bytes};
+ghost use Rattle.std.specs.Option.{ForSome};
+ghost use Rattle.wax_query.specs.Variances.{IsMapped, bound, inner, invariant, text_of};
+ghost use Rattle.wax_query.specs.Variances.{variance_copied, variant};
+
+use crate::diagnostics::NoMemory;
+use std::alloc::Global;
+use std::borrow::CowStr;
+
+/// A bound that is there, or an open side.
+#[derive(Clone, Copy, Debug, PartialEq, Eq, Hash, Drop)]
+pub enum Boundedness<T> {
+    Bounded(T),
+    Unbounded,
+}
+
+impl<T> Boundedness<T> {
+    /// The function's answer for the bound, if it is there.
+    pub fn map_bounded<U, F>(self, f: F) -> Boundedness<U>
+    where
+        F: FnOnce(T) -> U + Drop,
+        requires { ForSome (bound self) (F.pre f) }
+        ensures { IsMapped (F.post f) (bound self) (bound result) }
+    {
+        match self {
+            Boundedness::Bounded(bound) => Boundedness::Bounded(f(bound)),
+            Boundedness::Unbounded => Boundedness::Unbounded,
+        }
+    }
+
+    pub fn bounded(self) -> Option<T>
+        ensures { result ≡ bound self }
+    {
+        match self {
+            Boundedness::Bounded(bound) => Some(bound),
+            Boundedness::Unbounded => None,
+        }
+    }
+
+    pub fn as_ref(&self) -> Boundedness<&T>
+        ensures { option_copied (bound result) ≡ bound self.now }
+    {
+        match self {
+            Boundedness::Bounded(bound) => Boundedness::Bounded(bound),
+            Boundedness::Unbounded => Boundedness::Unbounded,
+        }
+    }
+
+    pub fn is_bounded(&self) -> bool
+        ensures { IsTrue result ↔ IsSome (bound self.now) }
+    {
+        matches!(self, Boundedness::Bounded(_))
+    }
+
+    pub fn is_unbounded(&self) -> bool
+        ensures { IsTrue result ↔ IsNone (bound self.now) }
+    {
+        !self.is_bounded()
+    }
+}
+
+/// What all texts have in common, or the bounds of what varies.
+#[derive(Clone, Copy, Debug, PartialEq, Eq, Hash, Drop)]
+pub enum Variance<T, B> {
+    Invariant(T),
+    Variant(B),
+}
+
+impl<T, B> Variance<T, B> {
+    pub fn invariant(self) -> Option<T>
+    where
+        B: Drop,
+        ensures { result ≡ invariant self }
+    {
+        match self {
+            Variance::Invariant(invariant) => Some(invariant),
+            Variance::Variant(_) => None,
+        }
+    }
+
+    pub fn variant(self) -> Option<B>
+    where
+        T: Drop,
+        ensures { result ≡ variant self }
+    {
+        match self {
+            Variance::Invariant(_) => None,
+            Variance::Variant(bound) => Some(bound),
+        }
+    }
+
+    pub fn as_ref(&self) -> Variance<&T, &B>
+        ensures { variance_copied result ≡ self.now }
+    {
+        match self {
+            Variance::Invariant(invariant) => Variance::Invariant(invariant),
+            Variance::Variant(bound) => Variance::Variant(bound),
+        }
+    }
+
+    pub fn is_invariant(&self) -> bool
+        ensures { IsTrue result ↔ IsSome (invariant self.now) }
+    {
+        matches!(self, Variance::Invariant(_))
+    }
+
+    pub fn is_variant(&self) -> bool
+        ensures { IsTrue result ↔ IsSome (variant self.now) }
+    {
+        !self.is_invariant()
+    }
+
+    /// The function's answer for what is invariant; what varies stays as it is.
+    pub fn map_invariant<U, F>(self, f: F) -> Variance<U, B>
+    where
+        F: FnOnce(T) -> U + Drop,
+        requires { ForSome (invariant self) (F.pre f) }
+        ensures mapped { IsMapped (F.post f) (invariant self) (invariant result) }
+        ensures kept { variant result ≡ variant self }
+    {
+        match self {
+            Variance::Invariant(invariant) => Variance::Invariant(f(invariant)),
+            Variance::Variant(bound) => Variance::Variant(bound),
+        }
+    }
+
+    /// The function's answer for the bound of what varies; what is invariant stays as it is.
+    pub fn map_variant<U, F>(self, f: F) -> Variance<T, U>
+    where
+        F: FnOnce(B) -> U + Drop,
+        requires { ForSome (variant self) (F.pre f) }
+        ensures mapped { IsMapped (F.post f) (variant self) (variant result) }
+        ensures kept { invariant result ≡ invariant self }
+    {
+        match self {
+            Variance::Invariant(invariant) => Variance::Invariant(invariant),
+            Variance::Variant(bound) => Variance::Variant(f(bound)),
+        }
+    }
+}
+
+impl<T> Variance<T, T> {
+    /// The value of either side.
+    pub fn into_inner(self) -> T
+        ensures { result ≡ inner self }
+    {
+        match self {
+            Variance::Invariant(inner) | Variance::Variant(inner) => inner,
+        }
+    }
+
+    /// The function's answer for the value, on the same side.
+    pub fn map<U, F>(self, f: F) -> Variance<U, U>
+    where
+        F: FnOnce(T) -> U,
+        requires { F.pre f (inner self) }
+        ensures value { F.post f (inner self) (inner result) }
+        ensures side { IsSome (invariant result) ↔ IsSome (invariant self) }
+    {
+        match self {
+            Variance::Invariant(inner) => Variance::Invariant(f(inner)),
+            Variance::Variant(inner) => Variance::Variant(f(inner)),
+        }
+    }
+}
+
+/// The one text of a glob; none where the texts vary.
+pub type TextVariance<'t> = Variance<CowStr<'t>, ()>;
+
+impl<'t> TextVariance<'t> {
+    /// The text as a path.
+    pub fn as_path(&self) -> Option<&str>
+        ensures { option_copied result ≡ text_of self.now }
+    {
+        match self {
+            Variance::Invariant(text) => Some(text.as_str()),
+            Variance::Variant(()) => None,
+        }
+    }
+
+    /// The text as a path of its own. Refusal 10 where memory is refused.
+    pub fn into_path_buf(self, alloc: Global) -> Result<Option<String>, NoMemory>
+        ensures path { IfOk result (λ path. option_map string_bytes path ≡ text_of self.entry) }
+        ensures varying { IsSome (variant self.entry) → result ≡ Ok None }
+    {
+        match self {
+            Variance::Invariant(text) => Ok(Some(text.into_owned(alloc)?)),
+            Variance::Variant(()) => Ok(None),
+        }
+    }
+}
