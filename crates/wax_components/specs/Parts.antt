@@ -8,12 +8,12 @@ use Rattle.wax_token.specs.Words.{annotation_of}
 use Rattle.wax_components.specs.TopLevel.{tokens_of, is_separator, is_tree_wildcard, is_boundary, is_literal}
 use Rattle.wax_components.specs.TopLevel.{literal_text}
 
--- the component that begins with a token, if one does: a `**` is one, a `/` begins none, and any other token begins
+-- the component that begins with a token, if one does: a `/` begins none, a `**` is one, and any other token begins
 -- one at an edge, which goes on up to the next boundary
 abbrev pub begun : {A : Type 0} → Bool → Tree A → List (Tree A) → List (List (Tree A))
 begun at_edge t ts =
-    if is_tree_wildcard t then (t ∷ []) ∷ []
-    else if is_separator t then []
+    if is_separator t then []
+    else if is_tree_wildcard t then (t ∷ []) ∷ []
     else if at_edge then (t ∷ before_first is_boundary ts) ∷ []
     else []
 

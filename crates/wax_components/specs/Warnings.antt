@@ -1,5 +1,5 @@
 -- The warnings of a glob.
-use Rattle.std.specs.Prelude.{ℕ, Bool, List, [], ◌∷◌, ◌++◌, if◌then◌else◌, Option, Some, None}
+use Rattle.std.specs.Prelude.{ℕ, Bool, List, [], ◌∷◌, ◌++◌, if◌then◌else◌, Option, Some, None, ◌-◌, length, slice_get}
 use Rattle.std.specs.List.{flat_map, list_any}
 use Rattle.wax_query.specs.Spans.{Span}
 use Rattle.wax_token.specs.Syntax.{Tree}
@@ -16,11 +16,13 @@ semantic_warnings e c =
     if is_semantic c.1 then SemanticLiteral (record { expression = e; span = joint_span c.0; literal = c.1 }) ∷ []
     else []
 
+abbrev pub separator_span : Option (Tree Span) → Option Span
+separator_span None = None
+separator_span (Some t) = if is_separator t then Some (annotation_of t) else None
+
 -- the span of the last of these tokens, if that is a separator
 abbrev pub terminating_span : List (Tree Span) → Option Span
-terminating_span [] = None
-terminating_span (t ∷ []) = if is_separator t then Some (annotation_of t) else None
-terminating_span (t ∷ u ∷ us) = terminating_span (u ∷ us)
+terminating_span ts = separator_span (slice_get ts (length ts - 1))
 
 abbrev pub terminating_warnings : List ℕ → Option Span → List Warning
 terminating_warnings e None = []

@@ -16,7 +16,7 @@ pub fn captures<'t>(
 ) -> Result<Vec<CapturingToken>, NoMemory>
     ensures { IfOk result (λ cs. cs.items ≡ captures token.now) }
 {
-    Ok(captures_in(alloc, token.concatenation())?)
+    Ok(captures_in(alloc, kinds::top_level(token))?)
 }
 
 /// The same of tokens.
@@ -41,7 +41,7 @@ pub fn capture_count<'t, A: Annotation>(token: &Token<'t, A>) -> usize
     ensures { result ≡ length (capturing token.now) }
 {
     let mut count = 0;
-    for token in token.concatenation() {
+    for token in kinds::top_level(token) {
         if kinds::is_capturing(token) {
             count += 1;
         }

@@ -1,9 +1,16 @@
 //! What a token is among the tokens of a glob.
 ghost use Rattle.std.specs.Prelude.{◌≡◌, chars};
 ghost use Rattle.wax_components.specs.Capturing.{is_capturing};
-ghost use Rattle.wax_components.specs.TopLevel.{is_boundary, is_literal, is_separator, literal_text};
+ghost use Rattle.wax_components.specs.TopLevel.{is_boundary, is_literal, is_separator, literal_text, tokens_of};
 
-use wax_token::token::{BranchKind, LeafKind, Token, Topology, Wildcard};
+use wax_token::token::{Annotation, BranchKind, LeafKind, Token, Topology, Wildcard};
+
+/// The top-level tokens of a glob.
+pub(crate) fn top_level<'i, 't, A: Annotation>(token: &'i Token<'t, A>) -> &'i [Token<'t, A>]
+    ensures { result.now ≡ tokens_of token.now }
+{
+    token.concatenation()
+}
 
 /// `/`.
 pub(crate) fn is_separator<'t, A>(token: &Token<'t, A>) -> bool
@@ -50,6 +57,7 @@ pub(crate) fn is_capturing<'t, A>(token: &Token<'t, A>) -> bool
 }
 
 /// The characters of a literal, and none of any other token.
+#[tactic(auto, using(crate::proofs::Texts::no_text))]
 pub(crate) fn literal_text<'i, 't, A>(token: &'i Token<'t, A>) -> &'i str
     ensures { chars result.now ≡ literal_text token.now }
 {

@@ -4,6 +4,7 @@ ghost use Rattle.std.specs.List.{flat_map};
 ghost use Rattle.wax_components.specs.Levels.{literals, literals_in, sub_globs, sub_globs_in};
 ghost use Rattle.wax_components.specs.Warnings.{has_semantic_literals};
 
+use crate::kinds;
 use crate::parts::{Component, LiteralSequence, components_in};
 use std::alloc::{AllocError, Global};
 use std::marker::Model;
@@ -31,6 +32,7 @@ impl<'i, 't, A> Model for Glob<'i, 't, A> {
 type Level<'i, 't, A> = Vec<Glob<'i, 't, A>>;
 
 /// Puts the sub-globs that a top-level token is or holds at the end.
+#[tactic(auto, using(crate::proofs::TopLevels::listed_trees))]
 fn push_globs_in<'i, 't, A>(
     level: &mut Level<'i, 't, A>,
     token: &'i Token<'t, A>,
@@ -78,7 +80,7 @@ fn push_sub_globs<'i, 't, A: Annotation>(
 ) -> Result<(), AllocError>
     ensures { OnOk result (level.new.items ≡ level.old.items ++ sub_globs glob.now) }
 {
-    for token in glob.concatenation() {
+    for token in kinds::top_level(glob) {
         push_globs_in(level, token)?;
     }
     Ok(())
@@ -109,9 +111,10 @@ fn push_literals<'i, 't, A: Annotation>(
 ) -> Result<(), AllocError>
     ensures { OnOk result (found.new.items ≡ found.old.items ++ literals_in glob.now) }
 {
-    for component in components_in(alloc, glob.concatenation())? {
+    let components = components_in(alloc, kinds::top_level(glob))?;
+    for component in components.as_slice() {
         if let Some(literal) = component.literal() {
-            found.push((component, literal))?;
+            found.push((Component::new(component.tokens()), literal))?;
         }
     }
     Ok(())
@@ -167,7 +170,8 @@ pub fn has_semantic_literals<'t, A: Annotation>(
 ) -> Result<bool, NoMemory>
     ensures { IfOk result (λ b. b ≡ has_semantic_literals token.now) }
 {
-    for (_, literal) in literals(alloc, token)? {
+    let literals = literals(alloc, token)?;
+    for (_, literal) in literals.as_slice() {
         if literal.is_semantic_literal() {
             return Ok(true);
         }

@@ -32,6 +32,12 @@ impl<'i, 't, A> Model for Component<'i, 't, A> {
 }
 
 impl<'i, 't, A> Component<'i, 't, A> {
+    pub(crate) fn new(tokens: &'i [Token<'t, A>]) -> Self
+        ensures { result ≡ tokens.now }
+    {
+        Component { tokens }
+    }
+
     /// The tokens from left to right.
     pub fn tokens(&self) -> &'i [Token<'t, A>]
         ensures { result.now ≡ self.now }
@@ -154,9 +160,7 @@ pub(crate) fn components_in<'i, 't, A>(
     while start < tokens.len() {
         let end = start + run_len(&tokens[start..]).max(1);
         if !kinds::is_separator(&tokens[start]) {
-            components.push(Component {
-                tokens: &tokens[start..end],
-            })?;
+            components.push(Component::new(&tokens[start..end]))?;
         }
         start = end;
     }
@@ -172,5 +176,5 @@ pub fn components<'i, 't, A: Annotation>(
     ensures all { IfOk result (λ cs. cs.items ≡ components token.now) }
     ensures longest { IfOk result (λ cs. All (IsComponent (tokens_of token.now)) cs.items) }
 {
-    Ok(components_in(alloc, token.concatenation())?)
+    Ok(components_in(alloc, kinds::top_level(token))?)
 }

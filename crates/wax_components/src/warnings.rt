@@ -174,8 +174,9 @@ fn semantic_literals<'t>(
         flat_map (semantic_warnings (chars expression.now)) (literals token.now)) }
 {
     let mut warnings = Vec::new(alloc);
-    for (component, literal) in literals(alloc, token)? {
-        push_semantic(&mut warnings, expression, &component, &literal)?;
+    let literals = literals(alloc, token)?;
+    for (component, literal) in literals.as_slice() {
+        push_semantic(&mut warnings, expression, component, literal)?;
     }
     Ok(warnings)
 }
@@ -191,7 +192,7 @@ pub fn diagnose<'t>(
     ensures { IfOk result (λ ws. ws.items ≡ warnings (chars expression.now) token.now) }
 {
     let mut warnings = semantic_literals(alloc, expression, token)?;
-    if let Some(span) = terminating_span(token.concatenation()) {
+    if let Some(span) = terminating_span(kinds::top_level(token)) {
         push_terminating(&mut warnings, expression, span)?;
     }
     Ok(warnings)
