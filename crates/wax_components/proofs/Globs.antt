@@ -103,7 +103,10 @@ unfolding rest levels
 rest_step [] = refl
 rest_step (t ∷ ts) =
     let l = lighter_level (t ∷ ts) in
-    enough (weight (t ∷ ts)) (suc (weight (flat_map sub_globs (t ∷ ts)))) (t ∷ ts) (omega arith) (omega (arith, l))
+    let k : weight (t ∷ ts) ≡ suc (tree_size t + weight ts) = omega arith in
+    ap (λ n. levels n (t ∷ ts)) k
+    ∙ ap (λ z. (t ∷ ts) ++ z)
+    (enough (tree_size t + weight ts) (weight (flat_map sub_globs (t ∷ ts))) (flat_map sub_globs (t ∷ ts)) (omega (arith, l, k)) (omega arith))
 
 pub nothing_deeper : {A : Type 0} (n : ℕ) (ts : List (Tree A)) → weight ts ≤ n → flat_map (globs_at n) ts ≡ []
 nothing_deeper n [] h = refl

@@ -1,5 +1,5 @@
 //! The components of a glob.
-ghost use Rattle.std.specs.Prelude.{◌≡◌, ◌<◌, All, IfOk, chars, fold, if◌then◌else◌, length, string_bytes, true};
+ghost use Rattle.std.specs.Prelude.{◌≡◌, All, IfOk, MatchOption, chars, false, fold, if◌then◌else◌, string_bytes, true};
 ghost use Rattle.std.specs.List.{list_all, position_or_len};
 ghost use Rattle.wax_components.specs.Parts.{IsComponent, components, components_in, is_semantic, joint_span};
 ghost use Rattle.wax_components.specs.Parts.{text_of};
@@ -110,12 +110,23 @@ impl<'i, 't, A> LiteralSequence<'i, 't, A> {
     pub fn is_semantic_literal(&self) -> bool
         ensures { result ≡ is_semantic self.now }
     {
-        let dots = self.dots();
-        dots == 1 || dots == 2
+        self.semantic_text().is_some()
     }
 
-    /// How many dots the text is: 1, 2, or 3 where it is any other text that isn't empty.
-    pub(crate) fn dots(&self) -> u8
+    /// The text, if it is `.` or `..`.
+    pub(crate) fn semantic_text(&self) -> Option<&'static str>
+        ensures { MatchOption result (is_semantic self.now ≡ false)
+            (λ s. (is_semantic self.now ≡ true) × (chars s.now ≡ self.now)) }
+    {
+        match self.dots() {
+            1 => Some("."),
+            2 => Some(".."),
+            _ => None,
+        }
+    }
+
+    /// How many dots the text is: none, 1, 2, or 3 where it is any other text.
+    fn dots(&self) -> u8
         ensures { result ≡ dots_of self.now }
     {
         let mut dots = 0;

@@ -124,10 +124,8 @@ fn push_semantic<'t>(
     ensures { OnOk result (warnings.new.items ≡
         warnings.old.items ++ semantic_warnings (chars expression.now) (component.now, literal.now)) }
 {
-    let literal = match literal.dots() {
-        1 => ".",
-        2 => "..",
-        _ => return Ok(()),
+    let Some(literal) = literal.semantic_text() else {
+        return Ok(());
     };
     warnings.push(Warning::SemanticLiteral(SemanticLiteralWarning {
         expression,

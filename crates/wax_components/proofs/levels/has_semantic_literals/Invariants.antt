@@ -6,4 +6,4 @@ use Rattle.wax_components.proofs.levels.has_semantic_literals.Given as goal
 
 abbrev pub invariant-loop-literal : goal.invariant-loop-literal
 invariant-loop-literal g l =
-    list_any (λ c. is_semantic c.1) (drop l.literal-index l.literals.items) ≡ has_semantic_literals l.token
+    list_any (λ c. is_semantic c.1) (drop l.literal-index l.literal-items) ≡ has_semantic_literals l.token
