@@ -1,6 +1,8 @@
 -- Texts of literals.
-use Rattle.std.proofs.Common.{◌≡◌, ℕ, Bool, true, false, ◌||◌, ◌==◌, List, [], ◌∷◌, refl, ◌∙◌, chars, fold, nat_eq}
+use Rattle.std.proofs.Common.{◌≡◌, ℕ, Bool, true, false, ◌==◌, List, [], ◌∷◌, refl, sym, ◌∙◌, ap, arith, fold}
+use Rattle.std.proofs.lemmas.Bool.{eqb-true}
 use Rattle.std.proofs.lemmas.Str.{chars-nil}
+use Rattle.std.specs.Str.{chars}
 use Rattle.wax_components.specs.Parts.{is_semantic}
 use Rattle.wax_components.specs.inner.Dots.{dot_after, dots_of}
 
@@ -28,20 +30,47 @@ first : (c d e : ℕ) (s : List ℕ) (b : Bool) → (c == 46) ≡ b → dots_of 
 first c d e s true k = rw k (second d e s (d == 46) refl)
 first c d e s false k = rw k (stays (d ∷ e ∷ s))
 
-one_dot : (c : ℕ) (b : Bool) → (c == 46) ≡ b → is_semantic (c ∷ []) ≡ (nat_eq (dots_of (c ∷ [])) 1 || nat_eq (dots_of (c ∷ [])) 2)
-one_dot c true e = rw e refl
-one_dot c false e = rw e refl
+-- ---- a text is `.` or `..` where it is one or two dots
+abbrev IsText : List ℕ → List ℕ → Type 0
+IsText t s = (is_semantic s ≡ true) × (chars t ≡ s)
 
-two_dots : (c d : ℕ) (a b : Bool) → (c == 46) ≡ a → (d == 46) ≡ b
-    → is_semantic (c ∷ d ∷ []) ≡ (nat_eq (dots_of (c ∷ d ∷ [])) 1 || nat_eq (dots_of (c ∷ d ∷ [])) 2)
-two_dots c d true true e f = rw (e, f) refl
-two_dots c d true false e f = rw (e, f) refl
-two_dots c d false true e f = rw (e, f) refl
-two_dots c d false false e f = rw (e, f) refl
+dot : chars (46 ∷ []) ≡ 46 ∷ []
+unfolding chars
+dot = refl
 
--- a text is `.` or `..` where it is one or two dots
-pub semantic_dots : (s : List ℕ) → is_semantic s ≡ (nat_eq (dots_of s) 1 || nat_eq (dots_of s) 2)
-semantic_dots [] = refl
-semantic_dots (c ∷ []) = one_dot c (c == 46) refl
-semantic_dots (c ∷ d ∷ []) = two_dots c d (c == 46) (d == 46) refl refl
-semantic_dots (c ∷ d ∷ e ∷ s) = rw (first c d e s (c == 46) refl) refl
+dots : chars (46 ∷ 46 ∷ []) ≡ 46 ∷ 46 ∷ []
+unfolding chars
+dots = refl
+
+one_at : (c : ℕ) (b : Bool) → (c == 46) ≡ b → dots_of (c ∷ []) ≡ 1 → IsText (46 ∷ []) (c ∷ [])
+one_at c true e h = (e, dot ∙ ap (λ z. z ∷ []) (sym (eqb-true c 46 e)))
+one_at c false e h = absurd (omega (arith, rw e at h))
+
+not_one_at : (c d : ℕ) (a b : Bool) → (c == 46) ≡ a → (d == 46) ≡ b → dots_of (c ∷ d ∷ []) ≡ 1 → ⊥
+not_one_at c d true true e f h = omega (arith, rw (e, f) at h)
+not_one_at c d true false e f h = omega (arith, rw (e, f) at h)
+not_one_at c d false true e f h = omega (arith, rw (e, f) at h)
+not_one_at c d false false e f h = omega (arith, rw (e, f) at h)
+
+pub one_dot : (s : List ℕ) → dots_of s ≡ 1 → IsText (46 ∷ []) s
+one_dot [] h = absurd (omega (arith, h))
+one_dot (c ∷ []) h = one_at c (c == 46) refl h
+one_dot (c ∷ d ∷ []) h = absurd (not_one_at c d (c == 46) (d == 46) refl refl h)
+one_dot (c ∷ d ∷ e ∷ s) h = absurd (omega (arith, h, first c d e s (c == 46) refl))
+
+not_two_at : (c : ℕ) (b : Bool) → (c == 46) ≡ b → dots_of (c ∷ []) ≡ 2 → ⊥
+not_two_at c true e h = omega (arith, rw e at h)
+not_two_at c false e h = omega (arith, rw e at h)
+
+two_at : (c d : ℕ) (a b : Bool) → (c == 46) ≡ a → (d == 46) ≡ b → dots_of (c ∷ d ∷ []) ≡ 2 → IsText (46 ∷ 46 ∷ []) (c ∷ d ∷ [])
+two_at c d true true e f h =
+    (rw (e, f) refl, dots ∙ ap (λ z. z ∷ 46 ∷ []) (sym (eqb-true c 46 e)) ∙ ap (λ z. c ∷ z ∷ []) (sym (eqb-true d 46 f)))
+two_at c d true false e f h = absurd (omega (arith, rw (e, f) at h))
+two_at c d false true e f h = absurd (omega (arith, rw (e, f) at h))
+two_at c d false false e f h = absurd (omega (arith, rw (e, f) at h))
+
+pub two_dots : (s : List ℕ) → dots_of s ≡ 2 → IsText (46 ∷ 46 ∷ []) s
+two_dots [] h = absurd (omega (arith, h))
+two_dots (c ∷ []) h = absurd (not_two_at c (c == 46) refl h)
+two_dots (c ∷ d ∷ []) h = two_at c d (c == 46) (d == 46) refl refl h
+two_dots (c ∷ d ∷ e ∷ s) h = absurd (omega (arith, h, first c d e s (c == 46) refl))
