@@ -108,9 +108,12 @@ rest_step (t ∷ ts) =
     ∙ ap (λ z. (t ∷ ts) ++ z)
     (enough (tree_size t + weight ts) (weight (flat_map sub_globs (t ∷ ts))) (flat_map sub_globs (t ∷ ts)) (omega (arith, l, k)) (omega arith))
 
-pub nothing_deeper : {A : Type 0} (n : ℕ) (ts : List (Tree A)) → weight ts ≤ n → flat_map (globs_at n) ts ≡ []
+nothing_deeper : {A : Type 0} (n : ℕ) (ts : List (Tree A)) → weight ts ≤ n → flat_map (globs_at n) ts ≡ []
 nothing_deeper n [] h = refl
 nothing_deeper zero (t ∷ ts) h = absurd (omega (arith, h))
 nothing_deeper (suc n) (t ∷ ts) h =
     let l = lighter_level (t ∷ ts) in
     at-suc n (t ∷ ts) ∙ nothing_deeper n (flat_map sub_globs (t ∷ ts)) (omega (arith, h, l))
+
+pub no_deeper : {A : Type 0} (t : Tree A) (n : ℕ) → tree_size t < n → globs_at n t ≡ []
+no_deeper t n h = sym (append-nil (globs_at n t)) ∙ nothing_deeper n (t ∷ []) (omega (arith, h))

@@ -48,10 +48,10 @@ step t ts false false e f =
       omega (arith, prefix_len-le-length (λ u. not (is_boundary u)) ts),
       (λ k. absurd (cc)),
       (λ k. rw (e, f) (
-        ap (λ z. (t ∷ take p ts) ∷ z) (within_run ts)
-        ∙ ap (λ z. z ∷ components_in true (drop p ts)) (sym (one_more p t ts))
-        ∙ ap (λ z. take (1 + p) (t ∷ ts) ∷ components_in true z) (sym (past_one p t ts))
-      )),
+          ap (λ z. (t ∷ take p ts) ∷ z) (within_run ts)
+          ∙ ap (λ z. z ∷ components_in true (drop p ts)) (sym (one_more p t ts))
+          ∙ ap (λ z. take (1 + p) (t ∷ ts) ∷ components_in true z) (sym (past_one p t ts))
+          )),
     )
 
 pub part_fits : {A : Type 0} (ts : List (Tree A)) (i : ℕ) → i < length ts → i + max (position_or_len is_boundary (drop i ts)) 1 ≤ length ts
@@ -69,8 +69,7 @@ next_part ts i n x h e k =
     let s : Step x us n = subst (Step x us) (sym m) (step x us (is_separator x) (is_tree_wildcard x) refl refl) in
     let len : length ts - i ≡ length (x ∷ us) = sym (length-drop i ts) ∙ ap length split in
     let rest : drop n (x ∷ us) ≡ drop (i + n) ts = ap (drop n) (sym split) ∙ drop-drop n i ts in
-    let there : (i + n) - i ≡ n = omega arith in
-    (
+    let there : (i + n) - i ≡ n = omega arith in (
       omega (arith, s.0, len, h),
       (λ q. ap (components_in true) split ∙ s.1 q ∙ ap (components_in true) rest),
       (λ q. ap (components_in true) split ∙ s.2 q
@@ -110,7 +109,7 @@ begun_is_longest : {A : Type 0} (at_edge : Bool) (before : List (Tree A)) (t : T
     All (IsComponent (before ++ t ∷ ts)) (begun at_edge t ts)
 begun_is_longest at_edge before t ts true w e f h = rw e (All-nil _)
 begun_is_longest at_edge before t ts false true e f h =
-    rw (e, f) (All-cons (IsComponent (before ++ t ∷ ts)) (t ∷ []) [] (before, ts, refl, inl (t, refl, f)) (All-nil _))
+    rw (e, f) (All-cons (IsComponent (before ++ t ∷ ts)) (t ∷ []) [] (before, ts, refl, inl (t, refl, f)) (All-nil (IsComponent (before ++ t ∷ ts))))
 begun_is_longest false before t ts false false e f h = rw (e, f) (All-nil _)
 begun_is_longest true before t ts false false e f h =
     let run : List (Tree _) = before_first is_boundary ts in
@@ -121,7 +120,7 @@ begun_is_longest true before t ts false false e f h =
       after,
       ap (λ z. before ++ t ∷ z) (sym (take-append-drop (position_or_len is_boundary ts) ts)),
       inr (h refl, rw plain (run_is_plain ts), run_ends ts),
-    ) (All-nil _))
+    ) (All-nil (IsComponent (before ++ t ∷ ts))))
 
 longest_from : {A : Type 0} (at_edge : Bool) (before ts : List (Tree A)) → (at_edge ≡ true → ends_with_boundary before ≡ true) →
     All (IsComponent (before ++ ts)) (components_in at_edge ts)
@@ -130,7 +129,7 @@ longest_from at_edge before (t ∷ ts) h =
     All-append (IsComponent (before ++ t ∷ ts)) (begun at_edge t ts) (components_in (is_boundary t) ts)
     (begun_is_longest at_edge before t ts (is_separator t) (is_tree_wildcard t) refl refl h)
     (subst (λ all. All (IsComponent all) (components_in (is_boundary t) ts)) (append_assoc before (t ∷ []) ts)
-      (longest_from (is_boundary t) (before ++ t ∷ []) ts (λ k. ends-push before t ∙ k)))
+    (longest_from (is_boundary t) (before ++ t ∷ []) ts (λ k. ends-push before t ∙ k)))
 
 pub components_are_longest : {A : Type 0} (ts : List (Tree A)) → All (IsComponent ts) (components_in true ts)
 components_are_longest ts = longest_from true [] ts (λ _. refl)

@@ -1,7 +1,8 @@
 //! The literals of a glob and its sub-globs.
-ghost use Rattle.std.specs.Prelude.{◌≡◌, ◌++◌, ◌∷◌, [], IfOk, OnOk};
+ghost use Rattle.std.specs.Prelude.{◌≡◌, ◌++◌, ◌∷◌, ◌<◌, [], ℕ, IfOk, OnOk};
 ghost use Rattle.std.specs.List.{flat_map};
-ghost use Rattle.wax_components.specs.Levels.{literals, literals_in, sub_globs, sub_globs_in};
+ghost use Rattle.wax_token.specs.Syntax.{tree_size};
+ghost use Rattle.wax_components.specs.Levels.{globs_at, literals, literals_in, sub_globs, sub_globs_in};
 ghost use Rattle.wax_components.specs.Warnings.{has_semantic_literals};
 
 use crate::kinds;
@@ -154,11 +155,14 @@ fn all_literals<'i, 't, A: Annotation>(
 /// The components of literals alone, with what they spell, of a glob and all its sub-globs: level after
 /// level, and in each from left to right. Takes memory for the list and for two levels, and time in
 /// proportion to the tokens.
+#[tactic(auto, using(crate::proofs::Globs::no_deeper))]
 pub fn literals<'i, 't, A: Annotation>(
     alloc: Global,
     token: &'i Token<'t, A>,
 ) -> Result<Vec<(Component<'i, 't, A>, LiteralSequence<'i, 't, A>)>, NoMemory>
-    ensures { IfOk result (λ ls. ls.items ≡ literals token.now) }
+    ensures all { IfOk result (λ ls. ls.items ≡ literals token.now) }
+    // no sub-glob is left out
+    ensures deepest { (n : ℕ) → tree_size token.now < n → globs_at n token.now ≡ [] }
 {
     Ok(all_literals(alloc, token)?)
 }

@@ -87,7 +87,7 @@ pub struct LiteralSequence<'i, 't, A> {
 impl<'i, 't, A> Model for LiteralSequence<'i, 't, A> {
     ghost use Rattle.std.specs.Prelude.{List, ℕ};
     ghost use Rattle.wax_components.specs.Parts.{text_of};
-ghost use Rattle.wax_components.specs.inner.Dots.{dot_after, dots_of};
+    ghost use Rattle.wax_components.specs.inner.Dots.{dot_after, dots_of};
 
     ghost Value = { List ℕ };
 

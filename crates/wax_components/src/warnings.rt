@@ -155,10 +155,7 @@ fn push_terminating<'t>(
     ensures { OnOk result (warnings.new.items ≡
         warnings.old.items ++ terminating_warnings (chars expression.now) (Some span)) }
 {
-    warnings.push(Warning::TerminatingSeparator(TerminatingSeparatorWarning {
-        expression,
-        span,
-    }))?;
+    warnings.push(Warning::TerminatingSeparator(TerminatingSeparatorWarning { expression, span }))?;
     Ok(())
 }
 
