@@ -119,7 +119,7 @@ begun_is_longest true before t ts false false e f h =
       before,
       after,
       ap (λ z. before ++ t ∷ z) (sym (take-append-drop (position_or_len is_boundary ts) ts)),
-      inr (h refl, rw plain (run_is_plain ts), run_ends ts),
+      inr ((omega arith, rw plain (run_is_plain ts)), h refl, run_ends ts),
     ) (All-nil (IsComponent (before ++ t ∷ ts))))
 
 longest_from : {A : Type 0} (at_edge : Bool) (before ts : List (Tree A)) → (at_edge ≡ true → ends_with_boundary before ≡ true) →

@@ -1,6 +1,6 @@
 -- The components of a glob: what stands between its boundaries, and each `**`.
-use Rattle.std.specs.Prelude.{◌≡◌, ℕ, Bool, true, false, ◌&&◌, ◌||◌, ◌==◌, if◌then◌else◌, not, ◌⊎◌}
-use Rattle.std.specs.Prelude.{List, [], ◌∷◌, ◌++◌, Option, Some, None, fold, filter}
+use Rattle.std.specs.Prelude.{◌≡◌, ℕ, Bool, true, false, ◌&&◌, ◌==◌, if◌then◌else◌, not, ◌⊎◌}
+use Rattle.std.specs.Prelude.{◌<◌, length, List, [], ◌∷◌, ◌++◌, fold}
 use Rattle.std.specs.List.{before_first, flat_map, list_all}
 use Rattle.wax_query.specs.Spans.{Span, span_union}
 use Rattle.wax_token.specs.Syntax.{Tree}
@@ -8,8 +8,8 @@ use Rattle.wax_token.specs.Words.{annotation_of}
 use Rattle.wax_components.specs.TopLevel.{tokens_of, is_separator, is_tree_wildcard, is_boundary, is_literal}
 use Rattle.wax_components.specs.TopLevel.{literal_text}
 
--- the component that begins with a token, if one does: a `/` begins none, a `**` is one, and any other token begins
--- one at an edge, which goes on up to the next boundary
+-- the component that begins with a token, if one does: a `/` begins none, a `**` is one, and any other
+-- token begins one at an edge, which goes on up to the next boundary
 abbrev pub begun : {A : Type 0} → Bool → Tree A → List (Tree A) → List (List (Tree A))
 begun at_edge t ts =
     if is_separator t then []
@@ -34,11 +34,17 @@ ends_with_boundary [] = true
 ends_with_boundary (t ∷ []) = is_boundary t
 ends_with_boundary (t ∷ u ∷ us) = ends_with_boundary (u ∷ us)
 
+abbrev pub IsTreeAlone : {A : Type 0} → List (Tree A) → Type 0
+IsTreeAlone {A} part = (t : Tree A) × (part ≡ t ∷ []) × (is_tree_wildcard t ≡ true)
+
+abbrev pub IsRun : {A : Type 0} → List (Tree A) → Type 0
+IsRun part = (0 < length part) × (list_all (λ t. not (is_boundary t)) part ≡ true)
+
 -- a `**` alone, or tokens that are no boundaries, with a boundary or an end at both sides
 abbrev pub IsLongest : {A : Type 0} → List (Tree A) → List (Tree A) → List (Tree A) → Type 0
-IsLongest {A} before part after =
-    ((t : Tree A) × (part ≡ t ∷ []) × (is_tree_wildcard t ≡ true))
-    ⊎ ((ends_with_boundary before ≡ true) × (list_all (λ t. not (is_boundary t)) part ≡ true) × (begins_with_boundary after ≡ true))
+IsLongest before part after =
+    IsTreeAlone part
+    ⊎ (IsRun part × (ends_with_boundary before ≡ true) × (begins_with_boundary after ≡ true))
 
 -- a part of the tokens that can't be made longer
 abbrev pub IsComponent : {A : Type 0} → List (Tree A) → List (Tree A) → Type 0

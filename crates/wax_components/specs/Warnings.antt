@@ -1,5 +1,6 @@
 -- The warnings of a glob.
-use Rattle.std.specs.Prelude.{ℕ, Bool, List, [], ◌∷◌, ◌++◌, if◌then◌else◌, Option, Some, None, ◌-◌, length, slice_get}
+use Rattle.std.specs.Prelude.{ℕ, ◌-◌, Bool, List, [], ◌∷◌, ◌++◌, length, slice_get}
+use Rattle.std.specs.Prelude.{Option, Some, None, if◌then◌else◌}
 use Rattle.std.specs.List.{flat_map, list_any}
 use Rattle.wax_query.specs.Spans.{Span}
 use Rattle.wax_token.specs.Syntax.{Tree}
@@ -13,7 +14,8 @@ use Rattle.wax_components.specs.declared.warnings.Warning.TheVariants.{SemanticL
 -- the warning of a component with its text, if that is `.` or `..`
 abbrev pub semantic_warnings : List ℕ → List (Tree Span) × List ℕ → List Warning
 semantic_warnings e c =
-    if is_semantic c.1 then SemanticLiteral (record { expression = e; span = joint_span c.0; literal = c.1 }) ∷ []
+    if is_semantic c.1
+    then SemanticLiteral (record { expression = e; span = joint_span c.0; literal = c.1 }) ∷ []
     else []
 
 abbrev pub separator_span : Option (Tree Span) → Option Span

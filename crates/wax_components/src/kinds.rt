@@ -1,7 +1,8 @@
 //! What a token is among the tokens of a glob.
 ghost use Rattle.std.specs.Prelude.{◌≡◌, chars};
 ghost use Rattle.wax_components.specs.Capturing.{is_capturing};
-ghost use Rattle.wax_components.specs.TopLevel.{is_boundary, is_literal, is_separator, literal_text, tokens_of};
+ghost use Rattle.wax_components.specs.TopLevel.{is_boundary, is_literal, is_separator};
+ghost use Rattle.wax_components.specs.TopLevel.{literal_text, tokens_of};
 
 use wax_token::token::{Annotation, BranchKind, LeafKind, Token, Topology, Wildcard};
 

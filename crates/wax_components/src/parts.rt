@@ -1,5 +1,6 @@
 //! The components of a glob.
-ghost use Rattle.std.specs.Prelude.{◌≡◌, All, IfOk, MatchOption, chars, false, fold, if◌then◌else◌, string_bytes, true};
+ghost use Rattle.std.specs.Prelude.{◌≡◌, All, IfOk, MatchOption, if◌then◌else◌, false, true};
+ghost use Rattle.std.specs.Prelude.{chars, fold, string_bytes};
 ghost use Rattle.std.specs.List.{list_all, position_or_len};
 ghost use Rattle.wax_components.specs.Parts.{IsComponent, components, components_in, is_semantic, joint_span};
 ghost use Rattle.wax_components.specs.Parts.{text_of};

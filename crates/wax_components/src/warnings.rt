@@ -30,7 +30,11 @@ impl<'t> Model for SemanticLiteralWarning<'t> {
 
     ghost Value = { SemanticView };
 
-    ghost view = { λ w. record { expression = chars w.expression.now; span = w.span; literal = chars w.literal.now } };
+    ghost view = { λ w. record {
+      expression = chars w.expression.now;
+      span = w.span;
+      literal = chars w.literal.now;
+    } };
 }
 
 impl<'t> SemanticLiteralWarning<'t> {

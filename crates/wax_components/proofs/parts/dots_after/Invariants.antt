@@ -1,4 +1,4 @@
-use Rattle.std.proofs.Common.{◌≡◌, ◌≤◌, fold}
+use Rattle.std.proofs.Common.{◌≡◌, fold}
 use Rattle.wax_components.specs.inner.Dots.{dot_after}
 use Rattle.wax_components.proofs.parts.dots_after.Given as goal
 

@@ -1,4 +1,4 @@
-use Rattle.std.proofs.Common.{◌≡◌, ◌∙◌, sym}
+use Rattle.std.proofs.Common.{◌∙◌, sym}
 use Rattle.wax_components.proofs.Texts.{one_dot, two_dots}
 use Rattle.wax_components.proofs.parts.LiteralSequence.semantic_text.Goals as goal
 
