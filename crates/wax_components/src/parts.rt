@@ -46,7 +46,7 @@ impl<'i, 't, A> Component<'i, 't, A> {
         self.tokens
     }
 
-    /// Its literals, if all its tokens are.
+    /// Its literals, if all its tokens are literals. Takes no memory.
     pub fn literal(&self) -> Option<LiteralSequence<'i, 't, A>>
         ensures { result ≡ (if list_all is_literal self.now then Some (text_of self.now) else None) }
     {
@@ -71,9 +71,7 @@ impl<'i, 't> Component<'i, 't, ExpressionMetadata> {
         };
         let mut span = first.annotation().span();
         for token in &self.tokens[1..] {
-            if let Some(union) = span.union(token.annotation().span()) {
-                span = union;
-            }
+            span = span.union(token.annotation().span()).unwrap_or(span);
         }
         span
     }
@@ -88,7 +86,6 @@ pub struct LiteralSequence<'i, 't, A> {
 impl<'i, 't, A> Model for LiteralSequence<'i, 't, A> {
     ghost use Rattle.std.specs.Prelude.{List, ℕ};
     ghost use Rattle.wax_components.specs.Parts.{text_of};
-    ghost use Rattle.wax_components.specs.inner.Dots.{dot_after, dots_of};
 
     ghost Value = { List ℕ };
 

@@ -96,7 +96,7 @@ impl LocatedError for TerminatingSeparatorWarning<'_> {
     }
 }
 
-/// What an expression is warned of that builds.
+/// What an expression that builds is warned of.
 #[derive(Debug, Drop, Error)]
 pub enum Warning<'t> {
     #[error("{0}")]
