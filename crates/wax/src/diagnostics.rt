@@ -1,5 +1,6 @@
 //! Places in an expression, and how a build can end.
 
+pub use wax_components::{SemanticLiteralWarning, TerminatingSeparatorWarning, Warning};
 pub use wax_query::diagnostics::{
     CompositeSpan, CorrelatedSpan, LocatedError, NoMemory, Refusal, Span, SpanExt, Spanned,
 };

@@ -1,6 +1,9 @@
 //! A glob: an expression with its tokens and its program.
 ghost use Rattle.std.specs.Prelude.{◌≡◌, ◌≤◌, ◌↔◌, ◌+◌, ◌*◌, ◌++◌, ◌∷◌, [], ℕ, List, IsTrue, IfOk, IfSome};
 ghost use Rattle.std.specs.Prelude.{MatchOption, Some, chars, encode_utf8_all, length, false};
+ghost use Rattle.wax_components.specs.Capturing.{captures};
+ghost use Rattle.wax_components.specs.Levels.{has_semantic_literals};
+ghost use Rattle.wax_components.specs.Warnings.{warnings};
 ghost use Rattle.wax_depth.specs.Depth.{Depth};
 ghost use Rattle.wax_facts.specs.Exhaustive.{exhaustive};
 ghost use Rattle.wax_facts.specs.InvariantText.{Text, Variant};
@@ -19,6 +22,7 @@ use std::borrow::CowStr;
 use std::fmt;
 use std::marker::Model;
 use wax_candidate::{CandidatePath, Program};
+use wax_components::{Warning, captures, diagnose, has_semantic_literals};
 use wax_depth::depth;
 use wax_facts::{has_root, is_exhaustive, text};
 use wax_match::encode;
@@ -26,7 +30,7 @@ use wax_match::encode::Meter;
 use wax_parse::parse::parse;
 use wax_prefilter::Prefilter;
 use wax_query::diagnostics::NoMemory;
-use wax_query::query::{DepthVariance, TextVariance, Variance, When};
+use wax_query::query::{CapturingToken, DepthVariance, TextVariance, Variance, When};
 use wax_rule::rule::check;
 use wax_token::token::{ExpressionMetadata, Tokenized};
 
@@ -94,6 +98,29 @@ impl<'t> Glob<'t> {
         ensures { chars result.now ≡ self.now.expression }
     {
         self.tokenized.expression.as_str()
+    }
+
+    /// The tokens that capture: each class, wildcard, alternation and repetition that isn't in another
+    /// token, numbered from 1, with its span. Refused with 10 where memory is.
+    pub fn captures(&self, alloc: Global) -> Result<Vec<CapturingToken>, NoMemory>
+        ensures { IfOk result (λ tokens. tokens.items ≡ captures self.now.tree) }
+    {
+        captures(alloc, &self.tokenized.token)
+    }
+
+    /// What is to be warned of: each component whose text is `.` or `..`, of the glob and its sub-globs by
+    /// level, and then a separator at the end. Refused with 10 where memory is.
+    pub fn diagnose(&self, alloc: Global) -> Result<Vec<Warning<'_>>, NoMemory>
+        ensures { IfOk result (λ ws. ws.items ≡ warnings self.now.expression self.now.tree) }
+    {
+        diagnose(alloc, self.expression(), &self.tokenized.token)
+    }
+
+    /// Whether the text of a component is `.` or `..`. Refused with 10 where memory is.
+    pub fn has_semantic_literals(&self, alloc: Global) -> Result<bool, NoMemory>
+        ensures { IfOk result (λ answer. answer ≡ has_semantic_literals self.now.tree) }
+    {
+        has_semantic_literals(alloc, &self.tokenized.token)
     }
 }
 

@@ -1,5 +1,6 @@
 //! Expressions and the tokens that they spell.
 
+pub use wax_components::{Component, LiteralSequence, capture_count, captures, components, literals};
 pub use wax_depth::depth;
 pub use wax_facts::{TokenFacts, partition};
 pub use wax_parse::parse::{ErrorEntry, ParseError, parse};

@@ -1,0 +1,5 @@
+pub mod Runs
+pub mod Texts
+pub mod Globs
+pub mod TopLevels
+pub mod Rows

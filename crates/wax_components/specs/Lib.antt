@@ -1,0 +1,7 @@
+pub mod TopLevel
+pub mod Parts
+pub mod Levels
+pub mod Capturing
+pub mod Views
+pub mod Warnings
+pub mod inner

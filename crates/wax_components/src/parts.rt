@@ -1,0 +1,189 @@
+//! The components of a glob.
+ghost use Rattle.std.specs.Prelude.{◌≡◌, All, IfOk, MatchOption, if◌then◌else◌, false, true};
+ghost use Rattle.std.specs.Prelude.{chars, fold, string_bytes};
+ghost use Rattle.std.specs.List.{list_all, position_or_len};
+ghost use Rattle.wax_components.specs.Parts.{IsComponent, components, components_in, is_semantic, joint_span};
+ghost use Rattle.wax_components.specs.Parts.{text_of};
+ghost use Rattle.wax_components.specs.inner.Dots.{dot_after, dots_of};
+ghost use Rattle.wax_components.specs.TopLevel.{is_boundary, is_literal, tokens_of};
+
+use crate::kinds;
+use std::alloc::{AllocError, Global};
+use std::marker::Model;
+use wax_query::diagnostics::{NoMemory, Span, SpanExt};
+use wax_token::token::{Annotation, ExpressionMetadata, Token};
+
+/// A component of a glob: the tokens between two boundaries, or a `**`. Contracts see the tokens.
+#[derive(Drop)]
+pub struct Component<'i, 't, A> {
+    tokens: &'i [Token<'t, A>],
+}
+
+impl<'i, 't, A> Model for Component<'i, 't, A> {
+    ghost use Rattle.std.specs.Prelude.{List};
+    ghost use Rattle.std.specs.Coded.{coded_list};
+    ghost use Rattle.wax_token.specs.Syntax.{Tree};
+    ghost use Rattle.wax_token.specs.TreeCode.{tree_code};
+
+    ghost Value = { List (Tree A) };
+
+    ghost coded = { coded_list (tree_code A.code) };
+
+    ghost view = { λ c. c.tokens.now };
+}
+
+impl<'i, 't, A> Component<'i, 't, A> {
+    pub(crate) fn new(tokens: &'i [Token<'t, A>]) -> Self
+        ensures { result ≡ tokens.now }
+    {
+        Component { tokens }
+    }
+
+    /// The tokens from left to right.
+    pub fn tokens(&self) -> &'i [Token<'t, A>]
+        ensures { result.now ≡ self.now }
+    {
+        self.tokens
+    }
+
+    /// Its literals, if all its tokens are literals. Takes no memory.
+    pub fn literal(&self) -> Option<LiteralSequence<'i, 't, A>>
+        ensures { result ≡ (if list_all is_literal self.now then Some (text_of self.now) else None) }
+    {
+        for token in self.tokens {
+            if !kinds::is_literal(token) {
+                return None;
+            }
+        }
+        Some(LiteralSequence {
+            tokens: self.tokens,
+        })
+    }
+}
+
+impl<'i, 't> Component<'i, 't, ExpressionMetadata> {
+    /// The least span that holds the spans of its tokens.
+    pub fn span(&self) -> Span
+        ensures { result ≡ joint_span self.now }
+    {
+        let Some(first) = self.tokens.first() else {
+            return (0, 0);
+        };
+        let mut span = first.annotation().span();
+        for token in &self.tokens[1..] {
+            span = span.union(token.annotation().span()).unwrap_or(span);
+        }
+        span
+    }
+}
+
+/// Literals one after another. Contracts see the characters that they spell together.
+#[derive(Drop)]
+pub struct LiteralSequence<'i, 't, A> {
+    tokens: &'i [Token<'t, A>],
+}
+
+impl<'i, 't, A> Model for LiteralSequence<'i, 't, A> {
+    ghost use Rattle.std.specs.Prelude.{List, ℕ};
+    ghost use Rattle.wax_components.specs.Parts.{text_of};
+
+    ghost Value = { List ℕ };
+
+    ghost view = { λ s. text_of s.tokens.now };
+}
+
+impl<'i, 't, A> LiteralSequence<'i, 't, A> {
+    /// The characters that the literals spell together. Refused with 10 where memory is.
+    pub fn text(&self, alloc: Global) -> Result<String, NoMemory>
+        ensures { IfOk result (λ s. chars (string_bytes s) ≡ self.now) }
+    {
+        let mut text = String::new(alloc);
+        for token in self.tokens {
+            text.push_str(kinds::literal_text(token))?;
+        }
+        Ok(text)
+    }
+
+    /// Whether the text is `.` or `..`, which name a folder by where it stands. Takes no memory.
+    pub fn is_semantic_literal(&self) -> bool
+        ensures { result ≡ is_semantic self.now }
+    {
+        self.semantic_text().is_some()
+    }
+
+    /// The text, if it is `.` or `..`.
+    pub(crate) fn semantic_text(&self) -> Option<&'static str>
+        ensures { MatchOption result (is_semantic self.now ≡ false)
+            (λ s. (is_semantic self.now ≡ true) × (chars s.now ≡ self.now)) }
+    {
+        match self.dots() {
+            1 => Some("."),
+            2 => Some(".."),
+            _ => None,
+        }
+    }
+
+    /// How many dots the text is: none, 1, 2, or 3 where it is any other text.
+    fn dots(&self) -> u8
+        ensures { result ≡ dots_of self.now }
+    {
+        let mut dots = 0;
+        for token in self.tokens {
+            dots = dots_after(dots, kinds::literal_text(token));
+        }
+        dots
+    }
+}
+
+/// How many dots a text is, where so many stand before it.
+fn dots_after(before: u8, text: &str) -> u8
+    ensures { result ≡ fold dot_after before (chars text.now) }
+{
+    let mut dots = before;
+    for c in text.chars() {
+        dots = if c == '.' && dots < 2 { dots + 1 } else { 3 };
+    }
+    dots
+}
+
+/// How many tokens stand before the first boundary.
+fn run_len<'t, A>(tokens: &[Token<'t, A>]) -> usize
+    ensures { result ≡ position_or_len is_boundary tokens.now }
+{
+    let mut count = 0;
+    while count < tokens.len() && !kinds::is_boundary(&tokens[count]) {
+        count += 1;
+    }
+    count
+}
+
+/// The components of tokens.
+pub(crate) fn components_in<'i, 't, A>(
+    alloc: Global,
+    tokens: &'i [Token<'t, A>],
+) -> Result<Vec<Component<'i, 't, A>>, AllocError>
+    ensures { IfOk result (λ cs. cs.items ≡ components_in true tokens.now) }
+{
+    let mut components = Vec::new(alloc);
+    let mut start = 0;
+    while start < tokens.len() {
+        let end = start + run_len(&tokens[start..]).max(1);
+        if !kinds::is_separator(&tokens[start]) {
+            components.push(Component::new(&tokens[start..end]))?;
+        }
+        start = end;
+    }
+    Ok(components)
+}
+
+/// The components of a glob's own tokens, from left to right: the longest runs of tokens that are
+/// neither `/` nor `**`, and each `**`. Takes memory for the list, and time in proportion to the tokens.
+pub fn components<'i, 't, A: Annotation>(
+    alloc: Global,
+    token: &'i Token<'t, A>,
+) -> Result<Vec<Component<'i, 't, A>>, NoMemory>
+    ensures all { IfOk result (λ cs. cs.items ≡ components token.now) }
+    ensures longest { IfOk result (λ cs. All (IsComponent (tokens_of token.now)) cs.items) }
+{
+    Ok(components_in(alloc, kinds::top_level(token))?)
+}

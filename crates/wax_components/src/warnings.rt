@@ -1,0 +1,198 @@
+//! Warnings: globs that build, and mean something other than they may seem to.
+ghost use Rattle.std.specs.Prelude.{◌≡◌, ◌++◌, IfOk, OnOk, chars};
+ghost use Rattle.std.specs.List.{flat_map};
+ghost use Rattle.wax_components.specs.Levels.{literals};
+ghost use Rattle.wax_components.specs.Warnings.{semantic_warnings, terminating_span};
+ghost use Rattle.wax_components.specs.Warnings.{terminating_warnings, warnings};
+
+use crate::kinds;
+use crate::levels::literals;
+use crate::parts::{Component, LiteralSequence};
+use std::alloc::{AllocError, Global};
+use std::marker::Model;
+use thiserror::Error;
+use wax_query::diagnostics::{LocatedError, NoMemory, Span};
+use wax_token::token::{ExpressionMetadata, Token};
+
+/// A component of an expression is `.` or `..`. A path is matched as a text, so neither of them stands
+/// for a folder. Contracts see the characters of the expression, the span of the component, and its text.
+#[derive(Debug, Drop, Error)]
+#[error("`{literal}` is matched as a text and stands for no folder")]
+pub struct SemanticLiteralWarning<'t> {
+    expression: &'t str,
+    span: Span,
+    literal: &'static str,
+}
+
+impl<'t> Model for SemanticLiteralWarning<'t> {
+    ghost use Rattle.std.specs.Str.{chars};
+    ghost use Rattle.wax_components.specs.Views.{SemanticView};
+
+    ghost Value = { SemanticView };
+
+    ghost view = { λ w. record {
+      expression = chars w.expression.now;
+      span = w.span;
+      literal = chars w.literal.now;
+    } };
+}
+
+impl<'t> SemanticLiteralWarning<'t> {
+    /// The whole expression.
+    pub fn expression(&self) -> &'t str
+        ensures { chars result.now ≡ self.now.expression }
+    {
+        self.expression
+    }
+
+    /// `.` or `..`.
+    pub fn literal(&self) -> &'static str
+        ensures { chars result.now ≡ self.now.literal }
+    {
+        self.literal
+    }
+}
+
+impl LocatedError for SemanticLiteralWarning<'_> {
+    ghost span_of = { λ w. w.span };
+
+    fn span(&self) -> Span {
+        self.span
+    }
+}
+
+/// An expression ends with a separator, so that it matches only paths that end with one. Contracts see the
+/// characters of the expression, and the span of the separator.
+#[derive(Debug, Drop, Error)]
+#[error("the separator at the end matches only paths that end with one")]
+pub struct TerminatingSeparatorWarning<'t> {
+    expression: &'t str,
+    span: Span,
+}
+
+impl<'t> Model for TerminatingSeparatorWarning<'t> {
+    ghost use Rattle.std.specs.Str.{chars};
+    ghost use Rattle.wax_components.specs.Views.{TerminatingView};
+
+    ghost Value = { TerminatingView };
+
+    ghost view = { λ w. record { expression = chars w.expression.now; span = w.span } };
+}
+
+impl<'t> TerminatingSeparatorWarning<'t> {
+    /// The whole expression.
+    pub fn expression(&self) -> &'t str
+        ensures { chars result.now ≡ self.now.expression }
+    {
+        self.expression
+    }
+}
+
+impl LocatedError for TerminatingSeparatorWarning<'_> {
+    ghost span_of = { λ w. w.span };
+
+    fn span(&self) -> Span {
+        self.span
+    }
+}
+
+/// What an expression that builds is warned of.
+#[derive(Debug, Drop, Error)]
+pub enum Warning<'t> {
+    #[error("{0}")]
+    SemanticLiteral(SemanticLiteralWarning<'t>),
+    #[error("{0}")]
+    TerminatingSeparator(TerminatingSeparatorWarning<'t>),
+}
+
+impl LocatedError for Warning<'_> {
+    ghost use Rattle.wax_components.specs.Warnings.{span_of_warning};
+
+    ghost span_of = { span_of_warning };
+
+    fn span(&self) -> Span {
+        match self {
+            Warning::SemanticLiteral(warning) => warning.span(),
+            Warning::TerminatingSeparator(warning) => warning.span(),
+        }
+    }
+}
+
+/// Puts the warning of a component at the end, if its text is `.` or `..`.
+fn push_semantic<'t>(
+    warnings: &mut Vec<Warning<'t>>,
+    expression: &'t str,
+    component: &Component<'_, '_, ExpressionMetadata>,
+    literal: &LiteralSequence<'_, '_, ExpressionMetadata>,
+) -> Result<(), AllocError>
+    ensures { OnOk result (warnings.new.items ≡
+        warnings.old.items ++ semantic_warnings (chars expression.now) (component.now, literal.now)) }
+{
+    let Some(literal) = literal.semantic_text() else {
+        return Ok(());
+    };
+    warnings.push(Warning::SemanticLiteral(SemanticLiteralWarning {
+        expression,
+        span: component.span(),
+        literal,
+    }))?;
+    Ok(())
+}
+
+/// The span of the last top-level token, if that is a separator.
+fn terminating_span<'t>(tokens: &[Token<'t, ExpressionMetadata>]) -> Option<Span>
+    ensures { result ≡ terminating_span tokens.now }
+{
+    let last = tokens.last()?;
+    if !kinds::is_separator(last) {
+        return None;
+    }
+    Some(last.annotation().span())
+}
+
+/// Puts the warning of a separator at the end.
+fn push_terminating<'t>(
+    warnings: &mut Vec<Warning<'t>>,
+    expression: &'t str,
+    span: Span,
+) -> Result<(), AllocError>
+    ensures { OnOk result (warnings.new.items ≡
+        warnings.old.items ++ terminating_warnings (chars expression.now) (Some span)) }
+{
+    warnings.push(Warning::TerminatingSeparator(TerminatingSeparatorWarning { expression, span }))?;
+    Ok(())
+}
+
+/// The warnings of literals, by level and from left to right.
+fn semantic_literals<'t>(
+    alloc: Global,
+    expression: &'t str,
+    token: &Token<'_, ExpressionMetadata>,
+) -> Result<Vec<Warning<'t>>, NoMemory>
+    ensures { IfOk result (λ ws. ws.items ≡
+        flat_map (semantic_warnings (chars expression.now)) (literals token.now)) }
+{
+    let mut warnings = Vec::new(alloc);
+    let literals = literals(alloc, token)?;
+    for (component, literal) in literals.as_slice() {
+        push_semantic(&mut warnings, expression, component, literal)?;
+    }
+    Ok(warnings)
+}
+
+/// The warnings of an expression and its token: one for each component that is `.` or `..`, of the glob
+/// and all its sub-globs, level after level and in each from left to right; then one for a separator at
+/// the end of the glob. Takes memory for the list and for the literals.
+pub fn diagnose<'t>(
+    alloc: Global,
+    expression: &'t str,
+    token: &Token<'_, ExpressionMetadata>,
+) -> Result<Vec<Warning<'t>>, NoMemory>
+    ensures { IfOk result (λ ws. ws.items ≡ warnings (chars expression.now) token.now) }
+{
+    let mut warnings = semantic_literals(alloc, expression, token)?;
+    if let Some(span) = terminating_span(kinds::top_level(token)) {
+        push_terminating(&mut warnings, expression, span)?;
+    }
+    Ok(warnings)
+}
