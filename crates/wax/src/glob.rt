@@ -2,8 +2,7 @@
 ghost use Rattle.std.specs.Prelude.{◌≡◌, ◌≤◌, ◌↔◌, ◌+◌, ◌*◌, ◌++◌, ◌∷◌, [], ℕ, List, IsTrue, IfOk, IfSome};
 ghost use Rattle.std.specs.Prelude.{MatchOption, Some, chars, encode_utf8_all, length, false};
 ghost use Rattle.wax_components.specs.Capturing.{captures};
-ghost use Rattle.wax_components.specs.Levels.{has_semantic_literals};
-ghost use Rattle.wax_components.specs.Warnings.{warnings};
+ghost use Rattle.wax_components.specs.Warnings.{has_semantic_literals, warnings};
 ghost use Rattle.wax_depth.specs.Depth.{Depth};
 ghost use Rattle.wax_facts.specs.Exhaustive.{exhaustive};
 ghost use Rattle.wax_facts.specs.InvariantText.{Text, Variant};
