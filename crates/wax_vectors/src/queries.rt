@@ -1,14 +1,30 @@
 //! What is known of a glob, as text.
 
 use std::alloc::{AllocError, Global};
+use wax::diagnostics::{LocatedError, Warning};
 use wax::query::{DepthVariance, When};
+use wax::token::{TokenFacts, parse};
 use wax::{Glob, NoMemory, Program};
 
-/// The expression, and the depth, text, root and exhaustiveness of its glob.
+/// The expression, and what is known of its glob: depth, text, root, exhaustiveness, prefix, how many tokens
+/// capture, and warnings.
 pub fn query_row(alloc: Global, expression: &str) -> Result<String, NoMemory> {
-    let Ok(glob) = Glob::new(alloc, expression) else {
+    let (Ok(glob), Ok(tokenized)) = (Glob::new(alloc, expression), parse(alloc, expression)) else {
         return Ok(format!(in alloc; "{expression}\tnot built")?);
     };
+    let mut row = first_fields(alloc, expression, &glob)?;
+    let (_, prefix) = tokenized.token.invariant_text_prefix(alloc)?;
+    let captures = glob.captures(alloc)?.len();
+    let fields = format!(in alloc; "\tprefix {prefix}\tcaptures {captures}")?;
+    row.push_str(fields.as_str())?;
+    for warning in &glob.diagnose(alloc)? {
+        push_warning(alloc, &mut row, warning)?;
+    }
+    Ok(row)
+}
+
+/// The expression, the depth, text, root and exhaustiveness of its glob.
+fn first_fields(alloc: Global, expression: &str, glob: &Glob<'_>) -> Result<String, NoMemory> {
     let depth = depth_text(alloc, glob.depth())?;
     let root = word(glob.has_root());
     let exhaustive = word(glob.is_exhaustive());
@@ -20,6 +36,17 @@ pub fn query_row(alloc: Global, expression: &str) -> Result<String, NoMemory> {
             "{expression}\tdepth {depth}\ttext variant\troot {root}\texhaustive {exhaustive}"
         )?),
     }
+}
+
+/// Adds a warning with its span.
+fn push_warning(alloc: Global, row: &mut String, warning: &Warning<'_>) -> Result<(), AllocError> {
+    let kind = match warning {
+        Warning::SemanticLiteral(_) => "semantic literal",
+        Warning::TerminatingSeparator(_) => "terminating separator",
+    };
+    let (start, len) = warning.span();
+    let field = format!(in alloc; "\twarning {kind} {start} {len}")?;
+    row.push_str(field.as_str())
 }
 
 /// One number, or the lower bound, two dots, and the upper bound if there is one.
