@@ -6,7 +6,7 @@ use Rattle.wax_token.specs.Syntax.{Tree, concatenation, Trees, none, more}
 use Rattle.wax_token.specs.Words.{members}
 use Rattle.wax_facts.specs.Joined.{begins_with_leaf, path}
 use Rattle.wax_facts.specs.Orderly.{Flat, Full, FullEach, IsSome, Orderly}
-use Rattle.wax_facts.specs.Partition.{BeginsPlainly, IsPartition, MeansAfter, SplitsAll, glob_up_to}
+use Rattle.wax_facts.specs.Partition.{BeginsPlainly, IsPartition, IsSplit, MeansAfter, SplitsAll, glob_up_to}
 use Rattle.wax_facts.specs.Prefix.{IsRooted, opened}
 use Rattle.wax_facts.specs.Rest.{after, inner, owner, rest, unrooted}
 use Rattle.wax_facts.proofs.BranchRest.{branch_rest}
@@ -47,6 +47,9 @@ glob_none end none e = refl
 glob_none end (more t ts) e = absurd (let f : ⊥ = cc in f)
 
 module _ (t : Tree Span) (p : List ℕ) where
+  pub split_partition : (ts : Trees Span) (end : ℕ) → IsSplit t p ts end → IsPartition t p (glob_up_to end (unrooted ts))
+  split_partition ts end k = (k.0, k.1, λ w. (λ i. glob_up_to ((k.2 w).1 i) (unrooted ((k.2 w).0 i))))
+
   pub partition_rest : (o : Option (Tree Span)) → IsPartition t p o → IfSome o (λ u. Orderly t → BeginsPlainly t → MeansAfter t p u)
   partition_rest None k = tt
   partition_rest (Some u) k = λ w b s.

@@ -7,4 +7,5 @@ pub mod Partition
 pub mod Prefix
 pub mod Rest
 pub mod Root
+pub mod RootedTrees
 pub mod inner

@@ -8,20 +8,28 @@ use Rattle.wax_token.specs.Words.{annotation_of}
 use Rattle.wax_facts.specs.Joined.{begins_with_leaf, path}
 use Rattle.wax_facts.specs.Orderly.{Flat}
 use Rattle.wax_facts.specs.Prefix.{IsRooted, Prefix, opened}
-use Rattle.wax_facts.specs.Rest.{owner, rest}
+use Rattle.wax_facts.specs.Rest.{left, owner, rest}
 
 -- the tokens as a glob, from the first one up to a byte
 abbrev pub glob_up_to : ℕ → Trees Span → Option (Tree Span)
 glob_up_to end none = None
 glob_up_to end (more t ts) = Some (concatenation ((annotation_of t).0, end - (annotation_of t).0) (more t ts))
 
+-- where the glob or sub-glob ends that the rest belongs to
+abbrev pub rest_end : Tree Span → ℕ → ℕ
+rest_end t n = span_end (annotation_of (owner t n).0)
+
 -- the rest, up to the end of the glob or sub-glob that it belongs to
 abbrev pub rest_glob : Tree Span → ℕ → Option (Tree Span)
-rest_glob t n = glob_up_to (span_end (annotation_of (owner t n).0)) (rest t n)
+rest_glob t n = glob_up_to (rest_end t n) (rest t n)
 
 -- the prefix, and for a flat tree the rest; spans are those of the whole expression
 abbrev pub IsPartition : Tree Span → List ℕ → Option (Tree Span) → Type 0
 IsPartition t p u = (n : ℕ) × Prefix t n p × (Flat t → u ≡ rest_glob t n)
+
+-- the prefix, and for a flat tree the tokens after it, and where what they belong to ends
+abbrev pub IsSplit : Tree Span → List ℕ → Trees Span → ℕ → Type 0
+IsSplit t p ts end = (n : ℕ) × Prefix t n p × (Flat t → (ts ≡ left t n) × (end ≡ rest_end t n))
 
 -- where the first token of the opened list always begins with `/` and isn't of one text, it is no branch
 abbrev pub BeginsPlainly : Tree Span → Type 0

@@ -50,6 +50,10 @@ after zero ts = ts
 after (suc n) none = none
 after (suc n) (more t ts) = after n ts
 
+-- the tokens that are left of the glob or sub-glob
+abbrev pub left : {A : Type 0} → Tree A → ℕ → Trees A
+left t n = after (owner t n).1 (members (owner t n).0)
+
 -- a leading `**` loses its `/`
 abbrev pub unrooted : {A : Type 0} → Trees A → Trees A
 unrooted none = none
@@ -58,4 +62,4 @@ unrooted (more t ts) = more t ts
 
 -- the tokens of the rest; none where the prefix is all
 abbrev pub rest : {A : Type 0} → Tree A → ℕ → Trees A
-rest t n = unrooted (after (owner t n).1 (members (owner t n).0))
+rest t n = unrooted (left t n)

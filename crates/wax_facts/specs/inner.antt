@@ -1,4 +1,3 @@
 pub mod Bodies
 pub mod Cuts
 pub mod Opening
-pub mod RootedTrees

@@ -15,6 +15,6 @@ mod root;
 pub use exhaustive::is_exhaustive;
 pub use facts::TokenFacts;
 pub use invariant::text;
-pub use parts::{built_is_orderly, partition};
+pub use parts::{built_is_orderly, is_rooted_tree, partition, split_tokens};
 pub use prefix::invariant_text_prefix;
 pub use root::has_root;

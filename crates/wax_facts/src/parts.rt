@@ -7,10 +7,10 @@ ghost use Rattle.wax_token.specs.Reads.{Reads};
 ghost use Rattle.wax_token.specs.Words.{trees};
 ghost use Rattle.wax_facts.specs.Joined.{begins_with_leaf};
 ghost use Rattle.wax_facts.specs.Orderly.{Flat, Full, Orderly};
-ghost use Rattle.wax_facts.specs.Partition.{BeginsPlainly, IsPartition, MeansAfter, SplitsAll, glob_up_to};
+ghost use Rattle.wax_facts.specs.Partition.{BeginsPlainly, IsPartition, IsSplit, MeansAfter, SplitsAll, glob_up_to};
 ghost use Rattle.wax_facts.specs.Prefix.{IsRooted, opened};
 ghost use Rattle.wax_facts.specs.Rest.{unrooted};
-ghost use Rattle.wax_facts.specs.inner.RootedTrees.{is_rooted_tree};
+ghost use Rattle.wax_facts.specs.RootedTrees.{is_rooted_tree};
 
 use crate::prefix::invariant_text_prefix;
 use crate::rest::rest_of;
@@ -46,9 +46,22 @@ pub fn partition<'t>(
         → (s : List ℕ) → Means token.entry false false s ↔ (s ≡ chars (string_bytes r.0))) (λ _. Unit {0})) }
     ensures orderly { IfOk result (λ r. IfSome r.1 (λ u. Orderly token.entry → Orderly u)) }
 {
+    let (prefix, tokens, end) = split_tokens(alloc, token)?;
+    Ok((prefix, glob_up_to(end, unrooted(tokens))))
+}
+
+/// The prefix of a glob, the tokens after it as they stand in the glob, and the byte where the glob or sub-glob
+/// ends that they belong to. Refused with 10 where memory is. It takes the time and memory of the tokens' texts.
+pub fn split_tokens<'t>(
+    alloc: Global,
+    token: Token<'t, ExpressionMetadata>,
+) -> Result<(String, Vec<Token<'t, ExpressionMetadata>>, usize), NoMemory>
+    ensures { IfOk result (λ r.
+        IsSplit token.entry (chars (string_bytes r.0)) (trees r.1.items) r.2) }
+{
     let (taken, prefix) = invariant_text_prefix(alloc, &token)?;
     let (tokens, owner) = rest_of(alloc, token, taken)?;
-    Ok((prefix, glob_up_to(owner.0 + owner.1, unrooted(tokens))))
+    Ok((prefix, tokens, owner.0 + owner.1))
 }
 
 // The tokens as a glob, from the first one up to a byte.
@@ -81,7 +94,8 @@ fn unrooted<'t>(
     tokens
 }
 
-fn is_rooted_tree<'t>(token: &Token<'t, ExpressionMetadata>) -> bool
+/// Whether the token is a `**` with a `/` before it.
+pub fn is_rooted_tree<'t>(token: &Token<'t, ExpressionMetadata>) -> bool
     ensures { result ≡ is_rooted_tree token.now }
 {
     match token.as_leaf() {

@@ -1,0 +1,9 @@
+pub mod KeptSteps
+pub mod RestGlob
+pub mod RestKnown
+pub mod RestMeans
+pub mod Rows
+pub mod ShiftSteps
+pub mod ShiftedMeans
+pub mod ShiftedOrderly
+pub mod SlashSteps

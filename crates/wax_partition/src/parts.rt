@@ -1,0 +1,117 @@
+//! The prefix of a glob, and the rest as an expression of its own.
+ghost use Rattle.std.specs.Prelude.{◌≡◌, ◌↔◌, ℕ, false, List};
+ghost use Rattle.std.specs.Prelude.{IfOk, IfSome, MatchOption, chars, string_bytes};
+ghost use Rattle.std.specs.Cow.{cow_str_bytes};
+ghost use Rattle.wax_token.specs.Meaning.{Means};
+ghost use Rattle.wax_token.specs.Reads.{Span};
+ghost use Rattle.wax_token.specs.Syntax.{Tree};
+ghost use Rattle.wax_token.specs.Words.{trees};
+ghost use Rattle.wax_facts.specs.Joined.{begins_with_leaf};
+ghost use Rattle.wax_facts.specs.Orderly.{Flat, Full, Orderly};
+ghost use Rattle.wax_facts.specs.Partition.{BeginsPlainly, MeansAfter, SplitsAll};
+ghost use Rattle.wax_facts.specs.Prefix.{IsRooted, opened};
+ghost use Rattle.wax_partition.specs.Partition.{IsPartition, rest_glob, rest_text, spelled};
+ghost use Rattle.wax_partition.specs.Shifted.{shifted_rest};
+
+use crate::kept::{between, without_slash};
+use crate::shift::shifted_each;
+use std::alloc::{AllocError, Global};
+use std::borrow::CowStr;
+use wax_facts::{is_rooted_tree, split_tokens};
+use wax_query::diagnostics::NoMemory;
+use wax_token::token::{
+    BranchKind, Concatenation, ExpressionMetadata, LeafKind, Token, Tokenized, Wildcard,
+    new_branch, new_leaf,
+};
+
+/// The prefix of a glob, and the rest where tokens are left: its part of the expression, up to the end of
+/// the glob or sub-glob that it belongs to, and its tokens, with their spans in that part. A leading `**` has
+/// lost its `/` there; flag groups before it stay. Refused with 10 where memory is. It takes the time and
+/// memory of the expression and of the tokens' texts.
+pub fn partition<'t>(
+    alloc: Global,
+    tokenized: Tokenized<'t, ExpressionMetadata>,
+) -> Result<(String, Option<Tokenized<'t, ExpressionMetadata>>), NoMemory>
+    ensures parts { IfOk result (λ r. IsPartition (chars (cow_str_bytes tokenized.entry.expression))
+        tokenized.entry.token (chars (string_bytes r.0)) (spelled r.1)) }
+    ensures rest { IfOk result (λ r. IfSome r.1 (λ u. Orderly tokenized.entry.token
+        → BeginsPlainly tokenized.entry.token
+        → MeansAfter tokenized.entry.token (chars (string_bytes r.0)) u.token)) }
+    ensures split { IfOk result (λ r. IfSome r.1 (λ u. Orderly tokenized.entry.token
+        → BeginsPlainly tokenized.entry.token
+        → SplitsAll tokenized.entry.token (chars (string_bytes r.0)) u.token)) }
+    ensures branch { IfOk result (λ r. IfSome r.1 (λ u. Full tokenized.entry.token
+        → Flat tokenized.entry.token → IsRooted (opened tokenized.entry.token)
+        → begins_with_leaf (opened tokenized.entry.token) ≡ false
+        → (s : List ℕ) → Means u.token false false s ↔ Means tokenized.entry.token false false s)) }
+    ensures whole { IfOk result (λ r. MatchOption r.1 (Full tokenized.entry.token
+        → Flat tokenized.entry.token → (s : List ℕ)
+        → Means tokenized.entry.token false false s ↔ (s ≡ chars (string_bytes r.0))) (λ _. Unit {0})) }
+    ensures orderly { IfOk result (λ r. IfSome r.1 (λ u.
+        Orderly tokenized.entry.token → Orderly u.token)) }
+{
+    let Tokenized { expression, token } = tokenized;
+    let (prefix, tokens, end) = split_tokens(alloc, token)?;
+    Ok((prefix, cut_out(alloc, expression.as_str(), end, tokens)?))
+}
+
+// The tokens, and their part of the expression up to a byte.
+fn cut_out<'t>(
+    alloc: Global,
+    expression: &str,
+    end: usize,
+    tokens: Vec<Token<'t, ExpressionMetadata>>,
+) -> Result<Option<Tokenized<'t, ExpressionMetadata>>, NoMemory>
+    ensures { IfOk result (λ u.
+        spelled u ≡ rest_glob (chars expression.now) end (trees tokens.entry.items)) }
+{
+    let Some(first) = tokens.first() else {
+        return Ok(None);
+    };
+    let text = text_from(alloc, expression, first, end)?;
+    let tokens = moved(alloc, tokens)?;
+    let glob = BranchKind::Concatenation(Concatenation { tokens });
+    let token = new_branch(glob, ExpressionMetadata::new((0, text.len())));
+    Ok(Some(Tokenized {
+        expression: CowStr::Owned(text),
+        token,
+    }))
+}
+
+// The part of the expression from a token up to a byte; a `**` loses its `/`.
+fn text_from<'t>(
+    alloc: Global,
+    expression: &str,
+    first: &Token<'t, ExpressionMetadata>,
+    end: usize,
+) -> Result<String, AllocError>
+    ensures { IfOk result (λ t.
+        chars (string_bytes t) ≡ rest_text (chars expression.now) end first.now) }
+{
+    let text = between(alloc, expression, first.annotation().span().0, end)?;
+    if is_rooted_tree(first) {
+        return without_slash(alloc, text.as_str());
+    }
+    Ok(text)
+}
+
+// The tokens where the first one begins the expression; a leading `**` loses its `/`.
+fn moved<'t>(
+    alloc: Global,
+    tokens: Vec<Token<'t, ExpressionMetadata>>,
+) -> Result<Vec<Token<'t, ExpressionMetadata>>, NoMemory>
+    ensures { IfOk result (λ r. trees r.items ≡ shifted_rest (trees tokens.entry.items)) }
+{
+    let Some(first) = tokens.first() else {
+        return Ok(tokens);
+    };
+    let span = first.annotation().span();
+    if !is_rooted_tree(first) {
+        return Ok(shifted_each(alloc, tokens, span.0)?);
+    }
+    let bytes = span.0.checked_add(1).ok_or(NoMemory)?;
+    let mut tokens = shifted_each(alloc, tokens, bytes)?;
+    let leaf = LeafKind::Wildcard(Wildcard::Tree { has_root: false });
+    tokens[0] = new_leaf(leaf, ExpressionMetadata::new((0, span.1.saturating_sub(1))));
+    Ok(tokens)
+}
