@@ -7,7 +7,8 @@ ghost use Rattle.wax_token.specs.Reads.{Reads};
 ghost use Rattle.wax_token.specs.Words.{trees};
 ghost use Rattle.wax_facts.specs.Joined.{begins_with_leaf};
 ghost use Rattle.wax_facts.specs.Orderly.{Flat, Full, Orderly};
-ghost use Rattle.wax_facts.specs.Partition.{BeginsPlainly, IsPartition, IsSplit, MeansAfter, SplitsAll, glob_up_to};
+ghost use Rattle.wax_facts.specs.Partition.{BeginsPlainly, IsPartition, IsSplit, MeansAfter};
+ghost use Rattle.wax_facts.specs.Partition.{SplitsAll, glob_up_to};
 ghost use Rattle.wax_facts.specs.Prefix.{IsRooted, opened};
 ghost use Rattle.wax_facts.specs.Rest.{unrooted};
 ghost use Rattle.wax_facts.specs.RootedTrees.{is_rooted_tree};
@@ -50,8 +51,9 @@ pub fn partition<'t>(
     Ok((prefix, glob_up_to(end, unrooted(tokens))))
 }
 
-/// The prefix of a glob, the tokens after it as they stand in the glob, and the byte where the glob or sub-glob
-/// ends that they belong to. Refused with 10 where memory is. It takes the time and memory of the tokens' texts.
+/// The prefix of a glob, the tokens after it as they stand in the glob, and the byte where the glob or
+/// sub-glob ends that they belong to. Refused with 10 where memory is. It takes the time and memory of the
+/// tokens' texts.
 pub fn split_tokens<'t>(
     alloc: Global,
     token: Token<'t, ExpressionMetadata>,

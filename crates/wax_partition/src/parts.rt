@@ -3,8 +3,6 @@ ghost use Rattle.std.specs.Prelude.{◌≡◌, ◌↔◌, ℕ, false, List};
 ghost use Rattle.std.specs.Prelude.{IfOk, IfSome, MatchOption, chars, string_bytes};
 ghost use Rattle.std.specs.Cow.{cow_str_bytes};
 ghost use Rattle.wax_token.specs.Meaning.{Means};
-ghost use Rattle.wax_token.specs.Reads.{Span};
-ghost use Rattle.wax_token.specs.Syntax.{Tree};
 ghost use Rattle.wax_token.specs.Words.{trees};
 ghost use Rattle.wax_facts.specs.Joined.{begins_with_leaf};
 ghost use Rattle.wax_facts.specs.Orderly.{Flat, Full, Orderly};
