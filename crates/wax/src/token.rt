@@ -2,8 +2,9 @@
 
 pub use wax_components::{Component, LiteralSequence, capture_count, captures, components, literals};
 pub use wax_depth::depth;
-pub use wax_facts::{TokenFacts, partition};
+pub use wax_facts::TokenFacts;
 pub use wax_parse::parse::{ErrorEntry, ParseError, parse};
+pub use wax_partition::partition;
 pub use wax_token::token::{
     Alternation, Archetype, BranchKind, Class, Concatenation, Evaluation, ExpressionMetadata,
     LeafKind, Literal, Repetition, Separator, Token, TokenTopology, Tokenized, Topology, Wildcard,
