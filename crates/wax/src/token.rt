@@ -1,6 +1,8 @@
 //! Expressions and the tokens that they spell.
 
-pub use wax_components::{Component, LiteralSequence, capture_count, captures, components, literals};
+pub use wax_components::{
+    Component, LiteralSequence, capture_count, captures, components, literals,
+};
 pub use wax_depth::depth;
 pub use wax_facts::TokenFacts;
 pub use wax_parse::parse::{ErrorEntry, ParseError, parse};
