@@ -3,20 +3,20 @@
 use std::alloc::{AllocError, Global};
 use wax::diagnostics::{LocatedError, Warning};
 use wax::query::{DepthVariance, When};
-use wax::token::{TokenFacts, parse};
+use wax::token::{ExpressionMetadata, Tokenized, parse, partition};
 use wax::{Glob, NoMemory, Program};
 
-/// The expression, and what is known of its glob: depth, text, root, exhaustiveness, prefix, how many tokens
-/// capture, and warnings.
+/// The expression, and what is known of its glob: depth, text, root, exhaustiveness, prefix, rest, how many
+/// tokens capture, and warnings.
 pub fn query_row(alloc: Global, expression: &str) -> Result<String, NoMemory> {
     let (Ok(glob), Ok(tokenized)) = (Glob::new(alloc, expression), parse(alloc, expression)) else {
         return Ok(format!(in alloc; "{expression}\tnot built")?);
     };
     let mut row = first_fields(alloc, expression, &glob)?;
-    let (_, prefix) = tokenized.token.invariant_text_prefix(alloc)?;
+    push_parts(alloc, &mut row, partition(alloc, tokenized)?)?;
     let captures = glob.captures(alloc)?.len();
-    let fields = format!(in alloc; "\tprefix {prefix}\tcaptures {captures}")?;
-    row.push_str(fields.as_str())?;
+    let field = format!(in alloc; "\tcaptures {captures}")?;
+    row.push_str(field.as_str())?;
     for warning in &glob.diagnose(alloc)? {
         push_warning(alloc, &mut row, warning)?;
     }
@@ -36,6 +36,20 @@ fn first_fields(alloc: Global, expression: &str, glob: &Glob<'_>) -> Result<Stri
             "{expression}\tdepth {depth}\ttext variant\troot {root}\texhaustive {exhaustive}"
         )?),
     }
+}
+
+/// Adds the prefix and the expression of the rest.
+fn push_parts(
+    alloc: Global,
+    row: &mut String,
+    parts: (String, Option<Tokenized<'_, ExpressionMetadata>>),
+) -> Result<(), AllocError> {
+    let (prefix, rest) = parts;
+    let fields = match rest {
+        Some(rest) => format!(in alloc; "\tprefix {prefix}\trest {}", rest.expression())?,
+        None => format!(in alloc; "\tprefix {prefix}\tno rest")?,
+    };
+    row.push_str(fields.as_str())
 }
 
 /// Adds a warning with its span.
