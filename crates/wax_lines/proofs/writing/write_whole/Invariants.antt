@@ -1,6 +1,6 @@
 use Rattle.std.proofs.Common.{◌≡◌, ◌≤◌, ℕ, List, ◌++◌, length}
 use Rattle.std.specs.Io.KnownBytes.{Appends}
-use Rattle.wax_lines.proofs.lines.sieve.write_whole.Given as goal
+use Rattle.wax_lines.proofs.writing.write_whole.Given as goal
 
 -- a beginning was written
 abbrev pub invariant-loop-rest : goal.invariant-loop-rest

@@ -3,7 +3,7 @@ use Rattle.std.proofs.KnownBytes.{Appends-trans}
 use Rattle.std.specs.declared.io.Error.{Error}
 use Rattle.wax_lines.specs.Counts.{is_failed_write}
 use Rattle.wax_lines.proofs.Counting.{one_more_if-above, slice_to_end}
-use Rattle.wax_lines.proofs.lines.sieve.write_whole.Goals as goal
+use Rattle.wax_lines.proofs.writing.write_whole.Goals as goal
 
 pub loop-rest-preserved : goal.loop-rest-preserved
 loop-rest-preserved g c =
