@@ -1,7 +1,9 @@
 -- How many bytes a text has.
-use Rattle.std.proofs.Common.{◌≡◌, ℕ, List, [], ◌∷◌, length, chars, encode_utf8, encode_utf8_all, sym, ◌∙◌, ap, arith, refl, length-append}
+use Rattle.std.proofs.Common.{◌≡◌, ℕ, List, [], ◌∷◌, length, chars, encode_utf8, encode_utf8_all, sym, ◌∙◌, ap, arith, refl, length-append, eqb-true, ◌==◌}
+use Rattle.std.specs.Prelude.{IsTrue, ◌↔◌}
 use Rattle.std.specs.Str.{IsUtf8}
-use Rattle.std.proofs.lemmas.Str.{encodes-chars, length-encode}
+use Rattle.std.proofs.lemmas.List.{nil_from_length}
+use Rattle.std.proofs.lemmas.Str.{chars-nil, encodes-chars, length-encode}
 use Rattle.wax_token.specs.Reads.{utf8_len}
 
 -- a text has as many bytes as its characters say
@@ -11,3 +13,10 @@ length-encodes (c ∷ cs) = omega (arith, length-append (encode_utf8 c) (encode_
 
 pub bytes_len : (bs : List ℕ) → IsUtf8 bs → length bs ≡ utf8_len (chars bs)
 bytes_len bs u = sym (ap length (encodes-chars bs u)) ∙ length-encodes (chars bs)
+
+-- a text has no bytes exactly where it has no characters
+pub no_bytes : (bs : List ℕ) → IsUtf8 bs → IsTrue (length bs == 0) ↔ (chars bs ≡ [])
+no_bytes bs u = (
+  λ h. ap chars (nil_from_length bs (eqb-true (length bs) 0 h)) ∙ chars-nil,
+  λ h. (let n : length bs ≡ 0 = bytes_len bs u ∙ ap utf8_len h in ap (λ k. k == 0) n),
+)

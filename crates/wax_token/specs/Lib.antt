@@ -1,6 +1,8 @@
 pub mod Syntax
 pub mod Words
 pub mod View
+pub mod Kinds
+pub mod Compositions
 pub mod TreeCode
 pub mod TreeFalls
 pub mod Cost

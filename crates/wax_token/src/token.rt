@@ -9,10 +9,21 @@ use std::borrow::CowStr;
 use std::marker::Model;
 use wax_query::diagnostics::Span;
 
+mod boundary;
+mod composition;
+mod kinds;
 mod made;
 mod members;
+mod owned;
+mod token_tree;
 
+pub use boundary::Boundary;
+pub use composition::{Composition, TokenComposition};
 pub use made::{new_branch, new_leaf};
+pub use token_tree::{ConcatenationTree, TokenTree};
+
+/// How the root `/` is written in an expression.
+pub const ROOT_SEPARATOR_EXPRESSION: &str = "/";
 
 /// A token is a branch, which holds tokens, or a leaf.
 #[derive(Drop)]

@@ -1,0 +1,92 @@
+//! What bounds the components of a path.
+ghost use Rattle.std.specs.Prelude.{◌≡◌};
+ghost use Rattle.wax_token.specs.Kinds.{leaf_boundary, boundary_of, has_boundary, is_boundary};
+ghost use Rattle.wax_token.specs.Kinds.{is_rooting_leaf, some_has_boundary};
+ghost use Rattle.wax_token.specs.View.{leaf_of};
+ghost use Rattle.wax_token.specs.Words.{trees};
+
+use super::{BranchKind, LeafKind, Token, Topology, Wildcard};
+
+/// What bounds components: `**`, which is a component itself, or `/`.
+#[derive(Clone, Copy, Debug, PartialEq, Eq, Hash)]
+pub enum Boundary {
+    Component,
+    Separator,
+}
+
+impl<'t> LeafKind<'t> {
+    /// The boundary that the leaf is.
+    pub fn boundary(&self) -> Option<Boundary>
+        ensures { result ≡ leaf_boundary (leaf_of self.now) }
+    {
+        match self {
+            LeafKind::Separator(_) => Some(Boundary::Separator),
+            LeafKind::Wildcard(wildcard) => match wildcard {
+                Wildcard::Tree { has_root: _ } => Some(Boundary::Component),
+                _ => None,
+            },
+            _ => None,
+        }
+    }
+
+    /// Whether the leaf roots what it begins: `/` or a rooted `**`.
+    pub fn is_rooting(&self) -> bool
+        ensures { result ≡ is_rooting_leaf (leaf_of self.now) }
+    {
+        match self {
+            LeafKind::Separator(_) => true,
+            LeafKind::Wildcard(wildcard) => matches!(wildcard, Wildcard::Tree { has_root: true }),
+            _ => false,
+        }
+    }
+}
+
+impl<'t, A> Token<'t, A> {
+    /// The boundary that the token is.
+    pub fn boundary(&self) -> Option<Boundary>
+        ensures { result ≡ boundary_of self.now }
+    {
+        self.as_leaf()?.boundary()
+    }
+
+    /// Whether the token is a boundary.
+    pub fn is_boundary(&self) -> bool
+        ensures { result ≡ is_boundary self.now }
+    {
+        self.boundary().is_some()
+    }
+
+    /// Whether the token is a boundary or holds one, at any depth. It takes the time of all tokens.
+    pub fn has_boundary(&self) -> bool
+        ensures { result ≡ has_boundary self.now }
+    {
+        has_boundary(self)
+    }
+}
+
+#[cycle(has_boundary)]
+fn has_boundary<'t, A>(token: &Token<'t, A>) -> bool
+    ensures { result ≡ has_boundary token.now }
+{
+    match &token.topology {
+        Topology::Branch(branch) => match branch {
+            BranchKind::Alternation(a) => some_has_boundary(a.tokens.as_slice()),
+            BranchKind::Concatenation(c) => some_has_boundary(c.tokens.as_slice()),
+            BranchKind::Repetition(r) => has_boundary(&r.token),
+        },
+        Topology::Leaf(leaf) => leaf.boundary().is_some(),
+    }
+}
+
+#[cycle(has_boundary)]
+#[tactic(auto, using(crate::proofs::Sizes::element_size))]
+fn some_has_boundary<'t, A>(tokens: &[Token<'t, A>]) -> bool
+    ensures { result ≡ some_has_boundary (trees tokens.now) }
+{
+    for token in tokens {
+        if has_boundary(token) {
+            return true;
+        }
+    }
+    false
+}

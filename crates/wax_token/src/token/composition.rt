@@ -1,0 +1,158 @@
+//! How the tokens that a branch holds make its meaning.
+ghost use Rattle.std.specs.Prelude.{◌≡◌, ◌↔◌, IsSome, option_map};
+ghost use Rattle.std.specs.Borrow.{Lends, sem};
+ghost use Rattle.std.specs.Option.{ForSome};
+ghost use Rattle.wax_query.specs.Variances.{IsMapped};
+ghost use Rattle.wax_token.specs.Compositions.{children_of, composition_copied, composition_of};
+ghost use Rattle.wax_token.specs.Compositions.{conjunctive, disjunctive, inner, on_inner};
+ghost use Rattle.wax_token.specs.Words.{trees};
+ghost use Rattle.wax_token.specs.contracts.token.composition.Composition.{the_row};
+
+use super::{Annotation, BranchKind, Token, Topology};
+
+/// Of tokens: all of them one after another, or one of them.
+#[derive(Clone, Copy, Debug, PartialEq, Eq, Drop)]
+pub enum Composition<C, D> {
+    Conjunctive(C),
+    Disjunctive(D),
+}
+
+/// A composition with the same on both sides.
+pub type TokenComposition<T> = Composition<T, T>;
+
+impl<C, D> Composition<C, D> {
+    pub fn conjunctive(self) -> Option<C>
+    where
+        D: Drop,
+        ensures { result ≡ conjunctive self }
+    {
+        match self {
+            Composition::Conjunctive(inner) => Some(inner),
+            Composition::Disjunctive(_) => None,
+        }
+    }
+
+    pub fn disjunctive(self) -> Option<D>
+    where
+        C: Drop,
+        ensures { result ≡ disjunctive self }
+    {
+        match self {
+            Composition::Conjunctive(_) => None,
+            Composition::Disjunctive(inner) => Some(inner),
+        }
+    }
+
+    pub fn as_ref(&self) -> Composition<&C, &D>
+        ensures { composition_copied result ≡ self.now }
+    {
+        match self {
+            Composition::Conjunctive(inner) => Composition::Conjunctive(inner),
+            Composition::Disjunctive(inner) => Composition::Disjunctive(inner),
+        }
+    }
+
+    /// The function's answer for the conjunctive side; the other stays as it is.
+    pub fn map_conjunctive<T, F>(self, f: F) -> Composition<T, D>
+    where
+        F: FnOnce(C) -> T + Drop,
+        requires { ForSome (conjunctive self) (F.pre f) }
+        ensures mapped { IsMapped (F.post f) (conjunctive self) (conjunctive result) }
+        ensures kept { disjunctive result ≡ disjunctive self }
+    {
+        match self {
+            Composition::Conjunctive(inner) => Composition::Conjunctive(f(inner)),
+            Composition::Disjunctive(inner) => Composition::Disjunctive(inner),
+        }
+    }
+
+    /// The function's answer for the disjunctive side; the other stays as it is.
+    pub fn map_disjunctive<T, F>(self, f: F) -> Composition<C, T>
+    where
+        F: FnOnce(D) -> T + Drop,
+        requires { ForSome (disjunctive self) (F.pre f) }
+        ensures mapped { IsMapped (F.post f) (disjunctive self) (disjunctive result) }
+        ensures kept { conjunctive result ≡ conjunctive self }
+    {
+        match self {
+            Composition::Conjunctive(inner) => Composition::Conjunctive(inner),
+            Composition::Disjunctive(inner) => Composition::Disjunctive(f(inner)),
+        }
+    }
+}
+
+impl<T> Composition<T, T> {
+    /// The value of either side.
+    pub fn into_inner(self) -> T
+        ensures { result ≡ inner self }
+    {
+        match self {
+            Composition::Conjunctive(inner) | Composition::Disjunctive(inner) => inner,
+        }
+    }
+
+    /// The function's answer for the value, on the same side.
+    pub fn map<U, F>(self, f: F) -> Composition<U, U>
+    where
+        F: FnOnce(T) -> U,
+        requires { F.pre f (inner self) }
+        ensures value { F.post f (inner self) (inner result) }
+        ensures side { IsSome (conjunctive result) ↔ IsSome (conjunctive self) }
+    {
+        match self {
+            Composition::Conjunctive(inner) => Composition::Conjunctive(f(inner)),
+            Composition::Disjunctive(inner) => Composition::Disjunctive(f(inner)),
+        }
+    }
+
+    /// The value of either side.
+    pub fn get(&self) -> &T
+        ensures { result.now ≡ inner self.now }
+    {
+        match self {
+            Composition::Conjunctive(inner) | Composition::Disjunctive(inner) => inner,
+        }
+    }
+
+    /// The value of either side, to be changed; the side stays.
+    pub fn get_mut(&mut self) -> &mut T
+        ensures value { result.now ≡ inner self.old }
+        ensures* writes_back { sem 𝓛 (Lends (the_row T.row T.row) T.row self.entry result
+            (λ w. on_inner (λ _. w) self.old)) }
+    {
+        match self {
+            Composition::Conjunctive(inner) => inner,
+            Composition::Disjunctive(inner) => inner,
+        }
+    }
+}
+
+impl<'t, A> Token<'t, A> {
+    /// Whether the token means one of the tokens that it holds, or takes all of them, as a leaf does.
+    pub fn composition(&self) -> TokenComposition<()>
+        ensures { result ≡ composition_of self.now }
+    {
+        if self.is_alternation() {
+            Composition::Disjunctive(())
+        } else {
+            Composition::Conjunctive(())
+        }
+    }
+}
+
+impl<'t, A: Annotation> Token<'t, A> {
+    /// The tokens that a branch holds: the branches of an alternation, the tokens of a concatenation, or the
+    /// one token of a repetition.
+    pub fn tokens(&self) -> Option<TokenComposition<&[Self]>>
+        ensures { option_map (on_inner (λ ts. trees ts.now)) result ≡ children_of self.now }
+    {
+        match &self.topology {
+            Topology::Branch(branch) => match branch {
+                BranchKind::Alternation(a) => Some(Composition::Disjunctive(a.tokens.as_slice())),
+                BranchKind::Concatenation(c) => Some(Composition::Conjunctive(c.tokens.as_slice())),
+                BranchKind::Repetition(r) => Some(Composition::Conjunctive(A::lone(&r.token))),
+            },
+            Topology::Leaf(_) => None,
+        }
+    }
+}

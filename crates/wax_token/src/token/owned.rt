@@ -1,0 +1,120 @@
+//! Tokens with texts of their own.
+ghost use Rattle.std.specs.Prelude.{◌≡◌, IfOk};
+ghost use Rattle.std.specs.Cow.{cow_str_bytes};
+ghost use Rattle.wax_token.specs.View.{leaf_of};
+ghost use Rattle.wax_token.specs.Words.{trees};
+
+use super::{
+    Alternation, BranchKind, Concatenation, LeafKind, Literal, Repetition, Token, Tokenized,
+    Topology, new_branch, new_leaf,
+};
+use std::alloc::{AllocError, Global};
+use std::borrow::CowStr;
+use wax_query::diagnostics::NoMemory;
+
+impl<'t> Literal<'t> {
+    /// The same literal with a text of its own. Refused with 10 where memory is.
+    pub fn into_owned(self, alloc: Global) -> Result<Literal<'static>, NoMemory>
+        ensures { IfOk result (λ l. l ≡ self.entry) }
+    {
+        Ok(owned_literal(alloc, self)?)
+    }
+}
+
+impl<'t> LeafKind<'t> {
+    /// The same leaf with a text of its own. Refused with 10 where memory is.
+    pub fn into_owned(self, alloc: Global) -> Result<LeafKind<'static>, NoMemory>
+        ensures { IfOk result (λ l. leaf_of l ≡ leaf_of self.entry) }
+    {
+        Ok(owned_leaf(alloc, self)?)
+    }
+}
+
+impl<'t, A: Drop> Token<'t, A> {
+    /// The same token with texts of its own. Refused with 10 where memory is. It takes the time and memory of
+    /// all tokens and their texts.
+    pub fn into_owned(self, alloc: Global) -> Result<Token<'static, A>, NoMemory>
+        ensures { IfOk result (λ t. t ≡ self.entry) }
+    {
+        Ok(owned(alloc, self)?)
+    }
+}
+
+impl<'t, A: Drop> Tokenized<'t, A> {
+    /// The same expression and token with texts of their own. Refused with 10 where memory is. It takes the
+    /// time and memory of the expression, all tokens and their texts.
+    pub fn into_owned(self, alloc: Global) -> Result<Tokenized<'static, A>, NoMemory>
+        ensures expression { IfOk result (λ u.
+            cow_str_bytes u.expression ≡ cow_str_bytes self.entry.expression) }
+        ensures token { IfOk result (λ u. u.token ≡ self.entry.token) }
+    {
+        let Tokenized { expression, token } = self;
+        let expression = CowStr::Owned(expression.into_owned(alloc)?);
+        let token = token.into_owned(alloc)?;
+        Ok(Tokenized { expression, token })
+    }
+}
+
+fn owned_literal<'t>(alloc: Global, literal: Literal<'t>) -> Result<Literal<'static>, AllocError>
+    ensures { IfOk result (λ l. l ≡ literal.entry) }
+{
+    let text = literal.text.into_owned(alloc)?;
+    Ok(Literal::new(CowStr::Owned(text), literal.is_case_insensitive))
+}
+
+fn owned_leaf<'t>(alloc: Global, leaf: LeafKind<'t>) -> Result<LeafKind<'static>, AllocError>
+    ensures { IfOk result (λ l. leaf_of l ≡ leaf_of leaf.entry) }
+{
+    match leaf {
+        LeafKind::Class(class) => Ok(LeafKind::Class(class)),
+        LeafKind::Literal(literal) => Ok(LeafKind::Literal(owned_literal(alloc, literal)?)),
+        LeafKind::Separator(separator) => Ok(LeafKind::Separator(separator)),
+        LeafKind::Wildcard(wildcard) => Ok(LeafKind::Wildcard(wildcard)),
+    }
+}
+
+#[cycle(owned)]
+fn owned<'t, A: Drop>(alloc: Global, token: Token<'t, A>) -> Result<Token<'static, A>, AllocError>
+    ensures { IfOk result (λ t. t ≡ token.entry) }
+{
+    let (topology, annotation) = token.into_parts();
+    match topology {
+        Topology::Branch(branch) => match branch {
+            BranchKind::Alternation(a) => {
+                let tokens = owned_each(alloc, a.tokens)?;
+                let branch = BranchKind::Alternation(Alternation { tokens });
+                Ok(new_branch(branch, annotation))
+            }
+            BranchKind::Concatenation(c) => {
+                let tokens = owned_each(alloc, c.tokens)?;
+                let branch = BranchKind::Concatenation(Concatenation { tokens });
+                Ok(new_branch(branch, annotation))
+            }
+            BranchKind::Repetition(r) => {
+                let token = owned(alloc, Box::into_inner(r.token))?;
+                let branch = BranchKind::Repetition(Repetition {
+                    token: Box::new(alloc, token)?,
+                    lower: r.lower,
+                    upper: r.upper,
+                });
+                Ok(new_branch(branch, annotation))
+            }
+        },
+        Topology::Leaf(leaf) => Ok(new_leaf(owned_leaf(alloc, leaf)?, annotation)),
+    }
+}
+
+#[cycle(owned)]
+#[tactic(auto, using(crate::proofs::Sizes::among_size))]
+fn owned_each<'t, A: Drop>(
+    alloc: Global,
+    tokens: Vec<Token<'t, A>>,
+) -> Result<Vec<Token<'static, A>>, AllocError>
+    ensures { IfOk result (λ r. trees r.items ≡ trees tokens.entry.items) }
+{
+    let mut done = Vec::with_capacity(alloc, tokens.len())?;
+    for token in tokens {
+        done.push(owned(alloc, token)?)?;
+    }
+    Ok(done)
+}
