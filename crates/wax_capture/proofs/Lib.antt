@@ -1,0 +1,11 @@
+pub mod Branches
+pub mod Built
+pub mod Choosing
+pub mod Counting
+pub mod NothingCaptured
+pub mod Parts
+pub mod Reaching
+pub mod Rows
+pub mod Tied
+pub mod TokenWays
+pub mod Unique
