@@ -10,6 +10,7 @@ use Rattle.wax_token.specs.Syntax.{one, Tree, none, more}
 use Rattle.wax_token.specs.Words.{trees}
 use Rattle.wax_capture.specs.Captures.{MeansBranch}
 use Rattle.wax_capture.specs.Pieces.{WayIn, instructions}
+use Rattle.wax_capture.proofs.Lists.{slice_left, slice_seam, some_same}
 
 -- ---- one token of a row
 pub record Stands {A : Type 0} (ts : List (Tree A)) (i : ℕ) (part : List (Tree A)) : Type 0 where
@@ -30,27 +31,15 @@ stands (t ∷ ts) (suc i) lt =
 abbrev pub WaysTo : {A : Type 0} → List (Tree A) → Bool → Bool → List (List Instruction × ℕ) → ℕ → Type 0
 WaysTo ts before after ways n = (k : ℕ) (x : List ℕ) → k < n → MeansBranch (trees ts) k before after x ↔ WayIn ways k x
 
-way_left : (xs ys : List (List Instruction × ℕ)) (i : ℕ) → i < length xs → slice_get (xs ++ ys) i ≡ slice_get xs i
-way_left [] ys i lt = absurd (omega (arith, lt))
-way_left (x ∷ xs) ys zero lt = refl
-way_left (x ∷ xs) ys (suc i) lt = way_left xs ys i (omega (arith, lt))
-
-way_seam : (xs : List (List Instruction × ℕ)) (y : List Instruction × ℕ) → slice_get (xs ++ y ∷ []) (length xs) ≡ Some y
-way_seam [] y = refl
-way_seam (x ∷ xs) y = way_seam xs y
-
-some_same : {i j : List Instruction × ℕ} → Some i ≡ Some j → i ≡ j
-some_same e = cc
-
 pub ways_push : {A : Type 0} (ts : List (Tree A)) (before after : Bool) (ways : List (List Instruction × ℕ)) (n : ℕ) (program : List Instruction × ℕ) (part : List (Tree A)) → length ways ≡ n → Stands ts n part →
     ((x : List ℕ) → Accepts program.0 0 x ↔ MeansEach (trees part) before after x) → WaysTo ts before after ways n → WaysTo ts before after (ways ++ program ∷ []) (n + 1)
 ways_push ts before after ways n program part count s accepts to k x lt = elim (cases_lt k n) [
-  | inl less ↦ (let e : slice_get (ways ++ program ∷ []) k ≡ slice_get ways k = way_left ways (program ∷ []) k (omega (arith, less, count)) in (
+  | inl less ↦ (let e : slice_get (ways ++ program ∷ []) k ≡ slice_get ways k = slice_left ways (program ∷ []) k (omega (arith, less, count)) in (
     (λ h. let w : WayIn ways k x = (to k x less).0 h in (w.0, e ∙ w.1, w.2)),
     (λ h. (to k x less).1 (h.0, sym e ∙ h.1, h.2)),
   ))
   | inr ge ↦ (let same : k ≡ n = omega (arith, ge, lt) in
-      let at : slice_get (ways ++ program ∷ []) k ≡ Some program = ap (slice_get (ways ++ program ∷ [])) (same ∙ sym count) ∙ way_seam ways program in
+      let at : slice_get (ways ++ program ∷ []) k ≡ Some program = ap (slice_get (ways ++ program ∷ [])) (same ∙ sym count) ∙ slice_seam ways program in
       let means : Accepts program.0 0 x ↔ Means s.token before after x = subst (λ z. Accepts program.0 0 x ↔ MeansEach z before after x) s.is (accepts x) in (
         (λ h. (program, at, means.1 (s.to before after x (subst (λ i. MeansBranch (trees ts) i before after x) same h)))),
         (λ h. subst (λ i. MeansBranch (trees ts) i before after x) (sym same) (s.from before after x (means.0 (subst (λ w. Accepts w.0 0 x) (some_same (sym h.1 ∙ at)) h.2)))),

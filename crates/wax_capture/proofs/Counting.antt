@@ -98,24 +98,16 @@ reads_square all old new m h =
     let d : all * (m + 1) ≤ all * ((m + 1) * (m + 1)) = mul-le-mul_left all b2 in
     omega (arith, h, d)
 
--- the choices, after the rows of what is reached and the table
-pub reads_thrice : (ps : List Piece) (i old first mid new m : ℕ) → first ≤ old + all_instructions ps * (m + 1) → mid ≤ first + all_instructions ps * ((m + 1) * (m + 1)) → new ≤ mid + all_instructions (take i ps) * (m + 1) →
-    new ≤ old + 3 * (all_instructions ps * ((m + 1) * (m + 1)))
-reads_thrice ps i old first mid new m f h g =
-    let a : all_instructions (take i ps) * (m + 1) ≤ all_instructions ps * (m + 1) = mul-le-mul_right (m + 1) (some_taken ps i) in
-    let b : new ≤ mid + all_instructions ps * ((m + 1) * (m + 1)) = reads_square (all_instructions ps) mid new m (omega (arith, g, a)) in
-    let d : first ≤ old + all_instructions ps * ((m + 1) * (m + 1)) = reads_square (all_instructions ps) old first m f in
-    omega (arith, h, b, d)
+-- the table, after the rows of what is reached
+pub reads_twice : (all old first new m : ℕ) → first ≤ old + all * (m + 1) → new ≤ first + all * ((m + 1) * (m + 1)) → new ≤ old + 2 * (all * ((m + 1) * (m + 1)))
+reads_twice all old first new m f h = omega (arith, h, reads_square all old first m f)
 
--- within the square, thrice
-pub reads_reach : (all old new m : ℕ) → new ≤ old + all * (m + 1) → new ≤ old + 3 * (all * ((m + 1) * (m + 1)))
-reads_reach all old new m h = omega (arith, reads_square all old new m h)
-
-pub reads_table : (all old first new m : ℕ) → first ≤ old + all * (m + 1) → new ≤ first + all * ((m + 1) * (m + 1)) → new ≤ old + 3 * (all * ((m + 1) * (m + 1)))
-reads_table all old first new m f h = omega (arith, h, reads_square all old first m f)
+-- the rows alone
+pub reads_once : (all old new m : ℕ) → new ≤ old + all * (m + 1) → new ≤ old + 2 * (all * ((m + 1) * (m + 1)))
+reads_once all old new m h = omega (arith, reads_square all old new m h)
 
 -- within the stated number of visits
-pub visits_within : (all cost old new m : ℕ) → all ≤ 2 * cost → new ≤ old + 3 * (all * ((m + 1) * (m + 1))) → new ≤ old + 8 * ((cost + 1) * ((m + 1) * ((m + 1) * (m + 1))))
+pub visits_within : (all cost old new m : ℕ) → all ≤ 2 * cost → new ≤ old + 2 * (all * ((m + 1) * (m + 1))) → new ≤ old + 8 * ((cost + 1) * ((m + 1) * ((m + 1) * (m + 1))))
 visits_within all cost old new m few h =
     let n : ℕ = m + 1 in
     let a : all * (n * n) ≤ 2 * cost * (n * n) = mul-le-mul_right (n * n) few in

@@ -1,18 +1,18 @@
 -- The places that the programs of a piece reach.
-use Rattle.std.proofs.Common.{◌≡◌, ℕ, ◌+◌, ◌<◌, ◌≤◌, zero, suc, Bool, true, false, List, [], ◌∷◌, ◌++◌, get_or, replicate, refl, length, take, drop, Some, slice_get, sym, ◌∙◌, ap, subst, inl, inr, arith, append-nil}
+use Rattle.std.proofs.Common.{◌≡◌, ℕ, ◌+◌, ◌<◌, ◌≤◌, zero, suc, Bool, true, false, List, [], ◌∷◌, ◌++◌, get_or, replicate, refl}
+use Rattle.std.proofs.Common.{length, take, drop, Some, slice_get, sym, ◌∙◌, ap, subst, inl, inr, arith, append-nil}
+use Rattle.std.specs.Global.{Vec}
 use Rattle.std.proofs.lemmas.Bool.{cases_lt}
-use Rattle.std.proofs.lemmas.List.{drop_all, take_all}
+use Rattle.std.proofs.lemmas.List.{drop_all, length_push, take_all}
 use Rattle.std.proofs.lemmas.Option.{slice_get_within}
 use Rattle.wax_program.specs.declared.instruction.Instruction.{Instruction}
 use Rattle.wax_program.specs.Ends.{Reaches}
 use Rattle.wax_program.specs.Machine.{Accepts}
 use Rattle.wax_program.specs.Threads.{Has}
 use Rattle.wax_capture.specs.Pieces.{WayOf}
-use Rattle.wax_capture.specs.inner.Rows.{LeadsTo}
+use Rattle.wax_capture.specs.inner.Rows.{AreReached, LeadsTo}
 use Rattle.wax_capture.specs.declared.piece.Piece.{Piece}
-
-some_same : {i j : List Instruction × ℕ} → Some i ≡ Some j → i ≡ j
-some_same e = cc
+use Rattle.wax_capture.proofs.Lists.{slice_left, slice_seam, some_same}
 
 -- by the programs before the k-th
 abbrev pub LeadsBy : Piece → List ℕ → List Bool → List Bool → ℕ → Type 0
@@ -41,3 +41,46 @@ all_flagged zero zero le = refl
 all_flagged zero (suc n) le = absurd (omega (arith, le))
 all_flagged (suc m) zero le = refl
 all_flagged (suc m) (suc n) le = all_flagged m n (omega (arith, le))
+
+-- ---- the places that are reached
+pub reached_front : (ps : List Piece) (s : List ℕ) (row : Vec Bool) → Has row.items 0 → length row.items ≡ length s + 1 → AreReached ps s ([] ++ row ∷ [])
+reached_front ps s row here len = record {
+  front = λ r e. subst (λ z. Has z.items 0) (some_same e) here;
+  onward = λ i p r n _ _ e. absurd (past i n e);
+  len = λ i r e. only i r e;
+}
+  where
+    past : (i : ℕ) (n : Vec Bool) → slice_get (row ∷ []) (i + 1) ≡ Some n → ⊥
+    past i n e = omega (arith, slice_get_within (row ∷ []) (i + 1) n e)
+
+    only : (i : ℕ) (r : Vec Bool) → slice_get (row ∷ []) i ≡ Some r → length r.items ≡ length s + 1
+    only zero r e = ap (λ z. length z.items) (sym (some_same e)) ∙ len
+    only (suc i) r e = absurd (omega (arith, slice_get_within (row ∷ []) (suc i) r e))
+
+module _ (ps : List Piece) (s : List ℕ) (rows : List (Vec Bool)) (i : ℕ) (p : Piece) (row next : Vec Bool) (count : length rows ≡ i + 1) (is : slice_get ps i ≡ Some p) (at : slice_get rows i ≡ Some row) where
+  -- one of the rows after a push
+  pushed : (j : ℕ) (r : Vec Bool) → slice_get (rows ++ next ∷ []) j ≡ Some r → j < i + 1 → slice_get rows j ≡ Some r
+  pushed j r e lt = sym (slice_left rows (next ∷ []) j (omega (arith, lt, count))) ∙ e
+
+  pushed_last : (j : ℕ) (r : Vec Bool) → slice_get (rows ++ next ∷ []) j ≡ Some r → i + 1 ≤ j → (j ≡ i + 1) × (next ≡ r)
+  pushed_last j r e ge =
+      let within : j < length (rows ++ next ∷ []) = slice_get_within (rows ++ next ∷ []) j r e in
+      let last : j ≡ length rows = omega (arith, ge, within, length_push rows next, count) in
+      (last ∙ count, some_same (sym (slice_seam rows next) ∙ sym (ap (slice_get (rows ++ next ∷ [])) last) ∙ e))
+
+  pub reached_push : AreReached ps s rows → LeadsTo p s row.items next.items → length next.items ≡ length s + 1 → AreReached ps s (rows ++ next ∷ [])
+  reached_push are leads len = record {
+    front = λ r e. are.front r (pushed 0 r e (omega arith));
+    onward = λ j q a b js az bs. elim (cases_lt (j + 1) (i + 1)) [
+      | inl lt ↦ are.onward j q a b js (pushed j a az (omega (arith, lt))) (pushed (j + 1) b bs lt)
+      | inr ge ↦ (let last = pushed_last (j + 1) b bs ge in
+          let same : j ≡ i = omega (arith, last.0) in
+          let piece : p ≡ q = some_same (sym is ∙ sym (ap (slice_get ps) same) ∙ js) in
+          let from : row ≡ a = some_same (sym at ∙ sym (ap (slice_get rows) same) ∙ pushed j a az (omega (arith, same))) in
+          subst (λ z. LeadsTo z s a.items b.items) piece (subst (λ z. LeadsTo p s z.items b.items) from (subst (λ z. LeadsTo p s row.items z.items) last.1 leads)))
+    ];
+    len = λ j r e. elim (cases_lt j (i + 1)) [
+      | inl lt ↦ are.len j r (pushed j r e lt)
+      | inr ge ↦ ap (λ z. length z.items) (sym (pushed_last j r e ge).1) ∙ len
+    ];
+  }

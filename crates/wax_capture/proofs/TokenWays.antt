@@ -14,6 +14,7 @@ use Rattle.wax_capture.specs.Captures.{First, Way, tree_capture}
 use Rattle.wax_capture.specs.inner.Ways.{IsTreeToken, is_single}
 use Rattle.wax_capture.specs.Pieces.{WayIn}
 use Rattle.wax_capture.proofs.Branches.{part_same, stands}
+use Rattle.wax_capture.proofs.Lists.{some_same}
 
 -- a part that is too costly
 pub part_costly : {A : Type 0} (ts : List (Tree A)) (i : ℕ) → i < length ts → 1048576 < costs (trees (take (i + 1 - i) (drop i ts))) + 1 → 1048576 < branches_cost (trees ts) + 1
@@ -25,9 +26,6 @@ part_costly ts i lt h =
 pub refused_more : {T U E : Type 0} (e : Refusal E) (P : T → Type 0) (Q : U → Type 0) (M N : Type 0) → (M → N) → MatchBuild {T = T} (Err e) P (λ _. M) → MatchBuild {T = U} (Err e) Q (λ _. N)
 refused_more (Refused e) P Q M N f h = f h
 refused_more Memory P Q M N f h = tt
-
-some_same : {i j : List Instruction × ℕ} → Some i ≡ Some j → i ≡ j
-some_same e = cc
 
 -- ---- a token's own program
 pub at_token : {A : Type 0} (ts : List (Tree A)) (i : ℕ) (t : Tree A) → i < length ts → t ≡ get_or ts i t → trees (take 1 (drop i ts)) ≡ more t none

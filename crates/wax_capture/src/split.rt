@@ -1,12 +1,12 @@
 //! The chosen split of a text, from left to right.
-ghost use Rattle.std.specs.Prelude.{◌≡◌, ◌+◌, ◌*◌, ◌<◌, ◌≤◌, ◌∷◌, [], ◌++◌, ℕ, List, IfOk, MatchOption, OnOk, length, drop, take, map, false};
+ghost use Rattle.std.specs.Prelude.{◌≡◌, ◌+◌, ◌*◌, ◌≤◌, ◌++◌, IfOk, IfSome, MatchOption, OnOk};
+ghost use Rattle.std.specs.Prelude.{length, drop, take, false};
+ghost use Rattle.std.specs.List.{All};
 ghost use Rattle.wax_capture.specs.Captures.{tree_capture};
 ghost use Rattle.wax_capture.specs.Pieces.{captured_by};
-ghost use Rattle.wax_capture.specs.inner.Parts.{between, parts};
-ghost use Rattle.wax_capture.specs.inner.Rows.{AreRows};
+ghost use Rattle.wax_capture.specs.inner.Parts.{IsWithin, between, parts};
 ghost use Rattle.wax_capture.specs.inner.Splits.{CapturedBy, Splits, all_instructions};
 
-use crate::choice::choose;
 use crate::piece::{Capture, Piece};
 use crate::reach::reach;
 use crate::table::table;
@@ -16,7 +16,8 @@ use wax_program::Meter;
 /// Where the part of `n` characters from `at` on ends, or `at` where it is one `/`.
 fn end_unless_slash(text: &[char], at: usize, n: usize) -> usize
     requires { at + n ≤ length text.now }
-    ensures { between text.now (at, result) ≡ tree_capture false false (take n (drop at text.now)) }
+    ensures part { between text.now (at, result) ≡ tree_capture false false (take n (drop at text.now)) }
+    ensures within { IsWithin text.now (at, result) }
 {
     if n == 1 && text[at] == '/' {
         return at;
@@ -34,7 +35,10 @@ fn add_capture(
     captures: &mut Vec<(usize, usize)>,
 ) -> Result<(), AllocError>
     requires { at + n ≤ length text.now }
-    ensures { OnOk result (parts text.now captures.new.items ≡ parts text.now captures.old.items ++ captured_by capture (take n (drop at text.now))) }
+    ensures added { OnOk result (parts text.now captures.new.items
+        ≡ parts text.now captures.old.items ++ captured_by capture (take n (drop at text.now))) }
+    ensures within { All (IsWithin text.now) captures.old.items
+        → OnOk result (All (IsWithin text.now) captures.new.items) }
 {
     match capture {
         Capture::Nothing => {}
@@ -53,25 +57,25 @@ pub fn split(
     text: &[char],
     meter: &mut Meter,
 ) -> Result<Option<Vec<(usize, usize)>>, AllocError>
-    ensures captured { IfOk result (λ r. MatchOption r (Splits pieces.now text.now → ⊥) (λ captures. CapturedBy pieces.now text.now (parts text.now captures.items))) }
-    ensures above { meter.new ≤ meter.old + 3 * (all_instructions pieces.now * ((length text.now + 1) * (length text.now + 1))) }
+    ensures captured { IfOk result (λ r. MatchOption r (Splits pieces.now text.now → ⊥)
+        (λ captures. CapturedBy pieces.now text.now (parts text.now captures.items))) }
+    ensures within { IfOk result (λ r. IfSome r (λ captures. All (IsWithin text.now) captures.items)) }
+    ensures above { meter.new
+        ≤ meter.old + 2 * (all_instructions pieces.now * ((length text.now + 1) * (length text.now + 1))) }
     ensures steady { meter.old ≤ meter.new }
 {
-    let mut ends = Vec::with_capacity(alloc, text.len())?;
     let reached = reach(alloc, pieces, text, meter)?;
-    let rows = table(alloc, pieces, text, reached.as_slice(), &mut ends, meter)?;
-    if !rows[pieces.len()][0] {
+    let rows = table(alloc, pieces, text, reached.as_slice(), meter)?;
+    if rows[pieces.len()][0].is_none() {
         return Ok(None);
     }
     let mut captures = Vec::new(alloc);
     let mut at = 0;
     for index in 0..pieces.len() {
-        let piece = &pieces[index];
-        let next = &rows[pieces.len() - 1 - index];
-        let Some(n) = choose(alloc, piece, &text[at..], &next[at..], &mut ends, meter)? else {
+        let Some(n) = rows[pieces.len() - index][at] else {
             return Ok(None);
         };
-        add_capture(piece.capture, text, at, n, &mut captures)?;
+        add_capture(pieces[index].capture, text, at, n, &mut captures)?;
         at += n;
     }
     Ok(Some(captures))

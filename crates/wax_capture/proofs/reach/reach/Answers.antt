@@ -3,7 +3,8 @@ use Rattle.std.proofs.lemmas.Option.{slice_get_read}
 use Rattle.wax_capture.specs.inner.Rows.{LeadsTo}
 use Rattle.wax_capture.specs.inner.Splits.{all_instructions}
 use Rattle.wax_capture.proofs.Counting.{reads_choice, reads_fewer, some_taken}
-use Rattle.wax_capture.proofs.Rows.{piece_got, reached_push}
+use Rattle.wax_capture.proofs.Lists.{slice_read}
+use Rattle.wax_capture.proofs.Reaching.{reached_push}
 use Rattle.wax_capture.proofs.reach.reach.Goals as goal
 
 pub returns-in_err-row-2-clause-above : goal.returns-in_err-row-2-clause-above
@@ -37,7 +38,7 @@ loop-index-preserved c =
     let leads : LeadsTo p text row.items next.items = rw c.deref.ensures.value at c.in_ok-row-2.ensures.reached in
     let same : c.push-in-loop-index.new.self.items ≡ rows ++ next ∷ [] = search rules in
     record {
-      reached = rw same (reached_push ps text rows i p row next c.loop-index.invariant.count (piece_got ps i p lt c.index-pieces-index.is) at c.loop-index.invariant.reached leads c.in_ok-row-2.ensures.len);
+      reached = rw same (reached_push ps text rows i p row next c.loop-index.invariant.count (slice_read ps i p lt c.index-pieces-index.is) at c.loop-index.invariant.reached leads c.in_ok-row-2.ensures.len);
       count = search (rules, c.loop-index.invariant.count);
       above = reads_choice ps i p lt c.index-pieces-index.is c.args.meter.now c.loop-index.meter c.reach_next.new.meter n n (omega arith) c.loop-index.invariant.above c.reach_next.ensures.above;
       steady = omega (arith, c.reach_next.ensures.steady, c.loop-index.invariant.steady);

@@ -3,8 +3,8 @@ use Rattle.wax_capture.proofs.Parts.{unless_slash, one_slash}
 use Rattle.wax_capture.proofs.split.end_unless_slash.Goals.{else-n-eq1-via-then-n-eq1+else-text-at-eq47, else-n-eq1-via-else-n-eq1}
 use Rattle.wax_capture.proofs.split.end_unless_slash.Goals as goal
 
-pub returns : goal.returns
-returns c =
+pub returns-clause-part : goal.returns-clause-part
+returns-clause-part c =
     let x : List ℕ = take c.args.n (drop c.args.at c.args.text.now) in
     let e : c.args.at + c.args.n - c.args.at ≡ c.args.n = omega arith in
     let other : x ≡ 47 ∷ [] → ⊥ = λ h. elim c.else-n-eq1.branch [
