@@ -1,0 +1,4 @@
+pub mod Parts
+pub mod Rows
+pub mod Splits
+pub mod Ways
