@@ -1,0 +1,2 @@
+pub mod BranchFolded
+pub mod OpenBranches
