@@ -58,11 +58,22 @@ pub enum RuleErrorKind {
 
 /// The first rule that an expression breaks, and where (refusals 2 to 8). It prints the rule.
 /// Contracts see the rule, the place and the characters of the expression.
-#[derive(Debug, Drop)]
+#[derive(Debug)]
 pub struct RuleError<'t> {
     expression: CowStr<'t>,
     kind: RuleErrorKind,
     location: CompositeSpan,
+}
+
+// Written out, so that a crate that drops these needn't prove again how places are dropped.
+impl Drop for RuleError<'_> {
+    fn drop(self) {
+        let RuleError {
+            expression: _,
+            kind: _,
+            location: _,
+        } = self;
+    }
 }
 
 impl<'t> Model for RuleError<'t> {

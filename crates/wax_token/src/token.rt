@@ -283,10 +283,19 @@ impl ExpressionMetadata {
 }
 
 /// An expression and its token.
-#[derive(Drop)]
 pub struct Tokenized<'t, A> {
     pub expression: CowStr<'t>,
     pub token: Token<'t, A>,
+}
+
+// Written out, so that a crate that drops these needn't prove again how tokens are dropped.
+impl<'t, A: Drop> Drop for Tokenized<'t, A> {
+    fn drop(self) {
+        let Tokenized {
+            expression: _,
+            token: _,
+        } = self;
+    }
 }
 
 impl<'t, A> Tokenized<'t, A> {
