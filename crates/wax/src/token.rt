@@ -8,6 +8,8 @@ pub use wax_facts::TokenFacts;
 pub use wax_parse::parse::{ErrorEntry, ParseError, parse};
 pub use wax_partition::partition;
 pub use wax_token::token::{
-    Alternation, Archetype, BranchKind, Class, Concatenation, Evaluation, ExpressionMetadata,
-    LeafKind, Literal, Repetition, Separator, Token, TokenTopology, Tokenized, Topology, Wildcard,
+    Alternation, Archetype, Boundary, BranchKind, Class, Composition, Concatenation,
+    ConcatenationTree, Evaluation, ExpressionMetadata, LeafKind, Literal,
+    ROOT_SEPARATOR_EXPRESSION, Repetition, Separator, Token, TokenComposition, TokenTopology,
+    TokenTree, Tokenized, Topology, Wildcard,
 };

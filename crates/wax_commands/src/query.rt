@@ -3,23 +3,20 @@
 use std::alloc::{AllocError, Global};
 use wax::diagnostics::{LocatedError, Warning};
 use wax::query::{DepthVariance, When};
-use wax::token::{ExpressionMetadata, Tokenized, parse, partition};
 use wax::{Glob, NoMemory, Program};
 
 /// The lines of what is known of a glob: its depth, text, root, exhaustiveness, prefix and rest, how many of
 /// its tokens capture, and its warnings.
-pub fn query_lines(alloc: Global, glob: &Glob<'_>) -> Result<String, NoMemory> {
-    let mut lines = fact_lines(alloc, glob)?;
-    let Ok(tokenized) = parse(alloc, glob.expression()) else {
-        return Err(NoMemory);
+pub fn query_lines(alloc: Global, glob: Glob<'_>) -> Result<String, NoMemory> {
+    let mut lines = fact_lines(alloc, &glob)?;
+    let token_lines = token_lines(alloc, &glob)?;
+    let (prefix, rest) = glob.partition(alloc)?;
+    let part_lines = match rest {
+        Some(rest) => format!(in alloc; "prefix {prefix}\nrest {rest}\n")?,
+        None => format!(in alloc; "prefix {prefix}\nno rest\n")?,
     };
-    push_parts(alloc, &mut lines, partition(alloc, tokenized)?)?;
-    let captures = glob.captures(alloc)?.len();
-    let line = format!(in alloc; "captures {captures}\n")?;
-    lines.push_str(line.as_str())?;
-    for warning in &glob.diagnose(alloc)? {
-        push_warning(alloc, &mut lines, warning)?;
-    }
+    lines.push_str(part_lines.as_str())?;
+    lines.push_str(token_lines.as_str())?;
     Ok(lines)
 }
 
@@ -38,18 +35,14 @@ fn fact_lines(alloc: Global, glob: &Glob<'_>) -> Result<String, NoMemory> {
     })
 }
 
-// The prefix, and the expression of the rest.
-fn push_parts(
-    alloc: Global,
-    lines: &mut String,
-    parts: (String, Option<Tokenized<'_, ExpressionMetadata>>),
-) -> Result<(), AllocError> {
-    let (prefix, rest) = parts;
-    let text = match rest {
-        Some(rest) => format!(in alloc; "prefix {prefix}\nrest {}\n", rest.expression())?,
-        None => format!(in alloc; "prefix {prefix}\nno rest\n")?,
-    };
-    lines.push_str(text.as_str())
+// How many tokens capture, and the warnings.
+fn token_lines(alloc: Global, glob: &Glob<'_>) -> Result<String, NoMemory> {
+    let captures = glob.captures(alloc)?.len();
+    let mut lines = format!(in alloc; "captures {captures}\n")?;
+    for warning in &glob.diagnose(alloc)? {
+        push_warning(alloc, &mut lines, warning)?;
+    }
+    Ok(lines)
 }
 
 // A warning with its span.

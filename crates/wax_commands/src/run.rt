@@ -111,7 +111,7 @@ fn run_query<W: Write, F: Write>(
     let Some(glob) = built(alloc, expression, faults) else {
         return FAILED;
     };
-    match write_query(alloc, &glob, output) {
+    match write_query(alloc, glob, output) {
         Ok(()) => DONE,
         Err(error) => {
             let _ = writeln!(faults, "globs: {error}");
@@ -137,7 +137,7 @@ fn built<'e, F: Write>(alloc: Global, expression: &'e str, faults: &mut F) -> Op
 
 fn write_query<W: Write>(
     alloc: Global,
-    glob: &Glob<'_>,
+    glob: Glob<'_>,
     output: &mut Counted<W>,
 ) -> Result<(), LinesError>
     ensures { Writes (W.contents output.old.inner) (W.contents output.new.inner) }

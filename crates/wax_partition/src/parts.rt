@@ -51,7 +51,7 @@ pub fn partition<'t>(
     ensures fits { IfOk result (λ r. IfSome r.1 (λ u. Flat tokenized.entry.token
         → program_length u.token ≤ program_length tokenized.entry.token)) }
 {
-    let Tokenized { expression, token } = tokenized;
+    let (expression, token) = tokenized.into_parts();
     let (prefix, tokens, end) = split_tokens(alloc, token)?;
     Ok((prefix, cut_out(alloc, expression.as_str(), end, tokens)?))
 }

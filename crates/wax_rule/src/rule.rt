@@ -112,11 +112,16 @@ impl<'t> RuleError<'t> {
     pub fn into_owned(self, alloc: Global) -> Result<RuleError<'static>, NoMemory>
         ensures { IfOk result (λ e. e ≡ self.entry) }
     {
-        let expression = self.expression.into_owned(alloc)?;
+        let RuleError {
+            expression,
+            kind,
+            location,
+        } = self;
+        let expression = CowStr::Owned(expression.into_owned(alloc)?);
         Ok(RuleError {
-            expression: CowStr::Owned(expression),
-            kind: self.kind,
-            location: self.location,
+            expression,
+            kind,
+            location,
         })
     }
 }
@@ -283,12 +288,13 @@ pub fn check<'t>(
     ensures rules { MatchBuild result (λ t. broken t.token ≡ []) (IsFirst (broken tokenized.entry.token)) }
     ensures expression { MatchBuild result (λ _. Unit {0}) (λ e. e.expression ≡ chars (cow_str_bytes tokenized.entry.expression)) }
 {
-    match find_first(alloc, &tokenized.token)? {
-        None => Ok(Checked { inner: tokenized }),
-        Some(found) => Err(Refusal::Refused(RuleError {
-            expression: tokenized.expression,
-            kind: found.kind,
-            location: found.location,
-        })),
-    }
+    let Some(found) = find_first(alloc, &tokenized.token)? else {
+        return Ok(Checked { inner: tokenized });
+    };
+    let (expression, _) = tokenized.into_parts();
+    Err(Refusal::Refused(RuleError {
+        expression,
+        kind: found.kind,
+        location: found.location,
+    }))
 }

@@ -311,6 +311,14 @@ impl<'t, A> Tokenized<'t, A> {
         &self.token
     }
 
+    /// The expression and the token.
+    pub fn into_parts(self) -> (CowStr<'t>, Token<'t, A>)
+        ensures { result ≡ (self.entry.expression, self.entry.token) }
+    {
+        let Tokenized { expression, token } = self;
+        (expression, token)
+    }
+
     /// The token, without the expression.
     pub fn into_token(self) -> Token<'t, A>
         ensures { result ≡ self.entry.token }
