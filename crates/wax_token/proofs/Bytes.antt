@@ -1,5 +1,6 @@
 -- How many bytes a text has.
-use Rattle.std.proofs.Common.{◌≡◌, ℕ, List, [], ◌∷◌, length, chars, encode_utf8, encode_utf8_all, sym, ◌∙◌, ap, arith, refl, length-append, eqb-true, ◌==◌}
+use Rattle.std.proofs.Common.{◌≡◌, ℕ, List, [], ◌∷◌, length, chars, encode_utf8, encode_utf8_all, sym, ◌∙◌}
+use Rattle.std.proofs.Common.{ap, arith, refl, length-append, eqb-true, ◌==◌}
 use Rattle.std.specs.Prelude.{IsTrue, ◌↔◌}
 use Rattle.std.specs.Str.{IsUtf8}
 use Rattle.std.proofs.lemmas.List.{nil_from_length}

@@ -1,5 +1,6 @@
 -- The definitions, read against worked examples.
-use Rattle.std.proofs.Common.{◌≡◌, ℕ, suc, ◌≤◌, Bool, true, false, List, [], ◌∷◌, ◌++◌, Some, refl, inl, inr, arith, codes, ap, sym, ◌∙◌, zero}
+use Rattle.std.proofs.Common.{◌≡◌, ℕ, suc, ◌≤◌, Bool, true, false, List, [], ◌∷◌, ◌++◌, Some, refl, inl}
+use Rattle.std.proofs.Common.{inr, arith, codes, ap, sym, ◌∙◌, zero}
 use Rattle.wax_token.specs.declared.token.Archetype.{Archetype}
 use Rattle.wax_token.specs.declared.token.Archetype.TheVariants.{Character, Range}
 use Rattle.wax_token.specs.Syntax.{literal, tree, Tree, leaf, concatenation, repetition, none, more}

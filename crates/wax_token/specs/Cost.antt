@@ -1,6 +1,7 @@
 -- The cost of a token tree.
 use Rattle.std.specs.Prelude.{ℕ, ◌+◌, ◌*◌, Bool, true, false, ◌||◌, if◌then◌else◌, length, Option, Some, None}
-use Rattle.wax_token.specs.Syntax.{Leaf, literal, class, separator, one, zero_or_more, tree, Tree, leaf, alternation, concatenation, repetition, Trees, none, more}
+use Rattle.wax_token.specs.Syntax.{Leaf, literal, class, separator, one, zero_or_more, tree, Tree, leaf}
+use Rattle.wax_token.specs.Syntax.{alternation, concatenation, repetition, Trees, none, more}
 
 abbrev pub leaf_cost : Leaf → ℕ
 leaf_cost (literal _ t) = length t

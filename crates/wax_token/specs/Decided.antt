@@ -83,7 +83,8 @@ same_list (c ∷ s) (d ∷ t) = elim (cases_eq c d) [
 abbrev Pieces : (List ℕ → Type 0) → (List ℕ → Type 0) → List ℕ → Type 0
 Pieces P Q s = (x : List ℕ) × (y : List ℕ) × (s ≡ x ++ y) × P x × Q y
 
-pieces : (P Q : List ℕ → Type 0) → ((x : List ℕ) → Decided (P x)) → ((y : List ℕ) → Decided (Q y)) → (s : List ℕ) →
+pieces : (P Q : List ℕ → Type 0) →
+    ((x : List ℕ) → Decided (P x)) → ((y : List ℕ) → Decided (Q y)) → (s : List ℕ) →
     Decided (Pieces P Q s)
 pieces P Q p q [] = elim (both (p []) (q [])) [
   | inl h ↦ inl ([], [], refl, h.0, h.1)
@@ -147,7 +148,8 @@ same_text false (c ∷ t) (d ∷ s) = both (cases_eq c d) (same_text false t s)
 same_text true (c ∷ t) (d ∷ s) = both (same_fold c d) (same_text true t s)
 
 -- a text of one character
-one_char : (P : ℕ → Type 0) → ((c : ℕ) → Decided (P c)) → (s : List ℕ) → Decided ((c : ℕ) × (s ≡ c ∷ []) × P c)
+one_char : (P : ℕ → Type 0) → ((c : ℕ) → Decided (P c)) → (s : List ℕ) →
+    Decided ((c : ℕ) × (s ≡ c ∷ []) × P c)
 one_char P p [] = inr (λ h. (let e = h.1 in cc))
 one_char P p (c ∷ []) = yes (λ h. (c, refl, h)) (λ h. subst P (let e = h.1 in cc) h.2) (p c)
 one_char P p (c ∷ d ∷ s) = inr (λ h. (let e = h.1 in cc))
@@ -191,7 +193,8 @@ module _ (Body : Bool → Bool → List ℕ → Type 0) where
     pick [] e = subst (λ v. Body true a v) (sym e) h.4
     pick (c ∷ x) e = absurd (let n : length y ≡ suc (length (x ++ h.1)) = ap length e in omega (arith, n, l))
   fewer_after (suc k) a y l h = pick h.0 h.2 h.3 (λ m. fewer_after k a h.1 m h.4) where
-    pick : (x : List ℕ) → y ≡ x ++ h.1 → Body true true x → (length h.1 ≤ k → Copies (suc k) Body true a h.1) →
+    pick : (x : List ℕ) → y ≡ x ++ h.1 → Body true true x →
+        (length h.1 ≤ k → Copies (suc k) Body true a h.1) →
         Copies (suc (suc k)) Body true a y
     pick [] e g f = subst (λ v. Copies (suc (suc k)) Body true a v) (sym e) h.4
     pick (c ∷ x) e g f =
@@ -250,7 +253,8 @@ module _ (Body : Bool → Bool → List ℕ → Type 0) (d : (b a : Bool) (x : L
 
   repeated : Decided ((k : ℕ) × (low ≤ k) × AtMost k high × Copies k Body b a s)
   repeated =
-      yes (λ h. (h.0, h.2.0, h.2.1, h.2.2)) (λ h. counted_less h.0 (h.1, h.2, h.3)) (some_up_to Counted counted enough)
+      yes (λ h. (h.0, h.2.0, h.2.1, h.2.2)) (λ h. counted_less h.0 (h.1, h.2, h.3))
+      (some_up_to Counted counted enough)
 
 -- ---- trees
 
@@ -259,7 +263,8 @@ mutual
   means_decided (leaf x l) b a s = leaf_decided l b a s
   means_decided (alternation x ts) b a s = some_decided ts b a s
   means_decided (concatenation x ts) b a s = each_decided ts b a s
-  means_decided (repetition x t low high) b a s = repeated (Means t) (λ c d y. means_decided t c d y) low high b a s
+  means_decided (repetition x t low high) b a s =
+      repeated (Means t) (λ c d y. means_decided t c d y) low high b a s
 
   pub some_decided : {A : Type 0} (ts : Trees A) (b a : Bool) (s : List ℕ) → Decided (MeansSome ts b a s)
   some_decided none b a s = inr (λ h. h)

@@ -1,10 +1,12 @@
 -- Which texts a token tree means. `before` and `after` say whether something is written around it.
-use Rattle.std.specs.Prelude.{◌≡◌, ◌≢◌, ℕ, zero, suc, ◌≤◌, Bool, true, false, ◌⊎◌, List, [], ◌∷◌, ◌++◌, Option, Some, None, not, ◌&&◌, ◌==◌, nat_le, if◌then◌else◌}
+use Rattle.std.specs.Prelude.{◌≡◌, ◌≢◌, ℕ, zero, suc, ◌≤◌, Bool, true, false, ◌⊎◌, List, [], ◌∷◌, ◌++◌}
+use Rattle.std.specs.Prelude.{Option, Some, None, not, ◌&&◌, ◌==◌, nat_le, if◌then◌else◌}
 use Rattle.std.specs.List.{list_any, list_all}
 use Rattle.unicode.specs.CaseFolding.{simple_fold}
 use Rattle.wax_token.specs.declared.token.Archetype.{Archetype}
 use Rattle.wax_token.specs.declared.token.Archetype.TheVariants.{Character, Range}
-use Rattle.wax_token.specs.Syntax.{Leaf, literal, class, separator, one, zero_or_more, tree, Tree, leaf, alternation, concatenation, repetition, Trees, none, more}
+use Rattle.wax_token.specs.Syntax.{Leaf, literal, class, separator, one, zero_or_more, tree, Tree, leaf}
+use Rattle.wax_token.specs.Syntax.{alternation, concatenation, repetition, Trees, none, more}
 
 abbrev pub Begins : List ℕ → Type 0
 Begins s = (t : List ℕ) × (s ≡ 47 ∷ t)
@@ -36,7 +38,10 @@ is_forward (Range low high) = nat_le low high
 
 -- a character of a class; a class with a reversed range has none
 abbrev pub in_class : Bool → List Archetype → ℕ → Bool
-in_class negated xs c = not (c == 47) && list_all is_forward xs && (if negated then not (list_any (in_archetype c) xs) else list_any (in_archetype c) xs)
+in_class negated xs c =
+    not (c == 47)
+    && list_all is_forward xs
+    && (if negated then not (list_any (in_archetype c) xs) else list_any (in_archetype c) xs)
 
 -- the two characters share their simple folding
 unfoldable pub SameFold : ℕ → ℕ → Type 0

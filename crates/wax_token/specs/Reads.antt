@@ -1,12 +1,15 @@
--- Which expressions spell which token trees. A place is what is still to come, so a span is a difference of lengths.
-use Rattle.std.specs.Prelude.{◌≡◌, ◌≢◌, ℕ, ◌+◌, ◌*◌, ◌-◌, ◌^◌, ◌<◌, ◌≤◌, max, Bool, true, false, ◌⊎◌, List, [], ◌∷◌, ◌++◌, Option, Some, None, codes, ◌==◌, if◌then◌else◌}
+-- Which expressions spell which token trees. A place is what is still to come, so a span is a difference of
+-- lengths.
+use Rattle.std.specs.Prelude.{◌≡◌, ◌≢◌, ℕ, ◌+◌, ◌*◌, ◌-◌, ◌^◌, ◌<◌, ◌≤◌, max, Bool, true, false, ◌⊎◌, List}
+use Rattle.std.specs.Prelude.{[], ◌∷◌, ◌++◌, Option, Some, None, codes, ◌==◌, if◌then◌else◌}
 use Rattle.std.specs.List.{list_any, list_all}
 use Rattle.std.specs.Char.{len_utf8, is_ascii_digit}
 use Rattle.wax_token.specs.declared.token.Archetype.{Archetype}
 use Rattle.wax_token.specs.declared.token.Archetype.TheVariants.{Character, Range}
 use Rattle.wax_token.specs.declared.token.Evaluation.{Evaluation}
 use Rattle.wax_token.specs.declared.token.Evaluation.TheVariants.{Eager, Lazy}
-use Rattle.wax_token.specs.Syntax.{Leaf, literal, class, separator, one, zero_or_more, tree, Tree, leaf, alternation, concatenation, repetition, Trees, none, more}
+use Rattle.wax_token.specs.Syntax.{Leaf, literal, class, separator, one, zero_or_more, tree, Tree, leaf}
+use Rattle.wax_token.specs.Syntax.{alternation, concatenation, repetition, Trees, none, more}
 
 -- the first byte, and the number of bytes
 abbrev pub Span : Type 0
@@ -108,8 +111,10 @@ pub data Bounds (cs : List ℕ) (low : ℕ) (high : Option ℕ) : Type 0 where
   any_number : cs ≡ [] → low ≡ 0 → high ≡ None → Bounds cs low high
   at_least_one : cs ≡ codes ":" → low ≡ 1 → high ≡ None → Bounds cs low high
   exactly : (ds : List ℕ) → cs ≡ codes ":" ++ ds → IsNumber ds low → high ≡ Some low → Bounds cs low high
-  at_least : (ds : List ℕ) → cs ≡ codes ":" ++ ds ++ codes "," → IsNumber ds low → high ≡ None → Bounds cs low high
-  between : (ds es : List ℕ) (most : ℕ) → cs ≡ codes ":" ++ ds ++ codes "," ++ es → IsNumber ds low → IsNumber es most →
+  at_least : (ds : List ℕ) → cs ≡ codes ":" ++ ds ++ codes "," → IsNumber ds low → high ≡ None →
+      Bounds cs low high
+  between : (ds es : List ℕ) (most : ℕ) → cs ≡ codes ":" ++ ds ++ codes "," ++ es →
+      IsNumber ds low → IsNumber es most →
       high ≡ Some most → Bounds cs low high
 
 -- where a sub-glob stands: nothing, `,` or `}`, `:` or `>` ends it
@@ -142,16 +147,19 @@ TreeFollows around p q = (m n : Place) × Flags p m × Past (codes "**") m n × 
 -- a leaf from p, after its flags, to q; `first` says that it is the first token of its sub-glob
 abbrev pub ReadsLeaf : Around → Bool → Leaf → Place → Place → Type 0
 ReadsLeaf around first (literal insensitive t) p q =
-    (insensitive ≡ p.insensitive) × IsLiteralText t × Past (all_spelled escapable t) p q × NoLiteralFollows q.rest
+    (insensitive ≡ p.insensitive) × IsLiteralText t
+    × Past (all_spelled escapable t) p q × NoLiteralFollows q.rest
 ReadsLeaf around first (class negated xs) p q =
     (xs ≢ []) × AllPlain xs × Past (class_text negated xs) p q
     × (negated ≡ false → starts_in (codes "!") (archetypes_text xs) ≡ false)
 ReadsLeaf around first separator p q =
     Past (codes "/") p q × ((r : Place) → TreeFollows around q r → ⊥)
 ReadsLeaf around first one p q = Past (codes "?") p q
-ReadsLeaf around first (zero_or_more evaluation) p q = Past (evaluation_text evaluation) p q × NoWildcardFollows q
+ReadsLeaf around first (zero_or_more evaluation) p q =
+    Past (evaluation_text evaluation) p q × NoWildcardFollows q
 ReadsLeaf around first (tree true) p q = (m : Place) × Past (codes "/") p m × TreeFollows around m q
-ReadsLeaf around first (tree false) p q = (first ≡ true) × (n : Place) × Past (codes "**") p n × TreeCloses around n q
+ReadsLeaf around first (tree false) p q =
+    (first ≡ true) × (n : Place) × Past (codes "**") p n × TreeCloses around n q
 
 -- in an expression of so many bytes
 module _ (size : ℕ) where
@@ -162,9 +170,11 @@ module _ (size : ℕ) where
   abbrev mutual
     -- one token of a concatenation, from its flags on
     pub ReadsToken : Tree Span → Around → Bool → Place → Place → Type 0
-    ReadsToken (leaf s l) around first p q = (m : Place) × Flags p m × ReadsLeaf around first l m q × IsSpan s p q
+    ReadsToken (leaf s l) around first p q =
+        (m : Place) × Flags p m × ReadsLeaf around first l m q × IsSpan s p q
     ReadsToken (alternation s ts) around first p q =
-        (m n k : Place) × Flags p m × Past (codes "{") m n × ReadsBranches ts n k × Past (codes "}") k q × IsSpan s p q
+        (m n k : Place) × Flags p m × Past (codes "{") m n × ReadsBranches ts n k × Past (codes "}") k q
+        × IsSpan s p q
     ReadsToken (repetition s t low high) around first p q =
         (m n k : Place) × (cs : List ℕ) × Flags p m × Past (codes "<") m n × ReadsGlob t in_repetition n k
         × Bounds cs low high × Past (cs ++ codes ">") k q × IsSpan s p q

@@ -1,5 +1,6 @@
 -- One level of a token, as a plain tree.
-use Rattle.wax_token.specs.Syntax.{Leaf, literal, class, separator, one, zero_or_more, tree, Tree, leaf, alternation, concatenation, repetition}
+use Rattle.wax_token.specs.Syntax.{Leaf, literal, class, separator, one, zero_or_more, tree, Tree, leaf}
+use Rattle.wax_token.specs.Syntax.{alternation, concatenation, repetition}
 use Rattle.wax_token.specs.Words.{trees}
 use Rattle.wax_token.specs.declared.token.LeafKind.{LeafKind}
 use Rattle.wax_token.specs.declared.token.LeafKind.TheVariants as kind

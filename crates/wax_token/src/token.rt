@@ -1,5 +1,6 @@
 //! The tokens of a glob.
-ghost use Rattle.std.specs.Prelude.{◌≡◌, ◌↔◌, ◌+◌, ◌^◌, ◌<◌, ℕ, Bool, List, IsSome, IfSome, true, false, [], ◌∷◌};
+ghost use Rattle.std.specs.Prelude.{◌≡◌, ◌↔◌, ◌+◌, ◌^◌, ◌<◌, ℕ, Bool, List, IsSome, IfSome, true, false};
+ghost use Rattle.std.specs.Prelude.{[], ◌∷◌};
 ghost use Rattle.std.specs.Str.{chars};
 ghost use Rattle.std.specs.Cow.{cow_str_bytes};
 ghost use Rattle.wax_token.specs.Syntax.{leaf};

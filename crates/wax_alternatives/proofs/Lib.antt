@@ -1,0 +1,4 @@
+pub mod Levels
+pub mod Means
+pub mod Opens
+pub mod Rows

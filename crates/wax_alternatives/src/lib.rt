@@ -1,0 +1,7 @@
+//! A token as a list of alternatives.
+#![tactic(auto)]
+
+mod alternatives;
+mod opened;
+
+pub use alternatives::into_alternatives;

@@ -1,0 +1,103 @@
+//! Branches that are opened to the one token that they hold.
+ghost use Rattle.std.specs.Prelude.{◌≡◌, ◌≢◌, ◌+◌, ◌<◌, ◌≤◌, ◌∷◌, []};
+ghost use Rattle.std.specs.Prelude.{MatchResult, length};
+ghost use Rattle.wax_token.specs.Syntax.{tree_size, trees_size};
+ghost use Rattle.wax_token.specs.View.{branch_tree};
+ghost use Rattle.wax_token.specs.Words.{trees};
+ghost use Rattle.wax_alternatives.specs.Alternatives.{levels, levels_each};
+ghost use Rattle.wax_alternatives.specs.inner.Opened.{own_levels};
+
+use wax_token::token::{
+    Alternation, BranchKind, Concatenation, Token, Topology, new_branch, new_leaf,
+};
+
+/// The token, or the first one inside it that isn't opened to the token that it holds.
+pub fn opened<'t, A: Drop>(token: Token<'t, A>) -> Token<'t, A>
+    ensures levels { own_levels result ≡ levels token.entry }
+    ensures size { tree_size result ≤ tree_size token.entry }
+{
+    let mut token = token;
+    loop {
+        match inner(token) {
+            Ok(only) => token = only,
+            Err(whole) => return whole,
+        }
+    }
+}
+
+// The one token that the token is opened to, or else the token itself.
+fn inner<'t, A: Drop>(token: Token<'t, A>) -> Result<Token<'t, A>, Token<'t, A>>
+    ensures levels { MatchResult result (λ t. levels t ≡ levels token.entry)
+        (λ t. own_levels t ≡ levels token.entry) }
+    ensures size { MatchResult result (λ t. tree_size t < tree_size token.entry)
+        (λ t. tree_size t ≤ tree_size token.entry) }
+{
+    let (topology, annotation) = token.into_parts();
+    match topology {
+        Topology::Branch(branch) => match inner_of_branch(branch) {
+            Ok(token) => Ok(token),
+            Err(branch) => Err(new_branch(branch, annotation)),
+        },
+        Topology::Leaf(leaf) => Err(new_leaf(leaf, annotation)),
+    }
+}
+
+// The same of a branch.
+#[tactic(auto, using(crate::proofs::Opens::own_alternation, crate::proofs::Opens::own_concatenation))]
+fn inner_of_branch<'t, A: Drop>(
+    branch: BranchKind<'t, A>,
+) -> Result<Token<'t, A>, BranchKind<'t, A>>
+    ensures levels { (a : A) → MatchResult result (λ t. levels t ≡ levels (branch_tree branch.entry a))
+        (λ b. own_levels (branch_tree b a) ≡ levels (branch_tree branch.entry a)) }
+    ensures size { (a : A) → MatchResult result (λ t. tree_size t < tree_size (branch_tree branch.entry a))
+        (λ b. branch_tree b a ≡ branch_tree branch.entry a) }
+{
+    match branch {
+        BranchKind::Alternation(a) => match only(a.tokens) {
+            Ok(token) => Ok(token),
+            Err(tokens) => Err(BranchKind::Alternation(Alternation { tokens })),
+        },
+        BranchKind::Concatenation(c) => match only(c.tokens) {
+            Ok(token) => Ok(token),
+            Err(tokens) => Err(BranchKind::Concatenation(Concatenation { tokens })),
+        },
+        BranchKind::Repetition(r) => {
+            if r.lower == 1 && r.upper == Some(1) {
+                Ok(Box::into_inner(r.token))
+            } else {
+                Err(BranchKind::Repetition(r))
+            }
+        }
+    }
+}
+
+// The only item, or else all of them.
+fn only<T: Drop>(mut items: Vec<T>) -> Result<T, Vec<T>>
+    ensures { MatchResult result (λ item. items.items ≡ item ∷ [])
+        (λ all. (all.items ≡ items.items) × (length all.items ≢ 1)) }
+{
+    if items.len() != 1 {
+        return Err(items);
+    }
+    match items.pop() {
+        Some(item) => Ok(item),
+        None => Err(items),
+    }
+}
+
+/// The branches of an alternation, or else the token.
+pub fn taken_apart<'t, A: Drop>(token: Token<'t, A>) -> Result<Vec<Token<'t, A>>, Token<'t, A>>
+    ensures levels { MatchResult result (λ ts. own_levels token.entry ≡ [] ∷ levels_each (trees ts.items))
+        (λ t. own_levels token.entry ≡ (t ∷ []) ∷ []) }
+    ensures size { MatchResult result (λ ts. tree_size token.entry ≡ trees_size (trees ts.items) + 1)
+        (λ t. t ≡ token.entry) }
+{
+    let (topology, annotation) = token.into_parts();
+    match topology {
+        Topology::Branch(branch) => match branch {
+            BranchKind::Alternation(a) => Ok(a.tokens),
+            other => Err(new_branch(other, annotation)),
+        },
+        Topology::Leaf(leaf) => Err(new_leaf(leaf, annotation)),
+    }
+}
