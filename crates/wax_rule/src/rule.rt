@@ -11,7 +11,6 @@ ghost use Rattle.wax_rule.specs.FirstBreak.{IsFirst, first_of, breaks_of, breaks
 mod boundary;
 mod bounds;
 mod branch;
-mod leaf;
 mod natural;
 mod situated;
 mod size;

@@ -13,6 +13,7 @@ use wax_query::diagnostics::Span;
 mod boundary;
 mod composition;
 mod kinds;
+mod leaves;
 mod made;
 mod members;
 mod owned;
