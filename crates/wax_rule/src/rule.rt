@@ -14,7 +14,7 @@ mod branch;
 mod leaf;
 mod natural;
 mod situated;
-mod size;
+pub(crate) mod size;
 
 use crate::rule::boundary::boundary_break;
 use crate::rule::bounds::bounds_break;
