@@ -3,7 +3,7 @@ use Rattle.std.proofs.Common.{◌≡◌, ◌≤◌, ◌+◌, ◌*◌, ℕ, zero,
 use Rattle.wax_token.specs.Cost.{cost, costs, branches_cost, copies_of, holds_tree, some_holds_tree, program_length}
 use Rattle.wax_token.specs.Reads.{Span}
 use Rattle.wax_token.specs.Syntax.{Tree, leaf, alternation, concatenation, repetition, Trees, none, more}
-use Rattle.wax_token.specs.Syntax.{Leaf, literal, class, separator, one, zero_or_more, tree}
+use Rattle.wax_token.specs.Syntax.{literal, class, separator, one, zero_or_more, tree}
 use Rattle.wax_token.specs.Words.{members}
 use Rattle.wax_facts.specs.Prefix.{opened}
 use Rattle.wax_facts.specs.Rest.{after, begins_with_tree, entered, inner, inner_last, left, or_here, owner, rest, unrooted}

@@ -13,7 +13,7 @@ mod bounds;
 mod branch;
 mod natural;
 mod situated;
-mod size;
+pub(crate) mod size;
 
 use crate::rule::boundary::boundary_break;
 use crate::rule::bounds::bounds_break;
