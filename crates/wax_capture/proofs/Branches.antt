@@ -6,7 +6,7 @@ use Rattle.wax_program.specs.declared.instruction.Instruction.{Instruction}
 use Rattle.wax_program.specs.Machine.{Accepts}
 use Rattle.wax_token.specs.Cost.{cost, costs, branches_cost}
 use Rattle.wax_token.specs.Meaning.{Means, MeansEach}
-use Rattle.wax_token.specs.Syntax.{one, Tree, none, more}
+use Rattle.wax_token.specs.Syntax.{Tree, none, more}
 use Rattle.wax_token.specs.Words.{trees}
 use Rattle.wax_capture.specs.Captures.{MeansBranch}
 use Rattle.wax_capture.specs.Pieces.{WayIn, instructions}

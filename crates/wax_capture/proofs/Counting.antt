@@ -106,15 +106,20 @@ reads_twice all old first new m f h = omega (arith, h, reads_square all old firs
 pub reads_once : (all old new m : ℕ) → new ≤ old + all * (m + 1) → new ≤ old + 2 * (all * ((m + 1) * (m + 1)))
 reads_once all old new m h = omega (arith, reads_square all old new m h)
 
--- within the stated number of visits
-pub visits_within : (all cost old new m : ℕ) → all ≤ 2 * cost → new ≤ old + 2 * (all * ((m + 1) * (m + 1))) → new ≤ old + 8 * ((cost + 1) * ((m + 1) * ((m + 1) * (m + 1))))
-visits_within all cost old new m few h =
+-- ---- within the stated numbers of visits
+pub visits_square : (all cost new m : ℕ) → all ≤ 2 * cost → new ≤ 2 * (all * ((m + 1) * (m + 1))) → new ≤ 4 * (cost * ((m + 1) * (m + 1)))
+visits_square all cost new m few h =
+    let n : ℕ = (m + 1) * (m + 1) in
+    let a : all * n ≤ 2 * cost * n = mul-le-mul_right n few in
+    let b : 2 * cost * n ≡ 2 * (cost * n) = mul_assoc 2 cost n in
+    omega (arith, h, a, b)
+
+pub visits_cube : (cost new m : ℕ) → new ≤ 4 * (cost * ((m + 1) * (m + 1))) → new ≤ 8 * ((cost + 1) * ((m + 1) * ((m + 1) * (m + 1))))
+visits_cube cost new m h =
     let n : ℕ = m + 1 in
-    let a : all * (n * n) ≤ 2 * cost * (n * n) = mul-le-mul_right (n * n) few in
-    let b : 2 * cost * (n * n) ≡ 2 * (cost * (n * n)) = mul_assoc 2 cost (n * n) in
     let d : cost * (n * n) ≤ (cost + 1) * (n * n) = mul-le-mul_right (n * n) (let e : cost ≤ cost + 1 = omega arith in e) in
     let one : 1 ≤ n = omega arith in
     let f : n * n * 1 ≤ n * n * n = mul-le-mul_left (n * n) one in
     let f2 : n * n ≤ n * (n * n) = omega (arith, f, mul-one (n * n), mul_assoc n n n) in
     let g : (cost + 1) * (n * n) ≤ (cost + 1) * (n * (n * n)) = mul-le-mul_left (cost + 1) f2 in
-    omega (arith, h, a, b, d, g)
+    omega (arith, h, d, g)

@@ -1,5 +1,6 @@
 pub mod Branches
 pub mod Built
+pub mod ByteParts
 pub mod Choosing
 pub mod Counting
 pub mod Lists

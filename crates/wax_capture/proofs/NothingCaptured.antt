@@ -1,11 +1,10 @@
 -- The pieces of a tree wildcard of which nothing is captured, and their programs.
-use Rattle.std.proofs.Common.{◌≡◌, ℕ, ◌-◌, ◌↔◌, ◌⊎◌, Bool, true, false, List, [], ◌∷◌, drop, refl, sym, ◌∙◌, ap, inl, inr}
+use Rattle.std.proofs.Common.{◌≡◌, ℕ, ◌↔◌, ◌⊎◌, Bool, true, false, List, [], ◌∷◌, drop, refl, sym, ◌∙◌, ap, inl, inr}
 use Rattle.std.proofs.lemmas.Bool.{cases_eq}
 use Rattle.wax_program.specs.declared.instruction.Instruction.TheVariants.{Check, Fork}
 use Rattle.wax_program.specs.declared.instruction.Test.TheVariants.{Char, Never}
 use Rattle.wax_program.specs.Machine.{Accepts}
 use Rattle.wax_token.specs.Meaning.{TreeMeans}
-use Rattle.wax_token.specs.Syntax.{tree}
 use Rattle.wax_match.proofs.Compiled.{spells_never, spells_slash}
 use Rattle.wax_match.proofs.Fragments.{spells_skip}
 use Rattle.wax_match.proofs.Whole.{program_complete, program_sound}

@@ -6,9 +6,9 @@ use Rattle.wax_token.specs.Meaning.{LeafMeans, Means, MeansSome, MeansEach}
 use Rattle.wax_token.specs.Syntax.{Leaf, literal, class, separator, one, zero_or_more, tree, Tree, leaf, alternation, concatenation, repetition, Trees, none, more}
 use Rattle.wax_capture.specs.Captures.{Captured, First, Fits, IsChosen, LeafWay, MeansBranch, Prefers, Way, has_more}
 use Rattle.wax_capture.specs.Pieces.{ArePieces, IsPiece}
-use Rattle.wax_capture.specs.inner.Parts.{parts}
 use Rattle.wax_capture.specs.inner.Splits.{CapturedBy, FitsBy, IsChosenBy, Splits}
 use Rattle.std.specs.Global.{Vec}
+use Rattle.wax_capture.specs.Matched.{IsMatched, MatchedView}
 use Rattle.wax_capture.specs.declared.piece.Piece.{Piece}
 
 -- ---- the ways of a token are all that it means
@@ -122,7 +122,21 @@ is_captured (more t ts) before after [] are s captures h = absurd are
 is_captured (more t ts) before after (p ∷ ps) are s captures h =
     (h.0, is_chosen t ts before after p ps are.0 are.1 s h.0 h.1, h.2, is_captured ts true after ps are.1 (drop h.0 s) h.2 h.3, h.4 ∙ ap (λ z. z ++ h.2) (are.0.captures (take h.0 s)))
 
-pub found_captured : {A : Type 0} (ts : Trees A) (ps : List Piece) → ArePieces ts false false ps → (s : List ℕ) (r : Option (Vec (ℕ × ℕ))) → MatchOption r (Splits ps s → ⊥) (λ places. CapturedBy ps s (parts s places.items)) →
-    MatchOption r (MeansEach ts false false s → ⊥) (λ places. Captured ts false false s (parts s places.items))
-found_captured ts ps are s None h = λ m. h (means_splits ts false false ps are s m)
-found_captured ts ps are s (Some places) h = is_captured ts false false ps are s (parts s places.items) h
+pub captured_means : {A : Type 0} (ts : Trees A) (before after : Bool) (s : List ℕ) (captures : List (List ℕ)) → Captured ts before after s captures → MeansEach ts before after s
+captured_means none before after s captures h = h.0
+captured_means (more t ts) before after s captures h =
+    let c = h.1 in
+    each_join t ts before after s h.0 c.fits.0 (way_meant t c.way before (after || has_more ts) (take h.0 s) c.fits.1) c.fits.2
+
+-- a text that the pieces don't split
+pub none_means : {A : Type 0} (ts : Trees A) (ps : List Piece) → ArePieces ts false false ps → (s : List ℕ) (r : Option (Vec (ℕ × ℕ))) (Q : Vec (ℕ × ℕ) → Type 0) →
+    ((places : Vec (ℕ × ℕ)) → r ≡ Some places → ⊥) → MatchOption r (Splits ps s → ⊥) Q → MeansEach ts false false s → ⊥
+none_means ts ps are s None Q other h m = h (means_splits ts false false ps are s m)
+none_means ts ps are s (Some places) Q other h m = other places refl
+
+-- a text that they split
+pub some_matched : {A : Type 0} (ts : Trees A) (ps : List Piece) → ArePieces ts false false ps → (s : List ℕ) (captures : List (List ℕ)) → CapturedBy ps s captures →
+    (m : MatchedView) → m.text ≡ s → m.captures ≡ captures → IsMatched ts s (Some m)
+some_matched ts ps are s captures h m text same =
+    let captured : Captured ts false false s captures = is_captured ts false false ps are s captures h in
+    (captured_means ts false false s captures captured, text, subst (Captured ts false false s) (sym same) captured)

@@ -1,6 +1,6 @@
 -- The chosen split of a text over tokens that stand one after another, and what each token captures of it.
-use Rattle.std.specs.Prelude.{◌≡◌, ℕ, zero, suc, ◌≤◌, Bool, true, false, ◌||◌, List, [], ◌∷◌, ◌++◌, length, take, drop}
-use Rattle.std.specs.Prelude.{◌==◌, if◌then◌else◌}
+use Rattle.std.specs.Prelude.{◌≡◌, ℕ, zero, suc, ◌≤◌, Bool, true, false, ◌||◌, List, [], ◌∷◌, ◌++◌}
+use Rattle.std.specs.Prelude.{length, take, drop, ◌==◌, if◌then◌else◌}
 use Rattle.wax_token.specs.declared.token.Evaluation.TheVariants.{Eager, Lazy}
 use Rattle.wax_token.specs.Meaning.{TreeMeans, LeafMeans, Means, MeansEach}
 use Rattle.wax_token.specs.Syntax.{Leaf, literal, class, separator, one, zero_or_more, tree}
@@ -46,7 +46,8 @@ First M zero = M
 First M (suc k) = ⊥
 
 abbrev pub LeafWay : Leaf → ℕ → Bool → Bool → List ℕ → Type 0
-LeafWay (tree rooted) zero before after x = TreeMeans before after rooted x × (tree_capture before rooted x ≡ [])
+LeafWay (tree rooted) zero before after x =
+    TreeMeans before after rooted x × (tree_capture before rooted x ≡ [])
 LeafWay (tree rooted) (suc k) before after x = First (TreeMeans before after rooted x) k
 LeafWay (literal i t) k before after x = First (LeafMeans (literal i t) before after x) k
 LeafWay (class n xs) k before after x = First (LeafMeans (class n xs) before after x) k
@@ -93,11 +94,12 @@ Fits t ts before after s (k, n) =
     (n ≤ length s) × Way t k before (after || has_more ts) (take n s) × MeansEach ts true after (drop n s)
 
 -- of all lengths that fit, n is the one by the best way, and by that way the longest or the shortest
-pub record IsChosen {A : Type 0} (t : Tree A) (ts : Trees A) (before after : Bool) (s : List ℕ) (n : ℕ) : Type 0 where
-  pub way : ℕ
-  pub fits : Fits t ts before after s (way, n)
-  pub first : (k m : ℕ) → Fits t ts before after s (k, m) → way ≤ k
-  pub best : (m : ℕ) → Fits t ts before after s (way, m) → Prefers (is_lazy t) n m
+pub record IsChosen {A : Type 0} (t : Tree A) (ts : Trees A) (before after : Bool) (s : List ℕ) (n : ℕ) : Type 0
+  where
+    pub way : ℕ
+    pub fits : Fits t ts before after s (way, n)
+    pub first : (k m : ℕ) → Fits t ts before after s (k, m) → way ≤ k
+    pub best : (m : ℕ) → Fits t ts before after s (way, m) → Prefers (is_lazy t) n m
 
 -- the captures of the tokens, whose pieces are chosen from left to right
 abbrev pub Captured : {A : Type 0} → Trees A → Bool → Bool → List ℕ → List (List ℕ) → Type 0

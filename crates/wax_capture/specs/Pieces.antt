@@ -1,12 +1,14 @@
 -- What is known of the pieces of tokens: which texts they take, which of them is chosen, what is captured.
-use Rattle.std.specs.Prelude.{◌≡◌, ◌↔◌, ℕ, ◌+◌, ◌*◌, ◌≤◌, Bool, true, false, ◌||◌, List, [], ◌∷◌, length, drop, Some, slice_get}
+use Rattle.std.specs.Prelude.{◌≡◌, ◌↔◌, ℕ, ◌+◌, ◌*◌, ◌≤◌, Bool, true, false, ◌||◌, List, [], ◌∷◌}
+use Rattle.std.specs.Prelude.{length, drop, Some, slice_get}
 use Rattle.wax_program.specs.declared.instruction.Instruction.{Instruction}
 use Rattle.wax_program.specs.Machine.{Accepts}
 use Rattle.wax_token.specs.Cost.{cost}
 use Rattle.wax_token.specs.Syntax.{Tree, Trees, none, more}
 use Rattle.wax_capture.specs.Captures.{Way, has_more, is_lazy, token_captures, tree_capture}
 use Rattle.wax_capture.specs.declared.piece.Capture.{Capture}
-use Rattle.wax_capture.specs.declared.piece.Capture.TheVariants.{Nothing, Piece as WholePiece, AfterFirst, UnlessSlash}
+use Rattle.wax_capture.specs.declared.piece.Capture.TheVariants.{Nothing, Piece as WholePiece}
+use Rattle.wax_capture.specs.declared.piece.Capture.TheVariants.{AfterFirst, UnlessSlash}
 use Rattle.wax_capture.specs.declared.piece.Piece.{Piece}
 
 -- the k-th program accepts the text
@@ -40,4 +42,5 @@ abbrev pub ArePieces : {A : Type 0} → Trees A → Bool → Bool → List Piece
 ArePieces none before after [] = Unit {0}
 ArePieces none before after (p ∷ ps) = ⊥
 ArePieces (more t ts) before after [] = ⊥
-ArePieces (more t ts) before after (p ∷ ps) = IsPiece t before (after || has_more ts) p × ArePieces ts true after ps
+ArePieces (more t ts) before after (p ∷ ps) =
+    IsPiece t before (after || has_more ts) p × ArePieces ts true after ps

@@ -1,10 +1,11 @@
 //! The pieces of tokens.
-ghost use Rattle.std.specs.Prelude.{◌≡◌, ◌+◌, ◌<◌, ◌∷◌, [], ◌++◌, List, OnOk, false, length, slice_index_or};
+ghost use Rattle.std.specs.Prelude.{◌≡◌, ◌+◌, ◌<◌, ◌∷◌, [], ◌++◌, List, OnOk, false, length};
 ghost use Rattle.wax_query.specs.Outcome.{MatchBuild};
 ghost use Rattle.wax_token.specs.Cost.{cost, costs};
 ghost use Rattle.wax_token.specs.Syntax.{Tree};
 ghost use Rattle.wax_token.specs.Words.{trees};
 ghost use Rattle.wax_capture.specs.Pieces.{ArePieces, IsPiece};
+ghost use Rattle.wax_capture.specs.inner.Ways.{IsAt};
 
 use crate::piece::Piece;
 use crate::tokens::{capture_of, is_lazy};
@@ -23,8 +24,9 @@ fn piece_of<'t, A>(
     after: bool,
 ) -> Result<Piece, Refusal<CompileError>>
     requires { index < length tokens.now }
-    ensures { MatchBuild result (λ p. (t : Tree A) → t ≡ slice_index_or tokens.now index t → IsPiece t before after p)
-        (λ _. (t : Tree A) → t ≡ slice_index_or tokens.now index t → 1048576 < cost t + 1) }
+    ensures { MatchBuild result
+        (λ p. (t : Tree A) → IsAt tokens.now index t → IsPiece t before after p)
+        (λ _. (t : Tree A) → IsAt tokens.now index t → 1048576 < cost t + 1) }
 {
     let ways = match ways_of(alloc, tokens, index, before, after) {
         Ok(ways) => ways,
@@ -50,7 +52,8 @@ pub fn pieces_of<'t, A>(
     alloc: Global,
     tokens: &[Token<'t, A>],
 ) -> Result<Vec<Piece>, Refusal<CompileError>>
-    ensures { MatchBuild result (λ ps. ArePieces (trees tokens.now) false false ps.items) (λ _. 1048576 < costs (trees tokens.now) + 1) }
+    ensures { MatchBuild result (λ ps. ArePieces (trees tokens.now) false false ps.items)
+        (λ _. 1048576 < costs (trees tokens.now) + 1) }
 {
     let mut pieces = Vec::new(alloc);
     let mut index = tokens.len();

@@ -1,6 +1,5 @@
 //! Which part of a text a token takes.
-ghost use Rattle.std.specs.Prelude.{◌≡◌, ◌+◌, ◌*◌, ◌≤◌, ◌∷◌, ℕ, Bool, List, Option, IfOk, IsTrue, MatchOption};
-ghost use Rattle.std.specs.Prelude.{OnOk, length};
+ghost use Rattle.std.specs.Prelude.{◌+◌, ◌*◌, ◌≤◌, ◌∷◌, ℕ, List, IfOk, IsTrue, MatchOption, length};
 ghost use Rattle.wax_program.specs.Threads.{Has};
 ghost use Rattle.wax_capture.specs.Captures.{Prefers};
 ghost use Rattle.wax_capture.specs.Pieces.{instructions};
@@ -15,7 +14,8 @@ use wax_program::{Meter, run_ends};
 /// The greatest place that is flagged and whose cell isn't empty.
 fn longest(ends: &[bool], next: &[Option<usize>]) -> Option<usize>
     ensures { MatchOption result ((m : ℕ) → Has ends.now m → IsFilled next.now m → ⊥)
-        (λ n. Has ends.now n × IsFilled next.now n × ((m : ℕ) → Has ends.now m → IsFilled next.now m → m ≤ n)) }
+        (λ n. Has ends.now n × IsFilled next.now n
+        × ((m : ℕ) → Has ends.now m → IsFilled next.now m → m ≤ n)) }
 {
     let mut n = ends.len().min(next.len());
     while n > 0 {
@@ -30,7 +30,8 @@ fn longest(ends: &[bool], next: &[Option<usize>]) -> Option<usize>
 /// The least such place.
 fn shortest(ends: &[bool], next: &[Option<usize>]) -> Option<usize>
     ensures { MatchOption result ((m : ℕ) → Has ends.now m → IsFilled next.now m → ⊥)
-        (λ n. Has ends.now n × IsFilled next.now n × ((m : ℕ) → Has ends.now m → IsFilled next.now m → n ≤ m)) }
+        (λ n. Has ends.now n × IsFilled next.now n
+        × ((m : ℕ) → Has ends.now m → IsFilled next.now m → n ≤ m)) }
 {
     for n in 0..ends.len().min(next.len()) {
         if ends[n] && next[n].is_some() {
@@ -64,7 +65,8 @@ fn choose(
     meter: &mut Meter,
 ) -> Result<Option<usize>, AllocError>
     ensures chosen { (ps : List Piece) → Tells piece.now ps text.now next.now
-        → IfOk result (λ r. MatchOption r (Splits (piece.now ∷ ps) text.now → ⊥) (IsChosenBy piece.now ps text.now)) }
+        → IfOk result (λ r. MatchOption r (Splits (piece.now ∷ ps) text.now → ⊥)
+        (IsChosenBy piece.now ps text.now)) }
     ensures above { meter.new ≤ meter.old + instructions piece.now.ways.items * (length text.now + 1) }
     ensures steady { meter.old ≤ meter.new }
 {

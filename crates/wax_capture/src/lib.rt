@@ -2,6 +2,7 @@
 #![tactic(auto)]
 
 mod build;
+mod bytes;
 mod choice;
 mod matched;
 mod matching;

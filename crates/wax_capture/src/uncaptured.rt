@@ -46,7 +46,8 @@ pub fn nothing_captured(
     after: bool,
     has_root: bool,
 ) -> Result<Program, AllocError>
-    ensures means { IfOk result (λ p. (x : List ℕ) → Accepts p.0 0 x ↔ (TreeMeans before after has_root x × (tree_capture before has_root x ≡ []))) }
+    ensures means { IfOk result (λ p. (x : List ℕ) → Accepts p.0 0 x
+        ↔ (TreeMeans before after has_root x × (tree_capture before has_root x ≡ []))) }
     ensures few { IfOk result (λ p. length p.0 ≤ 2) }
 {
     if before {

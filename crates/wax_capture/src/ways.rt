@@ -1,13 +1,13 @@
 //! The programs of the ways of a token to mean a piece.
 ghost use Rattle.std.specs.Prelude.{◌≡◌, ◌+◌, ◌*◌, ◌<◌, ◌≤◌, ◌↔◌, ◌∷◌, [], ◌++◌, ℕ, List, IfOk, OnOk};
-ghost use Rattle.std.specs.Prelude.{length, slice_index_or, true};
+ghost use Rattle.std.specs.Prelude.{length, true};
 ghost use Rattle.wax_query.specs.Outcome.{MatchBuild};
 ghost use Rattle.wax_token.specs.Cost.{branches_cost, cost};
 ghost use Rattle.wax_token.specs.Syntax.{Tree};
 ghost use Rattle.wax_token.specs.Words.{trees};
 ghost use Rattle.wax_capture.specs.Captures.{MeansBranch, Way};
 ghost use Rattle.wax_capture.specs.Pieces.{WayIn, instructions};
-ghost use Rattle.wax_capture.specs.inner.Ways.{IsTreeToken, is_single};
+ghost use Rattle.wax_capture.specs.inner.Ways.{IsAt, IsTreeToken, is_single};
 
 use crate::tokens::tree_root;
 use crate::uncaptured::nothing_captured;
@@ -32,8 +32,10 @@ fn branch_ways<'t, A>(
     before: bool,
     after: bool,
 ) -> Result<Vec<Program>, Refusal<CompileError>>
-    ensures ways { IfOk result (λ ways. (k : ℕ) (x : List ℕ) → MeansBranch (trees branches.now) k before after x ↔ WayIn ways.items k x) }
-    ensures few { MatchBuild result (λ ways. instructions ways.items ≤ branches_cost (trees branches.now)) (λ _. 1048576 < branches_cost (trees branches.now) + 1) }
+    ensures ways { IfOk result (λ ways. (k : ℕ) (x : List ℕ)
+        → MeansBranch (trees branches.now) k before after x ↔ WayIn ways.items k x) }
+    ensures few { MatchBuild result (λ ways. instructions ways.items ≤ branches_cost (trees branches.now))
+        (λ _. 1048576 < branches_cost (trees branches.now) + 1) }
 {
     let mut ways = Vec::new(alloc);
     for index in 0..branches.len() {
@@ -55,9 +57,12 @@ fn one_way<'t, A>(
     after: bool,
 ) -> Result<Vec<Program>, Refusal<CompileError>>
     requires { index < length tokens.now }
-    ensures ways { IfOk result (λ ways. (t : Tree A) → t ≡ slice_index_or tokens.now index t → is_single t ≡ true → (k : ℕ) (x : List ℕ) → Way t k before after x ↔ WayIn ways.items k x) }
-    ensures few { MatchBuild result (λ ways. (t : Tree A) → t ≡ slice_index_or tokens.now index t → instructions ways.items ≤ cost t)
-        (λ _. (t : Tree A) → t ≡ slice_index_or tokens.now index t → 1048576 < cost t + 1) }
+    ensures ways { IfOk result (λ ways. (t : Tree A)
+        → IsAt tokens.now index t → is_single t ≡ true
+        → (k : ℕ) (x : List ℕ) → Way t k before after x ↔ WayIn ways.items k x) }
+    ensures few { MatchBuild result
+        (λ ways. (t : Tree A) → IsAt tokens.now index t → instructions ways.items ≤ cost t)
+        (λ _. (t : Tree A) → IsAt tokens.now index t → 1048576 < cost t + 1) }
 {
     let program = match compile(alloc, &tokens[index..index + 1], before, after) {
         Ok(program) => program,
@@ -78,9 +83,12 @@ fn tree_ways<'t, A>(
     has_root: bool,
 ) -> Result<Vec<Program>, Refusal<CompileError>>
     requires { index < length tokens.now }
-    ensures ways { IfOk result (λ ways. (t : Tree A) → t ≡ slice_index_or tokens.now index t → IsTreeToken t has_root → (k : ℕ) (x : List ℕ) → Way t k before after x ↔ WayIn ways.items k x) }
-    ensures few { MatchBuild result (λ ways. (t : Tree A) → t ≡ slice_index_or tokens.now index t → instructions ways.items ≤ 2 + cost t)
-        (λ _. (t : Tree A) → t ≡ slice_index_or tokens.now index t → 1048576 < cost t + 1) }
+    ensures ways { IfOk result (λ ways. (t : Tree A)
+        → IsAt tokens.now index t → IsTreeToken t has_root
+        → (k : ℕ) (x : List ℕ) → Way t k before after x ↔ WayIn ways.items k x) }
+    ensures few { MatchBuild result
+        (λ ways. (t : Tree A) → IsAt tokens.now index t → instructions ways.items ≤ 2 + cost t)
+        (λ _. (t : Tree A) → IsAt tokens.now index t → 1048576 < cost t + 1) }
 {
     let mut ways = Vec::new(alloc);
     let nothing = nothing_captured(alloc, before, after, has_root)?;
@@ -102,9 +110,11 @@ pub fn ways_of<'t, A>(
     after: bool,
 ) -> Result<Vec<Program>, Refusal<CompileError>>
     requires { index < length tokens.now }
-    ensures ways { IfOk result (λ ways. (t : Tree A) → t ≡ slice_index_or tokens.now index t → (k : ℕ) (x : List ℕ) → Way t k before after x ↔ WayIn ways.items k x) }
-    ensures few { MatchBuild result (λ ways. (t : Tree A) → t ≡ slice_index_or tokens.now index t → instructions ways.items ≤ 2 * cost t)
-        (λ _. (t : Tree A) → t ≡ slice_index_or tokens.now index t → 1048576 < cost t + 1) }
+    ensures ways { IfOk result (λ ways. (t : Tree A) → IsAt tokens.now index t
+        → (k : ℕ) (x : List ℕ) → Way t k before after x ↔ WayIn ways.items k x) }
+    ensures few { MatchBuild result
+        (λ ways. (t : Tree A) → IsAt tokens.now index t → instructions ways.items ≤ 2 * cost t)
+        (λ _. (t : Tree A) → IsAt tokens.now index t → 1048576 < cost t + 1) }
 {
     let token = &tokens[index];
     match token.topology() {

@@ -1,6 +1,6 @@
 -- Rows of the places of a text: which are reached from the left, and how many characters a piece takes there.
-use Rattle.std.specs.Prelude.{◌≡◌, ◌↔◌, ℕ, ◌+◌, ◌-◌, ◌≤◌, Bool, true, false, IsTrue, List, [], ◌∷◌, length, take, drop}
-use Rattle.std.specs.Prelude.{Option, Some, None, is_some, slice_get, slice_index_or}
+use Rattle.std.specs.Prelude.{◌≡◌, ◌↔◌, ℕ, ◌+◌, ◌-◌, ◌≤◌, Bool, true, false, IsTrue, List, [], ◌∷◌, length}
+use Rattle.std.specs.Prelude.{take, drop, Option, Some, None, is_some, slice_get, slice_index_or}
 use Rattle.std.specs.Global.{Vec}
 use Rattle.wax_program.specs.Threads.{Has}
 use Rattle.wax_capture.specs.Pieces.{WayOf}
@@ -17,7 +17,8 @@ LeadsTo p s reached flags =
 pub record AreReached (ps : List Piece) (s : List ℕ) (reached : List (Vec Bool)) : Type 0 where
   pub front : (row : Vec Bool) → slice_get reached 0 ≡ Some row → Has row.items 0
   pub onward : (i : ℕ) (p : Piece) (row next : Vec Bool) → slice_get ps i ≡ Some p
-      → slice_get reached i ≡ Some row → slice_get reached (i + 1) ≡ Some next → LeadsTo p s row.items next.items
+      → slice_get reached i ≡ Some row → slice_get reached (i + 1) ≡ Some next
+      → LeadsTo p s row.items next.items
   pub len : (i : ℕ) (row : Vec Bool) → slice_get reached i ≡ Some row → length row.items ≡ length s + 1
 
 -- n characters are chosen for the first piece; where there is no piece, nothing is left of the text
@@ -34,7 +35,8 @@ IsCell ps s is_reached (Some n) = Takes ps s n
 -- the cell of each place, for what is left of the text there
 abbrev pub Row : List Piece → List ℕ → List Bool → List (Option ℕ) → Type 0
 Row ps s reached cells =
-    (n : ℕ) → n ≤ length s → IsCell ps (drop n s) (slice_index_or reached n false) (slice_index_or cells n None)
+    (n : ℕ) → n ≤ length s
+    → IsCell ps (drop n s) (slice_index_or reached n false) (slice_index_or cells n None)
 
 -- the cell of the place isn't empty
 abbrev pub IsFilled : List (Option ℕ) → ℕ → Type 0

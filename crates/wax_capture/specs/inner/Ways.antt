@@ -1,5 +1,5 @@
--- Which tokens have one way, and which are tree wildcards.
-use Rattle.std.specs.Prelude.{◌≡◌, Bool, true, false}
+-- Which tokens have one way, which are tree wildcards, and which token stands at an index.
+use Rattle.std.specs.Prelude.{◌≡◌, ℕ, Bool, true, false, List, slice_index_or}
 use Rattle.wax_token.specs.Syntax.{literal, class, separator, one, zero_or_more, tree}
 use Rattle.wax_token.specs.Syntax.{Tree, leaf, alternation, concatenation, repetition}
 
@@ -26,3 +26,7 @@ IsTreeToken (leaf a (zero_or_more e)) rooted = ⊥
 IsTreeToken (alternation a ts) rooted = ⊥
 IsTreeToken (concatenation a ts) rooted = ⊥
 IsTreeToken (repetition a t low high) rooted = ⊥
+
+-- the token stands at the index, where there is one
+abbrev pub IsAt : {A : Type 0} → List (Tree A) → ℕ → Tree A → Type 0
+IsAt ts i t = t ≡ slice_index_or ts i t

@@ -1,4 +1,4 @@
-use Rattle.std.proofs.Common.{◌≡◌, ◌+◌, ◌-◌, ◌<◌, ◌≤◌, ◌++◌, ℕ, List, true, length, drop, take, arith, rules, refl, subst}
+use Rattle.std.proofs.Common.{◌≡◌, ◌+◌, ◌<◌, ◌≤◌, ◌++◌, ℕ, List, true, length, drop, take, arith, rules, subst}
 use Rattle.wax_capture.specs.Pieces.{captured_by}
 use Rattle.wax_capture.specs.inner.Parts.{parts}
 use Rattle.wax_capture.specs.inner.Rows.{AreRows, IsCell}
