@@ -1,8 +1,10 @@
 -- Items that are taken from a list one by one, or picked by their places.
-use Rattle.std.proofs.Common.{◌≡◌, ℕ, ◌+◌, List, [], ◌∷◌, ◌++◌, map, drop, take, get_or, length, ◌<◌, arith, zero, suc, refl, sym, ◌∙◌, ap}
+use Rattle.std.proofs.Common.{◌≡◌, ℕ, ◌+◌, List, [], ◌∷◌, ◌++◌, map, drop, take, get_or, slice_get, length, ◌<◌, arith, zero, suc, refl, sym, ◌∙◌, ap}
 use Rattle.std.proofs.lemmas.Grind.{flat_map-append}
 use Rattle.std.specs.List.{flat_map}
 use Rattle.wax_fold.specs.Branches.{picked}
+use Rattle.wax_fold.specs.Folded.{listed_term}
+use Rattle.wax_fold.specs.Sequences.{places}
 
 -- the item at an index, and those after it
 pub next_given : {X Y : Type 0} (f : X → Y) (xs : List X) (i : ℕ) (x : X) → i < length xs → x ≡ get_or xs i x →
@@ -29,3 +31,19 @@ picked_mapped h g (n ∷ ns) xs =
     ∙ ap (λ z. z ++ flat_map h (picked ns (map g xs))) (one_mapped h g n xs)
     ∙ ap (λ z. flat_map (λ x. h (g x)) (take 1 (drop n xs)) ++ z) (picked_mapped h g ns xs)
     ∙ sym (flat_map-append (λ x. h (g x)) (take 1 (drop n xs)) (picked ns xs))
+
+-- what stands at one place
+pub got : {X : Type 0} (xs : List X) (n : ℕ) → listed_term (slice_get xs n) ≡ picked (n ∷ []) xs
+got [] zero = refl
+got [] (suc n) = refl
+got (x ∷ xs) zero = refl
+got (x ∷ xs) (suc n) = got xs n
+
+-- what stands at all places
+later_picked : {X : Type 0} (ns : List ℕ) (x : X) (xs : List X) → picked (map suc ns) (x ∷ xs) ≡ picked ns xs
+later_picked [] x xs = refl
+later_picked (n ∷ ns) x xs = ap (λ z. take 1 (drop n xs) ++ z) (later_picked ns x xs)
+
+pub all_picked : {X : Type 0} (xs : List X) → picked (places xs) xs ≡ xs
+all_picked [] = refl
+all_picked (x ∷ xs) = ap (λ z. x ∷ z) (later_picked (places xs) x xs ∙ all_picked xs)

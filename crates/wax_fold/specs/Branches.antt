@@ -1,5 +1,5 @@
 -- A branch without its annotation, and tokens that are picked from a list.
-use Rattle.std.specs.Prelude.{ℕ, List, [], ◌∷◌, take, drop}
+use Rattle.std.specs.Prelude.{ℕ, List, [], ◌∷◌, take, drop, length, ◌-◌}
 use Rattle.std.specs.List.{flat_map}
 use Rattle.wax_token.specs.Syntax.{Tree}
 use Rattle.wax_token.specs.declared.token.BranchKind.{BranchKind}
@@ -23,3 +23,10 @@ branch_of (kind.Repetition b) = record { kind = Repetition b.lower b.upper; toke
 -- what stands at these places, in their order; a place past the end gives nothing
 abbrev pub picked : {X : Type 0} → List ℕ → List X → List X
 picked places xs = flat_map (λ n. take 1 (drop n xs)) places
+
+-- the first and the last alone, where there is one
+abbrev pub first_of : {X : Type 0} → List X → List X
+first_of xs = picked (0 ∷ []) xs
+
+abbrev pub last_of : {X : Type 0} → List X → List X
+last_of xs = picked ((length xs - 1) ∷ []) xs

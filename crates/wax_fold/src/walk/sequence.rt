@@ -1,6 +1,8 @@
 //! Which of a branch's tokens are gone through, and in which order.
 ghost use Rattle.std.specs.Prelude.{◌≡◌, ◌∷◌, [], ℕ, List, IfOk, map};
-ghost use Rattle.wax_fold.specs.Branches.{Branch, branch_of, tokens_in, picked};
+ghost use Rattle.std.specs.Option.{option_map};
+ghost use Rattle.wax_fold.specs.Folded.{listed_term};
+ghost use Rattle.wax_fold.specs.Branches.{Branch, branch_of, first_of, last_of, picked, tokens_in};
 
 use std::alloc::{AllocError, Global};
 use std::marker::Model;
@@ -81,6 +83,38 @@ impl<'i, 't, A> Parent<&'i BranchKind<'t, A>> {
         Ok(self.children(alloc)?)
     }
 
+    /// The first token of the branch, if it has one.
+    #[tactic(auto, using(crate::proofs::Picking::got))]
+    pub(super) fn into_first_token(
+        self,
+        alloc: Global,
+    ) -> Result<Vec<ChildToken<'i, 't, A>>, AllocError>
+        ensures { IfOk result (λ cs. map (λ c. c.now) cs.items
+            ≡ first_of (tokens_in (branch_of self.entry.now))) }
+    {
+        match self.0 {
+            BranchKind::Alternation(alternation) => some(alloc, alternation.tokens().first()),
+            BranchKind::Concatenation(concatenation) => some(alloc, concatenation.tokens().first()),
+            BranchKind::Repetition(repetition) => one(alloc, repetition.token()),
+        }
+    }
+
+    /// The last token of the branch, if it has one.
+    #[tactic(auto, using(crate::proofs::Picking::got))]
+    pub(super) fn into_last_token(
+        self,
+        alloc: Global,
+    ) -> Result<Vec<ChildToken<'i, 't, A>>, AllocError>
+        ensures { IfOk result (λ cs. map (λ c. c.now) cs.items
+            ≡ last_of (tokens_in (branch_of self.entry.now))) }
+    {
+        match self.0 {
+            BranchKind::Alternation(alternation) => some(alloc, alternation.tokens().last()),
+            BranchKind::Concatenation(concatenation) => some(alloc, concatenation.tokens().last()),
+            BranchKind::Repetition(repetition) => one(alloc, repetition.token()),
+        }
+    }
+
     fn children(self, alloc: Global) -> Result<Vec<ChildToken<'i, 't, A>>, AllocError>
         ensures { IfOk result (λ cs. map (λ c. c.now) cs.items ≡ tokens_in (branch_of self.entry.now)) }
     {
@@ -116,6 +150,19 @@ fn one<'i, 't, A>(
     let mut children = Vec::new(alloc);
     children.push(Child(token))?;
     Ok(children)
+}
+
+/// The token, if there is one.
+fn some<'i, 't, A>(
+    alloc: Global,
+    token: Option<&'i Token<'t, A>>,
+) -> Result<Vec<ChildToken<'i, 't, A>>, AllocError>
+    ensures { IfOk result (λ cs. map (λ c. c.now) cs.items ≡ listed_term (option_map (λ t. t.now) token.entry)) }
+{
+    match token {
+        Some(token) => one(alloc, token),
+        None => Ok(Vec::new(alloc)),
+    }
 }
 
 /// Which of a branch's tokens are gone through, and in which order.
