@@ -1,1 +1,3 @@
+pub mod Globs
+pub mod Parts
 pub mod Whole

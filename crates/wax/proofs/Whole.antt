@@ -1,18 +1,16 @@
 -- A glob's tokens mean and cost what its tree does.
-use Rattle.std.proofs.Common.{◌≡◌, ◌↔◌, ℕ, ◌+◌, ◌≤◌, Bool, false, List, [], ◌∷◌, refl, sym, ap, ◌∙◌, subst, add-zero}
+use Rattle.std.proofs.Common.{◌≡◌, ◌↔◌, ℕ, ◌+◌, ◌≤◌, Bool, false, List, refl, ap, ◌∙◌, subst, add-zero}
 use Rattle.std.proofs.Common.{arith}
 use Rattle.wax_prefilter.specs.Known.{MeantPass}
 use Rattle.wax_prefilter.specs.Facts.{PrefilterView}
 use Rattle.wax_program.specs.Machine.{Accepts}
 use Rattle.wax_program.specs.declared.instruction.Instruction.{Instruction}
-use Rattle.wax_token.specs.Reads.{Reads}
 use Rattle.wax_token.specs.Cost.{cost, costs, program_length}
 use Rattle.wax_token.specs.Meaning.{Means, MeansEach}
 use Rattle.wax_token.specs.Reads.{Span}
-use Rattle.wax_token.specs.Syntax.{Tree, leaf, alternation, concatenation, repetition, literal, Trees}
+use Rattle.wax_token.specs.Syntax.{Tree, leaf, alternation, concatenation, repetition, Trees}
 use Rattle.wax_token.specs.Words.{members}
-use Rattle.wax.specs.Build.{IsEmptyGlob}
-use Rattle.wax.specs.GlobView.{GlobView, IsCompiled}
+use Rattle.wax.specs.GlobView.{IsCompiled, IsKept}
 
 means_members : {A : Type 0} (t : Tree A) (before after : Bool) (s : List ℕ) → MeansEach (members t) before after s ↔ Means t before after s
 means_members (leaf a l) before after s = (λ h. h, λ h. h)
@@ -29,8 +27,8 @@ costs_members (repetition a t low high) = add-zero _
 -- what was made of a tree's tokens
 pub is_compiled : (t : Tree Span) (ts : Trees Span) (program : List Instruction × ℕ) (prefilter : PrefilterView) → ts ≡ members t
     → ((s : List ℕ) → Accepts program.0 0 s ↔ MeansEach ts false false s) → program.1 ≡ costs ts + 1 → program.1 ≤ 1048576
-    → MeantPass ts prefilter → IsCompiled t program prefilter
-is_compiled t ts program prefilter same accepts len fits passes = record {
+    → MeantPass ts prefilter → IsKept t → IsCompiled t program prefilter
+is_compiled t ts program prefilter same accepts len fits passes kept = record {
   accepts = λ s.
       let whole = subst (λ z. Accepts program.0 0 s ↔ MeansEach z false false s) same (accepts s) in
       let parts = means_members t false false s in
@@ -38,21 +36,7 @@ is_compiled t ts program prefilter same accepts len fits passes = record {
   len = total;
   fits = omega (arith, total, fits);
   passes = λ s h. subst (λ z. MeantPass z prefilter) same passes s ((means_members t false false s).1 h);
+  kept = kept;
 } where
   total : program.1 ≡ program_length t
   total = len ∙ ap (λ z. costs z + 1) same ∙ ap (λ n. n + 1) (costs_members t)
-
--- an empty literal means the empty text
-abbrev nothing : Tree Span
-nothing = leaf (0, 0) (literal false [])
-
-means_nothing : (s : List ℕ) → Means nothing false false s ↔ (s ≡ [])
-means_nothing [] = (λ h. refl, λ e. tt)
-means_nothing (c ∷ s) = (λ h. absurd h, λ e. cc)
-
-pub is_empty_glob : (g : GlobView) → g.expression ≡ [] → Reads [] g.tree → IsEmptyGlob g
-is_empty_glob g e h = record {
-  expression = e;
-  tree = h;
-  means = λ s. subst (λ t. Means t false false s ↔ (s ≡ [])) (sym h) (means_nothing s);
-}

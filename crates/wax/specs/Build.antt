@@ -1,5 +1,5 @@
 -- How the building of a glob ends.
-use Rattle.std.specs.Prelude.{◌≡◌, ◌↔◌, ◌<◌, ◌≤◌, ℕ, false, List, [], Result, Ok, Err}
+use Rattle.std.specs.Prelude.{◌≡◌, ◌↔◌, ◌<◌, ◌≤◌, ℕ, false, List, [], codes, Result, Ok, Err}
 use Rattle.wax_match.specs.declared.encode.CompileError.{CompileError}
 use Rattle.wax_query.specs.declared.diagnostics.Refusal.{Refusal}
 use Rattle.wax_query.specs.declared.diagnostics.Refusal.TheVariants as refusal
@@ -8,10 +8,9 @@ use Rattle.wax_parse.specs.Accepted.{IsPlace}
 use Rattle.wax_rule.specs.FirstBreak.{ErrorView, IsFirst}
 use Rattle.wax_rule.specs.Rules.{broken}
 use Rattle.wax_token.specs.Cost.{program_length}
-use Rattle.wax_token.specs.Meaning.{Means}
 use Rattle.wax_token.specs.Reads.{Reads, Span}
-use Rattle.wax_token.specs.Syntax.{Tree, leaf, literal}
-use Rattle.wax.specs.GlobView.{GlobView}
+use Rattle.wax_token.specs.Syntax.{Tree, leaf, tree, concatenation, none, more}
+use Rattle.wax.specs.GlobView.{GlobView, IsMeant, empty_tree}
 use Rattle.wax.specs.declared.build_error.BuildError.{BuildError}
 use Rattle.wax.specs.declared.build_error.BuildError.TheVariants.{Parse, Rule, Compile, Memory}
 
@@ -31,10 +30,11 @@ abbrev pub compile_refusal : Refusal CompileError → BuildError
 compile_refusal (refusal.Refused e) = Compile e
 compile_refusal refusal.Memory = Memory
 
--- a glob of the expression e
+-- a glob of the expression e, and of the one tree that it spells
 pub record IsGlob (e : List ℕ) (g : GlobView) : Type 0 where
   pub expression : g.expression ≡ e
   pub spells : Reads e g.tree
+  pub only : (t : Tree Span) → Reads e t → t ≡ g.tree
   pub keeps_rules : broken g.tree ≡ []
   pub fits : program_length g.tree ≤ 1048576
 
@@ -58,5 +58,20 @@ MatchGlob e (Err Memory) = Unit {0}
 -- the glob of the empty expression: an empty literal, which means the empty text alone
 pub record IsEmptyGlob (g : GlobView) : Type 0 where
   pub expression : g.expression ≡ []
-  pub tree : g.tree ≡ leaf (0, 0) (literal false [])
-  pub means : (text : List ℕ) → Means g.tree false false text ↔ (text ≡ [])
+  pub tree : g.tree ≡ empty_tree
+  pub means : (text : List ℕ) → IsMeant g text ↔ (text ≡ [])
+
+-- `**`
+abbrev pub tree_alone : Tree Span
+tree_alone = concatenation (0, 2) (more (leaf (0, 2) (tree false)) none)
+
+-- the glob of `**`, which means each text
+pub record IsTreeGlob (g : GlobView) : Type 0 where
+  pub expression : g.expression ≡ codes "**"
+  pub tree : g.tree ≡ tree_alone
+  pub means : (text : List ℕ) → IsMeant g text
+
+-- a build without what else was answered with it
+abbrev pub build_of : {W : Type 0} → Result (GlobView × W) BuildError → Result GlobView BuildError
+build_of (Ok r) = Ok r.0
+build_of (Err e) = Err e

@@ -1,13 +1,14 @@
 -- What contracts see of a glob.
-use Rattle.std.specs.Prelude.{◌≡◌, ◌↔◌, ◌≤◌, ℕ, false, List, refl}
+use Rattle.std.specs.Prelude.{◌≡◌, ◌⊎◌, ◌↔◌, ◌≤◌, ℕ, false, List, [], refl}
 use Rattle.std.specs.Coded.{Coded, code_by, coded×, coded_list, coded_ℕ}
+use Rattle.wax_facts.specs.Orderly.{Orderly}
 use Rattle.wax_prefilter.specs.Facts.{PrefilterView, Passes}
 use Rattle.wax_program.specs.Machine.{Accepts}
 use Rattle.wax_program.specs.declared.instruction.Instruction.{Instruction}
 use Rattle.wax_token.specs.Cost.{program_length}
 use Rattle.wax_token.specs.Meaning.{Means}
 use Rattle.wax_token.specs.Reads.{Span}
-use Rattle.wax_token.specs.Syntax.{Tree}
+use Rattle.wax_token.specs.Syntax.{Tree, leaf, literal}
 use Rattle.wax_token.specs.TreeCode.{tree_code}
 
 -- the characters of the expression, and the tree that they spell
@@ -20,6 +21,14 @@ abbrev pub glob_code : Coded GlobView
 glob_code = code_by (List ℕ × Tree Span) (coded× (coded_list coded_ℕ) (tree_code (coded× coded_ℕ coded_ℕ)))
     (λ g. (g.expression, g.tree)) (λ p. record { expression = p.0; tree = p.1 }) (λ _. refl)
 
+-- the tree of the empty expression: a literal without characters
+abbrev pub empty_tree : Tree Span
+empty_tree = leaf (0, 0) (literal false [])
+
+-- what holds of each tree that parses and breaks no rule, and of each rest
+abbrev pub IsKept : Tree Span → Type 0
+IsKept t = Orderly t ⊎ (t ≡ empty_tree)
+
 -- The program accepts what the tree means with nothing around it, and has the length of the tree's cost,
 -- which fits; each such text passes the prefilter.
 pub record IsCompiled (t : Tree Span) (program : List Instruction × ℕ) (prefilter : PrefilterView) : Type 0
@@ -28,6 +37,7 @@ pub record IsCompiled (t : Tree Span) (program : List Instruction × ℕ) (prefi
     pub len : program.1 ≡ program_length t
     pub fits : program_length t ≤ 1048576
     pub passes : (text : List ℕ) → Means t false false text → Passes prefilter text
+    pub kept : IsKept t
 
 -- the glob means the text, with nothing around it
 abbrev pub IsMeant : GlobView → List ℕ → Type 0

@@ -1,3 +1,4 @@
 pub mod Build
 pub mod GlobView
 pub mod Locations
+pub mod Partition

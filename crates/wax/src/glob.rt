@@ -1,5 +1,5 @@
 //! A glob: an expression with its tokens and its program.
-ghost use Rattle.std.specs.Prelude.{◌≡◌, ◌≤◌, ◌↔◌, ◌+◌, ◌*◌, ◌++◌, ◌∷◌, [], ℕ, List, IsTrue, IfOk, IfSome};
+ghost use Rattle.std.specs.Prelude.{◌≡◌, ◌<◌, ◌≤◌, ◌↔◌, ◌+◌, ◌*◌, ◌++◌, ◌∷◌, [], ℕ, List, IsTrue, IfOk, IfSome};
 ghost use Rattle.std.specs.Prelude.{MatchOption, Some, chars, encode_utf8_all, length, false};
 ghost use Rattle.wax_components.specs.Capturing.{captures};
 ghost use Rattle.wax_components.specs.Warnings.{has_semantic_literals, warnings};
@@ -13,7 +13,12 @@ ghost use Rattle.wax_query.specs.Variances.{text_of};
 ghost use Rattle.wax_query.specs.declared.query.when.When.TheVariants.{Always};
 ghost use Rattle.wax_token.specs.Cost.{program_length};
 ghost use Rattle.wax_token.specs.Decided.{means_test, means_tested};
-ghost use Rattle.wax.specs.GlobView.{IsMeant};
+ghost use Rattle.wax_partition.specs.Partition.{spelled};
+ghost use Rattle.wax_query.specs.Outcome.{MatchBuild};
+ghost use Rattle.wax.specs.GlobView.{IsKept, IsMeant};
+ghost use Rattle.wax.specs.Partition.{as_glob};
+
+mod parts;
 
 use crate::build_error::{BuildError, rule_refused};
 use std::alloc::Global;
@@ -25,13 +30,13 @@ use wax_components::{Warning, captures, diagnose, has_semantic_literals};
 use wax_depth::depth;
 use wax_facts::{has_root, is_exhaustive, text};
 use wax_match::encode;
-use wax_match::encode::Meter;
+use wax_match::encode::{CompileError, Meter};
 use wax_parse::parse::parse;
 use wax_prefilter::Prefilter;
-use wax_query::diagnostics::NoMemory;
+use wax_query::diagnostics::{NoMemory, Refusal};
 use wax_query::query::{CapturingToken, DepthVariance, TextVariance, Variance, When};
 use wax_rule::rule::check;
-use wax_token::token::{ExpressionMetadata, Tokenized};
+use wax_token::token::{ExpressionMetadata, LeafKind, Tokenized};
 
 /// A glob. Contracts see the characters of its expression and its tree.
 pub struct Glob<'t> {
@@ -69,7 +74,8 @@ impl<'t> Model for Glob<'t> {
 }
 
 impl<'t> Glob<'t> {
-    ghost use Rattle.wax.specs.Build.{MatchGlob, IsEmptyGlob};
+    ghost use Rattle.wax.specs.Build.{IsEmptyGlob, IsTreeGlob, MatchGlob, build_of};
+    ghost use Rattle.wax.specs.GlobView.{empty_tree};
 
     /// The glob of an expression. Refused with 1 where the expression isn't one of the language, with
     /// 2 to 8 where it breaks a rule, with 9 where its cost plus 1 is above 1,048,576, and with 10
@@ -82,14 +88,41 @@ impl<'t> Glob<'t> {
             Ok(checked) => checked.release(),
             Err(refusal) => return Err(rule_refused(alloc, refusal)),
         };
-        let tokens = tokenized.token.concatenation();
-        let program = encode::compile(alloc, tokens, false, false)?;
-        let prefilter = Prefilter::new(alloc, tokens)?;
-        Ok(Glob {
-            tokenized,
-            program,
-            prefilter,
-        })
+        Ok(compiled(alloc, tokenized)?)
+    }
+
+    /// The glob of an expression, with its warnings. Refused as `new` is.
+    pub fn diagnosed(
+        alloc: Global,
+        expression: &'t str,
+    ) -> Result<(Glob<'t>, Vec<Warning<'t>>), BuildError>
+        ensures glob { MatchGlob (chars expression.now) (build_of result) }
+        ensures warnings { IfOk result (λ r. r.1.items ≡ warnings (chars expression.now) r.0.tree) }
+    {
+        let glob = Glob::new(alloc, expression)?;
+        let warnings = diagnose(alloc, expression, &glob.tokenized.token)?;
+        Ok((glob, warnings))
+    }
+
+    /// The glob of the empty expression, which means the empty text alone. Refused with 10 where
+    /// memory is.
+    pub fn empty(alloc: Global) -> Result<Glob<'t>, NoMemory>
+        ensures { IfOk result IsEmptyGlob }
+    {
+        match Glob::new(alloc, "") {
+            Ok(glob) => Ok(glob),
+            Err(_) => Err(NoMemory),
+        }
+    }
+
+    /// The glob of `**`, which means each text. Refused with 10 where memory is.
+    pub fn tree(alloc: Global) -> Result<Glob<'t>, NoMemory>
+        ensures { IfOk result IsTreeGlob }
+    {
+        match Glob::new(alloc, "**") {
+            Ok(glob) => Ok(glob),
+            Err(_) => Err(NoMemory),
+        }
     }
 
     /// The expression that it was built from.
@@ -97,6 +130,17 @@ impl<'t> Glob<'t> {
         ensures { chars result.now ≡ self.now.expression }
     {
         self.tokenized.expression.as_str()
+    }
+
+    /// Whether it is that of the empty expression, which means the empty text alone. It takes no memory.
+    pub fn is_empty(&self) -> bool
+        ensures tree { IsTrue result ↔ (self.now.tree ≡ empty_tree) }
+        ensures means { IsTrue result → (s : List ℕ) → IsMeant self.now s ↔ (s ≡ []) }
+    {
+        match self.tokenized.token.as_leaf() {
+            Some(LeafKind::Literal(literal)) => literal.text().is_empty(),
+            _ => false,
+        }
     }
 
     /// The tokens that capture: each class, wildcard, alternation and repetition that isn't in another
@@ -123,19 +167,24 @@ impl<'t> Glob<'t> {
     }
 }
 
-impl Glob<'static> {
-    ghost use Rattle.wax.specs.Build.{IsEmptyGlob};
-
-    /// The glob of the empty expression, which means the empty text alone. Refused with 10 where
-    /// memory is.
-    pub fn empty(alloc: Global) -> Result<Glob<'static>, NoMemory>
-        ensures { IfOk result IsEmptyGlob }
-    {
-        match Glob::new(alloc, "") {
-            Ok(glob) => Ok(glob),
-            Err(_) => Err(NoMemory),
-        }
-    }
+// The glob of an expression's tokens, as they stand.
+fn compiled<'t>(
+    alloc: Global,
+    tokenized: Tokenized<'t, ExpressionMetadata>,
+) -> Result<Glob<'t>, Refusal<CompileError>>
+    requires { IsKept tokenized.token }
+    ensures glob { IfOk result (λ g. Some g ≡ as_glob (spelled (Some tokenized.entry))) }
+    ensures fits { MatchBuild result (λ g. program_length g.tree ≤ 1048576)
+        (λ _. 1048576 < program_length tokenized.entry.token) }
+{
+    let tokens = tokenized.token.concatenation();
+    let program = encode::compile(alloc, tokens, false, false)?;
+    let prefilter = Prefilter::new(alloc, tokens)?;
+    Ok(Glob {
+        tokenized,
+        program,
+        prefilter,
+    })
 }
 
 impl fmt::Display for Glob<'_> {

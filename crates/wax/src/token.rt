@@ -1,13 +1,20 @@
 //! Expressions and the tokens that they spell.
 
+pub mod walk;
+
+pub use wax_alternatives::into_alternatives;
 pub use wax_components::{
     Component, LiteralSequence, capture_count, captures, components, literals,
 };
 pub use wax_depth::depth;
 pub use wax_facts::TokenFacts;
+pub use wax_fold::walk::fold;
 pub use wax_parse::parse::{ErrorEntry, ParseError, parse};
 pub use wax_partition::partition;
+pub use wax_rule::size;
 pub use wax_token::token::{
-    Alternation, Archetype, BranchKind, Class, Concatenation, Evaluation, ExpressionMetadata,
-    LeafKind, Literal, Repetition, Separator, Token, TokenTopology, Tokenized, Topology, Wildcard,
+    Alternation, Archetype, Boundary, BranchKind, Class, Composition, Concatenation,
+    ConcatenationTree, Evaluation, ExpressionMetadata, LeafKind, Literal,
+    ROOT_SEPARATOR_EXPRESSION, Repetition, Separator, Token, TokenComposition, TokenTopology,
+    TokenTree, Tokenized, Topology, Wildcard,
 };

@@ -1,2 +1,4 @@
 pub mod Commands
-pub mod Endings
+pub mod Matched
+pub mod Queried
+pub mod Refused

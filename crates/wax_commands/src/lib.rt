@@ -2,7 +2,9 @@
 #![tactic(auto)]
 
 mod arguments;
+mod query;
 mod run;
 
 pub use arguments::words;
+pub use query::{depth_text, when_text};
 pub use run::run_globs;

@@ -1,11 +1,16 @@
 //! What the program does with its words and its streams.
-ghost use Rattle.std.specs.Prelude.{◌≡◌, ℕ, List, IfSome, IfNone};
-ghost use Rattle.wax_commands.specs.Commands.{AsksMatch, HasNoCommand};
-ghost use Rattle.wax_commands.specs.Endings.{Ends};
+ghost use Rattle.std.specs.Prelude.{◌≡◌, ℕ, List, IfSome, IfNone, IsSome, chars};
+ghost use Rattle.wax.specs.Build.{IsGlob};
+ghost use Rattle.wax_commands.specs.Commands.{Asks, AsksMatch, AsksQuery, HasNoCommand};
+ghost use Rattle.wax_commands.specs.Matched.{MatchEnds};
+ghost use Rattle.wax_commands.specs.Queried.{QueryEnds, Writes};
+ghost use Rattle.wax_commands.specs.Refused.{IsRefused};
 
+use crate::query::query_lines;
 use std::alloc::Global;
 use std::io::{Read, Write};
 use wax::{Counted, Glob, filter_lines};
+use wax_lines::{LinesError, write_whole};
 
 const USAGE: &str = "\
 usage: globs match EXPR
@@ -23,9 +28,9 @@ const WRONG_WORDS: u8 = 2;
 /// Does what the words ask for, and answers the status: 0 done; 1 a refused build, a line that isn't
 /// text, a failed read or write, or want of memory; 2 wrong words. A word is None where it isn't UTF-8.
 ///
-/// `match EXPR` writes the lines of the input that the expression means. Faults are told in one line,
-/// wrong words by the usage text, and nothing else is written to `faults`; where that can't be written,
-/// the status is the same.
+/// `match EXPR` writes the lines of the input that the expression means; `query EXPR` writes what is known of
+/// the expression and reads nothing. Faults are told in one line, wrong words by the usage text, and nothing
+/// else is written to `faults`; where that can't be written, the status is the same.
 pub fn run_globs<R: Read, W: Write, F: Write>(
     alloc: Global,
     words: &[Option<String>],
@@ -35,25 +40,31 @@ pub fn run_globs<R: Read, W: Write, F: Write>(
 ) -> u8
     ensures wrong_words { HasNoCommand words.now
         → (result ≡ 2) × (input.new ≡ input.old) × (output.new ≡ output.old) }
-    ensures right_words { (e : List ℕ) → AsksMatch words.now e
-        → Ends e (R.remaining input.old.inner) (R.remaining input.new.inner)
+    ensures matches { (e : List ℕ) → AsksMatch words.now e
+        → MatchEnds e (R.remaining input.old.inner) (R.remaining input.new.inner)
         (W.contents output.old.inner) (W.contents output.new.inner) result }
+    ensures query { (e : List ℕ) → AsksQuery words.now e
+        → QueryEnds e (W.contents output.old.inner) (W.contents output.new.inner) result }
+    ensures query_reads { (e : List ℕ) → AsksQuery words.now e → input.new ≡ input.old }
     ensures quiet { result ≡ 0 → faults.new ≡ faults.old }
 {
-    let Some(expression) = match_expression(words) else {
-        let _ = faults.write_all(USAGE.as_bytes());
-        return WRONG_WORDS;
-    };
-    run_match(alloc, expression, input, output, faults)
+    if let Some(expression) = expression_after("match", words) {
+        return run_match(alloc, expression, input, output, faults);
+    }
+    if let Some(expression) = expression_after("query", words) {
+        return run_query(alloc, expression, output, faults);
+    }
+    let _ = faults.write_all(USAGE.as_bytes());
+    WRONG_WORDS
 }
 
-// The expression, where the words ask for its matches.
-fn match_expression(words: &[Option<String>]) -> Option<&str>
-    ensures some { IfSome result (λ e. AsksMatch words.now e.now) }
-    ensures none { IfNone result (HasNoCommand words.now) }
+// The expression, where the words are the name of a command and one.
+fn expression_after<'w>(name: &str, words: &'w [Option<String>]) -> Option<&'w str>
+    ensures some { IfSome result (λ e. Asks name.now words.now e.now) }
+    ensures none { IfNone result ((e : List ℕ) → Asks name.now words.now e → ⊥) }
 {
     if let [Some(command), Some(expression)] = words {
-        if command.as_str() == "match" {
+        if command.as_str() == name {
             return Some(expression.as_str());
         }
     }
@@ -67,16 +78,12 @@ fn run_match<R: Read, W: Write, F: Write>(
     output: &mut Counted<W>,
     faults: &mut F,
 ) -> u8
-    ensures ends { Ends expression.now (R.remaining input.old.inner) (R.remaining input.new.inner)
+    ensures ends { MatchEnds expression.now (R.remaining input.old.inner) (R.remaining input.new.inner)
         (W.contents output.old.inner) (W.contents output.new.inner) result }
     ensures quiet { result ≡ 0 → faults.new ≡ faults.old }
 {
-    let glob = match Glob::new(alloc, expression) {
-        Ok(glob) => glob,
-        Err(error) => {
-            let _ = writeln!(faults, "globs: {error}");
-            return FAILED;
-        }
+    let Some(glob) = built(alloc, expression, faults) else {
+        return FAILED;
     };
     match filter_lines(alloc, input, output, &glob) {
         Ok(0) => DONE,
@@ -89,4 +96,52 @@ fn run_match<R: Read, W: Write, F: Write>(
             FAILED
         }
     }
+}
+
+fn run_query<W: Write, F: Write>(
+    alloc: Global,
+    expression: &str,
+    output: &mut Counted<W>,
+    faults: &mut F,
+) -> u8
+    ensures ends { QueryEnds expression.now
+        (W.contents output.old.inner) (W.contents output.new.inner) result }
+    ensures quiet { result ≡ 0 → faults.new ≡ faults.old }
+{
+    let Some(glob) = built(alloc, expression, faults) else {
+        return FAILED;
+    };
+    match write_query(alloc, glob, output) {
+        Ok(()) => DONE,
+        Err(error) => {
+            let _ = writeln!(faults, "globs: {error}");
+            FAILED
+        }
+    }
+}
+
+// The glob of the expression, or none where it is refused; the reason is told.
+fn built<'e, F: Write>(alloc: Global, expression: &'e str, faults: &mut F) -> Option<Glob<'e>>
+    ensures some { IfSome result (IsGlob (chars expression.now)) }
+    ensures none { IfNone result (IsRefused expression.now) }
+    ensures quiet { IsSome result → faults.new ≡ faults.old }
+{
+    match Glob::new(alloc, expression) {
+        Ok(glob) => Some(glob),
+        Err(error) => {
+            let _ = writeln!(faults, "globs: {error}");
+            None
+        }
+    }
+}
+
+fn write_query<W: Write>(
+    alloc: Global,
+    glob: Glob<'_>,
+    output: &mut Counted<W>,
+) -> Result<(), LinesError>
+    ensures { Writes (W.contents output.old.inner) (W.contents output.new.inner) }
+{
+    let lines = query_lines(alloc, glob)?;
+    write_whole(output, lines.as_bytes())
 }

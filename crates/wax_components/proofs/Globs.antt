@@ -4,7 +4,7 @@ use Rattle.std.proofs.lemmas.List.{append_assoc}
 use Rattle.std.proofs.lemmas.Grind.{flat_map-append}
 use Rattle.std.specs.List.{flat_map}
 use Rattle.wax_token.specs.Syntax.{Tree, leaf, alternation, concatenation, repetition, Trees, none, more, tree_size, trees_size}
-use Rattle.wax_components.specs.TopLevel.{listed}
+use Rattle.wax_token.specs.Words.{listed}
 use Rattle.wax_components.specs.Levels.{sub_globs_in, sub_globs, globs_at, globs_to}
 
 -- ---- how much is left

@@ -2,7 +2,7 @@
 use Rattle.std.proofs.Common.{◌≡◌, List, [], ◌∷◌, refl, ap}
 use Rattle.wax_token.specs.Syntax.{Tree}
 use Rattle.wax_token.specs.Words.{trees}
-use Rattle.wax_components.specs.TopLevel.{listed}
+use Rattle.wax_token.specs.Words.{listed}
 
 pub listed_trees : {A : Type 0} (ts : List (Tree A)) → listed (trees ts) ≡ ts
 listed_trees [] = refl

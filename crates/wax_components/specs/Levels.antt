@@ -2,7 +2,8 @@
 use Rattle.std.specs.Prelude.{ℕ, zero, suc, List, [], ◌∷◌, ◌++◌}
 use Rattle.std.specs.List.{flat_map}
 use Rattle.wax_token.specs.Syntax.{Tree, leaf, alternation, concatenation, repetition, tree_size}
-use Rattle.wax_components.specs.TopLevel.{listed, tokens_of}
+use Rattle.wax_components.specs.TopLevel.{tokens_of}
+use Rattle.wax_token.specs.Words.{listed}
 use Rattle.wax_components.specs.Parts.{components, with_text}
 
 -- the sub-globs that a top-level token is or holds

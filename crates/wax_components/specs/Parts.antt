@@ -5,7 +5,8 @@ use Rattle.std.specs.List.{before_first, flat_map, list_all}
 use Rattle.wax_query.specs.Spans.{Span, span_union}
 use Rattle.wax_token.specs.Syntax.{Tree}
 use Rattle.wax_token.specs.Words.{annotation_of}
-use Rattle.wax_components.specs.TopLevel.{tokens_of, is_separator, is_tree_wildcard, is_boundary, is_literal}
+use Rattle.wax_components.specs.TopLevel.{tokens_of}
+use Rattle.wax_token.specs.Kinds.{is_separator, is_tree_wildcard, is_boundary, is_literal}
 use Rattle.wax_components.specs.TopLevel.{literal_text}
 
 -- the component that begins with a token, if one does: a `/` begins none, a `**` is one, and any other

@@ -5,7 +5,8 @@ use Rattle.std.specs.List.{flat_map, list_any}
 use Rattle.wax_query.specs.Spans.{Span}
 use Rattle.wax_token.specs.Syntax.{Tree}
 use Rattle.wax_token.specs.Words.{annotation_of}
-use Rattle.wax_components.specs.TopLevel.{tokens_of, is_separator}
+use Rattle.wax_components.specs.TopLevel.{tokens_of}
+use Rattle.wax_token.specs.Kinds.{is_separator}
 use Rattle.wax_components.specs.Parts.{joint_span, is_semantic}
 use Rattle.wax_components.specs.Levels.{literals}
 use Rattle.wax_components.specs.declared.warnings.Warning.{Warning}

@@ -28,7 +28,7 @@ fn captures_in<'t>(
 {
     let mut found = Vec::new(alloc);
     for token in tokens {
-        if kinds::is_capturing(token) {
+        if token.is_capturing() {
             let index = found.len() + 1;
             found.push(CapturingToken::new(index, token.annotation().span()))?;
         }
@@ -42,7 +42,7 @@ pub fn capture_count<'t, A: Annotation>(token: &Token<'t, A>) -> usize
 {
     let mut count = 0;
     for token in kinds::top_level(token) {
-        if kinds::is_capturing(token) {
+        if token.is_capturing() {
             count += 1;
         }
     }

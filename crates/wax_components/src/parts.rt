@@ -5,7 +5,8 @@ ghost use Rattle.std.specs.List.{list_all, position_or_len};
 ghost use Rattle.wax_components.specs.Parts.{IsComponent, components, components_in, is_semantic, joint_span};
 ghost use Rattle.wax_components.specs.Parts.{text_of};
 ghost use Rattle.wax_components.specs.inner.Dots.{dot_after, dots_of};
-ghost use Rattle.wax_components.specs.TopLevel.{is_boundary, is_literal, tokens_of};
+ghost use Rattle.wax_components.specs.TopLevel.{tokens_of};
+ghost use Rattle.wax_token.specs.Kinds.{is_boundary, is_literal};
 
 use crate::kinds;
 use std::alloc::{AllocError, Global};
@@ -51,7 +52,7 @@ impl<'i, 't, A> Component<'i, 't, A> {
         ensures { result ≡ (if list_all is_literal self.now then Some (text_of self.now) else None) }
     {
         for token in self.tokens {
-            if !kinds::is_literal(token) {
+            if !token.is_literal() {
                 return None;
             }
         }
@@ -151,7 +152,7 @@ fn run_len<'t, A>(tokens: &[Token<'t, A>]) -> usize
     ensures { result ≡ position_or_len is_boundary tokens.now }
 {
     let mut count = 0;
-    while count < tokens.len() && !kinds::is_boundary(&tokens[count]) {
+    while count < tokens.len() && !tokens[count].is_boundary() {
         count += 1;
     }
     count
@@ -168,7 +169,7 @@ pub(crate) fn components_in<'i, 't, A>(
     let mut start = 0;
     while start < tokens.len() {
         let end = start + run_len(&tokens[start..]).max(1);
-        if !kinds::is_separator(&tokens[start]) {
+        if !tokens[start].is_separator() {
             components.push(Component::new(&tokens[start..end]))?;
         }
         start = end;

@@ -144,7 +144,7 @@ fn terminating_span<'t>(tokens: &[Token<'t, ExpressionMetadata>]) -> Option<Span
     ensures { result ≡ terminating_span tokens.now }
 {
     let last = tokens.last()?;
-    if !kinds::is_separator(last) {
+    if !last.is_separator() {
         return None;
     }
     Some(last.annotation().span())

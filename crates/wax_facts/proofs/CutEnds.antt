@@ -6,7 +6,8 @@ use Rattle.wax_token.specs.Syntax.{Tree, Trees, alternation, class, concatenatio
 use Rattle.wax_token.specs.Syntax.{one, repetition, separator, tree, zero_or_more}
 use Rattle.wax_facts.specs.InvariantText.{Text}
 use Rattle.wax_facts.specs.Orderly.{IsSome}
-use Rattle.wax_facts.specs.Prefix.{Cut, is_separator, taken}
+use Rattle.wax_facts.specs.Prefix.{Cut, taken}
+use Rattle.wax_token.specs.Kinds.{is_separator}
 use Rattle.wax_facts.specs.Rest.{after, begins_with_tree}
 use Rattle.wax_facts.proofs.Endings.{ends_append}
 use Rattle.wax_facts.proofs.Truths.{true_false}

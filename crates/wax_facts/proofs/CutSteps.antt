@@ -3,7 +3,9 @@ use Rattle.std.proofs.Common.{◌≡◌, ℕ, suc, ◌+◌, true, false, List, [
 use Rattle.std.proofs.Common.{arith, append_assoc, append-nil}
 use Rattle.wax_token.specs.Syntax.{Tree, Trees, none, more}
 use Rattle.wax_facts.specs.InvariantText.{Text, Variant}
-use Rattle.wax_facts.specs.Prefix.{is_tree, is_separator, taken, Cut, CutBefore, or_nothing}
+use Rattle.wax_token.specs.Kinds.{is_tree_wildcard}
+use Rattle.wax_facts.specs.Prefix.{taken, Cut, CutBefore, or_nothing}
+use Rattle.wax_token.specs.Kinds.{is_separator}
 
 -- the cut of all, where n tokens are taken, their last `/` is followed by q, and what is left is cut so
 abbrev pub resumed : Option (ℕ × List ℕ) → ℕ → List ℕ → Option (ℕ × List ℕ) → Option (ℕ × List ℕ)
@@ -64,11 +66,11 @@ taken_all all left n m p q c k = (resumed k.0 n q (Some (0, [])), k.3 (Some (0, 
 pub cut_at_end : {A : Type 0} (ts : Trees A) → ts ≡ none → Cut ts (Some (0, []))
 cut_at_end ts e = subst (λ z. Cut z (Some (0, []))) (sym e) refl
 
-pub cut_at_tree : {A : Type 0} (t : Tree A) (ts : Trees A) → is_tree t ≡ true → Cut (more t ts) (Some (0, []))
+pub cut_at_tree : {A : Type 0} (t : Tree A) (ts : Trees A) → is_tree_wildcard t ≡ true → Cut (more t ts) (Some (0, []))
 cut_at_tree t ts e = inl (e, refl)
 
 -- the next token is not of one text
-pub taken_back : {A : Type 0} (all : Trees A) (t : Tree A) (left : Trees A) (n m : ℕ) (p q : List ℕ) → is_tree t ≡ false → Variant t →
+pub taken_back : {A : Type 0} (all : Trees A) (t : Tree A) (left : Trees A) (n m : ℕ) (p q : List ℕ) → is_tree_wildcard t ≡ false → Variant t →
     Taken all (more t left) n m p q → CutBefore all m p
 taken_back all t left n m p q e v k = (k.0, k.3 None (inr (inl (e, v, refl))), k.1, k.2)
 

@@ -5,7 +5,8 @@ use Rattle.wax_token.specs.Meaning.{MeansEach}
 use Rattle.wax_token.specs.Syntax.{Trees, more, none}
 use Rattle.wax_facts.specs.InvariantText.{Text}
 use Rattle.wax_facts.specs.Orderly.{FullEach, IsSome}
-use Rattle.wax_facts.specs.Prefix.{Cut, is_separator, taken}
+use Rattle.wax_facts.specs.Prefix.{Cut, taken}
+use Rattle.wax_token.specs.Kinds.{is_separator}
 use Rattle.wax_facts.specs.Rest.{after}
 use Rattle.wax_facts.proofs.Lists.{same_back}
 use Rattle.wax_facts.proofs.TextMeant.{text_meant}

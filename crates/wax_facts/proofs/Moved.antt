@@ -3,11 +3,11 @@ use Rattle.std.proofs.Common.{Bool, List, false, inl, inr, suc, true, zero, ℕ,
 use Rattle.wax_token.specs.Meaning.{Copies, LeafMeans, Means, MeansEach, MeansSome}
 use Rattle.wax_token.specs.Syntax.{Leaf, Tree, Trees, alternation, class, concatenation, leaf, literal, more}
 use Rattle.wax_token.specs.Syntax.{none, one, repetition, separator, tree, zero_or_more}
-use Rattle.wax_facts.specs.Prefix.{is_tree}
+use Rattle.wax_token.specs.Kinds.{is_tree_wildcard}
 use Rattle.wax_facts.specs.inner.Cuts.{first_starts_with_tree, some_starts_with_tree, starts_with_tree}
 use Rattle.wax_facts.proofs.Truths.{or_false}
 
-leaf_moved : {A : Type 0} (a : A) (l : Leaf) → is_tree (leaf a l) ≡ false → (b c f : Bool) (s : List ℕ) → LeafMeans l b f s → LeafMeans l c f s
+leaf_moved : {A : Type 0} (a : A) (l : Leaf) → is_tree_wildcard (leaf a l) ≡ false → (b c f : Bool) (s : List ℕ) → LeafMeans l b f s → LeafMeans l c f s
 leaf_moved a (literal i t) e b c f s m = m
 leaf_moved a (class n xs) e b c f s m = m
 leaf_moved a separator e b c f s m = m

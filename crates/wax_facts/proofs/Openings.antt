@@ -2,7 +2,8 @@
 use Rattle.std.proofs.Common.{◌≡◌, ◌≢◌, ℕ, zero, suc, List, [], ◌∷◌, length, Option, Some, None, slice_get, refl, sym, ◌∙◌, ap, subst, arith}
 use Rattle.wax_token.specs.Syntax.{Tree, leaf, alternation, concatenation, repetition, Trees, none, more}
 use Rattle.wax_token.specs.Words.{members, trees}
-use Rattle.wax_facts.specs.Prefix.{is_tree, opened, opened_last}
+use Rattle.wax_token.specs.Kinds.{is_tree_wildcard}
+use Rattle.wax_facts.specs.Prefix.{opened, opened_last}
 use Rattle.wax_facts.specs.Rest.{begins_with_tree}
 use Rattle.wax_facts.specs.inner.Bodies.{open_body}
 use Rattle.wax_facts.specs.inner.Opening.{IsOpened}
@@ -34,9 +35,9 @@ pub left_cons : {A : Type 0} (ts : List (Tree A)) (t : Tree A) (us : List (Tree 
     opened_last (trees ts) ≡ more t (opened_last (trees us))
 left_cons ts t us e h = ap (λ z. opened_last (trees z)) e ∙ opened_cons t (trees us) (subst (λ z. IsOpened (trees z)) e h)
 
-pub first_tree : {A : Type 0} (ts : List (Tree A)) (t : Tree A) → slice_get ts 0 ≡ Some t → IsOpened (trees ts) → is_tree t ≡ begins_with_tree (opened_last (trees ts))
+pub first_tree : {A : Type 0} (ts : List (Tree A)) (t : Tree A) → slice_get ts 0 ≡ Some t → IsOpened (trees ts) → is_tree_wildcard t ≡ begins_with_tree (opened_last (trees ts))
 first_tree [] t e h = absurd (let f : ⊥ = cc in f)
-first_tree (u ∷ ts) t e h = let f : u ≡ t = cc in ap is_tree (sym f) ∙ ap begins_with_tree (sym (opened_cons u (trees ts) h))
+first_tree (u ∷ ts) t e h = let f : u ≡ t = cc in ap is_tree_wildcard (sym f) ∙ ap begins_with_tree (sym (opened_cons u (trees ts) h))
 
 -- a glob's opened list is that of its tokens
 pub opened_members : {A : Type 0} (t : Tree A) → opened_last (members t) ≡ opened t

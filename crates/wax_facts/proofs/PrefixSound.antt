@@ -3,7 +3,8 @@ use Rattle.std.proofs.Common.{Bool, List, None, Option, Some, [], ap, append-nil
 use Rattle.std.proofs.Common.{inr, refl, subst, suc, sym, true, zero, ℕ, ◌++◌, ◌∙◌, ◌∷◌, ◌≡◌}
 use Rattle.wax_token.specs.Meaning.{Begins, Means, MeansEach}
 use Rattle.wax_token.specs.Syntax.{Tree, Trees, alternation, concatenation, leaf, more, none, repetition}
-use Rattle.wax_facts.specs.Prefix.{Cut, IsRooted, Prefix, is_separator, opened, opened_last, or_nothing}
+use Rattle.wax_facts.specs.Prefix.{Cut, IsRooted, Prefix, opened, opened_last, or_nothing}
+use Rattle.wax_token.specs.Kinds.{is_separator}
 use Rattle.wax_facts.specs.Prefix.{taken}
 use Rattle.wax_facts.specs.Joined.{Front}
 use Rattle.wax_facts.proofs.OneCopy.{one_copy}

@@ -7,7 +7,8 @@ use Rattle.wax_token.specs.Reads.{is_one_of}
 use Rattle.wax_token.specs.Syntax.{Leaf, Tree, Trees, alternation, class, concatenation, leaf, literal, more}
 use Rattle.wax_token.specs.Syntax.{none, one, repetition, separator, tree, zero_or_more}
 use Rattle.wax_rule.specs.Rules.{are_incompatible}
-use Rattle.wax_rule.specs.Situated.{ends_in, is_boundary_leaf, last_ends_in}
+use Rattle.wax_rule.specs.Situated.{ends_in, last_ends_in}
+use Rattle.wax_token.specs.Kinds.{is_boundary_leaf}
 use Rattle.wax_facts.specs.InvariantText.{LeafText, Text, TextOfEach, times}
 use Rattle.wax_facts.specs.Orderly.{Apart, ApartEach, Full, FullEach, IsSome, Worded, WordedEach, WordedLeaf}
 use Rattle.wax_facts.proofs.Endings.{ends_back, nil_ends, one_ends}

@@ -1,8 +1,8 @@
 -- The prefix of a glob: the text before the first token that isn't invariant, cut back to a `/`.
 use Rattle.std.specs.Prelude.{◌≡◌, ℕ, zero, suc, Bool, true, false, ◌⊎◌}
 use Rattle.std.specs.Prelude.{List, [], ◌∷◌, ◌++◌, Option, Some, None}
+use Rattle.wax_token.specs.Kinds.{is_separator, is_tree_wildcard}
 use Rattle.wax_token.specs.Syntax.{Tree, leaf, alternation, concatenation, repetition, Trees, none, more}
-use Rattle.wax_rule.specs.Rules.{is_such, is_separator_leaf, is_tree_leaf}
 use Rattle.wax_query.specs.declared.query.when.When.TheVariants.{Always}
 use Rattle.wax_facts.specs.Root.{root}
 use Rattle.wax_facts.specs.InvariantText.{Text, Variant}
@@ -28,12 +28,6 @@ abbrev mutual
   opened_last (more t none) = opened t
   opened_last (more t (more u us)) = more t (opened_last (more u us))
 
-abbrev pub is_tree : {A : Type 0} → Tree A → Bool
-is_tree t = is_such is_tree_leaf t
-
-abbrev pub is_separator : {A : Type 0} → Tree A → Bool
-is_separator t = is_such is_separator_leaf t
-
 -- one more invariant token before the cut; a `/` before a variant token is where it falls
 abbrev pub taken : Bool → List ℕ → Option (ℕ × List ℕ) → Option (ℕ × List ℕ)
 taken is_slash x (Some cut) = Some (suc cut.0, x ++ cut.1)
@@ -44,8 +38,8 @@ taken false x None = None
 abbrev pub Cut : {A : Type 0} → Trees A → Option (ℕ × List ℕ) → Type 0
 Cut none cut = cut ≡ Some (0, [])
 Cut (more t ts) cut =
-    ((is_tree t ≡ true) × (cut ≡ Some (0, [])))
-    ⊎ (((is_tree t ≡ false) × Variant t × (cut ≡ None))
+    ((is_tree_wildcard t ≡ true) × (cut ≡ Some (0, [])))
+    ⊎ (((is_tree_wildcard t ≡ false) × Variant t × (cut ≡ None))
     ⊎ ((x : List ℕ) × (later : Option (ℕ × List ℕ)) × Text t x × Cut ts later
     × (cut ≡ taken (is_separator t) x later)))
 

@@ -3,11 +3,12 @@ use Rattle.std.specs.Prelude.{ℕ, zero, suc, Bool, true, false, Option, Some, N
 use Rattle.wax_token.specs.Syntax.{tree, Tree, leaf, alternation, concatenation, repetition}
 use Rattle.wax_token.specs.Syntax.{Trees, none, more}
 use Rattle.wax_token.specs.Words.{members}
-use Rattle.wax_facts.specs.Prefix.{opened, is_tree}
+use Rattle.wax_token.specs.Kinds.{is_tree_wildcard}
+use Rattle.wax_facts.specs.Prefix.{opened}
 
 abbrev pub begins_with_tree : {A : Type 0} → Trees A → Bool
 begins_with_tree none = false
-begins_with_tree (more t ts) = is_tree t
+begins_with_tree (more t ts) = is_tree_wildcard t
 
 -- a sub-glob is entered where a token of it is taken, or where it begins with the `**` at which the cut falls
 abbrev pub entered : {A : Type 0} → ℕ → Bool → Tree A × ℕ → Option (Tree A × ℕ)

@@ -1,7 +1,7 @@
 -- Tree wildcards with a `/` before them.
 use Rattle.std.specs.Prelude.{Bool, false}
 use Rattle.wax_token.specs.Syntax.{Leaf, literal, class, separator, one, zero_or_more, tree, Tree}
-use Rattle.wax_rule.specs.Rules.{is_such}
+use Rattle.wax_token.specs.Kinds.{is_such}
 
 abbrev pub is_rooted_tree_leaf : Leaf → Bool
 is_rooted_tree_leaf (literal insensitive t) = false

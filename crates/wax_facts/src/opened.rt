@@ -2,7 +2,7 @@
 ghost use Rattle.std.specs.Prelude.{◌≡◌, ◌<◌, ◌≤◌, ◌+◌, ℕ, MatchOption, None, Some};
 ghost use Rattle.wax_token.specs.Syntax.{more, none, tree_size, trees_size};
 ghost use Rattle.wax_token.specs.Words.{trees};
-ghost use Rattle.wax_facts.specs.Prefix.{is_tree, opened, opened_last};
+ghost use Rattle.wax_facts.specs.Prefix.{opened, opened_last};
 ghost use Rattle.wax_facts.specs.Rest.{begins_with_tree};
 ghost use Rattle.wax_facts.specs.inner.Bodies.{open_body};
 ghost use Rattle.wax_facts.specs.inner.Opening.{IsOpened};
@@ -54,16 +54,7 @@ pub fn begins_with_tree<'t, A: Annotation>(glob: &Token<'t, A>) -> bool
     ensures { result ≡ begins_with_tree (opened glob.now) }
 {
     match opened_from(glob.concatenation()).first() {
-        Some(first) => is_tree(first),
+        Some(first) => first.is_tree_wildcard(),
         None => false,
-    }
-}
-
-pub fn is_tree<'t, A>(token: &Token<'t, A>) -> bool
-    ensures { result ≡ is_tree token.now }
-{
-    match token.as_leaf() {
-        Some(LeafKind::Wildcard(wildcard)) => matches!(wildcard, Wildcard::Tree { .. }),
-        _ => false,
     }
 }

@@ -3,11 +3,12 @@ ghost use Rattle.std.specs.Prelude.{◌≡◌, ◌↔◌, ℕ, IfOk, IsTrue, Lis
 ghost use Rattle.wax_token.specs.Meaning.{Means};
 ghost use Rattle.wax_token.specs.Words.{trees};
 ghost use Rattle.wax_facts.specs.Joined.{Front};
-ghost use Rattle.wax_facts.specs.Prefix.{CutBefore, IsRooted, Prefix, is_separator, is_tree, opened_last};
+ghost use Rattle.wax_token.specs.Kinds.{is_tree_wildcard};
+ghost use Rattle.wax_facts.specs.Prefix.{CutBefore, IsRooted, Prefix, opened_last};
 ghost use Rattle.wax_facts.specs.inner.Opening.{IsOpened};
 
 use crate::invariant::text;
-use crate::opened::{is_tree, opened_from};
+use crate::opened::opened_from;
 use crate::root::has_root;
 use std::alloc::Global;
 use wax_query::diagnostics::NoMemory;
@@ -63,7 +64,7 @@ fn cut_prefix<'t, A: Annotation>(
     let mut after_slash = String::new(alloc);
     let mut cut = (0, String::new(alloc));
     while let Some((first, others)) = left.split_first() {
-        if is_tree(first) {
+        if first.is_tree_wildcard() {
             break;
         }
         let Some(text) = text(alloc, first)? else {
@@ -71,7 +72,7 @@ fn cut_prefix<'t, A: Annotation>(
         };
         taken = taken.checked_add(1).ok_or(NoMemory)?;
         after_slash.push_str(text.as_str())?;
-        if is_separator(first) {
+        if first.is_separator() {
             cut.0 = taken;
             cut.1.push_str(after_slash.as_str())?;
             after_slash.clear();
@@ -80,10 +81,4 @@ fn cut_prefix<'t, A: Annotation>(
     }
     cut.1.push_str(after_slash.as_str())?;
     Ok((taken, cut.1))
-}
-
-fn is_separator<'t, A>(token: &Token<'t, A>) -> bool
-    ensures { result ≡ is_separator token.now }
-{
-    matches!(token.as_leaf(), Some(LeafKind::Separator(_)))
 }

@@ -7,7 +7,8 @@ use Rattle.wax_lines.specs.declared.lines.LinesError.{LinesError}
 use Rattle.wax_lines.specs.declared.lines.LinesError.TheVariants.{Read, Write, Memory}
 use Rattle.wax_lines.specs.declared.lines.sieve.Sieve.{Sieve}
 use Rattle.wax_lines.specs.Lines.{lines, whole_lines, Filters, Filtered, StoppedReading, StoppedWriting, StoppedShort, Stopped}
-use Rattle.wax_lines.specs.Progress.{SieveSifted, TakesIn, TakesInPart, TakesLast, WritesPart, Came, CameShort, Finished, Halted}
+use Rattle.wax_lines.specs.Written.{WritesPart}
+use Rattle.wax_lines.specs.Progress.{SieveSifted, TakesIn, TakesInPart, TakesLast, Came, CameShort, Finished, Halted}
 use Rattle.wax_lines.proofs.Sifting.{sifted_nothing, sifted_written, sifted_whole}
 
 module _ (Means : List ℕ → Type 0) where

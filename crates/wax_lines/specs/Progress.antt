@@ -30,13 +30,6 @@ pub record AllSifted (Means : List ℕ → Type 0) (taken written : List ℕ) (s
 abbrev pub TakesLast : (List ℕ → Type 0) → Sieve → Sieve → Type 0
 TakesLast Means old new = (taken written : List ℕ) → SieveSifted Means taken written old → AllSifted Means taken written new
 
--- a beginning of these bytes was written
-pub record WritesPart (held held' : Option (List ℕ)) (bytes : List ℕ) : Type 0 where
-  pub front : List ℕ
-  pub rest : List ℕ
-  pub splits : bytes ≡ front ++ rest
-  pub writes : Appends held held' front
-
 -- all that was read was taken in
 pub record Came (Means : List ℕ → Type 0) (left left' held held' : Option (List ℕ)) (s : Sieve) : Type 0 where
   pub taken : List ℕ

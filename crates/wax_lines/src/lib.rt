@@ -3,6 +3,8 @@
 
 mod counted;
 mod lines;
+mod writing;
 
 pub use counted::Counted;
 pub use lines::{LinesError, filter_lines};
+pub use writing::write_whole;

@@ -1,4 +1,5 @@
 pub mod KeptSteps
+pub mod RestCosts
 pub mod RestGlob
 pub mod RestKnown
 pub mod RestMeans

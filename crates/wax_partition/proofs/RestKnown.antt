@@ -1,6 +1,7 @@
 -- What is known of the two parts of an expression.
-use Rattle.std.proofs.Common.{◌≡◌, ◌↔◌, ◌⊎◌, ℕ, false, List, Option, Some, None, IfSome, MatchOption, ap, chars, refl, sym, subst}
+use Rattle.std.proofs.Common.{◌≡◌, ◌↔◌, ◌⊎◌, ◌≤◌, ◌+◌, ℕ, false, List, Option, Some, None, IfSome, MatchOption, ap, chars, refl, sym, subst, arith}
 use Rattle.std.specs.Cow.{cow_str_bytes}
+use Rattle.wax_token.specs.Cost.{costs, program_length}
 use Rattle.wax_token.specs.Meaning.{Means}
 use Rattle.wax_token.specs.Reads.{Span, utf8_len}
 use Rattle.wax_token.specs.Syntax.{Tree, concatenation, Trees, none, more}
@@ -9,11 +10,12 @@ use Rattle.wax_facts.specs.Joined.{begins_with_leaf, path}
 use Rattle.wax_facts.specs.Orderly.{Flat, Full, IsSome, Orderly}
 use Rattle.wax_facts.specs.Partition.{BeginsPlainly, IsPartition as IsInPlace, MeansAfter, SplitsAll, glob_up_to, rest_end, rest_glob as rest_in_place}
 use Rattle.wax_facts.specs.Prefix.{IsRooted, opened}
-use Rattle.wax_facts.specs.Rest.{left, unrooted}
+use Rattle.wax_facts.specs.Rest.{left, rest, unrooted}
 use Rattle.wax_facts.proofs.Partitions.{partition_branch, partition_orderly, partition_rest, partition_split, partition_whole}
 use Rattle.wax_facts.proofs.RestOrderly.{unrooted_some}
 use Rattle.wax_partition.specs.Partition.{IsPartition, rest_glob, rest_text, spelled}
 use Rattle.wax_partition.specs.Shifted.{shifted_rest}
+use Rattle.wax_partition.proofs.RestCosts.{left_costs, rest_costs}
 use Rattle.wax_partition.proofs.RestMeans.{rest_means, rest_orderly}
 
 glob_at : (P : Tree Span → Type 0) (end : ℕ) (ts : Trees Span) → IsSome ts → IfSome (glob_up_to end ts) P → (s : Span) × P (concatenation s ts)
@@ -47,6 +49,10 @@ means_carried G r s ts h =
 
 orderly_carried : Carries Orderly
 orderly_carried r s ts h = subst (λ Z. Z) (sym (rest_orderly r ts)) h
+
+glob_costs : (end most : ℕ) (ts : Trees Span) → costs ts + 1 ≤ most → IfSome (glob_up_to end ts) (λ v. program_length v ≤ most)
+glob_costs end most none h = tt
+glob_costs end most (more t ts) h = h
 
 module _ (e : List ℕ) (t : Tree Span) (p : List ℕ) where
   in_place : (o : Option (Tokenized Span)) → (k : IsPartition e t p (spelled o)) → IsInPlace t p (rest_in_place t k.0)
@@ -91,3 +97,10 @@ module _ (e : List ℕ) (t : Tree Span) (p : List ℕ) where
   parts_orderly (Some u) k = λ w.
       carried (λ v. Orderly t → Orderly v) (λ r s ts h x. orderly_carried r s ts (h x)) u k w.1
       (partition_orderly t p (rest_in_place t k.0) (in_place (Some u) k)) w
+
+  pub parts_fits : (o : Option (Tokenized Span)) → IsPartition e t p (spelled o) →
+      IfSome o (λ u. Flat t → program_length u.token ≤ program_length t)
+  parts_fits None k = tt
+  parts_fits (Some u) k = λ w.
+      carried (λ v. program_length v ≤ program_length t) (λ r s ts h. rest_costs s r (program_length t) ts h) u k w
+      (glob_costs (rest_end t k.0) (program_length t) (rest t k.0) (omega (arith, left_costs t k.0)))

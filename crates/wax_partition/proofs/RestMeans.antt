@@ -13,7 +13,7 @@ use Rattle.wax_partition.proofs.ShiftedOrderly.{orderly_each}
 -- what no span changes holds of the rest in its own expression where it holds in the whole
 module _ (F : Trees Span → Type 0) (each : (k : ℕ) (ts : Trees Span) → F (shifted_each k ts) ≡ F ts)
     (first : (s r : Span) (l : Leaf) (ts : Trees Span) → F (more (leaf s l) ts) ≡ F (more (leaf r l) ts)) where
-  rest_same : (ts : Trees Span) → F (shifted_rest ts) ≡ F (unrooted ts)
+  pub rest_same : (ts : Trees Span) → F (shifted_rest ts) ≡ F (unrooted ts)
   rest_same none = refl
   rest_same (more (leaf s (tree true)) ts) =
       first (0, s.1 - 1) (shifted_span (s.0 + 1) s) (tree false) (shifted_each (s.0 + 1) ts) ∙ each (s.0 + 1) (more (leaf s (tree false)) ts)

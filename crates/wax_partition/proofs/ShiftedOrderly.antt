@@ -3,7 +3,8 @@ use Rattle.std.proofs.Common.{◌≡◌, ℕ, Bool, true, false, ◌||◌, refl}
 use Rattle.wax_token.specs.Reads.{Span}
 use Rattle.wax_token.specs.Syntax.{Leaf, Tree, leaf, alternation, concatenation, repetition, Trees, none, more}
 use Rattle.wax_rule.specs.Rules.{are_incompatible}
-use Rattle.wax_rule.specs.Situated.{is_boundary_leaf, starts_in, some_starts_in, first_starts_in, ends_in, some_ends_in, last_ends_in}
+use Rattle.wax_rule.specs.Situated.{starts_in, some_starts_in, first_starts_in, ends_in, some_ends_in, last_ends_in}
+use Rattle.wax_token.specs.Kinds.{is_boundary_leaf}
 use Rattle.wax_facts.specs.Orderly.{Apart, ApartEach, ApartSome, Flat, FlatEach, FlatSome, Full, FullEach, IsSome, Orderly, Worded, WordedEach, is_token}
 use Rattle.wax_partition.specs.Shifted.{shifted, shifted_each}
 

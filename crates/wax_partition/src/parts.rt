@@ -1,7 +1,8 @@
 //! The prefix of a glob, and the rest as an expression of its own.
-ghost use Rattle.std.specs.Prelude.{◌≡◌, ◌↔◌, ℕ, false, List};
+ghost use Rattle.std.specs.Prelude.{◌≡◌, ◌≤◌, ◌↔◌, ℕ, false, List};
 ghost use Rattle.std.specs.Prelude.{IfOk, IfSome, MatchOption, chars, string_bytes};
 ghost use Rattle.std.specs.Cow.{cow_str_bytes};
+ghost use Rattle.wax_token.specs.Cost.{program_length};
 ghost use Rattle.wax_token.specs.Meaning.{Means};
 ghost use Rattle.wax_token.specs.Words.{trees};
 ghost use Rattle.wax_facts.specs.Joined.{begins_with_leaf};
@@ -47,8 +48,10 @@ pub fn partition<'t>(
         → Means tokenized.entry.token false false s ↔ (s ≡ chars (string_bytes r.0))) (λ _. Unit {0})) }
     ensures orderly { IfOk result (λ r. IfSome r.1 (λ u.
         Orderly tokenized.entry.token → Orderly u.token)) }
+    ensures fits { IfOk result (λ r. IfSome r.1 (λ u. Flat tokenized.entry.token
+        → program_length u.token ≤ program_length tokenized.entry.token)) }
 {
-    let Tokenized { expression, token } = tokenized;
+    let (expression, token) = tokenized.into_parts();
     let (prefix, tokens, end) = split_tokens(alloc, token)?;
     Ok((prefix, cut_out(alloc, expression.as_str(), end, tokens)?))
 }

@@ -1,5 +1,5 @@
 -- Worked examples of the rules: the trees that expressions spell, and the first break of each.
-use Rattle.std.proofs.Common.{◌≡◌, ℕ, true, false, List, [], ◌∷◌, Option, Some, None, refl, codes}
+use Rattle.std.proofs.Common.{◌≡◌, ℕ, false, List, [], ◌∷◌, Option, Some, None, refl, codes}
 use Rattle.wax_query.specs.declared.diagnostics.located.CorrelatedSpan.{CorrelatedSpan}
 use Rattle.wax_query.specs.declared.diagnostics.located.CorrelatedSpan.TheVariants.{Contiguous, Split}
 use Rattle.wax_rule.specs.declared.rule.Break.{Break}
@@ -9,7 +9,7 @@ use Rattle.wax_rule.specs.Rules.{broken, break_here}
 use Rattle.wax_rule.specs.FirstBreak.{first_of}
 use Rattle.wax_token.specs.declared.token.Evaluation.TheVariants.{Eager}
 use Rattle.wax_token.specs.Reads.{Span}
-use Rattle.wax_token.specs.Syntax.{Tree, leaf, alternation, concatenation, repetition, Trees, none, more, literal, separator, zero_or_more, tree}
+use Rattle.wax_token.specs.Syntax.{Tree, leaf, alternation, concatenation, repetition, literal, separator, zero_or_more, tree}
 use Rattle.wax_token.specs.Words.{trees}
 
 -- a glob or sub-glob of these tokens

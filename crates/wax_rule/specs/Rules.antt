@@ -13,46 +13,15 @@ use Rattle.wax_rule.specs.declared.rule.branch.Sort.{Sort}
 use Rattle.wax_rule.specs.declared.rule.branch.Sort.TheVariants as sort
 use Rattle.wax_rule.specs.declared.rule.situated.Side.{Side}
 use Rattle.wax_rule.specs.Sizes.{is_oversized}
-use Rattle.wax_rule.specs.Situated.{Situated, is_boundary_leaf, is_zero_or_more_leaf, breadth_first}
+use Rattle.wax_rule.specs.Situated.{Situated, breadth_first}
+use Rattle.wax_token.specs.Kinds.{is_such, is_separator_leaf, is_zero_or_more_leaf, is_tree_leaf, is_boundary_leaf, is_rooting_leaf}
 use Rattle.wax_token.specs.Reads.{Span}
-use Rattle.wax_token.specs.Syntax.{Leaf, literal, class, separator, one, zero_or_more, tree, Tree, leaf, alternation, concatenation, repetition, Trees, none, more}
+use Rattle.wax_token.specs.Syntax.{Tree, leaf, alternation, concatenation, repetition, Trees, none, more}
 use Rattle.wax_token.specs.Words.{annotation_of, members}
 
 -- a break at one place
 abbrev pub break_here : RuleErrorKind → Span → Break
 break_here kind s = record { kind = kind; location = record { label = codes "here"; span = s; correlated = None } }
-
--- ---- what tokens are
-abbrev pub is_such : {A : Type 0} → (Leaf → Bool) → Tree A → Bool
-is_such such (leaf a l) = such l
-is_such such (alternation a ts) = false
-is_such such (concatenation a ts) = false
-is_such such (repetition a t low high) = false
-
-abbrev pub is_separator_leaf : Leaf → Bool
-is_separator_leaf (literal b t) = false
-is_separator_leaf (class b xs) = false
-is_separator_leaf separator = true
-is_separator_leaf one = false
-is_separator_leaf (zero_or_more e) = false
-is_separator_leaf (tree rooted) = false
-
-abbrev pub is_tree_leaf : Leaf → Bool
-is_tree_leaf (literal b t) = false
-is_tree_leaf (class b xs) = false
-is_tree_leaf separator = false
-is_tree_leaf one = false
-is_tree_leaf (zero_or_more e) = false
-is_tree_leaf (tree rooted) = true
-
--- `/` or a rooted `**`
-abbrev pub is_rooting_leaf : Leaf → Bool
-is_rooting_leaf (literal b t) = false
-is_rooting_leaf (class b xs) = false
-is_rooting_leaf separator = true
-is_rooting_leaf one = false
-is_rooting_leaf (zero_or_more e) = false
-is_rooting_leaf (tree rooted) = rooted
 
 -- ---- adjacent boundaries: two neighbours of a concatenation are both `/` or `**`
 -- the least span that holds both

@@ -1,26 +1,11 @@
 -- The tokens of a tree, breadth first, each with what stands beside it.
-use Rattle.std.specs.Prelude.{Bool, true, false, ◌||◌, List, [], ◌∷◌, ◌++◌, Option, Some, None}
+use Rattle.std.specs.Prelude.{Bool, false, ◌||◌, List, [], ◌∷◌, ◌++◌, Option, Some, None}
 use Rattle.std.specs.List.{flat_map}
 use Rattle.wax_rule.specs.declared.rule.situated.Side.{Side}
+use Rattle.wax_token.specs.Kinds.{is_zero_or_more_leaf, is_boundary_leaf}
 use Rattle.wax_token.specs.Reads.{Span}
-use Rattle.wax_token.specs.Syntax.{Leaf, literal, class, separator, one, zero_or_more, tree, Tree, leaf, alternation, concatenation, repetition, Trees, none, more}
+use Rattle.wax_token.specs.Syntax.{Leaf, Tree, leaf, alternation, concatenation, repetition, Trees, none, more}
 use Rattle.wax_token.specs.Words.{annotation_of}
-
-abbrev pub is_boundary_leaf : Leaf → Bool
-is_boundary_leaf (literal b t) = false
-is_boundary_leaf (class b xs) = false
-is_boundary_leaf separator = true
-is_boundary_leaf one = false
-is_boundary_leaf (zero_or_more e) = false
-is_boundary_leaf (tree rooted) = true
-
-abbrev pub is_zero_or_more_leaf : Leaf → Bool
-is_zero_or_more_leaf (literal b t) = false
-is_zero_or_more_leaf (class b xs) = false
-is_zero_or_more_leaf separator = false
-is_zero_or_more_leaf one = false
-is_zero_or_more_leaf (zero_or_more e) = true
-is_zero_or_more_leaf (tree rooted) = false
 
 -- such a leaf is reached through first tokens of concatenations, bodies of repetitions and all branches of alternations
 abbrev mutual

@@ -1,5 +1,5 @@
 -- Fixed sizes of tokens: how many bytes a text has that a token means, where that can be told.
-use Rattle.std.specs.Prelude.{ℕ, ◌+◌, ◌*◌, Bool, true, false, ◌==◌, ◌&&◌, nat_le, if◌then◌else◌, Option, Some, None}
+use Rattle.std.specs.Prelude.{ℕ, ◌+◌, ◌-◌, ◌*◌, ◌^◌, min, Bool, true, false, ◌==◌, ◌&&◌, nat_le, if◌then◌else◌, Option, Some, None}
 use Rattle.wax_token.specs.Syntax.{Leaf, literal, class, separator, one, zero_or_more, tree, Tree, leaf, alternation, concatenation, repetition, Trees, none, more}
 use Rattle.wax_token.specs.Reads.{utf8_len}
 
@@ -52,6 +52,14 @@ abbrev mutual
   pub are_of_size : {A : Type 0} → ℕ → Trees A → Bool
   are_of_size n none = true
   are_of_size n (more t ts) = is_size n (fixed_size t) && are_of_size n ts
+
+-- the size, or the greatest number of 64 bits where it is above that
+abbrev pub saturated : Option ℕ → Option ℕ
+saturated None = None
+saturated (Some n) = Some (min n (2 ^ 64 - 1))
+
+abbrev pub saturated_size : {A : Type 0} → Tree A → Option ℕ
+saturated_size t = saturated (fixed_size t)
 
 -- a size of 65,536 or more
 abbrev pub is_large : Option ℕ → Bool

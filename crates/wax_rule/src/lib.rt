@@ -2,3 +2,5 @@
 #![tactic(auto)]
 
 pub mod rule;
+
+pub use rule::size::size;

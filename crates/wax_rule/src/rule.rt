@@ -11,10 +11,9 @@ ghost use Rattle.wax_rule.specs.FirstBreak.{IsFirst, first_of, breaks_of, breaks
 mod boundary;
 mod bounds;
 mod branch;
-mod leaf;
 mod natural;
 mod situated;
-mod size;
+pub(crate) mod size;
 
 use crate::rule::boundary::boundary_break;
 use crate::rule::bounds::bounds_break;
@@ -58,11 +57,22 @@ pub enum RuleErrorKind {
 
 /// The first rule that an expression breaks, and where (refusals 2 to 8). It prints the rule.
 /// Contracts see the rule, the place and the characters of the expression.
-#[derive(Debug, Drop)]
+#[derive(Debug)]
 pub struct RuleError<'t> {
     expression: CowStr<'t>,
     kind: RuleErrorKind,
     location: CompositeSpan,
+}
+
+// Written out, so that a crate that drops these needn't prove again how places are dropped.
+impl Drop for RuleError<'_> {
+    fn drop(self) {
+        let RuleError {
+            expression: _,
+            kind: _,
+            location: _,
+        } = self;
+    }
 }
 
 impl<'t> Model for RuleError<'t> {
@@ -101,11 +111,16 @@ impl<'t> RuleError<'t> {
     pub fn into_owned(self, alloc: Global) -> Result<RuleError<'static>, NoMemory>
         ensures { IfOk result (λ e. e ≡ self.entry) }
     {
-        let expression = self.expression.into_owned(alloc)?;
+        let RuleError {
+            expression,
+            kind,
+            location,
+        } = self;
+        let expression = CowStr::Owned(expression.into_owned(alloc)?);
         Ok(RuleError {
-            expression: CowStr::Owned(expression),
-            kind: self.kind,
-            location: self.location,
+            expression,
+            kind,
+            location,
         })
     }
 }
@@ -272,12 +287,13 @@ pub fn check<'t>(
     ensures rules { MatchBuild result (λ t. broken t.token ≡ []) (IsFirst (broken tokenized.entry.token)) }
     ensures expression { MatchBuild result (λ _. Unit {0}) (λ e. e.expression ≡ chars (cow_str_bytes tokenized.entry.expression)) }
 {
-    match find_first(alloc, &tokenized.token)? {
-        None => Ok(Checked { inner: tokenized }),
-        Some(found) => Err(Refusal::Refused(RuleError {
-            expression: tokenized.expression,
-            kind: found.kind,
-            location: found.location,
-        })),
-    }
+    let Some(found) = find_first(alloc, &tokenized.token)? else {
+        return Ok(Checked { inner: tokenized });
+    };
+    let (expression, _) = tokenized.into_parts();
+    Err(Refusal::Refused(RuleError {
+        expression,
+        kind: found.kind,
+        location: found.location,
+    }))
 }

@@ -134,15 +134,18 @@ fn refused_builds_print_their_reason(rt: HostRuntime) -> Result<(), Fail> {
         ("<a*:174763>", "failed to compile glob: oversized program"),
     ];
     for (expression, text) in cases {
-        let words = words_of(rt.alloc(), &["match", expression])?;
-        let mut input = Counted::new(b"a\n".as_slice());
-        let mut output = Counted::new(Vec::new(rt.alloc()));
-        let mut faults = Vec::new(rt.alloc());
-        let status = run_globs(rt.alloc(), &words, &mut input, &mut output, &mut faults);
-        assert_eq!(rt; status, 1);
-        assert_eq!(rt; input.calls(), 0);
-        let line = format!(in rt.alloc(); "globs: {text}\n")?;
-        assert_eq!(rt; faults.as_slice(), line.as_bytes());
+        for command in ["match", "query"] {
+            let words = words_of(rt.alloc(), &[command, expression])?;
+            let mut input = Counted::new(b"a\n".as_slice());
+            let mut output = Counted::new(Vec::new(rt.alloc()));
+            let mut faults = Vec::new(rt.alloc());
+            let status = run_globs(rt.alloc(), &words, &mut input, &mut output, &mut faults);
+            assert_eq!(rt; status, 1);
+            assert_eq!(rt; input.calls(), 0);
+            assert_eq!(rt; output.calls(), 0);
+            let line = format!(in rt.alloc(); "globs: {text}\n")?;
+            assert_eq!(rt; faults.as_slice(), line.as_bytes());
+        }
     }
     Ok(())
 }
@@ -230,5 +233,56 @@ fn untold_faults_change_nothing_else(rt: HostRuntime) -> Result<(), Fail> {
         assert_eq!(rt; output.into_inner().as_slice(), want);
         assert_eq!(rt; faults.taken.len(), 0);
     }
+    Ok(())
+}
+
+const ABOVE: &[u8] = b"depth 2
+text invariant ../a/
+root never
+exhaustive never
+prefix ../a/
+no rest
+captures 0
+warning semantic literal 0 2
+warning terminating separator 4 1
+";
+
+#[test]
+fn a_query_writes_what_is_known(rt: HostRuntime) -> Result<(), Fail> {
+    let cases: [(&str, &[u8]); 3] = [
+        (
+            "a/b*",
+            b"depth 2\ntext variant\nroot never\nexhaustive never\nprefix a/\nrest b*\ncaptures 1\n",
+        ),
+        ("../a/", ABOVE),
+        (
+            "",
+            b"depth 0\ntext invariant \nroot never\nexhaustive never\nprefix \nno rest\ncaptures 0\n",
+        ),
+    ];
+    for (expression, want) in cases {
+        let words = words_of(rt.alloc(), &["query", expression])?;
+        let mut input = Counted::new(b"a\n".as_slice());
+        let mut output = Counted::new(Vec::new(rt.alloc()));
+        let mut faults = Vec::new(rt.alloc());
+        let status = run_globs(rt.alloc(), &words, &mut input, &mut output, &mut faults);
+        assert_eq!(rt; status, 0);
+        assert_eq!(rt; input.calls(), 0);
+        assert_eq!(rt; output.into_inner().as_slice(), want);
+        assert_eq!(rt; faults.len(), 0);
+    }
+    Ok(())
+}
+
+#[test]
+fn a_failed_write_of_a_query_is_told(rt: HostRuntime) -> Result<(), Fail> {
+    let words = words_of(rt.alloc(), &["query", "a"])?;
+    let mut input = Counted::new(b"".as_slice());
+    let mut output = Counted::new(failing_after(rt.alloc(), 7));
+    let mut faults = Vec::new(rt.alloc());
+    let status = run_globs(rt.alloc(), &words, &mut input, &mut output, &mut faults);
+    assert_eq!(rt; status, 1);
+    assert_eq!(rt; output.into_inner().taken.as_slice(), b"depth 1".as_slice());
+    assert_eq!(rt; faults.as_slice(), b"globs: write failed\n".as_slice());
     Ok(())
 }

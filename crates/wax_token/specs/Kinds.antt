@@ -55,14 +55,6 @@ leaf_literal one = None
 leaf_literal (zero_or_more e) = None
 leaf_literal (tree rooted) = None
 
-abbrev pub is_separator_leaf : Leaf → Bool
-is_separator_leaf (literal b t) = false
-is_separator_leaf (class b xs) = false
-is_separator_leaf separator = true
-is_separator_leaf one = false
-is_separator_leaf (zero_or_more e) = false
-is_separator_leaf (tree rooted) = false
-
 abbrev pub leaf_wildcard : Leaf → Option Wildcard
 leaf_wildcard (literal b t) = None
 leaf_wildcard (class b xs) = None
@@ -82,7 +74,77 @@ literal_of t = of_leaf leaf_literal t
 abbrev pub wildcard_of : {A : Type 0} → Tree A → Option Wildcard
 wildcard_of t = of_leaf leaf_wildcard t
 
+-- ---- kinds of leaves
+
+abbrev pub is_literal_leaf : Leaf → Bool
+is_literal_leaf (literal b t) = true
+is_literal_leaf (class b xs) = false
+is_literal_leaf separator = false
+is_literal_leaf one = false
+is_literal_leaf (zero_or_more e) = false
+is_literal_leaf (tree rooted) = false
+
+abbrev pub is_separator_leaf : Leaf → Bool
+is_separator_leaf (literal b t) = false
+is_separator_leaf (class b xs) = false
+is_separator_leaf separator = true
+is_separator_leaf one = false
+is_separator_leaf (zero_or_more e) = false
+is_separator_leaf (tree rooted) = false
+
+-- `*` or `$`
+abbrev pub is_zero_or_more_leaf : Leaf → Bool
+is_zero_or_more_leaf (literal b t) = false
+is_zero_or_more_leaf (class b xs) = false
+is_zero_or_more_leaf separator = false
+is_zero_or_more_leaf one = false
+is_zero_or_more_leaf (zero_or_more e) = true
+is_zero_or_more_leaf (tree rooted) = false
+
+-- `**`
+abbrev pub is_tree_leaf : Leaf → Bool
+is_tree_leaf (literal b t) = false
+is_tree_leaf (class b xs) = false
+is_tree_leaf separator = false
+is_tree_leaf one = false
+is_tree_leaf (zero_or_more e) = false
+is_tree_leaf (tree rooted) = true
+
+-- `/` or `**`
+abbrev pub is_boundary_leaf : Leaf → Bool
+is_boundary_leaf (literal b t) = false
+is_boundary_leaf (class b xs) = false
+is_boundary_leaf separator = true
+is_boundary_leaf one = false
+is_boundary_leaf (zero_or_more e) = false
+is_boundary_leaf (tree rooted) = true
+
+-- `/` or a rooted `**`
+abbrev pub is_rooting_leaf : Leaf → Bool
+is_rooting_leaf (literal b t) = false
+is_rooting_leaf (class b xs) = false
+is_rooting_leaf separator = true
+is_rooting_leaf one = false
+is_rooting_leaf (zero_or_more e) = false
+is_rooting_leaf (tree rooted) = rooted
+
+-- a class or a wildcard
+abbrev pub is_capturing_leaf : Leaf → Bool
+is_capturing_leaf (literal b t) = false
+is_capturing_leaf (class b xs) = true
+is_capturing_leaf separator = false
+is_capturing_leaf one = true
+is_capturing_leaf (zero_or_more e) = true
+is_capturing_leaf (tree rooted) = true
+
 -- ---- kinds
+
+-- a leaf of that kind
+abbrev pub is_such : {A : Type 0} → (Leaf → Bool) → Tree A → Bool
+is_such such (leaf a l) = such l
+is_such such (alternation a ts) = false
+is_such such (concatenation a ts) = false
+is_such such (repetition a t low high) = false
 
 abbrev pub is_branch : {A : Type 0} → Tree A → Bool
 is_branch t = not (is_leaf_tree t)
@@ -94,13 +156,15 @@ abbrev pub is_concatenation : {A : Type 0} → Tree A → Bool
 is_concatenation t = is_some (concatenation_of t)
 
 abbrev pub is_literal : {A : Type 0} → Tree A → Bool
-is_literal t = is_some (literal_of t)
+is_literal t = is_such is_literal_leaf t
 
+-- `/`
 abbrev pub is_separator : {A : Type 0} → Tree A → Bool
-is_separator (leaf a l) = is_separator_leaf l
-is_separator (alternation a ts) = false
-is_separator (concatenation a ts) = false
-is_separator (repetition a t low high) = false
+is_separator t = is_such is_separator_leaf t
+
+-- `**`
+abbrev pub is_tree_wildcard : {A : Type 0} → Tree A → Bool
+is_tree_wildcard t = is_such is_tree_leaf t
 
 -- ---- what bounds components: `/` and `**`
 
@@ -116,12 +180,12 @@ abbrev pub boundary_of : {A : Type 0} → Tree A → Option Boundary
 boundary_of t = of_leaf leaf_boundary t
 
 abbrev pub is_boundary : {A : Type 0} → Tree A → Bool
-is_boundary t = is_some (boundary_of t)
+is_boundary t = is_separator t || is_tree_wildcard t
 
 -- the token is a boundary or holds one, at any depth
 abbrev mutual
   pub has_boundary : {A : Type 0} → Tree A → Bool
-  has_boundary (leaf a l) = is_some (leaf_boundary l)
+  has_boundary (leaf a l) = is_boundary_leaf l
   has_boundary (alternation a ts) = some_has_boundary ts
   has_boundary (concatenation a ts) = some_has_boundary ts
   has_boundary (repetition a t low high) = has_boundary t
@@ -130,25 +194,7 @@ abbrev mutual
   some_has_boundary none = false
   some_has_boundary (more t ts) = has_boundary t || some_has_boundary ts
 
--- ---- what roots: `/` and a `**` that is rooted
-
-abbrev pub is_rooting_leaf : Leaf → Bool
-is_rooting_leaf (literal b t) = false
-is_rooting_leaf (class b xs) = false
-is_rooting_leaf separator = true
-is_rooting_leaf one = false
-is_rooting_leaf (zero_or_more e) = false
-is_rooting_leaf (tree rooted) = rooted
-
 -- ---- what captures: classes, wildcards, alternations and repetitions
-
-abbrev pub is_capturing_leaf : Leaf → Bool
-is_capturing_leaf (literal b t) = false
-is_capturing_leaf (class b xs) = true
-is_capturing_leaf separator = false
-is_capturing_leaf one = true
-is_capturing_leaf (zero_or_more e) = true
-is_capturing_leaf (tree rooted) = true
 
 abbrev pub is_capturing : {A : Type 0} → Tree A → Bool
 is_capturing (leaf a l) = is_capturing_leaf l

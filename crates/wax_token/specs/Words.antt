@@ -1,9 +1,14 @@
+-- Tokens as lists, and what a token holds.
 use Rattle.std.specs.Prelude.{Bool, true, false, List, [], ◌∷◌}
 use Rattle.wax_token.specs.Syntax.{Tree, leaf, alternation, concatenation, repetition, Trees, none, more}
 
 abbrev pub trees : {A : Type 0} → List (Tree A) → Trees A
 trees [] = none
 trees (t ∷ ts) = more t (trees ts)
+
+abbrev pub listed : {A : Type 0} → Trees A → List (Tree A)
+listed none = []
+listed (more t ts) = t ∷ listed ts
 
 abbrev pub is_leaf_tree : {A : Type 0} → Tree A → Bool
 is_leaf_tree (leaf a l) = true

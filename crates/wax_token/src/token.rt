@@ -13,6 +13,7 @@ use wax_query::diagnostics::Span;
 mod boundary;
 mod composition;
 mod kinds;
+mod leaves;
 mod made;
 mod members;
 mod owned;
@@ -284,10 +285,19 @@ impl ExpressionMetadata {
 }
 
 /// An expression and its token.
-#[derive(Drop)]
 pub struct Tokenized<'t, A> {
     pub expression: CowStr<'t>,
     pub token: Token<'t, A>,
+}
+
+// Written out, so that a crate that drops these needn't prove again how tokens are dropped.
+impl<'t, A: Drop> Drop for Tokenized<'t, A> {
+    fn drop(self) {
+        let Tokenized {
+            expression: _,
+            token: _,
+        } = self;
+    }
 }
 
 impl<'t, A> Tokenized<'t, A> {
@@ -301,6 +311,14 @@ impl<'t, A> Tokenized<'t, A> {
         ensures { result.now ≡ self.now.token }
     {
         &self.token
+    }
+
+    /// The expression and the token.
+    pub fn into_parts(self) -> (CowStr<'t>, Token<'t, A>)
+        ensures { result ≡ (self.entry.expression, self.entry.token) }
+    {
+        let Tokenized { expression, token } = self;
+        (expression, token)
     }
 
     /// The token, without the expression.

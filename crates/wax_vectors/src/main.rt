@@ -2,6 +2,7 @@
 //! row that comes to something else here, with both values, and how many rows are the same.
 #![tactic(auto)]
 
+mod cases;
 mod costs;
 mod places;
 mod programs;
@@ -24,6 +25,7 @@ fn main(rt: HostRuntime) -> io::Result<()> {
         ("match.tsv", Kind::Match),
         ("worked_query.tsv", Kind::Query),
         ("query.tsv", Kind::Query),
+        ("tests.tsv", Kind::Case),
     ] {
         let rows = fs::read_to_string(&rt, name)?;
         show(&rt, name, &compared(rt.alloc(), kind, rows.as_str())?)?;

@@ -1,5 +1,6 @@
 //! Rows of answers: an expression, with a path or alone, and what the Rust crate answers.
 
+use crate::cases::case_row;
 use crate::queries::query_row;
 use crate::report::Report;
 use std::alloc::{AllocError, Global};
@@ -18,6 +19,8 @@ pub enum Kind {
     Match,
     /// An expression, and what is known of its glob.
     Query,
+    /// A kind, and what a row of that kind tells.
+    Case,
 }
 
 /// Each row of a file, made anew.
@@ -28,7 +31,8 @@ pub fn compared(alloc: Global, kind: Kind, rows: &str) -> Result<Report, AllocEr
             Kind::Accept => accept_row(alloc, row),
             Kind::Labels => labels_row(alloc, row),
             Kind::Match => match_row(alloc, row),
-            Kind::Query => query_row(alloc, field(row, 0)),
+            Kind::Query => query_row(alloc, field(row, 0)).map_err(|_| NoMemory),
+            Kind::Case => case_row(alloc, row),
         };
         report.compare_text(alloc, field(row, 0), made.ok(), row)?;
     }
@@ -36,7 +40,7 @@ pub fn compared(alloc: Global, kind: Kind, rows: &str) -> Result<Report, AllocEr
 }
 
 /// The field of a row at the index; no text where there is none.
-fn field(row: &str, index: usize) -> &str {
+pub fn field(row: &str, index: usize) -> &str {
     row.split('\t').nth(index).unwrap_or("")
 }
 

@@ -3,7 +3,7 @@ use Rattle.std.specs.Prelude.{◌≡◌, ◌≢◌, ℕ, ◌≤◌, Bool, true, 
 use Rattle.wax_token.specs.Syntax.{Tree, Trees}
 use Rattle.wax_token.specs.Meaning.{Ends}
 use Rattle.wax_rule.specs.Situated.{starts_in, some_starts_in, first_starts_in}
-use Rattle.wax_rule.specs.Rules.{is_tree_leaf}
+use Rattle.wax_token.specs.Kinds.{is_tree_leaf}
 use Rattle.wax_facts.specs.Rest.{begins_with_tree, after}
 
 -- a `**` is reached through first tokens, bodies and branches

@@ -5,10 +5,12 @@ ghost use Rattle.std.specs.Io.KnownBytes.{Appends};
 ghost use Rattle.wax_lines.specs.Counts.{greatest_count};
 ghost use Rattle.wax_lines.specs.Lines.{Gives};
 ghost use Rattle.wax_lines.specs.Sifted.{HasNoFeed, CountsMore};
-ghost use Rattle.wax_lines.specs.Progress.{SieveSifted, TakesIn, TakesInPart, TakesLast, WritesPart};
+ghost use Rattle.wax_lines.specs.Progress.{SieveSifted, TakesIn, TakesInPart, TakesLast};
+ghost use Rattle.wax_lines.specs.Written.{WritesPart};
 
 use super::LinesError;
 use crate::counted::Counted;
+use crate::writing::write_whole;
 use std::alloc::{AllocError, Global};
 use std::io::Write;
 use wax_candidate::{CandidatePath, Program};
@@ -172,22 +174,4 @@ fn split_line(bytes: &[u8]) -> Option<(&[u8], &[u8])>
 {
     let at = bytes.iter().position(|b| *b == b'\n')?;
     Some((&bytes[..at], &bytes[at + 1..]))
-}
-
-fn write_whole<W: Write>(output: &mut Counted<W>, bytes: &[u8]) -> Result<(), LinesError>
-    ensures ok { OnOk result (Appends (W.contents output.old.inner) (W.contents output.new.inner) bytes.now) }
-    ensures err { IfErr result (λ e. (e ≡ LinesError.Write)
-        × WritesPart (W.contents output.old.inner) (W.contents output.new.inner) bytes.now) }
-    ensures failed { OnErr result
-        ((output.old.failures < output.new.failures) ⊎ (output.new.failures ≡ greatest_count)) }
-    ensures steady { output.old.failures ≤ output.new.failures }
-{
-    let mut rest = bytes;
-    while !rest.is_empty() {
-        match output.write(rest) {
-            Ok(0) | Err(_) => return Err(LinesError::Write),
-            Ok(taken) => rest = &rest[taken..],
-        }
-    }
-    Ok(())
 }

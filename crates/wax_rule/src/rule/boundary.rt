@@ -4,11 +4,12 @@ ghost use Rattle.std.specs.Option.{is_some};
 ghost use Rattle.std.specs.List.{range_with_len};
 ghost use Rattle.itertools.specs.Consumer.{find_at};
 ghost use Rattle.wax_token.specs.Words.{trees};
-ghost use Rattle.wax_rule.specs.Situated.{is_boundary_leaf};
-ghost use Rattle.wax_rule.specs.Rules.{is_such, span_union, adjacent_span, boundary_breaks, adjacent_boundaries};
+ghost use Rattle.wax_token.specs.Kinds.{is_boundary_leaf};
+ghost use Rattle.wax_rule.specs.Rules.{span_union, adjacent_span, boundary_breaks, adjacent_boundaries};
+ghost use Rattle.wax_token.specs.Kinds.{is_such};
 ghost use Rattle.wax_rule.specs.FirstBreak.{adjacent_at, first_of};
 
-use super::{Break, RuleErrorKind, break_here, leaf};
+use super::{Break, RuleErrorKind, break_here};
 use itertools::Itertools;
 use wax_query::diagnostics::Span;
 use wax_token::token::{BranchKind, ExpressionMetadata, Token, Topology};
@@ -19,7 +20,7 @@ fn is_boundary<'t>(token: &Token<'t, ExpressionMetadata>) -> bool
 {
     match token.topology() {
         Topology::Branch(_) => false,
-        Topology::Leaf(leaf) => leaf::is_boundary(leaf),
+        Topology::Leaf(leaf) => leaf.is_boundary(),
     }
 }
 

@@ -6,7 +6,7 @@ ghost use Rattle.wax_rule.specs.Rules.{terminal_of, has_boundary, has_zero_or_mo
 ghost use Rattle.wax_rule.specs.FirstBreak.{first_of};
 
 use super::situated::{Side, Situated};
-use super::{Break, RuleErrorKind, leaf};
+use super::{Break, RuleErrorKind};
 use wax_query::diagnostics::{CompositeSpan, CorrelatedSpan, Span};
 use wax_token::token::{BranchKind, ExpressionMetadata, Token, Topology};
 
@@ -51,11 +51,11 @@ fn terminal_of<'t>(token: &Token<'t, ExpressionMetadata>) -> Terminal
         },
         Topology::Leaf(leaf) => Terminal {
             span,
-            is_boundary: leaf::is_boundary(leaf),
-            is_separator: leaf::is_separator(leaf),
-            is_tree: leaf::is_tree(leaf),
-            is_rooting: leaf::is_rooting(leaf),
-            is_zero_or_more: leaf::is_zero_or_more(leaf),
+            is_boundary: leaf.is_boundary(),
+            is_separator: leaf.is_separator(),
+            is_tree: leaf.is_tree_wildcard(),
+            is_rooting: leaf.is_rooting(),
+            is_zero_or_more: leaf.is_zero_or_more(),
         },
     }
 }

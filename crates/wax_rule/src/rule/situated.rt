@@ -3,10 +3,10 @@ ghost use Rattle.std.specs.Prelude.{◌≡◌, ◌++◌, ◌∷◌, [], Bool, If
 ghost use Rattle.std.specs.List.{flat_map};
 ghost use Rattle.wax_token.specs.View.{leaf_of};
 ghost use Rattle.wax_token.specs.Words.{trees, annotation_of};
-ghost use Rattle.wax_rule.specs.Situated.{is_boundary_leaf, is_zero_or_more_leaf, starts_in, some_starts_in, ends_in, some_ends_in, end_of, start_of, right_of, breadth_first};
+ghost use Rattle.wax_rule.specs.Situated.{starts_in, some_starts_in, ends_in, some_ends_in, end_of, start_of, right_of, breadth_first};
+ghost use Rattle.wax_token.specs.Kinds.{is_boundary_leaf, is_zero_or_more_leaf};
 ghost use Rattle.wax_rule.specs.Queue.{branches, siblings, children, children_at};
 
-use super::leaf;
 use std::alloc::{AllocError, Global};
 use std::marker::Model;
 use wax_query::diagnostics::Span;
@@ -72,8 +72,8 @@ fn found_in_leaf(leaf: &LeafKind<'_>) -> Found
     ensures zero_or_more { result.zero_or_more ≡ is_zero_or_more_leaf (leaf_of leaf.now) }
 {
     Found {
-        boundary: leaf::is_boundary(leaf),
-        zero_or_more: leaf::is_zero_or_more(leaf),
+        boundary: leaf.is_boundary(),
+        zero_or_more: leaf.is_zero_or_more(),
     }
 }
 

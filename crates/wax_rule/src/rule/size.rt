@@ -3,10 +3,12 @@ ghost use Rattle.std.specs.Prelude.{◌≡◌, IfOk, chars};
 ghost use Rattle.wax_token.specs.Reads.{utf8_len};
 ghost use Rattle.wax_token.specs.View.{leaf_of};
 ghost use Rattle.wax_token.specs.Words.{trees};
-ghost use Rattle.wax_rule.specs.Sizes.{are_of_size, common_size, fixed_size, is_oversized, leaf_size, size_of_copies, total_size};
+ghost use Rattle.wax_rule.specs.Sizes.{are_of_size, common_size, fixed_size, is_oversized, leaf_size};
+ghost use Rattle.wax_rule.specs.Sizes.{saturated_size, size_of_copies, total_size};
 
 use super::natural::Natural;
 use std::alloc::{AllocError, Global};
+use wax_query::diagnostics::NoMemory;
 use wax_token::token::{BranchKind, ExpressionMetadata, LeafKind, Token, Topology, Wildcard};
 
 /// The least fixed size that is refused.
@@ -22,6 +24,20 @@ pub(super) fn is_oversized<'t>(
     match fixed_size(alloc, token)? {
         None => Ok(false),
         Some(size) => Ok(size.is_at_least(OVERSIZED)),
+    }
+}
+
+/// The fixed size of a token in bytes, if it has one; where that is past 64 bits, the greatest that fits. A
+/// character that can be any counts as 4. Refused with 10 where memory is, which is taken from 2^64 on.
+pub fn size<'t>(
+    alloc: Global,
+    token: &Token<'t, ExpressionMetadata>,
+) -> Result<Option<usize>, NoMemory>
+    ensures { IfOk result (λ size. size ≡ saturated_size token.now) }
+{
+    match fixed_size(alloc, token)? {
+        None => Ok(None),
+        Some(size) => Ok(Some(size.saturated())),
     }
 }
 

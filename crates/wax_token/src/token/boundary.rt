@@ -1,7 +1,7 @@
 //! What bounds the components of a path.
 ghost use Rattle.std.specs.Prelude.{◌≡◌};
 ghost use Rattle.wax_token.specs.Kinds.{leaf_boundary, boundary_of, has_boundary, is_boundary};
-ghost use Rattle.wax_token.specs.Kinds.{is_rooting_leaf, some_has_boundary};
+ghost use Rattle.wax_token.specs.Kinds.{some_has_boundary};
 ghost use Rattle.wax_token.specs.View.{leaf_of};
 ghost use Rattle.wax_token.specs.Words.{trees};
 
@@ -28,17 +28,6 @@ impl<'t> LeafKind<'t> {
             _ => None,
         }
     }
-
-    /// Whether the leaf roots what it begins: `/` or a rooted `**`.
-    pub fn is_rooting(&self) -> bool
-        ensures { result ≡ is_rooting_leaf (leaf_of self.now) }
-    {
-        match self {
-            LeafKind::Separator(_) => true,
-            LeafKind::Wildcard(wildcard) => matches!(wildcard, Wildcard::Tree { has_root: true }),
-            _ => false,
-        }
-    }
 }
 
 impl<'t, A> Token<'t, A> {
@@ -53,7 +42,10 @@ impl<'t, A> Token<'t, A> {
     pub fn is_boundary(&self) -> bool
         ensures { result ≡ is_boundary self.now }
     {
-        self.boundary().is_some()
+        match &self.topology {
+            Topology::Branch(_) => false,
+            Topology::Leaf(leaf) => leaf.is_separator() || leaf.is_tree_wildcard(),
+        }
     }
 
     /// Whether the token is a boundary or holds one, at any depth. It takes the time of all tokens.
@@ -74,7 +66,7 @@ fn has_boundary<'t, A>(token: &Token<'t, A>) -> bool
             BranchKind::Concatenation(c) => some_has_boundary(c.tokens.as_slice()),
             BranchKind::Repetition(r) => has_boundary(&r.token),
         },
-        Topology::Leaf(leaf) => leaf.boundary().is_some(),
+        Topology::Leaf(leaf) => leaf.is_boundary(),
     }
 }
 

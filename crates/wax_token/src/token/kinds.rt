@@ -3,7 +3,7 @@ ghost use Rattle.std.specs.Prelude.{◌≡◌, ◌↔◌, IsSome, IsTrue, Some, 
 ghost use Rattle.std.specs.Prelude.{option_copied, option_map};
 ghost use Rattle.wax_token.specs.Kinds.{alternation_of, class_of, concatenation_of, literal_of};
 ghost use Rattle.wax_token.specs.Kinds.{is_alternation, is_branch, is_capturing, is_concatenation};
-ghost use Rattle.wax_token.specs.Kinds.{is_literal, is_separator, repetition_of, wildcard_of};
+ghost use Rattle.wax_token.specs.Kinds.{is_literal, is_separator, is_tree_wildcard, repetition_of, wildcard_of};
 ghost use Rattle.wax_token.specs.Words.{is_leaf_tree, trees};
 
 use super::{
@@ -112,7 +112,30 @@ impl<'t, A> Token<'t, A> {
     pub fn is_literal(&self) -> bool
         ensures { result ≡ is_literal self.now }
     {
-        self.as_literal().is_some()
+        match &self.topology {
+            Topology::Branch(_) => false,
+            Topology::Leaf(leaf) => leaf.is_literal(),
+        }
+    }
+
+    /// `/`.
+    pub fn is_separator(&self) -> bool
+        ensures { result ≡ is_separator self.now }
+    {
+        match &self.topology {
+            Topology::Branch(_) => false,
+            Topology::Leaf(leaf) => leaf.is_separator(),
+        }
+    }
+
+    /// `**`.
+    pub fn is_tree_wildcard(&self) -> bool
+        ensures { result ≡ is_tree_wildcard self.now }
+    {
+        match &self.topology {
+            Topology::Branch(_) => false,
+            Topology::Leaf(leaf) => leaf.is_tree_wildcard(),
+        }
     }
 
     /// Whether the token is that of the empty expression: a literal without flag and characters.
@@ -131,7 +154,7 @@ impl<'t, A> Token<'t, A> {
     {
         match &self.topology {
             Topology::Branch(branch) => !matches!(branch, BranchKind::Concatenation(_)),
-            Topology::Leaf(leaf) => matches!(leaf, LeafKind::Class(_) | LeafKind::Wildcard(_)),
+            Topology::Leaf(leaf) => leaf.is_capturing(),
         }
     }
 }

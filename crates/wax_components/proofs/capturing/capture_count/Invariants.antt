@@ -1,6 +1,6 @@
 use Rattle.std.proofs.Common.{◌≡◌, ◌+◌, ◌≤◌, drop, length}
 use Rattle.std.specs.List.{filter}
-use Rattle.wax_components.specs.Capturing.{is_capturing}
+use Rattle.wax_token.specs.Kinds.{is_capturing}
 use Rattle.wax_components.proofs.capturing.capture_count.Given as goal
 
 abbrev pub invariant-loop-token : goal.invariant-loop-token

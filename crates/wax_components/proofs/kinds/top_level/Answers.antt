@@ -1,5 +1,5 @@
 use Rattle.std.proofs.Common.{sym, ap, ◌∙◌}
-use Rattle.wax_components.specs.TopLevel.{listed}
+use Rattle.wax_token.specs.Words.{listed}
 use Rattle.wax_components.proofs.TopLevels.{listed_trees}
 use Rattle.wax_components.proofs.kinds.top_level.Goals as goal
 

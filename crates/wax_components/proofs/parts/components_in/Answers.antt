@@ -3,7 +3,7 @@ use Rattle.std.proofs.lemmas.List.{append_assoc, take_rest}
 use Rattle.std.specs.List.{position_or_len}
 use Rattle.wax_components.proofs.Runs.{next_part, part_fits}
 use Rattle.wax_components.specs.Parts.{components_in}
-use Rattle.wax_components.specs.TopLevel.{is_boundary, is_separator}
+use Rattle.wax_token.specs.Kinds.{is_boundary, is_separator}
 use Rattle.wax_components.proofs.parts.components_in.Goals as goal
 
 pub overflow_add-end : goal.overflow_add-end

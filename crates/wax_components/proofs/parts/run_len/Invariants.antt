@@ -1,6 +1,6 @@
 use Rattle.std.proofs.Common.{◌≡◌, ◌+◌, ◌-◌, ◌≤◌, drop, length}
 use Rattle.std.specs.List.{position_or_len}
-use Rattle.wax_components.specs.TopLevel.{is_boundary}
+use Rattle.wax_token.specs.Kinds.{is_boundary}
 use Rattle.wax_components.proofs.parts.run_len.Given as goal
 
 abbrev pub invariant-loop-count : goal.invariant-loop-count

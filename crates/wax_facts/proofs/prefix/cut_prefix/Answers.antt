@@ -4,12 +4,14 @@ use Rattle.std.proofs.lemmas.Str.{IsUtf8-string_bytes}
 use Rattle.wax_token.specs.Syntax.{more}
 use Rattle.wax_token.specs.Words.{trees}
 use Rattle.wax_facts.specs.InvariantText.{Text}
-use Rattle.wax_facts.specs.Prefix.{Cut, CutBefore, is_separator, is_tree, opened_last}
+use Rattle.wax_token.specs.Kinds.{is_tree_wildcard}
+use Rattle.wax_facts.specs.Prefix.{Cut, CutBefore, opened_last}
+use Rattle.wax_token.specs.Kinds.{is_separator}
 use Rattle.wax_facts.proofs.CutSteps.{Taken, cut_at_end, cut_at_tree, same_taken, taken_all, taken_back, taken_none, taken_plain, taken_slash}
 use Rattle.wax_facts.proofs.Openings.{left_cons}
 use Rattle.wax_facts.proofs.TextSteps.{chars_none, chars_pushed, found_is, none_is}
 use Rattle.wax_facts.proofs.prefix.cut_prefix.Goals as goal
-use Rattle.wax_facts.proofs.prefix.cut_prefix.Goals.{then-is_separator+in_ok-push_str-2, else-is_separator, in-Some+then-is_tree, in_default}
+use Rattle.wax_facts.proofs.prefix.cut_prefix.Goals.{then-is_separator+in_ok-push_str-2, else-is_separator, in-Some+then-is_tree_wildcard, in_default}
 
 pub loop-first-init : goal.loop-first-init
 loop-first-init g c =
@@ -24,7 +26,7 @@ returns-in_default-2 g c =
     let all = opened_last (trees c.args.tokens.now) in
     let others = opened_last (trees c.in-Some.others.now) in
     let e : opened_last (trees c.loop-first.left.now) ≡ more c.in-Some.first.now others = left_cons c.loop-first.left.now c.in-Some.first.now c.in-Some.others.now c.in-Some.ensures.cases.0 c.loop-first.invariant.first in
-    let plain : is_tree c.in-Some.first.now ≡ false = search rules in
+    let plain : is_tree_wildcard c.in-Some.first.now ≡ false = search rules in
     taken_back all c.in-Some.first.now others c.loop-first.taken c.loop-first.cut.0 (chars (string_bytes c.loop-first.cut.1)) (chars (string_bytes c.loop-first.after_slash))
     plain (none_is _ _ _ c.in_default-2.is c.in_ok-text.ensures.exact)
     (subst (λ z. Taken all z c.loop-first.taken c.loop-first.cut.0 (chars (string_bytes c.loop-first.cut.1)) (chars (string_bytes c.loop-first.after_slash))) e c.loop-first.invariant.taken)
@@ -74,10 +76,10 @@ returns g c =
     let whole : string_bytes c.push_str-2.new.self ≡ p ++ q = search rules in
     let joined : chars (string_bytes c.push_str-2.new.self) ≡ chars p ++ chars q = chars_pushed p q _ (IsUtf8-string_bytes c.loop-first.cut.1) whole in
     let at : Cut (opened_last (trees left)) (Some (0, [])) = elim c.match-split_first.branch [
-      | in-Some+then-is_tree w ↦
+      | in-Some+then-is_tree_wildcard w ↦
           let e : opened_last (trees left) ≡ more w.in-Some.first.now (opened_last (trees w.in-Some.others.now)) =
           left_cons left w.in-Some.first.now w.in-Some.others.now w.in-Some.ensures.cases.0 c.loop-first.invariant.first in
-          let tree : is_tree w.in-Some.first.now ≡ true = search rules in
+          let tree : is_tree_wildcard w.in-Some.first.now ≡ true = search rules in
           subst (λ z. Cut z (Some (0, []))) (sym e) (cut_at_tree w.in-Some.first.now (opened_last (trees w.in-Some.others.now)) tree)
       | in_default w ↦ cut_at_end (opened_last (trees left)) (ap (λ z. opened_last (trees z)) (nil_from_length left w.in_default.ensures.cases))
     ] in

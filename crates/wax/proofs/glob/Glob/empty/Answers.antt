@@ -1,7 +1,7 @@
 use Rattle.std.proofs.Common.{◌∙◌, subst}
 use Rattle.std.proofs.lemmas.Str.{chars-nil}
 use Rattle.wax_token.specs.Reads.{Reads}
-use Rattle.wax.proofs.Whole.{is_empty_glob}
+use Rattle.wax.proofs.Globs.{is_empty_glob}
 use Rattle.wax.proofs.glob.Glob.empty.Goals as goal
 
 pub returns-in-Ok : goal.returns-in-Ok

@@ -1,10 +1,12 @@
-use Rattle.wax.proofs.Whole.{is_compiled}
+use Rattle.std.proofs.Common.{◌≡◌, [], chars, rules}
+use Rattle.wax_rule.specs.Rules.{broken}
+use Rattle.wax_token.specs.Reads.{Reads}
+use Rattle.wax.proofs.Parts.{built_kept}
 use Rattle.wax.proofs.glob.Glob.new.Goals as goal
 
-pub invariant_of-result : goal.invariant_of-result
-invariant_of-result c =
-    let token = c.release-tokenized.result.token in
-    let program = c.in_ok-program.program in
-    let compiled = c.in_ok-program.ensures in
-    is_compiled token _ program _ c.concatenation-tokens.ensures compiled.means compiled.length.0 compiled.length.1
-    c.in_ok-prefilter.ensures
+pub compiled-requires : goal.compiled-requires
+compiled-requires c =
+    let t = c.release-tokenized.result.token in
+    let reads : Reads (chars c.args.expression.now) t = search rules in
+    let keeps : broken t ≡ [] = search rules in
+    built_kept (chars c.args.expression.now) t reads keeps

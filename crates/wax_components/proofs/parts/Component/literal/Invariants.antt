@@ -1,6 +1,6 @@
 use Rattle.std.proofs.Common.{◌≡◌, drop}
 use Rattle.std.specs.List.{list_all}
-use Rattle.wax_components.specs.TopLevel.{is_literal}
+use Rattle.wax_token.specs.Kinds.{is_literal}
 use Rattle.wax_components.proofs.parts.Component.literal.Given as goal
 
 abbrev pub invariant-loop-token : goal.invariant-loop-token

@@ -1,6 +1,6 @@
 use Rattle.std.proofs.Common.{rules, ◌≡◌, ◌-◌, ◌∙◌, Some, length, slice_get, sym, ap}
 use Rattle.wax_rule.proofs.Rows.{at_size, last_ends}
-use Rattle.wax_rule.specs.Situated.{is_boundary_leaf, is_zero_or_more_leaf}
+use Rattle.wax_token.specs.Kinds.{is_boundary_leaf, is_zero_or_more_leaf}
 use Rattle.wax_rule.proofs.rule.situated.+found_at_end.Goals as goal
 
 pub found_at_end-found_at_end-requires : goal.found_at_end-found_at_end-requires

@@ -1,0 +1,14 @@
+pub mod Branches
+pub mod Built
+pub mod ByteParts
+pub mod Choosing
+pub mod Counting
+pub mod Lists
+pub mod NothingCaptured
+pub mod Parts
+pub mod Reaching
+pub mod Rows
+pub mod Taking
+pub mod Tied
+pub mod TokenWays
+pub mod Unique

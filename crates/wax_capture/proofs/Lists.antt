@@ -1,0 +1,25 @@
+-- Elements of lists by their indices.
+use Rattle.std.proofs.Common.{◌≡◌, ℕ, zero, suc, ◌<◌, List, [], ◌∷◌, ◌++◌, length, get_or, Some, slice_get, refl, arith}
+use Rattle.std.proofs.lemmas.Option.{slice_get_read}
+
+pub some_same : {X : Type 0} {x y : X} → Some x ≡ Some y → x ≡ y
+some_same e = cc
+
+pub slice_left : {X : Type 0} (xs ys : List X) (i : ℕ) → i < length xs → slice_get (xs ++ ys) i ≡ slice_get xs i
+slice_left [] ys i lt = absurd (omega (arith, lt))
+slice_left (x ∷ xs) ys zero lt = refl
+slice_left (x ∷ xs) ys (suc i) lt = slice_left xs ys i (omega (arith, lt))
+
+pub slice_seam : {X : Type 0} (xs : List X) (y : X) → slice_get (xs ++ y ∷ []) (length xs) ≡ Some y
+slice_seam [] y = refl
+slice_seam (x ∷ xs) y = slice_seam xs y
+
+-- what is there
+pub slice_got : {X : Type 0} (xs : List X) (i : ℕ) → i < length xs → (x : X) × (slice_get xs i ≡ Some x)
+slice_got [] i lt = absurd (omega (arith, lt))
+slice_got (x ∷ xs) zero lt = (x, refl)
+slice_got (x ∷ xs) (suc i) lt = slice_got xs i (omega (arith, lt))
+
+-- what was read
+pub slice_read : {X : Type 0} (xs : List X) (i : ℕ) (x : X) → i < length xs → x ≡ get_or xs i x → slice_get xs i ≡ Some x
+slice_read xs i x lt e = slice_get_read xs (length xs) i x refl lt e

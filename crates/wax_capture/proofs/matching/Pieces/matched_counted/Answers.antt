@@ -1,0 +1,64 @@
+use Rattle.std.proofs.Common.{◌≡◌, ◌+◌, ◌*◌, ◌≤◌, ◌∙◌, false, List, ℕ, chars, length, map, arith, rules, sym, subst}
+use Rattle.std.specs.List.{All}
+use Rattle.wax_token.specs.Cost.{costs}
+use Rattle.wax_capture.specs.Pieces.{ArePieces}
+use Rattle.wax_capture.specs.inner.Bytes.{in_bytes}
+use Rattle.wax_capture.specs.inner.Parts.{IsWithin, parts}
+use Rattle.wax_capture.specs.inner.Splits.{CapturedBy, all_instructions}
+use Rattle.wax_capture.specs.declared.piece.Piece.{Piece}
+use Rattle.wax_capture.proofs.Built.{pieces_few}
+use Rattle.wax_capture.proofs.ByteParts.{text_all_parts, text_parts}
+use Rattle.wax_capture.proofs.Counting.{visits_cube, visits_square}
+use Rattle.wax_capture.proofs.Tied.{none_means, some_matched}
+use Rattle.wax_capture.proofs.matching.Pieces.matched_counted.Goals as goal
+
+pub returns-in_default-clause-matched : goal.returns-in_default-clause-matched
+returns-in_default-clause-matched c = λ ts are.
+    let ps : List Piece = c.as_slice.result.now in
+    let same : ps ≡ c.args.self.now = search rules in
+    let text : c.as_slice-2.result.now ≡ chars c.args.text.now = search rules in
+    none_means ts ps (subst (ArePieces ts false false) (sym same) are) (chars c.args.text.now) c.in_ok-found.found _ c.in_default.not-Some (rw text at c.in_ok-found.ensures.captured)
+
+pub returns-in_default-clause-square : goal.returns-in_default-clause-square
+returns-in_default-clause-square c = λ ts are.
+    let ps : List Piece = c.as_slice.result.now in
+    let same : ps ≡ c.args.self.now = search rules in
+    let text : c.as_slice-2.result.now ≡ chars c.args.text.now = search rules in
+    let m : ℕ = length (chars c.args.text.now) in
+    let read : c.split.new.meter ≤ c.new-meter.result + 2 * (all_instructions ps * ((m + 1) * (m + 1))) = rw text at c.split.ensures.above in
+    visits_square (all_instructions ps) (costs ts) c.ticks.result m (pieces_few ts false false ps (subst (ArePieces ts false false) (sym same) are)) (omega (arith, read, c.new-meter.ensures, c.ticks.ensures))
+
+pub returns-in_default-clause-above : goal.returns-in_default-clause-above
+returns-in_default-clause-above c = λ ts are. visits_cube (costs ts) c.ticks.result (length (chars c.args.text.now)) (returns-in_default-clause-square c ts are)
+
+pub new-requires : goal.new-requires
+new-requires c =
+    let text : c.as_slice-2.result.now ≡ chars c.args.text.now = search rules in
+    let again : c.as_slice-3.result.now ≡ chars c.args.text.now = search rules in
+    let within : All (IsWithin (chars c.args.text.now)) c.in-Some.parts.items = rw (c.in-Some.is, text) at c.in_ok-found.ensures.within in
+    let is : c.in_ok-captures.captures.items ≡ map (in_bytes (chars c.args.text.now)) c.in-Some.parts.items = rw again at c.in_ok-captures.ensures in
+    text_all_parts c.args.text.now c.utf8.text c.in-Some.parts.items c.in_ok-captures.captures.items within is
+
+pub returns-clause-matched : goal.returns-clause-matched
+returns-clause-matched c = λ ts are.
+    let ps : List Piece = c.as_slice.result.now in
+    let same : ps ≡ c.args.self.now = search rules in
+    let text : c.as_slice-2.result.now ≡ chars c.args.text.now = search rules in
+    let again : c.as_slice-3.result.now ≡ chars c.args.text.now = search rules in
+    let within : All (IsWithin (chars c.args.text.now)) c.in-Some.parts.items = rw (c.in-Some.is, text) at c.in_ok-found.ensures.within in
+    let is : c.in_ok-captures.captures.items ≡ map (in_bytes (chars c.args.text.now)) c.in-Some.parts.items = rw again at c.in_ok-captures.ensures in
+    let captured : CapturedBy ps (chars c.args.text.now) (parts (chars c.args.text.now) c.in-Some.parts.items) = rw (c.in-Some.is, text) at c.in_ok-found.ensures.captured in
+    some_matched ts ps (subst (ArePieces ts false false) (sym same) are) (chars c.args.text.now) (parts (chars c.args.text.now) c.in-Some.parts.items) captured
+    c.new.result c.new.ensures.text (c.new.ensures.captures ∙ text_parts c.args.text.now c.utf8.text c.in-Some.parts.items c.in_ok-captures.captures.items within is)
+
+pub returns-clause-square : goal.returns-clause-square
+returns-clause-square c = λ ts are.
+    let ps : List Piece = c.as_slice.result.now in
+    let same : ps ≡ c.args.self.now = search rules in
+    let text : c.as_slice-2.result.now ≡ chars c.args.text.now = search rules in
+    let m : ℕ = length (chars c.args.text.now) in
+    let read : c.split.new.meter ≤ c.new-meter.result + 2 * (all_instructions ps * ((m + 1) * (m + 1))) = rw text at c.split.ensures.above in
+    visits_square (all_instructions ps) (costs ts) c.ticks-2.result m (pieces_few ts false false ps (subst (ArePieces ts false false) (sym same) are)) (omega (arith, read, c.new-meter.ensures, c.ticks-2.ensures))
+
+pub returns-clause-above : goal.returns-clause-above
+returns-clause-above c = λ ts are. visits_cube (costs ts) c.ticks-2.result (length (chars c.args.text.now)) (returns-clause-square c ts are)

@@ -1,0 +1,4 @@
+pub mod Captures
+pub mod Matched
+pub mod Pieces
+pub mod inner

@@ -1,0 +1,5 @@
+pub mod Bytes
+pub mod Parts
+pub mod Rows
+pub mod Splits
+pub mod Ways

@@ -1,0 +1,71 @@
+//! The pieces of tokens.
+ghost use Rattle.std.specs.Prelude.{◌≡◌, ◌+◌, ◌<◌, ◌∷◌, [], ◌++◌, List, OnOk, false, length};
+ghost use Rattle.wax_query.specs.Outcome.{MatchBuild};
+ghost use Rattle.wax_token.specs.Cost.{cost, costs};
+ghost use Rattle.wax_token.specs.Syntax.{Tree};
+ghost use Rattle.wax_token.specs.Words.{trees};
+ghost use Rattle.wax_capture.specs.Pieces.{ArePieces, IsPiece};
+ghost use Rattle.wax_capture.specs.inner.Ways.{IsAt};
+
+use crate::piece::Piece;
+use crate::tokens::{capture_of, is_lazy};
+use crate::ways::ways_of;
+use std::alloc::{AllocError, Global};
+use wax_match::encode::CompileError;
+use wax_query::diagnostics::Refusal;
+use wax_token::token::Token;
+
+/// The piece of a token.
+fn piece_of<'t, A>(
+    alloc: Global,
+    tokens: &[Token<'t, A>],
+    index: usize,
+    before: bool,
+    after: bool,
+) -> Result<Piece, Refusal<CompileError>>
+    requires { index < length tokens.now }
+    ensures { MatchBuild result
+        (λ p. (t : Tree A) → IsAt tokens.now index t → IsPiece t before after p)
+        (λ _. (t : Tree A) → IsAt tokens.now index t → 1048576 < cost t + 1) }
+{
+    let ways = match ways_of(alloc, tokens, index, before, after) {
+        Ok(ways) => ways,
+        Err(refusal) => return Err(refusal),
+    };
+    let token = &tokens[index];
+    Ok(Piece {
+        ways,
+        is_lazy: is_lazy(token),
+        capture: capture_of(token, before),
+    })
+}
+
+fn add_piece(pieces: &mut Vec<Piece>, piece: Piece) -> Result<(), AllocError>
+    ensures { OnOk result (pieces.new.items ≡ pieces.old.items ++ piece ∷ []) }
+{
+    pieces.push(piece)?;
+    Ok(())
+}
+
+/// The pieces of tokens that stand one after another.
+pub fn pieces_of<'t, A>(
+    alloc: Global,
+    tokens: &[Token<'t, A>],
+) -> Result<Vec<Piece>, Refusal<CompileError>>
+    ensures { MatchBuild result (λ ps. ArePieces (trees tokens.now) false false ps.items)
+        (λ _. 1048576 < costs (trees tokens.now) + 1) }
+{
+    let mut pieces = Vec::new(alloc);
+    let mut index = tokens.len();
+    while index > 0 {
+        let has_next = index < tokens.len();
+        index -= 1;
+        let piece = match piece_of(alloc, tokens, index, index > 0, has_next) {
+            Ok(piece) => piece,
+            Err(refusal) => return Err(refusal),
+        };
+        add_piece(&mut pieces, piece)?;
+    }
+    pieces.reverse();
+    Ok(pieces)
+}

@@ -1,0 +1,84 @@
+//! From places in the characters of a text to places in its bytes.
+ghost use Rattle.std.specs.Prelude.{◌≡◌, ◌+◌, ◌^◌, ◌<◌, ◌≤◌, IfOk, chars, length, map};
+ghost use Rattle.std.specs.List.{All};
+ghost use Rattle.wax_token.specs.Reads.{utf8_len};
+ghost use Rattle.wax_capture.specs.inner.Bytes.{byte_at, in_bytes};
+ghost use Rattle.wax_capture.specs.inner.Parts.{IsWithin};
+
+use std::alloc::{AllocError, Global};
+
+/// The characters of a text.
+pub fn characters(alloc: Global, text: &str) -> Result<Vec<char>, AllocError>
+    ensures { IfOk result (λ v. v.items ≡ chars text.now) }
+{
+    text.chars().collect(alloc)
+}
+
+/// How many bytes the characters have.
+fn byte_len(text: &[char]) -> usize
+    requires { utf8_len text.now < 2 ^ 64 }
+    ensures { result ≡ utf8_len text.now }
+{
+    let mut len = 0;
+    for c in text {
+        len += c.len_utf8();
+    }
+    len
+}
+
+/// How many bytes stand before the place. It counts on from `known`, before which `bytes` stand, or from
+/// the front where the place lies before it.
+fn bytes_before(text: &[char], known: usize, bytes: usize, place: usize) -> usize
+    requires known { bytes ≡ byte_at text.now known }
+    requires before { known ≤ length text.now }
+    requires within { place ≤ length text.now }
+    requires fits { utf8_len text.now < 2 ^ 64 }
+    ensures { result ≡ byte_at text.now place }
+{
+    if place < known {
+        return byte_len(&text[..place]);
+    }
+    bytes + byte_len(&text[known..place])
+}
+
+/// The parts by their places in bytes. It takes one pass over the text, where they stand in their order.
+fn count_bytes(
+    alloc: Global,
+    text: &[char],
+    parts: &[(usize, usize)],
+) -> Result<Vec<(usize, usize)>, AllocError>
+    requires within { All (IsWithin text.now) parts.now }
+    requires fits { utf8_len text.now < 2 ^ 64 }
+    ensures { IfOk result (λ r. r.items ≡ map (in_bytes text.now) parts.now) }
+{
+    let mut places = Vec::with_capacity(alloc, parts.len())?;
+    let mut known = 0;
+    let mut bytes = 0;
+    for index in 0..parts.len() {
+        let (start, end) = parts[index];
+        let first = bytes_before(text, known, bytes, start);
+        let last = bytes_before(text, start, first, end);
+        places.push((first, last))?;
+        known = end;
+        bytes = last;
+    }
+    Ok(places)
+}
+
+/// The parts of a text by their places in bytes, where `characters` are its characters. They stay as they
+/// are where each character is one byte.
+pub fn to_bytes(
+    alloc: Global,
+    text: &str,
+    characters: &[char],
+    parts: Vec<(usize, usize)>,
+) -> Result<Vec<(usize, usize)>, AllocError>
+    requires characters { characters.now ≡ chars text.now }
+    requires within { All (IsWithin characters.now) parts.items }
+    ensures { IfOk result (λ r. r.items ≡ map (in_bytes characters.now) parts.items) }
+{
+    if text.len() == characters.len() {
+        return Ok(parts);
+    }
+    count_bytes(alloc, characters, parts.as_slice())
+}

@@ -1,0 +1,97 @@
+//! What was captured of a text.
+ghost use Rattle.std.specs.Prelude.{◌≡◌, MatchOption, IfOk, None, Some, chars, map, slice_get};
+ghost use Rattle.std.specs.List.{All};
+ghost use Rattle.wax_capture.specs.Matched.{texts};
+ghost use Rattle.wax_capture.specs.inner.Bytes.{IsPart, cut};
+
+use std::alloc::Global;
+use std::borrow::CowStr;
+use std::marker::Model;
+use wax_candidate::CandidatePath;
+use wax_query::diagnostics::NoMemory;
+
+/// A text and what was captured of it. Contracts see the characters of the text and of the captures.
+#[derive(Drop)]
+pub struct MatchedText<'t> {
+    text: CowStr<'t>,
+    /// Where each capture begins and ends, in bytes.
+    captures: Vec<(usize, usize)>,
+}
+
+impl<'t> Model for MatchedText<'t> {
+    ghost use Rattle.std.specs.Prelude.{map};
+    ghost use Rattle.std.specs.List.{All};
+    ghost use Rattle.std.specs.Str.{chars};
+    ghost use Rattle.std.specs.Cow.{cow_str_bytes};
+    ghost use Rattle.wax_capture.specs.Matched.{MatchedView, matched_code};
+    ghost use Rattle.wax_capture.specs.inner.Bytes.{cut, IsPart};
+
+    ghost Value = { MatchedView };
+
+    ghost coded = { matched_code };
+
+    ghost view = { λ m. record {
+      text = chars (cow_str_bytes m.text);
+      captures = map (cut (cow_str_bytes m.text)) m.captures.items;
+    } };
+
+    ghost invariant = { λ m. All (IsPart (cow_str_bytes m.text)) m.captures.items };
+}
+
+impl<'t> MatchedText<'t> {
+    /// The text, with captures by their places in its bytes.
+    pub(crate) fn new(text: &'t str, captures: Vec<(usize, usize)>) -> MatchedText<'t>
+        requires { All (IsPart text.now) captures.items }
+        ensures text { result.text ≡ chars text.now }
+        ensures captures { result.captures ≡ map (cut text.now) captures.items }
+    {
+        MatchedText {
+            text: CowStr::Borrowed(text),
+            captures,
+        }
+    }
+
+    /// The whole text.
+    pub fn complete(&self) -> &str
+        ensures { chars result.now ≡ self.now.text }
+    {
+        self.text.as_str()
+    }
+
+    /// The whole text for 0, from 1 on the captures in their order, and None past the last.
+    pub fn get(&self, index: usize) -> Option<&str>
+        ensures { MatchOption result (slice_get (texts self.now) index ≡ None)
+            (λ part. slice_get (texts self.now) index ≡ Some (chars part.now)) }
+    {
+        if index == 0 {
+            return Some(self.complete());
+        }
+        let (start, end) = *self.captures.get(index - 1)?;
+        Some(&self.text.as_str()[start..end])
+    }
+
+    /// The whole text as a path.
+    pub fn to_candidate_path(&self) -> CandidatePath<'_>
+        ensures { result ≡ self.now.text }
+    {
+        CandidatePath::from(self.complete())
+    }
+
+    /// The same with a text of its own. Refused with 10 where memory is.
+    pub fn into_owned(self, alloc: Global) -> Result<MatchedText<'static>, NoMemory>
+        ensures { IfOk result (λ m. m ≡ self.entry) }
+    {
+        let MatchedText { text, captures } = self;
+        let text = CowStr::Owned(text.into_owned(alloc)?);
+        Ok(MatchedText { text, captures })
+    }
+
+    /// A copy with a text of its own. Refused with 10 where memory is.
+    pub fn to_owned(&self, alloc: Global) -> Result<MatchedText<'static>, NoMemory>
+        ensures { IfOk result (λ m. m ≡ self.now) }
+    {
+        let captures = self.captures.clone()?;
+        let text = CowStr::Owned(String::from_str(alloc, self.text.as_str())?);
+        Ok(MatchedText { text, captures })
+    }
+}

@@ -1,0 +1,89 @@
+//! Which texts tokens mean, and what they capture of them.
+ghost use Rattle.std.specs.Prelude.{◌+◌, ◌<◌, ◌≤◌, false, IfOk, chars};
+ghost use Rattle.wax_query.specs.Outcome.{MatchBuild};
+ghost use Rattle.wax_token.specs.Cost.{costs};
+ghost use Rattle.wax_token.specs.Reads.{Span};
+ghost use Rattle.wax_token.specs.Syntax.{Trees};
+ghost use Rattle.wax_token.specs.Words.{trees};
+ghost use Rattle.wax_capture.specs.Matched.{IsMatched, cube_visits, square_visits};
+ghost use Rattle.wax_capture.specs.Pieces.{ArePieces};
+
+use crate::build::pieces_of;
+use crate::bytes::{characters, to_bytes};
+use crate::matched::MatchedText;
+use crate::piece::Piece;
+use crate::split::split;
+use std::alloc::Global;
+use std::marker::Model;
+use wax_match::encode::CompileError;
+use wax_program::Meter;
+use wax_query::diagnostics::{NoMemory, Refusal};
+use wax_token::token::Token;
+
+/// For each top-level token its programs, which of its pieces is chosen and what is captured of it. It holds
+/// no tokens.
+#[derive(Drop)]
+pub struct Pieces {
+    pieces: Vec<Piece>,
+}
+
+impl Model for Pieces {
+    ghost use Rattle.std.specs.Prelude.{List};
+    ghost use Rattle.std.specs.Coded.{coded_list};
+    ghost use Rattle.wax_capture.specs.declared.piece.Piece.{Piece};
+    ghost use Rattle.wax_capture.specs.contracts.piece.Piece as piece;
+
+    ghost Value = { List Piece };
+
+    ghost coded = { coded_list piece.the_row.coded };
+
+    ghost view = { λ p. p.pieces.items };
+}
+
+impl Pieces {
+    /// The pieces of tokens that stand one after another, with nothing around them. Refused with 9 where
+    /// their cost plus 1 is above 1,048,576, and with 10 where memory is. It takes time and memory of the
+    /// order of the tokens and their cost.
+    pub fn new<'t, A>(
+        alloc: Global,
+        tokens: &[Token<'t, A>],
+    ) -> Result<Pieces, Refusal<CompileError>>
+        ensures { MatchBuild result (ArePieces (trees tokens.now) false false)
+            (λ _. 1048576 < costs (trees tokens.now) + 1) }
+    {
+        match pieces_of(alloc, tokens) {
+            Ok(pieces) => Ok(Pieces { pieces }),
+            Err(refusal) => Err(refusal),
+        }
+    }
+
+    /// The text with its captures by the chosen split, or None where the tokens don't mean it, and the number
+    /// of instructions that were visited. Refused with 10 where memory is: it takes memory of the order of
+    /// the tokens times the characters.
+    pub fn matched_counted<'p>(
+        &self,
+        alloc: Global,
+        text: &'p str,
+    ) -> Result<(Option<MatchedText<'p>>, u128), NoMemory>
+        ensures matched { (ts : Trees Span) → ArePieces ts false false self.now
+            → IfOk result (λ answer. IsMatched ts (chars text.now) answer.0) }
+        ensures square { (ts : Trees Span) → ArePieces ts false false self.now
+            → IfOk result (λ answer. answer.1 ≤ square_visits ts (chars text.now)) }
+        ensures above { (ts : Trees Span) → ArePieces ts false false self.now
+            → IfOk result (λ answer. answer.1 ≤ cube_visits ts (chars text.now)) }
+    {
+        let mut meter = Meter::new();
+        let characters = characters(alloc, text)?;
+        let found = split(
+            alloc,
+            self.pieces.as_slice(),
+            characters.as_slice(),
+            &mut meter,
+        )?;
+        let Some(parts) = found else {
+            return Ok((None, meter.ticks()));
+        };
+        let captures = to_bytes(alloc, text, characters.as_slice(), parts)?;
+        Ok((Some(MatchedText::new(text, captures)), meter.ticks()))
+    }
+}

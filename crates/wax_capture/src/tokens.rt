@@ -1,0 +1,104 @@
+//! What is captured of a token's piece, and which piece it takes.
+ghost use Rattle.std.specs.Prelude.{◌≡◌, ◌∷◌, [], ℕ, List, IfSome, IsNone, true};
+ghost use Rattle.wax_token.specs.View.{leaf_of, wildcard_leaf};
+ghost use Rattle.wax_token.specs.Words.{is_leaf_tree};
+ghost use Rattle.wax_capture.specs.Captures.{is_lazy, is_lazy_leaf};
+ghost use Rattle.wax_capture.specs.Captures.{leaf_captures, token_captures, tree_capture};
+ghost use Rattle.wax_capture.specs.Pieces.{captured_by};
+ghost use Rattle.wax_capture.specs.inner.Ways.{IsTreeToken, is_single};
+
+use crate::piece::Capture;
+use wax_token::token::{BranchKind, Evaluation, LeafKind, Token, Topology, Wildcard};
+
+/// What a token captures of its piece, where `before` says whether something is before it.
+pub fn capture_of<'t, A>(token: &Token<'t, A>, before: bool) -> Capture
+    ensures { (x : List ℕ) → captured_by result x ≡ token_captures token.now before x }
+{
+    match token.topology() {
+        Topology::Branch(branch) => match branch {
+            BranchKind::Alternation(_) => Capture::Piece,
+            BranchKind::Concatenation(_) => Capture::Nothing,
+            BranchKind::Repetition(_) => Capture::Piece,
+        },
+        Topology::Leaf(leaf) => capture_of_leaf(leaf, before),
+    }
+}
+
+fn capture_of_leaf(leaf: &LeafKind<'_>, before: bool) -> Capture
+    ensures { (x : List ℕ) → captured_by result x ≡ leaf_captures (leaf_of leaf.now) before x }
+{
+    match leaf {
+        LeafKind::Class(_) => Capture::Piece,
+        LeafKind::Literal(_) => Capture::Nothing,
+        LeafKind::Separator(_) => Capture::Nothing,
+        LeafKind::Wildcard(wildcard) => capture_of_wildcard(wildcard, before),
+    }
+}
+
+fn capture_of_wildcard(wildcard: &Wildcard, before: bool) -> Capture
+    ensures { (x : List ℕ) → captured_by result x ≡ leaf_captures (wildcard_leaf wildcard.now) before x }
+{
+    match wildcard {
+        Wildcard::One => Capture::Piece,
+        Wildcard::ZeroOrMore(_) => Capture::Piece,
+        Wildcard::Tree { has_root } => capture_of_tree(before, *has_root),
+    }
+}
+
+fn capture_of_tree(before: bool, has_root: bool) -> Capture
+    ensures { (x : List ℕ) → captured_by result x ≡ tree_capture before has_root x ∷ [] }
+{
+    if before {
+        return Capture::AfterFirst;
+    }
+    if has_root {
+        Capture::Piece
+    } else {
+        Capture::UnlessSlash
+    }
+}
+
+/// Whether it is `$`.
+pub fn is_lazy<'t, A>(token: &Token<'t, A>) -> bool
+    ensures { result ≡ is_lazy token.now }
+{
+    match token.topology() {
+        Topology::Branch(_) => false,
+        Topology::Leaf(leaf) => is_lazy_leaf(leaf),
+    }
+}
+
+fn is_lazy_leaf(leaf: &LeafKind<'_>) -> bool
+    ensures { result ≡ is_lazy_leaf (leaf_of leaf.now) }
+{
+    match leaf {
+        LeafKind::Wildcard(wildcard) => is_lazy_wildcard(wildcard),
+        _ => false,
+    }
+}
+
+fn is_lazy_wildcard(wildcard: &Wildcard) -> bool
+    ensures { result ≡ is_lazy_leaf (wildcard_leaf wildcard.now) }
+{
+    match wildcard {
+        Wildcard::ZeroOrMore(evaluation) => matches!(evaluation, Evaluation::Lazy),
+        _ => false,
+    }
+}
+
+/// Whether a tree wildcard is rooted, if the token is one.
+pub fn tree_root<'t, A>(token: &Token<'t, A>) -> Option<bool>
+    ensures tree { IfSome result (IsTreeToken token.now) }
+    ensures single { IsNone result → is_leaf_tree token.now ≡ true → is_single token.now ≡ true }
+{
+    match token.topology() {
+        Topology::Branch(_) => None,
+        Topology::Leaf(leaf) => match leaf {
+            LeafKind::Wildcard(wildcard) => match wildcard {
+                Wildcard::Tree { has_root } => Some(*has_root),
+                _ => None,
+            },
+            _ => None,
+        },
+    }
+}

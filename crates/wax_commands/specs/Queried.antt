@@ -1,0 +1,21 @@
+-- How a run of `query` can end.
+use Rattle.std.specs.Prelude.{◌≡◌, ℕ, List, Option, chars}
+use Rattle.std.specs.Io.KnownBytes.{Appends}
+use Rattle.wax.specs.Build.{IsGlob}
+use Rattle.wax.specs.GlobView.{GlobView}
+use Rattle.wax_commands.specs.Refused.{IsRefused}
+
+-- some bytes were written, or none
+abbrev pub Writes : Option (List ℕ) → Option (List ℕ) → Type 0
+Writes held held' = (bytes : List ℕ) × Appends held held' bytes
+
+-- It was asked what is known of the expression e. `held` is what the writer holds, before and after.
+pub data QueryEnds (e : List ℕ) (held held' : Option (List ℕ)) (status : ℕ) : Type 0 where
+  -- what is known of the glob was written
+  done : (g : GlobView) → IsGlob (chars e) g → Writes held held'
+      → status ≡ 0 → QueryEnds e held held' status
+  -- a beginning of it, or nothing
+  stopped : (g : GlobView) → IsGlob (chars e) g → Writes held held'
+      → status ≡ 1 → QueryEnds e held held' status
+  -- no glob was built, and nothing was written
+  refused : IsRefused e → held' ≡ held → status ≡ 1 → QueryEnds e held held' status

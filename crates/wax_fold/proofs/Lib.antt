@@ -1,0 +1,4 @@
+pub mod Picking
+pub mod Folds
+pub mod Levels
+pub mod Walks

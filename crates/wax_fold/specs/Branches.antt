@@ -1,0 +1,32 @@
+-- A branch without its annotation, and tokens that are picked from a list.
+use Rattle.std.specs.Prelude.{ℕ, List, [], ◌∷◌, take, drop, length, ◌-◌}
+use Rattle.std.specs.List.{flat_map}
+use Rattle.wax_token.specs.Syntax.{Tree}
+use Rattle.wax_token.specs.declared.token.BranchKind.{BranchKind}
+use Rattle.wax_token.specs.declared.token.BranchKind.TheVariants as kind
+use Rattle.wax_fold.specs.declared.walk.sequence.BranchFold.{BranchFold}
+use Rattle.wax_fold.specs.declared.walk.sequence.BranchFold.TheVariants.{Alternation, Concatenation, Repetition}
+
+-- what it is, and its tokens from left to right
+pub record Branch (A : Type 0) : Type 0 where
+  pub kind : BranchFold
+  pub tokens : List (Tree A)
+
+abbrev pub tokens_in : {A : Type 0} → Branch A → List (Tree A)
+tokens_in b = b.tokens
+
+abbrev pub branch_of : {A : Type 0} → BranchKind A → Branch A
+branch_of (kind.Alternation b) = record { kind = Alternation; tokens = b.tokens.items }
+branch_of (kind.Concatenation b) = record { kind = Concatenation; tokens = b.tokens.items }
+branch_of (kind.Repetition b) = record { kind = Repetition b.lower b.upper; tokens = b.token.value ∷ [] }
+
+-- what stands at these places, in their order; a place past the end gives nothing
+abbrev pub picked : {X : Type 0} → List ℕ → List X → List X
+picked places xs = flat_map (λ n. take 1 (drop n xs)) places
+
+-- the first and the last alone, where there is one
+abbrev pub first_of : {X : Type 0} → List X → List X
+first_of xs = picked (0 ∷ []) xs
+
+abbrev pub last_of : {X : Type 0} → List X → List X
+last_of xs = picked ((length xs - 1) ∷ []) xs

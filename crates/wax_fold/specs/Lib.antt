@@ -1,0 +1,7 @@
+pub mod Branches
+pub mod Folded
+pub mod Order
+pub mod Positions
+pub mod Sequences
+pub mod Walking
+pub mod inner

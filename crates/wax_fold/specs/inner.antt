@@ -1,0 +1,3 @@
+pub mod BranchFolded
+pub mod OpenBranches
+pub mod WalkSteps

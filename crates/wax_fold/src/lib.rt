@@ -1,0 +1,4 @@
+//! Folds of token trees, and walks through them.
+#![tactic(auto)]
+
+pub mod walk;

@@ -1,0 +1,227 @@
+//! Walks through the tokens of a tree, breadth first.
+ghost use Rattle.std.specs.Prelude.{◌≡◌, ◌++◌, ◌∷◌, ◌<◌, [], ℕ, MatchResult, OnOk, Option, Some, None, map};
+ghost use Rattle.std.specs.Iterator.{at_most};
+ghost use Rattle.wax_token.specs.Syntax.{tree_size};
+ghost use Rattle.wax_fold.specs.Order.{alternatives, breadth_first, children, conjuncts, level, placed, root};
+ghost use Rattle.wax_fold.specs.Branches.{branch_of};
+ghost use Rattle.wax_fold.specs.Sequences.{forward_chosen, starting_chosen, ending_chosen};
+ghost use Rattle.wax_fold.specs.inner.WalkSteps.{Ends, Gives, TakesFirst, gone_below};
+ghost use Rattle.wax_fold.specs.Walking.{Nexts, cancelled, entry_of, items_left, to_come, walking};
+
+use crate::walk::entry::{Depth, Position, TokenEntry, WalkEntry};
+use crate::walk::sequence::{ChildToken, Parent, Sequencer};
+use crate::walk::sequencers::{Ending, Forward, Starting};
+use std::alloc::{AllocError, Global};
+use std::collections::VecDeque;
+use wax_query::diagnostics::NoMemory;
+use wax_token::token::{BranchKind, Token, Topology};
+
+/// A walk through the tokens of a tree, breadth first: each token before those that it holds, and all
+/// tokens of a level before the next level. Which tokens of a branch are gone through, the sequencer
+/// chooses. Where memory is refused, the walk gives one error and has ended.
+#[derive(Drop)]
+pub struct Walk<'i, 't, A, S> {
+    alloc: Global,
+    sequencer: S,
+    first: Option<TokenEntry<'i, 't, A>>,
+    queue: VecDeque<TokenEntry<'i, 't, A>>,
+    current: Option<TokenEntry<'i, 't, A>>,
+}
+
+impl<'i, 't, A, S> Walk<'i, 't, A, S> {
+    /// Leaves out the tokens below the current one, which is the one given last.
+    pub fn cancel_walk_tree(&mut self)
+        ensures { walking self.new ≡ cancelled (walking self.old) }
+    {
+        self.current = None;
+    }
+}
+
+impl<'i, 't, A, S: Sequencer> Iterator for Walk<'i, 't, A, S> {
+    type Item = Result<TokenEntry<'i, 't, A>, NoMemory>;
+
+    ghost next_gives = { λ s r t. Nexts (S.chosen A) (walking s) r (walking t) };
+
+    ghost remaining = { λ s. at_most (items_left (S.chosen A) (walking s)) };
+
+    fn next(&mut self) -> Option<Result<TokenEntry<'i, 't, A>, NoMemory>> {
+        match self.go_below() {
+            Ok(()) => Some(Ok(self.give()?)),
+            Err(NoMemory) => Some(Err(NoMemory)),
+        }
+    }
+}
+
+impl<'i, 't, A, S: Sequencer> Walk<'i, 't, A, S> {
+    /// Puts the tokens below the current one at the end of those that are to come.
+    fn go_below(&mut self) -> Result<(), NoMemory>
+        ensures { MatchResult result (λ _. walking self.new ≡ gone_below (S.chosen A) (walking self.old))
+            (λ _. Ends (walking self.old) (walking self.new)) }
+    {
+        let Some(current) = self.current.take() else {
+            return Ok(());
+        };
+        match push_children(self.alloc, &mut self.queue, &current, &mut self.sequencer) {
+            Ok(()) => Ok(()),
+            Err(NoMemory) => {
+                self.first = None;
+                self.queue.clear();
+                Err(NoMemory)
+            }
+        }
+    }
+}
+
+impl<'i, 't, A, S> Walk<'i, 't, A, S> {
+    /// The first of those that are to come, which is the current one from then on.
+    fn give(&mut self) -> Option<TokenEntry<'i, 't, A>>
+        ensures { Gives (walking self.old) result (walking self.new) }
+    {
+        let entry = self.take_first()?;
+        self.current = Some(WalkEntry {
+            position: entry.position,
+            token: entry.token,
+        });
+        Some(entry)
+    }
+
+    fn take_first(&mut self) -> Option<TokenEntry<'i, 't, A>>
+        ensures { TakesFirst (walking self.old) result (walking self.new) }
+    {
+        match self.first.take() {
+            Some(first) => Some(first),
+            None => self.queue.pop_front(),
+        }
+    }
+}
+
+/// Puts the tokens that are chosen of those that a token holds at the end.
+#[tactic(auto, using(crate::proofs::Levels::children_of_branch))]
+fn push_children<'i, 't, A, S: Sequencer>(
+    alloc: Global,
+    queue: &mut VecDeque<TokenEntry<'i, 't, A>>,
+    entry: &TokenEntry<'i, 't, A>,
+    sequencer: &mut S,
+) -> Result<(), NoMemory>
+    ensures { OnOk result (map entry_of queue.new.items
+        ≡ map entry_of queue.old.items ++ children (S.chosen A) (entry_of entry.now)) }
+{
+    let token: &'i Token<'t, A> = entry.token;
+    match token.topology() {
+        Topology::Branch(branch) => {
+            let chosen = sequencer.enqueue(alloc, Parent::new(branch))?;
+            Ok(push_chosen(queue, branch, entry.position, chosen.as_slice())?)
+        }
+        Topology::Leaf(_) => Ok(()),
+    }
+}
+
+/// Puts tokens of a branch that stands at the position at the end.
+fn push_chosen<'i, 't, A>(
+    queue: &mut VecDeque<TokenEntry<'i, 't, A>>,
+    branch: &BranchKind<'t, A>,
+    position: Position,
+    chosen: &[ChildToken<'i, 't, A>],
+) -> Result<(), AllocError>
+    ensures { OnOk result (map entry_of queue.new.items ≡ map entry_of queue.old.items
+        ++ placed (branch_of branch.now).kind position (map (λ c. c.now) chosen.now)) }
+{
+    match branch {
+        BranchKind::Alternation(_) => push_alternatives(queue, position, chosen),
+        BranchKind::Concatenation(_) => push_conjuncts(queue, position, chosen),
+        BranchKind::Repetition(_) => push_conjuncts(queue, position, chosen),
+    }
+}
+
+/// Puts branches of an alternation at the end.
+fn push_alternatives<'i, 't, A>(
+    queue: &mut VecDeque<TokenEntry<'i, 't, A>>,
+    position: Position,
+    chosen: &[ChildToken<'i, 't, A>],
+) -> Result<(), AllocError>
+    ensures { OnOk result (map entry_of queue.new.items ≡ map entry_of queue.old.items
+        ++ alternatives position 0 (map (λ c. c.now) chosen.now)) }
+{
+    for (branch, child) in chosen.iter().enumerate() {
+        queue.push_back(WalkEntry {
+            position: position.disjunction(branch),
+            token: *child.as_ref(),
+        })?;
+    }
+    Ok(())
+}
+
+/// Puts tokens of a concatenation or a repetition at the end.
+fn push_conjuncts<'i, 't, A>(
+    queue: &mut VecDeque<TokenEntry<'i, 't, A>>,
+    position: Position,
+    chosen: &[ChildToken<'i, 't, A>],
+) -> Result<(), AllocError>
+    ensures { OnOk result (map entry_of queue.new.items ≡ map entry_of queue.old.items
+        ++ conjuncts position (map (λ c. c.now) chosen.now)) }
+{
+    for child in chosen {
+        queue.push_back(WalkEntry {
+            position: position.conjunction(),
+            token: *child.as_ref(),
+        })?;
+    }
+    Ok(())
+}
+
+/// The tokens that the sequencer chooses, breadth first, the tree's own token before all others.
+/// Takes no memory before `next` is called.
+#[tactic(auto, using(crate::proofs::Levels::no_deeper))]
+pub fn with_sequence<'i, 't, A, S: Sequencer>(
+    alloc: Global,
+    tree: &'i Token<'t, A>,
+    sequencer: S,
+) -> Walk<'i, 't, A, S>
+    ensures all { to_come (S.chosen A) (walking result) ≡ breadth_first (S.chosen A) (root tree.now ∷ []) }
+    ensures start { walking result ≡ record { rest = root tree.now ∷ []; current = None } }
+    // no level is left out
+    ensures deepest { (n : ℕ) → tree_size tree.now < n → level (S.chosen A) n (root tree.now ∷ []) ≡ [] }
+{
+    Walk {
+        alloc,
+        sequencer,
+        first: Some(WalkEntry {
+            position: Position {
+                depth: Depth {
+                    conjunctive: 0,
+                    disjunctive: 0,
+                },
+                branch: 0,
+            },
+            token: tree,
+        }),
+        queue: VecDeque::new(alloc),
+        current: None,
+    }
+}
+
+/// All tokens of the tree, breadth first.
+pub fn forward<'i, 't, A>(alloc: Global, tree: &'i Token<'t, A>) -> Walk<'i, 't, A, Forward>
+    ensures all { to_come forward_chosen (walking result) ≡ breadth_first forward_chosen (root tree.now ∷ []) }
+    ensures start { walking result ≡ record { rest = root tree.now ∷ []; current = None } }
+{
+    with_sequence(alloc, tree, Forward)
+}
+
+/// The tokens with which texts of the tree begin, breadth first: the tree's own token, and of each
+/// token that is given the first of a concatenation, the branches of an alternation, and the body of
+/// a repetition.
+pub fn starting<'i, 't, A>(alloc: Global, tree: &'i Token<'t, A>) -> Walk<'i, 't, A, Starting>
+    ensures all { to_come starting_chosen (walking result) ≡ breadth_first starting_chosen (root tree.now ∷ []) }
+    ensures start { walking result ≡ record { rest = root tree.now ∷ []; current = None } }
+{
+    with_sequence(alloc, tree, Starting)
+}
+
+/// The same of the tokens with which texts end: the last of a concatenation.
+pub fn ending<'i, 't, A>(alloc: Global, tree: &'i Token<'t, A>) -> Walk<'i, 't, A, Ending>
+    ensures all { to_come ending_chosen (walking result) ≡ breadth_first ending_chosen (root tree.now ∷ []) }
+    ensures start { walking result ≡ record { rest = root tree.now ∷ []; current = None } }
+{
+    with_sequence(alloc, tree, Ending)
+}

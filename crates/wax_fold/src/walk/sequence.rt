@@ -1,0 +1,183 @@
+//! Which of a branch's tokens are gone through, and in which order.
+ghost use Rattle.std.specs.Prelude.{◌≡◌, ◌∷◌, [], ℕ, List, IfOk, map};
+ghost use Rattle.std.specs.Option.{option_map};
+ghost use Rattle.wax_fold.specs.Folded.{listed_term};
+ghost use Rattle.wax_fold.specs.Branches.{Branch, branch_of, first_of, last_of, picked, tokens_in};
+
+use std::alloc::{AllocError, Global};
+use std::marker::Model;
+use wax_query::diagnostics::NoMemory;
+use wax_token::token::{BranchKind, Token};
+
+/// What a branch is, without its tokens.
+#[derive(Clone, Copy, Debug)]
+pub enum BranchFold {
+    Alternation,
+    Concatenation,
+    /// From so many to so many copies, where `None` is without limit.
+    Repetition(usize, Option<usize>),
+}
+
+/// A branch that is asked for its tokens. Contracts see what it holds.
+#[derive(Drop)]
+pub struct Parent<T>(T);
+
+impl<T> Model for Parent<T> {
+    ghost use Rattle.std.specs.Prelude.{ℕ};
+
+    ghost Value = { T };
+
+    ghost view = { λ p. p.0 };
+}
+
+/// A branch whose tokens are asked for.
+pub type ParentToken<'i, 't, A> = Parent<&'i BranchKind<'t, A>>;
+
+/// A token that a branch gave. Contracts see what it holds.
+#[derive(Drop)]
+pub struct Child<T>(T);
+
+impl<T> Model for Child<T> {
+    ghost use Rattle.std.specs.Prelude.{ℕ};
+
+    ghost Value = { T };
+
+    ghost view = { λ c. c.0 };
+}
+
+/// A token of a branch.
+pub type ChildToken<'i, 't, A> = Child<&'i Token<'t, A>>;
+
+impl<T> Parent<T> {
+    /// A branch that is asked.
+    pub(super) fn new(branch: T) -> Self
+        ensures { result ≡ branch }
+    {
+        Parent(branch)
+    }
+}
+
+impl<T> AsRef<T> for Parent<T> {
+    /// What it holds.
+    fn as_ref(&self) -> &T
+        ensures { result.now ≡ self.now }
+    {
+        &self.0
+    }
+}
+
+impl<T> AsRef<T> for Child<T> {
+    /// What it holds.
+    fn as_ref(&self) -> &T
+        ensures { result.now ≡ self.now }
+    {
+        &self.0
+    }
+}
+
+impl<'i, 't, A> Parent<&'i BranchKind<'t, A>> {
+    /// All tokens of the branch, in order. Takes memory for the list.
+    pub fn into_tokens(self, alloc: Global) -> Result<Vec<ChildToken<'i, 't, A>>, NoMemory>
+        ensures { IfOk result (λ cs. map (λ c. c.now) cs.items ≡ tokens_in (branch_of self.entry.now)) }
+    {
+        Ok(self.children(alloc)?)
+    }
+
+    /// The first token of the branch, if it has one.
+    #[tactic(auto, using(crate::proofs::Picking::got))]
+    pub(super) fn into_first_token(
+        self,
+        alloc: Global,
+    ) -> Result<Vec<ChildToken<'i, 't, A>>, AllocError>
+        ensures { IfOk result (λ cs. map (λ c. c.now) cs.items
+            ≡ first_of (tokens_in (branch_of self.entry.now))) }
+    {
+        match self.0 {
+            BranchKind::Alternation(alternation) => some(alloc, alternation.tokens().first()),
+            BranchKind::Concatenation(concatenation) => some(alloc, concatenation.tokens().first()),
+            BranchKind::Repetition(repetition) => one(alloc, repetition.token()),
+        }
+    }
+
+    /// The last token of the branch, if it has one.
+    #[tactic(auto, using(crate::proofs::Picking::got))]
+    pub(super) fn into_last_token(
+        self,
+        alloc: Global,
+    ) -> Result<Vec<ChildToken<'i, 't, A>>, AllocError>
+        ensures { IfOk result (λ cs. map (λ c. c.now) cs.items
+            ≡ last_of (tokens_in (branch_of self.entry.now))) }
+    {
+        match self.0 {
+            BranchKind::Alternation(alternation) => some(alloc, alternation.tokens().last()),
+            BranchKind::Concatenation(concatenation) => some(alloc, concatenation.tokens().last()),
+            BranchKind::Repetition(repetition) => one(alloc, repetition.token()),
+        }
+    }
+
+    fn children(self, alloc: Global) -> Result<Vec<ChildToken<'i, 't, A>>, AllocError>
+        ensures { IfOk result (λ cs. map (λ c. c.now) cs.items ≡ tokens_in (branch_of self.entry.now)) }
+    {
+        match self.0 {
+            BranchKind::Alternation(alternation) => each(alloc, alternation.tokens()),
+            BranchKind::Concatenation(concatenation) => each(alloc, concatenation.tokens()),
+            BranchKind::Repetition(repetition) => one(alloc, repetition.token()),
+        }
+    }
+}
+
+/// The tokens.
+fn each<'i, 't, A>(
+    alloc: Global,
+    tokens: &'i [Token<'t, A>],
+) -> Result<Vec<ChildToken<'i, 't, A>>, AllocError>
+    ensures { IfOk result (λ cs. map (λ c. c.now) cs.items ≡ tokens.now) }
+{
+    let mut children = Vec::new(alloc);
+    for token in tokens {
+        children.push(Child(token))?;
+    }
+    Ok(children)
+}
+
+/// The token alone.
+fn one<'i, 't, A>(
+    alloc: Global,
+    token: &'i Token<'t, A>,
+) -> Result<Vec<ChildToken<'i, 't, A>>, AllocError>
+    ensures { IfOk result (λ cs. map (λ c. c.now) cs.items ≡ token.now ∷ []) }
+{
+    let mut children = Vec::new(alloc);
+    children.push(Child(token))?;
+    Ok(children)
+}
+
+/// The token, if there is one.
+fn some<'i, 't, A>(
+    alloc: Global,
+    token: Option<&'i Token<'t, A>>,
+) -> Result<Vec<ChildToken<'i, 't, A>>, AllocError>
+    ensures { IfOk result (λ cs. map (λ c. c.now) cs.items ≡ listed_term (option_map (λ t. t.now) token.entry)) }
+{
+    match token {
+        Some(token) => one(alloc, token),
+        None => Ok(Vec::new(alloc)),
+    }
+}
+
+/// Which of a branch's tokens are gone through, and in which order.
+///
+/// The law: the choice depends on the branch alone.
+pub trait Sequencer: Drop {
+    /// The places of the tokens chosen, in order. A place past the last token gives none.
+    ghost chosen: { (A : Type 0) → Branch A → List ℕ };
+
+    /// The tokens chosen, in that order. Takes memory for the list.
+    fn enqueue<'i, 't, A>(
+        &mut self,
+        alloc: Global,
+        parent: ParentToken<'i, 't, A>,
+    ) -> Result<Vec<ChildToken<'i, 't, A>>, NoMemory>
+        ensures { IfOk result (λ cs. map (λ c. c.now) cs.items
+            ≡ picked (chosen A (branch_of parent.entry.now)) (tokens_in (branch_of parent.entry.now))) };
+}

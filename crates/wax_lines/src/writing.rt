@@ -1,0 +1,28 @@
+//! Bytes are written whole.
+ghost use Rattle.std.specs.Prelude.{◌≡◌, ◌≤◌, ◌<◌, ◌⊎◌, IfErr, OnErr, OnOk};
+ghost use Rattle.std.specs.Io.KnownBytes.{Appends};
+ghost use Rattle.wax_lines.specs.Counts.{greatest_count};
+ghost use Rattle.wax_lines.specs.Written.{WritesPart};
+
+use crate::counted::Counted;
+use crate::lines::LinesError;
+use std::io::Write;
+
+/// Writes the bytes. Refused with 19 where a write fails or takes nothing: a beginning was written.
+pub fn write_whole<W: Write>(output: &mut Counted<W>, bytes: &[u8]) -> Result<(), LinesError>
+    ensures ok { OnOk result (Appends (W.contents output.old.inner) (W.contents output.new.inner) bytes.now) }
+    ensures err { IfErr result (λ e. (e ≡ LinesError.Write)
+        × WritesPart (W.contents output.old.inner) (W.contents output.new.inner) bytes.now) }
+    ensures failed { OnErr result
+        ((output.old.failures < output.new.failures) ⊎ (output.new.failures ≡ greatest_count)) }
+    ensures steady { output.old.failures ≤ output.new.failures }
+{
+    let mut rest = bytes;
+    while !rest.is_empty() {
+        match output.write(rest) {
+            Ok(0) | Err(_) => return Err(LinesError::Write),
+            Ok(taken) => rest = &rest[taken..],
+        }
+    }
+    Ok(())
+}

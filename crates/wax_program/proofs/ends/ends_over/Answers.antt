@@ -1,0 +1,63 @@
+use Rattle.std.proofs.Common.{◌≡◌, ◌+◌, ◌++◌, ◌∷◌, [], ◌↔◌, ℕ, suc, IsTrue, List, length, take, sym, ◌∙◌, ap, arith, rules}
+use Rattle.std.proofs.Math.Seq.{take-suc}
+use Rattle.wax_program.specs.Ends.{MarksBeginnings}
+use Rattle.wax_program.specs.Machine.{Accepts}
+use Rattle.wax_program.specs.Threads.{AnyOf, IsDone}
+use Rattle.wax_program.proofs.Advancing.{round_accepts, round_ends}
+use Rattle.wax_program.proofs.Beginnings.{Leads, leads_step, leads_here, marked_push, marked_done}
+use Rattle.wax_program.proofs.ends.ends_over.Goals as goal
+
+pub returns-then-is_done-clause-marked : goal.returns-then-is_done-clause-marked
+returns-then-is_done-clause-marked g c =
+    let code = c.args.program.now.0 in
+    let text : List ℕ = c.args.text.now in
+    let i : ℕ = c.loop-c.c-index in
+    let p = g.R.Rows.position c.loop-c.rows in
+    let here : IsTrue c.finish-ended.result ↔ Accepts code 0 (take i text) = leads_here code (take i text) p.pending c.finish-ended.result c.loop-c.invariant.leads c.finish-ended.ensures.decides in
+    let pushed : MarksBeginnings code text (c.loop-c.ends.items ++ c.finish-ended.result ∷ []) (i + 1) = marked_push code text c.loop-c.ends.items i c.finish-ended.result c.loop-c.invariant.count c.loop-c.invariant.marked here in
+    let same : c.push.new.self.items ≡ c.loop-c.ends.items ++ c.finish-ended.result ∷ [] = search rules in
+    let marked : MarksBeginnings code text c.push.new.self.items (i + 1) = rw same pushed in
+    let done : IsDone p = c.if-is_done.ensures in
+    marked_done code text c.push.new.self.items i (length text + 1) c.c-item.result p (search (rules, c.loop-c.invariant.count)) marked c.loop-c-test.true c.c-item.is c.loop-c.invariant.leads c.loop-c.invariant.size done
+
+pub loop-c-preserved : goal.loop-c-preserved
+loop-c-preserved g c =
+    let code = c.args.program.now.0 in
+    let text : List ℕ = c.args.text.now in
+    let i : ℕ = c.loop-c.c-index in
+    let ch : ℕ = c.c-item.result in
+    let old = g.R.Rows.position c.loop-c.rows in
+    let p = g.R.Rows.position c.advance.new.rows in
+    let sized = c.advance.ensures.size ∙ c.loop-c.invariant.size in
+    let ended : IsTrue c.ends-ended.result ↔ AnyOf code old.pending [] = (
+      (λ h. round_accepts code ch old.pending p sized c.advance.ensures.done c.advance.ensures.round (c.ends-ended.ensures.0 h)),
+      (λ h. c.ends-ended.ensures.1 (round_ends code ch old.pending p sized c.advance.ensures.done c.advance.ensures.round h)),
+    ) in
+    let here : IsTrue c.ends-ended.result ↔ Accepts code 0 (take i text) = leads_here code (take i text) old.pending c.ends-ended.result c.loop-c.invariant.leads ended in
+    let pushed : MarksBeginnings code text (c.loop-c.ends.items ++ c.ends-ended.result ∷ []) (i + 1) = marked_push code text c.loop-c.ends.items i c.ends-ended.result c.loop-c.invariant.count c.loop-c.invariant.marked here in
+    let same : c.push-in-loop-c.new.self.items ≡ c.loop-c.ends.items ++ c.ends-ended.result ∷ [] = search rules in
+    let n : i + 1 ≡ suc i = omega arith in
+    let more : take (i + 1) text ≡ take i text ++ ch ∷ [] = ap (λ k. take k text) n ∙ take-suc text i ch c.loop-c-test.true ∙ ap (λ z. take i text ++ z ∷ []) (sym c.c-item.is) in
+    let led : Leads code (take i text ++ ch ∷ []) p.next = leads_step code (take i text) old.pending p.next ch c.loop-c.invariant.leads c.advance.ensures.advances in
+    record {
+      size = c.turn.ensures.size ∙ sized;
+      read = c.turn.ensures.read;
+      next = c.turn.ensures.next;
+      leads = rw (more, c.turn.ensures.pending) led;
+      count = search (rules, c.loop-c.invariant.count);
+      marked = rw same pushed;
+      above = omega (arith, c.advance.ensures.above, c.loop-c.invariant.above);
+      steady = omega (arith, c.advance.ensures.steady, c.loop-c.invariant.steady);
+    }
+
+pub returns-clause-marked : goal.returns-clause-marked
+returns-clause-marked g c =
+    let code = c.args.program.now.0 in
+    let text : List ℕ = c.args.text.now in
+    let i : ℕ = c.loop-c.c-index in
+    let p = g.R.Rows.position c.loop-c.rows in
+    let here : IsTrue c.finish-ended-2.result ↔ Accepts code 0 (take i text) = leads_here code (take i text) p.pending c.finish-ended-2.result c.loop-c.invariant.leads c.finish-ended-2.ensures.decides in
+    let pushed : MarksBeginnings code text (c.loop-c.ends.items ++ c.finish-ended-2.result ∷ []) (i + 1) = marked_push code text c.loop-c.ends.items i c.finish-ended-2.result c.loop-c.invariant.count c.loop-c.invariant.marked here in
+    let same : c.push-2.new.self.items ≡ c.loop-c.ends.items ++ c.finish-ended-2.result ∷ [] = search rules in
+    let n : i ≡ length text = omega (arith, c.loop-c-test.false, c.loop-c.auto.c-index-end) in
+    rw (same, ← n) pushed

@@ -1,0 +1,17 @@
+use Rattle.std.proofs.Common.{◌≡◌, ◌≤◌, ◌+◌, ◌*◌, length, take}
+use Rattle.wax_program.specs.Ends.{MarksBeginnings}
+use Rattle.wax_program.specs.Threads.{IsEmpty}
+use Rattle.wax_program.proofs.Beginnings.{Leads}
+use Rattle.wax_program.proofs.ends.ends_over.Given as goal
+
+abbrev pub invariant-loop-c : goal.invariant-loop-c
+invariant-loop-c g l = record {
+  size : (g.R.Rows.position l.rows).size ≡ length l.program.0;
+  read : IsEmpty (g.R.Rows.position l.rows).read;
+  next : IsEmpty (g.R.Rows.position l.rows).next;
+  leads : Leads l.program.0 (take l.c-index l.text) (g.R.Rows.position l.rows).pending;
+  count : length l.ends.items ≡ l.c-index;
+  marked : MarksBeginnings l.program.0 l.text l.ends.items l.c-index;
+  above : l.meter ≤ l.fn.meter + length l.program.0 * l.c-index;
+  steady : l.fn.meter ≤ l.meter;
+}

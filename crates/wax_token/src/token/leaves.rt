@@ -1,0 +1,70 @@
+//! What a leaf is.
+ghost use Rattle.std.specs.Prelude.{◌≡◌};
+ghost use Rattle.wax_token.specs.Kinds.{is_boundary_leaf, is_capturing_leaf, is_literal_leaf, is_rooting_leaf};
+ghost use Rattle.wax_token.specs.Kinds.{is_separator_leaf, is_tree_leaf, is_zero_or_more_leaf};
+ghost use Rattle.wax_token.specs.View.{leaf_of};
+
+use super::{LeafKind, Wildcard};
+
+impl<'t> LeafKind<'t> {
+    pub fn is_literal(&self) -> bool
+        ensures { result ≡ is_literal_leaf (leaf_of self.now) }
+    {
+        matches!(self, LeafKind::Literal(_))
+    }
+
+    /// `/`.
+    pub fn is_separator(&self) -> bool
+        ensures { result ≡ is_separator_leaf (leaf_of self.now) }
+    {
+        matches!(self, LeafKind::Separator(_))
+    }
+
+    /// `*` or `$`.
+    pub fn is_zero_or_more(&self) -> bool
+        ensures { result ≡ is_zero_or_more_leaf (leaf_of self.now) }
+    {
+        match self {
+            LeafKind::Wildcard(wildcard) => matches!(wildcard, Wildcard::ZeroOrMore(_)),
+            _ => false,
+        }
+    }
+
+    /// `**`.
+    pub fn is_tree_wildcard(&self) -> bool
+        ensures { result ≡ is_tree_leaf (leaf_of self.now) }
+    {
+        match self {
+            LeafKind::Wildcard(wildcard) => matches!(wildcard, Wildcard::Tree { has_root: _ }),
+            _ => false,
+        }
+    }
+
+    /// `/` or `**`.
+    pub fn is_boundary(&self) -> bool
+        ensures { result ≡ is_boundary_leaf (leaf_of self.now) }
+    {
+        self.is_separator() || self.is_tree_wildcard()
+    }
+
+    /// Whether the leaf roots what it begins: `/` or a rooted `**`.
+    pub fn is_rooting(&self) -> bool
+        ensures { result ≡ is_rooting_leaf (leaf_of self.now) }
+    {
+        match self {
+            LeafKind::Separator(_) => true,
+            LeafKind::Wildcard(wildcard) => match wildcard {
+                Wildcard::Tree { has_root } => *has_root,
+                _ => false,
+            },
+            _ => false,
+        }
+    }
+
+    /// Whether a match captures what the leaf takes: a class or a wildcard.
+    pub fn is_capturing(&self) -> bool
+        ensures { result ≡ is_capturing_leaf (leaf_of self.now) }
+    {
+        matches!(self, LeafKind::Class(_) | LeafKind::Wildcard(_))
+    }
+}
