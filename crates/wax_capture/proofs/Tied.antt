@@ -8,7 +8,8 @@ use Rattle.wax_capture.specs.Captures.{Captured, First, Fits, IsChosen, LeafWay,
 use Rattle.wax_capture.specs.Pieces.{ArePieces, IsPiece}
 use Rattle.wax_capture.specs.inner.Splits.{CapturedBy, FitsBy, IsChosenBy, Splits}
 use Rattle.std.specs.Global.{Vec}
-use Rattle.wax_capture.specs.Matched.{IsMatched, MatchedView}
+use Rattle.wax_candidate.specs.Matched.{MatchedView}
+use Rattle.wax_capture.specs.Matched.{IsMatched}
 use Rattle.wax_capture.specs.declared.piece.Piece.{Piece}
 
 -- ---- the ways of a token are all that it means
