@@ -52,6 +52,18 @@ pub fn partition<'t>(
         → program_length u.token ≤ program_length tokenized.entry.token)) }
 {
     let (expression, token) = tokenized.into_parts();
+    parts(alloc, expression, token)
+}
+
+// The same of an expression and its token.
+fn parts<'t>(
+    alloc: Global,
+    expression: CowStr<'t>,
+    token: Token<'t, ExpressionMetadata>,
+) -> Result<(String, Option<Tokenized<'t, ExpressionMetadata>>), NoMemory>
+    ensures { IfOk result (λ r. IsPartition (chars (cow_str_bytes expression.entry)) token.entry
+        (chars (string_bytes r.0)) (spelled r.1)) }
+{
     let (prefix, tokens, end) = split_tokens(alloc, token)?;
     Ok((prefix, cut_out(alloc, expression.as_str(), end, tokens)?))
 }

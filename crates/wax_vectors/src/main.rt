@@ -25,6 +25,7 @@ fn main(rt: HostRuntime) -> io::Result<()> {
         ("match.tsv", Kind::Match),
         ("worked_query.tsv", Kind::Query),
         ("query.tsv", Kind::Query),
+        ("worked_cases.tsv", Kind::Case),
         ("tests.tsv", Kind::Case),
     ] {
         let rows = fs::read_to_string(&rt, name)?;
