@@ -1,8 +1,10 @@
-//! Texts that may be paths, and programs that decide which of them they mean.
+//! Texts that may be paths, programs that decide which of them they mean, and what is captured of those.
 #![tactic(auto)]
 
 mod candidate;
+mod matched;
 mod program;
 
 pub use candidate::CandidatePath;
+pub use matched::MatchedText;
 pub use program::Program;

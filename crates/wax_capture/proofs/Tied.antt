@@ -8,8 +8,8 @@ use Rattle.wax_capture.specs.Captures.{Captured, First, Fits, IsChosen, LeafWay,
 use Rattle.wax_capture.specs.Pieces.{ArePieces, IsPiece}
 use Rattle.wax_capture.specs.inner.Splits.{CapturedBy, FitsBy, IsChosenBy, Splits}
 use Rattle.std.specs.Global.{Vec}
-use Rattle.wax_capture.specs.Matched.{IsMatched, MatchedView}
-use Rattle.wax_capture.proofs.Unique.{captured_unique}
+use Rattle.wax_candidate.specs.Matched.{MatchedView}
+use Rattle.wax_capture.specs.Matched.{IsMatched}
 use Rattle.wax_capture.specs.declared.piece.Piece.{Piece}
 
 -- ---- the ways of a token are all that it means
@@ -140,10 +140,4 @@ pub some_matched : {A : Type 0} (ts : Trees A) (ps : List Piece) → ArePieces t
     (m : MatchedView) → m.text ≡ s → m.captures ≡ captures → IsMatched ts s (Some m)
 some_matched ts ps are s captures h m text same =
     let captured : Captured ts false false s captures = is_captured ts false false ps are s captures h in
-    let its : Captured ts false false s m.captures = subst (Captured ts false false s) (sym same) captured in
-    record {
-      means = captured_means ts false false s captures captured;
-      text = text;
-      captured = its;
-      only = λ others h. captured_unique ts false false s others m.captures h its;
-    }
+    (captured_means ts false false s captures captured, text, subst (Captured ts false false s) (sym same) captured)

@@ -4,7 +4,6 @@
 mod build;
 mod bytes;
 mod choice;
-mod matched;
 mod matching;
 mod piece;
 mod reach;
@@ -14,5 +13,4 @@ mod tokens;
 mod uncaptured;
 mod ways;
 
-pub use matched::MatchedText;
 pub use matching::Pieces;

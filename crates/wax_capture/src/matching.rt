@@ -5,16 +5,17 @@ ghost use Rattle.wax_token.specs.Cost.{costs};
 ghost use Rattle.wax_token.specs.Reads.{Span};
 ghost use Rattle.wax_token.specs.Syntax.{Trees};
 ghost use Rattle.wax_token.specs.Words.{trees};
-ghost use Rattle.wax_capture.specs.Matched.{IsMatched, cube_visits, square_visits};
+ghost use Rattle.wax_candidate.specs.Matched.{cube_visits};
+ghost use Rattle.wax_capture.specs.Matched.{IsMatched, square_visits};
 ghost use Rattle.wax_capture.specs.Pieces.{ArePieces};
 
 use crate::build::pieces_of;
 use crate::bytes::{characters, to_bytes};
-use crate::matched::MatchedText;
 use crate::piece::Piece;
 use crate::split::split;
 use std::alloc::Global;
 use std::marker::Model;
+use wax_candidate::MatchedText;
 use wax_match::encode::CompileError;
 use wax_program::Meter;
 use wax_query::diagnostics::{NoMemory, Refusal};
@@ -22,9 +23,15 @@ use wax_token::token::Token;
 
 /// For each top-level token its programs, which of its pieces is chosen and what is captured of it. It holds
 /// no tokens.
-#[derive(Drop)]
 pub struct Pieces {
     pieces: Vec<Piece>,
+}
+
+// Written out, so that a crate that drops pieces needn't prove again how their programs are dropped.
+impl Drop for Pieces {
+    fn drop(self) {
+        let Pieces { pieces: _ } = self;
+    }
 }
 
 impl Model for Pieces {
@@ -70,7 +77,7 @@ impl Pieces {
         ensures square { (ts : Trees Span) → ArePieces ts false false self.now
             → IfOk result (λ answer. answer.1 ≤ square_visits ts (chars text.now)) }
         ensures above { (ts : Trees Span) → ArePieces ts false false self.now
-            → IfOk result (λ answer. answer.1 ≤ cube_visits ts (chars text.now)) }
+            → IfOk result (λ answer. answer.1 ≤ cube_visits (costs ts + 1) (chars text.now)) }
     {
         let mut meter = Meter::new();
         let characters = characters(alloc, text)?;

@@ -4,9 +4,9 @@ use Rattle.std.specs.List.{slice_range}
 use Rattle.std.specs.Option.{option_map}
 use Rattle.std.proofs.lemmas.Option.{slice_get-map, slice_get_read}
 use Rattle.std.specs.Str.{chars}
-use Rattle.wax_capture.specs.Matched.{MatchedView, texts}
-use Rattle.wax_capture.specs.inner.Bytes.{cut}
-use Rattle.wax_capture.proofs.matched.MatchedText.get.Goals as goal
+use Rattle.wax_candidate.specs.Matched.{MatchedView, texts}
+use Rattle.wax_candidate.specs.Parts.{cut}
+use Rattle.wax_candidate.proofs.matched.MatchedText.get.Goals as goal
 
 capture_at : (text : List ℕ) (bytes : List ℕ) (items : List (ℕ × ℕ)) (index : ℕ) (place : ℕ × ℕ) → 1 ≤ index → index - 1 < length items → place ≡ get_or items (index - 1) place →
     slice_get (text ∷ map (cut bytes) items) index ≡ Some (cut bytes place)

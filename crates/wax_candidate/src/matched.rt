@@ -1,13 +1,13 @@
 //! What was captured of a text.
-ghost use Rattle.std.specs.Prelude.{◌≡◌, MatchOption, IfOk, None, Some, chars, map, slice_get};
+ghost use Rattle.std.specs.Prelude.{◌≡◌, [], MatchOption, IfOk, None, Some, chars, map, slice_get};
 ghost use Rattle.std.specs.List.{All};
-ghost use Rattle.wax_capture.specs.Matched.{texts};
-ghost use Rattle.wax_capture.specs.inner.Bytes.{IsPart, cut};
+ghost use Rattle.wax_candidate.specs.Matched.{texts};
+ghost use Rattle.wax_candidate.specs.Parts.{IsPart, cut};
 
+use crate::candidate::CandidatePath;
 use std::alloc::Global;
 use std::borrow::CowStr;
 use std::marker::Model;
-use wax_candidate::CandidatePath;
 use wax_query::diagnostics::NoMemory;
 
 /// A text and what was captured of it. Contracts see the characters of the text and of the captures.
@@ -23,8 +23,8 @@ impl<'t> Model for MatchedText<'t> {
     ghost use Rattle.std.specs.List.{All};
     ghost use Rattle.std.specs.Str.{chars};
     ghost use Rattle.std.specs.Cow.{cow_str_bytes};
-    ghost use Rattle.wax_capture.specs.Matched.{MatchedView, matched_code};
-    ghost use Rattle.wax_capture.specs.inner.Bytes.{cut, IsPart};
+    ghost use Rattle.wax_candidate.specs.Matched.{MatchedView, matched_code};
+    ghost use Rattle.wax_candidate.specs.Parts.{cut, IsPart};
 
     ghost Value = { MatchedView };
 
@@ -39,8 +39,9 @@ impl<'t> Model for MatchedText<'t> {
 }
 
 impl<'t> MatchedText<'t> {
-    /// The text, with captures by their places in its bytes.
-    pub(crate) fn new(text: &'t str, captures: Vec<(usize, usize)>) -> MatchedText<'t>
+    /// The text, with captures by their places in its bytes: of each the place where it begins, and the place
+    /// after its end.
+    pub fn new(text: &'t str, captures: Vec<(usize, usize)>) -> MatchedText<'t>
         requires { All (IsPart text.now) captures.items }
         ensures text { result.text ≡ chars text.now }
         ensures captures { result.captures ≡ map (cut text.now) captures.items }
@@ -49,6 +50,14 @@ impl<'t> MatchedText<'t> {
             text: CowStr::Borrowed(text),
             captures,
         }
+    }
+
+    /// The text, without captures. It takes no memory.
+    pub fn whole(alloc: Global, text: &'t str) -> MatchedText<'t>
+        ensures text { result.text ≡ chars text.now }
+        ensures captures { result.captures ≡ [] }
+    {
+        MatchedText::new(text, Vec::new(alloc))
     }
 
     /// The whole text.
