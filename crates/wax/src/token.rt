@@ -8,7 +8,7 @@ pub use wax_components::{
 };
 pub use wax_depth::depth;
 pub use wax_facts::TokenFacts;
-pub use wax_fold::walk::fold;
+pub use wax_fold::walk::{fold, fold_map};
 pub use wax_parse::parse::{ErrorEntry, ParseError, parse};
 pub use wax_partition::partition;
 pub use wax_rule::size;

@@ -12,7 +12,8 @@ use Rattle.wax_token.specs.declared.token.Topology.TheVariants.{Branch as Branch
 use Rattle.wax_fold.specs.declared.walk.branch.BranchFold.{BranchFold}
 use Rattle.wax_fold.specs.declared.walk.branch.BranchFold.TheVariants.{Alternation, Concatenation}
 use Rattle.wax_fold.specs.Branches.{Branch, branch_of, picked}
-use Rattle.wax_fold.specs.Folded.{Folding, listed, listed_term, branch_term, folded, folded_each}
+use Rattle.wax_token.specs.Words.{listed}
+use Rattle.wax_fold.specs.Folded.{Folding, listed_term, branch_term, folded, folded_each}
 use Rattle.wax_fold.specs.inner.BranchFolded.{branch_folded}
 use Rattle.wax_fold.specs.inner.OpenBranches.{OpenBranch, closing, folding, counting, visits}
 use Rattle.wax_fold.specs.inner.Opens.{closed, results, total}

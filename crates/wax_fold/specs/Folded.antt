@@ -3,6 +3,7 @@ use Rattle.std.specs.Prelude.{ℕ, List, [], ◌∷◌, ◌++◌, Option, Some, 
 use Rattle.std.specs.Option.{option_map}
 use Rattle.std.specs.List.{flat_map}
 use Rattle.wax_token.specs.Syntax.{Leaf, Tree, leaf, alternation, concatenation, repetition, Trees, none, more}
+use Rattle.wax_token.specs.Words.{listed}
 use Rattle.wax_fold.specs.declared.walk.branch.BranchFold.TheVariants.{Alternation, Concatenation, Repetition}
 use Rattle.wax_fold.specs.Branches.{Branch, picked}
 
@@ -18,10 +19,6 @@ pub record Folding (A T : Type 0) : Type 0 where
 abbrev pub listed_term : {T : Type 0} → Option T → List T
 listed_term None = []
 listed_term (Some x) = x ∷ []
-
-abbrev pub listed : {A : Type 0} → Trees A → List (Tree A)
-listed none = []
-listed (more t ts) = t ∷ listed ts
 
 module _ {A T : Type 0} (chosen : Branch A → List ℕ) (f : Folding A T) where
   -- the terms of a branch whose tokens have these terms: of the tokens chosen, those that have one, in the

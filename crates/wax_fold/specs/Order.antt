@@ -6,7 +6,7 @@ use Rattle.wax_fold.specs.declared.walk.branch.BranchFold.{BranchFold}
 use Rattle.wax_fold.specs.declared.walk.branch.BranchFold.TheVariants.{Alternation, Concatenation, Repetition}
 use Rattle.wax_fold.specs.declared.walk.entry.Position.{Position}
 use Rattle.wax_fold.specs.Branches.{Branch, picked}
-use Rattle.wax_fold.specs.Folded.{listed}
+use Rattle.wax_token.specs.Words.{listed}
 use Rattle.wax_fold.specs.Positions.{origin, conjunction, disjunction}
 
 -- a token, and where it stands
