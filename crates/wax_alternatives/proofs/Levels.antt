@@ -51,24 +51,28 @@ branches below inner [] = refl
 branches below inner (y ∷ xs) = ap (λ z. y ++ joined z) (beside_assoc below inner xs)
 
 -- a token that stands itself is put at the end
-pub one_found : {A : Type 0} (found below rest all : List (Tree A)) (t u : Tree A) →
-    levels t ≡ (u ∷ []) ∷ [] →
-    found ++ still below (t ∷ rest) ≡ all → (found ++ u ∷ []) ++ still below rest ≡ all
-one_found found below rest all t u e h =
+pub one_found : {A : Type 0} (found more below left rest all : List (Tree A)) (t u : Tree A) →
+    levels t ≡ (u ∷ []) ∷ [] → left ≡ t ∷ rest → more ≡ found ++ u ∷ [] →
+    found ++ still below left ≡ all → more ++ still below rest ≡ all
+one_found found more below left rest all t u e taken grown h =
     let b : List (List (Tree _)) = levels_each (trees below) in
     let r : List (List (Tree _)) = levels_each (trees rest) in
-    append_assoc found (u ∷ []) (still below rest)
+    ap (λ z. z ++ still below rest) grown
+    ∙ append_assoc found (u ∷ []) (still below rest)
     ∙ ap (λ z. found ++ z) (sym (ap (λ z. joined (beside ([] ∷ b) (beside z r))) e ∙ stands b r u))
+    ∙ ap (λ z. found ++ still below z) (sym taken)
     ∙ h
 
 -- the branches of an alternation go below
-pub branches_below : {A : Type 0} (found below rest all : List (Tree A)) (t : Tree A)
-    (us : List (Tree A)) → levels t ≡ [] ∷ levels_each (trees us) →
-    found ++ still below (t ∷ rest) ≡ all → found ++ still (below ++ us) rest ≡ all
-branches_below found below rest all t us e h =
+pub branches_below : {A : Type 0} (found below more left rest all : List (Tree A)) (t : Tree A)
+    (us : List (Tree A)) → levels t ≡ [] ∷ levels_each (trees us) → left ≡ t ∷ rest → more ≡ below ++ us →
+    found ++ still below left ≡ all → found ++ still more rest ≡ all
+branches_below found below more left rest all t us e taken grown h =
     let b : List (List (Tree _)) = levels_each (trees below) in
     let u : List (List (Tree _)) = levels_each (trees us) in
     let r : List (List (Tree _)) = levels_each (trees rest) in
-    ap (λ z. found ++ joined (beside ([] ∷ z) r)) (each_append below us)
+    ap (λ z. found ++ still z rest) grown
+    ∙ ap (λ z. found ++ joined (beside ([] ∷ z) r)) (each_append below us)
     ∙ ap (λ z. found ++ z) (sym (ap (λ z. joined (beside ([] ∷ b) (beside z r))) e ∙ branches b u r))
+    ∙ ap (λ z. found ++ still below z) (sym taken)
     ∙ h

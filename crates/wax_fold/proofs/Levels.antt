@@ -10,7 +10,7 @@ use Rattle.wax_token.specs.declared.token.LeafKind.{LeafKind}
 use Rattle.wax_token.specs.declared.token.Topology.{Topology}
 use Rattle.wax_token.specs.declared.token.Topology.TheVariants.{Branch as BranchOf}
 use Rattle.wax_fold.specs.declared.walk.entry.Position.{Position}
-use Rattle.wax_fold.specs.declared.walk.sequence.BranchFold.TheVariants.{Alternation, Concatenation, Repetition}
+use Rattle.wax_fold.specs.declared.walk.branch.BranchFold.TheVariants.{Alternation, Concatenation, Repetition}
 use Rattle.wax_fold.specs.Branches.{Branch, branch_of, picked}
 use Rattle.wax_fold.specs.Folded.{listed}
 use Rattle.wax_fold.specs.Order.{Entry, root, alternatives, conjuncts, chosen_in, children_at, children, level, levels_to, height, breadth_first}

@@ -1,4 +1,6 @@
 pub mod Picking
+pub mod Opens
 pub mod Folds
+pub mod Maps
 pub mod Levels
 pub mod Walks

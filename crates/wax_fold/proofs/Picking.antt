@@ -1,5 +1,6 @@
 -- Items that are taken from a list one by one, or picked by their places.
-use Rattle.std.proofs.Common.{◌≡◌, ℕ, ◌+◌, List, [], ◌∷◌, ◌++◌, map, drop, take, get_or, slice_get, length, ◌<◌, arith, zero, suc, refl, sym, ◌∙◌, ap}
+use Rattle.std.proofs.Common.{◌≡◌, ℕ, ◌+◌, List, [], ◌∷◌, ◌++◌, map, drop, take, get_or, slice_get, length, ◌<◌, arith, zero, suc, refl, sym, ◌∙◌, ap, reverse}
+use Rattle.std.proofs.lemmas.List.{map-append, reverse-append}
 use Rattle.std.proofs.lemmas.Grind.{flat_map-append}
 use Rattle.std.specs.List.{flat_map}
 use Rattle.wax_fold.specs.Branches.{picked}
@@ -47,3 +48,11 @@ later_picked (n ∷ ns) x xs = ap (λ z. take 1 (drop n xs) ++ z) (later_picked 
 pub all_picked : {X : Type 0} (xs : List X) → picked (places xs) xs ≡ xs
 all_picked [] = refl
 all_picked (x ∷ xs) = ap (λ z. x ∷ z) (later_picked (places xs) x xs ∙ all_picked xs)
+
+-- the last of a list is the first of the list turned round
+pub last_first : {X : Type 0} (old new : List X) (x : X) → old ≡ new ++ x ∷ [] → reverse old ≡ x ∷ reverse new
+last_first old new x e = ap reverse e ∙ reverse-append new (x ∷ [])
+
+-- one more item at the end
+pub mapped_last : {X Y : Type 0} (f : X → Y) (all xs : List X) (x : X) → all ≡ xs ++ x ∷ [] → map f all ≡ map f xs ++ f x ∷ []
+mapped_last f all xs x e = ap (map f) e ∙ map-append f xs (x ∷ [])

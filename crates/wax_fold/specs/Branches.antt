@@ -1,11 +1,12 @@
 -- A branch without its annotation, and tokens that are picked from a list.
-use Rattle.std.specs.Prelude.{ℕ, List, [], ◌∷◌, take, drop, length, ◌-◌}
+use Rattle.std.specs.Prelude.{ℕ, ◌-◌, List, [], ◌∷◌, Option, Some, None, take, drop, length}
 use Rattle.std.specs.List.{flat_map}
-use Rattle.wax_token.specs.Syntax.{Tree}
+use Rattle.wax_token.specs.Syntax.{Tree, alternation, concatenation, repetition}
+use Rattle.wax_token.specs.Words.{trees}
 use Rattle.wax_token.specs.declared.token.BranchKind.{BranchKind}
 use Rattle.wax_token.specs.declared.token.BranchKind.TheVariants as kind
-use Rattle.wax_fold.specs.declared.walk.sequence.BranchFold.{BranchFold}
-use Rattle.wax_fold.specs.declared.walk.sequence.BranchFold.TheVariants.{Alternation, Concatenation, Repetition}
+use Rattle.wax_fold.specs.declared.walk.branch.BranchFold.{BranchFold}
+use Rattle.wax_fold.specs.declared.walk.branch.BranchFold.TheVariants.{Alternation, Concatenation, Repetition}
 
 -- what it is, and its tokens from left to right
 pub record Branch (A : Type 0) : Type 0 where
@@ -30,3 +31,14 @@ first_of xs = picked (0 ∷ []) xs
 
 abbrev pub last_of : {X : Type 0} → List X → List X
 last_of xs = picked ((length xs - 1) ∷ []) xs
+
+-- so many to so many copies of the first of these tokens, if there is one
+abbrev pub repeated : {A : Type 0} → ℕ → Option ℕ → List (Tree A) → A → Option (Tree A)
+repeated low high [] a = None
+repeated low high (t ∷ ts) a = Some (repetition a t low high)
+
+-- the branch of that kind with these tokens
+abbrev pub composed : {A : Type 0} → BranchFold → List (Tree A) → A → Option (Tree A)
+composed Alternation ts a = Some (alternation a (trees ts))
+composed Concatenation ts a = Some (concatenation a (trees ts))
+composed (Repetition low high) ts a = repeated low high ts a

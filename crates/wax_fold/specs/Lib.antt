@@ -1,5 +1,6 @@
 pub mod Branches
 pub mod Folded
+pub mod Mapped
 pub mod Order
 pub mod Positions
 pub mod Sequences

@@ -2,8 +2,8 @@
 use Rattle.std.specs.Prelude.{ℕ, ◌+◌, zero, suc, max, List, [], ◌∷◌, ◌++◌, map}
 use Rattle.std.specs.List.{flat_map}
 use Rattle.wax_token.specs.Syntax.{Tree, leaf, alternation, concatenation, repetition, tree_size}
-use Rattle.wax_fold.specs.declared.walk.sequence.BranchFold.{BranchFold}
-use Rattle.wax_fold.specs.declared.walk.sequence.BranchFold.TheVariants.{Alternation, Concatenation, Repetition}
+use Rattle.wax_fold.specs.declared.walk.branch.BranchFold.{BranchFold}
+use Rattle.wax_fold.specs.declared.walk.branch.BranchFold.TheVariants.{Alternation, Concatenation, Repetition}
 use Rattle.wax_fold.specs.declared.walk.entry.Position.{Position}
 use Rattle.wax_fold.specs.Branches.{Branch, picked}
 use Rattle.wax_fold.specs.Folded.{listed}

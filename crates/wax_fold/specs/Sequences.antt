@@ -1,7 +1,7 @@
 -- Which tokens of a branch are gone through: all, or those alone with which its texts begin or end.
 use Rattle.std.specs.Prelude.{ℕ, ◌-◌, suc, List, [], ◌∷◌, map, length}
-use Rattle.wax_fold.specs.declared.walk.sequence.BranchFold.{BranchFold}
-use Rattle.wax_fold.specs.declared.walk.sequence.BranchFold.TheVariants.{Alternation, Concatenation, Repetition}
+use Rattle.wax_fold.specs.declared.walk.branch.BranchFold.{BranchFold}
+use Rattle.wax_fold.specs.declared.walk.branch.BranchFold.TheVariants.{Alternation, Concatenation, Repetition}
 use Rattle.wax_fold.specs.Branches.{Branch}
 
 -- the places of a list's items

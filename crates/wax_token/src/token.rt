@@ -3,12 +3,14 @@ ghost use Rattle.std.specs.Prelude.{◌≡◌, ◌↔◌, ◌+◌, ◌^◌, ◌<
 ghost use Rattle.std.specs.Prelude.{[], ◌∷◌};
 ghost use Rattle.std.specs.Str.{chars};
 ghost use Rattle.std.specs.Cow.{cow_str_bytes};
+ghost use Rattle.wax_query.specs.Ranges.{ordered, range_of};
 ghost use Rattle.wax_token.specs.Syntax.{leaf};
 ghost use Rattle.wax_token.specs.Words.{members, trees, is_leaf_tree, annotation_of};
 
 use std::borrow::CowStr;
 use std::marker::Model;
 use wax_query::diagnostics::Span;
+use wax_query::query::NaturalRange;
 
 mod boundary;
 mod composition;
@@ -130,6 +132,14 @@ impl<'t, A> Repetition<'t, A> {
         ensures { result ≡ (self.now.lower, self.now.upper) }
     {
         (self.lower, self.upper)
+    }
+
+    /// How many copies, as a range: reversed bounds are put in order.
+    pub fn variance(&self) -> NaturalRange
+        ensures { result ≡ range_of (ordered self.now.lower self.now.upper) }
+    {
+        let (lower, upper) = self.bound_specification();
+        NaturalRange::from_closed_and_open(lower, upper)
     }
 }
 

@@ -3,7 +3,7 @@ ghost use Rattle.std.specs.Prelude.{◌≡◌, ◌++◌, ◌∷◌, [], IfOk, On
 ghost use Rattle.wax_fold.specs.Branches.{branch_of, picked, tokens_in};
 ghost use Rattle.wax_fold.specs.Folded.{folded};
 ghost use Rattle.wax_fold.specs.inner.BranchFolded.{branch_folded};
-ghost use Rattle.wax_fold.specs.inner.OpenBranches.{open_branch, closed_with, with_term, NextChild};
+ghost use Rattle.wax_fold.specs.inner.OpenBranches.{NextChild, closing, open_branch, with_term};
 
 use crate::walk::folder::Fold;
 use crate::walk::sequence::{ChildToken, Parent, Sequencer};
@@ -126,7 +126,7 @@ fn close<'t, A, F: Fold<'t, A>>(
     of: OpenBranch<'_, 't, A, F::Term>,
     folder: &mut F,
 ) -> Result<Option<F::Term>, NoMemory>
-    ensures term { IfOk result (λ t. t ≡ closed_with (F.answers folder.old) (open_branch of.entry)) }
+    ensures term { IfOk result (λ t. t ≡ closing (F.answers folder.old) (branch_of of.entry.branch.now) of.entry.terms.items) }
     ensures same { F.answers folder.new ≡ F.answers folder.old }
 {
     let OpenBranch {

@@ -9,15 +9,6 @@ use std::marker::Model;
 use wax_query::diagnostics::NoMemory;
 use wax_token::token::{BranchKind, Token};
 
-/// What a branch is, without its tokens.
-#[derive(Clone, Copy, Debug)]
-pub enum BranchFold {
-    Alternation,
-    Concatenation,
-    /// From so many to so many copies, where `None` is without limit.
-    Repetition(usize, Option<usize>),
-}
-
 /// A branch that is asked for its tokens. Contracts see what it holds.
 #[derive(Drop)]
 pub struct Parent<T>(T);

@@ -1,10 +1,12 @@
-use Rattle.std.proofs.Common.{◌≡◌, ◌∙◌, ◌++◌, ◌∷◌, [], ap, sym, refl, map, arith}
-use Rattle.std.proofs.lemmas.List.{map-append}
+use Rattle.std.proofs.Common.{◌∙◌, ap, refl, map}
 use Rattle.wax_token.specs.Words.{annotation_of}
 use Rattle.wax_fold.specs.Branches.{branch_of}
 use Rattle.wax_fold.specs.Folded.{folded}
-use Rattle.wax_fold.specs.inner.OpenBranches.{open_branch, counting, closed, closed_with, closed_all, with_term, steps_in, steps_left}
-use Rattle.wax_fold.proofs.Folds.{folded_token, opened, all_gone, took, innermost, steps-innermost, steps-opened}
+use Rattle.wax_fold.specs.inner.OpenBranches.{open_branch, closing, folding, counting, visits}
+use Rattle.wax_fold.specs.inner.Opens.{closed}
+use Rattle.wax_fold.proofs.Folds.{folded_token, opened, visits_inside}
+use Rattle.wax_fold.proofs.Picking.{mapped_last}
+use Rattle.wax_fold.proofs.Opens.{alone, entered, left, steps_entered, steps_back}
 use Rattle.wax_fold.proofs.walk.folding.fold_branch.Goals as goal
 
 pub loop-token-init : goal.loop-token-init
@@ -13,7 +15,7 @@ loop-token-init g c =
     let f = g.F.Fold.answers c.args.folder.now in
     let o = open_branch c.in_ok-current.current in
     record {
-      term = ap (λ z. closed_all chosen f (map open_branch z) (closed chosen f o)) c.new-outer.ensures.items
+      term = alone (folded chosen f) (λ o. folding f (open_branch o)) c.new-outer.result.items (closed (folded chosen f) (folding f o)) c.new-outer.ensures.items
           ∙ opened chosen f o (branch_of c.args.branch.now) c.in_ok-current.ensures;
       same = refl;
     }
@@ -23,36 +25,31 @@ loop-token-smaller-in-Branch g c =
     let chosen = g.F.Sequencer.Sequencer.chosen g.row.A.Denot in
     let f = g.F.Fold.answers c.args.folder.now in
     let token = c.in-Some.token.now in
-    let o = open_branch c.loop-token.current in
-    let n = open_branch c.next_child.new.of in
-    let os = map open_branch c.loop-token.outer.items in
-    let outer : map open_branch c.push.new.items.items ≡ os ++ n ∷ [] =
-    ap (map open_branch) c.in_ok-push-in-Branch.ensures ∙ map-append open_branch c.loop-token.outer.items (c.next_child.new.of ∷ []) in
-    let all = ap (steps_left chosen f) outer ∙ steps-innermost chosen f os n in
-    let here = steps-opened chosen f o n (open_branch c.in_ok-inner-in-Branch.inner) token (branch_of c.in-Branch.branch)
-    c.in-Some.ensures.0 c.in_ok-inner-in-Branch.ensures
+    let inner = open_branch c.in_ok-inner-in-Branch.inner in
+    let inside = visits_inside chosen inner (branch_of c.in-Branch.branch) token c.in_ok-inner-in-Branch.ensures
     (folded_token chosen counting c.topology.result.now c.in-Branch.branch token (annotation_of token) c.in-Branch.is c.topology.ensures) in
-    omega (arith, all, here)
+    steps_entered (visits chosen)
+    (map (λ o. folding f (open_branch o)) c.loop-token.outer.items)
+    (map (λ o. folding f (open_branch o)) c.push.new.items.items)
+    (folding f (open_branch c.loop-token.current)) (folding f (open_branch c.next_child.new.of)) (folding f inner) token
+    (mapped_last (λ o. folding f (open_branch o)) c.push.new.items.items c.loop-token.outer.items c.next_child.new.of c.in_ok-push-in-Branch.ensures)
+    c.in-Some.ensures.0 inside
 
 pub loop-token-preserved-in-Branch : goal.loop-token-preserved-in-Branch
 loop-token-preserved-in-Branch g c =
     let chosen = g.F.Sequencer.Sequencer.chosen g.row.A.Denot in
     let f = g.F.Fold.answers c.args.folder.now in
     let token = c.in-Some.token.now in
-    let o = open_branch c.loop-token.current in
-    let n = open_branch c.next_child.new.of in
     let inner = open_branch c.in_ok-inner-in-Branch.inner in
-    let os = map open_branch c.loop-token.outer.items in
-    let outer : map open_branch c.push.new.items.items ≡ os ++ n ∷ [] =
-    ap (map open_branch) c.in_ok-push-in-Branch.ensures ∙ map-append open_branch c.loop-token.outer.items (c.next_child.new.of ∷ []) in
-    let term : closed chosen f inner ≡ folded chosen f token =
-    opened chosen f inner (branch_of c.in-Branch.branch) c.in_ok-inner-in-Branch.ensures
-    ∙ folded_token chosen f c.topology.result.now c.in-Branch.branch token (annotation_of token) c.in-Branch.is c.topology.ensures in
     record {
-      term = ap (λ z. closed_all chosen f z (closed chosen f inner)) outer
-          ∙ innermost chosen f os n (closed chosen f inner)
-          ∙ ap (closed_all chosen f os) (took chosen f o n token (closed chosen f inner)
-          c.in-Some.ensures.0 c.in-Some.ensures.1 c.in-Some.ensures.2 term)
+      term = entered (folded chosen f)
+          (map (λ o. folding f (open_branch o)) c.loop-token.outer.items)
+          (map (λ o. folding f (open_branch o)) c.push.new.items.items)
+          (folding f (open_branch c.loop-token.current)) (folding f (open_branch c.next_child.new.of)) (folding f inner) token
+          (mapped_last (λ o. folding f (open_branch o)) c.push.new.items.items c.loop-token.outer.items c.next_child.new.of c.in_ok-push-in-Branch.ensures)
+          c.in-Some.ensures.0 (ap (closing f) c.in-Some.ensures.1) c.in-Some.ensures.2
+          (opened chosen f inner (branch_of c.in-Branch.branch) c.in_ok-inner-in-Branch.ensures
+          ∙ folded_token chosen f c.topology.result.now c.in-Branch.branch token (annotation_of token) c.in-Branch.is c.topology.ensures)
           ∙ c.loop-token.invariant.term;
       same = c.loop-token.invariant.same;
     }
@@ -62,19 +59,18 @@ loop-token-preserved g c =
     let chosen = g.F.Sequencer.Sequencer.chosen g.row.A.Denot in
     let f = g.F.Fold.answers c.args.folder.now in
     let o = open_branch c.loop-token.current in
-    let n = open_branch c.next_child.new.of in
-    let around = open_branch c.in-Some-pop.around in
-    let os = map open_branch c.pop.new.self.items in
-    let outer : map open_branch c.loop-token.outer.items ≡ os ++ around ∷ [] =
-    ap (map open_branch) c.in-Some-pop.ensures.items ∙ map-append open_branch c.pop.new.self.items (c.in-Some-pop.around ∷ []) in
-    let term : c.in_ok-term-in-None.term ≡ closed chosen f o =
-    c.in_ok-term-in-None.ensures.term ∙ ap (λ z. closed_with z n) c.loop-token.invariant.same
-    ∙ ap (closed_with f) c.in-None.ensures.1 ∙ sym (all_gone chosen f o c.in-None.ensures.0) in
     record {
-      term = ap (λ z. closed_all chosen f os (closed chosen f z)) c.in_ok-current-in-Some-pop.ensures
-          ∙ ap (λ z. closed_all chosen f os (closed chosen f (with_term around z))) term
-          ∙ sym (innermost chosen f os around (closed chosen f o))
-          ∙ ap (λ z. closed_all chosen f z (closed chosen f o)) (sym outer)
+      term = left (folded chosen f)
+          (map (λ o. folding f (open_branch o)) c.pop.new.self.items)
+          (map (λ o. folding f (open_branch o)) c.loop-token.outer.items)
+          (folding f o) (folding f (open_branch c.in-Some-pop.around)) (folding f (open_branch c.in_ok-current-in-Some-pop.current))
+          c.in_ok-term-in-None.term
+          (mapped_last (λ o. folding f (open_branch o)) c.loop-token.outer.items c.pop.new.self.items c.in-Some-pop.around c.in-Some-pop.ensures.items)
+          c.in-None.ensures.0
+          (c.in_ok-term-in-None.ensures.term
+          ∙ ap (λ z. closing z (open_branch c.next_child.new.of).branch (open_branch c.next_child.new.of).terms) c.loop-token.invariant.same
+          ∙ ap (λ z. closing f z.branch z.terms) c.in-None.ensures.1)
+          (ap (folding f) c.in_ok-current-in-Some-pop.ensures)
           ∙ c.loop-token.invariant.term;
       same = c.close.ensures.same ∙ c.loop-token.invariant.same;
     }
@@ -83,10 +79,10 @@ pub loop-token-smaller : goal.loop-token-smaller
 loop-token-smaller g c =
     let chosen = g.F.Sequencer.Sequencer.chosen g.row.A.Denot in
     let f = g.F.Fold.answers c.args.folder.now in
-    let around = open_branch c.in-Some-pop.around in
-    let os = map open_branch c.pop.new.self.items in
-    let outer : map open_branch c.loop-token.outer.items ≡ os ++ around ∷ [] =
-    ap (map open_branch) c.in-Some-pop.ensures.items ∙ map-append open_branch c.pop.new.self.items (c.in-Some-pop.around ∷ []) in
-    let all = ap (steps_left chosen f) outer ∙ steps-innermost chosen f os around in
-    let here = ap (steps_in chosen f) c.in_ok-current-in-Some-pop.ensures in
-    omega (arith, all, here)
+    steps_back (visits chosen)
+    (map (λ o. folding f (open_branch o)) c.pop.new.self.items)
+    (map (λ o. folding f (open_branch o)) c.loop-token.outer.items)
+    (folding f (open_branch c.loop-token.current)) (folding f (open_branch c.in-Some-pop.around))
+    (folding f (open_branch c.in_ok-current-in-Some-pop.current))
+    (mapped_last (λ o. folding f (open_branch o)) c.loop-token.outer.items c.pop.new.self.items c.in-Some-pop.around c.in-Some-pop.ensures.items)
+    (ap (λ z. z.rest) c.in_ok-current-in-Some-pop.ensures)

@@ -1,18 +1,25 @@
 use Rattle.std.proofs.Common.{◌≡◌, ◌+◌, map}
 use Rattle.wax_fold.specs.Branches.{branch_of}
+use Rattle.wax_fold.specs.Folded.{folded}
 use Rattle.wax_fold.specs.inner.BranchFolded.{branch_folded}
-use Rattle.wax_fold.specs.inner.OpenBranches.{open_branch, closed, closed_all, steps_in, steps_left}
+use Rattle.wax_fold.specs.inner.OpenBranches.{open_branch, folding, visits}
+use Rattle.wax_fold.specs.inner.Opens.{closed, closed_all, steps_in, steps_left}
 use Rattle.wax_fold.proofs.walk.folding.fold_branch.Given as goal
 
+-- the branches around the current one and it have the term of the whole
 abbrev pub invariant-loop-token : goal.invariant-loop-token
-invariant-loop-token g l = record {
-  term : closed_all (g.F.Sequencer.Sequencer.chosen g.row.A.Denot) (g.F.Fold.answers l.fn.folder) (map open_branch l.outer.items)
-      (closed (g.F.Sequencer.Sequencer.chosen g.row.A.Denot) (g.F.Fold.answers l.fn.folder) (open_branch l.current))
-      ≡ branch_folded (g.F.Sequencer.Sequencer.chosen g.row.A.Denot) (g.F.Fold.answers l.fn.folder) (branch_of l.branch);
-  same : g.F.Fold.answers l.folder ≡ g.F.Fold.answers l.fn.folder;
-}
+invariant-loop-token g l =
+    let chosen = g.F.Sequencer.Sequencer.chosen g.row.A.Denot in
+    let f = g.F.Fold.answers l.fn.folder in
+    record {
+      term : closed_all (folded chosen f) (map (λ o. folding f (open_branch o)) l.outer.items)
+          (closed (folded chosen f) (folding f (open_branch l.current))) ≡ branch_folded chosen f (branch_of l.branch);
+      same : g.F.Fold.answers l.folder ≡ f;
+    }
 
 abbrev pub decreases-loop-token : goal.decreases-loop-token
 decreases-loop-token g l =
-    steps_left (g.F.Sequencer.Sequencer.chosen g.row.A.Denot) (g.F.Fold.answers l.fn.folder) (map open_branch l.outer.items)
-    + steps_in (g.F.Sequencer.Sequencer.chosen g.row.A.Denot) (g.F.Fold.answers l.fn.folder) (open_branch l.current)
+    let chosen = g.F.Sequencer.Sequencer.chosen g.row.A.Denot in
+    let f = g.F.Fold.answers l.fn.folder in
+    steps_left (visits chosen) (map (λ o. folding f (open_branch o)) l.outer.items)
+    + steps_in (visits chosen) (folding f (open_branch l.current))

@@ -1,0 +1,80 @@
+//! What a branch is, apart from its tokens.
+ghost use Rattle.std.specs.Prelude.{◌≡◌, ◌∷◌, [], IfOk};
+ghost use Rattle.std.specs.Option.{option_map};
+ghost use Rattle.wax_token.specs.View.{branch_tree};
+ghost use Rattle.wax_fold.specs.Branches.{branch_of, composed, repeated};
+
+use std::alloc::{AllocError, Global};
+use wax_query::diagnostics::NoMemory;
+use wax_token::token::{Alternation, BranchKind, Concatenation, Repetition, Token};
+
+/// What a branch is, without its tokens.
+#[derive(Clone, Copy, Debug)]
+pub enum BranchFold {
+    Alternation,
+    Concatenation,
+    /// From so many to so many copies, where `None` is without limit.
+    Repetition(usize, Option<usize>),
+}
+
+impl BranchFold {
+    /// The branch with these tokens: none where it is a repetition and there is no token, and of a
+    /// repetition with the first token alone. Takes memory for that token.
+    pub fn fold<'t, A: Drop>(
+        self,
+        alloc: Global,
+        tokens: Vec<Token<'t, A>>,
+    ) -> Result<Option<BranchKind<'t, A>>, NoMemory>
+        ensures { (a : A) → IfOk result (λ r. option_map (λ b. branch_tree b a) r ≡ composed self tokens.entry.items a) }
+    {
+        match self {
+            BranchFold::Alternation => Ok(Some(BranchKind::Alternation(Alternation { tokens }))),
+            BranchFold::Concatenation => {
+                Ok(Some(BranchKind::Concatenation(Concatenation { tokens })))
+            }
+            BranchFold::Repetition(lower, upper) => Ok(repetition(alloc, lower, upper, tokens)?),
+        }
+    }
+}
+
+fn repetition<'t, A: Drop>(
+    alloc: Global,
+    lower: usize,
+    upper: Option<usize>,
+    tokens: Vec<Token<'t, A>>,
+) -> Result<Option<BranchKind<'t, A>>, AllocError>
+    ensures { (a : A) → IfOk result (λ r.
+        option_map (λ b. branch_tree b a) r ≡ repeated lower upper tokens.entry.items a) }
+{
+    match tokens.into_iter().next() {
+        Some(token) => Ok(Some(BranchKind::Repetition(Repetition {
+            token: Box::new(alloc, token)?,
+            lower,
+            upper,
+        }))),
+        None => Ok(None),
+    }
+}
+
+/// What a branch is, and its tokens.
+pub(super) fn decompose<'t, A: Drop>(
+    alloc: Global,
+    branch: BranchKind<'t, A>,
+) -> Result<(BranchFold, Vec<Token<'t, A>>), AllocError>
+    ensures { IfOk result (λ r. record { kind = r.0; tokens = r.1.items } ≡ branch_of branch.entry) }
+{
+    match branch {
+        BranchKind::Alternation(alternation) => Ok((BranchFold::Alternation, alternation.tokens)),
+        BranchKind::Concatenation(concatenation) => {
+            Ok((BranchFold::Concatenation, concatenation.tokens))
+        }
+        BranchKind::Repetition(repetition) => {
+            let mut tokens = Vec::new(alloc);
+            tokens.push(Box::into_inner(repetition.token))?;
+            Ok((
+                BranchFold::Repetition(repetition.lower, repetition.upper),
+                tokens,
+            ))
+        }
+    }
+}
