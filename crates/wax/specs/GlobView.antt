@@ -1,6 +1,9 @@
 -- What contracts see of a glob.
 use Rattle.std.specs.Prelude.{◌≡◌, ◌⊎◌, ◌↔◌, ◌≤◌, ℕ, false, List, [], refl}
 use Rattle.std.specs.Coded.{Coded, code_by, coded×, coded_list, coded_ℕ}
+use Rattle.wax_capture.specs.Captures.{Captured}
+use Rattle.wax_capture.specs.Pieces.{ArePieces}
+use Rattle.wax_capture.specs.declared.piece.Piece.{Piece}
 use Rattle.wax_facts.specs.Orderly.{Orderly}
 use Rattle.wax_prefilter.specs.Facts.{PrefilterView, Passes}
 use Rattle.wax_program.specs.Machine.{Accepts}
@@ -10,6 +13,7 @@ use Rattle.wax_token.specs.Meaning.{Means}
 use Rattle.wax_token.specs.Reads.{Span}
 use Rattle.wax_token.specs.Syntax.{Tree, leaf, literal}
 use Rattle.wax_token.specs.TreeCode.{tree_code}
+use Rattle.wax_token.specs.Words.{members}
 
 -- the characters of the expression, and the tree that they spell
 pub record GlobView : Type 0 where
@@ -30,15 +34,20 @@ abbrev pub IsKept : Tree Span → Type 0
 IsKept t = Orderly t ⊎ (t ≡ empty_tree)
 
 -- The program accepts what the tree means with nothing around it, and has the length of the tree's cost,
--- which fits; each such text passes the prefilter.
-pub record IsCompiled (t : Tree Span) (program : List Instruction × ℕ) (prefilter : PrefilterView) : Type 0
-  where
-    pub accepts : (text : List ℕ) → Accepts program.0 0 text ↔ Means t false false text
-    pub len : program.1 ≡ program_length t
-    pub fits : program_length t ≤ 1048576
-    pub passes : (text : List ℕ) → Means t false false text → Passes prefilter text
-    pub kept : IsKept t
+-- which fits; each such text passes the prefilter; and the pieces are those of the tree's tokens.
+pub record IsCompiled (t : Tree Span) (program : List Instruction × ℕ) (prefilter : PrefilterView)
+    (pieces : List Piece) : Type 0 where
+  pub accepts : (text : List ℕ) → Accepts program.0 0 text ↔ Means t false false text
+  pub len : program.1 ≡ program_length t
+  pub fits : program_length t ≤ 1048576
+  pub passes : (text : List ℕ) → Means t false false text → Passes prefilter text
+  pub split : ArePieces (members t) false false pieces
+  pub kept : IsKept t
 
 -- the glob means the text, with nothing around it
 abbrev pub IsMeant : GlobView → List ℕ → Type 0
 IsMeant g text = Means g.tree false false text
+
+-- what the tokens of the glob capture of a text, with nothing around them
+abbrev pub HasCaptures : GlobView → List ℕ → List (List ℕ) → Type 0
+HasCaptures g text captures = Captured (members g.tree) false false text captures

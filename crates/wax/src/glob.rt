@@ -1,4 +1,4 @@
-//! A glob: an expression with its tokens and its program.
+//! A glob: an expression with its tokens, its program and the pieces by which it captures.
 ghost use Rattle.std.specs.Prelude.{◌≡◌, ◌<◌, ◌≤◌, ◌↔◌, ◌+◌, ◌*◌, ◌++◌, ◌∷◌, [], ℕ, List, IsTrue, IfOk, IfSome};
 ghost use Rattle.std.specs.Prelude.{MatchOption, Some, chars, encode_utf8_all, length, false};
 ghost use Rattle.wax_components.specs.Capturing.{captures};
@@ -15,7 +15,7 @@ ghost use Rattle.wax_token.specs.Cost.{program_length};
 ghost use Rattle.wax_token.specs.Decided.{means_test, means_tested};
 ghost use Rattle.wax_partition.specs.Partition.{spelled};
 ghost use Rattle.wax_query.specs.Outcome.{MatchBuild};
-ghost use Rattle.wax.specs.GlobView.{IsKept, IsMeant};
+ghost use Rattle.wax.specs.GlobView.{HasCaptures, IsKept, IsMeant};
 ghost use Rattle.wax.specs.Partition.{as_glob};
 
 mod parts;
@@ -25,7 +25,8 @@ use std::alloc::Global;
 use std::borrow::CowStr;
 use std::fmt;
 use std::marker::Model;
-use wax_candidate::{CandidatePath, Program};
+use wax_candidate::{CandidatePath, MatchedText, Program};
+use wax_capture::Pieces;
 use wax_components::{Warning, captures, diagnose, has_semantic_literals};
 use wax_depth::depth;
 use wax_facts::{has_root, is_exhaustive, text};
@@ -43,6 +44,7 @@ pub struct Glob<'t> {
     tokenized: Tokenized<'t, ExpressionMetadata>,
     program: encode::Program,
     prefilter: Prefilter,
+    pieces: Pieces,
 }
 
 // Written out, so that a crate that drops globs needn't prove again how their tokens are dropped.
@@ -52,6 +54,7 @@ impl Drop for Glob<'_> {
             tokenized: _,
             program: _,
             prefilter: _,
+            pieces: _,
         } = self;
     }
 }
@@ -70,7 +73,7 @@ impl<'t> Model for Glob<'t> {
       tree = g.tokenized.token;
     } };
 
-    ghost invariant = { λ g. IsCompiled g.tokenized.token g.program g.prefilter };
+    ghost invariant = { λ g. IsCompiled g.tokenized.token g.program g.prefilter g.pieces };
 }
 
 impl<'t> Glob<'t> {
@@ -180,10 +183,12 @@ fn compiled<'t>(
     let tokens = tokenized.token.concatenation();
     let program = encode::compile(alloc, tokens, false, false)?;
     let prefilter = Prefilter::new(alloc, tokens)?;
+    let pieces = Pieces::new(alloc, tokens)?;
     Ok(Glob {
         tokenized,
         program,
         prefilter,
+        pieces,
     })
 }
 
@@ -199,6 +204,8 @@ impl Program for Glob<'_> {
     ghost means = { IsMeant };
 
     ghost decides = { λ glob. means_test glob.tree false false };
+
+    ghost captured = { HasCaptures };
 
     ghost program_length = { λ glob. program_length glob.tree };
 
@@ -216,6 +223,18 @@ impl Program for Glob<'_> {
         let mut meter = Meter::new();
         let answer = encode::run(alloc, &self.program, text, &mut meter)?;
         Ok((answer, meter.ticks()))
+    }
+
+    fn matched_counted<'p>(
+        &self,
+        alloc: Global,
+        path: &'p CandidatePath<'_>,
+    ) -> Result<(Option<MatchedText<'p>>, u128), NoMemory> {
+        let text = path.as_str();
+        if !self.prefilter.may_match(text) {
+            return Ok((None, 0));
+        }
+        self.pieces.matched_counted(alloc, text)
     }
 
     /// The least and the greatest number of components of the texts of its tree, where `*`, `$` and a class

@@ -2,6 +2,7 @@
 #![tactic(auto)]
 
 mod build_error;
+pub mod capture;
 pub mod diagnostics;
 pub mod encode;
 pub mod filter;
@@ -16,7 +17,7 @@ pub mod walk;
 pub use build_error::BuildError;
 pub use glob::Glob;
 pub use location::ErrorLocation;
-pub use wax_candidate::{CandidatePath, Program};
+pub use wax_candidate::{CandidatePath, MatchedText, Program};
 pub use wax_escape::{escape, is_contextual_meta_character, is_meta_character};
 pub use wax_lines::{Counted, LinesError, filter_lines};
 pub use wax_query::diagnostics::{NoMemory, Refusal};

@@ -1,12 +1,14 @@
 //! What can be matched against a path.
 ghost use Rattle.std.specs.Prelude.{◌≡◌, ◌↔◌, ◌≤◌, ◌+◌, ◌*◌, ◌++◌, ◌∷◌, ℕ, Bool, List, IsTrue, IfOk, IfSome};
 ghost use Rattle.std.specs.Prelude.{chars, length};
+ghost use Rattle.wax_candidate.specs.Matched.{IsMatchOf, cube_visits};
 ghost use Rattle.wax_query.specs.Components.{Bare, BeginsWithSlash, components};
 ghost use Rattle.wax_query.specs.Ranges.{AtMost, bounds};
 ghost use Rattle.wax_query.specs.Variances.{text_of};
 ghost use Rattle.wax_query.specs.declared.query.when.When.TheVariants.{Always};
 
 use crate::candidate::CandidatePath;
+use crate::matched::MatchedText;
 use std::alloc::Global;
 use wax_query::diagnostics::NoMemory;
 use wax_query::query::{DepthVariance, TextVariance, Variance, When};
@@ -18,6 +20,9 @@ pub trait Program {
 
     // Whether it means them.
     ghost decides: { Self → List ℕ → Bool };
+
+    // What is captured of a text that it means, each capture as its characters.
+    ghost captured: { Self → List ℕ → List (List ℕ) → Type 0 };
 
     // How many instructions it may have.
     ghost program_length: { Self → ℕ };
@@ -41,6 +46,31 @@ pub trait Program {
     {
         let (answer, _) = self.is_match_counted(alloc, path)?;
         Ok(answer)
+    }
+
+    /// The path's text with what is captured of it, or None where the text isn't meant, and the number of
+    /// instructions that were visited: at most 8 times the program's length times the cube of the number of
+    /// characters and one more. Refused with 10 where memory was.
+    fn matched_counted<'p>(
+        &self,
+        alloc: Global,
+        path: &'p CandidatePath<'_>,
+    ) -> Result<(Option<MatchedText<'p>>, u128), NoMemory>
+        ensures matched { IfOk result (λ answer.
+            IsMatchOf (means self.now) (captured self.now) path.now answer.0) }
+        ensures above { IfOk result (λ answer. answer.1 ≤ cube_visits (program_length self.now) path.now) };
+
+    /// The path's text with what is captured of it, or None where the text isn't meant. Refused with 10 where
+    /// memory was.
+    fn matched<'p>(
+        &self,
+        alloc: Global,
+        path: &'p CandidatePath<'_>,
+    ) -> Result<Option<MatchedText<'p>>, NoMemory>
+        ensures { IfOk result (IsMatchOf (means self.now) (captured self.now) path.now) }
+    {
+        let (matched, _) = self.matched_counted(alloc, path)?;
+        Ok(matched)
     }
 
     /// How many components the meant texts have: none that isn't empty and has no `/` at its ends has

@@ -1,5 +1,5 @@
 //! Lines that are filtered by a program that is no glob.
-ghost use Rattle.std.specs.Prelude.{◌≡◌, ◌==◌, nat_eq, true, codes, encode_utf8_all};
+ghost use Rattle.std.specs.Prelude.{◌≡◌, ◌==◌, [], nat_eq, true, codes, encode_utf8_all};
 ghost use Rattle.std.specs.List.{ends_with};
 
 use crate::streams::{Asked, Narrow, Slow};
@@ -7,7 +7,7 @@ use std::alloc::Global;
 use std::convert::AsStr;
 use std::io::{Read, Write};
 use std::test::*;
-use wax::{CandidatePath, Counted, LinesError, NoMemory, Program, filter_lines};
+use wax::{CandidatePath, Counted, LinesError, MatchedText, NoMemory, Program, filter_lines};
 
 const NAMES: &[u8] = b"logo.png\nlogo.svg\na/b.png\nx.png";
 
@@ -18,6 +18,8 @@ impl Program for Pictures {
     ghost means = { λ _ text. ends_with nat_eq (encode_utf8_all text) (codes ".png") ≡ true };
 
     ghost decides = { λ _ text. ends_with nat_eq (encode_utf8_all text) (codes ".png") };
+
+    ghost captured = { λ _ _ captures. captures ≡ [] };
 
     ghost program_length = { λ _. 1 };
 
@@ -34,6 +36,18 @@ impl Program for Pictures {
         }
         let count = text.chars().count();
         Ok((text.as_bytes().ends_with(b".png"), count as u128))
+    }
+
+    fn matched_counted<'p>(
+        &self,
+        alloc: Global,
+        path: &'p CandidatePath<'_>,
+    ) -> Result<(Option<MatchedText<'p>>, u128), NoMemory> {
+        let (is_match, visits) = self.is_match_counted(alloc, path)?;
+        if !is_match {
+            return Ok((None, visits));
+        }
+        Ok((Some(MatchedText::whole(alloc, path.as_str())), visits))
     }
 }
 

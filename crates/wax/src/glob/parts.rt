@@ -18,6 +18,7 @@ impl<'t> Glob<'t> {
             tokenized,
             program: _,
             prefilter: _,
+            pieces: _,
         } = self;
         let (prefix, rest) = partition(alloc, tokenized)?;
         let Some(tokenized) = rest else {
