@@ -1,10 +1,12 @@
 //! Walks through the tokens of a tree, breadth first.
 ghost use Rattle.std.specs.Prelude.{◌≡◌, ◌++◌, ◌∷◌, ◌<◌, [], ℕ, MatchResult, OnOk, Option, Some, None, map};
 ghost use Rattle.std.specs.Iterator.{at_most};
+ghost use Rattle.std.specs.List.Sorted.{IsPermutation};
 ghost use Rattle.wax_token.specs.Syntax.{tree_size};
 ghost use Rattle.wax_fold.specs.Order.{alternatives, breadth_first, children, conjuncts, level, placed, root};
 ghost use Rattle.wax_fold.specs.Branches.{branch_of};
 ghost use Rattle.wax_fold.specs.Sequences.{forward_chosen, starting_chosen, ending_chosen};
+ghost use Rattle.wax_fold.specs.Subtrees.{subtrees};
 ghost use Rattle.wax_fold.specs.inner.WalkSteps.{Ends, Gives, TakesFirst, gone_below};
 ghost use Rattle.wax_fold.specs.Walking.{Nexts, cancelled, entry_of, items_left, to_come, walking};
 
@@ -200,10 +202,13 @@ pub fn with_sequence<'i, 't, A, S: Sequencer>(
     }
 }
 
-/// All tokens of the tree, breadth first.
+/// All tokens of the tree, each once, breadth first.
+#[tactic(auto, using(crate::proofs::Whole::each_once))]
 pub fn forward<'i, 't, A>(alloc: Global, tree: &'i Token<'t, A>) -> Walk<'i, 't, A, Forward>
     ensures all { to_come forward_chosen (walking result) ≡ breadth_first forward_chosen (root tree.now ∷ []) }
     ensures start { walking result ≡ record { rest = root tree.now ∷ []; current = None } }
+    ensures each_once { IsPermutation (subtrees tree.now)
+        (map (λ e. e.token) (breadth_first forward_chosen (root tree.now ∷ []))) }
 {
     with_sequence(alloc, tree, Forward)
 }
