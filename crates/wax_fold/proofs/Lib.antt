@@ -4,3 +4,5 @@ pub mod Folds
 pub mod Maps
 pub mod Levels
 pub mod Walks
+pub mod Whole
+pub mod Finding

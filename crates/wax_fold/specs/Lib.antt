@@ -4,5 +4,6 @@ pub mod Mapped
 pub mod Order
 pub mod Positions
 pub mod Sequences
+pub mod Subtrees
 pub mod Walking
 pub mod inner

@@ -42,7 +42,8 @@ module _ {A : Type 0} (chosen : Branch A → List ℕ) where
   children_at p (leaf a l) = []
   children_at p (alternation a ts) = chosen_in (record { kind = Alternation; tokens = listed ts }) p
   children_at p (concatenation a ts) = chosen_in (record { kind = Concatenation; tokens = listed ts }) p
-  children_at p (repetition a t low high) = chosen_in (record { kind = Repetition low high; tokens = t ∷ [] }) p
+  children_at p (repetition a t low high) =
+      chosen_in (record { kind = Repetition low high; tokens = t ∷ [] }) p
 
   abbrev pub children : Entry A → List (Entry A)
   children e = children_at e.position e.token
@@ -64,3 +65,7 @@ height (e ∷ es) = max (tree_size e.token + 1) (height es)
 -- these tokens and all below them, level after level
 abbrev pub breadth_first : {A : Type 0} → (Branch A → List ℕ) → List (Entry A) → List (Entry A)
 breadth_first chosen es = levels_to chosen (height es) es
+
+-- all tokens of a tree that are chosen
+abbrev pub tree_order : {A : Type 0} → (Branch A → List ℕ) → Tree A → List (Entry A)
+tree_order chosen t = breadth_first chosen (root t ∷ [])

@@ -1,6 +1,7 @@
 -- A walk on its way.
 use denote.Ref.{Bor}
-use Rattle.std.specs.Prelude.{◌≡◌, ℕ, ◌+◌, ◌*◌, List, [], ◌∷◌, ◌++◌, Option, Some, None, Result, Ok, Err, length, map}
+use Rattle.std.specs.Prelude.{◌≡◌, ℕ, ◌+◌, ◌*◌, List, [], ◌∷◌, ◌++◌, length, map}
+use Rattle.std.specs.Prelude.{Option, Some, None, Result, Ok, Err}
 use Rattle.std.specs.Option.{option_map}
 use Rattle.wax_query.specs.declared.diagnostics.NoMemory.{NoMemory}
 use Rattle.wax_token.specs.Syntax.{Tree}
@@ -8,9 +9,10 @@ use Rattle.wax_fold.specs.declared.walk.entry.WalkEntry.{WalkEntry}
 use Rattle.wax_fold.specs.declared.walk.iterator.Walk.{Walk}
 use Rattle.wax_fold.specs.Branches.{Branch}
 use Rattle.wax_fold.specs.Folded.{listed_term}
-use Rattle.wax_fold.specs.Order.{Entry, children, breadth_first}
+use Rattle.wax_fold.specs.Order.{Entry, root, children, breadth_first}
 
--- the tokens that are to come with all below them, and the token given last, unless what is below it was cancelled
+-- the tokens that are to come with all below them, and the token given last, unless what is below it was
+-- cancelled
 pub record Walking (A : Type 0) : Type 0 where
   pub rest : List (Entry A)
   pub current : Option (Entry A)
@@ -23,6 +25,10 @@ walking w = record {
   rest = map entry_of (listed_term w.first ++ w.queue.items);
   current = option_map entry_of w.current;
 }
+
+-- nothing was given yet
+abbrev pub begun : {A : Type 0} → Tree A → Walking A
+begun t = record { rest = root t ∷ []; current = None }
 
 module _ {A : Type 0} (chosen : Branch A → List ℕ) where
   abbrev pub below_current : Option (Entry A) → List (Entry A)

@@ -3,3 +3,4 @@ pub mod OpenBranches
 pub mod WalkSteps
 pub mod Opens
 pub mod OpenTokens
+pub mod Examples

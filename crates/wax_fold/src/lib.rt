@@ -1,4 +1,6 @@
 //! Folds of token trees, and walks through them.
 #![tactic(auto)]
 
+#[cfg(test)]
+mod uses;
 pub mod walk;

@@ -35,11 +35,17 @@ with_term o x = record { branch = o.branch; rest = o.rest; terms = o.terms ++ li
 -- the next of its tokens is taken
 abbrev pub NextChild : {A T : Type 0} → OpenBranch A T → Option (Bor (Tree A)) → OpenBranch A T → Type 0
 NextChild old None new = (old.rest ≡ []) × (new ≡ old)
-NextChild old (Some t) new = (old.rest ≡ t.now ∷ new.rest) × (new.branch ≡ old.branch) × (new.terms ≡ old.terms)
+NextChild old (Some t) new =
+    (old.rest ≡ t.now ∷ new.rest) × (new.branch ≡ old.branch) × (new.terms ≡ old.terms)
 
 -- one step for each token that is gone through, and one more for a branch
 abbrev pub counting : {A : Type 0} → Folding A ℕ
-counting = record { initialize = λ b. None; fold = λ b ns. Some (total ns + 2); finalize = λ b n. n; term = λ l. 1 }
+counting = record {
+  initialize = λ b. None;
+  fold = λ b ns. Some (total ns + 2);
+  finalize = λ b n. n;
+  term = λ l. 1;
+}
 
 abbrev pub visits : {A : Type 0} → (Branch A → List ℕ) → Tree A → ℕ
 visits chosen t = total (listed_term (folded chosen counting t))

@@ -32,7 +32,8 @@ NextToken old (Some t) new = (old.rest ≡ t ∷ new.rest)
 
 -- with one more new token
 abbrev pub with_token : {A X : Type 0} → OpenToken A X → Option X → OpenToken A X
-with_token o x = record { annotation = o.annotation; kind = o.kind; rest = o.rest; done = o.done ++ listed_term x }
+with_token o x =
+    record { annotation = o.annotation; kind = o.kind; rest = o.rest; done = o.done ++ listed_term x }
 
 -- so many steps are taken in a token
 abbrev pub visits : {A : Type 0} → Tree A → ℕ

@@ -25,7 +25,8 @@ impl BranchFold {
         alloc: Global,
         tokens: Vec<Token<'t, A>>,
     ) -> Result<Option<BranchKind<'t, A>>, NoMemory>
-        ensures { (a : A) → IfOk result (λ r. option_map (λ b. branch_tree b a) r ≡ composed self tokens.entry.items a) }
+        ensures { (a : A) → IfOk result (λ r.
+            option_map (λ b. branch_tree b a) r ≡ composed self tokens.entry.items a) }
     {
         match self {
             BranchFold::Alternation => Ok(Some(BranchKind::Alternation(Alternation { tokens }))),

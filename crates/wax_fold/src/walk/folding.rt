@@ -126,7 +126,8 @@ fn close<'t, A, F: Fold<'t, A>>(
     of: OpenBranch<'_, 't, A, F::Term>,
     folder: &mut F,
 ) -> Result<Option<F::Term>, NoMemory>
-    ensures term { IfOk result (λ t. t ≡ closing (F.answers folder.old) (branch_of of.entry.branch.now) of.entry.terms.items) }
+    ensures term { IfOk result (λ t.
+        t ≡ closing (F.answers folder.old) (branch_of of.entry.branch.now) of.entry.terms.items) }
     ensures same { F.answers folder.new ≡ F.answers folder.old }
 {
     let OpenBranch {

@@ -1,12 +1,14 @@
 //! Walks through the tokens of a tree, breadth first.
 ghost use Rattle.std.specs.Prelude.{◌≡◌, ◌++◌, ◌∷◌, ◌<◌, [], ℕ, MatchResult, OnOk, Option, Some, None, map};
 ghost use Rattle.std.specs.Iterator.{at_most};
+ghost use Rattle.std.specs.List.Sorted.{IsPermutation};
 ghost use Rattle.wax_token.specs.Syntax.{tree_size};
-ghost use Rattle.wax_fold.specs.Order.{alternatives, breadth_first, children, conjuncts, level, placed, root};
+ghost use Rattle.wax_fold.specs.Order.{alternatives, children, conjuncts, level, placed, root, tree_order};
 ghost use Rattle.wax_fold.specs.Branches.{branch_of};
 ghost use Rattle.wax_fold.specs.Sequences.{forward_chosen, starting_chosen, ending_chosen};
+ghost use Rattle.wax_fold.specs.Subtrees.{subtrees};
 ghost use Rattle.wax_fold.specs.inner.WalkSteps.{Ends, Gives, TakesFirst, gone_below};
-ghost use Rattle.wax_fold.specs.Walking.{Nexts, cancelled, entry_of, items_left, to_come, walking};
+ghost use Rattle.wax_fold.specs.Walking.{Nexts, begun, cancelled, entry_of, items_left, to_come, walking};
 
 use crate::walk::entry::{Depth, Position, TokenEntry, WalkEntry};
 use crate::walk::sequence::{ChildToken, Parent, Sequencer};
@@ -177,8 +179,8 @@ pub fn with_sequence<'i, 't, A, S: Sequencer>(
     tree: &'i Token<'t, A>,
     sequencer: S,
 ) -> Walk<'i, 't, A, S>
-    ensures all { to_come (S.chosen A) (walking result) ≡ breadth_first (S.chosen A) (root tree.now ∷ []) }
-    ensures start { walking result ≡ record { rest = root tree.now ∷ []; current = None } }
+    ensures all { to_come (S.chosen A) (walking result) ≡ tree_order (S.chosen A) tree.now }
+    ensures start { walking result ≡ begun tree.now }
     // no level is left out
     ensures deepest { (n : ℕ) → tree_size tree.now < n → level (S.chosen A) n (root tree.now ∷ []) ≡ [] }
 {
@@ -200,10 +202,13 @@ pub fn with_sequence<'i, 't, A, S: Sequencer>(
     }
 }
 
-/// All tokens of the tree, breadth first.
+/// All tokens of the tree, each once, breadth first.
+#[tactic(auto, using(crate::proofs::Whole::each_once))]
 pub fn forward<'i, 't, A>(alloc: Global, tree: &'i Token<'t, A>) -> Walk<'i, 't, A, Forward>
-    ensures all { to_come forward_chosen (walking result) ≡ breadth_first forward_chosen (root tree.now ∷ []) }
-    ensures start { walking result ≡ record { rest = root tree.now ∷ []; current = None } }
+    ensures all { to_come forward_chosen (walking result) ≡ tree_order forward_chosen tree.now }
+    ensures start { walking result ≡ begun tree.now }
+    ensures each_once { IsPermutation (subtrees tree.now)
+        (map (λ e. e.token) (tree_order forward_chosen tree.now)) }
 {
     with_sequence(alloc, tree, Forward)
 }
@@ -212,16 +217,16 @@ pub fn forward<'i, 't, A>(alloc: Global, tree: &'i Token<'t, A>) -> Walk<'i, 't,
 /// token that is given the first of a concatenation, the branches of an alternation, and the body of
 /// a repetition.
 pub fn starting<'i, 't, A>(alloc: Global, tree: &'i Token<'t, A>) -> Walk<'i, 't, A, Starting>
-    ensures all { to_come starting_chosen (walking result) ≡ breadth_first starting_chosen (root tree.now ∷ []) }
-    ensures start { walking result ≡ record { rest = root tree.now ∷ []; current = None } }
+    ensures all { to_come starting_chosen (walking result) ≡ tree_order starting_chosen tree.now }
+    ensures start { walking result ≡ begun tree.now }
 {
     with_sequence(alloc, tree, Starting)
 }
 
 /// The same of the tokens with which texts end: the last of a concatenation.
 pub fn ending<'i, 't, A>(alloc: Global, tree: &'i Token<'t, A>) -> Walk<'i, 't, A, Ending>
-    ensures all { to_come ending_chosen (walking result) ≡ breadth_first ending_chosen (root tree.now ∷ []) }
-    ensures start { walking result ≡ record { rest = root tree.now ∷ []; current = None } }
+    ensures all { to_come ending_chosen (walking result) ≡ tree_order ending_chosen tree.now }
+    ensures start { walking result ≡ begun tree.now }
 {
     with_sequence(alloc, tree, Ending)
 }

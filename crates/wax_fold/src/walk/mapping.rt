@@ -50,7 +50,8 @@ fn map_branch<'t, A: Drop, F: FoldMap<'t, A>>(
     branch: BranchKind<'t, A>,
     folder: &mut F,
 ) -> Result<Option<F::Token>, NoMemory>
-    ensures token { IfOk result (λ r. r ≡ mapped (F.answers folder.old) (branch_tree branch.entry annotation)) }
+    ensures token { IfOk result (λ r.
+        r ≡ mapped (F.answers folder.old) (branch_tree branch.entry annotation)) }
     ensures same { F.answers folder.new ≡ F.answers folder.old }
 {
     let mut outer = Vec::new(alloc);

@@ -148,7 +148,8 @@ fn some<'i, 't, A>(
     alloc: Global,
     token: Option<&'i Token<'t, A>>,
 ) -> Result<Vec<ChildToken<'i, 't, A>>, AllocError>
-    ensures { IfOk result (λ cs. map (λ c. c.now) cs.items ≡ listed_term (option_map (λ t. t.now) token.entry)) }
+    ensures { IfOk result (λ cs. map (λ c. c.now) cs.items
+        ≡ listed_term (option_map (λ t. t.now) token.entry)) }
 {
     match token {
         Some(token) => one(alloc, token),
