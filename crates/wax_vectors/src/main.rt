@@ -4,6 +4,7 @@
 
 mod cases;
 mod costs;
+mod parts;
 mod places;
 mod programs;
 mod queries;
@@ -32,6 +33,7 @@ fn main(rt: HostRuntime) -> io::Result<()> {
         show(&rt, name, &compared(rt.alloc(), kind, rows.as_str())?)?;
     }
     show(&rt, "worked", &worked::report(rt.alloc())?)?;
+    show(&rt, "parts", &parts::report(rt.alloc())?)?;
     show(&rt, "places", &places::report(rt.alloc())?)?;
     show(&rt, "programs", &programs::report(rt.alloc())?)?;
     show(&rt, "costs", &costs::report(rt.alloc())?)
