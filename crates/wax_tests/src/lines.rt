@@ -70,6 +70,26 @@ fn candidates_print_their_text(rt: HostRuntime) -> Result<(), Fail> {
 }
 
 #[test]
+fn a_match_may_capture_nothing(rt: HostRuntime) -> Result<(), Fail> {
+    let path = CandidatePath::from("a/金.png");
+    let (matched, visits) = Pictures.matched_counted(rt.alloc(), &path)?;
+    assert_eq!(rt; visits, 7);
+    let matched = matched.expect(&rt, "a match");
+    assert_eq!(rt; matched.complete(), "a/金.png");
+    assert_eq!(rt; matched.get(0), Some("a/金.png"));
+    assert_eq!(rt; matched.get(1), None);
+    assert_eq!(rt; matched.to_candidate_path().as_str(), "a/金.png");
+    assert!(rt;
+        Pictures
+            .matched(rt.alloc(), &CandidatePath::from("png"))?
+            .is_none()
+    );
+    let starved = CandidatePath::from("starve");
+    assert!(rt; Pictures.matched(rt.alloc(), &starved).is_err());
+    Ok(())
+}
+
+#[test]
 fn lines_are_filtered(rt: HostRuntime) -> Result<(), Fail> {
     let cases: [(&[u8], &[u8], u64); 6] = [
         (NAMES, b"logo.png\na/b.png\nx.png\n", 0),

@@ -1,5 +1,6 @@
 //! Rows of cases that the tests of the Rust crate state. The first field tells the kind.
 
+use crate::captures::captured;
 use crate::queries::query_row;
 use crate::rows::{field, is_meant, number};
 use std::alloc::{AllocError, Global};
@@ -8,7 +9,7 @@ use wax::token::{TokenFacts, depth, parse};
 use wax::{Glob, NoMemory, escape};
 use wax_commands::{depth_text, when_text};
 
-/// The row made anew. Of a match, that there is one, and not what it captures.
+/// The row made anew.
 pub fn case_row(alloc: Global, row: &str) -> Result<String, NoMemory> {
     let kind = field(row, 0);
     let first = field(row, 1);
@@ -31,14 +32,15 @@ fn built(alloc: Global, expression: &str) -> Result<String, AllocError> {
     format!(in alloc; "{number}")
 }
 
-/// The path, whether it is meant, and the captures as they stand in the row.
-fn matched(alloc: Global, row: &str) -> Result<String, AllocError> {
+/// The path, whether it is meant, and the whole text with its captures where it is.
+fn matched(alloc: Global, row: &str) -> Result<String, NoMemory> {
+    let expression = field(row, 1);
     let path = field(row, 2);
-    let answer = is_meant(alloc, field(row, 1), path).map_or("?", digit);
+    let answer = is_meant(alloc, expression, path).map_or("?", digit);
     let mut fields = format!(in alloc; "{path}\t{answer}")?;
-    for capture in row.split('\t').skip(4) {
+    if let Some(texts) = captured(alloc, expression, path, '\t')? {
         fields.push('\t')?;
-        fields.push_str(capture)?;
+        fields.push_str(texts.as_str())?;
     }
     Ok(fields)
 }

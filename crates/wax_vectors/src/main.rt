@@ -2,6 +2,7 @@
 //! row that comes to something else here, with both values, and how many rows are the same.
 #![tactic(auto)]
 
+mod captures;
 mod cases;
 mod costs;
 mod parts;
@@ -24,6 +25,7 @@ fn main(rt: HostRuntime) -> io::Result<()> {
         ("worked_labels.tsv", Kind::Labels),
         ("worked_match.tsv", Kind::Match),
         ("match.tsv", Kind::Match),
+        ("captures.tsv", Kind::Captures),
         ("worked_query.tsv", Kind::Query),
         ("query.tsv", Kind::Query),
         ("worked_cases.tsv", Kind::Case),

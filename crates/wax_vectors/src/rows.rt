@@ -1,5 +1,6 @@
 //! Rows of answers: an expression, with a path or alone, and what the Rust crate answers.
 
+use crate::captures::captures_row;
 use crate::cases::case_row;
 use crate::queries::query_row;
 use crate::report::Report;
@@ -17,6 +18,8 @@ pub enum Kind {
     Labels,
     /// An expression, a path, and whether the one means the other.
     Match,
+    /// An expression, a path that is meant, and its whole text with its captures.
+    Captures,
     /// An expression, and what is known of its glob.
     Query,
     /// A kind, and what a row of that kind tells.
@@ -31,6 +34,7 @@ pub fn compared(alloc: Global, kind: Kind, rows: &str) -> Result<Report, AllocEr
             Kind::Accept => accept_row(alloc, row),
             Kind::Labels => labels_row(alloc, row),
             Kind::Match => match_row(alloc, row),
+            Kind::Captures => captures_row(alloc, row),
             Kind::Query => query_row(alloc, field(row, 0)).map_err(|_| NoMemory),
             Kind::Case => case_row(alloc, row),
         };

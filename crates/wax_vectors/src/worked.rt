@@ -1,5 +1,6 @@
 //! Worked examples that no row of a file can hold.
 
+use crate::captures::captured;
 use crate::report::Report;
 use crate::rows::is_meant;
 use std::alloc::{AllocError, Global};
@@ -13,6 +14,8 @@ pub fn report(alloc: Global) -> Result<Report, AllocError> {
     compare_places(alloc, &mut report)?;
     compare_visits(alloc, &mut report)?;
     compare_empty(alloc, &mut report)?;
+    compare_captures(alloc, &mut report)?;
+    compare_owned(alloc, &mut report)?;
     let printed = printed(alloc, "a/*");
     report.compare_text(alloc, "what a glob prints", printed, "a/*")?;
     Ok(report)
@@ -93,6 +96,46 @@ fn compare_empty(alloc: Global, report: &mut Report) -> Result<(), AllocError> {
         is_meant_by_empty(alloc, "a"),
         Some(false),
     )
+}
+
+/// The whole text and its captures, in their order; nothing where the path isn't meant.
+fn compare_captures(alloc: Global, report: &mut Report) -> Result<(), AllocError> {
+    for (expression, path, wanted) in [
+        ("a/**/b", "a/x/y/z/b", "a/x/y/z/b|x/y/z/"),
+        ("a/**/b", "a/b", "a/b|"),
+        ("a/**/b", "a", "no match"),
+        ("$-*.*", "a-b-c.ext", "a-b-c.ext|a|b-c|ext"),
+        ("**/{*.{go,rs}}", "src/main.go", "src/main.go|src/|main.go"),
+        (
+            "log-{<[0-9]:3>,<[0-9]:4>-<[0-9]:2>-<[0-9]:2>}.txt",
+            "log-1970-01-01.txt",
+            "log-1970-01-01.txt|1970-01-01",
+        ),
+        ("左{金,銀}右*", "左銀右x", "左銀右x|銀|x"),
+    ] {
+        let texts = captured(alloc, expression, path, '|').unwrap_or(None);
+        let texts = texts.as_ref().map_or("no match", |texts| texts.as_str());
+        report.compare(alloc, expression, texts, wanted)?;
+    }
+    Ok(())
+}
+
+/// What is captured first, as a text of its own; `None` where there is no match.
+fn first_capture(alloc: Global, expression: &str, path: &str) -> Option<String> {
+    let glob = Glob::new(alloc, expression).ok()?;
+    let path = CandidatePath::from(path);
+    let matched = glob.matched(alloc, &path).ok()??;
+    let copied = matched.to_owned(alloc).ok()?;
+    let owned = matched.into_owned(alloc).ok()?;
+    let first = copied.get(1)?;
+    let same = owned.get(1)? == first;
+    format!(in alloc; "{first} {same}").ok()
+}
+
+/// Matches with texts of their own.
+fn compare_owned(alloc: Global, report: &mut Report) -> Result<(), AllocError> {
+    let made = first_capture(alloc, "a/*.*", "a/金.b");
+    report.compare_text(alloc, "captures of owned texts", made, "金 true")
 }
 
 /// What the expression's glob prints; `None` where it doesn't build.
