@@ -1,5 +1,5 @@
 -- The fold of a branch, and how many steps it takes.
-use Rattle.std.proofs.Common.{◌≡◌, ℕ, ◌+◌, ◌≤◌, List, [], ◌∷◌, ◌++◌, map, refl, sym, ◌∙◌, ap, arith, append-nil}
+use Rattle.std.proofs.Common.{◌≡◌, ℕ, ◌+◌, ◌<◌, ◌≤◌, List, [], ◌∷◌, ◌++◌, Option, map, refl, sym, ◌∙◌, ap, arith, append-nil}
 use Rattle.std.specs.List.{flat_map}
 use Rattle.wax_token.specs.Syntax.{Tree}
 use Rattle.wax_token.specs.View.{branch_tree, topology_tree}
@@ -15,8 +15,9 @@ use Rattle.wax_fold.specs.Branches.{Branch, branch_of, picked}
 use Rattle.wax_token.specs.Words.{listed}
 use Rattle.wax_fold.specs.Folded.{Folding, listed_term, branch_term, folded, folded_each}
 use Rattle.wax_fold.specs.inner.BranchFolded.{branch_folded}
-use Rattle.wax_fold.specs.inner.OpenBranches.{OpenBranch, closing, folding, counting, visits}
-use Rattle.wax_fold.specs.inner.Opens.{closed, results, total}
+use Rattle.wax_fold.specs.inner.OpenBranches.{OpenBranch, closing, folding, with_term, counting, visits}
+use Rattle.wax_fold.specs.inner.Opens.{Open, closed, closed_all, results, total, steps_in, steps_left}
+use Rattle.wax_fold.proofs.Opens.{alone, entered, left, steps_entered, steps_back}
 use Rattle.wax_fold.proofs.Picking.{picked_mapped}
 
 pub listed_trees : {A : Type 0} (ts : List (Tree A)) → listed (trees ts) ≡ ts
@@ -53,6 +54,35 @@ module _ {A T : Type 0} (chosen : Branch A → List ℕ) (f : Folding A T) where
       ap (λ z. closed (folded chosen f) (folding f z)) e
       ∙ ap (closing f b) (sym (picked_mapped listed_term (folded chosen f) (chosen b) b.tokens))
 
+module _ {A T : Type 0} (chosen : Branch A → List ℕ) (f : Folding A T) (w : Option T) where
+  -- none is around the first
+  pub begun : {X : Type 0} (view : X → Open A T) (xs : List X) (o : OpenBranch A T) (b : Branch A) → xs ≡ [] →
+      o ≡ record { branch = b; rest = picked (chosen b) b.tokens; terms = [] } →
+      closed_all (folded chosen f) (map view xs) (closed (folded chosen f) (folding f o)) ≡ branch_folded chosen f b
+  begun view xs o b e i =
+      alone (folded chosen f) view xs (closed (folded chosen f) (folding f o)) e ∙ opened chosen f o b i
+
+  -- a token that is a branch is opened
+  pub deeper : (os all : List (Open A T)) (o n inner : OpenBranch A T) (t : Tree A) (b : Branch A) →
+      all ≡ os ++ folding f n ∷ [] → (o.rest ≡ t ∷ n.rest) × (n.branch ≡ o.branch) × (n.terms ≡ o.terms) →
+      inner ≡ record { branch = b; rest = picked (chosen b) b.tokens; terms = [] } →
+      branch_folded chosen f b ≡ folded chosen f t →
+      closed_all (folded chosen f) os (closed (folded chosen f) (folding f o)) ≡ w →
+      closed_all (folded chosen f) all (closed (folded chosen f) (folding f inner)) ≡ w
+  deeper os all o n inner t b e h i k v =
+      entered (folded chosen f) os all (folding f o) (folding f n) (folding f inner) t e h.0 (ap (closing f) h.1) h.2
+      (opened chosen f inner b i ∙ k) ∙ v
+
+  -- a branch is closed
+  pub back : (os all : List (Open A T)) (o n around new : OpenBranch A T) (g : Folding A T) (x : Option T) →
+      all ≡ os ++ folding f around ∷ [] → (o.rest ≡ []) × (n ≡ o) → g ≡ f →
+      x ≡ closing g n.branch n.terms → new ≡ with_term around x →
+      closed_all (folded chosen f) all (closed (folded chosen f) (folding f o)) ≡ w →
+      closed_all (folded chosen f) os (closed (folded chosen f) (folding f new)) ≡ w
+  back os all o n around new g x e h s k i v =
+      left (folded chosen f) os all (folding f o) (folding f around) (folding f new) x e h.0
+      (k ∙ ap (λ z. closing z n.branch n.terms) s ∙ ap (λ z. closing f z.branch z.terms) h.1) (ap (folding f) i) ∙ v
+
 total-append : (xs ys : List ℕ) → total (xs ++ ys) ≡ total xs + total ys
 total-append [] ys = omega arith
 total-append (x ∷ xs) ys = omega (arith, total-append xs ys)
@@ -75,3 +105,19 @@ module _ {A : Type 0} (chosen : Branch A → List ℕ) where
       let rest : total (map (visits chosen) o.rest) ≡ total (map (visits chosen) (picked (chosen b) b.tokens)) =
       ap (λ z. total (map (visits chosen) z.rest)) e in
       omega (arith, here, within, rest, total_visits (picked (chosen b) b.tokens))
+
+  pub fewer_deeper : {T : Type 0} (f : Folding A T) (os all : List (Open A T)) (o n inner : OpenBranch A T) (t : Tree A) (b : Branch A) →
+      all ≡ os ++ folding f n ∷ [] → o.rest ≡ t ∷ n.rest →
+      inner ≡ record { branch = b; rest = picked (chosen b) b.tokens; terms = [] } →
+      branch_folded chosen counting b ≡ folded chosen counting t →
+      steps_left (visits chosen) all + steps_in (visits chosen) (folding f inner)
+      < steps_left (visits chosen) os + steps_in (visits chosen) (folding f o)
+  fewer_deeper f os all o n inner t b e r i k =
+      steps_entered (visits chosen) os all (folding f o) (folding f n) (folding f inner) t e r (visits_inside inner b t i k)
+
+  pub fewer_back : {T : Type 0} (f : Folding A T) (os all : List (Open A T)) (o around new : OpenBranch A T) (x : Option T) →
+      all ≡ os ++ folding f around ∷ [] → new ≡ with_term around x →
+      steps_left (visits chosen) os + steps_in (visits chosen) (folding f new)
+      < steps_left (visits chosen) all + steps_in (visits chosen) (folding f o)
+  fewer_back f os all o around new x e i =
+      steps_back (visits chosen) os all (folding f o) (folding f around) (folding f new) e (ap (λ z. z.rest) i)

@@ -54,7 +54,7 @@ unfolding tallest
 conjuncts-height p [] = refl
 conjuncts-height p (t ∷ ts) = ap (max (tree_size t + 1)) (conjuncts-height p ts)
 
-height-append : {A : Type 0} (es fs : List (Entry A)) → height (es ++ fs) ≡ max (height es) (height fs)
+pub height-append : {A : Type 0} (es fs : List (Entry A)) → height (es ++ fs) ≡ max (height es) (height fs)
 height-append [] fs = omega arith
 height-append (e ∷ es) fs = omega (arith, height-append es fs)
 
@@ -87,7 +87,7 @@ module _ {A : Type 0} (chosen : Branch A → List ℕ) where
       omega (arith, height-append (children chosen e) (flat_map (children chosen) es), lower e.position e.token, all_lower es)
 
   -- ---- levels
-  level-append : (n : ℕ) (es fs : List (Entry A)) → level chosen n (es ++ fs) ≡ level chosen n es ++ level chosen n fs
+  pub level-append : (n : ℕ) (es fs : List (Entry A)) → level chosen n (es ++ fs) ≡ level chosen n es ++ level chosen n fs
   level-append zero es fs = refl
   level-append (suc n) es fs =
       ap (flat_map (children chosen)) (level-append n es fs)
@@ -116,7 +116,7 @@ module _ {A : Type 0} (chosen : Branch A → List ℕ) where
       ap (λ z. levels_to chosen (added k n) es ++ z) (beyond (suc (added k n)) es (omega (arith, added-plus k n, h)))
       ∙ append-nil (levels_to chosen (added k n) es) ∙ further k n es h
 
-  settled : (n : ℕ) (es : List (Entry A)) → height es ≤ n → levels_to chosen n es ≡ breadth_first chosen es
+  pub settled : (n : ℕ) (es : List (Entry A)) → height es ≤ n → levels_to chosen n es ≡ breadth_first chosen es
   settled n es h =
       let e : n ≡ added (n - height es) (height es) = omega (arith, added-plus (n - height es) (height es), h) in
       ap (λ k. levels_to chosen k es) e ∙ further (n - height es) (height es) es (omega arith)

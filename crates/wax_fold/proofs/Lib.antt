@@ -6,3 +6,4 @@ pub mod Levels
 pub mod Walks
 pub mod Whole
 pub mod Finding
+pub mod Splits

@@ -1,5 +1,5 @@
 -- A tree that is built anew, and how many steps it takes.
-use Rattle.std.proofs.Common.{◌≡◌, ◌+◌, ◌*◌, ◌≤◌, List, [], ◌∷◌, ◌++◌, map, refl, sym, ◌∙◌, ap, arith, append-nil}
+use Rattle.std.proofs.Common.{◌≡◌, ◌+◌, ◌*◌, ◌<◌, ◌≤◌, List, [], ◌∷◌, ◌++◌, Option, Some, map, refl, sym, ◌∙◌, ap, arith, append-nil}
 use Rattle.wax_token.specs.Syntax.{Tree, trees_size}
 use Rattle.wax_token.specs.View.{branch_tree, topology_tree}
 use Rattle.wax_token.specs.Words.{trees}
@@ -12,8 +12,9 @@ use Rattle.wax_fold.specs.declared.walk.branch.BranchFold.TheVariants.{Alternati
 use Rattle.wax_fold.specs.Branches.{branch_of}
 use Rattle.wax_fold.specs.Folded.{listed_term}
 use Rattle.wax_fold.specs.Mapped.{Mapping, mapped, mapped_each}
-use Rattle.wax_fold.specs.inner.OpenTokens.{OpenToken, mapping, visits}
-use Rattle.wax_fold.specs.inner.Opens.{closed, results, total}
+use Rattle.wax_fold.specs.inner.OpenTokens.{OpenToken, NextToken, mapping, visits, with_token}
+use Rattle.wax_fold.specs.inner.Opens.{Open, closed, closed_all, results, total, steps_in, steps_left}
+use Rattle.wax_fold.proofs.Opens.{alone, entered, left, steps_entered, steps_back}
 
 module _ {A X : Type 0} (f : Mapping A X) where
   mapped_trees : (ts : List (Tree A)) → results (mapped f) ts ≡ mapped_each f (trees ts)
@@ -37,6 +38,35 @@ module _ {A X : Type 0} (f : Mapping A X) where
       x ≡ BranchOf b → topology_tree x a ≡ t → mapped f (branch_tree b a) ≡ mapped f t
   mapped_parts x b t a e h = ap (λ z. mapped f (topology_tree z a)) (sym e) ∙ ap (mapped f) h
 
+module _ {A X : Type 0} (f : Mapping A X) (w : Option X) where
+  -- none is around the first
+  pub begun : {Y : Type 0} (view : Y → Open A X) (ys : List Y) (o : OpenToken A X) (b : BranchKind A) (a : A) → ys ≡ [] →
+      o ≡ record { annotation = a; kind = (branch_of b).kind; rest = (branch_of b).tokens; done = [] } →
+      closed_all (mapped f) (map view ys) (closed (mapped f) (mapping f o)) ≡ mapped f (branch_tree b a)
+  begun view ys o b a e i = alone (mapped f) view ys (closed (mapped f) (mapping f o)) e ∙ opened f o b a i
+
+  -- a token that is a branch is opened
+  pub deeper : (os all : List (Open A X)) (o n inner : OpenToken A X) (t : Tree A) (b : BranchKind A) (a : A) →
+      all ≡ os ++ mapping f n ∷ [] → NextToken o (Some t) n →
+      inner ≡ record { annotation = a; kind = (branch_of b).kind; rest = (branch_of b).tokens; done = [] } →
+      mapped f (branch_tree b a) ≡ mapped f t →
+      closed_all (mapped f) os (closed (mapped f) (mapping f o)) ≡ w →
+      closed_all (mapped f) all (closed (mapped f) (mapping f inner)) ≡ w
+  deeper os all o n inner t b a e h i k v =
+      entered (mapped f) os all (mapping f o) (mapping f n) (mapping f inner) t e h.0
+      (ap (λ z. f.fold z n.kind) h.1 ∙ ap (f.fold o.annotation) h.2) h.3 (opened f inner b a i ∙ k) ∙ v
+
+  -- a branch is closed
+  pub back : (os all : List (Open A X)) (o n around new : OpenToken A X) (g : Mapping A X) (x : Option X) →
+      all ≡ os ++ mapping f around ∷ [] → (o.rest ≡ []) × (n ≡ o) → g ≡ f →
+      x ≡ g.fold n.annotation n.kind n.done → new ≡ with_token around x →
+      closed_all (mapped f) all (closed (mapped f) (mapping f o)) ≡ w →
+      closed_all (mapped f) os (closed (mapped f) (mapping f new)) ≡ w
+  back os all o n around new g x e h s k i v =
+      left (mapped f) os all (mapping f o) (mapping f around) (mapping f new) x e h.0
+      (k ∙ ap (λ z. z.fold n.annotation n.kind n.done) s ∙ ap (λ z. f.fold z.annotation z.kind z.done) h.1)
+      (ap (mapping f) i) ∙ v
+
 visits_trees : {A : Type 0} (ts : List (Tree A)) → total (map visits ts) ≤ 2 * trees_size (trees ts)
 visits_trees [] = omega arith
 visits_trees (t ∷ ts) = omega (arith, visits_trees ts)
@@ -54,3 +84,17 @@ visits_inside o x b t a e i h =
     let rest : total (map visits o.rest) ≡ total (map visits (branch_of b).tokens) = ap (λ z. total (map visits z.rest)) e in
     let token : visits (branch_tree b a) ≡ visits t = ap (λ z. visits (topology_tree z a)) (sym i) ∙ ap visits h in
     omega (arith, rest, token, visits_branch b a)
+
+pub fewer_deeper : {A X : Type 0} (f : Mapping A X) (os all : List (Open A X)) (o n inner : OpenToken A X) (x : Topology (BranchKind A) LeafKind)
+    (b : BranchKind A) (t : Tree A) (a : A) → all ≡ os ++ mapping f n ∷ [] → o.rest ≡ t ∷ n.rest →
+    inner ≡ record { annotation = a; kind = (branch_of b).kind; rest = (branch_of b).tokens; done = [] } →
+    x ≡ BranchOf b → topology_tree x a ≡ t →
+    steps_left visits all + steps_in visits (mapping f inner) < steps_left visits os + steps_in visits (mapping f o)
+fewer_deeper f os all o n inner x b t a e r i k h =
+    steps_entered visits os all (mapping f o) (mapping f n) (mapping f inner) t e r (visits_inside inner x b t a i k h)
+
+pub fewer_back : {A X : Type 0} (f : Mapping A X) (os all : List (Open A X)) (o around new : OpenToken A X) (x : Option X) →
+    all ≡ os ++ mapping f around ∷ [] → new ≡ with_token around x →
+    steps_left visits os + steps_in visits (mapping f new) < steps_left visits all + steps_in visits (mapping f o)
+fewer_back f os all o around new x e i =
+    steps_back visits os all (mapping f o) (mapping f around) (mapping f new) e (ap (λ z. z.rest) i)

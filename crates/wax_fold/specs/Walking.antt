@@ -43,6 +43,10 @@ module _ {A : Type 0} (chosen : Branch A → List ℕ) where
   abbrev pub to_come : Walking A → List (Entry A)
   to_come w = breadth_first chosen (roots w)
 
+  -- of that, what is below the current token
+  abbrev pub below : Walking A → List (Entry A)
+  below w = breadth_first chosen (below_current w.current)
+
   -- the first of what is to come is given, and is the current token; nothing at the end, and nothing after
   -- want of memory
   abbrev pub Nexts : Walking A → Option (Result (WalkEntry (Bor (Tree A))) NoMemory) → Walking A → Type 0

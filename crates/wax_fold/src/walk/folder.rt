@@ -12,7 +12,8 @@ use wax_token::token::{BranchKind, LeafKind};
 /// What a fold asks of each token, from the leaves up.
 ///
 /// The law: what is answered depends on the folder and the arguments alone, and no call changes what
-/// the folder answers.
+/// the folder answers. An `impl` states it for its own `fold` in two clauses, as the checker cannot hand
+/// on those of a method that takes a list by value.
 pub trait Fold<'t, A>: Drop {
     /// Which tokens of a branch are gone through.
     type Sequencer: Sequencer;

@@ -8,7 +8,7 @@ ghost use Rattle.wax_fold.specs.Branches.{branch_of};
 ghost use Rattle.wax_fold.specs.Sequences.{forward_chosen, starting_chosen, ending_chosen};
 ghost use Rattle.wax_fold.specs.Subtrees.{subtrees};
 ghost use Rattle.wax_fold.specs.inner.WalkSteps.{Ends, Gives, TakesFirst, gone_below};
-ghost use Rattle.wax_fold.specs.Walking.{Nexts, begun, cancelled, entry_of, items_left, to_come, walking};
+ghost use Rattle.wax_fold.specs.Walking.{Nexts, begun, below, cancelled, entry_of, items_left, to_come, walking};
 
 use crate::walk::entry::{Depth, Position, TokenEntry, WalkEntry};
 use crate::walk::sequence::{ChildToken, Parent, Sequencer};
@@ -30,10 +30,12 @@ pub struct Walk<'i, 't, A, S> {
     current: Option<TokenEntry<'i, 't, A>>,
 }
 
-impl<'i, 't, A, S> Walk<'i, 't, A, S> {
-    /// Leaves out the tokens below the current one, which is the one given last.
+impl<'i, 't, A, S: Sequencer> Walk<'i, 't, A, S> {
+    /// Leaves out the tokens below the current one, which is the one given last, and no others.
     pub fn cancel_walk_tree(&mut self)
-        ensures { walking self.new ≡ cancelled (walking self.old) }
+        ensures rest { walking self.new ≡ cancelled (walking self.old) }
+        ensures left_out { IsPermutation (to_come (S.chosen A) (walking self.old))
+            (to_come (S.chosen A) (walking self.new) ++ below (S.chosen A) (walking self.old)) }
     {
         self.current = None;
     }

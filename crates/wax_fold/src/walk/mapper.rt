@@ -11,7 +11,8 @@ use wax_token::token::LeafKind;
 /// What is asked of each token where a tree is built anew, from the leaves up.
 ///
 /// The law: what is answered depends on the folder and the arguments alone, and no call changes what
-/// the folder answers.
+/// the folder answers. An `impl` states it for its own `fold` in two clauses, as the checker cannot hand
+/// on those of a method that takes a list by value.
 pub trait FoldMap<'t, A>: Drop {
     /// A new token.
     type Token: Drop;
