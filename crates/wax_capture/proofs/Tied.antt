@@ -9,7 +9,8 @@ use Rattle.wax_capture.specs.Pieces.{ArePieces, IsPiece}
 use Rattle.wax_capture.specs.inner.Splits.{CapturedBy, FitsBy, IsChosenBy, Splits}
 use Rattle.std.specs.Global.{Vec}
 use Rattle.wax_candidate.specs.Matched.{MatchedView}
-use Rattle.wax_capture.specs.Matched.{IsMatched}
+use Rattle.wax_capture.specs.Matched.{AreOnly, IsMatched}
+use Rattle.wax_capture.proofs.Unique.{captured_unique}
 use Rattle.wax_capture.specs.declared.piece.Piece.{Piece}
 
 -- ---- the ways of a token are all that it means
@@ -141,3 +142,6 @@ pub some_matched : {A : Type 0} (ts : Trees A) (ps : List Piece) → ArePieces t
 some_matched ts ps are s captures h m text same =
     let captured : Captured ts false false s captures = is_captured ts false false ps are s captures h in
     (captured_means ts false false s captures captured, text, subst (Captured ts false false s) (sym same) captured)
+
+pub matched_only : {A : Type 0} (ts : Trees A) (s : List ℕ) (m : MatchedView) → IsMatched ts s (Some m) → AreOnly ts s (Some m)
+matched_only ts s m h = λ captures its. captured_unique ts false false s captures m.captures its h.2

@@ -6,7 +6,7 @@ ghost use Rattle.wax_token.specs.Reads.{Span};
 ghost use Rattle.wax_token.specs.Syntax.{Trees};
 ghost use Rattle.wax_token.specs.Words.{trees};
 ghost use Rattle.wax_candidate.specs.Matched.{cube_visits};
-ghost use Rattle.wax_capture.specs.Matched.{IsMatched, square_visits};
+ghost use Rattle.wax_capture.specs.Matched.{AreOnly, IsMatched, square_visits};
 ghost use Rattle.wax_capture.specs.Pieces.{ArePieces};
 
 use crate::build::pieces_of;
@@ -74,6 +74,8 @@ impl Pieces {
     ) -> Result<(Option<MatchedText<'p>>, u128), NoMemory>
         ensures matched { (ts : Trees Span) → ArePieces ts false false self.now
             → IfOk result (λ answer. IsMatched ts (chars text.now) answer.0) }
+        ensures only { (ts : Trees Span) → ArePieces ts false false self.now
+            → IfOk result (λ answer. AreOnly ts (chars text.now) answer.0) }
         ensures square { (ts : Trees Span) → ArePieces ts false false self.now
             → IfOk result (λ answer. answer.1 ≤ square_visits ts (chars text.now)) }
         ensures above { (ts : Trees Span) → ArePieces ts false false self.now

@@ -9,7 +9,7 @@ use Rattle.wax_capture.specs.declared.piece.Piece.{Piece}
 use Rattle.wax_capture.proofs.Built.{pieces_few}
 use Rattle.wax_capture.proofs.ByteParts.{text_all_parts, text_parts}
 use Rattle.wax_capture.proofs.Counting.{visits_cube, visits_square}
-use Rattle.wax_capture.proofs.Tied.{none_means, some_matched}
+use Rattle.wax_capture.proofs.Tied.{matched_only, none_means, some_matched}
 use Rattle.wax_capture.proofs.matching.Pieces.matched_counted.Goals as goal
 
 pub returns-in_default-clause-matched : goal.returns-in_default-clause-matched
@@ -62,3 +62,6 @@ returns-clause-square c = λ ts are.
 
 pub returns-clause-above : goal.returns-clause-above
 returns-clause-above c = λ ts are. visits_cube (costs ts) c.ticks-2.result (length (chars c.args.text.now)) (returns-clause-square c ts are)
+
+pub returns-clause-only : goal.returns-clause-only
+returns-clause-only c = λ ts are. matched_only ts (chars c.args.text.now) c.new.result (returns-clause-matched c ts are)
