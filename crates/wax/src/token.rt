@@ -7,7 +7,7 @@ pub use wax_components::{
     Component, LiteralSequence, capture_count, captures, components, literals,
 };
 pub use wax_depth::depth;
-pub use wax_facts::TokenFacts;
+pub use wax_facts::{TokenFacts, has_variant_casing};
 pub use wax_fold::walk::{fold, fold_map};
 pub use wax_parse::parse::{ErrorEntry, ParseError, parse};
 pub use wax_partition::partition;

@@ -1,5 +1,5 @@
 -- The one text that a tree means, where there is only one by how it is written.
-use Rattle.std.specs.Prelude.{◌≡◌, ◌≢◌, ℕ, zero, suc, ◌==◌, ◌&&◌, Bool, true, false}
+use Rattle.std.specs.Prelude.{◌≡◌, ◌≢◌, ℕ, zero, suc, ◌==◌, ◌&&◌, Bool, true, false, IsTrue}
 use Rattle.std.specs.Prelude.{List, [], ◌∷◌, ◌++◌, Option, Some}
 use Rattle.std.specs.List.{list_all}
 use Rattle.wax_token.specs.declared.token.Archetype.{Archetype}
@@ -15,6 +15,10 @@ FoldsAlone c = (d : ℕ) → SameFold c d → d ≡ c
 abbrev pub AllFoldAlone : List ℕ → Type 0
 AllFoldAlone [] = Unit {0}
 AllFoldAlone (c ∷ t) = FoldsAlone c × AllFoldAlone t
+
+-- a literal, as its flag and its characters, that means more than one text
+abbrev pub VariesInCase : Bool × List ℕ → Type 0
+VariesInCase l = IsTrue l.0 × (AllFoldAlone l.1 → ⊥)
 
 abbrev pub is_only : ℕ → Archetype → Bool
 is_only c (Character d) = d == c

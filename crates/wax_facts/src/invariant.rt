@@ -13,6 +13,7 @@ mod fold;
 
 use crate::invariant::class::only_character;
 use crate::invariant::fold::all_fold_alone;
+pub use crate::invariant::fold::has_variant_casing;
 use std::alloc::{AllocError, Global};
 use wax_query::diagnostics::NoMemory;
 use wax_token::token::{BranchKind, Class, LeafKind, Literal, Repetition, Token, Topology};

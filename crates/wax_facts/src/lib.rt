@@ -14,7 +14,7 @@ mod root;
 
 pub use exhaustive::is_exhaustive;
 pub use facts::TokenFacts;
-pub use invariant::text;
+pub use invariant::{has_variant_casing, text};
 pub use parts::{built_is_orderly, is_rooted_tree, partition, split_tokens};
 pub use prefix::invariant_text_prefix;
 pub use root::has_root;

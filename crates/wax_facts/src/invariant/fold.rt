@@ -1,8 +1,17 @@
 //! Which characters share their simple folding with no other.
 ghost use Rattle.std.specs.Prelude.{◌≡◌, ◌↔◌, IsTrue, chars};
-ghost use Rattle.wax_facts.specs.InvariantText.{FoldsAlone, AllFoldAlone};
+ghost use Rattle.wax_facts.specs.InvariantText.{AllFoldAlone, FoldsAlone, VariesInCase};
 
 use unicode::case::fold_pairs;
+use wax_token::token::Literal;
+
+/// Whether a literal means more than one text: it has the flag `i`, and one of its characters folds as
+/// another does.
+pub fn has_variant_casing(literal: &Literal<'_>) -> bool
+    ensures { IsTrue result ↔ VariesInCase literal.now }
+{
+    literal.is_case_insensitive() && !all_fold_alone(literal.text())
+}
 
 /// Whether no character of the text shares its folding with another.
 pub fn all_fold_alone(text: &str) -> bool
