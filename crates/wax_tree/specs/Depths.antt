@@ -1,5 +1,5 @@
 -- The depths that a walk gives.
-use Rattle.std.specs.Prelude.{◌≡◌, ◌<◌, ◌⊎◌, ℕ, ◌+◌, ◌-◌, ◌^◌, min, Option, Some, None}
+use Rattle.std.specs.Prelude.{◌≡◌, ◌<◌, ◌≤◌, ◌⊎◌, ℕ, ◌+◌, ◌-◌, ◌^◌, min, Option, Some, None}
 use Rattle.std.specs.Int.NonZero.{non_zero_usize_get}
 use Rattle.wax_tree.specs.declared.behavior.WalkBehavior.{WalkBehavior}
 use Rattle.wax_tree.specs.declared.behavior.LinkBehavior.TheVariants.{ReadFile}
@@ -37,6 +37,20 @@ Bounds (Some p) None (Min d) = non_zero_usize_get d.0 ≡ p
 Bounds None (Some q) (Max d) = d.0 ≡ q
 Bounds (Some p) (Some q) (MinMax d) = (non_zero_usize_get d.min ≡ p) × (p + d.extent ≡ q)
 Bounds p q d = ⊥
+
+-- with so many added
+abbrev pub raised : ℕ → Option ℕ → Option ℕ
+raised n None = None
+raised n (Some p) = Some (p + n)
+
+-- that is past 64 bits
+abbrev pub IsPast : ℕ → Option ℕ → Type 0
+IsPast n None = ⊥
+IsPast n (Some p) = 2 ^ 64 ≤ p + n
+
+-- with so many added to both there are no bounds
+abbrev pub IsUnboundedAt : ℕ → Option ℕ → Option ℕ → Type 0
+IsUnboundedAt n p q = IsPast n p ⊎ (IsPast n q ⊎ IsUnbounded (raised n p) (raised n q))
 
 -- of these depths, with links as they are, and as many items as can be counted
 abbrev pub at_depth : DepthBehavior → WalkBehavior

@@ -1,10 +1,13 @@
 //! How far a walk goes: the depths that it gives, and how many items it takes.
 ghost use Rattle.std.specs.Prelude.{◌≡◌, ℕ, Option, Some, MatchOption, min, max};
 ghost use Rattle.std.specs.Int.NonZero.{non_zero_usize_get};
-ghost use Rattle.wax_tree.specs.Depths.{least, greatest, no_bound, Bounds, IsUnbounded, at_depth};
+ghost use Rattle.wax_tree.specs.Depths.{Bounds, IsPast, IsUnbounded, IsUnboundedAt, at_depth};
+ghost use Rattle.wax_tree.specs.Depths.{greatest, least, no_bound, raised};
+ghost use Rattle.wax_query.specs.Ranges.{bounds};
 ghost use Rattle.wax_tree.specs.declared.behavior.DepthBehavior.TheVariants.{Unbounded, MinMax};
 
 use std::num::NonZeroUsize;
+use wax_query::query::DepthVariance;
 
 /// Gives entries of at least this depth, which isn't 0.
 #[derive(Clone, Copy, Debug, Eq, PartialEq)]
@@ -127,15 +130,21 @@ impl DepthBehavior {
         ensures { (p : Option ℕ) × (q : Option ℕ) × P.converts min p × Q.converts max q × MatchOption result
             (IsUnbounded p q) (Bounds p q) }
     {
-        match (min.into(), max.into()) {
-            (Some(min), None) => Some(DepthBehavior::Min(DepthMin(NonZeroUsize::new(min)?))),
-            (None, Some(max)) => Some(DepthBehavior::Max(DepthMax(max))),
-            (Some(min), Some(max)) if min <= max => Some(DepthBehavior::MinMax(DepthMinMax {
-                min: NonZeroUsize::new(min)?,
-                extent: max - min,
-            })),
-            _ => None,
-        }
+        between(min.into(), max.into())
+    }
+
+    /// The same of both numbers with the least number of components added that a glob's depth has, as depths
+    /// below its prefix are. `None` too where a sum is past 64 bits.
+    pub fn bounded_at_depth_variance<P, Q>(min: P, max: Q, depth: DepthVariance) -> Option<Self>
+    where
+        P: Into<Option<usize>>,
+        Q: Into<Option<usize>>,
+        ensures { (p : Option ℕ) × (q : Option ℕ) × P.converts min p × Q.converts max q × MatchOption result
+            (IsUnboundedAt (bounds depth).0 p q) (Bounds (raised (bounds depth).0 p) (raised (bounds depth).0 q)) }
+    {
+        let (min, max) = (min.into(), max.into());
+        let least = depth.lower();
+        between(raised(min, least)?, raised(max, least)?)
     }
 
     /// The least depth of an entry that is given.
@@ -289,5 +298,29 @@ impl From<LinkBehavior> for WalkBehavior {
             link,
             ..WalkBehavior::default()
         }
+    }
+}
+
+fn between(min: Option<usize>, max: Option<usize>) -> Option<DepthBehavior>
+    ensures { MatchOption result (IsUnbounded min max) (Bounds min max) }
+{
+    match (min, max) {
+        (Some(min), None) => Some(DepthBehavior::Min(DepthMin(NonZeroUsize::new(min)?))),
+        (None, Some(max)) => Some(DepthBehavior::Max(DepthMax(max))),
+        (Some(min), Some(max)) if min <= max => Some(DepthBehavior::MinMax(DepthMinMax {
+            min: NonZeroUsize::new(min)?,
+            extent: max - min,
+        })),
+        _ => None,
+    }
+}
+
+// The depth with so many added, if there is one; none at all past 64 bits.
+fn raised(depth: Option<usize>, by: usize) -> Option<Option<usize>>
+    ensures { MatchOption result (IsPast by depth) (λ sum. sum ≡ raised by depth) }
+{
+    match depth {
+        None => Some(None),
+        Some(depth) => Some(Some(depth.checked_add(by)?)),
     }
 }

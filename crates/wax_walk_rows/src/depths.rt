@@ -1,6 +1,7 @@
 //! Depths from numbers.
 
 use std::io;
+use wax_query::query::DepthVariance;
 use wax_tree::{DepthBehavior, DepthMax, DepthMin, DepthMinMax, WalkBehavior};
 
 /// Bounds from the least and the greatest depth, each of which may be missing.
@@ -13,6 +14,18 @@ fn print_bounds(rt: &HostRuntime) -> io::Result<()> {
         DepthBehavior::bounded(2, 5),
         DepthBehavior::bounded(None, 5),
         DepthBehavior::bounded(Some(2), None)
+    )
+}
+
+/// Bounds with the least number of components of a glob's depth added.
+fn print_bounds_at_depths(rt: &HostRuntime) -> io::Result<()> {
+    let two = DepthVariance::Invariant(2);
+    println!(rt;
+        "from 1, and 2 more: {:?}\nto 1, and 2 more: {:?}\n1 to 4, and 2 more: {:?}\nfrom the greatest, and 2 more: {:?}",
+        DepthBehavior::bounded_at_depth_variance(1, None, two),
+        DepthBehavior::bounded_at_depth_variance(None, 1, two),
+        DepthBehavior::bounded_at_depth_variance(1, 4, two),
+        DepthBehavior::bounded_at_depth_variance(usize::MAX, None, two)
     )
 }
 
@@ -47,6 +60,7 @@ fn print_behaviors(rt: &HostRuntime) -> io::Result<()> {
 
 pub fn print_rows(rt: &HostRuntime) -> io::Result<()> {
     print_bounds(rt)?;
+    print_bounds_at_depths(rt)?;
     print_depths(rt)?;
     print_behaviors(rt)
 }
