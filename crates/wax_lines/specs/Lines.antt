@@ -1,6 +1,7 @@
 -- The lines of an input, and what a filter of lines writes.
 use Rattle.std.specs.Prelude.{◌≡◌, ◌≤◌, ℕ, ◌+◌, ◌==◌, Bool, true, false, IsTrue, if◌then◌else◌}
-use Rattle.std.specs.Prelude.{List, [], ◌∷◌, ◌++◌, length, Option, IsUtf8, chars, encode_utf8_all}
+use Rattle.std.specs.Prelude.{List, [], ◌∷◌, ◌++◌, length, map, Option, IsUtf8, chars, encode_utf8_all}
+use Rattle.std.specs.List.{join_with_byte}
 use Rattle.std.specs.Io.KnownBytes.{Consumes, Appends, IsAtEnd}
 use Rattle.std.specs.Io.Iter.{u64_saturate}
 use Rattle.wax_lines.specs.declared.lines.LinesError.{LinesError}
@@ -36,6 +37,17 @@ pub data WritesMeant (Means : List ℕ → Type 0) (s out : List ℕ) : Type 0 w
   meant : Means s → out ≡ encode_utf8_all s ++ 10 ∷ [] → WritesMeant Means s out
   not_meant : (Means s → ⊥) → out ≡ [] → WritesMeant Means s out
 
+-- the texts, with a tab between each two
+abbrev pub tabbed : List (List ℕ) → List ℕ
+tabbed texts = join_with_byte 9 (map encode_utf8_all texts)
+
+-- a text that is meant, with what is captured of it, and a line feed, or nothing for another text
+pub data WritesCaptures (Means : List ℕ → Type 0) (Captured : List ℕ → List (List ℕ) → Type 0)
+    (s out : List ℕ) : Type 0 where
+  captured : (captures : List (List ℕ)) → Means s → Captured s captures
+      → out ≡ tabbed (s ∷ captures) ++ 10 ∷ [] → WritesCaptures Means Captured s out
+  not_captured : (Means s → ⊥) → out ≡ [] → WritesCaptures Means Captured s out
+
 -- What one line gives, and 1 where it is no text. Of a text, `Writes` says which bytes may be written.
 pub data Gives (Writes : List ℕ → List ℕ → Type 0) (line out : List ℕ) (bad : ℕ) : Type 0 where
   text : IsUtf8 line → Writes (chars line) out → bad ≡ 0 → Gives Writes line out bad
@@ -45,11 +57,13 @@ pub data Gives (Writes : List ℕ → List ℕ → Type 0) (line out : List ℕ)
 abbrev pub Filters : (List ℕ → List ℕ → Type 0) → List (List ℕ) → List ℕ → ℕ → Type 0
 Filters Writes [] out bad = (out ≡ []) × (bad ≡ 0)
 Filters Writes (line ∷ rest) out bad =
-    (x y : List ℕ) × (m n : ℕ) × Gives Writes line x m × Filters Writes rest y n × (out ≡ x ++ y) × (bad ≡ m + n)
+    (x y : List ℕ) × (m n : ℕ) × Gives Writes line x m × Filters Writes rest y n
+    × (out ≡ x ++ y) × (bad ≡ m + n)
 
--- All was read, and what its lines give was written. `left` is what the reader has left and `held` what the writer
--- holds, before and after.
-pub record Filtered (Writes : List ℕ → List ℕ → Type 0) (left left' held held' : Option (List ℕ)) (answer : ℕ) : Type 0 where
+-- All was read, and what its lines give was written. `left` is what the reader has left and `held` what the
+-- writer holds, before and after.
+pub record Filtered (Writes : List ℕ → List ℕ → Type 0) (left left' held held' : Option (List ℕ))
+    (answer : ℕ) : Type 0 where
   pub taken : List ℕ
   pub out : List ℕ
   pub bad : ℕ
@@ -60,7 +74,8 @@ pub record Filtered (Writes : List ℕ → List ℕ → Type 0) (left left' held
   pub answers : answer ≡ u64_saturate bad
 
 -- what the whole lines of the bytes that were read give was written
-pub record StoppedReading (Writes : List ℕ → List ℕ → Type 0) (left left' held held' : Option (List ℕ)) : Type 0 where
+pub record StoppedReading (Writes : List ℕ → List ℕ → Type 0)
+    (left left' held held' : Option (List ℕ)) : Type 0 where
   pub taken : List ℕ
   pub out : List ℕ
   pub bad : ℕ
@@ -68,9 +83,10 @@ pub record StoppedReading (Writes : List ℕ → List ℕ → Type 0) (left left
   pub writes : Appends held held' out
   pub filters : Filters Writes (whole_lines taken) out bad
 
--- A beginning was written of what the complete lines give of a beginning of the bytes that were read: of all bytes,
--- where the end of the input is reached.
-pub record StoppedWriting (Writes : List ℕ → List ℕ → Type 0) (left left' held held' : Option (List ℕ)) : Type 0 where
+-- A beginning was written of what the complete lines give of a beginning of the bytes that were read: of all
+-- bytes, where the end of the input is reached.
+pub record StoppedWriting (Writes : List ℕ → List ℕ → Type 0)
+    (left left' held held' : Option (List ℕ)) : Type 0 where
   pub has_ended : Bool
   pub front : List ℕ
   pub rest : List ℕ
@@ -83,7 +99,8 @@ pub record StoppedWriting (Writes : List ℕ → List ℕ → Type 0) (left left
   pub filters : Filters Writes (complete_lines has_ended front) (out ++ unwritten) bad
 
 -- What the whole lines give was written, of all bytes read but a rest, no longer than one read gives.
-pub record StoppedShort (Writes : List ℕ → List ℕ → Type 0) (left left' held held' : Option (List ℕ)) : Type 0 where
+pub record StoppedShort (Writes : List ℕ → List ℕ → Type 0)
+    (left left' held held' : Option (List ℕ)) : Type 0 where
   pub front : List ℕ
   pub rest : List ℕ
   pub out : List ℕ
@@ -94,7 +111,8 @@ pub record StoppedShort (Writes : List ℕ → List ℕ → Type 0) (left left' 
   pub filters : Filters Writes (whole_lines front) out bad
 
 -- how it stands after an error
-abbrev pub Stopped : (List ℕ → List ℕ → Type 0) → (left left' held held' : Option (List ℕ)) → LinesError → Type 0
+abbrev pub Stopped : (List ℕ → List ℕ → Type 0) → (left left' held held' : Option (List ℕ))
+    → LinesError → Type 0
 Stopped Writes left left' held held' Read = StoppedReading Writes left left' held held'
 Stopped Writes left left' held held' Write = StoppedWriting Writes left left' held held'
 Stopped Writes left left' held held' Memory = StoppedShort Writes left left' held held'

@@ -1,7 +1,7 @@
-//! The filter of lines.
+//! The lines that a program means, and what it captures of them.
 ghost use Rattle.std.specs.Prelude.{◌≡◌, ◌≤◌, ◌<◌, ◌⊎◌, [], length, IfOk, IfErr, OnOk, IsErrOf};
 ghost use Rattle.wax_lines.specs.Counts.{greatest_count};
-ghost use Rattle.wax_lines.specs.Lines.{Filtered, Stopped, WritesMeant};
+ghost use Rattle.wax_lines.specs.Lines.{Filtered, Stopped, WritesCaptures, WritesMeant};
 ghost use Rattle.wax_lines.specs.inner.Progress.{Finished, Halted, SieveSifted};
 
 use crate::counted::Counted;
@@ -14,7 +14,7 @@ use wax_query::diagnostics::NoMemory;
 mod line_writer;
 mod sieve;
 
-use line_writer::{LineWriter, MeantLines};
+use line_writer::{CapturedLines, LineWriter, MeantLines};
 use sieve::Sieve;
 
 /// How many bytes are read at once, and how many wait at most before they are written.
@@ -85,7 +85,35 @@ pub fn filter_lines<R: Read, W: Write, P: Program>(
     sift_lines(alloc, input, output, &MeantLines { program })
 }
 
-// The same for what a writer of lines writes.
+/// Writes for each line of the input that is text and that the program means the line and each of its
+/// captures, with a tab between and one line feed, and answers how many lines are no text; nothing is
+/// written for these. That number stays at the greatest u64. A line ends at a line feed or, if it isn't
+/// empty, at the end of the input.
+///
+/// Refused with 18, 10 and 19 where `filter_lines` is, and what is then written is told in the same way:
+/// of a line for which memory is refused no part is. Takes memory for the longest line with its captures
+/// and a few chunks of 65,536 bytes.
+pub fn capture_lines<R: Read, W: Write, P: Program>(
+    alloc: Global,
+    input: &mut Counted<R>,
+    output: &mut Counted<W>,
+    program: &P,
+) -> Result<u64, LinesError>
+    ensures done { IfOk result (Filtered (WritesCaptures (P.means program.now) (P.captured program.now))
+        (R.remaining input.old.inner) (R.remaining input.new.inner)
+        (W.contents output.old.inner) (W.contents output.new.inner)) }
+    ensures stopped { IfErr result (Stopped (WritesCaptures (P.means program.now) (P.captured program.now))
+        (R.remaining input.old.inner) (R.remaining input.new.inner)
+        (W.contents output.old.inner) (W.contents output.new.inner)) }
+    ensures read_failed { IsErrOf result LinesError.Read →
+        (input.old.failures < input.new.failures) ⊎ (input.new.calls ≡ greatest_count) }
+    ensures write_failed { IsErrOf result LinesError.Write →
+        (output.old.failures < output.new.failures) ⊎ (output.new.failures ≡ greatest_count) }
+{
+    sift_lines(alloc, input, output, &CapturedLines { program })
+}
+
+// Writes what the writer of lines gives of each line of the input.
 fn sift_lines<R: Read, W: Write, L: LineWriter>(
     alloc: Global,
     input: &mut Counted<R>,

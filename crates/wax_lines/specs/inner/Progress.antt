@@ -9,16 +9,19 @@ use Rattle.wax_lines.specs.Lines.{Filters, lines, StoppedWriting}
 use Rattle.wax_lines.specs.inner.Sifted.{Sifted}
 
 abbrev pub SieveSifted : (List ℕ → List ℕ → Type 0) → List ℕ → List ℕ → Sieve → Type 0
-SieveSifted Writes taken written s = Sifted Writes taken written s.carry.items s.kept.bytes.items s.kept.not_text
+SieveSifted Writes taken written s =
+    Sifted Writes taken written s.carry.items s.kept.bytes.items s.kept.not_text
 
 -- these bytes were taken in
 abbrev pub TakesIn : (List ℕ → List ℕ → Type 0) → List ℕ → Sieve → Sieve → Type 0
 TakesIn Writes bytes old new =
-    (taken written : List ℕ) → SieveSifted Writes taken written old → SieveSifted Writes (taken ++ bytes) written new
+    (taken written : List ℕ) → SieveSifted Writes taken written old
+    → SieveSifted Writes (taken ++ bytes) written new
 
 -- a beginning of these bytes was taken in
 abbrev pub TakesInPart : (List ℕ → List ℕ → Type 0) → List ℕ → Sieve → Sieve → Type 0
-TakesInPart Writes bytes old new = (front rest : List ℕ) × (bytes ≡ front ++ rest) × TakesIn Writes front old new
+TakesInPart Writes bytes old new =
+    (front rest : List ℕ) × (bytes ≡ front ++ rest) × TakesIn Writes front old new
 
 -- what all lines give, the last one too, was written or waits
 pub record AllSifted (Writes : List ℕ → List ℕ → Type 0) (taken written : List ℕ) (s : Sieve) : Type 0 where
@@ -28,10 +31,12 @@ pub record AllSifted (Writes : List ℕ → List ℕ → Type 0) (taken written 
 
 -- the rest was taken in as the last line
 abbrev pub TakesLast : (List ℕ → List ℕ → Type 0) → Sieve → Sieve → Type 0
-TakesLast Writes old new = (taken written : List ℕ) → SieveSifted Writes taken written old → AllSifted Writes taken written new
+TakesLast Writes old new =
+    (taken written : List ℕ) → SieveSifted Writes taken written old → AllSifted Writes taken written new
 
 -- all that was read was taken in
-pub record Came (Writes : List ℕ → List ℕ → Type 0) (left left' held held' : Option (List ℕ)) (s : Sieve) : Type 0 where
+pub record Came (Writes : List ℕ → List ℕ → Type 0) (left left' held held' : Option (List ℕ))
+    (s : Sieve) : Type 0 where
   pub taken : List ℕ
   pub written : List ℕ
   pub reads : Consumes left left' taken
@@ -39,7 +44,8 @@ pub record Came (Writes : List ℕ → List ℕ → Type 0) (left left' held hel
   pub sifted : SieveSifted Writes taken written s
 
 -- what was read was taken in, but for a rest of the last read
-pub record CameShort (Writes : List ℕ → List ℕ → Type 0) (left left' held held' : Option (List ℕ)) (s : Sieve) : Type 0 where
+pub record CameShort (Writes : List ℕ → List ℕ → Type 0) (left left' held held' : Option (List ℕ))
+    (s : Sieve) : Type 0 where
   pub front : List ℕ
   pub rest : List ℕ
   pub written : List ℕ
@@ -49,7 +55,8 @@ pub record CameShort (Writes : List ℕ → List ℕ → Type 0) (left left' hel
   pub sifted : SieveSifted Writes front written s
 
 -- all was read and taken in
-pub record Finished (Writes : List ℕ → List ℕ → Type 0) (left left' held held' : Option (List ℕ)) (s : Sieve) : Type 0 where
+pub record Finished (Writes : List ℕ → List ℕ → Type 0) (left left' held held' : Option (List ℕ))
+    (s : Sieve) : Type 0 where
   pub taken : List ℕ
   pub written : List ℕ
   pub reads : Consumes left left' taken
@@ -58,7 +65,9 @@ pub record Finished (Writes : List ℕ → List ℕ → Type 0) (left left' held
   pub sifted : AllSifted Writes taken written s
 
 -- how it stands after an error, before what waits is written; after a failed write nothing waits
-abbrev pub Halted : (List ℕ → List ℕ → Type 0) → (left left' held held' : Option (List ℕ)) → Sieve → LinesError → Type 0
+abbrev pub Halted : (List ℕ → List ℕ → Type 0) → (left left' held held' : Option (List ℕ)) → Sieve
+    → LinesError → Type 0
 Halted Writes left left' held held' s Read = Came Writes left left' held held' s
-Halted Writes left left' held held' s Write = StoppedWriting Writes left left' held held' × (s.kept.bytes.items ≡ [])
+Halted Writes left left' held held' s Write =
+    StoppedWriting Writes left left' held held' × (s.kept.bytes.items ≡ [])
 Halted Writes left left' held held' s Memory = CameShort Writes left left' held held' s

@@ -38,7 +38,8 @@ impl Kept {
         line_writer: &L,
         line: &[u8],
     ) -> Result<(), NoMemory>
-        ensures ok { OnOk result ((out : List ℕ) × (bad : ℕ) × Gives (L.writes line_writer.now) line.now out bad
+        ensures ok { OnOk result ((out : List ℕ) × (bad : ℕ)
+            × Gives (L.writes line_writer.now) line.now out bad
             × (self.new.bytes.items ≡ self.old.bytes.items ++ out)
             × CountsMore self.old.not_text self.new.not_text bad) }
         ensures bytes { OnErr result (self.new.bytes.items ≡ self.old.bytes.items) }
