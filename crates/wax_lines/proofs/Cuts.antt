@@ -3,7 +3,7 @@ use Rattle.std.proofs.Common.{◌≡◌, ◌≢◌, ℕ, ◌+◌, false, List, [
 use Rattle.std.proofs.lemmas.Bool.Decides.{eqb_tells}
 use Rattle.std.proofs.lemmas.List.Elements.{All-head, All-tail}
 use Rattle.wax_lines.specs.Lines.{onto_lines, lines, onto_whole, whole_lines, Gives, Filters}
-use Rattle.wax_lines.specs.Sifted.{HasNoFeed, joined}
+use Rattle.wax_lines.specs.inner.Sifted.{HasNoFeed, joined}
 
 is_no_feed : (b : ℕ) → b ≢ 10 → (b == 10) ≡ false
 is_no_feed b h = elim (eqb_tells b 10) [ inl e ↦ absurd (h e.1) | inr e ↦ e.0 ]
@@ -53,10 +53,10 @@ joined-append [] line = refl
 joined-append (first ∷ rest) line = ap (λ z. first ++ 10 ∷ z) (joined-append rest line) ∙ sym (append_assoc first (10 ∷ joined rest) (line ++ 10 ∷ []))
 
 -- one more line
-pub Filters-more : (Means : List ℕ → Type 0) (whole : List (List ℕ)) (line out more : List ℕ) (bad m : ℕ)
-    → Filters Means whole out bad → Gives Means line more m → Filters Means (whole ++ line ∷ []) (out ++ more) (bad + m)
-Filters-more Means [] line out more bad m h g =
+pub Filters-more : (Writes : List ℕ → List ℕ → Type 0) (whole : List (List ℕ)) (line out more : List ℕ) (bad m : ℕ)
+    → Filters Writes whole out bad → Gives Writes line more m → Filters Writes (whole ++ line ∷ []) (out ++ more) (bad + m)
+Filters-more Writes [] line out more bad m h g =
     (more, [], m, 0, g, (refl, refl), ap (λ z. z ++ more) h.0 ∙ sym (append-nil more), omega (arith, h.1))
-Filters-more Means (first ∷ rest) line out more bad m h g =
+Filters-more Writes (first ∷ rest) line out more bad m h g =
     let (x, y, k, n, gives, filters, same, count) = h in
-    (x, y ++ more, k, n + m, gives, Filters-more Means rest line y more n m filters g, ap (λ z. z ++ more) same ∙ append_assoc x y more, omega (arith, count))
+    (x, y ++ more, k, n + m, gives, Filters-more Writes rest line y more n m filters g, ap (λ z. z ++ more) same ∙ append_assoc x y more, omega (arith, count))

@@ -2,3 +2,4 @@ pub mod Cuts
 pub mod Sifting
 pub mod Counting
 pub mod Runs
+pub mod Tabs

@@ -8,18 +8,18 @@ use Rattle.wax_lines.specs.declared.lines.LinesError.TheVariants.{Read, Write, M
 use Rattle.wax_lines.specs.declared.lines.sieve.Sieve.{Sieve}
 use Rattle.wax_lines.specs.Lines.{lines, whole_lines, Filters, Filtered, StoppedReading, StoppedWriting, StoppedShort, Stopped}
 use Rattle.wax_lines.specs.Written.{WritesPart}
-use Rattle.wax_lines.specs.Progress.{SieveSifted, TakesIn, TakesInPart, TakesLast, Came, CameShort, Finished, Halted}
+use Rattle.wax_lines.specs.inner.Progress.{SieveSifted, TakesIn, TakesInPart, TakesLast, Came, CameShort, Finished, Halted}
 use Rattle.wax_lines.proofs.Sifting.{sifted_nothing, sifted_written, sifted_whole}
 
-module _ (Means : List ℕ → Type 0) where
+module _ (Writes : List ℕ → List ℕ → Type 0) where
   -- nothing has happened yet
   pub came_nowhere : (left held : Option (List ℕ)) (s : Sieve) → s.carry.items ≡ [] → s.kept.bytes.items ≡ [] → s.kept.not_text ≡ 0
-      → SieveSifted Means [] [] s
-  came_nowhere left held s e f g = rw (e, f, g) (sifted_nothing Means)
+      → SieveSifted Writes [] [] s
+  came_nowhere left held s e f g = rw (e, f, g) (sifted_nothing Writes)
 
   -- a chunk was read and taken in
   pub Came-chunk : (left mid left' held held' : Option (List ℕ)) (old new : Sieve) (chunk : List ℕ)
-      → Came Means left mid held held' old → Consumes mid left' chunk → TakesIn Means chunk old new → Came Means left left' held held' new
+      → Came Writes left mid held held' old → Consumes mid left' chunk → TakesIn Writes chunk old new → Came Writes left left' held held' new
   Came-chunk left mid left' held held' old new chunk h read takes = record {
     taken = h.taken ++ chunk;
     written = h.written;
@@ -31,7 +31,7 @@ module _ (Means : List ℕ → Type 0) where
   -- a chunk was read, and a beginning of it taken in
   pub Came-part : (left mid left' held held' : Option (List ℕ)) (old new : Sieve) (chunk : List ℕ)
       → length chunk ≤ 65536
-      → Came Means left mid held held' old → Consumes mid left' chunk → TakesInPart Means chunk old new → CameShort Means left left' held held' new
+      → Came Writes left mid held held' old → Consumes mid left' chunk → TakesInPart Writes chunk old new → CameShort Writes left left' held held' new
   Came-part left mid left' held held' old new chunk few h read (front, rest, splits, takes) = record {
     front = h.taken ++ front;
     rest = rest;
@@ -44,7 +44,7 @@ module _ (Means : List ℕ → Type 0) where
 
   -- a failed read
   pub Came-kept : (left mid left' held held' : Option (List ℕ)) (s : Sieve)
-      → Came Means left mid held held' s → Keeps mid left' → Came Means left left' held held' s
+      → Came Writes left mid held held' s → Keeps mid left' → Came Writes left left' held held' s
   Came-kept left mid left' held held' s h kept = record {
     taken = h.taken;
     written = h.written;
@@ -55,19 +55,19 @@ module _ (Means : List ℕ → Type 0) where
 
   -- what waited was written
   pub Came-written : (left left' held mid held' : Option (List ℕ)) (old new : Sieve)
-      → Came Means left left' held mid old → Appends mid held' old.kept.bytes.items
-      → new.carry ≡ old.carry → new.kept.bytes.items ≡ [] → new.kept.not_text ≡ old.kept.not_text → Came Means left left' held held' new
+      → Came Writes left left' held mid old → Appends mid held' old.kept.bytes.items
+      → new.carry ≡ old.carry → new.kept.bytes.items ≡ [] → new.kept.not_text ≡ old.kept.not_text → Came Writes left left' held held' new
   Came-written left left' held mid held' old new h written e f g = record {
     taken = h.taken;
     written = h.written ++ old.kept.bytes.items;
     reads = h.reads;
     writes = Appends-trans _ _ _ _ _ h.writes written;
-    sifted = rw (e, f, g) (sifted_written Means h.taken h.written old.carry.items old.kept.bytes.items old.kept.not_text h.sifted);
+    sifted = rw (e, f, g) (sifted_written Writes h.taken h.written old.carry.items old.kept.bytes.items old.kept.not_text h.sifted);
   }
 
   -- a beginning of what waited was written
   pub Short-writing : (left left' held mid held' : Option (List ℕ)) (s : Sieve)
-      → CameShort Means left left' held mid s → WritesPart mid held' s.kept.bytes.items → StoppedWriting Means left left' held held'
+      → CameShort Writes left left' held mid s → WritesPart mid held' s.kept.bytes.items → StoppedWriting Writes left left' held held'
   Short-writing left left' held mid held' s h w = record {
     has_ended = false;
     front = h.front;
@@ -78,13 +78,13 @@ module _ (Means : List ℕ → Type 0) where
     reads = h.reads;
     ends = λ e. (cc);
     writes = Appends-trans _ _ _ _ _ h.writes w.writes;
-    filters = subst (λ z. Filters Means (whole_lines h.front) z h.sifted.bad)
+    filters = subst (λ z. Filters Writes (whole_lines h.front) z h.sifted.bad)
         (ap (λ z. h.written ++ z) w.splits ∙ sym (append_assoc h.written w.front w.rest))
-        (sifted_whole Means h.front h.written s.carry.items s.kept.bytes.items s.kept.not_text h.sifted);
+        (sifted_whole Writes h.front h.written s.carry.items s.kept.bytes.items s.kept.not_text h.sifted);
   }
 
   -- all that was read was taken in, so a beginning was
-  pub came_short : (left left' held held' : Option (List ℕ)) (s : Sieve) → Came Means left left' held held' s → CameShort Means left left' held held' s
+  pub came_short : (left left' held held' : Option (List ℕ)) (s : Sieve) → Came Writes left left' held held' s → CameShort Writes left left' held held' s
   came_short left left' held held' s h = record {
     front = h.taken;
     rest = [];
@@ -97,7 +97,7 @@ module _ (Means : List ℕ → Type 0) where
 
   -- the end of the input, with the rest taken in
   pub Came-finished : (left mid left' held held' : Option (List ℕ)) (old new : Sieve) (none : List ℕ)
-      → Came Means left mid held held' old → none ≡ [] → Consumes mid left' none → IsAtEnd left' → TakesLast Means old new → Finished Means left left' held held' new
+      → Came Writes left mid held held' old → none ≡ [] → Consumes mid left' none → IsAtEnd left' → TakesLast Writes old new → Finished Writes left left' held held' new
   Came-finished left mid left' held held' old new none h nil read end takes = record {
     taken = h.taken;
     written = h.written;
@@ -109,7 +109,7 @@ module _ (Means : List ℕ → Type 0) where
 
   -- the last writing, after all was read
   pub Finished-written : (left left' held mid held' : Option (List ℕ)) (s : Sieve) (answer : ℕ)
-      → Finished Means left left' held mid s → Appends mid held' s.kept.bytes.items → answer ≡ s.kept.not_text → Filtered Means left left' held held' answer
+      → Finished Writes left left' held mid s → Appends mid held' s.kept.bytes.items → answer ≡ s.kept.not_text → Filtered Writes left left' held held' answer
   Finished-written left left' held mid held' s answer h written e = record {
     taken = h.taken;
     out = h.written ++ s.kept.bytes.items;
@@ -122,7 +122,7 @@ module _ (Means : List ℕ → Type 0) where
   }
 
   pub Finished-writing : (left left' held mid held' : Option (List ℕ)) (s : Sieve)
-      → Finished Means left left' held mid s → WritesPart mid held' s.kept.bytes.items → StoppedWriting Means left left' held held'
+      → Finished Writes left left' held mid s → WritesPart mid held' s.kept.bytes.items → StoppedWriting Writes left left' held held'
   Finished-writing left left' held mid held' s h w = record {
     has_ended = true;
     front = h.taken;
@@ -133,25 +133,25 @@ module _ (Means : List ℕ → Type 0) where
     reads = subst (Consumes left left') (sym (append-nil h.taken)) h.reads;
     ends = λ _. (h.ends, refl);
     writes = Appends-trans _ _ _ _ _ h.writes w.writes;
-    filters = subst (λ z. Filters Means (lines h.taken) z h.sifted.bad)
+    filters = subst (λ z. Filters Writes (lines h.taken) z h.sifted.bad)
         (ap (λ z. h.written ++ z) w.splits ∙ sym (append_assoc h.written w.front w.rest)) h.sifted.filters;
   }
 
   -- the last writing, after a failed read
   pub Came-stopped : (left left' held mid held' : Option (List ℕ)) (s : Sieve)
-      → Came Means left left' held mid s → Appends mid held' s.kept.bytes.items → StoppedReading Means left left' held held'
+      → Came Writes left left' held mid s → Appends mid held' s.kept.bytes.items → StoppedReading Writes left left' held held'
   Came-stopped left left' held mid held' s h written = record {
     taken = h.taken;
     out = h.written ++ s.kept.bytes.items;
     bad = h.sifted.bad;
     reads = h.reads;
     writes = Appends-trans _ _ _ _ _ h.writes written;
-    filters = sifted_whole Means h.taken h.written s.carry.items s.kept.bytes.items s.kept.not_text h.sifted;
+    filters = sifted_whole Writes h.taken h.written s.carry.items s.kept.bytes.items s.kept.not_text h.sifted;
   }
 
   -- the last writing, after want of memory
   pub Short-stopped : (left left' held mid held' : Option (List ℕ)) (s : Sieve)
-      → CameShort Means left left' held mid s → Appends mid held' s.kept.bytes.items → StoppedShort Means left left' held held'
+      → CameShort Writes left left' held mid s → Appends mid held' s.kept.bytes.items → StoppedShort Writes left left' held held'
   Short-stopped left left' held mid held' s h written = record {
     front = h.front;
     rest = h.rest;
@@ -160,11 +160,11 @@ module _ (Means : List ℕ → Type 0) where
     bad = h.sifted.bad;
     reads = h.reads;
     writes = Appends-trans _ _ _ _ _ h.writes written;
-    filters = sifted_whole Means h.front h.written s.carry.items s.kept.bytes.items s.kept.not_text h.sifted;
+    filters = sifted_whole Writes h.front h.written s.carry.items s.kept.bytes.items s.kept.not_text h.sifted;
   }
 
   -- want of memory before the first read
-  pub stopped_at_once : (left held : Option (List ℕ)) → StoppedShort Means left left held held
+  pub stopped_at_once : (left held : Option (List ℕ)) → StoppedShort Writes left left held held
   stopped_at_once left held = record {
     front = [];
     rest = [];
@@ -178,7 +178,7 @@ module _ (Means : List ℕ → Type 0) where
 
   -- after a failed write nothing more is written
   still_writing : (left left' held mid held' : Option (List ℕ)) (more : List ℕ)
-      → StoppedWriting Means left left' held mid → more ≡ [] → Appends mid held' more → StoppedWriting Means left left' held held'
+      → StoppedWriting Writes left left' held mid → more ≡ [] → Appends mid held' more → StoppedWriting Writes left left' held held'
   still_writing left left' held mid held' more h nil w = record {
     has_ended = h.has_ended;
     front = h.front;
@@ -194,13 +194,13 @@ module _ (Means : List ℕ → Type 0) where
 
   -- the last writing, after an error
   pub Halted-written : (left left' held mid held' : Option (List ℕ)) (s : Sieve) (e : LinesError)
-      → Halted Means left left' held mid s e → Appends mid held' s.kept.bytes.items → Stopped Means left left' held held' e
+      → Halted Writes left left' held mid s e → Appends mid held' s.kept.bytes.items → Stopped Writes left left' held held' e
   Halted-written left left' held mid held' s Read h w = Came-stopped left left' held mid held' s h w
   Halted-written left left' held mid held' s Write h w = still_writing left left' held mid held' s.kept.bytes.items h.0 h.1 w
   Halted-written left left' held mid held' s Memory h w = Short-stopped left left' held mid held' s h w
 
   pub Halted-writing : (left left' held mid held' : Option (List ℕ)) (s : Sieve) (e : LinesError)
-      → Halted Means left left' held mid s e → WritesPart mid held' s.kept.bytes.items → StoppedWriting Means left left' held held'
+      → Halted Writes left left' held mid s e → WritesPart mid held' s.kept.bytes.items → StoppedWriting Writes left left' held held'
   Halted-writing left left' held mid held' s Read h w = Short-writing left left' held mid held' s (came_short left left' held mid s h) w
   Halted-writing left left' held mid held' s Write h w = still_writing left left' held mid held' w.front h.0 (front_nil w.front w.rest (sym w.splits ∙ h.1)) w.writes
     where
@@ -211,7 +211,7 @@ module _ (Means : List ℕ → Type 0) where
 
   -- the last writing, whatever came before
   pub Ended-writing : (left left' held mid held' : Option (List ℕ)) (s : Sieve) (r : Result (Unit {0}) LinesError)
-      → OnOk r (Finished Means left left' held mid s) → IfErr r (Halted Means left left' held mid s)
-      → WritesPart mid held' s.kept.bytes.items → StoppedWriting Means left left' held held'
+      → OnOk r (Finished Writes left left' held mid s) → IfErr r (Halted Writes left left' held mid s)
+      → WritesPart mid held' s.kept.bytes.items → StoppedWriting Writes left left' held held'
   Ended-writing left left' held mid held' s (Ok x) h k w = Finished-writing left left' held mid held' s h w
   Ended-writing left left' held mid held' s (Err e) h k w = Halted-writing left left' held mid held' s e k w

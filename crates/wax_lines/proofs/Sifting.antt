@@ -3,14 +3,14 @@ use Rattle.std.proofs.Common.{true≢false, ◌≡◌, ◌≢◌, ℕ, ◌+◌, 
 use Rattle.std.proofs.lemmas.List.Elements.{All-nil, All-append, All-cons}
 use Rattle.std.proofs.lemmas.List.{nil_from_length}
 use Rattle.wax_lines.specs.Lines.{lines, whole_lines, Gives, Filters}
-use Rattle.wax_lines.specs.Sifted.{HasNoFeed, CountsMore, joined, Sifted}
+use Rattle.wax_lines.specs.inner.Sifted.{HasNoFeed, CountsMore, joined, Sifted}
 use Rattle.wax_lines.specs.declared.lines.sieve.Sieve.{Sieve}
-use Rattle.wax_lines.specs.Progress.{TakesIn, TakesLast}
+use Rattle.wax_lines.specs.inner.Progress.{TakesIn, TakesLast}
 use Rattle.wax_lines.proofs.Cuts.{lines_joined, lines_open, whole_lines_joined, joined-append, Filters-more}
 
-module _ (Means : List ℕ → Type 0) (taken written carry waiting : List ℕ) (counted : ℕ) (h : Sifted Means taken written carry waiting counted) where
+module _ (Writes : List ℕ → List ℕ → Type 0) (taken written carry waiting : List ℕ) (counted : ℕ) (h : Sifted Writes taken written carry waiting counted) where
   -- more of a line
-  sifted_more : (more : List ℕ) → HasNoFeed more → Sifted Means (taken ++ more) written (carry ++ more) waiting counted
+  sifted_more : (more : List ℕ) → HasNoFeed more → Sifted Writes (taken ++ more) written (carry ++ more) waiting counted
   sifted_more more k = record {
     whole = h.whole;
     bad = h.bad;
@@ -22,8 +22,8 @@ module _ (Means : List ℕ → Type 0) (taken written carry waiting : List ℕ) 
   }
 
   -- the end of a line, and what the line gives
-  sifted_line : (end out : List ℕ) (m counted' : ℕ) → HasNoFeed end → Gives Means (carry ++ end) out m → CountsMore counted counted' m
-      → Sifted Means (taken ++ (end ++ 10 ∷ [])) written [] (waiting ++ out) counted'
+  sifted_line : (end out : List ℕ) (m counted' : ℕ) → HasNoFeed end → Gives Writes (carry ++ end) out m → CountsMore counted counted' m
+      → Sifted Writes (taken ++ (end ++ 10 ∷ [])) written [] (waiting ++ out) counted'
   sifted_line end out m counted' k g more = record {
     whole = h.whole ++ (carry ++ end) ∷ [];
     bad = h.bad + m;
@@ -31,31 +31,31 @@ module _ (Means : List ℕ → Type 0) (taken written carry waiting : List ℕ) 
     are_lines = All-append HasNoFeed h.whole ((carry ++ end) ∷ []) h.are_lines
         (All-cons HasNoFeed (carry ++ end) [] (All-append (λ b. b ≢ 10) carry end h.is_open k) (All-nil HasNoFeed));
     is_open = All-nil (λ b. b ≢ 10);
-    filters = subst (λ z. Filters Means (h.whole ++ (carry ++ end) ∷ []) z (h.bad + m)) (append_assoc written waiting out)
-        (Filters-more Means h.whole (carry ++ end) (written ++ waiting) out h.bad m h.filters g);
+    filters = subst (λ z. Filters Writes (h.whole ++ (carry ++ end) ∷ []) z (h.bad + m)) (append_assoc written waiting out)
+        (Filters-more Writes h.whole (carry ++ end) (written ++ waiting) out h.bad m h.filters g);
     counts = more h.bad h.counts;
   }
 
   -- what waited was written
-  pub sifted_written : Sifted Means taken (written ++ waiting) carry [] counted
+  pub sifted_written : Sifted Writes taken (written ++ waiting) carry [] counted
   sifted_written = record {
     whole = h.whole;
     bad = h.bad;
     splits = h.splits;
     are_lines = h.are_lines;
     is_open = h.is_open;
-    filters = subst (λ z. Filters Means h.whole z h.bad) (sym (append-nil (written ++ waiting))) h.filters;
+    filters = subst (λ z. Filters Writes h.whole z h.bad) (sym (append-nil (written ++ waiting))) h.filters;
     counts = h.counts;
   }
 
   -- the whole lines of what was taken
-  pub sifted_whole : Filters Means (whole_lines taken) (written ++ waiting) h.bad
-  sifted_whole = subst (λ z. Filters Means z (written ++ waiting) h.bad)
+  pub sifted_whole : Filters Writes (whole_lines taken) (written ++ waiting) h.bad
+  sifted_whole = subst (λ z. Filters Writes z (written ++ waiting) h.bad)
       (sym (ap whole_lines h.splits ∙ whole_lines_joined h.whole carry h.are_lines h.is_open)) h.filters
 
 -- the start
-pub sifted_nothing : (Means : List ℕ → Type 0) → Sifted Means [] [] [] [] 0
-sifted_nothing Means = record {
+pub sifted_nothing : (Writes : List ℕ → List ℕ → Type 0) → Sifted Writes [] [] [] [] 0
+sifted_nothing Writes = record {
   whole = [];
   bad = 0;
   splits = refl;
@@ -65,45 +65,45 @@ sifted_nothing Means = record {
   counts = refl;
 }
 
-module _ (Means : List ℕ → Type 0) where
-  pub TakesIn-then : (old mid new : Sieve) (x y : List ℕ) → TakesIn Means x old mid → TakesIn Means y mid new → TakesIn Means (x ++ y) old new
+module _ (Writes : List ℕ → List ℕ → Type 0) where
+  pub TakesIn-then : (old mid new : Sieve) (x y : List ℕ) → TakesIn Writes x old mid → TakesIn Writes y mid new → TakesIn Writes (x ++ y) old new
   TakesIn-then old mid new x y f g taken written h = rw (← append_assoc) (g (taken ++ x) written (f taken written h))
 
   pub TakesIn-more : (old new : Sieve) (more : List ℕ) → HasNoFeed more → new.carry.items ≡ old.carry.items ++ more
-      → new.kept.bytes.items ≡ old.kept.bytes.items → new.kept.not_text ≡ old.kept.not_text → TakesIn Means more old new
+      → new.kept.bytes.items ≡ old.kept.bytes.items → new.kept.not_text ≡ old.kept.not_text → TakesIn Writes more old new
   TakesIn-more old new more k e f g taken written h =
-      rw (e, f, g) (sifted_more Means taken written old.carry.items old.kept.bytes.items old.kept.not_text h more k)
+      rw (e, f, g) (sifted_more Writes taken written old.carry.items old.kept.bytes.items old.kept.not_text h more k)
 
   pub TakesIn-none : (old new : Sieve) → new.carry.items ≡ old.carry.items
-      → new.kept.bytes.items ≡ old.kept.bytes.items → new.kept.not_text ≡ old.kept.not_text → TakesIn Means [] old new
+      → new.kept.bytes.items ≡ old.kept.bytes.items → new.kept.not_text ≡ old.kept.not_text → TakesIn Writes [] old new
   TakesIn-none old new e f g = TakesIn-more old new [] (All-nil (λ b. b ≢ 10)) (e ∙ sym (append-nil old.carry.items)) f g
 
-  pub TakesIn-line : (old new : Sieve) (end out : List ℕ) (m : ℕ) → HasNoFeed end → Gives Means (old.carry.items ++ end) out m
+  pub TakesIn-line : (old new : Sieve) (end out : List ℕ) (m : ℕ) → HasNoFeed end → Gives Writes (old.carry.items ++ end) out m
       → new.carry.items ≡ [] → new.kept.bytes.items ≡ old.kept.bytes.items ++ out
-      → CountsMore old.kept.not_text new.kept.not_text m → TakesIn Means (end ++ 10 ∷ []) old new
+      → CountsMore old.kept.not_text new.kept.not_text m → TakesIn Writes (end ++ 10 ∷ []) old new
   TakesIn-line old new end out m k gives e f g taken written h =
-      rw (e, f) (sifted_line Means taken written old.carry.items old.kept.bytes.items old.kept.not_text h end out m new.kept.not_text k gives g)
+      rw (e, f) (sifted_line Writes taken written old.carry.items old.kept.bytes.items old.kept.not_text h end out m new.kept.not_text k gives g)
 
   -- no rest
   pub TakesLast-none : (old new : Sieve) → old.carry.items ≡ []
-      → new.kept.bytes.items ≡ old.kept.bytes.items → new.kept.not_text ≡ old.kept.not_text → TakesLast Means old new
+      → new.kept.bytes.items ≡ old.kept.bytes.items → new.kept.not_text ≡ old.kept.not_text → TakesLast Writes old new
   TakesLast-none old new e f g taken written h = record {
     bad = h.bad;
-    filters = rw f (subst (λ z. Filters Means z (written ++ old.kept.bytes.items) h.bad)
+    filters = rw f (subst (λ z. Filters Writes z (written ++ old.kept.bytes.items) h.bad)
         (sym (ap lines h.splits ∙ ap (λ z. lines (joined h.whole ++ z)) e ∙ lines_joined h.whole [] h.are_lines ∙ append-nil h.whole)) h.filters);
     counts = g ∙ h.counts;
   }
 
   -- a rest
-  pub TakesLast-line : (old new : Sieve) (out : List ℕ) (m : ℕ) → old.carry.items ≢ [] → Gives Means old.carry.items out m
+  pub TakesLast-line : (old new : Sieve) (out : List ℕ) (m : ℕ) → old.carry.items ≢ [] → Gives Writes old.carry.items out m
       → new.kept.bytes.items ≡ old.kept.bytes.items ++ out
-      → CountsMore old.kept.not_text new.kept.not_text m → TakesLast Means old new
+      → CountsMore old.kept.not_text new.kept.not_text m → TakesLast Writes old new
   TakesLast-line old new out m some gives f g taken written h = record {
     bad = h.bad + m;
-    filters = rw f (subst (λ z. Filters Means z (written ++ (old.kept.bytes.items ++ out)) (h.bad + m))
+    filters = rw f (subst (λ z. Filters Writes z (written ++ (old.kept.bytes.items ++ out)) (h.bad + m))
         (sym (ap lines h.splits ∙ lines_joined h.whole old.carry.items h.are_lines ∙ ap (λ z. h.whole ++ z) (one_line old.carry.items some h.is_open)))
-        (subst (λ z. Filters Means (h.whole ++ old.carry.items ∷ []) z (h.bad + m)) (append_assoc written old.kept.bytes.items out)
-        (Filters-more Means h.whole old.carry.items (written ++ old.kept.bytes.items) out h.bad m h.filters gives)));
+        (subst (λ z. Filters Writes (h.whole ++ old.carry.items ∷ []) z (h.bad + m)) (append_assoc written old.kept.bytes.items out)
+        (Filters-more Writes h.whole old.carry.items (written ++ old.kept.bytes.items) out h.bad m h.filters gives)));
     counts = g h.bad h.counts;
   }
     where

@@ -1,5 +1,4 @@
 pub mod Counts
 pub mod Lines
-pub mod Progress
-pub mod Sifted
 pub mod Written
+pub mod inner

@@ -1,6 +1,7 @@
 -- The lines of an input, and what a filter of lines writes.
 use Rattle.std.specs.Prelude.{◌≡◌, ◌≤◌, ℕ, ◌+◌, ◌==◌, Bool, true, false, IsTrue, if◌then◌else◌}
-use Rattle.std.specs.Prelude.{List, [], ◌∷◌, ◌++◌, length, Option, IsUtf8, chars}
+use Rattle.std.specs.Prelude.{List, [], ◌∷◌, ◌++◌, length, map, Option, IsUtf8, chars, encode_utf8_all}
+use Rattle.std.specs.List.{join_with_byte}
 use Rattle.std.specs.Io.KnownBytes.{Consumes, Appends, IsAtEnd}
 use Rattle.std.specs.Io.Iter.{u64_saturate}
 use Rattle.wax_lines.specs.declared.lines.LinesError.{LinesError}
@@ -31,42 +32,61 @@ abbrev pub complete_lines : Bool → List ℕ → List (List ℕ)
 complete_lines true taken = lines taken
 complete_lines false taken = whole_lines taken
 
--- what one line gives: the bytes that are written, and 1 where it is no text
-pub data Gives (Means : List ℕ → Type 0) (line out : List ℕ) (bad : ℕ) : Type 0 where
-  meant : IsUtf8 line → Means (chars line) → out ≡ line ++ 10 ∷ [] → bad ≡ 0 → Gives Means line out bad
-  not_meant : IsUtf8 line → (Means (chars line) → ⊥) → out ≡ [] → bad ≡ 0 → Gives Means line out bad
-  no_text : (IsUtf8 line → ⊥) → out ≡ [] → bad ≡ 1 → Gives Means line out bad
+-- a text that is meant and a line feed, or nothing for another text
+pub data WritesMeant (Means : List ℕ → Type 0) (s out : List ℕ) : Type 0 where
+  meant : Means s → out ≡ encode_utf8_all s ++ 10 ∷ [] → WritesMeant Means s out
+  not_meant : (Means s → ⊥) → out ≡ [] → WritesMeant Means s out
+
+-- the texts, with a tab between each two
+abbrev pub tabbed : List (List ℕ) → List ℕ
+tabbed texts = join_with_byte 9 (map encode_utf8_all texts)
+
+-- a text that is meant, with what is captured of it, and a line feed, or nothing for another text
+pub data WritesCaptures (Means : List ℕ → Type 0) (Captured : List ℕ → List (List ℕ) → Type 0)
+    (s out : List ℕ) : Type 0 where
+  captured : (captures : List (List ℕ)) → Means s → Captured s captures
+      → out ≡ tabbed (s ∷ captures) ++ 10 ∷ [] → WritesCaptures Means Captured s out
+  not_captured : (Means s → ⊥) → out ≡ [] → WritesCaptures Means Captured s out
+
+-- What one line gives, and 1 where it is no text. Of a text, `Writes` says which bytes may be written.
+pub data Gives (Writes : List ℕ → List ℕ → Type 0) (line out : List ℕ) (bad : ℕ) : Type 0 where
+  text : IsUtf8 line → Writes (chars line) out → bad ≡ 0 → Gives Writes line out bad
+  no_text : (IsUtf8 line → ⊥) → out ≡ [] → bad ≡ 1 → Gives Writes line out bad
 
 -- what lines give, one after another, and how many are no text
-abbrev pub Filters : (List ℕ → Type 0) → List (List ℕ) → List ℕ → ℕ → Type 0
-Filters Means [] out bad = (out ≡ []) × (bad ≡ 0)
-Filters Means (line ∷ rest) out bad =
-    (x y : List ℕ) × (m n : ℕ) × Gives Means line x m × Filters Means rest y n × (out ≡ x ++ y) × (bad ≡ m + n)
+abbrev pub Filters : (List ℕ → List ℕ → Type 0) → List (List ℕ) → List ℕ → ℕ → Type 0
+Filters Writes [] out bad = (out ≡ []) × (bad ≡ 0)
+Filters Writes (line ∷ rest) out bad =
+    (x y : List ℕ) × (m n : ℕ) × Gives Writes line x m × Filters Writes rest y n
+    × (out ≡ x ++ y) × (bad ≡ m + n)
 
--- All was read, and what its lines give was written. `left` is what the reader has left and `held` what the writer
--- holds, before and after.
-pub record Filtered (Means : List ℕ → Type 0) (left left' held held' : Option (List ℕ)) (answer : ℕ) : Type 0 where
+-- All was read, and what its lines give was written. `left` is what the reader has left and `held` what the
+-- writer holds, before and after.
+pub record Filtered (Writes : List ℕ → List ℕ → Type 0) (left left' held held' : Option (List ℕ))
+    (answer : ℕ) : Type 0 where
   pub taken : List ℕ
   pub out : List ℕ
   pub bad : ℕ
   pub reads : Consumes left left' taken
   pub ends : IsAtEnd left'
   pub writes : Appends held held' out
-  pub filters : Filters Means (lines taken) out bad
+  pub filters : Filters Writes (lines taken) out bad
   pub answers : answer ≡ u64_saturate bad
 
 -- what the whole lines of the bytes that were read give was written
-pub record StoppedReading (Means : List ℕ → Type 0) (left left' held held' : Option (List ℕ)) : Type 0 where
+pub record StoppedReading (Writes : List ℕ → List ℕ → Type 0)
+    (left left' held held' : Option (List ℕ)) : Type 0 where
   pub taken : List ℕ
   pub out : List ℕ
   pub bad : ℕ
   pub reads : Consumes left left' taken
   pub writes : Appends held held' out
-  pub filters : Filters Means (whole_lines taken) out bad
+  pub filters : Filters Writes (whole_lines taken) out bad
 
--- A beginning was written of what the complete lines give of a beginning of the bytes that were read: of all bytes,
--- where the end of the input is reached.
-pub record StoppedWriting (Means : List ℕ → Type 0) (left left' held held' : Option (List ℕ)) : Type 0 where
+-- A beginning was written of what the complete lines give of a beginning of the bytes that were read: of all
+-- bytes, where the end of the input is reached.
+pub record StoppedWriting (Writes : List ℕ → List ℕ → Type 0)
+    (left left' held held' : Option (List ℕ)) : Type 0 where
   pub has_ended : Bool
   pub front : List ℕ
   pub rest : List ℕ
@@ -76,10 +96,11 @@ pub record StoppedWriting (Means : List ℕ → Type 0) (left left' held held' :
   pub reads : Consumes left left' (front ++ rest)
   pub ends : IsTrue has_ended → IsAtEnd left' × (rest ≡ [])
   pub writes : Appends held held' out
-  pub filters : Filters Means (complete_lines has_ended front) (out ++ unwritten) bad
+  pub filters : Filters Writes (complete_lines has_ended front) (out ++ unwritten) bad
 
 -- What the whole lines give was written, of all bytes read but a rest, no longer than one read gives.
-pub record StoppedShort (Means : List ℕ → Type 0) (left left' held held' : Option (List ℕ)) : Type 0 where
+pub record StoppedShort (Writes : List ℕ → List ℕ → Type 0)
+    (left left' held held' : Option (List ℕ)) : Type 0 where
   pub front : List ℕ
   pub rest : List ℕ
   pub out : List ℕ
@@ -87,10 +108,11 @@ pub record StoppedShort (Means : List ℕ → Type 0) (left left' held held' : O
   pub reads : Consumes left left' (front ++ rest)
   pub of_one_read : length rest ≤ 65536
   pub writes : Appends held held' out
-  pub filters : Filters Means (whole_lines front) out bad
+  pub filters : Filters Writes (whole_lines front) out bad
 
 -- how it stands after an error
-abbrev pub Stopped : (List ℕ → Type 0) → (left left' held held' : Option (List ℕ)) → LinesError → Type 0
-Stopped Means left left' held held' Read = StoppedReading Means left left' held held'
-Stopped Means left left' held held' Write = StoppedWriting Means left left' held held'
-Stopped Means left left' held held' Memory = StoppedShort Means left left' held held'
+abbrev pub Stopped : (List ℕ → List ℕ → Type 0) → (left left' held held' : Option (List ℕ))
+    → LinesError → Type 0
+Stopped Writes left left' held held' Read = StoppedReading Writes left left' held held'
+Stopped Writes left left' held held' Write = StoppedWriting Writes left left' held held'
+Stopped Writes left left' held held' Memory = StoppedShort Writes left left' held held'

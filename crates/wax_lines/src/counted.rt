@@ -82,7 +82,8 @@ impl<W: Write> Write for Counted<W> {
         ensures bytes { WriteAppends
             (W.contents self.old.inner) (W.contents self.new.inner) result buf.now }
         ensures calls { self.new.calls ≡ one_more self.old.calls }
-        ensures failures { self.new.failures ≡ one_more_if (is_failed_write result buf.now) self.old.failures }
+        ensures failures { self.new.failures
+            ≡ one_more_if (is_failed_write result buf.now) self.old.failures }
     {
         self.calls = self.calls.saturating_add(1);
         let answer = self.inner.write(buf);

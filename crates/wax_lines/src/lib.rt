@@ -1,4 +1,4 @@
-//! The lines of a reader that a program means.
+//! The lines of a reader that a program means, and what is captured of them.
 #![tactic(auto)]
 
 mod counted;
@@ -6,5 +6,5 @@ mod lines;
 mod writing;
 
 pub use counted::Counted;
-pub use lines::{LinesError, filter_lines};
+pub use lines::{LinesError, capture_lines, filter_lines};
 pub use writing::write_whole;

@@ -1,8 +1,8 @@
-//! The filter of lines.
+//! The lines that a program means, and what it captures of them.
 ghost use Rattle.std.specs.Prelude.{◌≡◌, ◌≤◌, ◌<◌, ◌⊎◌, [], length, IfOk, IfErr, OnOk, IsErrOf};
 ghost use Rattle.wax_lines.specs.Counts.{greatest_count};
-ghost use Rattle.wax_lines.specs.Lines.{Filtered, Stopped};
-ghost use Rattle.wax_lines.specs.Progress.{Finished, Halted, SieveSifted};
+ghost use Rattle.wax_lines.specs.Lines.{Filtered, Stopped, WritesCaptures, WritesMeant};
+ghost use Rattle.wax_lines.specs.inner.Progress.{Finished, Halted, SieveSifted};
 
 use crate::counted::Counted;
 use std::alloc::{AllocError, Global};
@@ -11,8 +11,10 @@ use thiserror::Error;
 use wax_candidate::Program;
 use wax_query::diagnostics::NoMemory;
 
+mod line_writer;
 mod sieve;
 
+use line_writer::{CapturedLines, LineWriter, MeantLines};
 use sieve::Sieve;
 
 /// How many bytes are read at once, and how many wait at most before they are written.
@@ -69,10 +71,59 @@ pub fn filter_lines<R: Read, W: Write, P: Program>(
     output: &mut Counted<W>,
     program: &P,
 ) -> Result<u64, LinesError>
-    ensures done { IfOk result (Filtered (P.means program.now)
+    ensures done { IfOk result (Filtered (WritesMeant (P.means program.now))
         (R.remaining input.old.inner) (R.remaining input.new.inner)
         (W.contents output.old.inner) (W.contents output.new.inner)) }
-    ensures stopped { IfErr result (Stopped (P.means program.now)
+    ensures stopped { IfErr result (Stopped (WritesMeant (P.means program.now))
+        (R.remaining input.old.inner) (R.remaining input.new.inner)
+        (W.contents output.old.inner) (W.contents output.new.inner)) }
+    ensures read_failed { IsErrOf result LinesError.Read →
+        (input.old.failures < input.new.failures) ⊎ (input.new.calls ≡ greatest_count) }
+    ensures write_failed { IsErrOf result LinesError.Write →
+        (output.old.failures < output.new.failures) ⊎ (output.new.failures ≡ greatest_count) }
+{
+    sift_lines(alloc, input, output, &MeantLines { program })
+}
+
+/// Writes for each line of the input that is text and that the program means the line and each of its
+/// captures, with a tab between and one line feed, and answers how many lines are no text; nothing is
+/// written for these. That number stays at the greatest u64. A line ends at a line feed or, if it isn't
+/// empty, at the end of the input.
+///
+/// Refused with 18, 10 and 19 where `filter_lines` is, and what is then written is told in the same way:
+/// of a line for which memory is refused no part is. Takes memory for the longest line with its captures
+/// and a few chunks of 65,536 bytes.
+pub fn capture_lines<R: Read, W: Write, P: Program>(
+    alloc: Global,
+    input: &mut Counted<R>,
+    output: &mut Counted<W>,
+    program: &P,
+) -> Result<u64, LinesError>
+    ensures done { IfOk result (Filtered (WritesCaptures (P.means program.now) (P.captured program.now))
+        (R.remaining input.old.inner) (R.remaining input.new.inner)
+        (W.contents output.old.inner) (W.contents output.new.inner)) }
+    ensures stopped { IfErr result (Stopped (WritesCaptures (P.means program.now) (P.captured program.now))
+        (R.remaining input.old.inner) (R.remaining input.new.inner)
+        (W.contents output.old.inner) (W.contents output.new.inner)) }
+    ensures read_failed { IsErrOf result LinesError.Read →
+        (input.old.failures < input.new.failures) ⊎ (input.new.calls ≡ greatest_count) }
+    ensures write_failed { IsErrOf result LinesError.Write →
+        (output.old.failures < output.new.failures) ⊎ (output.new.failures ≡ greatest_count) }
+{
+    sift_lines(alloc, input, output, &CapturedLines { program })
+}
+
+// Writes what the writer of lines gives of each line of the input.
+fn sift_lines<R: Read, W: Write, L: LineWriter>(
+    alloc: Global,
+    input: &mut Counted<R>,
+    output: &mut Counted<W>,
+    line_writer: &L,
+) -> Result<u64, LinesError>
+    ensures done { IfOk result (Filtered (L.writes line_writer.now)
+        (R.remaining input.old.inner) (R.remaining input.new.inner)
+        (W.contents output.old.inner) (W.contents output.new.inner)) }
+    ensures stopped { IfErr result (Stopped (L.writes line_writer.now)
         (R.remaining input.old.inner) (R.remaining input.new.inner)
         (W.contents output.old.inner) (W.contents output.new.inner)) }
     ensures read_failed { IsErrOf result LinesError.Read →
@@ -82,27 +133,27 @@ pub fn filter_lines<R: Read, W: Write, P: Program>(
 {
     let mut chunk = vec![in alloc; 0u8; CHUNK]?;
     let mut sieve = Sieve::new(alloc);
-    let taken = take_all(alloc, input, output, program, &mut chunk, &mut sieve);
+    let taken = take_all(alloc, input, output, line_writer, &mut chunk, &mut sieve);
     sieve.write_out(output)?;
     taken?;
     Ok(sieve.not_text())
 }
 
 // Takes the whole input into the sieve, and writes what waits once it is long.
-fn take_all<R: Read, W: Write, P: Program>(
+fn take_all<R: Read, W: Write, L: LineWriter>(
     alloc: Global,
     input: &mut Counted<R>,
     output: &mut Counted<W>,
-    program: &P,
+    line_writer: &L,
     chunk: &mut [u8],
     sieve: &mut Sieve,
 ) -> Result<(), LinesError>
     requires room { length chunk.old ≡ CHUNK }
-    requires fresh { SieveSifted (P.means program.now) [] [] sieve.old }
-    ensures done { OnOk result (Finished (P.means program.now)
+    requires fresh { SieveSifted (L.writes line_writer.now) [] [] sieve.old }
+    ensures done { OnOk result (Finished (L.writes line_writer.now)
         (R.remaining input.old.inner) (R.remaining input.new.inner)
         (W.contents output.old.inner) (W.contents output.new.inner) sieve.new) }
-    ensures stopped { IfErr result (Halted (P.means program.now)
+    ensures stopped { IfErr result (Halted (L.writes line_writer.now)
         (R.remaining input.old.inner) (R.remaining input.new.inner)
         (W.contents output.old.inner) (W.contents output.new.inner) sieve.new) }
     ensures read_failed { IsErrOf result LinesError.Read →
@@ -116,10 +167,10 @@ fn take_all<R: Read, W: Write, P: Program>(
             return Err(LinesError::Read);
         };
         if count == 0 {
-            sieve.take_last(alloc, program)?;
+            sieve.take_last(alloc, line_writer)?;
             return Ok(());
         }
-        sieve.take(alloc, program, &chunk[..count])?;
+        sieve.take(alloc, line_writer, &chunk[..count])?;
         if sieve.waiting() >= CHUNK {
             sieve.write_out(output)?;
         }

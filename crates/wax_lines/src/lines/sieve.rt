@@ -4,16 +4,16 @@ ghost use Rattle.std.specs.Prelude.{IfOk, IfErr, OnOk, OnErr, MatchOption};
 ghost use Rattle.std.specs.Io.KnownBytes.{Appends};
 ghost use Rattle.wax_lines.specs.Counts.{greatest_count};
 ghost use Rattle.wax_lines.specs.Lines.{Gives};
-ghost use Rattle.wax_lines.specs.Sifted.{HasNoFeed, CountsMore};
-ghost use Rattle.wax_lines.specs.Progress.{SieveSifted, TakesIn, TakesInPart, TakesLast};
+ghost use Rattle.wax_lines.specs.inner.Sifted.{HasNoFeed, CountsMore};
+ghost use Rattle.wax_lines.specs.inner.Progress.{SieveSifted, TakesIn, TakesInPart, TakesLast};
 ghost use Rattle.wax_lines.specs.Written.{WritesPart};
 
 use super::LinesError;
+use super::line_writer::LineWriter;
 use crate::counted::Counted;
 use crate::writing::write_whole;
-use std::alloc::{AllocError, Global};
+use std::alloc::Global;
 use std::io::Write;
-use wax_candidate::{CandidatePath, Program};
 use wax_query::diagnostics::NoMemory;
 
 /// The output that waits to be written, and how many lines were no text.
@@ -32,13 +32,14 @@ pub struct Sieve {
 
 impl Kept {
     // One line, without its line feed.
-    fn add_line<P: Program>(
+    fn add_line<L: LineWriter>(
         &mut self,
         alloc: Global,
-        program: &P,
+        line_writer: &L,
         line: &[u8],
     ) -> Result<(), NoMemory>
-        ensures ok { OnOk result ((out : List ℕ) × (bad : ℕ) × Gives (P.means program.now) line.now out bad
+        ensures ok { OnOk result ((out : List ℕ) × (bad : ℕ)
+            × Gives (L.writes line_writer.now) line.now out bad
             × (self.new.bytes.items ≡ self.old.bytes.items ++ out)
             × CountsMore self.old.not_text self.new.not_text bad) }
         ensures bytes { OnErr result (self.new.bytes.items ≡ self.old.bytes.items) }
@@ -48,22 +49,7 @@ impl Kept {
             self.not_text = self.not_text.saturating_add(1);
             return Ok(());
         };
-        if program.is_match(alloc, &CandidatePath::from(text))? {
-            self.add_text(line)?;
-        }
-        Ok(())
-    }
-
-    // A line and its line feed, or nothing.
-    fn add_text(&mut self, line: &[u8]) -> Result<(), AllocError>
-        ensures ok { OnOk result (self.new.bytes.items ≡ self.old.bytes.items ++ (line.now ++ 10 ∷ [])) }
-        ensures err { OnErr result (self.new.bytes.items ≡ self.old.bytes.items) }
-        ensures not_text { self.new.not_text ≡ self.old.not_text }
-    {
-        self.bytes.reserve(line.len() + 1)?;
-        self.bytes.extend_from_slice(line)?;
-        self.bytes.push(b'\n')?;
-        Ok(())
+        line_writer.write_line(alloc, text, &mut self.bytes)
     }
 }
 
@@ -98,18 +84,18 @@ impl Sieve {
     }
 
     /// Takes the next bytes of the input, or a beginning of them where memory is refused.
-    pub fn take<P: Program>(
+    pub fn take<L: LineWriter>(
         &mut self,
         alloc: Global,
-        program: &P,
+        line_writer: &L,
         chunk: &[u8],
     ) -> Result<(), NoMemory>
-        ensures ok { OnOk result (TakesIn (P.means program.now) chunk.now self.old self.new) }
-        ensures err { OnErr result (TakesInPart (P.means program.now) chunk.now self.old self.new) }
+        ensures ok { OnOk result (TakesIn (L.writes line_writer.now) chunk.now self.old self.new) }
+        ensures err { OnErr result (TakesInPart (L.writes line_writer.now) chunk.now self.old self.new) }
     {
         let mut rest = chunk;
         while let Some((line, after)) = split_line(rest) {
-            self.take_line(alloc, program, line)?;
+            self.take_line(alloc, line_writer, line)?;
             rest = after;
         }
         self.carry.extend_from_slice(rest)?;
@@ -117,34 +103,38 @@ impl Sieve {
     }
 
     // The end of a line, without its line feed.
-    fn take_line<P: Program>(
+    fn take_line<L: LineWriter>(
         &mut self,
         alloc: Global,
-        program: &P,
+        line_writer: &L,
         end: &[u8],
     ) -> Result<(), NoMemory>
         requires { HasNoFeed end.now }
-        ensures ok { OnOk result (TakesIn (P.means program.now) (end.now ++ 10 ∷ []) self.old self.new) }
-        ensures err { OnErr result (TakesInPart (P.means program.now) end.now self.old self.new) }
+        ensures ok { OnOk result (TakesIn (L.writes line_writer.now) (end.now ++ 10 ∷ []) self.old self.new) }
+        ensures err { OnErr result (TakesInPart (L.writes line_writer.now) end.now self.old self.new) }
     {
         if self.carry.is_empty() {
-            return self.kept.add_line(alloc, program, end);
+            return self.kept.add_line(alloc, line_writer, end);
         }
         self.carry.extend_from_slice(end)?;
-        self.kept.add_line(alloc, program, &self.carry)?;
+        self.kept.add_line(alloc, line_writer, &self.carry)?;
         self.carry.clear();
         Ok(())
     }
 
     /// The end of the input: the rest is a line too, if there is one.
-    pub fn take_last<P: Program>(&mut self, alloc: Global, program: &P) -> Result<(), NoMemory>
-        ensures ok { OnOk result (TakesLast (P.means program.now) self.old self.new) }
-        ensures err { OnErr result (TakesIn (P.means program.now) [] self.old self.new) }
+    pub fn take_last<L: LineWriter>(
+        &mut self,
+        alloc: Global,
+        line_writer: &L,
+    ) -> Result<(), NoMemory>
+        ensures ok { OnOk result (TakesLast (L.writes line_writer.now) self.old self.new) }
+        ensures err { OnErr result (TakesIn (L.writes line_writer.now) [] self.old self.new) }
     {
         if self.carry.is_empty() {
             return Ok(());
         }
-        self.kept.add_line(alloc, program, &self.carry)
+        self.kept.add_line(alloc, line_writer, &self.carry)
     }
 
     /// Writes what waits, which then waits no more. Refused with 19 where a write fails or takes nothing:

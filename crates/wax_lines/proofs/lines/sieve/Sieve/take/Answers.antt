@@ -11,7 +11,7 @@ returns-in_err-take_line-clause-err g c =
       front ++ part,
       rest ++ 10 ∷ c.in-Some.after.now,
       splits ∙ ap (λ z. front ++ z) (cut ∙ ap (λ z. z ++ 10 ∷ c.in-Some.after.now) parts) ∙ simp append_assoc,
-      TakesIn-then (g.P.Program.means c.args.program.now) c.args.self.now c.loop-line.self c.take_line.new.self front part taken more,
+      TakesIn-then (g.L.LineWriter.writes c.args.line_writer.now) c.args.self.now c.loop-line.self c.take_line.new.self front part taken more,
     )
 
 pub loop-line-preserved : goal.loop-line-preserved
@@ -20,5 +20,5 @@ loop-line-preserved g c =
     let (cut, _) = c.in-Some.ensures in (
       front ++ (c.in-Some.line.now ++ 10 ∷ []),
       splits ∙ ap (λ z. front ++ z) cut ∙ simp append_assoc,
-      TakesIn-then (g.P.Program.means c.args.program.now) c.args.self.now c.loop-line.self c.take_line.new.self front (c.in-Some.line.now ++ 10 ∷ []) taken c.in_ok-take_line.ensures.ok,
+      TakesIn-then (g.L.LineWriter.writes c.args.line_writer.now) c.args.self.now c.loop-line.self c.take_line.new.self front (c.in-Some.line.now ++ 10 ∷ []) taken c.in_ok-take_line.ensures.ok,
     )

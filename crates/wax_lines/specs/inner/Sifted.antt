@@ -17,11 +17,12 @@ abbrev pub CountsMore : ℕ → ℕ → ℕ → Type 0
 CountsMore old new m = (n : ℕ) → old ≡ u64_saturate n → new ≡ u64_saturate (n + m)
 
 -- What was taken is whole lines and the carry, and what the lines give is what was written and what waits.
-pub record Sifted (Means : List ℕ → Type 0) (taken written carry waiting : List ℕ) (counted : ℕ) : Type 0 where
+pub record Sifted (Writes : List ℕ → List ℕ → Type 0) (taken written carry waiting : List ℕ)
+    (counted : ℕ) : Type 0 where
   pub whole : List (List ℕ)
   pub bad : ℕ
   pub splits : taken ≡ joined whole ++ carry
   pub are_lines : All HasNoFeed whole
   pub is_open : HasNoFeed carry
-  pub filters : Filters Means whole (written ++ waiting) bad
+  pub filters : Filters Writes whole (written ++ waiting) bad
   pub counts : counted ≡ u64_saturate bad
