@@ -7,12 +7,13 @@ ghost use Rattle.wax_components.specs.Parts.{text_of};
 ghost use Rattle.wax_components.specs.inner.Dots.{dot_after, dots_of};
 ghost use Rattle.wax_components.specs.TopLevel.{tokens_of};
 ghost use Rattle.wax_token.specs.Kinds.{is_boundary, is_literal};
+ghost use Rattle.wax_token.specs.Words.{trees};
 
 use crate::kinds;
 use std::alloc::{AllocError, Global};
 use std::marker::Model;
 use wax_query::diagnostics::{NoMemory, Span, SpanExt};
-use wax_token::token::{Annotation, ExpressionMetadata, Token};
+use wax_token::token::{Annotation, ConcatenationTree, ExpressionMetadata, Token};
 
 /// A component of a glob: the tokens between two boundaries, or a `**`. Contracts see the tokens.
 #[derive(Drop)]
@@ -31,6 +32,16 @@ impl<'i, 't, A> Model for Component<'i, 't, A> {
     ghost coded = { coded_list (tree_code A.code) };
 
     ghost view = { λ c. c.tokens.now };
+}
+
+impl<'t, A> ConcatenationTree<'t> for Component<'_, 't, A> {
+    type Annotation = A;
+
+    ghost tokens = { λ c. trees c };
+
+    fn concatenation(&self) -> &[Token<'t, A>] {
+        self.tokens
+    }
 }
 
 impl<'i, 't, A> Component<'i, 't, A> {
