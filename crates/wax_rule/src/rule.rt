@@ -11,6 +11,7 @@ ghost use Rattle.wax_rule.specs.FirstBreak.{IsFirst, first_of, breaks_of, breaks
 mod boundary;
 mod bounds;
 mod branch;
+mod checked_tokens;
 mod natural;
 mod situated;
 pub(crate) mod size;
