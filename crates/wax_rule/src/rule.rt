@@ -16,6 +16,8 @@ mod natural;
 mod situated;
 pub(crate) mod size;
 
+pub use checked_tokens::already_checked;
+
 use crate::rule::boundary::boundary_break;
 use crate::rule::bounds::bounds_break;
 use crate::rule::branch::branch_break;

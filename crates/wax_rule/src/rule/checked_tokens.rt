@@ -93,6 +93,13 @@ impl<'t> Checked<Token<'t, ExpressionMetadata>> {
     }
 }
 
+/// What keeps the rules as it is: what was checked before it was compiled, or the alternation of such.
+pub fn already_checked<T>(inner: T) -> Checked<T>
+    ensures { result ≡ inner }
+{
+    Checked { inner }
+}
+
 /// The tokens of what was checked.
 fn tokens_of<'t, T: TokenTree<'t> + Drop>(
     alloc: Global,
