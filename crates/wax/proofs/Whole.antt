@@ -14,13 +14,13 @@ use Rattle.wax_token.specs.Syntax.{Tree, leaf, alternation, concatenation, repet
 use Rattle.wax_token.specs.Words.{members}
 use Rattle.wax.specs.GlobView.{IsCompiled, IsKept}
 
-means_members : {A : Type 0} (t : Tree A) (before after : Bool) (s : List ℕ) → MeansEach (members t) before after s ↔ Means t before after s
+pub means_members : {A : Type 0} (t : Tree A) (before after : Bool) (s : List ℕ) → MeansEach (members t) before after s ↔ Means t before after s
 means_members (leaf a l) before after s = (λ h. h, λ h. h)
 means_members (alternation a ts) before after s = (λ h. h, λ h. h)
 means_members (concatenation a ts) before after s = (λ h. h, λ h. h)
 means_members (repetition a t low high) before after s = (λ h. h, λ h. h)
 
-costs_members : {A : Type 0} (t : Tree A) → costs (members t) ≡ cost t
+pub costs_members : {A : Type 0} (t : Tree A) → costs (members t) ≡ cost t
 costs_members (leaf a l) = add-zero _
 costs_members (alternation a ts) = add-zero _
 costs_members (concatenation a ts) = refl

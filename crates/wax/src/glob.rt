@@ -19,6 +19,7 @@ ghost use Rattle.wax.specs.GlobView.{HasCaptures, IsKept, IsMeant};
 ghost use Rattle.wax.specs.Partition.{as_glob};
 
 mod parts;
+mod pattern;
 
 use crate::build_error::{BuildError, rule_refused};
 use std::alloc::Global;

@@ -11,9 +11,12 @@ ghost use Rattle.wax_rule.specs.FirstBreak.{IsFirst, first_of, breaks_of, breaks
 mod boundary;
 mod bounds;
 mod branch;
+mod checked_tokens;
 mod natural;
 mod situated;
 pub(crate) mod size;
+
+pub use checked_tokens::already_checked;
 
 use crate::rule::boundary::boundary_break;
 use crate::rule::bounds::bounds_break;

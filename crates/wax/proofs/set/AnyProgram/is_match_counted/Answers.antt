@@ -1,0 +1,20 @@
+use Rattle.std.proofs.Common.{false, chars, IsTrue, length, sym, ap, subst, arith, rules}
+use Rattle.wax_token.specs.Meaning.{Means}
+use Rattle.wax_prefilter.proofs.Lengths.{chars_short}
+use Rattle.wax.proofs.set.AnyProgram.is_match_counted.Goals as goal
+
+pub returns-clause-below : goal.returns-clause-below
+returns-clause-below c is_meant =
+    let text = c.as_str-text.result.now in
+    omega (arith, c.in_ok-answer.ensures.below is_meant, chars_short text c.as_str-text.utf8, c.as_str-text.type_inv.0, ap length c.as_str-text.ensures, c.ticks.ensures, c.new-meter.ensures)
+
+pub returns-then-not-may_match-clause-decides : goal.returns-then-not-may_match-clause-decides
+returns-then-not-may_match-clause-decides c = (
+  λ no. absurd (search rules),
+  λ meant.
+      let text = chars c.as_str-text.result.now in
+      let same : Means c.self.inside.token false false text =
+      subst (λ t. Means t false false text) (sym c.self.view_is) (subst (λ s. Means c.args.self.now false false s) (sym c.as_str-text.ensures) meant) in
+      let passes : IsTrue c.may_match.result = c.may_match.ensures (c.self.invariant.passes text same) in
+      absurd (search (rules, passes)),
+)

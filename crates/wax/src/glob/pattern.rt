@@ -1,0 +1,30 @@
+//! A glob as one of the patterns of a set.
+ghost use Rattle.std.specs.Prelude.{◌≡◌};
+ghost use Rattle.wax.specs.Patterns.{LacksMemory};
+
+use crate::build_error::BuildError;
+use crate::glob::Glob;
+use crate::pattern::Pattern;
+use std::alloc::Global;
+use wax_rule::rule::{Checked, already_checked};
+use wax_token::token::{ExpressionMetadata, Token};
+
+impl<'t> Pattern for Glob<'t> {
+    ghost spells = { λ glob t. t ≡ glob.tree };
+
+    ghost refuses = { λ glob. LacksMemory };
+
+    fn into_checked(
+        self,
+        alloc: Global,
+    ) -> Result<Checked<Token<'static, ExpressionMetadata>>, BuildError> {
+        let Glob {
+            tokenized,
+            program: _,
+            prefilter: _,
+            pieces: _,
+        } = self;
+        let checked = already_checked(tokenized.into_token());
+        Ok(checked.into_owned(alloc)?)
+    }
+}

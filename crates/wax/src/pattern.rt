@@ -1,0 +1,161 @@
+//! What a set can be made of, and how it is.
+ghost use Rattle.std.specs.Prelude.{◌≡◌, ◌++◌, ◌∷◌, [], MatchResult, OnOk, chars};
+ghost use Rattle.wax_token.specs.Reads.{Span};
+ghost use Rattle.wax_token.specs.Syntax.{Tree};
+ghost use Rattle.wax.specs.Patterns.{IsAnyOf, IsOnly, LacksMemory, NoSet, Refuses, RefusesOk};
+ghost use Rattle.wax.specs.Patterns.{SpellEach, Spells, SpellsOk};
+ghost use Rattle.wax.specs.declared.build_error.BuildError.{BuildError};
+
+use crate::build_error::{BuildError, rule_refused};
+use crate::set::{Any, compiled};
+use std::alloc::Global;
+use wax_parse::parse::parse;
+use wax_query::diagnostics::{NoMemory, Refusal};
+use wax_rule::rule::{Checked, check};
+use wax_token::token::{Alternation, BranchKind, ExpressionMetadata, Token, Tokenized, new_branch};
+
+/// What a set can be made of: an expression, a glob, a set, what was checked, or one of these that may have
+/// been refused.
+pub trait Pattern: Sized {
+    /// The tree that it spells or holds.
+    ghost spells: { Self → Tree Span → Type 0 };
+
+    /// Why it has none.
+    ghost refuses: { Self → BuildError → Type 0 };
+
+    /// Its token, which keeps the rules, with texts of its own. An expression is read and checked, and refused
+    /// with 1 to 8 as `Glob::new` refuses it. What was refused is refused again. All else is taken as it is.
+    /// Refused with 10 where memory is.
+    fn into_checked(
+        self,
+        alloc: Global,
+    ) -> Result<Checked<Token<'static, ExpressionMetadata>>, BuildError>
+        ensures { MatchResult result (IsOnly (spells self)) (refuses self) };
+}
+
+impl<'t> Pattern for &'t str {
+    ghost spells = { λ expression. Spells (chars expression.now) };
+
+    ghost refuses = { λ expression. Refuses (chars expression.now) };
+
+    fn into_checked(
+        self,
+        alloc: Global,
+    ) -> Result<Checked<Token<'static, ExpressionMetadata>>, BuildError> {
+        let checked = parse_and_check(alloc, self)?;
+        Ok(checked.into_owned(alloc)?)
+    }
+}
+
+impl<'t> Pattern for Checked<Token<'t, ExpressionMetadata>> {
+    ghost spells = { λ checked t. t ≡ checked };
+
+    ghost refuses = { λ checked. LacksMemory };
+
+    fn into_checked(
+        self,
+        alloc: Global,
+    ) -> Result<Checked<Token<'static, ExpressionMetadata>>, BuildError> {
+        Ok(self.into_owned(alloc)?)
+    }
+}
+
+impl<'t> Pattern for Checked<Tokenized<'t, ExpressionMetadata>> {
+    ghost spells = { λ checked t. t ≡ checked.token };
+
+    ghost refuses = { λ checked. LacksMemory };
+
+    fn into_checked(
+        self,
+        alloc: Global,
+    ) -> Result<Checked<Token<'static, ExpressionMetadata>>, BuildError> {
+        let checked = token_of(self);
+        Ok(checked.into_owned(alloc)?)
+    }
+}
+
+impl<P: Pattern> Pattern for Result<P, BuildError> {
+    ghost spells = { SpellsOk P.spells };
+
+    ghost refuses = { RefusesOk P.refuses };
+
+    fn into_checked(
+        self,
+        alloc: Global,
+    ) -> Result<Checked<Token<'static, ExpressionMetadata>>, BuildError> {
+        match self {
+            Ok(pattern) => pattern.into_checked(alloc),
+            Err(error) => Err(error),
+        }
+    }
+}
+
+/// The set of the patterns, which means what one of them means; of no patterns, nothing. The first pattern
+/// that is refused decides. Else refused with 9 where 1 and, for each pattern, the cost of its token and 2,
+/// together with 1 for the whole, are above 1,048,576; and with 10 where memory is. It takes time and memory
+/// of the order of the patterns' tokens and their cost.
+pub fn any<P: Pattern + Drop>(alloc: Global, patterns: Vec<P>) -> Result<Any<'static>, BuildError>
+    ensures { MatchResult result (IsAnyOf P.spells patterns.items)
+        (NoSet P.spells P.refuses patterns.items) }
+{
+    let tokens = tokens_of(alloc, patterns)?;
+    let branch = BranchKind::Alternation(Alternation { tokens });
+    let token = new_branch(branch, ExpressionMetadata::new((0, 0)));
+    match compiled(alloc, token) {
+        Ok(any) => Ok(any),
+        Err(Refusal::Refused(error)) => Err(BuildError::Compile(error)),
+        Err(Refusal::Memory) => Err(BuildError::Memory),
+    }
+}
+
+// The token that the expression spells, where it breaks no rule.
+fn parse_and_check<'t>(
+    alloc: Global,
+    expression: &'t str,
+) -> Result<Checked<Token<'t, ExpressionMetadata>>, BuildError>
+    ensures { MatchResult result (IsOnly (Spells (chars expression.now)))
+        (Refuses (chars expression.now)) }
+{
+    let tokenized = parse(alloc, expression)?;
+    match check(alloc, tokenized) {
+        Ok(checked) => Ok(token_of(checked)),
+        Err(refusal) => Err(rule_refused(alloc, refusal)),
+    }
+}
+
+// The token of what was checked, without the expression.
+fn token_of<'t>(
+    checked: Checked<Tokenized<'t, ExpressionMetadata>>,
+) -> Checked<Token<'t, ExpressionMetadata>>
+    ensures { result ≡ checked.entry.token }
+{
+    checked.into_token()
+}
+
+// The token of each pattern.
+fn tokens_of<P: Pattern + Drop>(
+    alloc: Global,
+    patterns: Vec<P>,
+) -> Result<Vec<Token<'static, ExpressionMetadata>>, BuildError>
+    ensures { MatchResult result (λ tokens. SpellEach P.spells patterns.items tokens.items)
+        (NoSet P.spells P.refuses patterns.items) }
+{
+    let mut tokens = Vec::new(alloc);
+    for pattern in patterns {
+        let checked = match pattern.into_checked(alloc) {
+            Ok(checked) => checked,
+            Err(error) => return Err(error),
+        };
+        push(&mut tokens, checked.release())?;
+    }
+    Ok(tokens)
+}
+
+fn push<T: Drop>(items: &mut Vec<T>, item: T) -> Result<(), NoMemory>
+    ensures { OnOk result (items.new.items ≡ items.old.items ++ item ∷ []) }
+{
+    match items.push(item) {
+        Ok(()) => Ok(()),
+        Err(_) => Err(NoMemory),
+    }
+}

@@ -1,0 +1,191 @@
+//! A set of patterns: the alternation of their tokens, with its program and its pieces.
+ghost use Rattle.std.specs.Prelude.{◌≡◌, ◌≤◌, ◌<◌, ◌++◌, ◌∷◌, ℕ, List, IfOk, IfSome, MatchOption, chars, false};
+ghost use Rattle.wax_depth.specs.Depth.{Depth};
+ghost use Rattle.wax_facts.specs.Exhaustive.{exhaustive};
+ghost use Rattle.wax_facts.specs.InvariantText.{Text, Variant};
+ghost use Rattle.wax_facts.specs.Root.{root};
+ghost use Rattle.wax_query.specs.Components.{Bare, BeginsWithSlash, components};
+ghost use Rattle.wax_query.specs.Outcome.{MatchBuild};
+ghost use Rattle.wax_query.specs.Ranges.{AtMost, bounds};
+ghost use Rattle.wax_query.specs.Variances.{text_of};
+ghost use Rattle.wax_query.specs.declared.query.when.When.TheVariants.{Always};
+ghost use Rattle.wax_token.specs.Cost.{program_length};
+ghost use Rattle.wax_token.specs.Decided.{means_test, means_tested};
+ghost use Rattle.wax.specs.AnyView.{IsAlternation, IsWhole, MeansText};
+ghost use Rattle.wax.specs.Patterns.{LacksMemory};
+
+use crate::build_error::BuildError;
+use crate::pattern::Pattern;
+use std::alloc::Global;
+use std::borrow::CowStr;
+use std::marker::Model;
+use wax_candidate::{CandidatePath, MatchedText, Program};
+use wax_capture::Pieces;
+use wax_depth::depth;
+use wax_facts::{has_root, is_exhaustive, text};
+use wax_match::encode;
+use wax_match::encode::{CompileError, Meter};
+use wax_prefilter::Prefilter;
+use wax_query::diagnostics::{NoMemory, Refusal};
+use wax_query::query::{DepthVariance, TextVariance, Variance, When};
+use wax_rule::rule::{Checked, already_checked};
+use wax_token::token::{ExpressionMetadata, Token};
+
+/// A set of patterns, which means what one of them means. Contracts see the alternation of their trees.
+pub struct Any<'t> {
+    token: Token<'t, ExpressionMetadata>,
+    program: encode::Program,
+    prefilter: Prefilter,
+    pieces: Pieces,
+}
+
+// Written out, so that a crate that drops sets needn't prove again how their tokens are dropped.
+impl Drop for Any<'_> {
+    fn drop(self) {
+        let Any {
+            token: _,
+            program: _,
+            prefilter: _,
+            pieces: _,
+        } = self;
+    }
+}
+
+impl<'t> Model for Any<'t> {
+    ghost use Rattle.wax.specs.AnyView.{IsCompiledAny, any_code};
+    ghost use Rattle.wax_token.specs.Reads.{Span};
+    ghost use Rattle.wax_token.specs.Syntax.{Tree};
+
+    ghost Value = { Tree Span };
+
+    ghost coded = { any_code };
+
+    ghost view = { λ a. a.token };
+
+    ghost invariant = { λ a. IsCompiledAny a.token a.program a.prefilter a.pieces };
+}
+
+/// The set of an alternation's branches. Refused with 9 where its cost plus 1 is above 1,048,576, and with 10
+/// where memory is.
+pub(crate) fn compiled<'t>(
+    alloc: Global,
+    token: Token<'t, ExpressionMetadata>,
+) -> Result<Any<'t>, Refusal<CompileError>>
+    requires { IsAlternation token }
+    ensures same { IfOk result (λ any. any ≡ token.entry) }
+    ensures fits { MatchBuild result (λ any. program_length any ≤ 1048576)
+        (λ _. 1048576 < program_length token.entry) }
+{
+    let tokens = token.concatenation();
+    let program = encode::compile(alloc, tokens, false, false)?;
+    let prefilter = Prefilter::new(alloc, tokens)?;
+    let pieces = Pieces::new(alloc, tokens)?;
+    Ok(Any {
+        token,
+        program,
+        prefilter,
+        pieces,
+    })
+}
+
+impl Program for Any<'_> {
+    ghost means = { MeansText };
+
+    ghost decides = { λ any. means_test any false false };
+
+    ghost captured = { λ any. IsWhole };
+
+    ghost program_length = { λ any. program_length any };
+
+    ghost is_decided = { λ any. means_tested any false false };
+
+    fn is_match_counted(
+        &self,
+        alloc: Global,
+        path: &CandidatePath<'_>,
+    ) -> Result<(bool, u128), NoMemory> {
+        let text = path.as_str();
+        if !self.prefilter.may_match(text) {
+            return Ok((false, 0));
+        }
+        let mut meter = Meter::new();
+        let answer = encode::run(alloc, &self.program, text, &mut meter)?;
+        Ok((answer, meter.ticks()))
+    }
+
+    fn matched_counted<'p>(
+        &self,
+        alloc: Global,
+        path: &'p CandidatePath<'_>,
+    ) -> Result<(Option<MatchedText<'p>>, u128), NoMemory> {
+        let text = path.as_str();
+        if !self.prefilter.may_match(text) {
+            return Ok((None, 0));
+        }
+        self.pieces.matched_counted(alloc, text)
+    }
+
+    /// The least and the greatest number of components of the texts of all its branches, where `*`, `$` and a
+    /// class count as one character; 0 where there is no branch. It takes no memory, and time in proportion to
+    /// the branches.
+    fn depth(&self) -> DepthVariance
+        ensures depth { Depth self.now (bounds result) }
+        ensures least { (s : List ℕ) → MeansText self.now s → Bare s → (bounds result).0 ≤ components s }
+        ensures greatest { (s : List ℕ) → MeansText self.now s → AtMost (components s) (bounds result).1 }
+    {
+        depth(&self.token)
+    }
+
+    /// The one text that each branch means, where they are written as one; the empty text where there is no
+    /// branch. Refused with 10 where memory is.
+    fn text(&self, alloc: Global) -> Result<TextVariance<'static>, NoMemory>
+        ensures exact { IfOk result (λ text. MatchOption (text_of text) (Variant self.now) (λ t.
+            Text self.now (chars t))) }
+        ensures only { IfOk result (λ text. IfSome (text_of text) (λ t. (s : List ℕ)
+            → MeansText self.now s → s ≡ chars t)) }
+    {
+        Ok(match text(alloc, &self.token)? {
+            Some(text) => Variance::Invariant(CowStr::Owned(text)),
+            None => Variance::Variant(()),
+        })
+    }
+
+    /// Whether each text that a branch means begins with `/`, by their first tokens; never where there is no
+    /// branch.
+    fn has_root(&self) -> When
+        ensures root { result ≡ root self.now }
+        ensures always { result ≡ Always → (s : List ℕ) → MeansText self.now s → BeginsWithSlash s }
+    {
+        has_root(&self.token)
+    }
+
+    /// Whether each branch means whatever lies below a text that it means, by their last tokens; never where
+    /// there is no branch.
+    fn is_exhaustive(&self) -> When
+        ensures exhaustive { result ≡ exhaustive self.now }
+        ensures always { result ≡ Always → (s r : List ℕ)
+            → MeansText self.now s → MeansText self.now (s ++ 47 ∷ r) }
+    {
+        is_exhaustive(&self.token)
+    }
+}
+
+impl<'t> Pattern for Any<'t> {
+    ghost spells = { λ any t. t ≡ any };
+
+    ghost refuses = { λ any. LacksMemory };
+
+    fn into_checked(
+        self,
+        alloc: Global,
+    ) -> Result<Checked<Token<'static, ExpressionMetadata>>, BuildError> {
+        let Any {
+            token,
+            program: _,
+            prefilter: _,
+            pieces: _,
+        } = self;
+        let checked = already_checked(token);
+        Ok(checked.into_owned(alloc)?)
+    }
+}

@@ -1,0 +1,131 @@
+//! What was checked, as it is lent, owned, taken apart and made one of many.
+ghost use Rattle.std.specs.Prelude.{◌≡◌, IfOk, map};
+ghost use Rattle.std.specs.Cow.{cow_str_bytes};
+ghost use Rattle.wax_token.specs.Syntax.{alternation};
+ghost use Rattle.wax_token.specs.Words.{trees};
+ghost use Rattle.wax_alternatives.specs.Alternatives.{MeansOneOf, alternatives};
+
+use crate::rule::Checked;
+use std::alloc::{AllocError, Global};
+use wax_alternatives::into_alternatives;
+use wax_query::diagnostics::NoMemory;
+use wax_token::token::{
+    Alternation, BranchKind, ExpressionMetadata, Token, TokenTree, Tokenized, new_branch,
+};
+
+impl<T> Checked<T> {
+    /// What was checked.
+    pub fn as_ref(&self) -> &T
+        ensures { result.now ≡ self.now }
+    {
+        &self.inner
+    }
+}
+
+impl<'t, T: TokenTree<'t>> Checked<T> {
+    /// The token of what was checked, without its expression.
+    pub fn into_token(self) -> Checked<Token<'t, T::Annotation>>
+        ensures { result ≡ T.token self }
+    {
+        Checked {
+            inner: self.inner.into_token(),
+        }
+    }
+
+    /// Tokens of which one or another means each text that the token means: the alternatives of the token
+    /// (`wax::token::into_alternatives`). Refused with 10 where memory is. It takes time and memory in
+    /// proportion to the tokens.
+    pub fn into_alternatives(
+        self,
+        alloc: Global,
+    ) -> Result<Vec<Checked<Token<'t, T::Annotation>>>, NoMemory>
+    where
+        T::Annotation: Drop,
+        ensures all { IfOk result (λ ts. ts.items ≡ alternatives (T.token self)) }
+        ensures means { IfOk result (λ ts. MeansOneOf (T.token self) ts.items) }
+    {
+        let tokens = into_alternatives(alloc, self.inner.into_token())?;
+        Ok(checked_each(alloc, tokens)?)
+    }
+}
+
+impl<'t, A: Drop> Checked<Tokenized<'t, A>> {
+    /// The same with texts of its own. Refused with 10 where memory is. It takes the time and memory of the
+    /// expression, all tokens and their texts.
+    pub fn into_owned(self, alloc: Global) -> Result<Checked<Tokenized<'static, A>>, NoMemory>
+        ensures expression { IfOk result (λ u.
+            cow_str_bytes u.expression ≡ cow_str_bytes self.entry.expression) }
+        ensures token { IfOk result (λ u. u.token ≡ self.entry.token) }
+    {
+        Ok(Checked {
+            inner: self.inner.into_owned(alloc)?,
+        })
+    }
+}
+
+impl<'t, A: Drop> Checked<Token<'t, A>> {
+    /// The same with texts of its own. Refused with 10 where memory is. It takes the time and memory of all
+    /// tokens and their texts.
+    pub fn into_owned(self, alloc: Global) -> Result<Checked<Token<'static, A>>, NoMemory>
+        ensures { IfOk result (λ t. t ≡ self.entry) }
+    {
+        Ok(Checked {
+            inner: self.inner.into_owned(alloc)?,
+        })
+    }
+}
+
+impl<'t> Checked<Token<'t, ExpressionMetadata>> {
+    /// The alternation of the tokens, in their order, with the span (0, 0); the spans in it stay those of
+    /// each expression. None of the rules is asked of the alternation itself. Without a branch it means
+    /// nothing. Refused with 10 where memory is.
+    pub fn any<T>(alloc: Global, all: Vec<Checked<T>>) -> Result<Self, NoMemory>
+    where
+        T: TokenTree<'t, Annotation = ExpressionMetadata> + Drop,
+        ensures { IfOk result (λ any. any ≡ alternation (0, 0) (trees (map T.token all.items))) }
+    {
+        let branch = BranchKind::Alternation(Alternation {
+            tokens: tokens_of(alloc, all)?,
+        });
+        Ok(Checked {
+            inner: new_branch(branch, ExpressionMetadata::new((0, 0))),
+        })
+    }
+}
+
+/// What keeps the rules as it is: what was checked before it was compiled, or the alternation of such.
+pub fn already_checked<T>(inner: T) -> Checked<T>
+    ensures { result ≡ inner }
+{
+    Checked { inner }
+}
+
+/// The tokens of what was checked.
+fn tokens_of<'t, T: TokenTree<'t> + Drop>(
+    alloc: Global,
+    all: Vec<Checked<T>>,
+) -> Result<Vec<Token<'t, T::Annotation>>, AllocError>
+where
+    T::Annotation: Drop,
+    ensures { IfOk result (λ tokens. tokens.items ≡ map T.token all.items) }
+{
+    let mut tokens = Vec::with_capacity(alloc, all.len())?;
+    for checked in all {
+        tokens.push(checked.inner.into_token())?;
+    }
+    Ok(tokens)
+}
+
+/// The parts of what was checked.
+fn checked_each<'t, A: Drop>(
+    alloc: Global,
+    tokens: Vec<Token<'t, A>>,
+) -> Result<Vec<Checked<Token<'t, A>>>, AllocError>
+    ensures { IfOk result (λ all. all.items ≡ tokens.entry.items) }
+{
+    let mut all = Vec::with_capacity(alloc, tokens.len())?;
+    for token in tokens {
+        all.push(Checked { inner: token })?;
+    }
+    Ok(all)
+}
