@@ -11,6 +11,7 @@ mod programs;
 mod queries;
 mod report;
 mod rows;
+mod sets;
 mod worked;
 
 use report::Report;
@@ -37,6 +38,7 @@ fn main(rt: HostRuntime) -> io::Result<()> {
     show(&rt, "worked", &worked::report(rt.alloc())?)?;
     show(&rt, "parts", &parts::report(rt.alloc())?)?;
     show(&rt, "places", &places::report(rt.alloc())?)?;
+    show(&rt, "sets", &sets::report(rt.alloc())?)?;
     show(&rt, "programs", &programs::report(rt.alloc())?)?;
     show(&rt, "costs", &costs::report(rt.alloc())?)
 }
