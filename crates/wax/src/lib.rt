@@ -23,5 +23,5 @@ pub use pattern::{Pattern, any};
 pub use set::Any;
 pub use wax_candidate::{CandidatePath, MatchedText, Program};
 pub use wax_escape::{escape, is_contextual_meta_character, is_meta_character};
-pub use wax_lines::{Counted, LinesError, filter_lines};
+pub use wax_lines::{Counted, LinesError, capture_lines, filter_lines};
 pub use wax_query::diagnostics::{NoMemory, Refusal};

@@ -11,10 +11,15 @@ Asks name _ e = ⊥
 abbrev pub AsksMatch : {A : Type 0} → List (Option (String A)) → List ℕ → Type 0
 AsksMatch words e = Asks (codes "match") words e
 
+-- these lines, with what the expression captures of each
+abbrev pub AsksCaptures : {A : Type 0} → List (Option (String A)) → List ℕ → Type 0
+AsksCaptures words e = Asks (codes "captures") words e
+
 -- what is known of an expression
 abbrev pub AsksQuery : {A : Type 0} → List (Option (String A)) → List ℕ → Type 0
 AsksQuery words e = Asks (codes "query") words e
 
 -- they ask for nothing that there is
 abbrev pub HasNoCommand : {A : Type 0} → List (Option (String A)) → Type 0
-HasNoCommand words = (e : List ℕ) → (AsksMatch words e → ⊥) × (AsksQuery words e → ⊥)
+HasNoCommand words =
+    (e : List ℕ) → (AsksMatch words e → ⊥) × (AsksCaptures words e → ⊥) × (AsksQuery words e → ⊥)

@@ -1,4 +1,5 @@
 pub mod Commands
-pub mod Matched
+pub mod LineCommands
 pub mod Queried
 pub mod Refused
+pub mod inner

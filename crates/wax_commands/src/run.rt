@@ -1,15 +1,17 @@
 //! What the program does with its words and its streams.
-ghost use Rattle.std.specs.Prelude.{◌≡◌, ℕ, List, IfSome, IfNone, IsSome, chars};
+ghost use Rattle.std.specs.Prelude.{◌≡◌, ℕ, List, IfOk, IfErr, IfSome, IfNone, IsSome, chars};
 ghost use Rattle.wax.specs.Build.{IsGlob};
-ghost use Rattle.wax_commands.specs.Commands.{Asks, AsksMatch, AsksQuery, HasNoCommand};
-ghost use Rattle.wax_commands.specs.Matched.{MatchEnds};
+ghost use Rattle.wax_lines.specs.Lines.{Filtered, Stopped};
+ghost use Rattle.wax_commands.specs.Commands.{Asks, AsksMatch, AsksCaptures, AsksQuery, HasNoCommand};
+ghost use Rattle.wax_commands.specs.LineCommands.{LinesEnd, captures_of, match_of};
 ghost use Rattle.wax_commands.specs.Queried.{QueryEnds, Writes};
 ghost use Rattle.wax_commands.specs.Refused.{IsRefused};
+ghost use Rattle.wax_commands.specs.inner.Outputs.{command_of, writes_of};
 
 use crate::query::query_lines;
 use std::alloc::Global;
 use std::io::{Read, Write};
-use wax::{Counted, Glob, filter_lines};
+use wax::{Counted, Glob, capture_lines, filter_lines};
 use wax_lines::{LinesError, write_whole};
 
 const USAGE: &str = "\
@@ -18,6 +20,13 @@ usage: globs match EXPR
        globs query EXPR
        globs walk START EXPR [not EXPR].. [min N] [max N]
 ";
+
+/// What is written for a line that a glob means: the line alone, or with what is captured of it.
+#[derive(Clone, Copy)]
+enum Lines {
+    Meant,
+    Captured,
+}
 
 const DONE: u8 = 0;
 
@@ -28,9 +37,10 @@ const WRONG_WORDS: u8 = 2;
 /// Does what the words ask for, and answers the status: 0 done; 1 a refused build, a line that isn't
 /// text, a failed read or write, or want of memory; 2 wrong words. A word is None where it isn't UTF-8.
 ///
-/// `match EXPR` writes the lines of the input that the expression means; `query EXPR` writes what is known of
-/// the expression and reads nothing. Faults are told in one line, wrong words by the usage text, and nothing
-/// else is written to `faults`; where that can't be written, the status is the same.
+/// `match EXPR` writes the lines of the input that the expression means; `captures EXPR` writes these, each
+/// with what the expression captures of it and a tab between; `query EXPR` writes what is known of the
+/// expression and reads nothing. Faults are told in one line, wrong words by the usage text, and nothing else
+/// is written to `faults`; where that can't be written, the status is the same.
 pub fn run_globs<R: Read, W: Write, F: Write>(
     alloc: Global,
     words: &[Option<String>],
@@ -40,8 +50,11 @@ pub fn run_globs<R: Read, W: Write, F: Write>(
 ) -> u8
     ensures wrong_words { HasNoCommand words.now
         → (result ≡ 2) × (input.new ≡ input.old) × (output.new ≡ output.old) }
-    ensures matches { (e : List ℕ) → AsksMatch words.now e
-        → MatchEnds e (R.remaining input.old.inner) (R.remaining input.new.inner)
+    ensures matches { (e : List ℕ) → AsksMatch words.now e → LinesEnd (match_of e)
+        (R.remaining input.old.inner) (R.remaining input.new.inner)
+        (W.contents output.old.inner) (W.contents output.new.inner) result }
+    ensures captures { (e : List ℕ) → AsksCaptures words.now e → LinesEnd (captures_of e)
+        (R.remaining input.old.inner) (R.remaining input.new.inner)
         (W.contents output.old.inner) (W.contents output.new.inner) result }
     ensures query { (e : List ℕ) → AsksQuery words.now e
         → QueryEnds e (W.contents output.old.inner) (W.contents output.new.inner) result }
@@ -49,7 +62,10 @@ pub fn run_globs<R: Read, W: Write, F: Write>(
     ensures quiet { result ≡ 0 → faults.new ≡ faults.old }
 {
     if let Some(expression) = expression_after("match", words) {
-        return run_match(alloc, expression, input, output, faults);
+        return run_lines(alloc, Lines::Meant, expression, input, output, faults);
+    }
+    if let Some(expression) = expression_after("captures", words) {
+        return run_lines(alloc, Lines::Captured, expression, input, output, faults);
     }
     if let Some(expression) = expression_after("query", words) {
         return run_query(alloc, expression, output, faults);
@@ -71,21 +87,24 @@ fn expression_after<'w>(name: &str, words: &'w [Option<String>]) -> Option<&'w s
     None
 }
 
-fn run_match<R: Read, W: Write, F: Write>(
+// The glob of the expression is run on the lines of the input.
+fn run_lines<R: Read, W: Write, F: Write>(
     alloc: Global,
+    lines: Lines,
     expression: &str,
     input: &mut Counted<R>,
     output: &mut Counted<W>,
     faults: &mut F,
 ) -> u8
-    ensures ends { MatchEnds expression.now (R.remaining input.old.inner) (R.remaining input.new.inner)
+    ensures ends { LinesEnd (command_of lines expression.now)
+        (R.remaining input.old.inner) (R.remaining input.new.inner)
         (W.contents output.old.inner) (W.contents output.new.inner) result }
     ensures quiet { result ≡ 0 → faults.new ≡ faults.old }
 {
     let Some(glob) = built(alloc, expression, faults) else {
         return FAILED;
     };
-    match filter_lines(alloc, input, output, &glob) {
+    match write_lines(alloc, lines, &glob, input, output) {
         Ok(0) => DONE,
         Ok(count) => {
             let _ = writeln!(faults, "globs: {count} lines are not text");
@@ -95,6 +114,27 @@ fn run_match<R: Read, W: Write, F: Write>(
             let _ = writeln!(faults, "globs: {error}");
             FAILED
         }
+    }
+}
+
+// What the glob gives of each line of the input.
+fn write_lines<R: Read, W: Write>(
+    alloc: Global,
+    lines: Lines,
+    glob: &Glob<'_>,
+    input: &mut Counted<R>,
+    output: &mut Counted<W>,
+) -> Result<u64, LinesError>
+    ensures done { IfOk result (Filtered (writes_of lines glob.now)
+        (R.remaining input.old.inner) (R.remaining input.new.inner)
+        (W.contents output.old.inner) (W.contents output.new.inner)) }
+    ensures stopped { IfErr result (Stopped (writes_of lines glob.now)
+        (R.remaining input.old.inner) (R.remaining input.new.inner)
+        (W.contents output.old.inner) (W.contents output.new.inner)) }
+{
+    match lines {
+        Lines::Meant => filter_lines(alloc, input, output, glob),
+        Lines::Captured => capture_lines(alloc, input, output, glob),
     }
 }
 

@@ -1,7 +1,7 @@
 use Rattle.std.proofs.Common.{◌≡◌, ◌∙◌, List, [], ◌∷◌, ℕ, Option, Some, None, subst, sym}
 use Rattle.std.specs.Prelude.{String}
 use Rattle.wax_commands.specs.Commands.{Asks}
-use Rattle.wax_commands.specs.Matched.{MatchEnds}
+use Rattle.wax_commands.specs.LineCommands.{LinesEnd, match_of, captures_of}
 use Rattle.wax_commands.specs.Queried.{QueryEnds}
 use Rattle.wax_commands.proofs.run.run_globs.Goals as goal
 
@@ -17,13 +17,21 @@ one_expression name (Some command ∷ Some word ∷ more ∷ words) d e h k = ab
 pub returns-in-Some-clause-matches : goal.returns-in-Some-clause-matches
 returns-in-Some-clause-matches g c e asks =
     let left = g.R.Read.remaining c.args.input.now.inner in
-    let left' = g.R.Read.remaining c.run_match.new.input.inner in
+    let left' = g.R.Read.remaining c.run_lines.new.input.inner in
     let held = g.W.Write.contents c.args.output.now.inner in
-    let held' = g.W.Write.contents c.run_match.new.output.inner in
-    subst (λ z. MatchEnds z left left' held held' c.run_match.result) (one_expression _ c.args.words.now c.in-Some.expression.now e c.in-Some.ensures.some asks) c.run_match.ensures.ends
+    let held' = g.W.Write.contents c.run_lines.new.output.inner in
+    subst (λ z. LinesEnd (match_of z) left left' held held' c.run_lines.result) (one_expression _ c.args.words.now c.in-Some.expression.now e c.in-Some.ensures.some asks) c.run_lines.ensures.ends
 
-pub returns-in-Some-expression_after-clause-query : goal.returns-in-Some-expression_after-clause-query
-returns-in-Some-expression_after-clause-query g c e asks =
+pub returns-in-Some-expression_after-clause-captures : goal.returns-in-Some-expression_after-clause-captures
+returns-in-Some-expression_after-clause-captures g c e asks =
+    let left = g.R.Read.remaining c.args.input.now.inner in
+    let left' = g.R.Read.remaining c.run_lines-in-Some-expression_after.new.input.inner in
+    let held = g.W.Write.contents c.args.output.now.inner in
+    let held' = g.W.Write.contents c.run_lines-in-Some-expression_after.new.output.inner in
+    subst (λ z. LinesEnd (captures_of z) left left' held held' c.run_lines-in-Some-expression_after.result) (one_expression _ c.args.words.now c.in-Some-expression_after.expression.now e c.in-Some-expression_after.ensures.some asks) c.run_lines-in-Some-expression_after.ensures.ends
+
+pub returns-in-Some-expression_after-2-clause-query : goal.returns-in-Some-expression_after-2-clause-query
+returns-in-Some-expression_after-2-clause-query g c e asks =
     let held = g.W.Write.contents c.args.output.now.inner in
     let held' = g.W.Write.contents c.run_query.new.output.inner in
-    subst (λ z. QueryEnds z held held' c.run_query.result) (one_expression _ c.args.words.now c.in-Some-expression_after.expression.now e c.in-Some-expression_after.ensures.some asks) c.run_query.ensures.ends
+    subst (λ z. QueryEnds z held held' c.run_query.result) (one_expression _ c.args.words.now c.in-Some-expression_after-2.expression.now e c.in-Some-expression_after-2.ensures.some asks) c.run_query.ensures.ends
