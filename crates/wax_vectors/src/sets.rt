@@ -79,8 +79,10 @@ fn globs(alloc: Global, first: &str, second: &str) -> Option<u8> {
 /// Whether a set of two sets of one pattern each means the text.
 fn nested(alloc: Global, first: &str, second: &str, text: &str) -> Option<bool> {
     let mut all = Vec::new(alloc);
-    all.push(any(alloc, patterns_of(alloc, &[first]).ok()?).ok()?).ok()?;
-    all.push(any(alloc, patterns_of(alloc, &[second]).ok()?).ok()?).ok()?;
+    all.push(any(alloc, patterns_of(alloc, &[first]).ok()?).ok()?)
+        .ok()?;
+    all.push(any(alloc, patterns_of(alloc, &[second]).ok()?).ok()?)
+        .ok()?;
     let set = any(alloc, all).ok()?;
     set.is_match(alloc, &CandidatePath::from(text)).ok()
 }
