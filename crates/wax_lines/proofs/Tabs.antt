@@ -1,8 +1,8 @@
 -- Texts with a tab between, one after another.
-use Rattle.std.proofs.Common.{◌≡◌, ◌≤◌, ℕ, zero, suc, ◌+◌, List, [], ◌∷◌, ◌++◌, Option, Some, None, slice_get, take, map, length, IsUtf8, chars, encode_utf8_all, refl, sym, ◌∙◌, ap, inl, inr, append_assoc, length-append, arith}
+use Rattle.std.proofs.Common.{◌≡◌, ◌≤◌, ℕ, zero, suc, ◌+◌, List, [], ◌∷◌, ◌++◌, Some, slice_get, take, map, length, IsUtf8, chars, encode_utf8_all, refl, sym, ◌∙◌, ap, append_assoc, length-append, arith}
 use Rattle.std.specs.List.{join_with_byte}
-use Rattle.std.proofs.lemmas.List.{take_all, take_more, map-append}
-use Rattle.std.proofs.lemmas.Option.{slice_get_within, slice_get_cases, get_or_from_slice_get}
+use Rattle.std.proofs.lemmas.List.{take_more, map-append}
+use Rattle.std.proofs.lemmas.Option.{slice_get_within, get_or_from_slice_get}
 use Rattle.std.proofs.lemmas.Str.{encodes-chars}
 use Rattle.wax_candidate.specs.Matched.{MatchedView, texts}
 use Rattle.wax_lines.specs.Lines.{tabbed}
@@ -32,13 +32,6 @@ pub tabbed_next : (m : MatchedView) (k : ℕ) (part : List ℕ) → 1 ≤ k → 
 tabbed_next m zero part some e = absurd (omega (arith, some))
 tabbed_next m (suc k) part some e =
     ap tabbed (take_one_more (texts m) (suc k) part e) ∙ tabbed_more m.text (take k m.captures) part
-
--- past the last capture
-pub take_past : (xs : List (List ℕ)) (k : ℕ) → slice_get xs k ≡ None → take k xs ≡ xs
-take_past xs k e = elim ((slice_get_cases xs k).1) [ inl h ↦ let (x, lt, is, same) = h in absurd (clash (slice_get xs k) x e is) | inr h ↦ take_all k xs h.0 ]
-  where
-    clash : (o : Option (List ℕ)) (x : List ℕ) → o ≡ None → o ≡ Some x → ⊥
-    clash o x f g = cc
 
 -- a tab and a capture were added
 pub added_next : (old out mid new before part : List ℕ) → out ≡ old ++ before → mid ≡ out ++ 9 ∷ [] → new ≡ mid ++ part

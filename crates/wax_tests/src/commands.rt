@@ -28,7 +28,7 @@ fn wrong_words_give_the_usage_text(rt: HostRuntime) -> Result<(), Fail> {
         &[],
         &["match"],
         &["match", "a", "b"],
-        &["captures", "a"],
+        &["capture", "a"],
         &["Match", "a"],
         &["", ""],
     ];
@@ -134,7 +134,7 @@ fn refused_builds_print_their_reason(rt: HostRuntime) -> Result<(), Fail> {
         ("<a*:174763>", "failed to compile glob: oversized program"),
     ];
     for (expression, text) in cases {
-        for command in ["match", "query"] {
+        for command in ["match", "captures", "query"] {
             let words = words_of(rt.alloc(), &[command, expression])?;
             let mut input = Counted::new(b"a\n".as_slice());
             let mut output = Counted::new(Vec::new(rt.alloc()));
@@ -185,34 +185,76 @@ fn lines_that_are_not_text_are_counted(rt: HostRuntime) -> Result<(), Fail> {
 }
 
 #[test]
+fn captures_are_written_with_tabs(rt: HostRuntime) -> Result<(), Fail> {
+    let cases: [(&str, &[u8], &[u8], u8, &[u8]); 4] = [
+        (
+            "$-*.*",
+            b"a-b-c.ext\nabc\n-.\n",
+            b"a-b-c.ext\ta\tb-c\text\n-.\t\t\t\n",
+            0,
+            b"",
+        ),
+        (
+            "log-{<[0-9]:3>,<[0-9]:4>-<[0-9]:2>-<[0-9]:2>}.txt",
+            b"log-123.txt\nlog-1970-01-01.txt",
+            b"log-123.txt\t123\nlog-1970-01-01.txt\t1970-01-01\n",
+            0,
+            b"",
+        ),
+        ("a", b"a\nb\n", b"a\n", 0, b""),
+        (
+            "*.png",
+            b"\xff.png\na.png\n",
+            b"a.png\ta\n",
+            1,
+            b"globs: 1 lines are not text\n",
+        ),
+    ];
+    for (expression, bytes, want, want_status, told) in cases {
+        let words = words_of(rt.alloc(), &["captures", expression])?;
+        let mut input = Counted::new(Slow { bytes, left: 1000 });
+        let mut output = Counted::new(Vec::new(rt.alloc()));
+        let mut faults = Vec::new(rt.alloc());
+        let status = run_globs(rt.alloc(), &words, &mut input, &mut output, &mut faults);
+        assert_eq!(rt; status, want_status);
+        assert_eq!(rt; output.into_inner().as_slice(), want);
+        assert_eq!(rt; faults.as_slice(), told);
+    }
+    Ok(())
+}
+
+#[test]
 fn a_failed_read_is_told_after_the_lines_before(rt: HostRuntime) -> Result<(), Fail> {
-    let words = words_of(rt.alloc(), &["match", "*.png"])?;
-    let mut input = Counted::new(Slow {
-        bytes: b"\xff\na.png\nb.png\n",
-        left: 11,
-    });
-    let mut output = Counted::new(Vec::new(rt.alloc()));
-    let mut faults = Vec::new(rt.alloc());
-    let status = run_globs(rt.alloc(), &words, &mut input, &mut output, &mut faults);
-    assert_eq!(rt; status, 1);
-    assert_eq!(rt; output.into_inner().as_slice(), b"a.png\n".as_slice());
-    assert_eq!(rt; faults.as_slice(), b"globs: read failed\n".as_slice());
+    let cases: [(&str, &[u8]); 2] = [("match", b"a.png\n"), ("captures", b"a.png\ta\n")];
+    for (command, want) in cases {
+        let words = words_of(rt.alloc(), &[command, "*.png"])?;
+        let mut input = Counted::new(Slow {
+            bytes: b"\xff\na.png\nb.png\n",
+            left: 11,
+        });
+        let mut output = Counted::new(Vec::new(rt.alloc()));
+        let mut faults = Vec::new(rt.alloc());
+        let status = run_globs(rt.alloc(), &words, &mut input, &mut output, &mut faults);
+        assert_eq!(rt; status, 1);
+        assert_eq!(rt; output.into_inner().as_slice(), want);
+        assert_eq!(rt; faults.as_slice(), b"globs: read failed\n".as_slice());
+    }
     Ok(())
 }
 
 #[test]
 fn a_failed_write_is_told(rt: HostRuntime) -> Result<(), Fail> {
-    let words = words_of(rt.alloc(), &["match", "*.png"])?;
-    let mut input = Counted::new(b"\xff\na.png\nb.png\n".as_slice());
-    let mut output = Counted::new(failing_after(rt.alloc(), 7));
-    let mut faults = Vec::new(rt.alloc());
-    let status = run_globs(rt.alloc(), &words, &mut input, &mut output, &mut faults);
-    assert_eq!(rt; status, 1);
-    assert_eq!(rt;
-        output.into_inner().taken.as_slice(),
-        b"a.png\nb".as_slice()
-    );
-    assert_eq!(rt; faults.as_slice(), b"globs: write failed\n".as_slice());
+    let cases: [(&str, &[u8]); 2] = [("match", b"a.png\nb"), ("captures", b"a.png\ta")];
+    for (command, want) in cases {
+        let words = words_of(rt.alloc(), &[command, "*.png"])?;
+        let mut input = Counted::new(b"\xff\na.png\nb.png\n".as_slice());
+        let mut output = Counted::new(failing_after(rt.alloc(), 7));
+        let mut faults = Vec::new(rt.alloc());
+        let status = run_globs(rt.alloc(), &words, &mut input, &mut output, &mut faults);
+        assert_eq!(rt; status, 1);
+        assert_eq!(rt; output.into_inner().taken.as_slice(), want);
+        assert_eq!(rt; faults.as_slice(), b"globs: write failed\n".as_slice());
+    }
     Ok(())
 }
 

@@ -1,4 +1,4 @@
-//! Lines that are filtered by a program that is no glob.
+//! Lines that are filtered by a program that is no glob, and lines with what a glob captures of them.
 ghost use Rattle.std.specs.Prelude.{◌≡◌, ◌==◌, [], nat_eq, true, codes, encode_utf8_all};
 ghost use Rattle.std.specs.List.{ends_with};
 
@@ -7,7 +7,10 @@ use std::alloc::Global;
 use std::convert::AsStr;
 use std::io::{Read, Write};
 use std::test::*;
-use wax::{CandidatePath, Counted, LinesError, MatchedText, NoMemory, Program, filter_lines};
+use wax::{
+    CandidatePath, Counted, Glob, LinesError, MatchedText, NoMemory, Program, capture_lines,
+    filter_lines,
+};
 
 const NAMES: &[u8] = b"logo.png\nlogo.svg\na/b.png\nx.png";
 
@@ -130,6 +133,31 @@ fn bytes_may_come_one_by_one(rt: HostRuntime) -> Result<(), Fail> {
 }
 
 #[test]
+fn captures_follow_their_line(rt: HostRuntime) -> Result<(), Fail> {
+    let Ok(glob) = Glob::new(rt.alloc(), "$-*.*") else {
+        return Err(Fail::from("not built"));
+    };
+    let cases: [(&[u8], &[u8], u64); 4] = [
+        (
+            b"a-b-c.ext\nabc\n-.",
+            b"a-b-c.ext\ta\tb-c\text\n-.\t\t\t\n",
+            0,
+        ),
+        (b"", b"", 0),
+        ("金-.é\n".as_bytes(), "金-.é\t金\t\té\n".as_bytes(), 0),
+        (b"\xff-b.c\na-b.c\n-\xc3.", b"a-b.c\ta\tb\tc\n", 2),
+    ];
+    for (bytes, want, not_text) in cases {
+        let mut input = Counted::new(Slow { bytes, left: 1000 });
+        let mut output = Counted::new(Vec::new(rt.alloc()));
+        let answer = capture_lines(rt.alloc(), &mut input, &mut output, &glob);
+        assert!(rt; answer == Ok(not_text));
+        assert_eq!(rt; output.into_inner().as_slice(), want);
+    }
+    Ok(())
+}
+
+#[test]
 fn lines_before_a_failed_read_are_written(rt: HostRuntime) -> Result<(), Fail> {
     let mut input = Counted::new(Slow {
         bytes: NAMES,
@@ -154,6 +182,11 @@ fn lines_of_the_reads_before_want_of_memory_are_written(rt: HostRuntime) -> Resu
         let mut input = Counted::new(Slow { bytes, left: 1000 });
         let mut output = Counted::new(Vec::new(rt.alloc()));
         let answer = filter_lines(rt.alloc(), &mut input, &mut output, &Pictures);
+        assert!(rt; answer == Err(LinesError::Memory));
+        assert_eq!(rt; output.into_inner().as_slice(), want);
+        let mut input = Counted::new(Slow { bytes, left: 1000 });
+        let mut output = Counted::new(Vec::new(rt.alloc()));
+        let answer = capture_lines(rt.alloc(), &mut input, &mut output, &Pictures);
         assert!(rt; answer == Err(LinesError::Memory));
         assert_eq!(rt; output.into_inner().as_slice(), want);
     }

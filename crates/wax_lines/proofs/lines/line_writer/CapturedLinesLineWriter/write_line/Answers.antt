@@ -5,8 +5,8 @@ use Rattle.wax_lines.specs.Lines.{captured, tabbed}
 use Rattle.wax_lines.proofs.lines.line_writer.CapturedLinesLineWriter.write_line.Goals as goal
 
 -- what was added is taken off again
-taken_off : (old added new : List ℕ) (n : ℕ) → n ≡ length old → new ≡ take n (old ++ added) → new ≡ old
-taken_off old added new n e f = f ∙ ap (λ k. take k (old ++ added)) e ∙ take-append_seam old added
+taken_off : (old added out new : List ℕ) (n : ℕ) → n ≡ length old → out ≡ old ++ added → new ≡ take n out → new ≡ old
+taken_off old added out new n e f g = g ∙ ap (take n) f ∙ ap (λ k. take k (old ++ added)) e ∙ take-append_seam old added
 
 pub returns-clause-ok : goal.returns-clause-ok
 returns-clause-ok g c =
@@ -23,5 +23,5 @@ returns-clause-ok g c =
 pub returns-in_default-add_texts-clause-err : goal.returns-in_default-add_texts-clause-err
 returns-in_default-add_texts-clause-err g c =
     let (added, is) = c.in_default-add_texts.ensures.err in
-    taken_off c.args.out.now.items added c.truncate.new.self.items c.len-old_len.result (c.len-old_len.ensures ∙ c.args.out.now.ok.0)
-    (c.truncate.ensures.items ∙ ap (take c.len-old_len.result) is)
+    taken_off c.args.out.now.items added c.add_texts.new.out.items c.truncate.new.self.items c.len-old_len.result
+    (c.len-old_len.ensures ∙ c.args.out.now.ok.0) is c.truncate.ensures.items
