@@ -19,8 +19,8 @@ match_of e = record { expression = e; writes = λ g. WritesMeant (IsMeant g) }
 abbrev pub captures_of : List ℕ → LineCommand
 captures_of e = record { expression = e; writes = λ g. WritesCaptures (IsMeant g) (HasCaptures g) }
 
--- The command was run on the lines of the input. `left` is what the reader has left and `held` what the writer
--- holds, before and after.
+-- The command was run on the lines of the input. `left` is what the reader has left and `held` what the
+-- writer holds, before and after.
 pub data LinesEnd (command : LineCommand) (left left' held held' : Option (List ℕ))
     (status : ℕ) : Type 0 where
   -- all lines were text, and what they give was written
