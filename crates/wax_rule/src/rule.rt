@@ -16,13 +16,12 @@ mod natural;
 mod situated;
 pub(crate) mod size;
 
-pub use checked_tokens::already_checked;
-
 use crate::rule::boundary::boundary_break;
 use crate::rule::bounds::bounds_break;
 use crate::rule::branch::branch_break;
 use crate::rule::situated::{Situated, breadth_first};
 use crate::rule::size::is_oversized;
+pub use checked_tokens::already_checked;
 use itertools::Itertools;
 use std::alloc::{AllocError, Global};
 use std::borrow::CowStr;
