@@ -23,9 +23,9 @@ pub trait Pattern: Sized {
     /// Why it has none.
     ghost refuses: { Self → BuildError → Type 0 };
 
-    /// Its token, which keeps the rules, with texts of its own. An expression is read and checked, and refused
-    /// with 1 to 8 as `Glob::new` refuses it. What was refused is refused again. All else is taken as it is.
-    /// Refused with 10 where memory is.
+    /// Its token, which keeps the rules, with texts of its own. An expression is read and checked, and
+    /// refused with 1 to 8 as `Glob::new` refuses it. What was refused is refused again. All else is taken as
+    /// it is. Refused with 10 where memory is.
     fn into_checked(
         self,
         alloc: Global,

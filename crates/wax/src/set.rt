@@ -1,5 +1,6 @@
 //! A set of patterns: the alternation of their tokens, with its program and its pieces.
-ghost use Rattle.std.specs.Prelude.{◌≡◌, ◌≤◌, ◌<◌, ◌++◌, ◌∷◌, ℕ, List, IfOk, IfSome, MatchOption, chars, false};
+ghost use Rattle.std.specs.Prelude.{◌≡◌, ◌≤◌, ◌<◌, ◌++◌, ◌∷◌, ℕ, List, chars, false};
+ghost use Rattle.std.specs.Prelude.{IfOk, IfSome, MatchOption};
 ghost use Rattle.wax_depth.specs.Depth.{Depth};
 ghost use Rattle.wax_facts.specs.Exhaustive.{exhaustive};
 ghost use Rattle.wax_facts.specs.InvariantText.{Text, Variant};
@@ -126,8 +127,8 @@ impl Program for Any<'_> {
     }
 
     /// The least and the greatest number of components of the texts of all its branches, where `*`, `$` and a
-    /// class count as one character; 0 where there is no branch. It takes no memory, and time in proportion to
-    /// the branches.
+    /// class count as one character; 0 where there is no branch. It takes no memory, and time in proportion
+    /// to the branches.
     fn depth(&self) -> DepthVariance
         ensures depth { Depth self.now (bounds result) }
         ensures least { (s : List ℕ) → MeansText self.now s → Bare s → (bounds result).0 ≤ components s }
