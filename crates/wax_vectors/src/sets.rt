@@ -3,7 +3,7 @@
 use crate::report::Report;
 use crate::rows::number;
 use std::alloc::{AllocError, Global};
-use wax::{BuildError, CandidatePath, Glob, Program, any};
+use wax::{CandidatePath, Program, any};
 
 const SOURCES: [&str; 4] = [
     "src/**/*.rs",
@@ -32,7 +32,6 @@ pub fn report(alloc: Global) -> Result<Report, AllocError> {
     ] {
         report.compare(alloc, patterns[1], refusal(alloc, patterns), wanted)?;
     }
-    report.compare(alloc, "a set of globs", globs(alloc, "a", "b//c"), Some(2))?;
     let nested = nested(alloc, "a", "b", "b");
     report.compare(alloc, "a set of sets", nested, Some(true))?;
     Ok(report)
@@ -64,15 +63,6 @@ fn is_meant_by_one(alloc: Global, patterns: &[&str], text: &str) -> Option<bool>
 /// The number of the refusal, if there is one.
 fn refusal(alloc: Global, patterns: &[&str]) -> Option<u8> {
     let refused = any(alloc, patterns_of(alloc, patterns).ok()?).err()?;
-    Some(number(&refused))
-}
-
-/// The number of the refusal of a set of globs, of which some may have been refused.
-fn globs(alloc: Global, first: &str, second: &str) -> Option<u8> {
-    let mut all: Vec<Result<Glob<'_>, BuildError>> = Vec::new(alloc);
-    all.push(Glob::new(alloc, first)).ok()?;
-    all.push(Glob::new(alloc, second)).ok()?;
-    let refused = any(alloc, all).err()?;
     Some(number(&refused))
 }
 
