@@ -140,7 +140,8 @@ impl DepthBehavior {
         P: Into<Option<usize>>,
         Q: Into<Option<usize>>,
         ensures { (p : Option ℕ) × (q : Option ℕ) × P.converts min p × Q.converts max q × MatchOption result
-            (IsUnboundedAt (bounds depth).0 p q) (Bounds (raised (bounds depth).0 p) (raised (bounds depth).0 q)) }
+            (IsUnboundedAt (bounds depth).0 p q)
+            (Bounds (raised (bounds depth).0 p) (raised (bounds depth).0 q)) }
     {
         let (min, max) = (min.into(), max.into());
         let least = depth.lower();
