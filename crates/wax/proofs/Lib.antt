@@ -1,4 +1,6 @@
+pub mod GlobWalks
 pub mod Globs
+pub mod GoingAlong
 pub mod Parts
 pub mod Patterns
 pub mod Sets

@@ -1,6 +1,8 @@
 pub mod AnyView
 pub mod Build
+pub mod Exclusions
 pub mod GlobView
+pub mod GlobWalks
 pub mod Locations
 pub mod Partition
 pub mod Patterns

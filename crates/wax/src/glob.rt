@@ -20,12 +20,14 @@ ghost use Rattle.wax.specs.Partition.{as_glob};
 
 mod parts;
 mod pattern;
+mod walking;
 
 use crate::build_error::{BuildError, rule_refused};
 use std::alloc::Global;
 use std::borrow::CowStr;
 use std::fmt;
 use std::marker::Model;
+pub use walking::GlobWalk;
 use wax_candidate::{CandidatePath, MatchedText, Program};
 use wax_capture::Pieces;
 use wax_components::{Warning, captures, diagnose, has_semantic_literals};

@@ -5,6 +5,7 @@ mod build_error;
 pub mod capture;
 pub mod diagnostics;
 pub mod encode;
+mod exclusions;
 pub mod filter;
 mod glob;
 mod location;

@@ -10,7 +10,7 @@ pub use wax_depth::depth;
 pub use wax_facts::{TokenFacts, has_variant_casing};
 pub use wax_fold::walk::{fold, fold_map};
 pub use wax_parse::parse::{ErrorEntry, ParseError, parse};
-pub use wax_partition::partition;
+pub use wax_partition::{Partitioned, partition};
 pub use wax_rule::size;
 pub use wax_token::token::{
     Alternation, Archetype, Boundary, BranchKind, Class, Composition, Concatenation,

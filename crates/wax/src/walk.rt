@@ -1,11 +1,15 @@
 //! Directories, walks through them, and filters over walks.
 
+pub use crate::exclusions::{FileIteratorExt, Not, exclusion_of};
+pub use crate::glob::GlobWalk;
 pub use wax_directory::directory::{Directory, DirectoryFault, FileType, ListItem};
 pub use wax_directory::failing::Failing;
 pub use wax_directory::folders::Folders;
 pub use wax_directory::starving::Starving;
 pub use wax_directory::tally::Tally;
 pub use wax_directory::tree::{DuplicateName, Node, Tree, TreeItem};
+pub use wax_glob_walk::{FilterAny, GlobEntry, GlobFeed};
+pub use wax_leading::{Component, Exclusion};
 pub use wax_tree::{
     DepthBehavior, DepthMax, DepthMin, DepthMinMax, LinkBehavior, PathExt, Range, TreeFeed,
     WalkBehavior, WalkTree, entries,

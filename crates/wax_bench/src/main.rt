@@ -1,6 +1,8 @@
-//! Times matches and walks: `match EXPR..` matches each line of standard input, `walk FOLDER..` walks
-//! folders of the real system. Prints a line for each expression or folder, with tabs between:
-//! nanoseconds and visits a line, and lines that match; or entries, errors and milliseconds.
+//! Times matches, captures and walks: `match EXPR..` matches each line of standard input, `captures EXPR..`
+//! tells what is captured of it, `walk FOLDER..` walks folders of the real system; `build` builds one glob of
+//! all of standard input but its line break, and asks for its depth. Prints a line for each expression, folder
+//! or build, with tabs between: nanoseconds and visits a line, and lines that match; or entries, errors and
+//! milliseconds; or milliseconds.
 #![tactic(auto)]
 
 use std::alloc::{AllocError, Global};
@@ -28,16 +30,40 @@ fn match_lines(alloc: Global, glob: &Glob<'_>, lines: &[&str]) -> Result<Matches
     Ok(Matches { matched, visits })
 }
 
+/// Tells what is captured of each line. Refused with 10 where memory is.
+fn capture_lines(alloc: Global, glob: &Glob<'_>, lines: &[&str]) -> Result<Matches, NoMemory> {
+    let mut matched: u64 = 0;
+    let mut visits: u128 = 0;
+    for line in lines {
+        let path = CandidatePath::from(*line);
+        let answer = glob.matched_counted(alloc, &path)?;
+        matched = matched.saturating_add(answer.0.is_some() as u64);
+        visits = visits.saturating_add(answer.1);
+    }
+    Ok(Matches { matched, visits })
+}
+
 fn lines_of(alloc: Global, text: &str) -> Result<Vec<&str>, AllocError> {
     text.lines().collect(alloc)
 }
 
-fn time_match(rt: HostRuntime, expression: &str, lines: &[&str]) -> io::Result<()> {
+/// What is timed of an expression.
+#[derive(Clone, Copy)]
+enum Timed {
+    Matches,
+    Captures,
+}
+
+fn time_lines(rt: HostRuntime, timed: Timed, expression: &str, lines: &[&str]) -> io::Result<()> {
     let Ok(glob) = Glob::new(rt.alloc(), expression) else {
         return println!(rt; "{expression}\trefused");
     };
     let start = Instant::now(&rt)?;
-    let Ok(matches) = match_lines(rt.alloc(), &glob, lines) else {
+    let answer = match timed {
+        Timed::Matches => match_lines(rt.alloc(), &glob, lines),
+        Timed::Captures => capture_lines(rt.alloc(), &glob, lines),
+    };
+    let Ok(matches) = answer else {
         return println!(rt; "{expression}\tno memory");
     };
     let time = start.elapsed(&rt)?;
@@ -68,23 +94,35 @@ fn time_walk(rt: HostRuntime, start: &str) -> io::Result<()> {
     println!(rt; "{start}\t{entries}\t{errors}\t{milliseconds}")
 }
 
+/// Builds a glob of all of standard input but its line break, and asks for its depth.
+fn time_build(rt: HostRuntime) -> io::Result<()> {
+    let text = io::read_to_string(rt.alloc(), rt.stdin())?;
+    let start = Instant::now(&rt)?;
+    let Ok(glob) = Glob::new(rt.alloc(), text.trim_end()) else {
+        return println!(rt; "refused\t{}", start.elapsed(&rt)?.as_millis());
+    };
+    let _depth = glob.depth();
+    println!(rt; "built\t{}", start.elapsed(&rt)?.as_millis())
+}
+
 fn main(rt: HostRuntime) -> io::Result<()> {
-    let alloc = rt.alloc();
     let mut words = env::args(&rt)?.skip(1);
-    match words.next().as_deref() {
+    let timed = match words.next().as_deref() {
+        Some("match") => Timed::Matches,
+        Some("captures") => Timed::Captures,
+        Some("build") => return time_build(rt),
         Some("walk") => {
             for start in words {
                 time_walk(rt, &start)?;
             }
+            return Ok(());
         }
-        Some("match") => {
-            let text = io::read_to_string(alloc, rt.stdin())?;
-            let lines = lines_of(alloc, &text)?;
-            for expression in words {
-                time_match(rt, &expression, &lines)?;
-            }
-        }
-        _ => {}
+        _ => return Ok(()),
+    };
+    let text = io::read_to_string(rt.alloc(), rt.stdin())?;
+    let lines = lines_of(rt.alloc(), &text)?;
+    for expression in words {
+        time_lines(rt, timed, &expression, &lines)?;
     }
     Ok(())
 }

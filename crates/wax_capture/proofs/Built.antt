@@ -1,5 +1,5 @@
 -- The pieces of tokens that stand one after another.
-use Rattle.std.proofs.Common.{◌≡◌, ℕ, zero, suc, ◌+◌, ◌*◌, ◌<◌, ◌≤◌, Bool, true, false, List, [], ◌∷◌, ◌++◌, length, get_or, drop, reverse, ltb, refl, sym, ◌∙◌, ap, subst, inl, inr, arith}
+use Rattle.std.proofs.Common.{◌≡◌, ℕ, zero, suc, ◌+◌, ◌<◌, ◌≤◌, Bool, true, false, List, [], ◌∷◌, ◌++◌, length, get_or, drop, reverse, ltb, refl, sym, ◌∙◌, ap, subst, inl, inr, arith}
 use Rattle.std.proofs.lemmas.Bool.{cases_lt}
 use Rattle.std.proofs.lemmas.List.{drop_all, reverse-append}
 use Rattle.wax_token.specs.Cost.{cost, costs}
@@ -7,7 +7,7 @@ use Rattle.wax_token.specs.Syntax.{Tree, Trees, none, more}
 use Rattle.wax_token.specs.Words.{trees}
 use Rattle.wax_capture.specs.Captures.{has_more}
 use Rattle.wax_capture.specs.Pieces.{ArePieces, IsPiece}
-use Rattle.wax_capture.specs.inner.Splits.{all_instructions}
+use Rattle.wax_capture.specs.inner.Splits.{all_sizes}
 use Rattle.wax_capture.specs.declared.piece.Piece.{Piece}
 
 -- ---- all tokens
@@ -57,8 +57,8 @@ pieces_more ts i j before p ps next lt s is are =
     subst (ArePieces (trees (drop i ts)) before false) (sym (reverse-append ps (p ∷ [])))
     (subst (λ z. ArePieces z before false (p ∷ reverse ps)) (sym s.from) (subst (λ b. IsPiece s.token before b p) after is, rest))
 
--- the pieces have few instructions
-pub pieces_few : {A : Type 0} (ts : Trees A) (before after : Bool) (ps : List Piece) → ArePieces ts before after ps → all_instructions ps ≤ 2 * costs ts
+-- the pieces come to no more than the tokens cost
+pub pieces_few : {A : Type 0} (ts : Trees A) (before after : Bool) (ps : List Piece) → ArePieces ts before after ps → all_sizes ps ≤ costs ts
 pieces_few none before after [] are = omega arith
 pieces_few none before after (p ∷ ps) are = absurd are
 pieces_few (more t ts) before after [] are = absurd are

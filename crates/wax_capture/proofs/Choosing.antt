@@ -1,55 +1,97 @@
--- The best part of a text by the programs of a piece.
-use Rattle.std.proofs.Common.{◌≡◌, ℕ, ◌+◌, ◌<◌, ◌≤◌, Bool, false, List, ◌∷◌, length, take, Option, Some, slice_get, sym, ◌∙◌, subst, inl, inr, arith, true≢false}
+-- The best part of a text that a piece takes before the further ones take the rest.
+use Rattle.std.proofs.Common.{◌≡◌, ℕ, ◌+◌, ◌<◌, ◌≤◌, Bool, true, false, List, ◌∷◌, length, take, drop, Option, Some, None, is_some, slice_get, get_or, sym, ◌∙◌, subst, inl, inr, arith, length-drop, true≢false}
 use Rattle.std.proofs.lemmas.Bool.{cases_lt}
-use Rattle.std.proofs.lemmas.List.{get_or_past}
+use Rattle.std.proofs.lemmas.List.{drop-drop}
 use Rattle.std.proofs.lemmas.Option.{slice_get_within}
-use Rattle.wax_program.specs.declared.instruction.Instruction.{Instruction}
-use Rattle.wax_program.specs.Ends.{MarksBeginnings}
-use Rattle.wax_program.specs.Machine.{Accepts}
-use Rattle.wax_program.specs.Threads.{Has}
 use Rattle.wax_capture.specs.Captures.{Prefers}
-use Rattle.wax_capture.specs.Pieces.{WayOf}
-use Rattle.wax_capture.specs.inner.Rows.{IsFilled, Tells}
+use Rattle.wax_capture.specs.Pieces.{TakenBy, forms_of}
+use Rattle.wax_capture.specs.inner.Rows.{FitsIn, IsFilled, Row}
+use Rattle.wax_capture.specs.inner.Spans.{HasLengths, InSpan, IsNarrowed, IsPicked}
 use Rattle.wax_capture.specs.inner.Splits.{FitsBy, IsChosenBy, Splits}
+use Rattle.wax_capture.specs.declared.form.Form.{Form}
 use Rattle.wax_capture.specs.declared.piece.Piece.{Piece}
+use Rattle.wax_capture.specs.declared.span.Span.{Span}
 use Rattle.wax_capture.proofs.Lists.{some_same}
+use Rattle.wax_capture.proofs.Rows.{cell_filled}
 
-pub has_within : (flags : List Bool) (n : ℕ) → Has flags n → n < length flags
-has_within flags n h = elim (cases_lt n (length flags)) [
-  | inl lt ↦ lt
-  | inr past ↦ absurd (true≢false (sym h ∙ get_or_past flags n false past))
-]
+pub prefers_same : (lazy : Bool) (n : ℕ) → Prefers lazy n n
+prefers_same true n = omega arith
+prefers_same false n = omega arith
 
--- one program, of which it is known which beginnings of the text it accepts
-module _ (p : Piece) (text : List ℕ) (next : List (Option ℕ)) (ends : List Bool) (k : ℕ) (program : List Instruction × ℕ) (at : slice_get p.ways.items k ≡ Some program)
-    (marked : MarksBeginnings program.0 text ends (length text + 1)) (ps : List Piece) (tells : Tells p ps text next) where
-  pub fit_marked : (n : ℕ) → FitsBy p ps text k n → Has ends n × IsFilled next n
-  fit_marked n f =
-      let same : f.1.0 ≡ program = some_same (sym f.1.1 ∙ at) in
-      ((marked n (omega (arith, f.0))).1 (subst (λ w. Accepts w.0 0 (take n text)) same f.1.2), (tells k n f.0 f.1).1 f.2)
+pub empty : (cells : List (Option ℕ)) (i : ℕ) → is_some (get_or cells i None) ≡ false → IsFilled cells i → ⊥
+empty cells i none h = true≢false (sym h ∙ none)
 
-  pub marked_fits : (n : ℕ) → n ≤ length text → Has ends n → IsFilled next n → FitsBy p ps text k n
-  marked_fits n le h g =
-      let way : WayOf p k (take n text) = (program, at, (marked n (omega (arith, le))).0 h) in
-      (le, way, (tells k n le way).0 g)
+-- the lengths of the span are those of the form
+pub span_sound : (form : Form) (text : List ℕ) (at : ℕ) (span : Span) → at ≤ length text → at + span.end ≤ length text + 1 → HasLengths form (drop at text) span →
+    (m : ℕ) → InSpan span (drop at text) m → (m ≤ length (drop at text)) × TakenBy form (take m (drop at text))
+span_sound form text at span within end has m h =
+    let le : m ≤ length (drop at text) = omega (arith, h.1, end, length-drop at text, within) in
+    (le, (has m le).1 h)
 
-  -- no earlier program fits
-  module _ (none : (j m : ℕ) → j < k → FitsBy p ps text j m → ⊥) where
-    pub chosen : (n : ℕ) → n ≤ length text → Has ends n → IsFilled next n → ((m : ℕ) → Has ends m → IsFilled next m → Prefers p.is_lazy n m) → IsChosenBy p ps text n
-    chosen n le h g best = record {
-      way = k;
-      fits = marked_fits n le h g;
-      first = λ j m f. elim (cases_lt j k) [ inl lt ↦ absurd (none j m lt f) | inr ge ↦ ge ];
-      best = λ m f. best m (fit_marked m f).0 (fit_marked m f).1;
-    }
+-- ---- one form, of whose lengths some were tried
+pub record Left (form : Form) (s : List ℕ) (cells : List (Option ℕ)) (at : ℕ) (span : Span) : Type 0 where
+  pub fits : (m : ℕ) → FitsIn form s cells at m → InSpan span s m
+  pub sound : (m : ℕ) → InSpan span s m → (m ≤ length s) × TakenBy form (take m s)
 
-    pub none_more : ((m : ℕ) → Has ends m → IsFilled next m → ⊥) → (j m : ℕ) → j < k + 1 → FitsBy p ps text j m → ⊥
-    none_more nowhere j m lt f = elim (cases_lt j k) [
-      | inl less ↦ none j m less f
-      | inr more ↦ (let same : j ≡ k = omega (arith, lt, more) in
-          let g : FitsBy p ps text k m = subst (λ i. FitsBy p ps text i m) same f in
-          nowhere m (fit_marked m g).0 (fit_marked m g).1)
-    ]
+pub left_start : (form : Form) (text : List ℕ) (cells : List (Option ℕ)) (at : ℕ) (span : Span) → at ≤ length text → at + span.end ≤ length text + 1 → HasLengths form (drop at text) span →
+    Left form (drop at text) cells at span
+left_start form text cells at span within end has = record {
+  fits = λ m h. (has m h.0).0 h.1;
+  sound = span_sound form text at span within end has;
+}
 
-pub none_at_all : (p : Piece) (ps : List Piece) (text : List ℕ) (n : ℕ) → length p.ways.items ≤ n → ((k m : ℕ) → k < n → FitsBy p ps text k m → ⊥) → Splits (p ∷ ps) text → ⊥
-none_at_all p ps text n le none s = none s.0 s.1 (omega (arith, slice_get_within p.ways.items s.0 s.3.0 s.3.1, le)) (s.2, s.3, s.4)
+module _ (form : Form) (s : List ℕ) (cells : List (Option ℕ)) (at : ℕ) (old new : Span) (lazy : Bool) (n : ℕ) (left : Left form s cells at old) (picked : IsPicked old new s lazy n) (narrowed : IsNarrowed old new s) where
+  -- the picked one fits
+  pub left_fits : IsFilled cells (at + n) → FitsIn form s cells at n
+  left_fits h = let r = left.sound n picked.0 in (r.0, r.1, h)
+
+  pub left_best : (m : ℕ) → FitsIn form s cells at m → Prefers lazy n m
+  left_best m h = elim (picked.1 m (left.fits m h)) [
+    | inl e ↦ subst (Prefers lazy n) (sym e) (prefers_same lazy n)
+    | inr p ↦ p.1
+  ]
+
+  -- it doesn't
+  pub left_less : (IsFilled cells (at + n) → ⊥) → Left form s cells at new
+  left_less fails = record {
+    fits = λ m h. elim (picked.1 m (left.fits m h)) [
+      | inl e ↦ absurd (fails (subst (λ k. IsFilled cells (at + k)) e h.2))
+      | inr p ↦ p.0
+    ];
+    sound = λ m h. left.sound m (narrowed m h);
+  }
+
+-- ---- all forms of a piece
+module _ (p : Piece) (ps : List Piece) (text : List ℕ) (at : ℕ) (next : List (Option ℕ)) (within : at ≤ length text) (row : Row ps text next) where
+  filled : (n : ℕ) → n ≤ length (drop at text) → IsFilled next (at + n) → Splits ps (drop n (drop at text))
+  filled n le h = subst (Splits ps) (sym (drop-drop n at text)) ((cell_filled ps text next row (at + n) (omega (arith, le, length-drop at text, within))).0 h)
+
+  splits_filled : (n : ℕ) → n ≤ length (drop at text) → Splits ps (drop n (drop at text)) → IsFilled next (at + n)
+  splits_filled n le h = (cell_filled ps text next row (at + n) (omega (arith, le, length-drop at text, within))).1 (subst (Splits ps) (drop-drop n at text) h)
+
+  module _ (k : ℕ) (form : Form) (is : slice_get (forms_of p.ways) k ≡ Some form) where
+    pub fit_in : (n : ℕ) → FitsBy p ps (drop at text) k n → FitsIn form (drop at text) next at n
+    fit_in n f = (f.0, subst (λ z. TakenBy z (take n (drop at text))) (some_same (sym f.1.1 ∙ is)) f.1.2, splits_filled n f.0 f.2)
+
+    pub in_fit : (n : ℕ) → FitsIn form (drop at text) next at n → FitsBy p ps (drop at text) k n
+    in_fit n f = (f.0, (form, is, f.1), filled n f.0 f.2)
+
+    -- fails earlier form fits
+    module _ (none : (j m : ℕ) → j < k → FitsBy p ps (drop at text) j m → ⊥) where
+      pub chosen : (n : ℕ) → FitsIn form (drop at text) next at n → ((m : ℕ) → FitsIn form (drop at text) next at m → Prefers p.is_lazy n m) → IsChosenBy p ps (drop at text) n
+      chosen n f best = record {
+        way = k;
+        fits = in_fit n f;
+        first = λ j m g. elim (cases_lt j k) [ inl lt ↦ absurd (none j m lt g) | inr ge ↦ ge ];
+        best = λ m g. best m (fit_in m g);
+      }
+
+      pub none_more : ((m : ℕ) → FitsIn form (drop at text) next at m → ⊥) → (j m : ℕ) → j < k + 1 → FitsBy p ps (drop at text) j m → ⊥
+      none_more nowhere j m lt f = elim (cases_lt j k) [
+        | inl less ↦ none j m less f
+        | inr more ↦ (let same : j ≡ k = omega (arith, lt, more) in
+            nowhere m (fit_in m (subst (λ i. FitsBy p ps (drop at text) i m) same f)))
+      ]
+
+pub none_at_all : (p : Piece) (ps : List Piece) (s : List ℕ) (n : ℕ) → length (forms_of p.ways) ≤ n → ((k m : ℕ) → k < n → FitsBy p ps s k m → ⊥) → Splits (p ∷ ps) s → ⊥
+none_at_all p ps s n le none h = none h.0 h.1 (omega (arith, slice_get_within (forms_of p.ways) h.0 h.3.0 h.3.1, le)) (h.2, h.3, h.4)

@@ -1,45 +1,49 @@
--- How many instructions the programs have, and how often they are read.
+-- How much pieces come to, and how often characters are looked at.
 use Rattle.std.proofs.Common.{◌≡◌, ℕ, zero, suc, ◌+◌, ◌*◌, ◌<◌, ◌≤◌, List, [], ◌∷◌, length, get_or, take, drop, drop-cons, sym, ◌∙◌, ap, subst, arith}
 use Rattle.std.proofs.Math.Nat.{add-mul, mul-add, mul_assoc, mul-one, mul-le-mul_left, mul-le-mul_right}
-use Rattle.wax_program.specs.declared.instruction.Instruction.{Instruction}
-use Rattle.wax_capture.specs.Pieces.{instructions}
-use Rattle.wax_capture.specs.inner.Splits.{all_instructions}
+use Rattle.wax_capture.specs.Pieces.{form_size, forms_of, size_of}
+use Rattle.wax_capture.specs.declared.form.Form.{Form}
+use Rattle.wax_capture.specs.inner.Splits.{all_sizes}
 use Rattle.wax_capture.specs.declared.piece.Piece.{Piece}
 
--- one program more
-pub instructions_more : (ways : List (List Instruction × ℕ)) (k : ℕ) (w : List Instruction × ℕ) → k < length ways → w ≡ get_or ways k w →
-    instructions (take (k + 1) ways) ≡ instructions (take k ways) + length w.0
-instructions_more [] k w lt e = absurd (omega (arith, lt))
-instructions_more (v ∷ ways) zero w lt e = let f : length w.0 ≡ length v.0 = ap (λ z. length z.0) e in omega (arith, f)
-instructions_more (v ∷ ways) (suc k) w lt e =
+-- one form more
+pub size_of_more : (ways : List Form) (k : ℕ) (w : Form) → k < length ways → w ≡ get_or ways k w →
+    size_of (take (k + 1) ways) ≡ size_of (take k ways) + form_size w
+size_of_more [] k w lt e = absurd (omega (arith, lt))
+size_of_more (v ∷ ways) zero w lt e = let f : form_size w ≡ form_size v = ap (λ z. form_size z) e in omega (arith, f)
+size_of_more (v ∷ ways) (suc k) w lt e =
     let n : suc k + 1 ≡ suc (k + 1) = omega arith in
-    let f : instructions (take (k + 1) ways) ≡ instructions (take k ways) + length w.0 = instructions_more ways k w (omega (arith, lt)) e in
-    let g : instructions (take (suc (k + 1)) (v ∷ ways)) ≡ instructions (take (suc k) (v ∷ ways)) + length w.0 = omega (arith, f) in
+    let f : size_of (take (k + 1) ways) ≡ size_of (take k ways) + form_size w = size_of_more ways k w (omega (arith, lt)) e in
+    let g : size_of (take (suc (k + 1)) (v ∷ ways)) ≡ size_of (take (suc k) (v ∷ ways)) + form_size w = omega (arith, f) in
     rw n g
 
-pub instructions_some : (ways : List (List Instruction × ℕ)) (k : ℕ) → instructions (take k ways) ≤ instructions ways
-instructions_some [] zero = omega arith
-instructions_some [] (suc k) = omega arith
-instructions_some (v ∷ ways) zero = omega arith
-instructions_some (v ∷ ways) (suc k) = omega (arith, instructions_some ways k)
+pub size_of_some : (ways : List Form) (k : ℕ) → size_of (take k ways) ≤ size_of ways
+size_of_some [] zero = omega arith
+size_of_some [] (suc k) = omega arith
+size_of_some (v ∷ ways) zero = omega arith
+size_of_some (v ∷ ways) (suc k) = omega (arith, size_of_some ways k)
 
--- the reads of one program more
+-- one form alone
+pub size_of_one : (ways : List Form) (k : ℕ) (w : Form) → k < length ways → w ≡ get_or ways k w → form_size w ≤ size_of ways
+size_of_one ways k w lt e = omega (arith, size_of_more ways k w lt e, size_of_some ways (k + 1))
+
+-- the reads of one form more
 pub reads_more : (old mid new all more n : ℕ) → mid ≤ old + all * n → new ≤ mid + more * n → new ≤ old + (all + more) * n
 reads_more old mid new all more n h g = omega (arith, h, g, add-mul all more n)
 
 pub reads_fewer : (old new some all n : ℕ) → some ≤ all → new ≤ old + some * n → new ≤ old + all * n
 reads_fewer old new some all n le h = omega (arith, h, mul-le-mul_right n le)
 
-pub reads_way : (ways : List (List Instruction × ℕ)) (k : ℕ) (w : List Instruction × ℕ) → k < length ways → w ≡ get_or ways k w → (old mid new n : ℕ) →
-    mid ≤ old + instructions (take k ways) * n → new ≤ mid + length w.0 * n → new ≤ old + instructions (take (k + 1) ways) * n
-reads_way ways k w lt e old mid new n h g = rw (instructions_more ways k w lt e) (reads_more old mid new (instructions (take k ways)) (length w.0) n h g)
+pub reads_way : (ways : List Form) (k : ℕ) (w : Form) → k < length ways → w ≡ get_or ways k w → (old mid new n : ℕ) →
+    mid ≤ old + size_of (take k ways) * n → new ≤ mid + form_size w * n → new ≤ old + size_of (take (k + 1) ways) * n
+reads_way ways k w lt e old mid new n h g = rw (size_of_more ways k w lt e) (reads_more old mid new (size_of (take k ways)) (form_size w) n h g)
 
-pub all_more : (ps : List Piece) (i : ℕ) (p : Piece) → i < length ps → p ≡ get_or ps i p → all_instructions (drop i ps) ≡ instructions p.ways.items + all_instructions (drop (i + 1) ps)
+pub all_more : (ps : List Piece) (i : ℕ) (p : Piece) → i < length ps → p ≡ get_or ps i p → all_sizes (drop i ps) ≡ size_of (forms_of p.ways) + all_sizes (drop (i + 1) ps)
 all_more ps i p lt e =
     let m : suc i ≡ i + 1 = omega arith in
-    ap all_instructions (drop-cons ps i p lt ∙ ap (λ z. z ∷ drop (suc i) ps) (sym e) ∙ ap (λ k. p ∷ drop k ps) m)
+    ap all_sizes (drop-cons ps i p lt ∙ ap (λ z. z ∷ drop (suc i) ps) (sym e) ∙ ap (λ k. p ∷ drop k ps) m)
 
-pub all_some : (ps : List Piece) (i : ℕ) → all_instructions (drop i ps) ≤ all_instructions ps
+pub all_some : (ps : List Piece) (i : ℕ) → all_sizes (drop i ps) ≤ all_sizes ps
 all_some [] zero = omega arith
 all_some [] (suc i) = omega arith
 all_some (p ∷ ps) zero = omega arith
@@ -61,58 +65,65 @@ pub reads_part : (old new more at n : ℕ) → at ≤ n → new ≤ old + more *
 reads_part old new more at n le h = omega (arith, h, mul-le-mul_left more (mul-le-mul_left n le))
 
 pub reads_step : (ps : List Piece) (i j : ℕ) (p : Piece) → j ≡ i + 1 → i < length ps → p ≡ get_or ps i p → (old mid new n : ℕ) →
-    mid ≤ old + all_instructions (drop j ps) * n → new ≤ mid + instructions p.ways.items * n → new ≤ old + all_instructions (drop i ps) * n
+    mid ≤ old + all_sizes (drop j ps) * n → new ≤ mid + size_of (forms_of p.ways) * n → new ≤ old + all_sizes (drop i ps) * n
 reads_step ps i j p next lt e old mid new n h g =
-    let m : mid ≤ old + all_instructions (drop (i + 1) ps) * n = subst (λ k. mid ≤ old + all_instructions (drop k ps) * n) next h in
-    rw (all_more ps i p lt e) (reads_row old mid new (instructions p.ways.items) (all_instructions (drop (i + 1) ps)) n m g)
+    let m : mid ≤ old + all_sizes (drop (i + 1) ps) * n = subst (λ k. mid ≤ old + all_sizes (drop k ps) * n) next h in
+    rw (all_more ps i p lt e) (reads_row old mid new (size_of (forms_of p.ways)) (all_sizes (drop (i + 1) ps)) n m g)
 
 -- ---- from left to right
-pub all_taken : (ps : List Piece) (i : ℕ) (p : Piece) → i < length ps → p ≡ get_or ps i p → all_instructions (take (i + 1) ps) ≡ all_instructions (take i ps) + instructions p.ways.items
+pub all_taken : (ps : List Piece) (i : ℕ) (p : Piece) → i < length ps → p ≡ get_or ps i p → all_sizes (take (i + 1) ps) ≡ all_sizes (take i ps) + size_of (forms_of p.ways)
 all_taken [] i p lt e = absurd (omega (arith, lt))
-all_taken (q ∷ ps) zero p lt e = let f : instructions p.ways.items ≡ instructions q.ways.items = ap (λ z. instructions z.ways.items) e in omega (arith, f)
+all_taken (q ∷ ps) zero p lt e = let f : size_of (forms_of p.ways) ≡ size_of (forms_of q.ways) = ap (λ z. size_of (forms_of z.ways)) e in omega (arith, f)
 all_taken (q ∷ ps) (suc i) p lt e =
     let n : suc i + 1 ≡ suc (i + 1) = omega arith in
-    let f : all_instructions (take (i + 1) ps) ≡ all_instructions (take i ps) + instructions p.ways.items = all_taken ps i p (omega (arith, lt)) e in
-    let g : all_instructions (take (suc (i + 1)) (q ∷ ps)) ≡ all_instructions (take (suc i) (q ∷ ps)) + instructions p.ways.items = omega (arith, f) in
+    let f : all_sizes (take (i + 1) ps) ≡ all_sizes (take i ps) + size_of (forms_of p.ways) = all_taken ps i p (omega (arith, lt)) e in
+    let g : all_sizes (take (suc (i + 1)) (q ∷ ps)) ≡ all_sizes (take (suc i) (q ∷ ps)) + size_of (forms_of p.ways) = omega (arith, f) in
     rw n g
 
-pub some_taken : (ps : List Piece) (i : ℕ) → all_instructions (take i ps) ≤ all_instructions ps
+pub some_taken : (ps : List Piece) (i : ℕ) → all_sizes (take i ps) ≤ all_sizes ps
 some_taken [] zero = omega arith
 some_taken [] (suc i) = omega arith
 some_taken (p ∷ ps) zero = omega arith
 some_taken (p ∷ ps) (suc i) = omega (arith, some_taken ps i)
 
+-- one piece alone
+pub reads_piece : (ps : List Piece) (i : ℕ) (p : Piece) → i < length ps → p ≡ get_or ps i p → (n : ℕ) → size_of (forms_of p.ways) * n ≤ all_sizes ps * n
+reads_piece ps i p lt e n =
+    let one : size_of (forms_of p.ways) ≤ all_sizes ps = omega (arith, all_taken ps i p lt e, some_taken ps (i + 1)) in
+    mul-le-mul_right n one
+
+-- a trial's next length
+pub reads_next : (ps : List Piece) (i : ℕ) (p : Piece) → i < length ps → p ≡ get_or ps i p → (old mid new left limit n : ℕ) → mid ≤ old + limit →
+    left ≤ all_sizes ps * n → new ≤ mid + left + size_of (forms_of p.ways) * n → new ≤ old + limit + 2 * (all_sizes ps * n)
+reads_next ps i p lt e old mid new left limit n h few g = omega (arith, h, few, g, reads_piece ps i p lt e n)
+
 -- one choice more, over what is left of the text
 pub reads_choice : (ps : List Piece) (i : ℕ) (p : Piece) → i < length ps → p ≡ get_or ps i p → (old mid new left n : ℕ) → left ≤ n →
-    mid ≤ old + all_instructions (take i ps) * n → new ≤ mid + instructions p.ways.items * left → new ≤ old + all_instructions (take (i + 1) ps) * n
+    mid ≤ old + all_sizes (take i ps) * n → new ≤ mid + size_of (forms_of p.ways) * left → new ≤ old + all_sizes (take (i + 1) ps) * n
 reads_choice ps i p lt e old mid new left n le h g =
-    let a : instructions p.ways.items * left ≤ instructions p.ways.items * n = mul-le-mul_left (instructions p.ways.items) le in
-    rw (all_taken ps i p lt e) (reads_more old mid new (all_instructions (take i ps)) (instructions p.ways.items) n h (omega (arith, g, a)))
+    let a : size_of (forms_of p.ways) * left ≤ size_of (forms_of p.ways) * n = mul-le-mul_left (size_of (forms_of p.ways)) le in
+    rw (all_taken ps i p lt e) (reads_more old mid new (all_sizes (take i ps)) (size_of (forms_of p.ways)) n h (omega (arith, g, a)))
 
--- a row of the text, or a square of it
-pub reads_square : (all old new m : ℕ) → new ≤ old + all * (m + 1) → new ≤ old + all * ((m + 1) * (m + 1))
-reads_square all old new m h =
+-- a row of the text is in its square
+pub row_square : (all m : ℕ) → all * (m + 1) ≤ all * ((m + 1) * (m + 1))
+row_square all m =
     let one : 1 ≤ m + 1 = omega arith in
     let b : (m + 1) * 1 ≤ (m + 1) * (m + 1) = mul-le-mul_left (m + 1) one in
     let b2 : m + 1 ≤ (m + 1) * (m + 1) = omega (arith, b, mul-one (m + 1)) in
-    let d : all * (m + 1) ≤ all * ((m + 1) * (m + 1)) = mul-le-mul_left all b2 in
-    omega (arith, h, d)
+    mul-le-mul_left all b2
 
--- the table, after the rows of what is reached
-pub reads_twice : (all old first new m : ℕ) → first ≤ old + all * (m + 1) → new ≤ first + all * ((m + 1) * (m + 1)) → new ≤ old + 2 * (all * ((m + 1) * (m + 1)))
-reads_twice all old first new m f h = omega (arith, h, reads_square all old first m f)
+-- a trial and the table
+pub reads_both : (all limit old mid new m : ℕ) → limit ≤ all * ((m + 1) * (m + 1)) → mid ≤ old + limit + 2 * (all * (m + 1)) →
+    new ≤ mid + all * ((m + 1) * (m + 1)) → new ≤ old + 4 * (all * ((m + 1) * (m + 1)))
+reads_both all limit old mid new m few h g = omega (arith, few, h, g, row_square all m)
 
--- the rows alone
-pub reads_once : (all old new m : ℕ) → new ≤ old + all * (m + 1) → new ≤ old + 2 * (all * ((m + 1) * (m + 1)))
-reads_once all old new m h = omega (arith, reads_square all old new m h)
+-- the trial alone
+pub reads_trial : (all limit old new m : ℕ) → limit ≤ all * ((m + 1) * (m + 1)) → new ≤ old + limit + 2 * (all * (m + 1)) → new ≤ old + 4 * (all * ((m + 1) * (m + 1)))
+reads_trial all limit old new m few h = omega (arith, few, h, row_square all m)
 
 -- ---- within the stated numbers of visits
-pub visits_square : (all cost new m : ℕ) → all ≤ 2 * cost → new ≤ 2 * (all * ((m + 1) * (m + 1))) → new ≤ 4 * (cost * ((m + 1) * (m + 1)))
-visits_square all cost new m few h =
-    let n : ℕ = (m + 1) * (m + 1) in
-    let a : all * n ≤ 2 * cost * n = mul-le-mul_right n few in
-    let b : 2 * cost * n ≡ 2 * (cost * n) = mul_assoc 2 cost n in
-    omega (arith, h, a, b)
+pub visits_square : (all cost new m : ℕ) → all ≤ cost → new ≤ 4 * (all * ((m + 1) * (m + 1))) → new ≤ 4 * (cost * ((m + 1) * (m + 1)))
+visits_square all cost new m few h = omega (arith, h, mul-le-mul_right ((m + 1) * (m + 1)) few)
 
 pub visits_cube : (cost new m : ℕ) → new ≤ 4 * (cost * ((m + 1) * (m + 1))) → new ≤ 8 * ((cost + 1) * ((m + 1) * ((m + 1) * (m + 1))))
 visits_cube cost new m h =

@@ -3,12 +3,14 @@ pub mod Built
 pub mod ByteParts
 pub mod Choosing
 pub mod Counting
+pub mod FormLengths
 pub mod Lists
 pub mod NothingCaptured
 pub mod Parts
-pub mod Reaching
+pub mod Picking
 pub mod Rows
 pub mod Taking
 pub mod Tied
 pub mod TokenWays
+pub mod Trying
 pub mod Unique

@@ -1,25 +1,12 @@
--- The pieces of a tree wildcard of which nothing is captured, and their programs.
+-- The pieces of a tree wildcard of which nothing is captured.
 use Rattle.std.proofs.Common.{◌≡◌, ℕ, ◌↔◌, ◌⊎◌, Bool, true, false, List, [], ◌∷◌, drop, refl, sym, ◌∙◌, ap, inl, inr}
 use Rattle.std.proofs.lemmas.Bool.{cases_eq}
-use Rattle.wax_program.specs.declared.instruction.Instruction.TheVariants.{Check, Fork}
-use Rattle.wax_program.specs.declared.instruction.Test.TheVariants.{Char, Never}
-use Rattle.wax_program.specs.Machine.{Accepts}
 use Rattle.wax_token.specs.Meaning.{TreeMeans}
-use Rattle.wax_match.proofs.Compiled.{spells_never, spells_slash}
-use Rattle.wax_match.proofs.Fragments.{spells_skip}
-use Rattle.wax_match.proofs.Whole.{program_complete, program_sound}
 use Rattle.wax_capture.proofs.Parts.{unless_slash}
 use Rattle.wax_capture.specs.Captures.{tree_capture}
 
--- ---- tree wildcards of which nothing is captured
-pub accepts_never : (x : List ℕ) → Accepts (Check Never ∷ []) 0 x → ⊥
-accepts_never x h = program_sound spells_never x h
-
-pub accepts_slash : (x : List ℕ) → Accepts (Check (Char 47) ∷ []) 0 x ↔ (x ≡ 47 ∷ [])
-accepts_slash x = ((λ h. program_sound spells_slash x h), (λ h. program_complete spells_slash x h))
-
-pub accepts_slash_or_nothing : (x : List ℕ) → Accepts (Fork 1 ∷ Check (Char 47) ∷ []) 0 x ↔ ((x ≡ []) ⊎ (x ≡ 47 ∷ []))
-accepts_slash_or_nothing x = ((λ h. program_sound (spells_skip spells_slash) x h), (λ h. program_complete (spells_skip spells_slash) x h))
+pub one_slash : (x : List ℕ) → ((c : ℕ) × (x ≡ c ∷ []) × (c ≡ 47)) ↔ (x ≡ 47 ∷ [])
+one_slash x = ((λ h. h.1 ∙ ap (λ c. c ∷ []) h.2), (λ e. (47, e, refl)))
 
 no_more : (t : List ℕ) → drop 1 (47 ∷ t) ≡ [] → t ≡ []
 no_more t e = e

@@ -1,15 +1,14 @@
 -- From which places on pieces split a text, and what is chosen there.
-use Rattle.std.proofs.Common.{◌≡◌, ℕ, zero, suc, ◌+◌, ◌-◌, ◌<◌, ◌≤◌, ◌↔◌, Bool, true, false, List, [], ◌∷◌, ◌++◌, length, get_or}
-use Rattle.std.proofs.Common.{drop, drop-cons, replicate, Option, Some, None, MatchOption, is_some, slice_get, refl, sym, ◌∙◌, ap, subst}
+use Rattle.std.proofs.Common.{◌≡◌, ℕ, zero, suc, ◌+◌, ◌-◌, ◌<◌, ◌≤◌, ◌↔◌, true, List, [], ◌∷◌, ◌++◌, length, get_or}
+use Rattle.std.proofs.Common.{drop, drop-cons, replicate, Option, Some, None, is_some, slice_get, refl, sym, ◌∙◌, ap, subst}
 use Rattle.std.proofs.Common.{inl, inr, arith, true≢false, length-drop}
 use Rattle.std.specs.Global.{Vec}
 use Rattle.std.proofs.Math.Seq.{get_or-append_seam}
 use Rattle.std.proofs.lemmas.Bool.{cases_lt}
-use Rattle.std.proofs.lemmas.List.{get_or-drop, drop-drop, drop_all, get_or_append_left, length-replicate, length_push}
+use Rattle.std.proofs.lemmas.List.{drop_all, get_or_append_left, length-replicate, length_push}
 use Rattle.std.proofs.lemmas.Option.{slice_get_within}
-use Rattle.wax_program.specs.Threads.{Has}
-use Rattle.wax_capture.specs.inner.Rows.{AreRows, IsCell, LeadsTo, Row, Takes, Tells}
-use Rattle.wax_capture.specs.inner.Splits.{IsChosenBy, Splits}
+use Rattle.wax_capture.specs.inner.Rows.{AreRows, IsCell, IsFilled, Row, Takes}
+use Rattle.wax_capture.specs.inner.Splits.{Splits}
 use Rattle.wax_capture.specs.declared.piece.Piece.{Piece}
 use Rattle.wax_capture.proofs.Lists.{slice_left, slice_seam, some_same}
 
@@ -18,46 +17,31 @@ pub takes_splits : (ps : List Piece) (s : List ℕ) (n : ℕ) → Takes ps s n �
 takes_splits [] s n h = h
 takes_splits (p ∷ ps) s n c = (c.way, n, c.fits.0, c.fits.1, c.fits.2)
 
--- at a place that is reached
-pub cell_tells : (ps : List Piece) (s : List ℕ) (r : Option ℕ) → IsCell ps s true r → is_some r ≡ true ↔ Splits ps s
-cell_tells ps s None h = ((λ e. absurd (true≢false (sym e))), (λ g. absurd (h refl g)))
+cell_tells : (ps : List Piece) (s : List ℕ) (r : Option ℕ) → IsCell ps s r → is_some r ≡ true ↔ Splits ps s
+cell_tells ps s None h = ((λ e. absurd (true≢false (sym e))), (λ g. absurd (h g)))
 cell_tells ps s (Some n) h = ((λ _. takes_splits ps s n h), (λ _. refl))
 
-pub cell_found : (p : Piece) (ps : List Piece) (s : List ℕ) (is_reached : Bool) (r : Option ℕ) →
-    MatchOption r (Splits (p ∷ ps) s → ⊥) (IsChosenBy p ps s) → IsCell (p ∷ ps) s is_reached r
-cell_found p ps s is_reached None h = λ _. h
-cell_found p ps s is_reached (Some n) h = h
-
--- the row of what is left of the text, from a place that is reached
-pub tells_from : (p : Piece) (ps : List Piece) (text : List ℕ) (reached onward : List Bool) (next : List (Option ℕ)) (at : ℕ) →
-    at ≤ length text → Has reached at → LeadsTo p text reached onward → Row ps text onward next → Tells p ps (drop at text) (drop at next)
-tells_from p ps text reached onward next at within here leads row k n le way =
-    let m : at + n ≤ length text = omega (arith, le, length-drop at text, within) in
-    let e : get_or (drop at next) n None ≡ get_or next (at + n) None = get_or-drop at next n None in
-    let d : drop n (drop at text) ≡ drop (at + n) text = drop-drop n at text in
-    let at_end : IsCell ps (drop (at + n) text) true (get_or next (at + n) None) =
-    subst (λ b. IsCell ps (drop (at + n) text) b (get_or next (at + n) None)) (leads k at n m here way) (row (at + n) m) in
-    let tells = cell_tells ps (drop (at + n) text) (get_or next (at + n) None) at_end in
-    ((λ h. subst (Splits ps) (sym d) (tells.0 (ap is_some (sym e) ∙ h))), (λ h. ap is_some e ∙ tells.1 (subst (Splits ps) d h)))
+pub cell_filled : (ps : List Piece) (s : List ℕ) (cells : List (Option ℕ)) → Row ps s cells → (n : ℕ) → n ≤ length s → IsFilled cells n ↔ Splits ps (drop n s)
+cell_filled ps s cells row n le = cell_tells ps (drop n s) (get_or cells n None) (row n le)
 
 -- ---- one row
 -- the cells before a place
-abbrev pub RowTo : List Piece → List ℕ → List Bool → List (Option ℕ) → ℕ → Type 0
-RowTo ps s reached cells m = (n : ℕ) → n < m → IsCell ps (drop n s) (get_or reached n false) (get_or cells n None)
+abbrev pub RowTo : List Piece → List ℕ → List (Option ℕ) → ℕ → Type 0
+RowTo ps s cells m = (n : ℕ) → n < m → IsCell ps (drop n s) (get_or cells n None)
 
-pub row_push : (ps : List Piece) (s : List ℕ) (reached : List Bool) (cells : List (Option ℕ)) (m : ℕ) (r : Option ℕ) → length cells ≡ m →
-    RowTo ps s reached cells m → IsCell ps (drop m s) (get_or reached m false) r → RowTo ps s reached (cells ++ r ∷ []) (m + 1)
-row_push ps s reached cells m r count row here n lt = elim (cases_lt n m) [
+pub row_push : (ps : List Piece) (s : List ℕ) (cells : List (Option ℕ)) (m : ℕ) (r : Option ℕ) → length cells ≡ m →
+    RowTo ps s cells m → IsCell ps (drop m s) r → RowTo ps s (cells ++ r ∷ []) (m + 1)
+row_push ps s cells m r count row here n lt = elim (cases_lt n m) [
   | inl less ↦ (let e : get_or (cells ++ r ∷ []) n None ≡ get_or cells n None = get_or_append_left cells (r ∷ []) None n (omega (arith, less, count)) in
-      subst (IsCell ps (drop n s) (get_or reached n false)) (sym e) (row n less))
+      subst (IsCell ps (drop n s)) (sym e) (row n less))
   | inr ge ↦ (let same : n ≡ m = omega (arith, ge, lt) in
       let at : n ≡ length cells = same ∙ sym count in
       let e : get_or (cells ++ r ∷ []) n None ≡ r = ap (λ k. get_or (cells ++ r ∷ []) k None) at ∙ get_or-append_seam cells r [] None in
-      subst (IsCell ps (drop n s) (get_or reached n false)) (sym e) (subst (λ k. IsCell ps (drop k s) (get_or reached k false) r) (sym same) here))
+      subst (IsCell ps (drop n s)) (sym e) (subst (λ k. IsCell ps (drop k s) r) (sym same) here))
 ]
 
-pub row_whole : (ps : List Piece) (s : List ℕ) (reached : List Bool) (cells : List (Option ℕ)) (m : ℕ) → m ≡ length s + 1 → RowTo ps s reached cells m → Row ps s reached cells
-row_whole ps s reached cells m e row n le = row n (omega (arith, le, e))
+pub row_whole : (ps : List Piece) (s : List ℕ) (cells : List (Option ℕ)) (m : ℕ) → m ≡ length s + 1 → RowTo ps s cells m → Row ps s cells
+row_whole ps s cells m e row n le = row n (omega (arith, le, e))
 
 -- of no piece
 drop_less : (s : List ℕ) (n : ℕ) → n < length s → drop n s ≡ [] → ⊥
@@ -68,44 +52,43 @@ replicated zero i = refl
 replicated (suc n) zero = refl
 replicated (suc n) (suc i) = replicated n i
 
-pub row_none : (s : List ℕ) (reached : List Bool) → Row [] s reached (replicate (length s) None ++ Some 0 ∷ [])
-row_none s reached n le = elim (cases_lt n (length s)) [
+pub row_none : (s : List ℕ) → Row [] s (replicate (length s) None ++ Some 0 ∷ [])
+row_none s n le = elim (cases_lt n (length s)) [
   | inl less ↦ (let e : get_or (replicate (length s) None ++ Some 0 ∷ []) n None ≡ None =
       get_or_append_left (replicate (length s) None) (Some 0 ∷ []) None n (omega (arith, less, length-replicate {A = Option ℕ} (length s) None)) ∙ replicated (length s) n in
-      subst (IsCell [] (drop n s) (get_or reached n false)) (sym e) (λ _ h. drop_less s n less h))
+      subst (IsCell [] (drop n s)) (sym e) (λ h. drop_less s n less h))
   | inr ge ↦ (let at : n ≡ length (replicate {A = Option ℕ} (length s) None) = omega (arith, ge, le, length-replicate {A = Option ℕ} (length s) None) in
       let e : get_or (replicate (length s) None ++ Some 0 ∷ []) n None ≡ Some 0 =
       ap (λ k. get_or (replicate (length s) None ++ Some 0 ∷ []) k None) at ∙ get_or-append_seam (replicate (length s) None) (Some 0) [] None in
-      subst (IsCell [] (drop n s) (get_or reached n false)) (sym e) (drop_all n s ge))
+      subst (IsCell [] (drop n s)) (sym e) (drop_all n s ge))
 ]
 
 -- ---- one row more
-module _ (ps : List Piece) (s : List ℕ) (reached : List (Vec Bool)) (rows : List (Vec (Option ℕ))) where
-  pub rows_push : (i : ℕ) (row : Vec (Option ℕ)) → length rows + i ≡ length ps → AreRows ps s reached rows →
-      ((from : Vec Bool) → slice_get reached i ≡ Some from → Row (drop i ps) s from.items row.items) → length row.items ≡ length s + 1 → AreRows ps s reached (rows ++ row ∷ [])
+module _ (ps : List Piece) (s : List ℕ) (rows : List (Vec (Option ℕ))) where
+  pub rows_push : (i : ℕ) (row : Vec (Option ℕ)) → length rows + i ≡ length ps → AreRows ps s rows →
+      Row (drop i ps) s row.items → length row.items ≡ length s + 1 → AreRows ps s (rows ++ row ∷ [])
   rows_push i row count are here len j r e = elim (cases_lt j (length rows)) [
     | inl less ↦ are j r (sym (slice_left rows (row ∷ []) j less) ∙ e)
     | inr ge ↦ (let within : j < length (rows ++ row ∷ []) = slice_get_within (rows ++ row ∷ []) j r e in
         let at : j ≡ length rows = omega (arith, ge, within, length_push rows row) in
         let same : row ≡ r = some_same (sym (slice_seam rows row) ∙ sym (ap (slice_get (rows ++ row ∷ [])) at) ∙ e) in
         let n : i ≡ length ps - j = omega (arith, at, count) in
-        let all : (from : Vec Bool) → slice_get reached i ≡ Some from → Row (drop i ps) s from.items r.items = λ from got. subst (λ z. Row (drop i ps) s from.items z.items) same (here from got) in
-        (subst (λ k. (from : Vec Bool) → slice_get reached k ≡ Some from → Row (drop k ps) s from.items r.items) n all, ap (λ z. length z.items) (sym same) ∙ len))
+        (subst (λ k. Row (drop k ps) s r.items) n (subst (λ z. Row (drop i ps) s z.items) same here), ap (λ z. length z.items) (sym same) ∙ len))
   ]
 
   -- the row that was pushed last
-  pub row_next : (i j : ℕ) (p : Piece) (row : Vec (Option ℕ)) → length rows + i ≡ length ps → i < length ps → p ≡ get_or ps i p → AreRows ps s reached rows →
+  pub row_next : (i j : ℕ) (p : Piece) (row : Vec (Option ℕ)) → length rows + i ≡ length ps → i < length ps → p ≡ get_or ps i p → AreRows ps s rows →
       j + 1 ≡ length rows → slice_get rows j ≡ Some row →
-      (((from : Vec Bool) → slice_get reached (i + 1) ≡ Some from → Row (drop (i + 1) ps) s from.items row.items) × (length row.items ≡ length s + 1)) × (drop i ps ≡ p ∷ drop (i + 1) ps)
+      (Row (drop (i + 1) ps) s row.items × (length row.items ≡ length s + 1)) × (drop i ps ≡ p ∷ drop (i + 1) ps)
   row_next i j p row count lt e are last at =
       let n : length ps - j ≡ i + 1 = omega (arith, count, last, lt) in
       let r = are j row at in
       let m : suc i ≡ i + 1 = omega arith in
-      ((subst (λ k. (from : Vec Bool) → slice_get reached k ≡ Some from → Row (drop k ps) s from.items row.items) n r.0, r.1), drop-cons ps i p lt ∙ ap (λ z. z ∷ drop (suc i) ps) (sym e) ∙ ap (λ k. p ∷ drop k ps) m)
+      ((subst (λ k. Row (drop k ps) s row.items) n r.0, r.1), drop-cons ps i p lt ∙ ap (λ z. z ∷ drop (suc i) ps) (sym e) ∙ ap (λ k. p ∷ drop k ps) m)
 
-pub rows_none : (ps : List Piece) (s : List ℕ) (reached : List (Vec Bool)) (row : Vec (Option ℕ)) → ((from : List Bool) → Row [] s from row.items) → length row.items ≡ length s + 1 → AreRows ps s reached ([] ++ row ∷ [])
-rows_none ps s reached row here len =
-    rows_push ps s reached [] (length ps) row (omega arith) (λ j r e. absurd (no_row j r e)) (λ from _. subst (λ z. Row z s from.items row.items) (sym (drop_all (length ps) ps (omega arith))) (here from.items)) len
+pub rows_none : (ps : List Piece) (s : List ℕ) (row : Vec (Option ℕ)) → Row [] s row.items → length row.items ≡ length s + 1 → AreRows ps s ([] ++ row ∷ [])
+rows_none ps s row here len =
+    rows_push ps s [] (length ps) row (omega arith) (λ j r e. absurd (no_row j r e)) (subst (λ z. Row z s row.items) (sym (drop_all (length ps) ps (omega arith))) here) len
   where
     no_row : (j : ℕ) (r : Vec (Option ℕ)) → slice_get [] j ≡ Some r → ⊥
     no_row j r e = omega (arith, slice_get_within [] j r e)

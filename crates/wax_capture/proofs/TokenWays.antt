@@ -1,72 +1,93 @@
--- The programs of the ways of one token.
-use Rattle.std.proofs.Common.{◌≡◌, ℕ, zero, suc, ◌+◌, ◌-◌, ◌<◌, ◌↔◌, Bool, true, List, [], ◌∷◌, length, get_or, take, drop, Err, refl, sym, ◌∙◌, ap, subst, arith, true≢false}
+-- The forms of the ways of one token.
+use Rattle.std.proofs.Common.{◌≡◌, ℕ, zero, suc, ◌+◌, ◌-◌, ◌<◌, ◌↔◌, Bool, true, false, List, [], ◌∷◌, length, get_or, take, drop, map, Err, refl, sym, ◌∙◌, ap, subst, arith, true≢false}
 use Rattle.std.proofs.lemmas.Option.{slice_get_within}
+use Rattle.unicode.specs.CaseFolding.{simple_fold}
 use Rattle.wax_program.specs.declared.instruction.Instruction.{Instruction}
 use Rattle.wax_program.specs.Machine.{Accepts}
 use Rattle.wax_query.specs.Outcome.{MatchBuild}
 use Rattle.wax_query.specs.declared.diagnostics.Refusal.{Refusal}
 use Rattle.wax_query.specs.declared.diagnostics.Refusal.TheVariants.{Refused, Memory}
-use Rattle.wax_token.specs.Cost.{cost, costs, branches_cost}
-use Rattle.wax_token.specs.Meaning.{Means, MeansEach, TreeMeans}
+use Rattle.wax_token.specs.Cost.{cost, costs}
+use Rattle.wax_token.specs.Meaning.{Means, MeansEach, SameFold, SameText, TreeMeans}
 use Rattle.wax_token.specs.Syntax.{literal, class, separator, one, zero_or_more, tree, Tree, leaf, alternation, concatenation, repetition, none, more}
 use Rattle.wax_token.specs.Words.{trees}
-use Rattle.wax_capture.specs.Captures.{First, Way, tree_capture}
+use Rattle.wax_capture.specs.Captures.{First, LeafWay, Way, tree_capture}
 use Rattle.wax_capture.specs.inner.Ways.{IsTreeToken, is_single}
-use Rattle.wax_capture.specs.Pieces.{WayIn}
-use Rattle.wax_capture.proofs.Branches.{part_same, stands}
+use Rattle.wax_capture.specs.Pieces.{SpelledBy, TakenBy, WayIn}
+use Rattle.wax_capture.specs.declared.form.Form.{Form}
 use Rattle.wax_capture.proofs.Lists.{some_same}
-
--- a part that is too costly
-pub part_costly : {A : Type 0} (ts : List (Tree A)) (i : ℕ) → i < length ts → 1048576 < costs (trees (take (i + 1 - i) (drop i ts))) + 1 → 1048576 < branches_cost (trees ts) + 1
-part_costly ts i lt h =
-    let s = stands ts i lt in
-    let f : costs (trees (take (i + 1 - i) (drop i ts))) ≡ cost s.token + 0 = ap (λ z. costs (trees z)) (part_same ts i) ∙ ap costs s.is in
-    omega (arith, h, f, s.cheap)
 
 pub refused_more : {T U E : Type 0} (e : Refusal E) (P : T → Type 0) (Q : U → Type 0) (M N : Type 0) → (M → N) → MatchBuild {T = T} (Err e) P (λ _. M) → MatchBuild {T = U} (Err e) Q (λ _. N)
 refused_more (Refused e) P Q M N f h = f h
 refused_more Memory P Q M N f h = tt
 
+-- ---- letters
+pub spelled_plain : (t x : List ℕ) → SpelledBy false t x ↔ SameText false t x
+spelled_plain [] [] = ((λ h. tt), (λ h. tt))
+spelled_plain [] (d ∷ x) = ((λ h. h), (λ h. h))
+spelled_plain (c ∷ t) [] = ((λ h. h), (λ h. h))
+spelled_plain (c ∷ t) (d ∷ x) =
+    let r : SpelledBy false t x ↔ SameText false t x = spelled_plain t x in
+    ((λ h. (sym h.0, r.0 h.1)), (λ h. (sym h.0, r.1 h.1)))
+
+pub spelled_folded : (t x : List ℕ) → SpelledBy true (map simple_fold t) x ↔ SameText true t x
+unfolding SameFold
+spelled_folded [] [] = ((λ h. tt), (λ h. tt))
+spelled_folded [] (d ∷ x) = ((λ h. h), (λ h. h))
+spelled_folded (c ∷ t) [] = ((λ h. h), (λ h. h))
+spelled_folded (c ∷ t) (d ∷ x) =
+    let r : SpelledBy true (map simple_fold t) x ↔ SameText true t x = spelled_folded t x in
+    ((λ h. (h.0, r.0 h.1)), (λ h. (h.0, r.1 h.1)))
+
 -- ---- a token's own program
-pub at_token : {A : Type 0} (ts : List (Tree A)) (i : ℕ) (t : Tree A) → i < length ts → t ≡ get_or ts i t → trees (take 1 (drop i ts)) ≡ more t none
-at_token [] i t lt e = absurd (omega (arith, lt))
-at_token (u ∷ ts) zero t lt e = ap (λ z. more z none) (sym e)
-at_token (u ∷ ts) (suc i) t lt e = at_token ts i t (omega (arith, lt)) e
+one_part : {A : Type 0} (ts : List (Tree A)) (i : ℕ) (t : Tree A) → i < length ts → t ≡ get_or ts i t → trees (take 1 (drop i ts)) ≡ more t none
+one_part [] i t lt e = absurd (omega (arith, lt))
+one_part (u ∷ ts) zero t lt e = ap (λ z. more z none) (sym e)
+one_part (u ∷ ts) (suc i) t lt e = one_part ts i t (omega (arith, lt)) e
+
+pub at_token : {A : Type 0} (ts : List (Tree A)) (i : ℕ) (t : Tree A) → i < length ts → t ≡ get_or ts i t → trees (take (i + 1 - i) (drop i ts)) ≡ more t none
+at_token ts i t lt e = let n : i + 1 - i ≡ 1 = omega arith in ap (λ k. trees (take k (drop i ts))) n ∙ one_part ts i t lt e
 
 pub token_program : {A : Type 0} (ts : List (Tree A)) (i : ℕ) (t : Tree A) → i < length ts → t ≡ get_or ts i t → (before after : Bool) (program : List Instruction × ℕ) →
     ((x : List ℕ) → Accepts program.0 0 x ↔ MeansEach (trees (take (i + 1 - i) (drop i ts))) before after x) → (x : List ℕ) → Accepts program.0 0 x ↔ Means t before after x
-token_program ts i t lt e before after program h x = subst (λ z. Accepts program.0 0 x ↔ MeansEach z before after x) (ap trees (part_same ts i) ∙ at_token ts i t lt e) (h x)
+token_program ts i t lt e before after program h x = subst (λ z. Accepts program.0 0 x ↔ MeansEach z before after x) (at_token ts i t lt e) (h x)
 
-pub first_way : (program : List Instruction × ℕ) (M : List ℕ → Type 0) → ((x : List ℕ) → Accepts program.0 0 x ↔ M x) → (k : ℕ) (x : List ℕ) → First (M x) k ↔ WayIn (program ∷ []) k x
-first_way program M h zero x = (
-  (λ m. (program, refl, (h x).1 m)),
-  (λ w. (h x).0 (subst (λ p. Accepts p.0 0 x) (some_same (sym w.1)) w.2)),
+pub token_cost : {A : Type 0} (ts : List (Tree A)) (i : ℕ) (t : Tree A) → i < length ts → t ≡ get_or ts i t → costs (trees (take (i + 1 - i) (drop i ts))) ≡ cost t
+token_cost ts i t lt e = let f : costs (trees (take (i + 1 - i) (drop i ts))) ≡ cost t + 0 = ap costs (at_token ts i t lt e) in omega (arith, f)
+
+-- ---- ways
+pub first_way : (form : Form) (M : List ℕ → Type 0) → ((x : List ℕ) → TakenBy form x ↔ M x) → (k : ℕ) (x : List ℕ) → First (M x) k ↔ WayIn (form ∷ []) k x
+first_way form M h zero x = (
+  (λ m. (form, refl, (h x).1 m)),
+  (λ w. (h x).0 (subst (λ f. TakenBy f x) (some_same (sym w.1)) w.2)),
 )
-first_way program M h (suc k) x = (
+first_way form M h (suc k) x = (
   (λ m. absurd m),
-  (λ w. absurd (past (slice_get_within (program ∷ []) (suc k) w.0 w.1))),
+  (λ w. absurd (past (slice_get_within (form ∷ []) (suc k) w.0 w.1))),
 )
   where
     past : suc k < 1 → ⊥
     past lt = omega (arith, lt)
 
-pub tree_two_ways : {A : Type 0} (t : Tree A) (rooted before after : Bool) (p q : List Instruction × ℕ) → IsTreeToken t rooted →
-    ((x : List ℕ) → Accepts p.0 0 x ↔ (TreeMeans before after rooted x × (tree_capture before rooted x ≡ []))) → ((x : List ℕ) → Accepts q.0 0 x ↔ Means t before after x) →
-    (k : ℕ) (x : List ℕ) → Way t k before after x ↔ WayIn (p ∷ q ∷ []) k x
-tree_two_ways (leaf a (tree r)) rooted before after p q is f g zero x =
-    let h : Accepts p.0 0 x ↔ (TreeMeans before after r x × (tree_capture before r x ≡ [])) = subst (λ z. Accepts p.0 0 x ↔ (TreeMeans before after z x × (tree_capture before z x ≡ []))) (sym is) (f x) in (
-      (λ m. (p, refl, h.1 m)),
-      (λ w. h.0 (subst (λ p. Accepts p.0 0 x) (some_same (sym w.1)) w.2)),
-    )
-tree_two_ways (leaf a (tree r)) rooted before after p q is f g (suc k) x = first_way q (TreeMeans before after r) g k x
-tree_two_ways (leaf a (literal i t)) rooted before after p q is f g k x = absurd is
-tree_two_ways (leaf a (class n xs)) rooted before after p q is f g k x = absurd is
-tree_two_ways (leaf a separator) rooted before after p q is f g k x = absurd is
-tree_two_ways (leaf a one) rooted before after p q is f g k x = absurd is
-tree_two_ways (leaf a (zero_or_more e)) rooted before after p q is f g k x = absurd is
-tree_two_ways (alternation a ts) rooted before after p q is f g k x = absurd is
-tree_two_ways (concatenation a ts) rooted before after p q is f g k x = absurd is
-tree_two_ways (repetition a t low high) rooted before after p q is f g k x = absurd is
+pub tree_two_ways : (rooted before after : Bool) (p q : Form) → ((x : List ℕ) → TakenBy p x ↔ (TreeMeans before after rooted x × (tree_capture before rooted x ≡ []))) →
+    ((x : List ℕ) → TakenBy q x ↔ TreeMeans before after rooted x) → (k : ℕ) (x : List ℕ) → LeafWay (tree rooted) k before after x ↔ WayIn (p ∷ q ∷ []) k x
+tree_two_ways rooted before after p q f g zero x = (
+  (λ m. (p, refl, (f x).1 m)),
+  (λ w. (f x).0 (subst (λ z. TakenBy z x) (some_same (sym w.1)) w.2)),
+)
+tree_two_ways rooted before after p q f g (suc k) x = first_way q (TreeMeans before after rooted) g k x
+
+pub tree_token_ways : {A : Type 0} (t : Tree A) (rooted before after : Bool) (forms : List Form) → IsTreeToken t rooted → ((k : ℕ) (x : List ℕ) → LeafWay (tree rooted) k before after x ↔ WayIn forms k x) →
+    (k : ℕ) (x : List ℕ) → Way t k before after x ↔ WayIn forms k x
+tree_token_ways (leaf a (tree r)) rooted before after forms is f k x = subst (λ z. LeafWay (tree z) k before after x ↔ WayIn forms k x) (sym is) (f k x)
+tree_token_ways (leaf a (literal i t)) rooted before after forms is f k x = absurd is
+tree_token_ways (leaf a (class n xs)) rooted before after forms is f k x = absurd is
+tree_token_ways (leaf a separator) rooted before after forms is f k x = absurd is
+tree_token_ways (leaf a one) rooted before after forms is f k x = absurd is
+tree_token_ways (leaf a (zero_or_more e)) rooted before after forms is f k x = absurd is
+tree_token_ways (alternation a ts) rooted before after forms is f k x = absurd is
+tree_token_ways (concatenation a ts) rooted before after forms is f k x = absurd is
+tree_token_ways (repetition a t low high) rooted before after forms is f k x = absurd is
 
 same_first : (M : Type 0) (k : ℕ) → First M k ↔ First M k
 same_first M k = ((λ h. h), (λ h. h))

@@ -1,101 +1,66 @@
-//! Which part of a text a token takes.
-ghost use Rattle.std.specs.Prelude.{◌+◌, ◌*◌, ◌≤◌, ◌∷◌, ℕ, List, IfOk, IsTrue, MatchOption, length};
-ghost use Rattle.wax_program.specs.Threads.{Has};
+//! Which part of a text a token takes, where it is known from which places on the further ones take the rest.
+ghost use Rattle.std.specs.Prelude.{◌≡◌, ◌+◌, ◌*◌, ◌≤◌, ◌∷◌, ℕ, List, IfOk, MatchOption, length, drop};
 ghost use Rattle.wax_capture.specs.Captures.{Prefers};
-ghost use Rattle.wax_capture.specs.Pieces.{instructions};
-ghost use Rattle.wax_capture.specs.inner.Rows.{IsCell, IsFilled, Tells};
-ghost use Rattle.wax_capture.specs.inner.Splits.{IsChosenBy, Splits};
+ghost use Rattle.wax_capture.specs.Pieces.{form_size, forms_of, size_of};
+ghost use Rattle.wax_capture.specs.inner.Rows.{FitsIn, IsCell, Row};
 ghost use Rattle.wax_capture.specs.declared.piece.Piece.{Piece};
 
+use crate::form::Form;
+use crate::lengths::lengths_of;
 use crate::piece::Piece;
+use crate::span::pick;
+use crate::visits::Visits;
 use std::alloc::{AllocError, Global};
-use wax_program::{Meter, run_ends};
 
-/// The greatest place that is flagged and whose cell isn't empty.
-fn longest(ends: &[bool], next: &[Option<usize>]) -> Option<usize>
-    ensures { MatchOption result ((m : ℕ) → Has ends.now m → IsFilled next.now m → ⊥)
-        (λ n. Has ends.now n × IsFilled next.now n
-        × ((m : ℕ) → Has ends.now m → IsFilled next.now m → m ≤ n)) }
-{
-    let mut n = ends.len().min(next.len());
-    while n > 0 {
-        n -= 1;
-        if ends[n] && next[n].is_some() {
-            return Some(n);
-        }
-    }
-    None
-}
-
-/// The least such place.
-fn shortest(ends: &[bool], next: &[Option<usize>]) -> Option<usize>
-    ensures { MatchOption result ((m : ℕ) → Has ends.now m → IsFilled next.now m → ⊥)
-        (λ n. Has ends.now n × IsFilled next.now n
-        × ((m : ℕ) → Has ends.now m → IsFilled next.now m → n ≤ m)) }
-{
-    for n in 0..ends.len().min(next.len()) {
-        if ends[n] && next[n].is_some() {
-            return Some(n);
-        }
-    }
-    None
-}
-
-/// The least or the greatest of them.
-fn best(ends: &[bool], next: &[Option<usize>], is_lazy: bool) -> Option<usize>
-    ensures { MatchOption result ((m : ℕ) → Has ends.now m → IsFilled next.now m → ⊥)
-        (λ n. Has ends.now n × IsFilled next.now n
-        × ((m : ℕ) → Has ends.now m → IsFilled next.now m → Prefers is_lazy n m)) }
-{
-    if is_lazy {
-        shortest(ends, next)
-    } else {
-        longest(ends, next)
-    }
-}
-
-/// How many characters at the beginning of the text the piece takes, where `next` tells from which places
-/// on, of those where the piece can end, the further pieces split the text. None, if they don't.
-fn choose(
+/// The best of the lengths from `at` on that the form takes and after which the cell isn't empty.
+fn choose_by(
     alloc: Global,
-    piece: &Piece,
+    form: &Form,
     text: &[char],
+    at: usize,
     next: &[Option<usize>],
-    ends: &mut Vec<bool>,
-    meter: &mut Meter,
+    is_lazy: bool,
+    visits: &mut Visits,
 ) -> Result<Option<usize>, AllocError>
-    ensures chosen { (ps : List Piece) → Tells piece.now ps text.now next.now
-        → IfOk result (λ r. MatchOption r (Splits (piece.now ∷ ps) text.now → ⊥)
-        (IsChosenBy piece.now ps text.now)) }
-    ensures above { meter.new ≤ meter.old + instructions piece.now.ways.items * (length text.now + 1) }
-    ensures steady { meter.old ≤ meter.new }
+    requires within { at ≤ length text.now }
+    requires next { length next.now ≡ length text.now + 1 }
+    ensures best { IfOk result (λ r. MatchOption r ((m : ℕ) → FitsIn form.now (drop at text.now) next.now at m → ⊥)
+        (λ n. FitsIn form.now (drop at text.now) next.now at n
+        × ((m : ℕ) → FitsIn form.now (drop at text.now) next.now at m → Prefers is_lazy n m))) }
+    ensures above { visits.new ≤ visits.old + form_size form.now * (length text.now + 1) }
+    ensures steady { visits.old ≤ visits.new }
 {
-    for way in &piece.ways {
-        run_ends(alloc, way, text, ends, meter)?;
-        if let Some(n) = best(ends, next, piece.is_lazy) {
+    let mut span = lengths_of(alloc, form, text, at, visits)?;
+    while let Some(n) = pick(text, at, &mut span, is_lazy, visits) {
+        if next[at + n].is_some() {
             return Ok(Some(n));
         }
     }
     Ok(None)
 }
 
-/// The same at a place that is reached, and None at another.
-pub fn choose_if(
+/// How many characters from `at` on the piece takes, where `next` is the row of the further pieces.
+pub fn choose(
     alloc: Global,
-    is_reached: bool,
     piece: &Piece,
     text: &[char],
+    at: usize,
     next: &[Option<usize>],
-    ends: &mut Vec<bool>,
-    meter: &mut Meter,
+    visits: &mut Visits,
 ) -> Result<Option<usize>, AllocError>
-    ensures cell { (ps : List Piece) → (IsTrue is_reached → Tells piece.now ps text.now next.now)
-        → IfOk result (IsCell (piece.now ∷ ps) text.now is_reached) }
-    ensures above { meter.new ≤ meter.old + instructions piece.now.ways.items * (length text.now + 1) }
-    ensures steady { meter.old ≤ meter.new }
+    requires within { at ≤ length text.now }
+    requires next { length next.now ≡ length text.now + 1 }
+    ensures cell { (ps : List Piece) → Row ps text.now next.now
+        → IfOk result (IsCell (piece.now ∷ ps) (drop at text.now)) }
+    ensures above { visits.new ≤ visits.old + size_of (forms_of piece.now.ways) * (length text.now + 1) }
+    ensures steady { visits.old ≤ visits.new }
 {
-    if !is_reached {
-        return Ok(None);
+    let forms = piece.ways.forms();
+    for index in 0..forms.len() {
+        let form = &forms[index];
+        if let Some(n) = choose_by(alloc, form, text, at, next, piece.is_lazy, visits)? {
+            return Ok(Some(n));
+        }
     }
-    choose(alloc, piece, text, next, ends, meter)
+    Ok(None)
 }

@@ -4,13 +4,19 @@
 mod build;
 mod bytes;
 mod choice;
+mod form;
+mod leaves;
+mod lengths;
 mod matching;
 mod piece;
-mod reach;
+mod size;
+mod span;
 mod split;
 mod table;
 mod tokens;
+mod trial;
 mod uncaptured;
+mod visits;
 mod ways;
 
 pub use matching::Pieces;

@@ -1,5 +1,5 @@
 //! Which texts tokens mean, and what they capture of them.
-ghost use Rattle.std.specs.Prelude.{◌+◌, ◌<◌, ◌≤◌, false, IfOk, chars};
+ghost use Rattle.std.specs.Prelude.{◌+◌, ◌*◌, ◌<◌, ◌≤◌, false, IfOk, chars};
 ghost use Rattle.wax_query.specs.Outcome.{MatchBuild};
 ghost use Rattle.wax_token.specs.Cost.{costs};
 ghost use Rattle.wax_token.specs.Reads.{Span};
@@ -12,43 +12,57 @@ ghost use Rattle.wax_capture.specs.Pieces.{ArePieces};
 use crate::build::pieces_of;
 use crate::bytes::{characters, to_bytes};
 use crate::piece::Piece;
+use crate::size::size_of_all;
 use crate::split::split;
+use crate::visits::Visits;
 use std::alloc::Global;
 use std::marker::Model;
 use wax_candidate::MatchedText;
 use wax_match::encode::CompileError;
-use wax_program::Meter;
 use wax_query::diagnostics::{NoMemory, Refusal};
 use wax_token::token::Token;
 
-/// For each top-level token its programs, which of its pieces is chosen and what is captured of it. It holds
+/// For each top-level token what its pieces are, which of them is chosen and what is captured of it. It holds
 /// no tokens.
 pub struct Pieces {
     pieces: Vec<Piece>,
+    /// How much they come to.
+    size: usize,
 }
 
 // Written out, so that a crate that drops pieces needn't prove again how their programs are dropped.
 impl Drop for Pieces {
     fn drop(self) {
-        let Pieces { pieces: _ } = self;
+        let Pieces { pieces: _, size: _ } = self;
     }
 }
 
 impl Model for Pieces {
-    ghost use Rattle.std.specs.Prelude.{List};
+    ghost use Rattle.std.specs.Prelude.{List, ◌≤◌};
     ghost use Rattle.std.specs.Coded.{coded_list};
     ghost use Rattle.wax_capture.specs.declared.piece.Piece.{Piece};
     ghost use Rattle.wax_capture.specs.contracts.piece.Piece as piece;
+    ghost use Rattle.wax_capture.specs.inner.Splits.{all_sizes};
 
     ghost Value = { List Piece };
 
     ghost coded = { coded_list piece.the_row.coded };
 
     ghost view = { λ p. p.pieces.items };
+
+    ghost invariant = { λ p. p.size ≤ all_sizes p.pieces.items };
+}
+
+/// How often a trial may look at characters of a text of so many.
+fn limit(size: usize, len: usize) -> usize
+    ensures { result ≤ size * ((len + 1) * (len + 1)) }
+{
+    let side = len.saturating_add(1);
+    size.saturating_mul(side.saturating_mul(side))
 }
 
 impl Pieces {
-    /// The pieces of tokens that stand one after another, with nothing around them. Refused with 9 where
+    /// The pieces of tokens that stand one after another, with nothing around them. Refused with 9 only where
     /// their cost plus 1 is above 1,048,576, and with 10 where memory is. It takes time and memory of the
     /// order of the tokens and their cost.
     pub fn new<'t, A>(
@@ -59,7 +73,10 @@ impl Pieces {
             (λ _. 1048576 < costs (trees tokens.now) + 1) }
     {
         match pieces_of(alloc, tokens) {
-            Ok(pieces) => Ok(Pieces { pieces }),
+            Ok(pieces) => {
+                let size = size_of_all(pieces.as_slice());
+                Ok(Pieces { pieces, size })
+            }
             Err(refusal) => Err(refusal),
         }
     }
@@ -81,18 +98,19 @@ impl Pieces {
         ensures above { (ts : Trees Span) → ArePieces ts false false self.now
             → IfOk result (λ answer. answer.1 ≤ cube_visits (costs ts + 1) (chars text.now)) }
     {
-        let mut meter = Meter::new();
+        let mut visits = Visits::new();
         let characters = characters(alloc, text)?;
         let found = split(
             alloc,
             self.pieces.as_slice(),
             characters.as_slice(),
-            &mut meter,
+            limit(self.size, characters.len()),
+            &mut visits,
         )?;
         let Some(parts) = found else {
-            return Ok((None, meter.ticks()));
+            return Ok((None, visits.count()));
         };
         let captures = to_bytes(alloc, text, characters.as_slice(), parts)?;
-        Ok((Some(MatchedText::new(text, captures)), meter.ticks()))
+        Ok((Some(MatchedText::new(text, captures)), visits.count()))
     }
 }

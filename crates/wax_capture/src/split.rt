@@ -5,13 +5,13 @@ ghost use Rattle.std.specs.List.{All};
 ghost use Rattle.wax_capture.specs.Captures.{tree_capture};
 ghost use Rattle.wax_capture.specs.Pieces.{captured_by};
 ghost use Rattle.wax_capture.specs.inner.Parts.{IsWithin, between, parts};
-ghost use Rattle.wax_capture.specs.inner.Splits.{CapturedBy, Splits, all_instructions};
+ghost use Rattle.wax_capture.specs.inner.Splits.{AreChosen, CapturedBy, Splits, all_sizes};
 
 use crate::piece::{Capture, Piece};
-use crate::reach::reach;
-use crate::table::table;
+use crate::table::split_by_table;
+use crate::trial::{Trial, split_by_trial};
+use crate::visits::Visits;
 use std::alloc::{AllocError, Global};
-use wax_program::Meter;
 
 /// Where the part of `n` characters from `at` on ends, or `at` where it is one `/`.
 fn end_unless_slash(text: &[char], at: usize, n: usize) -> usize
@@ -49,34 +49,69 @@ fn add_capture(
     Ok(())
 }
 
-/// The captures of the pieces, each as the place where it begins and the place after its end. None, where
-/// the pieces don't split the text.
+/// The captures of pieces of these lengths, each as the place where it begins and the place after its end.
+fn captures_of(
+    alloc: Global,
+    pieces: &[Piece],
+    text: &[char],
+    lengths: &[usize],
+) -> Result<Vec<(usize, usize)>, AllocError>
+    requires { AreChosen pieces.now text.now lengths.now }
+    ensures captured { IfOk result (λ captures. CapturedBy pieces.now text.now (parts text.now captures.items)) }
+    ensures within { IfOk result (λ captures. All (IsWithin text.now) captures.items) }
+{
+    let mut captures = Vec::new(alloc);
+    let mut at = 0;
+    for index in 0..pieces.len() {
+        let n = lengths[index];
+        add_capture(pieces[index].capture, text, at, n, &mut captures)?;
+        at += n;
+    }
+    Ok(captures)
+}
+
+/// The lengths of the pieces by the chosen split: by trial, and by a table where that takes too long. None,
+/// where the pieces don't split the text.
+fn lengths_of(
+    alloc: Global,
+    pieces: &[Piece],
+    text: &[char],
+    limit: usize,
+    visits: &mut Visits,
+) -> Result<Option<Vec<usize>>, AllocError>
+    requires { limit ≤ all_sizes pieces.now * ((length text.now + 1) * (length text.now + 1)) }
+    ensures chosen { IfOk result (λ r. MatchOption r (Splits pieces.now text.now → ⊥)
+        (λ lengths. AreChosen pieces.now text.now lengths.items)) }
+    ensures above { visits.new
+        ≤ visits.old + 4 * (all_sizes pieces.now * ((length text.now + 1) * (length text.now + 1))) }
+    ensures steady { visits.old ≤ visits.new }
+{
+    match split_by_trial(alloc, pieces, text, limit, visits)? {
+        Trial::Chosen(lengths) => Ok(Some(lengths)),
+        Trial::Nothing => Ok(None),
+        Trial::Unknown => split_by_table(alloc, pieces, text, visits),
+    }
+}
+
+/// The captures of the pieces by the chosen split, each as the place where it begins and the place after its
+/// end. None, where the pieces don't split the text.
 pub fn split(
     alloc: Global,
     pieces: &[Piece],
     text: &[char],
-    meter: &mut Meter,
+    limit: usize,
+    visits: &mut Visits,
 ) -> Result<Option<Vec<(usize, usize)>>, AllocError>
+    requires { limit ≤ all_sizes pieces.now * ((length text.now + 1) * (length text.now + 1)) }
     ensures captured { IfOk result (λ r. MatchOption r (Splits pieces.now text.now → ⊥)
         (λ captures. CapturedBy pieces.now text.now (parts text.now captures.items))) }
     ensures within { IfOk result (λ r. IfSome r (λ captures. All (IsWithin text.now) captures.items)) }
-    ensures above { meter.new
-        ≤ meter.old + 2 * (all_instructions pieces.now * ((length text.now + 1) * (length text.now + 1))) }
-    ensures steady { meter.old ≤ meter.new }
+    ensures above { visits.new
+        ≤ visits.old + 4 * (all_sizes pieces.now * ((length text.now + 1) * (length text.now + 1))) }
+    ensures steady { visits.old ≤ visits.new }
 {
-    let reached = reach(alloc, pieces, text, meter)?;
-    let rows = table(alloc, pieces, text, reached.as_slice(), meter)?;
-    if rows[pieces.len()][0].is_none() {
-        return Ok(None);
+    match lengths_of(alloc, pieces, text, limit, visits)? {
+        Some(lengths) => Ok(Some(captures_of(alloc, pieces, text, lengths.as_slice())?)),
+        None => Ok(None),
     }
-    let mut captures = Vec::new(alloc);
-    let mut at = 0;
-    for index in 0..pieces.len() {
-        let Some(n) = rows[pieces.len() - index][at] else {
-            return Ok(None);
-        };
-        add_capture(pieces[index].capture, text, at, n, &mut captures)?;
-        at += n;
-    }
-    Ok(Some(captures))
 }

@@ -1,18 +1,18 @@
 //! How many characters each piece takes from each place of a text on.
-ghost use Rattle.std.specs.Prelude.{◌≡◌, ◌+◌, ◌*◌, ◌≤◌, ◌∷◌, [], ℕ, List, Bool, Option, IfOk, length};
-ghost use Rattle.wax_capture.specs.Pieces.{instructions};
-ghost use Rattle.wax_capture.specs.inner.Rows.{AreReached, AreRows, LeadsTo, Row};
-ghost use Rattle.wax_capture.specs.inner.Splits.{all_instructions};
+ghost use Rattle.std.specs.Prelude.{◌≡◌, ◌+◌, ◌*◌, ◌≤◌, ◌∷◌, [], ◌++◌, ℕ, List, IfOk, MatchOption, length};
+ghost use Rattle.wax_capture.specs.Pieces.{forms_of, size_of};
+ghost use Rattle.wax_capture.specs.inner.Rows.{AreRows, Row};
+ghost use Rattle.wax_capture.specs.inner.Splits.{AreChosen, Splits, all_sizes};
 ghost use Rattle.wax_capture.specs.declared.piece.Piece.{Piece};
 
-use crate::choice::choose_if;
+use crate::choice::choose;
 use crate::piece::Piece;
+use crate::visits::Visits;
 use std::alloc::{AllocError, Global};
-use wax_program::Meter;
 
 /// The row of no piece: it splits what is left at the text's end alone.
 fn last_row(alloc: Global, text: &[char]) -> Result<Vec<Option<usize>>, AllocError>
-    ensures row { (reached : List Bool) → IfOk result (λ r. Row [] text.now reached r.items) }
+    ensures row { IfOk result (λ r. Row [] text.now r.items) }
     ensures len { IfOk result (λ r. length r.items ≡ length text.now + 1) }
 {
     let mut row = vec![in alloc; None; text.len()]?;
@@ -25,54 +25,37 @@ fn row_before(
     alloc: Global,
     piece: &Piece,
     text: &[char],
-    reached: &[bool],
     next: &[Option<usize>],
-    meter: &mut Meter,
+    visits: &mut Visits,
 ) -> Result<Vec<Option<usize>>, AllocError>
-    requires reached { length reached.now ≡ length text.now + 1 }
-    requires next { length next.now ≡ length text.now + 1 }
-    ensures row { (ps : List Piece) (onward : List Bool)
-        → Row ps text.now onward next.now → LeadsTo piece.now text.now reached.now onward
-        → IfOk result (λ r. Row (piece.now ∷ ps) text.now reached.now r.items) }
+    requires { length next.now ≡ length text.now + 1 }
+    ensures row { (ps : List Piece) → Row ps text.now next.now
+        → IfOk result (λ r. Row (piece.now ∷ ps) text.now r.items) }
     ensures len { IfOk result (λ r. length r.items ≡ length text.now + 1) }
-    ensures above { meter.new
-        ≤ meter.old + instructions piece.now.ways.items * ((length text.now + 1) * (length text.now + 1)) }
-    ensures steady { meter.old ≤ meter.new }
+    ensures above { visits.new ≤ visits.old
+        + size_of (forms_of piece.now.ways) * ((length text.now + 1) * (length text.now + 1)) }
+    ensures steady { visits.old ≤ visits.new }
 {
-    let mut ends = Vec::with_capacity(alloc, next.len())?;
     let mut row = Vec::with_capacity(alloc, next.len())?;
     for at in 0..next.len() {
-        let is_reached = reached[at];
-        let rest = &text[at..];
-        let cell = choose_if(
-            alloc,
-            is_reached,
-            piece,
-            rest,
-            &next[at..],
-            &mut ends,
-            meter,
-        )?;
+        let cell = choose(alloc, piece, text, at, next, visits)?;
         row.push(cell)?;
     }
     Ok(row)
 }
 
 /// The rows of the last pieces, from that of none on.
-pub fn table(
+fn table(
     alloc: Global,
     pieces: &[Piece],
     text: &[char],
-    reached: &[Vec<bool>],
-    meter: &mut Meter,
+    visits: &mut Visits,
 ) -> Result<Vec<Vec<Option<usize>>>, AllocError>
-    requires reached { AreReached pieces.now text.now reached.now }
-    requires count { length reached.now ≡ length pieces.now + 1 }
-    ensures rows { IfOk result (λ rows. AreRows pieces.now text.now reached.now rows.items) }
+    ensures rows { IfOk result (λ rows. AreRows pieces.now text.now rows.items) }
     ensures len { IfOk result (λ rows. length rows.items ≡ length pieces.now + 1) }
-    ensures above { meter.new
-        ≤ meter.old + all_instructions pieces.now * ((length text.now + 1) * (length text.now + 1)) }
-    ensures steady { meter.old ≤ meter.new }
+    ensures above { visits.new
+        ≤ visits.old + all_sizes pieces.now * ((length text.now + 1) * (length text.now + 1)) }
+    ensures steady { visits.old ≤ visits.new }
 {
     let mut rows: Vec<Vec<Option<usize>>> = Vec::new(alloc);
     let none = last_row(alloc, text)?;
@@ -81,9 +64,38 @@ pub fn table(
     while index > 0 {
         index -= 1;
         let next = &rows[pieces.len() - 1 - index];
-        let here = &reached[index];
-        let row = row_before(alloc, &pieces[index], text, here, next, meter)?;
+        let row = row_before(alloc, &pieces[index], text, next, visits)?;
         rows.push(row)?;
     }
     Ok(rows)
+}
+
+/// The lengths of the pieces by the chosen split, in time of the order of the pieces times the square of the
+/// text's length. None, where the pieces don't split the text.
+pub fn split_by_table(
+    alloc: Global,
+    pieces: &[Piece],
+    text: &[char],
+    visits: &mut Visits,
+) -> Result<Option<Vec<usize>>, AllocError>
+    ensures chosen { IfOk result (λ r. MatchOption r (Splits pieces.now text.now → ⊥)
+        (λ lengths. AreChosen pieces.now text.now lengths.items)) }
+    ensures above { visits.new
+        ≤ visits.old + all_sizes pieces.now * ((length text.now + 1) * (length text.now + 1)) }
+    ensures steady { visits.old ≤ visits.new }
+{
+    let rows = table(alloc, pieces, text, visits)?;
+    if rows[pieces.len()][0].is_none() {
+        return Ok(None);
+    }
+    let mut lengths = Vec::new(alloc);
+    let mut at = 0;
+    for index in 0..pieces.len() {
+        let Some(n) = rows[pieces.len() - index][at] else {
+            return Ok(None);
+        };
+        lengths.push(n)?;
+        at += n;
+    }
+    Ok(Some(lengths))
 }

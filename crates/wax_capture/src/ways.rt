@@ -1,119 +1,132 @@
-//! The programs of the ways of a token to mean a piece.
-ghost use Rattle.std.specs.Prelude.{◌≡◌, ◌+◌, ◌*◌, ◌<◌, ◌≤◌, ◌↔◌, ◌∷◌, [], ◌++◌, ℕ, List, IfOk, OnOk};
+//! The forms of the ways of a token to mean a piece.
+ghost use Rattle.std.specs.Prelude.{◌≡◌, ◌+◌, ◌<◌, ◌≤◌, ◌↔◌, ◌∷◌, [], ◌++◌, ℕ, List, IfOk, OnOk};
 ghost use Rattle.std.specs.Prelude.{length, true};
 ghost use Rattle.wax_query.specs.Outcome.{MatchBuild};
 ghost use Rattle.wax_token.specs.Cost.{branches_cost, cost};
-ghost use Rattle.wax_token.specs.Syntax.{Tree};
+ghost use Rattle.wax_token.specs.Meaning.{Means};
+ghost use Rattle.wax_token.specs.Syntax.{Tree, tree};
 ghost use Rattle.wax_token.specs.Words.{trees};
-ghost use Rattle.wax_capture.specs.Captures.{MeansBranch, Way};
-ghost use Rattle.wax_capture.specs.Pieces.{WayIn, instructions};
-ghost use Rattle.wax_capture.specs.inner.Ways.{IsAt, IsTreeToken, is_single};
+ghost use Rattle.wax_capture.specs.Captures.{LeafWay, MeansBranch, Way};
+ghost use Rattle.wax_capture.specs.Pieces.{TakenBy, WayIn, form_size, forms_of, size_of};
+ghost use Rattle.wax_capture.specs.inner.Ways.{IsAt, is_single};
 
+use crate::form::Form;
+use crate::leaves::{form_of_leaf, lone_leaf};
+use crate::piece::Ways;
 use crate::tokens::tree_root;
 use crate::uncaptured::nothing_captured;
 use std::alloc::{AllocError, Global};
 use wax_match::encode::{CompileError, compile};
-use wax_program::Program;
 use wax_query::diagnostics::Refusal;
 use wax_token::token::{BranchKind, Token, Topology};
 
-/// Adds a program.
-fn add_way(ways: &mut Vec<Program>, program: Program) -> Result<(), AllocError>
-    ensures { OnOk result (ways.new.items ≡ ways.old.items ++ program ∷ []) }
+/// Adds a form.
+fn add_form(forms: &mut Vec<Form>, form: Form) -> Result<(), AllocError>
+    ensures { OnOk result (forms.new.items ≡ forms.old.items ++ form ∷ []) }
 {
-    ways.push(program)?;
+    forms.push(form)?;
     Ok(())
 }
 
-/// The programs of the branches.
+/// The form of a token: of a leaf without a program.
+fn form_of<'t, A>(
+    alloc: Global,
+    tokens: &[Token<'t, A>],
+    index: usize,
+    before: bool,
+    after: bool,
+) -> Result<Form, Refusal<CompileError>>
+    requires { index < length tokens.now }
+    ensures means { IfOk result (λ form. (t : Tree A) → IsAt tokens.now index t
+        → (x : List ℕ) → TakenBy form x ↔ Means t before after x) }
+    ensures few { MatchBuild result
+        (λ form. (t : Tree A) → IsAt tokens.now index t → form_size form ≤ cost t)
+        (λ _. (t : Tree A) → IsAt tokens.now index t → 1048576 < cost t + 1) }
+{
+    if let Some(leaf) = lone_leaf(&tokens[index]) {
+        return Ok(form_of_leaf(alloc, leaf, before, after)?);
+    }
+    match compile(alloc, &tokens[index..index + 1], before, after) {
+        Ok(program) => Ok(Form::Coded(program)),
+        Err(refusal) => Err(refusal),
+    }
+}
+
+/// The forms of the branches.
 fn branch_ways<'t, A>(
     alloc: Global,
     branches: &[Token<'t, A>],
     before: bool,
     after: bool,
-) -> Result<Vec<Program>, Refusal<CompileError>>
+) -> Result<Ways, Refusal<CompileError>>
     ensures ways { IfOk result (λ ways. (k : ℕ) (x : List ℕ)
-        → MeansBranch (trees branches.now) k before after x ↔ WayIn ways.items k x) }
-    ensures few { MatchBuild result (λ ways. instructions ways.items ≤ branches_cost (trees branches.now))
+        → MeansBranch (trees branches.now) k before after x ↔ WayIn (forms_of ways) k x) }
+    ensures few { MatchBuild result (λ ways. size_of (forms_of ways) ≤ branches_cost (trees branches.now))
         (λ _. 1048576 < branches_cost (trees branches.now) + 1) }
 {
-    let mut ways = Vec::new(alloc);
+    let mut forms = Vec::with_capacity(alloc, branches.len())?;
     for index in 0..branches.len() {
-        let program = match compile(alloc, &branches[index..index + 1], before, after) {
-            Ok(program) => program,
+        let form = match form_of(alloc, branches, index, before, after) {
+            Ok(form) => form,
             Err(refusal) => return Err(refusal),
         };
-        add_way(&mut ways, program)?;
+        add_form(&mut forms, form)?;
     }
-    Ok(ways)
+    Ok(Ways::Each(forms))
 }
 
-/// The program of a token's one way.
+/// The form of a token's one way.
 fn one_way<'t, A>(
     alloc: Global,
     tokens: &[Token<'t, A>],
     index: usize,
     before: bool,
     after: bool,
-) -> Result<Vec<Program>, Refusal<CompileError>>
+) -> Result<Ways, Refusal<CompileError>>
     requires { index < length tokens.now }
     ensures ways { IfOk result (λ ways. (t : Tree A)
         → IsAt tokens.now index t → is_single t ≡ true
-        → (k : ℕ) (x : List ℕ) → Way t k before after x ↔ WayIn ways.items k x) }
+        → (k : ℕ) (x : List ℕ) → Way t k before after x ↔ WayIn (forms_of ways) k x) }
     ensures few { MatchBuild result
-        (λ ways. (t : Tree A) → IsAt tokens.now index t → instructions ways.items ≤ cost t)
+        (λ ways. (t : Tree A) → IsAt tokens.now index t → size_of (forms_of ways) ≤ cost t)
         (λ _. (t : Tree A) → IsAt tokens.now index t → 1048576 < cost t + 1) }
 {
-    let program = match compile(alloc, &tokens[index..index + 1], before, after) {
-        Ok(program) => program,
-        Err(refusal) => return Err(refusal),
-    };
-    let mut ways = Vec::new(alloc);
-    add_way(&mut ways, program)?;
-    Ok(ways)
+    match form_of(alloc, tokens, index, before, after) {
+        Ok(form) => Ok(Ways::Only(form)),
+        Err(refusal) => Err(refusal),
+    }
 }
 
-/// The programs of a tree wildcard's ways.
-fn tree_ways<'t, A>(
-    alloc: Global,
-    tokens: &[Token<'t, A>],
-    index: usize,
-    before: bool,
-    after: bool,
-    has_root: bool,
-) -> Result<Vec<Program>, Refusal<CompileError>>
-    requires { index < length tokens.now }
-    ensures ways { IfOk result (λ ways. (t : Tree A)
-        → IsAt tokens.now index t → IsTreeToken t has_root
-        → (k : ℕ) (x : List ℕ) → Way t k before after x ↔ WayIn ways.items k x) }
-    ensures few { MatchBuild result
-        (λ ways. (t : Tree A) → IsAt tokens.now index t → instructions ways.items ≤ 2 + cost t)
-        (λ _. (t : Tree A) → IsAt tokens.now index t → 1048576 < cost t + 1) }
+/// The forms of a tree wildcard's ways.
+fn tree_ways(alloc: Global, before: bool, after: bool, has_root: bool) -> Result<Ways, AllocError>
+    ensures ways { IfOk result (λ ways. (k : ℕ) (x : List ℕ)
+        → LeafWay (tree has_root) k before after x ↔ WayIn (forms_of ways) k x) }
+    ensures few { IfOk result (λ ways. size_of (forms_of ways) ≤ 3) }
 {
-    let mut ways = Vec::new(alloc);
-    let nothing = nothing_captured(alloc, before, after, has_root)?;
-    add_way(&mut ways, nothing)?;
-    let program = match compile(alloc, &tokens[index..index + 1], before, after) {
-        Ok(program) => program,
-        Err(refusal) => return Err(refusal),
+    let mut forms = Vec::with_capacity(alloc, 2)?;
+    add_form(&mut forms, nothing_captured(before, after, has_root))?;
+    let whole = Form::Tree {
+        before,
+        after,
+        has_root,
     };
-    add_way(&mut ways, program)?;
-    Ok(ways)
+    add_form(&mut forms, whole)?;
+    Ok(Ways::Each(forms))
 }
 
-/// The programs of a token's ways.
+/// The forms of a token's ways.
 pub fn ways_of<'t, A>(
     alloc: Global,
     tokens: &[Token<'t, A>],
     index: usize,
     before: bool,
     after: bool,
-) -> Result<Vec<Program>, Refusal<CompileError>>
+) -> Result<Ways, Refusal<CompileError>>
     requires { index < length tokens.now }
     ensures ways { IfOk result (λ ways. (t : Tree A) → IsAt tokens.now index t
-        → (k : ℕ) (x : List ℕ) → Way t k before after x ↔ WayIn ways.items k x) }
+        → (k : ℕ) (x : List ℕ) → Way t k before after x ↔ WayIn (forms_of ways) k x) }
     ensures few { MatchBuild result
-        (λ ways. (t : Tree A) → IsAt tokens.now index t → instructions ways.items ≤ 2 * cost t)
+        (λ ways. (t : Tree A) → IsAt tokens.now index t → size_of (forms_of ways) ≤ cost t)
         (λ _. (t : Tree A) → IsAt tokens.now index t → 1048576 < cost t + 1) }
 {
     let token = &tokens[index];
@@ -124,7 +137,7 @@ pub fn ways_of<'t, A>(
             BranchKind::Repetition(_) => one_way(alloc, tokens, index, before, after),
         },
         Topology::Leaf(_) => match tree_root(token) {
-            Some(has_root) => tree_ways(alloc, tokens, index, before, after, has_root),
+            Some(has_root) => Ok(tree_ways(alloc, before, after, has_root)?),
             None => one_way(alloc, tokens, index, before, after),
         },
     }

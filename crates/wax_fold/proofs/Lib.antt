@@ -5,5 +5,4 @@ pub mod Maps
 pub mod Levels
 pub mod Walks
 pub mod Whole
-pub mod Finding
 pub mod Splits

@@ -3,4 +3,3 @@ pub mod OpenBranches
 pub mod WalkSteps
 pub mod Opens
 pub mod OpenTokens
-pub mod Examples

@@ -1,11 +1,13 @@
-//! Tests of the commands, of lines and of walks. They stand in a crate of their own, since a crate with
-//! tests is proved twice.
+//! Tests of the commands, of lines, of folds and of walks. They stand in a crate of their own, since a
+//! crate with tests is proved twice.
 #![tactic(auto)]
 
 #[cfg(test)]
 mod commands;
 #[cfg(test)]
 mod escapes;
+#[cfg(test)]
+mod folds;
 #[cfg(test)]
 mod lines;
 #[cfg(test)]

@@ -1,5 +1,5 @@
 -- A walk, when it is made and where memory was refused for its start.
-use Rattle.std.proofs.Common.{◌≡◌, ℕ, ◌+◌, ◌-◌, ◌^◌, ◌≤◌, length, true, false, List, [], ◌∷◌, ◌++◌, refl, sym}
+use Rattle.std.proofs.Common.{◌≡◌, ℕ, ◌+◌, ◌-◌, ◌^◌, ◌<◌, ◌≤◌, length, true, false, List, [], ◌∷◌, ◌++◌, refl, sym}
 use Rattle.std.proofs.Common.{ap, subst, ◌∙◌, arith, string_bytes, length-append}
 use Rattle.std.specs.Prelude.{Option, Some, None, String}
 use Rattle.std.specs.declared.alloc.Global.{Global}
@@ -12,7 +12,7 @@ use Rattle.wax_tree.specs.declared.steps.Place.{Place}
 use Rattle.wax_tree.specs.declared.steps.Range.{Range}
 use Rattle.wax_tree.specs.declared.steps.Steps.{Steps}
 use Rattle.wax_tree.specs.declared.walk_tree.WalkTree.{WalkTree}
-use Rattle.wax_tree.specs.Begins.{Begins, BeginsAt}
+use Rattle.wax_tree.specs.Begins.{Begins, BeginsAt, HasEnded, LacksMemory, Way}
 use Rattle.wax_tree.specs.Lacking.{MayCome, lacks, goes, tree_view}
 use Rattle.wax_tree.specs.Plain.{Spot, count_shown}
 use Rattle.wax_tree.specs.Prefix.{ArePlain, from_last, walk_from}
@@ -122,6 +122,30 @@ module _ {D C : Type 0} (law : Law D C) where
     known : (p : Pending Given) → MayCome law w p → GivesOrStops (tree_view law w) p r (tree_view law v)
     known p (lacks t told) = absurd (let b : true ≡ false = sym t ∙ e in (cc))
     known p (goes t c) = goes_on w v p r d (f.gives p c)
+
+-- where there are more names than the greatest depth, nothing comes
+pub ended_at : {D C : Type 0} (law : Law D C) (d : D) (way : Way) (range : Range) (view : WalkView D)
+    → HasEnded law d range view → range.max < length way.names → BeginsAt law d way range view
+ended_at law d way range view h l = record {
+  shown = λ s listed k told p m. absurd (omega (arith, l, m));
+  beyond = λ s listed k told m. h.comes way.path s listed k told;
+  above = λ m. h.ended;
+  listings = h.listings;
+  names = omega (arith, h.names);
+  directory = h.directory;
+}
+
+-- where memory was refused, want of it comes
+pub lacking_at : {D C : Type 0} (law : Law D C) (d : D) (way : Way) (range : Range) (view : WalkView D)
+    → LacksMemory law d range view → length way.names ≤ range.max → BeginsAt law d way range view
+lacking_at law d way range view h l = record {
+  shown = λ s listed k told p m. h.comes _ told;
+  beyond = λ s listed k told m. h.comes _ told;
+  above = λ m. absurd (omega (arith, l, m));
+  listings = h.listings;
+  names = omega (arith, h.names);
+  directory = h.directory;
+}
 
 pub from_last_length : (names : List (String Global)) → length (from_last names) ≡ length names
 from_last_length [] = refl

@@ -8,7 +8,8 @@ use Rattle.wax_directory.specs.Shown.{Shown}
 use Rattle.wax_tree.specs.declared.steps.Range.{Range}
 use Rattle.wax_tree.specs.Plain.{Scope, plain, count_shown}
 use Rattle.wax_tree.specs.Prefix.{ArePlain, walk_from}
-use Rattle.wax_walk.specs.Forest.{pending, nothing}
+use Rattle.wax_walk.specs.Forest.{Pending, pending, nothing}
+use Rattle.wax_walk.specs.Given.{Given}
 use Rattle.wax_walk.specs.View.{WalkView}
 
 -- the greatest depth, where no walk counts further
@@ -62,4 +63,20 @@ pub record BeginsAt {D C : Type 0} (law : Law D C) (d : D) (way : Way) (range : 
   pub above : range.max < length way.names → view.has_ended
   pub listings : view.listings_left ≡ range.budget + 1
   pub names : view.names_left ≤ length way.names
+  pub directory : view.directory ≡ d
+
+-- a walk over this directory of which nothing comes
+pub record HasEnded {D C : Type 0} (law : Law D C) (d : D) (range : Range) (view : WalkView D) : Type 0 where
+  pub comes : (path : List ℕ) (s : Shown) (listed : List (List ℕ)) → law.shows d path s → law.tells d listed
+      → view.to_come (pending nothing nothing listed 0)
+  pub ended : view.has_ended
+  pub listings : view.listings_left ≡ range.budget + 1
+  pub names : view.names_left ≡ 0
+  pub directory : view.directory ≡ d
+
+-- a walk over this directory for whose start there was no memory: whatever is to come, want of memory comes
+pub record LacksMemory {D C : Type 0} (law : Law D C) (d : D) (range : Range) (view : WalkView D) : Type 0 where
+  pub comes : (p : Pending Given) → law.tells d p.listed → view.to_come p
+  pub listings : view.listings_left ≡ range.budget + 1
+  pub names : view.names_left ≡ 0
   pub directory : view.directory ≡ d

@@ -53,6 +53,19 @@ fn greatest_or_all(depth: &DepthBehavior) -> usize
     }
 }
 
+impl WalkBehavior {
+    /// The depths and the budget as numbers; where there is no greatest depth, the greatest number.
+    pub fn range(&self) -> Range
+        ensures { result ≡ range_of self.now }
+    {
+        Range {
+            min: self.depth.least(),
+            max: greatest_or_all(&self.depth),
+            budget: self.budget,
+        }
+    }
+}
+
 // The walk from a path.
 pub(crate) fn walk_from<D: Directory>(
     alloc: Global,
@@ -64,12 +77,7 @@ pub(crate) fn walk_from<D: Directory>(
         (⟦<WalkTree<D> as FileIterator>⟧.view result) }
     ensures gives { AtMost (2 * behavior.budget + 3) (⟦<WalkTree<D> as SeparatingFilter>⟧.left result) }
 {
-    let range = Range {
-        min: behavior.depth.least(),
-        max: greatest_or_all(&behavior.depth),
-        budget: behavior.budget,
-    };
-    WalkTree::with_range(alloc, directory, start, range)
+    WalkTree::with_range(alloc, directory, start, behavior.range())
 }
 
 impl<'a> PathExt for &'a str {

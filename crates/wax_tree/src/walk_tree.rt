@@ -3,7 +3,7 @@
 ghost use Rattle.std.specs.Prelude.{◌≡◌, ◌+◌, ◌*◌, string_bytes, IfOk};
 ghost use Rattle.std.specs.Iterator.{at_most};
 ghost use Rattle.wax_filter.specs.Feeding.{NextFiltrate};
-ghost use Rattle.wax_tree.specs.Begins.{AtMost, Begins, BeginsAt};
+ghost use Rattle.wax_tree.specs.Begins.{AtMost, Begins, BeginsAt, HasEnded, LacksMemory};
 ghost use Rattle.wax_tree.specs.Lacking.{tree_view, gives_at_most};
 ghost use Rattle.wax_tree.specs.Prefix.{from_last};
 ghost use Rattle.wax_walk.specs.Entries.{entry_in, facts_of, answer_of};
@@ -106,26 +106,39 @@ impl<D: Directory> WalkTree<D> {
         ensures gives { AtMost (2 * range.budget + 3) (⟦<WalkTree<D> as SeparatingFilter>⟧.left result) }
     {
         if range.max < names.len() {
-            return WalkTree {
-                steps: Steps::new(alloc, directory, None, String::new(alloc), range),
-                lacks_memory: false,
-            };
+            return WalkTree::ended(alloc, directory, range);
         }
         let Ok(root) = String::from_str(alloc, root) else {
-            return WalkTree {
-                steps: Steps::new(alloc, directory, None, String::new(alloc), range),
-                lacks_memory: true,
-            };
+            return WalkTree::refused(alloc, directory, range);
         };
         match place_at(alloc, start, candidate, names) {
             Ok(place) => WalkTree {
                 steps: Steps::new(alloc, directory, Some(place), root, range),
                 lacks_memory: false,
             },
-            Err(_) => WalkTree {
-                steps: Steps::new(alloc, directory, None, root, range),
-                lacks_memory: true,
-            },
+            Err(_) => WalkTree::refused(alloc, directory, range),
+        }
+    }
+
+    /// A walk that has ended: nothing comes, and nothing is asked.
+    pub fn ended(alloc: Global, directory: D, range: Range) -> WalkTree<D>
+        ensures ended { HasEnded D.law directory range (⟦<WalkTree<D> as FileIterator>⟧.view result) }
+        ensures gives { AtMost (2 * range.budget + 3) (⟦<WalkTree<D> as SeparatingFilter>⟧.left result) }
+    {
+        WalkTree {
+            steps: Steps::new(alloc, directory, None, String::new(alloc), range),
+            lacks_memory: false,
+        }
+    }
+
+    /// A walk whose one item tells that memory was refused; nothing is asked.
+    pub fn refused(alloc: Global, directory: D, range: Range) -> WalkTree<D>
+        ensures lacks { LacksMemory D.law directory range (⟦<WalkTree<D> as FileIterator>⟧.view result) }
+        ensures gives { AtMost (2 * range.budget + 3) (⟦<WalkTree<D> as SeparatingFilter>⟧.left result) }
+    {
+        WalkTree {
+            steps: Steps::new(alloc, directory, None, String::new(alloc), range),
+            lacks_memory: true,
         }
     }
 }

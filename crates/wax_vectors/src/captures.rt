@@ -31,7 +31,12 @@ pub fn captured(
     }
 }
 
-fn texts(alloc: Global, matched: &MatchedText<'_>, separator: char) -> Result<String, AllocError> {
+/// The whole text and each capture.
+pub fn texts(
+    alloc: Global,
+    matched: &MatchedText<'_>,
+    separator: char,
+) -> Result<String, AllocError> {
     let mut texts = String::new(alloc);
     for index in 0..usize::MAX {
         let Some(text) = matched.get(index) else {

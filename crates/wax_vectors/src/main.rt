@@ -2,6 +2,7 @@
 //! row that comes to something else here, with both values, and how many rows are the same.
 #![tactic(auto)]
 
+mod calls;
 mod captures;
 mod cases;
 mod costs;
@@ -31,6 +32,7 @@ fn main(rt: HostRuntime) -> io::Result<()> {
         ("query.tsv", Kind::Query),
         ("worked_cases.tsv", Kind::Case),
         ("tests.tsv", Kind::Case),
+        ("tests_calls.tsv", Kind::Call),
     ] {
         let rows = fs::read_to_string(&rt, name)?;
         show(&rt, name, &compared(rt.alloc(), kind, rows.as_str())?)?;

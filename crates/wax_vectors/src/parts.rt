@@ -2,8 +2,9 @@
 
 use crate::report::Report;
 use std::alloc::{AllocError, Global};
-use wax::Glob;
-use wax::token::{into_alternatives, parse, size};
+use wax::rule::check;
+use wax::token::{Partitioned, TokenFacts, into_alternatives, parse, size};
+use wax::{Glob, NoMemory};
 
 pub fn report(alloc: Global) -> Result<Report, AllocError> {
     let mut report = Report::new(alloc);
@@ -23,8 +24,10 @@ pub fn report(alloc: Global) -> Result<Report, AllocError> {
             Some(wanted),
         )?;
     }
-    let count = alternatives(alloc, "{{a,b},c}");
-    report.compare(alloc, "alternatives", count, Some(3))?;
+    let checked = checked_parts(alloc, "a/{b}/*");
+    report.compare_text(alloc, "what was checked in two", checked, "a/b/|*")?;
+    let texts = alternatives(alloc, "{{a,b},c}").unwrap_or(None);
+    report.compare_text(alloc, "alternatives", texts, "cab")?;
     let warned = warned(alloc, "../a/");
     report.compare_text(
         alloc,
@@ -55,15 +58,30 @@ fn parts(alloc: Global, expression: &str) -> Option<String> {
     format!(in alloc; "{prefix}|{rest}|{rest_or_tree}").ok()
 }
 
+/// The prefix and the expression of the rest of what was checked.
+fn checked_parts(alloc: Global, expression: &str) -> Option<String> {
+    let checked = check(alloc, parse(alloc, expression).ok()?).ok()?;
+    let (prefix, rest) = checked.partition(alloc).ok()?;
+    let rest = rest?.release();
+    format!(in alloc; "{prefix}|{}", rest.expression()).ok()
+}
+
 fn fixed_size(alloc: Global, expression: &str) -> Option<Option<usize>> {
     let tokenized = parse(alloc, expression).ok()?;
     size(alloc, tokenized.as_token()).ok()
 }
 
-fn alternatives(alloc: Global, expression: &str) -> Option<usize> {
-    let tokenized = parse(alloc, expression).ok()?;
-    let tokens = into_alternatives(alloc, tokenized.into_token()).ok()?;
-    Some(tokens.len())
+/// The texts of the alternatives, in their order.
+fn alternatives(alloc: Global, expression: &str) -> Result<Option<String>, NoMemory> {
+    let Ok(tokenized) = parse(alloc, expression) else {
+        return Ok(None);
+    };
+    let mut joined = String::new(alloc);
+    for token in into_alternatives(alloc, tokenized.into_token())? {
+        let text = token.text(alloc)?;
+        joined.push_str(text.as_ref().map_or("?", |text| text.as_str()))?;
+    }
+    Ok(Some(joined))
 }
 
 fn warned(alloc: Global, expression: &str) -> Option<String> {

@@ -214,6 +214,7 @@ fn compare_folding(alloc: Global, report: &mut Report) -> Result<(), AllocError>
         ("K", "k", true),
         ("a", "ab", false),
         ("ab", "ac", false),
+        (" ", "\t", false),
     ] {
         let row = format!(in alloc; "{left} and {right} in any case")?;
         let made = case_folded_eq(alloc, left, right).ok();

@@ -1,5 +1,6 @@
 //! Rows of answers: an expression, with a path or alone, and what the Rust crate answers.
 
+use crate::calls::call_row;
 use crate::captures::captures_row;
 use crate::cases::case_row;
 use crate::queries::query_row;
@@ -24,6 +25,8 @@ pub enum Kind {
     Query,
     /// A kind, and what a row of that kind tells.
     Case,
+    /// A kind, and what a row of that kind tells of calls that no command makes.
+    Call,
 }
 
 /// Each row of a file, made anew.
@@ -37,6 +40,7 @@ pub fn compared(alloc: Global, kind: Kind, rows: &str) -> Result<Report, AllocEr
             Kind::Captures => captures_row(alloc, row),
             Kind::Query => query_row(alloc, field(row, 0)).map_err(|_| NoMemory),
             Kind::Case => case_row(alloc, row),
+            Kind::Call => call_row(alloc, row),
         };
         report.compare_text(alloc, field(row, 0), made.ok(), row)?;
     }

@@ -1,7 +1,7 @@
 //! Filters at concrete types, on a walk of five items.
 
 ghost use Rattle.std.specs.Prelude.{◌≡◌, Some, fold, length, true};
-ghost use Rattle.std.specs.Iterator.{at_most};
+ghost use Rattle.std.specs.Iterator.{IsFinite, at_most};
 ghost use Rattle.std.proofs.Common.{ap, ◌∙◌};
 ghost use Rattle.std.proofs.Math.Nat.{le_of_eq};
 ghost use Rattle.wax_filter.specs.Walking.{entry_of};
@@ -210,6 +210,19 @@ fn print_cancelling(rt: &HostRuntime) -> io::Result<()> {
     Ok(())
 }
 
+/// All items, by their names.
+fn print_items<I>(rt: &HostRuntime, items: I) -> io::Result<()>
+where
+    I: Iterator<Item = char>,
+    requires can { I.can_next items }
+    requires ends { IsFinite (I.remaining items) }
+{
+    for item in items {
+        print!(rt; " {item}")?;
+    }
+    println!(rt; "")
+}
+
 /// A tree that is left out drops what lies below; a node is left out alone.
 fn print_left_out(rt: &HostRuntime) -> io::Result<()> {
     for residue in [TreeResidue::Tree(()), TreeResidue::Node(())] {
@@ -238,15 +251,14 @@ where
     }
 }
 
-/// A closure turns the first three items, and cancels below one of them.
+/// A closure turns items, and cancels below one of them.
 fn print_turned(rt: &HostRuntime) -> io::Result<()> {
-    let mut kept = walk().filter_map_tree(|cancellation, item: Separation<Entries>| {
+    let kept = walk().filter_map_tree(|cancellation, item: Separation<Entries>| {
         cancel_if(cancellation, item.substituent(|x| x.0) == Some('b'));
         item.map_filtrate(|x| x.0)
     });
-    let first = kept.next();
-    let second = kept.next();
-    println!(rt; "turned {first:?}, {second:?}, {:?}", kept.next())
+    print!(rt; "turned:")?;
+    print_items(rt, kept)
 }
 
 /// An item becomes a tree, and what lies below is cancelled.

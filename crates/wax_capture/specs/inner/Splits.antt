@@ -1,7 +1,7 @@
--- How pieces split a text, by their programs alone.
+-- How pieces split a text, by their forms alone.
 use Rattle.std.specs.Prelude.{◌≡◌, ℕ, ◌+◌, ◌≤◌, List, [], ◌∷◌, ◌++◌, length, take, drop}
 use Rattle.wax_capture.specs.Captures.{Prefers}
-use Rattle.wax_capture.specs.Pieces.{WayOf, captured_by, instructions}
+use Rattle.wax_capture.specs.Pieces.{WayOf, captured_by, forms_of, size_of}
 use Rattle.wax_capture.specs.declared.piece.Piece.{Piece}
 
 -- each piece takes a part of the text, one after another
@@ -9,7 +9,7 @@ abbrev pub Splits : List Piece → List ℕ → Type 0
 Splits [] s = s ≡ []
 Splits (p ∷ ps) s = (k : ℕ) × (n : ℕ) × (n ≤ length s) × WayOf p k (take n s) × Splits ps (drop n s)
 
--- the first n characters can be the part of the first piece, by its k-th program
+-- the first n characters can be the part of the first piece, by its k-th form
 abbrev pub FitsBy : Piece → List Piece → List ℕ → ℕ → ℕ → Type 0
 FitsBy p ps s k n = (n ≤ length s) × WayOf p k (take n s) × Splits ps (drop n s)
 
@@ -19,6 +19,13 @@ pub record IsChosenBy (p : Piece) (ps : List Piece) (s : List ℕ) (n : ℕ) : T
   pub first : (k m : ℕ) → FitsBy p ps s k m → way ≤ k
   pub best : (m : ℕ) → FitsBy p ps s way m → Prefers p.is_lazy n m
 
+-- the pieces' lengths, one after another
+abbrev pub AreChosen : List Piece → List ℕ → List ℕ → Type 0
+AreChosen [] s [] = s ≡ []
+AreChosen [] s (n ∷ ns) = ⊥
+AreChosen (p ∷ ps) s [] = ⊥
+AreChosen (p ∷ ps) s (n ∷ ns) = IsChosenBy p ps s n × AreChosen ps (drop n s) ns
+
 abbrev pub CapturedBy : List Piece → List ℕ → List (List ℕ) → Type 0
 CapturedBy [] s captures = (s ≡ []) × (captures ≡ [])
 CapturedBy (p ∷ ps) s captures =
@@ -26,7 +33,7 @@ CapturedBy (p ∷ ps) s captures =
     × (others : List (List ℕ)) × CapturedBy ps (drop n s) others
     × (captures ≡ captured_by p.capture (take n s) ++ others)
 
--- how many instructions all programs have
-abbrev pub all_instructions : List Piece → ℕ
-all_instructions [] = 0
-all_instructions (p ∷ ps) = instructions p.ways.items + all_instructions ps
+-- how much all pieces come to
+abbrev pub all_sizes : List Piece → ℕ
+all_sizes [] = 0
+all_sizes (p ∷ ps) = size_of (forms_of p.ways) + all_sizes ps

@@ -1,9 +1,9 @@
 use Rattle.std.proofs.Common.{◌≡◌, ◌∷◌, [], rules}
-use Rattle.wax_capture.proofs.TokenWays.{token_program, tree_two_ways}
+use Rattle.wax_capture.specs.declared.form.Form.TheVariants as form
+use Rattle.wax_capture.proofs.TokenWays.{tree_two_ways}
 use Rattle.wax_capture.proofs.ways.tree_ways.Goals as goal
 
 pub returns-clause-ways : goal.returns-clause-ways
-returns-clause-ways g c = λ t e is k x.
-    let same : c.add_way-2.new.ways.items ≡ c.in_ok-nothing.nothing ∷ c.in-Ok.program ∷ [] = search rules in
-    rw same (tree_two_ways t c.args.has_root c.args.before c.args.after c.in_ok-nothing.nothing c.in-Ok.program is c.in_ok-nothing.ensures.means
-    (token_program c.args.tokens.now c.args.index t c.requires e c.args.before c.args.after c.in-Ok.program c.in-Ok.ensures.means) k x)
+returns-clause-ways c = λ k x.
+    let same : c.add_form-2.new.forms.items ≡ c.nothing_captured.result ∷ form.Tree c.args.before c.args.after c.args.has_root ∷ [] = search rules in
+    rw same (tree_two_ways c.args.has_root c.args.before c.args.after c.nothing_captured.result (form.Tree c.args.before c.args.after c.args.has_root) c.nothing_captured.ensures.means (λ y. ((λ h. h), (λ h. h))) k x)

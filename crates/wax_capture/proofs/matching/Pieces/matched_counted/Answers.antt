@@ -4,7 +4,7 @@ use Rattle.wax_token.specs.Cost.{costs}
 use Rattle.wax_capture.specs.Pieces.{ArePieces}
 use Rattle.wax_capture.specs.inner.Bytes.{in_bytes}
 use Rattle.wax_capture.specs.inner.Parts.{IsWithin, parts}
-use Rattle.wax_capture.specs.inner.Splits.{CapturedBy, all_instructions}
+use Rattle.wax_capture.specs.inner.Splits.{CapturedBy, all_sizes}
 use Rattle.wax_capture.specs.declared.piece.Piece.{Piece}
 use Rattle.wax_capture.proofs.Built.{pieces_few}
 use Rattle.wax_capture.proofs.ByteParts.{text_all_parts, text_parts}
@@ -25,11 +25,11 @@ returns-in_default-clause-square c = λ ts are.
     let same : ps ≡ c.args.self.now = search rules in
     let text : c.as_slice-2.result.now ≡ chars c.args.text.now = search rules in
     let m : ℕ = length (chars c.args.text.now) in
-    let read : c.split.new.meter ≤ c.new-meter.result + 2 * (all_instructions ps * ((m + 1) * (m + 1))) = rw text at c.split.ensures.above in
-    visits_square (all_instructions ps) (costs ts) c.ticks.result m (pieces_few ts false false ps (subst (ArePieces ts false false) (sym same) are)) (omega (arith, read, c.new-meter.ensures, c.ticks.ensures))
+    let read : c.split.new.visits ≤ c.new-visits.result + 4 * (all_sizes ps * ((m + 1) * (m + 1))) = rw text at c.split.ensures.above in
+    visits_square (all_sizes ps) (costs ts) c.count.result m (pieces_few ts false false ps (subst (ArePieces ts false false) (sym same) are)) (omega (arith, read, c.new-visits.ensures, c.count.ensures.above))
 
 pub returns-in_default-clause-above : goal.returns-in_default-clause-above
-returns-in_default-clause-above c = λ ts are. visits_cube (costs ts) c.ticks.result (length (chars c.args.text.now)) (returns-in_default-clause-square c ts are)
+returns-in_default-clause-above c = λ ts are. visits_cube (costs ts) c.count.result (length (chars c.args.text.now)) (returns-in_default-clause-square c ts are)
 
 pub new-requires : goal.new-requires
 new-requires c =
@@ -57,11 +57,11 @@ returns-clause-square c = λ ts are.
     let same : ps ≡ c.args.self.now = search rules in
     let text : c.as_slice-2.result.now ≡ chars c.args.text.now = search rules in
     let m : ℕ = length (chars c.args.text.now) in
-    let read : c.split.new.meter ≤ c.new-meter.result + 2 * (all_instructions ps * ((m + 1) * (m + 1))) = rw text at c.split.ensures.above in
-    visits_square (all_instructions ps) (costs ts) c.ticks-2.result m (pieces_few ts false false ps (subst (ArePieces ts false false) (sym same) are)) (omega (arith, read, c.new-meter.ensures, c.ticks-2.ensures))
+    let read : c.split.new.visits ≤ c.new-visits.result + 4 * (all_sizes ps * ((m + 1) * (m + 1))) = rw text at c.split.ensures.above in
+    visits_square (all_sizes ps) (costs ts) c.count-2.result m (pieces_few ts false false ps (subst (ArePieces ts false false) (sym same) are)) (omega (arith, read, c.new-visits.ensures, c.count-2.ensures.above))
 
 pub returns-clause-above : goal.returns-clause-above
-returns-clause-above c = λ ts are. visits_cube (costs ts) c.ticks-2.result (length (chars c.args.text.now)) (returns-clause-square c ts are)
+returns-clause-above c = λ ts are. visits_cube (costs ts) c.count-2.result (length (chars c.args.text.now)) (returns-clause-square c ts are)
 
 pub returns-clause-only : goal.returns-clause-only
 returns-clause-only c = λ ts are. matched_only ts (chars c.args.text.now) c.new.result (returns-clause-matched c ts are)

@@ -1,56 +1,23 @@
-use Rattle.std.proofs.Common.{◌≡◌, ◌≤◌, ◌<◌, ◌+◌, ◌-◌, ◌^◌, length, refl, arith, ap, inr, string_bytes, false}
+use Rattle.std.proofs.Common.{◌≡◌, ◌≤◌, ◌<◌, ◌+◌, ◌-◌, ◌^◌, length, refl, arith, ap, string_bytes, false}
 use Rattle.std.specs.Prelude.{Some, None}
-use Rattle.wax_tree.specs.Lacking.{goes, lacks}
+use Rattle.wax_tree.specs.Lacking.{goes}
 use Rattle.wax_tree.specs.Prefix.{from_last}
-use Rattle.wax_tree.proofs.Making.{made_at, made_nothing, from_last_length}
+use Rattle.wax_tree.proofs.Making.{ended_at, lacking_at, made_at, from_last_length}
 use Rattle.wax_tree.proofs.walk_tree.WalkTree.to_place.Goals as goal
 
 pub returns-then-range-len-clause-begins : goal.returns-then-range-len-clause-begins
 returns-then-range-len-clause-begins g c =
-    let law = g.D.Directory.law in
     let long : length (from_last c.args.names.items) ≡ length c.args.names.items =
     from_last_length c.args.names.items in
-    let less : c.args.range.max < length c.args.names.items =
-    omega (arith, c.if-range-len.true, c.len.ensures, c.args.names.ok.0) in
-    rw c.new-then-range-len.ensures.fields (record {
-      shown = λ s listed h told p d. absurd (omega (arith, d, less, long));
-      beyond = λ s listed h told d. goes refl (made_nothing law
-          (record {
-            alloc = c.args.alloc;
-            directory = c.args.directory;
-            min = c.args.range.min;
-            max =
-                c.args.range.max;
-            root = c.new.result;
-            first = None;
-            entered = None;
-            levels =
-                c.new-then-range-len.result.levels;
-            budget = c.args.range.budget;
-            has_ended = false;
-          })
-          listed refl refl c.new-then-range-len.ensures.levels told
-          (g.met.D.Directory.none_open c.args.directory c.args.start.now s h));
-      above = λ d. (refl, inr (refl, refl, c.new-then-range-len.ensures.levels));
-      listings = refl;
-      names = omega arith;
-      directory = refl;
-    })
+    ended_at g.D.Directory.law _ _ _ _ c.ended.ensures.ended
+    (omega (arith, c.if-range-len.true, c.len.ensures, c.args.names.ok.0, long))
 
 pub returns-in_default-clause-begins : goal.returns-in_default-clause-begins
 returns-in_default-clause-begins g c =
     let long : length (from_last c.args.names.items) ≡ length c.args.names.items =
     from_last_length c.args.names.items in
-    let less : length c.args.names.items ≤ c.args.range.max =
-    omega (arith, c.if-range-len.false, c.len.ensures, c.args.names.ok.0) in
-    rw c.new-in_default-2.ensures.fields (record {
-      shown = λ s listed h told p d. lacks refl told;
-      beyond = λ s listed h told d. lacks refl told;
-      above = λ d. absurd (omega (arith, d, less, long));
-      listings = refl;
-      names = omega arith;
-      directory = refl;
-    })
+    lacking_at g.D.Directory.law _ _ _ _ c.refused.ensures.lacks
+    (omega (arith, c.if-range-len.false, c.len.ensures, c.args.names.ok.0, long))
 
 pub returns-in-Ok-place_at-clause-begins : goal.returns-in-Ok-place_at-clause-begins
 returns-in-Ok-place_at-clause-begins g c =
@@ -65,7 +32,7 @@ returns-in-Ok-place_at-clause-begins g c =
     let rest = c.in-Ok-place_at.ensures.rest in
     let names : c.in-Ok-place_at.place.names.items ≡ c.args.names.items = ap (λ v. v.items) rest.1 in
     let root : string_bytes c.in-Ok.root ≡ c.args.root.now = c.in-Ok.ensures.ok in
-    rw c.new-in-Ok-place_at.ensures.fields (record {
+    rw c.new.ensures.fields (record {
       shown = λ s listed h told p d. goes refl (made_at law
           (record {
             alloc = c.args.alloc;
@@ -77,14 +44,14 @@ returns-in-Ok-place_at-clause-begins g c =
             first = Some c.in-Ok-place_at.place;
             entered =
                 None;
-            levels = c.new-in-Ok-place_at.result.levels;
+            levels = c.new.result.levels;
             budget = c.args.range.budget;
             has_ended =
                 false;
           })
           c.args.root.now c.in-Ok-place_at.place
           (record { path = c.args.start.now; candidate = c.args.candidate.now; depth = 0 })
-          c.args.names.items s listed refl refl c.new-in-Ok-place_at.ensures.levels refl root texts.0
+          c.args.names.items s listed refl refl c.new.ensures.levels refl root texts.0
           texts.1 rest.0 names h p fits told
           (g.met.D.Directory.none_open c.args.directory c.args.start.now s h));
       beyond = λ s listed h told d. absurd (omega (arith, d, less, long));
@@ -98,13 +65,5 @@ pub returns-in-Err-clause-begins : goal.returns-in-Err-clause-begins
 returns-in-Err-clause-begins g c =
     let long : length (from_last c.args.names.items) ≡ length c.args.names.items =
     from_last_length c.args.names.items in
-    let less : length c.args.names.items ≤ c.args.range.max =
-    omega (arith, c.if-range-len.false, c.len.ensures, c.args.names.ok.0) in
-    rw c.new-in-Err.ensures.fields (record {
-      shown = λ s listed h told p d. lacks refl told;
-      beyond = λ s listed h told d. lacks refl told;
-      above = λ d. absurd (omega (arith, d, less, long));
-      listings = refl;
-      names = omega arith;
-      directory = refl;
-    })
+    lacking_at g.D.Directory.law _ _ _ _ c.refused-in-Err.ensures.lacks
+    (omega (arith, c.if-range-len.false, c.len.ensures, c.args.names.ok.0, long))

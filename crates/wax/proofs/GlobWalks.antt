@@ -1,0 +1,231 @@
+-- What is to come of a glob's walk.
+use Rattle.std.proofs.Common.{◌≡◌, ◌∙◌, ◌≤◌, ◌<◌, ◌+◌, ◌&&◌, ℕ, Bool, true, false, cond, if◌then◌else◌, List, [], ◌∷◌, length, map, refl, sym, subst, ap, chars, encode_utf8_all}
+use Rattle.std.specs.Str.{IsUtf8}
+use Rattle.std.proofs.lemmas.Bool.{ltb-false, ltb-true}
+use Rattle.std.proofs.lemmas.Str.{encodes-chars}
+use Rattle.wax_collect.specs.Trips.{ComesWanted, is_beyond}
+use Rattle.wax_directory.specs.Names.{is_rooted, names_in_path}
+use Rattle.wax_glob_walk.specs.Programs.{leading_mark, leads, means_mark}
+use Rattle.wax_depth.specs.Depth.{Depth}
+use Rattle.wax_directory.specs.Law.{Law}
+use Rattle.wax_facts.specs.Prefix.{Prefix}
+use Rattle.wax_leading.specs.Prefix.{HasEmptyName, IsPrefixWay}
+use Rattle.wax_query.specs.Ranges.{Bounds}
+use Rattle.wax_tree.specs.Begins.{BeginsAt, HasEnded, LacksMemory}
+use Rattle.wax_tree.specs.declared.steps.Range.{Range}
+use Rattle.wax_tree.specs.Plain.{count_shown}
+use Rattle.wax_walk.specs.Ruled.{ruled_view}
+use Rattle.wax_walk.specs.View.{IsSeenAs, WalkView}
+use Rattle.wax_tree.specs.Prefix.{ArePlain}
+use Rattle.wax_wanted.specs.Premises.{CanWalk}
+use Rattle.wax_wanted.specs.Walked.{glob_walk, way_walk}
+use Rattle.wax_token.specs.Decided.{means_test}
+use Rattle.wax_token.specs.Reads.{Span}
+use Rattle.wax_token.specs.Syntax.{Tree}
+use Rattle.wax_walk.specs.Forest.{Forest, nothing, item, lists, filtered, filtered_pending, pending}
+use Rattle.wax_walk.specs.Given.{Facts, Given, Mark, alone, changed_by, combined_mark, cut_by, entry, fault, is_cut, kept, no_memory, with_tree}
+use Rattle.wax_wanted.specs.Leading.{component_test, lead_test, leading_of}
+use Rattle.wax_wanted.specs.Marks.{glob_mark, led_mark, of_candidate}
+use Rattle.wax.specs.GlobView.{GlobView}
+use Rattle.wax.proofs.GoingAlong.{names_are}
+use Rattle.wax.specs.GlobWalks.{Beginning, BeginsGlob, IsPlan, trip_of, wants, way_from, within}
+
+-- ---- the programs say what the tree says
+
+leads_so : (cs : List (List (Tree Span))) (names : List (List ℕ)) → leads component_test cs names ≡ lead_test cs names
+leads_so [] names = refl
+leads_so (c ∷ cs) [] = refl
+leads_so (c ∷ cs) (n ∷ names) = ap (λ b. component_test c n && b) (leads_so cs names)
+
+abbrev decides : GlobView → List ℕ → Bool
+decides g s = means_test g.tree false false s
+
+pub says_glob : (g : GlobView) (rooted : Bool) (cs : List (List (Tree Span))) → cs ≡ leading_of rooted g.tree → leading_mark component_test cs decides g ≡ of_candidate (glob_mark rooted g.tree)
+says_glob g rooted cs e = λ i f.
+    if (ap (λ l. leads component_test l (map chars (names_in_path f.candidate))) e ∙ leads_so (leading_of rooted g.tree) (map chars (names_in_path f.candidate))) i
+    then means_mark decides g f else with_tree
+
+-- ---- what a glob's walk leaves isn't changed where what isn't meant is left out again
+
+module _ (g : GlobView) (rooted : Bool) where
+  abbrev first_rule : Facts → Mark
+  first_rule = of_candidate (glob_mark rooted g.tree)
+
+  abbrev again : Facts → Mark
+  again = leading_mark (component_test {A = Span}) [] decides g
+
+  combined_again : (m : Mark) (is_led is_meant : Bool) →
+      combined_mark (combined_mark m (led_mark is_led is_meant)) (if is_meant then kept else alone) ≡ combined_mark m (led_mark is_led is_meant)
+  combined_again kept true true = refl
+  combined_again kept true false = refl
+  combined_again kept false true = refl
+  combined_again kept false false = refl
+  combined_again alone true true = refl
+  combined_again alone true false = refl
+  combined_again alone false true = refl
+  combined_again alone false false = refl
+  combined_again with_tree is_led is_meant = refl
+
+  none_cut : (m : Mark) (f : Facts) (is_meant : Bool) → is_cut (entry m f) (if is_meant then kept else alone) ≡ false
+  none_cut kept f true = refl
+  none_cut kept f false = refl
+  none_cut alone f true = refl
+  none_cut alone f false = refl
+  none_cut with_tree f true = refl
+  none_cut with_tree f false = refl
+
+  abbrev meant : Facts → Bool
+  meant f = means_test g.tree false false (chars f.candidate)
+
+  abbrev led : Facts → Bool
+  led f = lead_test (leading_of rooted g.tree) (map chars (names_in_path f.candidate))
+
+  same_given : (x : Given) → changed_by again (changed_by first_rule x) ≡ changed_by first_rule x
+  same_given (entry m f) = ap (λ n. entry n f) (combined_again m (led f) (meant f))
+  same_given (fault kind path depth) = refl
+  same_given no_memory = refl
+
+  uncut_again : (x : Given) → cut_by again (changed_by first_rule x) ≡ false
+  uncut_again (entry m f) = none_cut (combined_mark m (led_mark (led f) (meant f))) f (meant f)
+  uncut_again (fault kind path depth) = refl
+  uncut_again no_memory = refl
+
+  abbrev first_of : Forest Given → Forest Given
+  first_of f = filtered (changed_by first_rule) (cut_by first_rule) f
+
+  abbrev again_of : Forest Given → Forest Given
+  again_of f = filtered (changed_by again) (cut_by again) f
+
+  same_left : (below : Forest Given) → again_of (first_of below) ≡ first_of below → (b : Bool) → again_of (cond b nothing (first_of below)) ≡ cond b nothing (first_of below)
+  same_left below h true = refl
+  same_left below h false = h
+
+  same_below : (x : Given) (below : Forest Given) → again_of (first_of below) ≡ first_of below →
+      cond (cut_by again (changed_by first_rule x)) nothing (again_of (cond (cut_by first_rule x) nothing (first_of below))) ≡ cond (cut_by first_rule x) nothing (first_of below)
+  same_below x below h =
+      ap (λ b. cond b nothing (again_of (cond (cut_by first_rule x) nothing (first_of below)))) (uncut_again x) ∙ same_left below h (cut_by first_rule x)
+
+  pub same_forest : (f : Forest Given) → again_of (first_of f) ≡ first_of f
+  same_forest nothing = refl
+  same_forest (lists path after) = ap (lists path) (same_forest after)
+  same_forest (item x below after) = λ i. item (same_given x i) (same_below x below (same_forest below) i) (same_forest after i)
+
+-- ---- where the walk begins
+
+same_text : (x y p : List ℕ) → IsUtf8 x → IsUtf8 y → chars x ≡ p → chars y ≡ p → x ≡ y
+same_text x y p u v e f = sym (encodes-chars x u) ∙ ap encode_utf8_all (e ∙ sym f) ∙ encodes-chars y v
+
+-- the names of a prefix are known
+pub same_way : (p : List ℕ) (b c : Bool) (names others : List (List ℕ)) → IsPrefixWay p b names → IsPrefixWay p c others → (b ≡ c) × (names ≡ others)
+same_way p b c names others h k =
+    let e : h.text ≡ k.text = same_text h.text k.text p h.encoded k.encoded h.characters k.characters in
+    (h.way.root ∙ ap is_rooted e ∙ sym k.way.root, h.way.parts ∙ ap names_in_path e ∙ sym k.way.parts)
+
+-- ---- what is to come
+
+module _ {D C : Type 0} (g : GlobView) (law : Law D C) (d : D) (start : List ℕ) (asked : Range) (depth : Bounds) (depth_is : Depth g.tree depth)
+    (can : (b : Beginning g.tree) (nots : List (Tree Span)) → ArePlain b.names → CanWalk (wants g.tree b nots) asked (within asked depth) (way_from start b.rooted b.names))
+    (view : WalkView D) where
+  abbrev walked : Range
+  walked = within asked depth
+
+  module _ (inner : WalkView D) (range : Range) (same_range : range ≡ within asked depth) (rooted : Bool) (names : List (List ℕ)) (cs : List (List (Tree Span)))
+      (plan : (taken : ℕ) (prefix : List ℕ) → Prefix g.tree taken prefix → IsPlan g.tree prefix rooted names cs)
+      (b : BeginsAt law d (way_from start rooted names) range inner)
+      (seen : IsSeenAs (ruled_view inner (leading_mark (component_test {A = Span}) cs decides g) false) view) where
+    planned : (a : Beginning g.tree) → IsPlan g.tree a.prefix rooted names cs
+    planned a = plan a.taken a.prefix a.prefix_is
+
+    same_beginning : (a : Beginning g.tree) → (rooted ≡ a.rooted) × (names ≡ a.names)
+    same_beginning a = same_way a.prefix rooted a.rooted names a.names (planned a).0 a.names_are
+
+    begins_so : (a : Beginning g.tree) → BeginsAt law d (way_from start a.rooted a.names) walked inner
+    begins_so a =
+        let same = same_beginning a in
+        subst (λ r. BeginsAt law d (way_from start a.rooted a.names) r inner) same_range
+        (subst (λ r. BeginsAt law d (way_from start r a.names) range inner) same.0 (subst (λ n. BeginsAt law d (way_from start rooted n) range inner) same.1 b))
+
+    same_rule : (a : Beginning g.tree) → of_candidate (glob_mark a.rooted g.tree) ≡ leading_mark (component_test {A = Span}) cs decides g
+    same_rule a = sym (says_glob g rooted cs (planned a).1 ∙ ap (λ r. of_candidate (glob_mark r g.tree)) (same_beginning a).0)
+
+    same_names : (a : Beginning g.tree) → a.names ≡ (way_from start a.rooted a.names).names
+    same_names a = names_are start a.rooted a.names
+
+    pub begins_along : BeginsGlob g.tree law d start asked view
+    begins_along = record {
+      depth = depth;
+      depth_is = depth_is;
+      can = can;
+      shown = λ a s listed h told plain fits.
+          let f = way_walk walked (way_from start a.rooted a.names) s in
+          let rule = same_rule a in
+          seen.to_come (pending nothing (glob_walk (wants g.tree a []) walked (way_from start a.rooted a.names) s) listed (count_shown s)) (
+            refl,
+            (
+              pending nothing f listed (count_shown s),
+              (begins_so a).shown s listed h told (subst ArePlain (same_names a) plain) (subst (λ ns. length ns ≤ walked.max) (same_names a) fits),
+              (λ i. pending nothing (filtered (changed_by (rule i)) (cut_by (rule i)) f) listed (count_shown s)),
+            ),
+          );
+      beyond = λ a s listed h told less.
+          seen.to_come (pending nothing nothing listed 0) (refl, (pending nothing nothing listed 0, (begins_so a).beyond s listed h told (subst (λ ns. walked.max < length ns) (same_names a) less), refl));
+      unmeant = λ taken prefix p e path s listed h told. absurd ((plan taken prefix p).0.unbroken e);
+      listings = seen.listings_left ∙ b.listings ∙ ap (λ r. r.budget + 1) same_range;
+      directory = seen.directory ∙ b.directory;
+    }
+
+  pub begins_ended : (inner : WalkView D) (range : Range) (rule : Facts → Mark) → ((taken : ℕ) (prefix : List ℕ) → Prefix g.tree taken prefix → HasEmptyName prefix) →
+      range.budget ≡ asked.budget → HasEnded law d range inner → IsSeenAs (ruled_view inner rule false) view → BeginsGlob g.tree law d start asked view
+  begins_ended inner range rule known few b seen = record {
+    depth = depth;
+    depth_is = depth_is;
+    can = can;
+    shown = λ a s listed h told plain fits. absurd (a.names_are.unbroken (known a.taken a.prefix a.prefix_is));
+    beyond = λ a s listed h told less. absurd (a.names_are.unbroken (known a.taken a.prefix a.prefix_is));
+    unmeant = λ taken prefix p e path s listed h told.
+        seen.to_come (pending nothing nothing listed 0) (refl, (pending nothing nothing listed 0, b.comes path s listed h told, refl));
+    listings = seen.listings_left ∙ b.listings ∙ ap (λ n. n + 1) few;
+    directory = seen.directory ∙ b.directory;
+  }
+
+  pub begins_refused : (inner : WalkView D) (range : Range) (cs : List (List (Tree Span))) → cs ≡ [] → range.budget ≡ asked.budget → LacksMemory law d range inner →
+      IsSeenAs (ruled_view inner (leading_mark (component_test {A = Span}) cs decides g) false) view →
+      BeginsGlob g.tree law d start asked view
+  begins_refused inner range cs none few b seen = record {
+    depth = depth;
+    depth_is = depth_is;
+    can = can;
+    shown = λ a s listed h told plain fits.
+        let way = way_from start a.rooted a.names in
+        let f = glob_walk (wants g.tree a []) walked way s in
+        seen.to_come (pending nothing f listed (count_shown s)) (
+          refl,
+          (
+            pending nothing f listed (count_shown s),
+            b.comes (pending nothing f listed (count_shown s)) told,
+            (λ i. pending nothing (sym (same_forest g a.rooted (way_walk walked way s)) i) listed (count_shown s))
+                ∙ ap (λ l. filtered_pending (changed_by (leading_mark (component_test {A = Span}) l decides g)) (cut_by (leading_mark (component_test {A = Span}) l decides g)) (pending nothing f listed (count_shown s))) (sym none),
+          ),
+        );
+    beyond = λ a s listed h told less.
+        seen.to_come (pending nothing nothing listed 0) (refl, (pending nothing nothing listed 0, b.comes (pending nothing nothing listed 0) told, refl));
+    unmeant = λ taken prefix p e path s listed h told.
+        seen.to_come (pending nothing nothing listed 0) (refl, (pending nothing nothing listed 0, b.comes (pending nothing nothing listed 0) told, refl));
+    listings = seen.listings_left ∙ b.listings ∙ ap (λ n. n + 1) few;
+    directory = seen.directory ∙ b.directory;
+  }
+
+-- all that is wanted comes
+pub comes_glob : {D C : Type 0} (t : Tree Span) (law : Law D C) (d : D) (start : List ℕ) (asked : Range) (view : WalkView D) (h : BeginsGlob t law d start asked view) (b : Beginning t) → ArePlain b.names →
+    ComesWanted law d (trip_of start asked h.depth b []) view
+comes_glob t law d start asked view h b plain = record {
+  comes = λ s listed k told.
+      let trip = trip_of start asked h.depth b [] in
+      let same : (way_from start b.rooted b.names).names ≡ b.names = sym (names_are start b.rooted b.names) in
+      elim (is_beyond trip) as
+      (λ x. is_beyond trip ≡ x → view.to_come (pending nothing (if x then nothing else glob_walk trip.wanted trip.walked trip.way s) listed (if x then 0 else count_shown s))) [
+        | true ↦ λ e. h.beyond b s listed k told (subst (λ ns. trip.walked.max < length ns) same (ltb-true trip.walked.max (length trip.way.names) e))
+        | false ↦ λ e. h.shown b s listed k told plain (subst (λ ns. length ns ≤ trip.walked.max) same (ltb-false trip.walked.max (length trip.way.names) e))
+      ] refl;
+  listings = h.listings;
+}

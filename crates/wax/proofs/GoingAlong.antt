@@ -1,0 +1,88 @@
+-- A glob's walk may go to its prefix, and no deeper than its texts.
+use Rattle.std.proofs.Common.{◌≡◌, ◌≤◌, ◌⊎◌, ◌==◌, ◌||◌, ℕ, Bool, true, false, List, [], ◌∷◌, Option, Some, None, map, min, inl, inr, refl, sym, subst, ap, arith, chars}
+use Rattle.std.specs.List.{list_any}
+use Rattle.std.proofs.lemmas.Bool.{cases_lt, or_parts}
+use Rattle.wax_facts.specs.Orderly.{Worded, WordedEach, WordedLeaf}
+use Rattle.wax_facts.specs.Prefix.{Prefix}
+use Rattle.wax_leading.proofs.Beginnings.{begins_with, bounds_names}
+use Rattle.wax_query.specs.Components.{components}
+use Rattle.wax_query.specs.Ranges.{AtMost, Bounds}
+use Rattle.wax_token.specs.Meaning.{HasNoSlash, Means}
+use Rattle.wax_token.specs.Reads.{Span, is_one_of}
+use Rattle.wax_token.specs.Spelled.{AllHaveNoSlash, LeafHasNoSlash, LiteralsHaveNoSlash}
+use Rattle.wax_token.specs.Syntax.{Leaf, literal, class, separator, one, zero_or_more, tree, Tree, Trees, leaf, alternation, concatenation, repetition, none, more}
+use Rattle.wax_tree.specs.Prefix.{ArePlain}
+use Rattle.wax_tree.specs.declared.steps.Range.{Range}
+use Rattle.wax_wanted.specs.Candidates.{base}
+use Rattle.wax_wanted.specs.Premises.{BeginsWith, BoundsNames, CanWalk}
+use Rattle.wax.specs.GlobView.{IsKept}
+use Rattle.wax.specs.GlobWalks.{Beginning, up_to, wants, way_from, within}
+use Rattle.wax.proofs.Parts.{full}
+
+-- ---- literals
+
+has_no_slash : (t : List ℕ) → list_any (is_one_of (47 ∷ 92 ∷ [])) t ≡ false → HasNoSlash t
+has_no_slash [] e = tt
+has_no_slash (c ∷ t) e =
+    let k : ((47 == c) || ((92 == c) || false) ≡ false) × (list_any (is_one_of (47 ∷ 92 ∷ [])) t ≡ false) = or_parts (is_one_of (47 ∷ 92 ∷ []) c) (list_any (is_one_of (47 ∷ 92 ∷ [])) t) e in
+    let n : (47 == c) ≡ false = (or_parts (47 == c) ((92 == c) || false) k.0).0 in
+    ((λ f. (let g : (47 == c) ≡ true = ap (λ z. 47 == z) f in cc)), has_no_slash t k.1)
+
+leaf_slashless : (l : Leaf) → WordedLeaf l → LeafHasNoSlash l
+leaf_slashless (literal insensitive t) h = has_no_slash t h.1
+leaf_slashless (class negated xs) h = tt
+leaf_slashless separator h = tt
+leaf_slashless one h = tt
+leaf_slashless (zero_or_more e) h = tt
+leaf_slashless (tree rooted) h = tt
+
+mutual
+  worded_slashless : {A : Type 0} (t : Tree A) → Worded t → LiteralsHaveNoSlash t
+  worded_slashless (leaf a l) h = leaf_slashless l h
+  worded_slashless (alternation a ts) h = each_slashless ts h
+  worded_slashless (concatenation a ts) h = each_slashless ts h
+  worded_slashless (repetition a t low high) h = worded_slashless t h
+
+  each_slashless : {A : Type 0} (ts : Trees A) → WordedEach ts → AllHaveNoSlash ts
+  each_slashless none h = tt
+  each_slashless (more t ts) h = (worded_slashless t h.0, each_slashless ts h.1)
+
+kept_slashless : (t : Tree Span) → IsKept t → LiteralsHaveNoSlash t
+kept_slashless t (inl o) = worded_slashless t o.2
+kept_slashless t (inr e) = subst LiteralsHaveNoSlash (sym e) tt
+
+-- ---- ways
+
+candidate_is : (start : List ℕ) (rooted : Bool) (names : List (List ℕ)) → (way_from start rooted names).candidate ≡ base rooted
+candidate_is start true names = refl
+candidate_is start false names = refl
+
+pub names_are : (start : List ℕ) (rooted : Bool) (names : List (List ℕ)) → names ≡ (way_from start rooted names).names
+names_are start true names = refl
+names_are start false names = refl
+
+greatest_at : (t : Tree Span) (rooted : Bool) (most : ℕ) (upper : Option ℕ) → ((s : List ℕ) → Means t false false s → AtMost (components s) upper) →
+    (up_to most upper ≡ most) ⊎ ((up_to most upper ≤ most) × BoundsNames rooted t (up_to most upper))
+greatest_at t rooted most None h = inl refl
+greatest_at t rooted most (Some upper) h = elim (cases_lt upper most) [
+  | inl l ↦ (
+      let e : upper ≡ min most upper = omega (arith, l) in
+      inr (omega (arith, l), subst (BoundsNames rooted t) e (bounds_names t upper h rooted)))
+  | inr l ↦ inl (omega (arith, l))
+]
+
+pub can_walk : (t : Tree Span) → IsKept t → (depth : Bounds) → ((s : List ℕ) → Means t false false s → AtMost (components s) depth.1) →
+    (start : List ℕ) (asked : Range) (b : Beginning t) (nots : List (Tree Span)) → ArePlain b.names →
+    CanWalk (wants t b nots) asked (within asked depth) (way_from start b.rooted b.names)
+can_walk t kept depth bound start asked b nots plain =
+    let k = b.names_are in
+    let same = names_are start b.rooted b.names in
+    let prefix : Prefix t b.taken (chars k.text) = subst (Prefix t b.taken) (sym k.characters) b.prefix_is in
+    record {
+      spelled = kept_slashless t kept;
+      least = refl;
+      greatest = greatest_at t b.rooted asked.max depth.1 bound;
+      candidate = candidate_is start b.rooted b.names;
+      begins = subst (λ ns. BeginsWith b.rooted t (map chars ns)) same (begins_with t b.taken k.text b.rooted b.names (full t kept) prefix k.way plain);
+      plain = subst ArePlain same plain;
+    }

@@ -1,0 +1,26 @@
+use Rattle.std.proofs.Common.{[], map}
+use Rattle.wax_collect.specs.Trips.{goes}
+use Rattle.wax_collect.proofs.Wanting.{nots_come}
+use Rattle.wax_tree.specs.Begins.{range_of}
+use Rattle.wax_walk.proofs.Collecting.{map_ok}
+use Rattle.wax.specs.GlobWalks.{trip_of}
+use Rattle.wax.proofs.GlobWalks.{comes_glob}
+use Rattle.wax.proofs.glob.Glob.collect_less.Goals as goal
+
+pub returns : goal.returns
+returns g c =
+    let law = g.D.Directory.law in
+    let d = c.args.directory in
+    let start = c.args.start.now in
+    let asked = range_of c.args.behavior in
+    let h = c.walk_in-walk.ensures.begins in
+    map_ok
+    (λ r k. (
+      h.depth,
+      h.depth_is,
+      λ b ts s listed nots plain shows told.
+          k d (trip_of start asked h.depth b ts) s listed
+          (nots_come law d (trip_of start asked h.depth b []) ts _ _ _ _ nots c.new.ensures (comes_glob c.args.self.now.tree law d start asked _ h b plain) c.without-kept.ensures.view)
+          (goes (h.can b ts plain)) shows told,
+    ))
+    c.collect_wanted.result c.collect_wanted.ensures.wanted

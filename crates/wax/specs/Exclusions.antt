@@ -1,0 +1,35 @@
+-- Patterns that are left out of walks.
+use Rattle.std.specs.Prelude.{◌≡◌, ◌<◌, ◌≤◌, ◌⊎◌, false}
+use Rattle.wax_token.specs.Cost.{program_length}
+use Rattle.wax_token.specs.Reads.{Span}
+use Rattle.wax_token.specs.Syntax.{Tree}
+use Rattle.wax_walk.specs.Given.{Facts, Mark}
+use Rattle.wax_walk.specs.Ruled.{ruled_view}
+use Rattle.wax_walk.specs.View.{IsSeenAs, WalkView}
+use Rattle.wax_wanted.specs.Marks.{not_mark, of_candidate}
+use Rattle.wax.specs.Patterns.{IsOnly}
+use Rattle.wax.specs.declared.build_error.BuildError.{BuildError}
+use Rattle.wax.specs.declared.build_error.BuildError.TheVariants.{Parse, Rule, Compile, Memory}
+
+-- The only tree that is spelled, which fits.
+pub record FitsAlone (SpellsTree : Tree Span → Type 0) (t : Tree Span) : Type 0 where
+  pub only : IsOnly SpellsTree t
+  pub fits : program_length t ≤ 1048576
+
+-- the rule leaves out what the tree that is spelled means, with what lies below where an alternative covers
+-- it
+abbrev pub IsLeftOut : (Tree Span → Type 0) → (Facts → Mark) → Type 0
+IsLeftOut SpellsTree rule = (t : Tree Span) × FitsAlone SpellsTree t × (rule ≡ of_candidate (not_mark t))
+
+-- why nothing is left out; nothing is said where memory was refused
+abbrev pub NoExclusion : (Tree Span → Type 0) → (BuildError → Type 0) → BuildError → Type 0
+NoExclusion SpellsTree RefusesAs (Parse place) = RefusesAs (Parse place)
+NoExclusion SpellsTree RefusesAs (Rule error) = RefusesAs (Rule error)
+NoExclusion SpellsTree RefusesAs (Compile error) = RefusesAs (Compile error)
+    ⊎ ((t : Tree Span) × IsOnly SpellsTree t × (1048576 < program_length t))
+NoExclusion SpellsTree RefusesAs Memory = Unit {0}
+
+-- one walk is seen as the other less what the tree that is spelled means
+abbrev pub IsWalkWithout : {D : Type 0} → (Tree Span → Type 0) → WalkView D → WalkView D → Type 0
+IsWalkWithout SpellsTree inner outer = (t : Tree Span) × FitsAlone SpellsTree t
+    × IsSeenAs (ruled_view inner (of_candidate (not_mark t)) false) outer

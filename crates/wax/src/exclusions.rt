@@ -1,0 +1,55 @@
+//! Patterns that are left out of walks.
+ghost use Rattle.std.specs.Prelude.{◌≡◌, MatchResult};
+ghost use Rattle.wax_walk.specs.Ruled.{ruled_view};
+ghost use Rattle.wax_walk.specs.View.{IsSeenAs};
+ghost use Rattle.wax.specs.Exclusions.{IsLeftOut, IsWalkWithout, NoExclusion};
+
+use crate::build_error::BuildError;
+use crate::pattern::Pattern;
+use std::alloc::Global;
+use wax_filter::filter::SeparatingFilter;
+use wax_leading::Exclusion;
+use wax_query::diagnostics::Refusal;
+use wax_walk::{FileIterator, Rule, Without};
+
+/// A walk less what a pattern means.
+pub type Not<I> = Without<I, Exclusion>;
+
+/// What is left out of a walk where a pattern is. The pattern is refused as `Pattern::into_checked` refuses
+/// it; else with 9 where the cost of its token plus 1 is above 1,048,576, and with 10 where memory is.
+pub fn exclusion_of<P: Pattern>(alloc: Global, pattern: P) -> Result<Exclusion, BuildError>
+    ensures { MatchResult result (λ e. IsLeftOut (P.spells pattern) (⟦<Exclusion as Rule>⟧.rule e))
+        (NoExclusion (P.spells pattern) (P.refuses pattern)) }
+{
+    let checked = match pattern.into_checked(alloc) {
+        Ok(checked) => checked,
+        Err(error) => return Err(error),
+    };
+    match Exclusion::new(alloc, checked.release()) {
+        Ok(exclusion) => Ok(exclusion),
+        Err(Refusal::Refused(error)) => Err(BuildError::Compile(error)),
+        Err(Refusal::Memory) => Err(BuildError::Memory),
+    }
+}
+
+/// Walks that patterns can be left out of.
+pub trait FileIteratorExt: FileIterator {
+    /// The walk less what the pattern means: with all that lies below it where an alternative of the pattern
+    /// covers it, which is cancelled, else alone. Refused as `exclusion_of` refuses the pattern; the walk is
+    /// gone then.
+    final fn not<P: Pattern>(self, alloc: Global, pattern: P) -> Result<Not<Self>, BuildError>
+    where
+        Self: Sized,
+        ensures { MatchResult result (λ w. IsWalkWithout (P.spells pattern) (Self.view self)
+            (⟦<Not<Self> as FileIterator>⟧.view w)
+            × (⟦<Not<Self> as SeparatingFilter>⟧.left w ≡ Self.left self))
+            (NoExclusion (P.spells pattern) (P.refuses pattern)) }
+    {
+        match exclusion_of(alloc, pattern) {
+            Ok(exclusion) => Ok(self.without(alloc, exclusion)),
+            Err(error) => Err(error),
+        }
+    }
+}
+
+impl<I: FileIterator> FileIteratorExt for I {}

@@ -1,0 +1,200 @@
+//! Walks of globs.
+ghost use Rattle.std.specs.Prelude.{◌≡◌, ◌≤◌, ◌+◌, ◌*◌, ℕ, List, IfOk, MatchOption, map};
+ghost use Rattle.wax_depth.specs.Depth.{Depth};
+ghost use Rattle.wax_facts.specs.Prefix.{Prefix};
+ghost use Rattle.wax_leading.specs.Prefix.{HasEmptyName};
+ghost use Rattle.wax_query.specs.Components.{components};
+ghost use Rattle.wax_query.specs.Ranges.{AtMost as AtMostComponents, Bounds};
+ghost use Rattle.wax_tree.specs.Begins.{AtMost, BeginsAt, range_of};
+ghost use Rattle.wax_tree.specs.Depths.{at_depth};
+ghost use Rattle.wax_tree.specs.Prefix.{from_last};
+ghost use Rattle.wax_tree.specs.declared.behavior.DepthBehavior.TheVariants.{Unbounded};
+ghost use Rattle.wax.specs.GlobView.{IsKept, IsMeant};
+ghost use Rattle.wax.specs.GlobWalks.{BeginsGlob, IsPlan, way_from, within};
+
+use crate::glob::Glob;
+use std::alloc::Global;
+use wax_candidate::Program;
+use wax_collect::collect_wanted;
+use wax_directory::directory::Directory;
+use wax_filter::filter::SeparatingFilter;
+use wax_glob_walk::{FilterAny, GlobEntry, walk_of};
+use wax_leading::{Component, Exclusion, Way, leading, way_of};
+use wax_query::diagnostics::NoMemory;
+use wax_tree::{Range, WalkBehavior, WalkTree};
+use wax_walk::{Entry, FileIterator, Rule, TreeEntry, WalkError};
+
+/// The walk of a glob through a directory: each entry that the glob means is kept, and what is left out is
+/// known by its names before it is listed.
+pub type GlobWalk<'g, 't, D> = wax_glob_walk::GlobWalk<'g, D, Glob<'t>, Component<'g, 't>>;
+
+impl<'t> Glob<'t> {
+    ghost use Rattle.wax_tree.specs.declared.behavior.WalkBehavior.{WalkBehavior};
+
+    /// The walk of the glob from a start, of all depths, which takes at most 4,294,967,295 items of
+    /// folders. Where its prefix begins with `/`, the start is dropped, and the walk is from the root. It
+    /// begins at the prefix, and goes no deeper than the texts of the glob. Where memory is refused, the
+    /// walk's one item tells it.
+    pub fn walk<'g, D: Directory>(
+        &'g self,
+        alloc: Global,
+        directory: D,
+        start: &str,
+    ) -> GlobWalk<'g, 't, D>
+        ensures begins { BeginsGlob self.now.tree D.law directory start.now (range_of (at_depth Unbounded))
+            (⟦<GlobWalk<'g, 't, D> as FileIterator>⟧.view result) }
+        ensures gives { AtMost (2 * (at_depth Unbounded).budget + 3)
+            (⟦<GlobWalk<'g, 't, D> as SeparatingFilter>⟧.left result) }
+    {
+        walk_in(alloc, self, directory, start, WalkBehavior::default())
+    }
+
+    /// The same of the depths that the behavior has, which takes at most as many items of folders as its
+    /// budget.
+    pub fn walk_with_behavior<'g, D, B>(
+        &'g self,
+        alloc: Global,
+        directory: D,
+        start: &str,
+        behavior: B,
+    ) -> GlobWalk<'g, 't, D>
+    where
+        D: Directory,
+        B: Into<WalkBehavior>,
+        ensures { (b : WalkBehavior) × B.converts behavior b
+            × BeginsGlob self.now.tree D.law directory start.now (range_of b)
+            (⟦<GlobWalk<'g, 't, D> as FileIterator>⟧.view result)
+            × AtMost (2 * b.budget + 3) (⟦<GlobWalk<'g, 't, D> as SeparatingFilter>⟧.left result) }
+    {
+        walk_in(alloc, self, directory, start, behavior.into())
+    }
+
+    // Its tree keeps the rules, or is that of the empty expression.
+    fn keeps_rules(&self)
+        ensures { IsKept self.now.tree }
+    {
+        let _tokenized = &self.tokenized;
+    }
+
+    // The range, but no deeper than the glob's texts.
+    fn within(&self, range: Range) -> Range
+        ensures { (depth : Bounds) × Depth self.now.tree depth
+            × ((s : List ℕ) → IsMeant self.now s → AtMostComponents (components s) depth.1)
+            × (result ≡ within range depth) }
+    {
+        match self.depth().upper() {
+            Some(upper) => Range {
+                max: range.max.min(upper),
+                ..range
+            },
+            None => range,
+        }
+    }
+}
+
+// What a walk needs of the glob: the way to its prefix, and its leading components; none where two `/` stand
+// side by side in the prefix.
+fn needs<'g, 't>(
+    alloc: Global,
+    glob: &'g Glob<'t>,
+) -> Result<Option<(Way, Vec<Component<'g, 't>>)>, NoMemory>
+    ensures { IfOk result (λ plan. (taken : ℕ) (prefix : List ℕ) → Prefix glob.now.tree taken prefix
+        → MatchOption plan (HasEmptyName prefix) (λ r.
+        IsPlan glob.now.tree prefix r.0.is_rooted (from_last r.0.names.items) r.1.items)) }
+{
+    let token = glob.tokenized.as_token();
+    match way_of(alloc, token)? {
+        Some(way) => {
+            let leading = leading(alloc, token, way.is_rooted)?;
+            Ok(Some((way, leading)))
+        }
+        None => Ok(None),
+    }
+}
+
+// The plain walk that goes this way.
+fn walk_along<D: Directory>(
+    alloc: Global,
+    directory: D,
+    start: &str,
+    way: Way,
+    range: Range,
+) -> WalkTree<D>
+    ensures begins { BeginsAt D.law directory
+        (way_from start.now way.is_rooted (from_last way.names.items)) range
+        (⟦<WalkTree<D> as FileIterator>⟧.view result) }
+    ensures gives { AtMost (2 * range.budget + 3) (⟦<WalkTree<D> as SeparatingFilter>⟧.left result) }
+{
+    let Way { is_rooted, names } = way;
+    if is_rooted {
+        WalkTree::to_place(alloc, directory, "", "/", "/", names, range)
+    } else {
+        WalkTree::to_place(alloc, directory, start, start, "", names, range)
+    }
+}
+
+// The walk of a glob from a start.
+fn walk_in<'g, 't, D: Directory>(
+    alloc: Global,
+    glob: &'g Glob<'t>,
+    directory: D,
+    start: &str,
+    behavior: WalkBehavior,
+) -> GlobWalk<'g, 't, D>
+    ensures begins { BeginsGlob glob.now.tree D.law directory start.now (range_of behavior)
+        (⟦<GlobWalk<'g, 't, D> as FileIterator>⟧.view result) }
+    ensures gives { AtMost (2 * behavior.budget + 3)
+        (⟦<GlobWalk<'g, 't, D> as SeparatingFilter>⟧.left result) }
+{
+    glob.keeps_rules();
+    let range = glob.within(behavior.range());
+    match needs(alloc, glob) {
+        Ok(Some((way, leading))) => {
+            let walk = walk_along(alloc, directory, start, way, range);
+            walk_of(alloc, walk, leading, glob)
+        }
+        Ok(None) => {
+            let walk = WalkTree::ended(alloc, directory, range);
+            walk_of(alloc, walk, Vec::new(alloc), glob)
+        }
+        Err(_) => {
+            let walk = WalkTree::refused(alloc, directory, range);
+            walk_of(alloc, walk, Vec::new(alloc), glob)
+        }
+    }
+}
+
+impl<'t> Glob<'t> {
+    ghost use Rattle.wax_collect.specs.Trips.{AreNots, KeepsWanted};
+    ghost use Rattle.wax_directory.specs.Shown.{Shown};
+    ghost use Rattle.wax_token.specs.Reads.{Span};
+    ghost use Rattle.wax_token.specs.Syntax.{Tree};
+    ghost use Rattle.wax_tree.specs.Prefix.{ArePlain};
+    ghost use Rattle.wax_walk.specs.Entries.{given_outcome};
+    ghost use Rattle.wax.specs.GlobWalks.{Beginning, trip_of};
+
+    /// The items that are kept of the walk of the glob less what patterns mean, in order, errors among them,
+    /// and the directory: the entries are those of the whole walk, in range, that the glob means and that no
+    /// pattern means. Where memory is refused for the list itself, nothing is answered.
+    pub fn collect_less<D: Directory>(
+        &self,
+        alloc: Global,
+        directory: D,
+        start: &str,
+        behavior: WalkBehavior,
+        nots: Vec<Exclusion>,
+    ) -> Result<(Vec<Result<GlobEntry, WalkError>>, D), NoMemory>
+        ensures { IfOk result (λ r. (depth : Bounds) × Depth self.now.tree depth
+            × ((b : Beginning self.now.tree) (ts : List (Tree Span)) (s : Shown) (listed : List (List ℕ))
+            → AreNots ts (map ⟦<Exclusion as Rule>⟧.rule nots.items) → ArePlain b.names
+            → D.law.shows directory (way_from start.now b.rooted b.names).path s
+            → D.law.tells directory listed
+            → KeepsWanted (D.law.tells r.1)
+            (trip_of start.now (range_of behavior) depth b ts) s listed
+            (map (given_outcome ⟦<GlobEntry as Entry>⟧.facts ⟦<TreeEntry as Entry>⟧.facts) r.0.items))) }
+    {
+        let walk = walk_in(alloc, self, directory, start, behavior);
+        let kept = walk.without(alloc, FilterAny::new(nots));
+        collect_wanted(alloc, kept)
+    }
+}

@@ -1,0 +1,239 @@
+use Rattle.std.proofs.Common.{◌≡◌, ◌+◌, ◌*◌, ◌<◌, ◌≤◌, ℕ, List, [], ◌∷◌, ◌++◌, length, drop, sym, ◌∙◌, subst, arith, rules}
+use Rattle.std.proofs.lemmas.Bool.{MatchBool-at_false, MatchBool-at_true}
+use Rattle.wax_capture.specs.inner.Spans.{looks}
+use Rattle.wax_capture.specs.inner.Splits.{AreChosen, Splits, all_sizes}
+use Rattle.wax_capture.specs.inner.Trials.{HasRoom, HasTaken, lengths_of}
+use Rattle.wax_capture.specs.declared.piece.Piece.{Piece}
+use Rattle.wax_capture.specs.declared.trial.Frame.{Frame}
+use Rattle.wax_capture.proofs.Counting.{reads_next, reads_piece}
+use Rattle.wax_capture.proofs.Trying.{Stands, Took, at_piece, none_first, stands_last, stands_pop, stands_push, took_all, took_within}
+use Rattle.wax_capture.proofs.trial.split_by_trial.Goals as goal
+use Rattle.wax_capture.proofs.trial.split_by_trial.Goals.{then-not-branch+in-Some, else-not-branch+then-index-pieces-2+in_ok-push, else-not-branch+else-index-pieces-2+else-top-text}
+
+pub returns-in_err-take_next-clause-above : goal.returns-in_err-take_next-clause-above
+returns-in_err-take_next-clause-above c =
+    let ps : List Piece = c.args.pieces.now in
+    let text : List ℕ = c.args.text.now in
+    let n : ℕ = length text + 1 in
+    let i : ℕ = c.len-index.result in
+    let p : Piece = c.index-pieces-index.result in
+    let mid : c.loop.visits ≤ c.args.visits.now + c.args.limit =
+    omega (arith, c.if-count-last.false, c.count-else-index-pieces.ensures.exact (omega (arith, c.if-count-last.false, c.saturating_add-last.type_inv)), c.saturating_add-last.ensures, c.count.ensures.above) in
+    let read : c.take_next.new.visits ≤ c.args.visits.now + c.args.limit + 2 * (all_sizes ps * n) =
+    reads_next ps i p c.if-index-pieces.false c.index-pieces-index.is c.args.visits.now c.loop.visits c.take_next.new.visits (looks c.loop.top.span) c.args.limit n mid c.loop.invariant.room.few c.take_next.ensures.above in
+    read
+
+pub returns-in_default-clause-above : goal.returns-in_default-clause-above
+returns-in_default-clause-above c =
+    let ps : List Piece = c.args.pieces.now in
+    let text : List ℕ = c.args.text.now in
+    let n : ℕ = length text + 1 in
+    let i : ℕ = c.len-index.result in
+    let p : Piece = c.index-pieces-index.result in
+    let mid : c.loop.visits ≤ c.args.visits.now + c.args.limit =
+    omega (arith, c.if-count-last.false, c.count-else-index-pieces.ensures.exact (omega (arith, c.if-count-last.false, c.saturating_add-last.type_inv)), c.saturating_add-last.ensures, c.count.ensures.above) in
+    let read : c.take_next.new.visits ≤ c.args.visits.now + c.args.limit + 2 * (all_sizes ps * n) =
+    reads_next ps i p c.if-index-pieces.false c.index-pieces-index.is c.args.visits.now c.loop.visits c.take_next.new.visits (looks c.loop.top.span) c.args.limit n mid c.loop.invariant.room.few c.take_next.ensures.above in
+    read
+
+pub returns-in_err-push-clause-above : goal.returns-in_err-push-clause-above
+returns-in_err-push-clause-above c =
+    let ps : List Piece = c.args.pieces.now in
+    let text : List ℕ = c.args.text.now in
+    let n : ℕ = length text + 1 in
+    let i : ℕ = c.len-index.result in
+    let p : Piece = c.index-pieces-index.result in
+    let mid : c.loop.visits ≤ c.args.visits.now + c.args.limit =
+    omega (arith, c.if-count-last.false, c.count-else-index-pieces.ensures.exact (omega (arith, c.if-count-last.false, c.saturating_add-last.type_inv)), c.saturating_add-last.ensures, c.count.ensures.above) in
+    let read : c.take_next.new.visits ≤ c.args.visits.now + c.args.limit + 2 * (all_sizes ps * n) =
+    reads_next ps i p c.if-index-pieces.false c.index-pieces-index.is c.args.visits.now c.loop.visits c.take_next.new.visits (looks c.loop.top.span) c.args.limit n mid c.loop.invariant.room.few c.take_next.ensures.above in
+    read
+
+pub returns-in_err-chosen-clause-above : goal.returns-in_err-chosen-clause-above
+returns-in_err-chosen-clause-above c =
+    let ps : List Piece = c.args.pieces.now in
+    let text : List ℕ = c.args.text.now in
+    let n : ℕ = length text + 1 in
+    let i : ℕ = c.len-index.result in
+    let p : Piece = c.index-pieces-index.result in
+    let mid : c.loop.visits ≤ c.args.visits.now + c.args.limit =
+    omega (arith, c.if-count-last.false, c.count-else-index-pieces.ensures.exact (omega (arith, c.if-count-last.false, c.saturating_add-last.type_inv)), c.saturating_add-last.ensures, c.count.ensures.above) in
+    let read : c.take_next.new.visits ≤ c.args.visits.now + c.args.limit + 2 * (all_sizes ps * n) =
+    reads_next ps i p c.if-index-pieces.false c.index-pieces-index.is c.args.visits.now c.loop.visits c.take_next.new.visits (looks c.loop.top.span) c.args.limit n mid c.loop.invariant.room.few c.take_next.ensures.above in
+    read
+
+pub returns-then-top-text-clause-above : goal.returns-then-top-text-clause-above
+returns-then-top-text-clause-above c =
+    let ps : List Piece = c.args.pieces.now in
+    let text : List ℕ = c.args.text.now in
+    let n : ℕ = length text + 1 in
+    let i : ℕ = c.len-index.result in
+    let p : Piece = c.index-pieces-index.result in
+    let mid : c.loop.visits ≤ c.args.visits.now + c.args.limit =
+    omega (arith, c.if-count-last.false, c.count-else-index-pieces.ensures.exact (omega (arith, c.if-count-last.false, c.saturating_add-last.type_inv)), c.saturating_add-last.ensures, c.count.ensures.above) in
+    let read : c.take_next.new.visits ≤ c.args.visits.now + c.args.limit + 2 * (all_sizes ps * n) =
+    reads_next ps i p c.if-index-pieces.false c.index-pieces-index.is c.args.visits.now c.loop.visits c.take_next.new.visits (looks c.loop.top.span) c.args.limit n mid c.loop.invariant.room.few c.take_next.ensures.above in
+    read
+
+pub returns-in_default-clause-tried : goal.returns-in_default-clause-tried
+returns-in_default-clause-tried c =
+    let ps : List Piece = c.args.pieces.now in
+    let text : List ℕ = c.args.text.now in
+    let n : ℕ = length text + 1 in
+    let i : ℕ = c.len-index.result in
+    let p : Piece = c.index-pieces-index.result in
+    let most : ℕ = all_sizes ps * n in
+    let fs : List Frame = c.loop.below.items in
+    let rest : List Piece = drop (length fs + 1) ps in
+    let is : drop (length fs) ps ≡ p ∷ rest = at_piece ps fs i p (omega (arith, c.len-index.ensures)) c.if-index-pieces.false c.index-pieces-index.is in
+    let none : c.loop.below.items ≡ [] = search rules in
+    let fails : Splits (p ∷ rest) (drop c.loop.top.at text) → ⊥ = MatchBool-at_false _ _ c.if-not-branch.true (c.in_ok-take_next.ensures.taken rest (c.loop.invariant.tried p rest is)) in
+    none_first text ps fs c.loop.top.at p rest none c.loop.invariant.place is fails
+
+pub overflow_add-top : goal.overflow_add-top
+overflow_add-top c =
+    let ps : List Piece = c.args.pieces.now in
+    let text : List ℕ = c.args.text.now in
+    let n : ℕ = length text + 1 in
+    let i : ℕ = c.len-index.result in
+    let p : Piece = c.index-pieces-index.result in
+    let most : ℕ = all_sizes ps * n in
+    let fs : List Frame = c.loop.below.items in
+    let rest : List Piece = drop (length fs + 1) ps in
+    let is : drop (length fs) ps ≡ p ∷ rest = at_piece ps fs i p (omega (arith, c.len-index.ensures)) c.if-index-pieces.false c.index-pieces-index.is in
+    let new : Frame = c.take_next.new.frame in
+    let at : new.at ≡ c.loop.top.at = c.in_ok-take_next.ensures.at in
+    let got : HasTaken p rest (drop c.loop.top.at text) new = MatchBool-at_true _ _ c.if-not-branch.false (c.in_ok-take_next.ensures.taken rest (c.loop.invariant.tried p rest is)) in
+    let room : HasRoom text most new = record {
+      within = omega (arith, at, c.loop.invariant.room.within);
+      end = c.in_ok-take_next.ensures.end;
+      few = c.in_ok-take_next.ensures.few most c.loop.invariant.room.few (reads_piece ps i p c.if-index-pieces.false c.index-pieces-index.is n);
+    } in
+    let took : Took text most ps fs new = record {
+      trail = c.loop.invariant.trail;
+      place = at ∙ c.loop.invariant.place;
+      is = (p, is, subst (λ a. HasTaken p rest (drop a text) new) (sym at) got);
+      room = room;
+    } in
+    let fits : length text < 18446744073709551616 = search rules in
+    omega (arith, took_within text most ps fs new took, fits)
+
+pub overflow_add-top-else-index-pieces-2 : goal.overflow_add-top-else-index-pieces-2
+overflow_add-top-else-index-pieces-2 c =
+    let ps : List Piece = c.args.pieces.now in
+    let text : List ℕ = c.args.text.now in
+    let n : ℕ = length text + 1 in
+    let i : ℕ = c.len-index.result in
+    let p : Piece = c.index-pieces-index.result in
+    let most : ℕ = all_sizes ps * n in
+    let fs : List Frame = c.loop.below.items in
+    let rest : List Piece = drop (length fs + 1) ps in
+    let is : drop (length fs) ps ≡ p ∷ rest = at_piece ps fs i p (omega (arith, c.len-index.ensures)) c.if-index-pieces.false c.index-pieces-index.is in
+    let new : Frame = c.take_next.new.frame in
+    let at : new.at ≡ c.loop.top.at = c.in_ok-take_next.ensures.at in
+    let got : HasTaken p rest (drop c.loop.top.at text) new = MatchBool-at_true _ _ c.if-not-branch.false (c.in_ok-take_next.ensures.taken rest (c.loop.invariant.tried p rest is)) in
+    let room : HasRoom text most new = record {
+      within = omega (arith, at, c.loop.invariant.room.within);
+      end = c.in_ok-take_next.ensures.end;
+      few = c.in_ok-take_next.ensures.few most c.loop.invariant.room.few (reads_piece ps i p c.if-index-pieces.false c.index-pieces-index.is n);
+    } in
+    let took : Took text most ps fs new = record {
+      trail = c.loop.invariant.trail;
+      place = at ∙ c.loop.invariant.place;
+      is = (p, is, subst (λ a. HasTaken p rest (drop a text) new) (sym at) got);
+      room = room;
+    } in
+    let fits : length text < 18446744073709551616 = search rules in
+    omega (arith, took_within text most ps fs new took, fits)
+
+pub returns-then-top-text-clause-tried : goal.returns-then-top-text-clause-tried
+returns-then-top-text-clause-tried c =
+    let ps : List Piece = c.args.pieces.now in
+    let text : List ℕ = c.args.text.now in
+    let n : ℕ = length text + 1 in
+    let i : ℕ = c.len-index.result in
+    let p : Piece = c.index-pieces-index.result in
+    let most : ℕ = all_sizes ps * n in
+    let fs : List Frame = c.loop.below.items in
+    let rest : List Piece = drop (length fs + 1) ps in
+    let is : drop (length fs) ps ≡ p ∷ rest = at_piece ps fs i p (omega (arith, c.len-index.ensures)) c.if-index-pieces.false c.index-pieces-index.is in
+    let new : Frame = c.take_next.new.frame in
+    let at : new.at ≡ c.loop.top.at = c.in_ok-take_next.ensures.at in
+    let got : HasTaken p rest (drop c.loop.top.at text) new = MatchBool-at_true _ _ c.if-not-branch.false (c.in_ok-take_next.ensures.taken rest (c.loop.invariant.tried p rest is)) in
+    let room : HasRoom text most new = record {
+      within = omega (arith, at, c.loop.invariant.room.within);
+      end = c.in_ok-take_next.ensures.end;
+      few = c.in_ok-take_next.ensures.few most c.loop.invariant.room.few (reads_piece ps i p c.if-index-pieces.false c.index-pieces-index.is n);
+    } in
+    let took : Took text most ps fs new = record {
+      trail = c.loop.invariant.trail;
+      place = at ∙ c.loop.invariant.place;
+      is = (p, is, subst (λ a. HasTaken p rest (drop a text) new) (sym at) got);
+      room = room;
+    } in
+    let same : c.in_ok-chosen.chosen.items ≡ lengths_of fs ++ new.n ∷ [] = search rules in
+    subst (AreChosen ps text) (sym same) (took_all text most ps fs new took (omega (arith, c.if-index-pieces.false, c.if-index-pieces-2.false, c.len-index.ensures)) c.if-top-text.true)
+
+pub loop-preserved : goal.loop-preserved
+loop-preserved c =
+    let ps : List Piece = c.args.pieces.now in
+    let text : List ℕ = c.args.text.now in
+    let n : ℕ = length text + 1 in
+    let i : ℕ = c.len-index.result in
+    let p : Piece = c.index-pieces-index.result in
+    let mid : c.loop.visits ≤ c.args.visits.now + c.args.limit =
+    omega (arith, c.if-count-last.false, c.count-else-index-pieces.ensures.exact (omega (arith, c.if-count-last.false, c.saturating_add-last.type_inv)), c.saturating_add-last.ensures, c.count.ensures.above) in
+    let read : c.take_next.new.visits ≤ c.args.visits.now + c.args.limit + 2 * (all_sizes ps * n) =
+    reads_next ps i p c.if-index-pieces.false c.index-pieces-index.is c.args.visits.now c.loop.visits c.take_next.new.visits (looks c.loop.top.span) c.args.limit n mid c.loop.invariant.room.few c.take_next.ensures.above in
+    let most : ℕ = all_sizes ps * n in
+    let fs : List Frame = c.loop.below.items in
+    let rest : List Piece = drop (length fs + 1) ps in
+    let is : drop (length fs) ps ≡ p ∷ rest = at_piece ps fs i p (omega (arith, c.len-index.ensures)) c.if-index-pieces.false c.index-pieces-index.is in
+    let stands : Stands text most ps c.if-not-branch.below.items c.if-not-branch.top = elim c.if-not-branch.branch [
+      | then-not-branch+in-Some w ↦ (
+          let same : c.loop.below.items ≡ w.pop.new.self.items ++ w.in-Some.frame ∷ [] = search rules in
+          let fails : Splits (p ∷ rest) (drop c.loop.top.at text) → ⊥ = MatchBool-at_false _ _ w.if-not-branch.true (c.in_ok-take_next.ensures.taken rest (c.loop.invariant.tried p rest is)) in
+          rw w.below-is (rw w.top-is (stands_pop text most ps fs w.pop.new.self.items w.in-Some.frame c.loop.top.at p rest same c.loop.invariant.trail c.loop.invariant.place is fails)))
+      | else-not-branch+then-index-pieces-2+in_ok-push w ↦ (
+          let new : Frame = c.take_next.new.frame in
+          let at : new.at ≡ c.loop.top.at = c.in_ok-take_next.ensures.at in
+          let got : HasTaken p rest (drop c.loop.top.at text) new = MatchBool-at_true _ _ w.if-not-branch.false (c.in_ok-take_next.ensures.taken rest (c.loop.invariant.tried p rest is)) in
+          let room : HasRoom text most new = record {
+            within = omega (arith, at, c.loop.invariant.room.within);
+            end = c.in_ok-take_next.ensures.end;
+            few = c.in_ok-take_next.ensures.few most c.loop.invariant.room.few (reads_piece ps i p c.if-index-pieces.false c.index-pieces-index.is n);
+          } in
+          let took : Took text most ps fs new = record {
+            trail = c.loop.invariant.trail;
+            place = at ∙ c.loop.invariant.place;
+            is = (p, is, subst (λ a. HasTaken p rest (drop a text) new) (sym at) got);
+            room = room;
+          } in
+          let pushed : w.push.new.self.items ≡ fs ++ new ∷ [] = search rules in
+          let next : w.replace.new.dest ≡ w.new-next.result = search rules in
+          rw w.below-is (rw w.top-is (rw pushed (rw next (stands_push text most ps fs new w.new-next.result took w.new-next.ensures.at w.new-next.ensures.opened w.new-next.ensures.end w.new-next.ensures.looks)))))
+      | else-not-branch+else-index-pieces-2+else-top-text w ↦ (
+          let new : Frame = c.take_next.new.frame in
+          let at : new.at ≡ c.loop.top.at = c.in_ok-take_next.ensures.at in
+          let got : HasTaken p rest (drop c.loop.top.at text) new = MatchBool-at_true _ _ w.if-not-branch.false (c.in_ok-take_next.ensures.taken rest (c.loop.invariant.tried p rest is)) in
+          let room : HasRoom text most new = record {
+            within = omega (arith, at, c.loop.invariant.room.within);
+            end = c.in_ok-take_next.ensures.end;
+            few = c.in_ok-take_next.ensures.few most c.loop.invariant.room.few (reads_piece ps i p c.if-index-pieces.false c.index-pieces-index.is n);
+          } in
+          let took : Took text most ps fs new = record {
+            trail = c.loop.invariant.trail;
+            place = at ∙ c.loop.invariant.place;
+            is = (p, is, subst (λ a. HasTaken p rest (drop a text) new) (sym at) got);
+            room = room;
+          } in
+          rw w.below-is (rw w.top-is (stands_last text most ps fs new took (omega (arith, w.if-index-pieces-2.false, c.len-index.ensures)) w.if-top-text.false)))
+    ] in
+    record {
+      trail = stands.trail;
+      place = stands.place;
+      tried = stands.tried;
+      room = stands.room;
+      above = read;
+      steady = omega (arith, c.take_next.ensures.steady, c.loop.invariant.steady);
+    }

@@ -1,0 +1,93 @@
+//! The forms of leaves.
+ghost use Rattle.std.specs.Prelude.{◌≡◌, ◌↔◌, ◌≤◌, ℕ, Bool, List, IfOk, IfSome, chars, length, map};
+ghost use Rattle.unicode.specs.CaseFolding.{simple_fold};
+ghost use Rattle.wax_token.specs.Cost.{cost, leaf_cost};
+ghost use Rattle.wax_token.specs.Meaning.{LeafMeans, Means, SameText};
+ghost use Rattle.wax_token.specs.View.{leaf_of, wildcard_leaf};
+ghost use Rattle.wax_capture.specs.Pieces.{TakenBy, form_size};
+
+use crate::bytes::characters;
+use crate::form::Form;
+use std::alloc::{AllocError, Global};
+use unicode::case::simple_fold;
+use wax_program::instruction::Test;
+use wax_token::token::{BranchKind, Class, LeafKind, Literal, Token, Topology, Wildcard};
+
+/// The foldings of the characters.
+fn folded(alloc: Global, characters: &[char]) -> Result<Vec<char>, AllocError>
+    ensures { IfOk result (λ v. v.items ≡ map simple_fold characters.now) }
+{
+    let mut letters = Vec::with_capacity(alloc, characters.len())?;
+    for c in characters {
+        letters.push(simple_fold(*c))?;
+    }
+    Ok(letters)
+}
+
+fn form_of_literal(alloc: Global, literal: &Literal<'_>) -> Result<Form, AllocError>
+    ensures means { IfOk result (λ form. (x : List ℕ)
+        → TakenBy form x ↔ SameText literal.now.0 literal.now.1 x) }
+    ensures few { IfOk result (λ form. form_size form ≤ length literal.now.1) }
+{
+    let letters = characters(alloc, literal.text())?;
+    if literal.is_case_insensitive() {
+        let foldings = folded(alloc, letters.as_slice())?;
+        return Ok(Form::Text(foldings, true));
+    }
+    Ok(Form::Text(letters, false))
+}
+
+fn form_of_wildcard(wildcard: &Wildcard, before: bool, after: bool) -> Form
+    ensures means { (x : List ℕ) → TakenBy result x ↔ LeafMeans (wildcard_leaf wildcard.now) before after x }
+    ensures few { form_size result ≤ leaf_cost (wildcard_leaf wildcard.now) }
+{
+    match wildcard {
+        Wildcard::One => Form::One(Test::NotSlash),
+        Wildcard::ZeroOrMore(_) => Form::Name,
+        Wildcard::Tree { has_root } => Form::Tree {
+            before,
+            after,
+            has_root: *has_root,
+        },
+    }
+}
+
+/// The form of a leaf, where `before` and `after` say whether something is around it.
+pub fn form_of_leaf(
+    alloc: Global,
+    leaf: &LeafKind<'_>,
+    before: bool,
+    after: bool,
+) -> Result<Form, AllocError>
+    ensures means { IfOk result (λ form. (x : List ℕ)
+        → TakenBy form x ↔ LeafMeans (leaf_of leaf.now) before after x) }
+    ensures few { IfOk result (λ form. form_size form ≤ leaf_cost (leaf_of leaf.now)) }
+{
+    Ok(match leaf {
+        LeafKind::Class(class) => {
+            let archetypes = class.archetypes().to_vec(alloc)?;
+            Form::One(Test::Class(Class::new(class.is_negated(), archetypes)))
+        }
+        LeafKind::Literal(literal) => form_of_literal(alloc, literal)?,
+        LeafKind::Separator(_) => Form::One(Test::Char('/')),
+        LeafKind::Wildcard(wildcard) => form_of_wildcard(wildcard, before, after),
+    })
+}
+
+/// The leaf that the token is, alone or as a sub-glob.
+pub fn lone_leaf<'i, 't, A>(token: &'i Token<'t, A>) -> Option<&'i LeafKind<'t>>
+    ensures means { IfSome result (λ leaf. (before after : Bool) (x : List ℕ)
+        → LeafMeans (leaf_of leaf.now) before after x ↔ Means token.now before after x) }
+    ensures cheap { IfSome result (λ leaf. leaf_cost (leaf_of leaf.now) ≤ cost token.now) }
+{
+    match token.topology() {
+        Topology::Leaf(leaf) => Some(leaf),
+        Topology::Branch(branch) => match branch {
+            BranchKind::Concatenation(c) => match c.tokens.as_slice() {
+                [token] => token.as_leaf(),
+                _ => None,
+            },
+            _ => None,
+        },
+    }
+}

@@ -1,0 +1,164 @@
+//! The chosen split of a text by trial, from left to right.
+ghost use Rattle.std.specs.Prelude.{◌≡◌, ◌+◌, ◌*◌, ◌<◌, ◌≤◌, ◌∷◌, [], ◌++◌, ℕ, List, IfOk, length, drop};
+ghost use Rattle.std.specs.Bool.{MatchBool};
+ghost use Rattle.wax_capture.specs.Pieces.{forms_of, size_of};
+ghost use Rattle.wax_capture.specs.inner.Spans.{InSpan, IsNarrowed, IsPicked, looks};
+ghost use Rattle.wax_capture.specs.inner.Splits.{Splits, all_sizes};
+ghost use Rattle.wax_capture.specs.inner.Trials.{HasTaken, IsOpen, IsTried, lengths_of};
+ghost use Rattle.wax_capture.specs.declared.piece.Piece.{Piece};
+
+use crate::lengths::lengths_of;
+use crate::piece::Piece;
+use crate::span::{Span, pick};
+use crate::visits::Visits;
+use std::alloc::{AllocError, Global};
+use std::mem;
+
+/// What a piece takes, as far as it was tried.
+#[derive(Drop)]
+pub struct Frame {
+    /// The place where it begins.
+    at: usize,
+    /// How many characters it takes.
+    n: usize,
+    /// How many of its ways were opened.
+    opened: usize,
+    /// The lengths by the last of these that are left to be tried.
+    span: Span,
+}
+
+impl Frame {
+    /// Nothing was tried.
+    fn new(at: usize) -> Frame
+        ensures at { result.at ≡ at }
+        ensures opened { result.opened ≡ 0 }
+        ensures end { result.span.end ≡ 0 }
+        ensures looks { looks result.span ≡ 0 }
+    {
+        Frame {
+            at,
+            n: 0,
+            opened: 0,
+            span: Span::new(0, 0),
+        }
+    }
+}
+
+/// What a trial came to.
+#[derive(Drop)]
+pub enum Trial {
+    /// The lengths of the pieces by the chosen split.
+    Chosen(Vec<usize>),
+    /// The pieces don't split the text.
+    Nothing,
+    /// It took too long.
+    Unknown,
+}
+
+/// Takes the best length that is left in the frame's span. Whether there is one.
+fn take_left(text: &[char], is_lazy: bool, frame: &mut Frame, visits: &mut Visits) -> bool
+    requires { frame.old.at + frame.old.span.end ≤ length text.now + 1 }
+    ensures taken { MatchBool result
+        (IsPicked frame.old.span frame.new.span (drop frame.old.at text.now) is_lazy frame.new.n)
+        ((m : ℕ) → InSpan frame.old.span (drop frame.old.at text.now) m → ⊥) }
+    ensures narrowed { IsNarrowed frame.old.span frame.new.span (drop frame.old.at text.now) }
+    ensures at { frame.new.at ≡ frame.old.at }
+    ensures opened { frame.new.opened ≡ frame.old.opened }
+    ensures end { frame.new.span.end ≤ frame.old.span.end }
+    ensures looked { visits.new + looks frame.new.span ≤ visits.old + looks frame.old.span }
+    ensures steady { visits.old ≤ visits.new }
+{
+    match pick(text, frame.at, &mut frame.span, is_lazy, visits) {
+        Some(n) => {
+            frame.n = n;
+            true
+        }
+        None => false,
+    }
+}
+
+/// Takes the best length that wasn't tried. Whether there is one.
+fn take_next(
+    alloc: Global,
+    piece: &Piece,
+    text: &[char],
+    frame: &mut Frame,
+    visits: &mut Visits,
+) -> Result<bool, AllocError>
+    requires within { frame.old.at ≤ length text.now }
+    requires end { frame.old.at + frame.old.span.end ≤ length text.now + 1 }
+    ensures taken { (ps : List Piece) → IsOpen piece.now ps (drop frame.old.at text.now) frame.old
+        → IfOk result (λ b. MatchBool b (HasTaken piece.now ps (drop frame.old.at text.now) frame.new)
+        (Splits (piece.now ∷ ps) (drop frame.old.at text.now) → ⊥)) }
+    ensures at { IfOk result (λ _. frame.new.at ≡ frame.old.at) }
+    ensures end { IfOk result (λ _. frame.new.at + frame.new.span.end ≤ length text.now + 1) }
+    ensures few { (most : ℕ) → looks frame.old.span ≤ most
+        → size_of (forms_of piece.now.ways) * (length text.now + 1) ≤ most
+        → IfOk result (λ _. looks frame.new.span ≤ most) }
+    ensures above { visits.new ≤ visits.old + looks frame.old.span
+        + size_of (forms_of piece.now.ways) * (length text.now + 1) }
+    ensures steady { visits.old ≤ visits.new }
+{
+    if take_left(text, piece.is_lazy, frame, visits) {
+        return Ok(true);
+    }
+    let forms = piece.ways.forms();
+    for index in frame.opened..forms.len() {
+        frame.span = lengths_of(alloc, &forms[index], text, frame.at, visits)?;
+        frame.opened = index + 1;
+        if take_left(text, piece.is_lazy, frame, visits) {
+            return Ok(true);
+        }
+    }
+    Ok(false)
+}
+
+/// The lengths of the frames, and a last one.
+fn lengths(alloc: Global, frames: &[Frame], last: usize) -> Result<Vec<usize>, AllocError>
+    ensures { IfOk result (λ r. r.items ≡ lengths_of frames.now ++ last ∷ []) }
+{
+    let mut lengths = Vec::with_capacity(alloc, frames.len())?;
+    for index in 0..frames.len() {
+        lengths.push(frames[index].n)?;
+    }
+    lengths.push(last)?;
+    Ok(lengths)
+}
+
+/// The lengths of the pieces by the chosen split. The first length that wasn't tried is taken for each piece in
+/// turn, and where there is none, the piece before it has to take another. It gives up once the meter has
+/// counted `limit`.
+pub fn split_by_trial(
+    alloc: Global,
+    pieces: &[Piece],
+    text: &[char],
+    limit: usize,
+    visits: &mut Visits,
+) -> Result<Trial, AllocError>
+    ensures tried { IfOk result (IsTried pieces.now text.now) }
+    ensures above { visits.new ≤ visits.old + limit + 2 * (all_sizes pieces.now * (length text.now + 1)) }
+    ensures steady { visits.old ≤ visits.new }
+{
+    let last = visits.count().saturating_add(limit as u128);
+    let mut below: Vec<Frame> = Vec::new(alloc);
+    let mut top = Frame::new(0);
+    for _ in 0..limit.saturating_mul(4) {
+        let index = below.len();
+        if index >= pieces.len() || visits.count() >= last {
+            return Ok(Trial::Unknown);
+        }
+        if !take_next(alloc, &pieces[index], text, &mut top, visits)? {
+            let Some(frame) = below.pop() else {
+                return Ok(Trial::Nothing);
+            };
+            top = frame;
+        } else if index + 1 < pieces.len() {
+            let next = Frame::new(top.at + top.n);
+            below.push(mem::replace(&mut top, next))?;
+        } else if top.at + top.n == text.len() {
+            let chosen = lengths(alloc, below.as_slice(), top.n)?;
+            return Ok(Trial::Chosen(chosen));
+        }
+    }
+    Ok(Trial::Unknown)
+}

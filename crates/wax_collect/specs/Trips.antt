@@ -1,0 +1,110 @@
+-- What a walk of a glob, less what patterns mean, gives to its end.
+use Rattle.std.specs.Prelude.{◌≡◌, ℕ, ◌+◌, ◌<◌, Bool, false, if◌then◌else◌, nat_lt, ⊤, List, [], ◌∷◌, ◌++◌}
+use Rattle.std.specs.Prelude.{All, filter, length}
+use Rattle.wax_directory.specs.Law.{Law}
+use Rattle.wax_directory.specs.Shown.{Shown}
+use Rattle.wax_token.specs.Decided.{means_test}
+use Rattle.wax_token.specs.Reads.{Span}
+use Rattle.wax_token.specs.Syntax.{Tree}
+use Rattle.wax_tree.specs.Begins.{Way}
+use Rattle.wax_tree.specs.declared.steps.Range.{Range}
+use Rattle.wax_tree.specs.Plain.{count_shown}
+use Rattle.wax_walk.specs.Collected.{IsCutShort}
+use Rattle.wax_walk.specs.declared.error.FaultKind.TheVariants.{Budget}
+use Rattle.wax_walk.specs.Forest.{Forest, nothing, Pending, pending, preorder, listings}
+use Rattle.wax_walk.specs.Given.{Facts, Mark, Given, fault, no_memory, is_kept}
+use Rattle.wax_walk.specs.View.{WalkView}
+use Rattle.wax_wanted.specs.Candidates.{base}
+use Rattle.wax_wanted.specs.Leading.{component_test, leading_of}
+use Rattle.wax_wanted.specs.Marks.{not_mark, of_candidate}
+use Rattle.wax_wanted.specs.Premises.{CanWalk, IsUnmeant}
+use Rattle.wax_wanted.specs.Walked.{glob_walk, wanted_entries, MayList}
+use Rattle.wax_wanted.specs.Wanted.{Wanted, is_kept_entry}
+
+-- ---- programs of a glob, and rules of patterns
+
+-- these programs are those of the components, one for one
+abbrev pub AreComponents : {A C : Type 0} → (C → List ℕ → Bool) → List C → List (List (Tree A)) → Type 0
+AreComponents tests [] [] = ⊤
+AreComponents tests [] (t ∷ ts) = ⊥
+AreComponents tests (c ∷ cs) [] = ⊥
+AreComponents tests (c ∷ cs) (t ∷ ts) = ((name : List ℕ) → tests c name ≡ component_test t name)
+    × AreComponents tests cs ts
+
+-- the program decides what the glob means, and these are the programs of its leading components
+pub record AreOf {A P C : Type 0} (w : Wanted A) (decides : P → List ℕ → Bool) (p : P)
+    (tests : C → List ℕ → Bool) (cs : List C) : Type 0 where
+  pub glob : (s : List ℕ) → decides p s ≡ means_test w.glob false false s
+  pub components : AreComponents tests cs (leading_of w.rooted w.glob)
+
+-- the rule is that of a pattern that is left out
+abbrev pub IsNot : {A : Type 0} → Tree A → (Facts → Mark) → Type 0
+IsNot t rule = (f : Facts) → rule f ≡ of_candidate (not_mark t) f
+
+abbrev pub AreNots : {A : Type 0} → List (Tree A) → List (Facts → Mark) → Type 0
+AreNots [] [] = ⊤
+AreNots [] (rule ∷ rules) = ⊥
+AreNots (t ∷ ts) [] = ⊥
+AreNots (t ∷ ts) (rule ∷ rules) = IsNot t rule × AreNots ts rules
+
+-- what more is left out
+abbrev pub less : {A : Type 0} → Wanted A → List (Tree A) → Wanted A
+less w ts = record w { nots = w.nots ++ ts }
+
+-- ---- walks
+
+-- what is wanted, of which depths, the range that is walked for it, and the way
+pub record Trip : Type 0 where
+  pub wanted : Wanted Span
+  pub asked : Range
+  pub walked : Range
+  pub way : Way
+
+abbrev pub trip_less : Trip → List (Tree Span) → Trip
+trip_less trip ts = record trip { wanted = less trip.wanted ts }
+
+-- the glob's walk may go this way; or no candidate is meant, and the way has more names than the greatest
+-- depth
+pub data MayGo (trip : Trip) : Type 0 where
+  goes : CanWalk trip.wanted trip.asked trip.walked trip.way → MayGo trip
+  unmeant : IsUnmeant trip.wanted.rooted trip.wanted.glob → trip.way.candidate ≡ base trip.wanted.rooted
+      → trip.walked.max < length trip.way.names → MayGo trip
+
+-- the way has more names than the greatest depth
+abbrev pub is_beyond : Trip → Bool
+is_beyond trip = nat_lt trip.walked.max (length trip.way.names)
+
+-- what comes: nothing where the way is longer than the greatest depth, else the glob's walk
+abbrev pub trip_walk : Trip → Shown → Forest Given
+trip_walk trip s = if is_beyond trip then nothing else glob_walk trip.wanted trip.walked trip.way s
+
+-- how many items are taken for it, at most
+abbrev pub trip_items : Trip → Shown → ℕ
+trip_items trip s = if is_beyond trip then 0 else count_shown s
+
+-- what is to come at first
+abbrev pub trip_pending : Trip → Shown → List (List ℕ) → Pending Given
+trip_pending trip s listed = pending nothing (trip_walk trip s) listed (trip_items trip s)
+
+-- a walk over this directory, of which this is seen: what is shown where the way begins will come
+pub record ComesWanted {D C : Type 0} (law : Law D C) (d : D) (trip : Trip) (view : WalkView D) : Type 0 where
+  pub comes : (s : Shown) (listed : List (List ℕ)) → law.shows d trip.way.path s → law.tells d listed
+      → view.to_come (trip_pending trip s listed)
+  pub listings : view.listings_left ≡ trip.walked.budget + 1
+
+-- These items were kept: all that comes, of which the entries are those of the whole walk that are in the
+-- range asked for, that the glob means and that no pattern means that is left out, in order, and only folders
+-- were listed that may be; or a beginning of it, and then that memory was refused, or that the budget is
+-- reached.
+pub data KeepsWanted (tells : List (List ℕ) → Type 0) (trip : Trip) (s : Shown) (listed : List (List ℕ))
+    (ys : List Given) : Type 0 where
+  gives : ys ≡ filter is_kept (preorder (trip_walk trip s))
+      → filter is_kept_entry ys ≡ wanted_entries trip.wanted trip.asked trip.way s
+      → tells (listed ++ listings (trip_walk trip s))
+      → All (MayList trip.wanted trip.walked trip.way) (listings (trip_walk trip s))
+      → KeepsWanted tells trip s listed ys
+  lacks_memory : IsCutShort (filter is_kept (preorder (trip_walk trip s))) no_memory ys
+      → KeepsWanted tells trip s listed ys
+  over_budget : (path : List ℕ) (depth : ℕ) → trip.walked.budget < count_shown s
+      → IsCutShort (filter is_kept (preorder (trip_walk trip s))) (fault Budget path depth) ys
+      → KeepsWanted tells trip s listed ys

@@ -1,0 +1,5 @@
+pub mod Combining
+pub mod Naming
+pub mod Meaning
+pub mod Layers
+pub mod Rules

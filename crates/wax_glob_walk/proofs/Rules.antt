@@ -1,0 +1,52 @@
+-- Several rules, one after the other.
+use Rattle.std.proofs.Common.{◌≡◌, ℕ, ◌+◌, ◌<◌, suc, Bool, true, false, List, ◌∷◌, length, get_or, drop}
+use Rattle.std.proofs.Common.{drop-cons, map, refl, sym, ap, ◌∙◌, arith}
+use Rattle.std.specs.Prelude.{if◌then◌else◌}
+use Rattle.wax_walk.specs.Given.{Facts, Mark, kept, alone, with_tree, combined_mark}
+use Rattle.wax_glob_walk.specs.Programs.{any_mark}
+use Rattle.wax_glob_walk.proofs.Combining.{combined_thrice}
+
+-- the item at a place, and those after it
+pub left_at : {A : Type 0} (xs : List A) (i : ℕ) (x : A) → i < length xs → x ≡ get_or xs i x
+    → drop i xs ≡ x ∷ drop (i + 1) xs
+left_at xs i x l is =
+    let next : suc i ≡ i + 1 = omega arith in
+    drop-cons xs i x l ∙ (ap (λ z. z ∷ drop (suc i) xs) (sym is) ∙ ap (λ k. x ∷ drop k xs) next)
+
+-- what was said so far: nothing, or to leave it out alone
+abbrev pub so_far : Bool → Mark
+so_far b = if b then alone else kept
+
+module _ {R : Type 0} (rule : R → Facts → Mark) (f : Facts) (xs : List R) (i : ℕ) (x : R) (total : Mark)
+    (l : i < length xs) (is : x ≡ get_or xs i x) where
+  abbrev others : Mark
+  others = any_mark (map rule (drop (i + 1) xs)) f
+
+  said : (b : Bool) → combined_mark (so_far b) (any_mark (map rule (drop i xs)) f) ≡ total
+      → combined_mark (combined_mark (so_far b) (rule x f)) others ≡ total
+  said b h = combined_thrice (so_far b) (rule x f) others
+      ∙ (ap (λ ys. combined_mark (so_far b) (any_mark (map rule ys) f)) (sym (left_at xs i x l is)) ∙ h)
+
+  pub said_nothing : (b : Bool) → combined_mark (so_far b) (any_mark (map rule (drop i xs)) f) ≡ total
+      → kept ≡ rule x f → combined_mark (so_far b) others ≡ total
+  said_nothing b h e = ap (λ m. combined_mark m others) (still b)
+      ∙ (ap (λ m. combined_mark (combined_mark (so_far b) m) others) e ∙ said b h) where
+        still : (c : Bool) → so_far c ≡ combined_mark (so_far c) kept
+        still true = refl
+        still false = refl
+
+  pub said_alone : (b : Bool) → combined_mark (so_far b) (any_mark (map rule (drop i xs)) f) ≡ total
+      → alone ≡ rule x f → combined_mark alone others ≡ total
+  said_alone b h e = ap (λ m. combined_mark m others) (now b)
+      ∙ (ap (λ m. combined_mark (combined_mark (so_far b) m) others) e ∙ said b h) where
+        now : (c : Bool) → alone ≡ combined_mark (so_far c) alone
+        now true = refl
+        now false = refl
+
+  pub said_with_tree : (b : Bool) → combined_mark (so_far b) (any_mark (map rule (drop i xs)) f) ≡ total
+      → with_tree ≡ rule x f → with_tree ≡ total
+  said_with_tree b h e = ap (λ m. combined_mark m others) (now b)
+      ∙ (ap (λ m. combined_mark (combined_mark (so_far b) m) others) e ∙ said b h) where
+        now : (c : Bool) → with_tree ≡ combined_mark (so_far c) with_tree
+        now true = refl
+        now false = refl

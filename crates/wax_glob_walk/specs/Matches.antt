@@ -1,0 +1,48 @@
+-- What contracts see of entries that a glob means.
+use Rattle.std.specs.Prelude.{ℕ, List, Option, Some, None, Result, Ok, Err, chars}
+use Rattle.wax_candidate.specs.Matched.{MatchedView, IsMatchOf}
+use Rattle.wax_filter.specs.declared.filter.separation.Separation.{Separation}
+use Rattle.wax_filter.specs.declared.filter.separation.Separation.TheVariants.{Filtrate, Residue}
+use Rattle.wax_filter.specs.declared.filter.tree_residue.TreeResidue.{TreeResidue}
+use Rattle.wax_filter.specs.Leaving.{residue_item}
+use Rattle.wax_walk.specs.declared.entry.TreeEntry.{TreeEntry}
+use Rattle.wax_walk.specs.declared.error.WalkError.{WalkError}
+use Rattle.wax_walk.specs.Entries.{facts_of}
+use Rattle.wax_walk.specs.Given.{Facts}
+use Rattle.wax_glob_walk.specs.declared.entry.GlobEntry.{GlobEntry}
+
+-- the entry as one of a plain walk, and what was captured of it
+abbrev pub entry_of : GlobEntry → TreeEntry
+entry_of e = e.entry
+
+abbrev pub match_of : GlobEntry → MatchedView
+match_of e = e.matched
+
+abbrev pub glob_facts : GlobEntry → Facts
+glob_facts e = facts_of (entry_of e)
+
+-- the entry of an item, if it isn't an error
+abbrev pub shown_outcome : Result GlobEntry WalkError → Option TreeEntry
+shown_outcome (Ok e) = Some (entry_of e)
+shown_outcome (Err e) = None
+
+abbrev pub shown_entry : {S : Type 0} → Separation S (Result GlobEntry WalkError) (TreeResidue TreeEntry)
+    → Option TreeEntry
+shown_entry (Filtrate x) = shown_outcome x.inner
+shown_entry (Residue x) = Some (residue_item x.inner)
+
+module _ (Means : List ℕ → Type 0) (Captured : List ℕ → List (List ℕ) → Type 0) where
+  -- what was captured of an entry that is kept is what is captured of its candidate
+  abbrev pub IsMatchedEntry : Result GlobEntry WalkError → Type 0
+  IsMatchedEntry (Ok e) = IsMatchOf Means Captured (chars (glob_facts e).candidate) (Some (match_of e))
+  IsMatchedEntry (Err e) = Unit {0}
+
+  abbrev pub IsMatchedIn : {S : Type 0} → Separation S (Result GlobEntry WalkError) (TreeResidue TreeEntry)
+      → Type 0
+  IsMatchedIn (Filtrate x) = IsMatchedEntry x.inner
+  IsMatchedIn (Residue x) = Unit {0}
+
+  abbrev pub IsMatchedAnswer : {S : Type 0}
+      → Option (Separation S (Result GlobEntry WalkError) (TreeResidue TreeEntry)) → Type 0
+  IsMatchedAnswer None = Unit {0}
+  IsMatchedAnswer (Some x) = IsMatchedIn x

@@ -1,0 +1,77 @@
+//! Entries that a glob means.
+
+ghost use Rattle.std.specs.Prelude.{◌≡◌, chars};
+ghost use Rattle.wax_glob_walk.specs.Matches.{entry_of, match_of};
+ghost use Rattle.wax_walk.specs.Entries.{facts_of};
+
+use wax_candidate::{CandidatePath, MatchedText};
+use wax_directory::directory::FileType;
+use wax_walk::{Entry, TreeEntry};
+
+/// An entry that a glob means, with what it captured of the entry's candidate.
+#[derive(Drop)]
+pub struct GlobEntry {
+    pub(crate) entry: TreeEntry,
+    matched: MatchedText<'static>,
+}
+
+impl GlobEntry {
+    /// An entry with what was captured of its candidate.
+    pub(crate) fn new(entry: TreeEntry, matched: MatchedText<'static>) -> Self
+        ensures entry { entry_of result ≡ entry }
+        ensures matched { match_of result ≡ matched.entry }
+    {
+        GlobEntry { entry, matched }
+    }
+
+    /// What was captured of the candidate.
+    pub fn matched(&self) -> &MatchedText<'static>
+        ensures { result.now ≡ match_of self.now }
+    {
+        &self.matched
+    }
+
+    /// The candidate: the names that lead from the start of the walk to the entry, joined by `/`.
+    pub fn to_candidate_path(&self) -> CandidatePath<'_>
+        ensures { result ≡ chars (⟦<GlobEntry as Entry>⟧.facts self.now).candidate }
+    {
+        let (_, candidate) = self.entry.root_relative_paths();
+        CandidatePath::from(candidate)
+    }
+}
+
+impl Entry for GlobEntry {
+    ghost facts = { λ e. facts_of (entry_of e) };
+
+    fn as_tree_entry(&self) -> &TreeEntry {
+        &self.entry
+    }
+
+    fn path(&self) -> &str {
+        self.entry.path()
+    }
+
+    fn into_path(self) -> String {
+        self.entry.into_path()
+    }
+
+    fn root_relative_paths(&self) -> (&str, &str) {
+        self.entry.root_relative_paths()
+    }
+
+    fn file_type(&self) -> FileType {
+        self.entry.file_type()
+    }
+
+    fn depth(&self) -> usize {
+        self.entry.depth()
+    }
+}
+
+impl From<GlobEntry> for TreeEntry {
+    ghost from_gives = { λ entry tree. tree ≡ entry_of entry };
+
+    fn from(entry: GlobEntry) -> TreeEntry {
+        entry.entry
+    }
+}

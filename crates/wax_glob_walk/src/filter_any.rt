@@ -1,0 +1,48 @@
+//! Several rules as one.
+
+ghost use Rattle.std.specs.Prelude.{◌≡◌, map};
+ghost use Rattle.wax_glob_walk.specs.Programs.{any_mark};
+
+use std::alloc::Global;
+use wax_query::diagnostics::NoMemory;
+use wax_walk::{Entry, EntryResidue, Rule};
+
+/// Leaves out what any of these rules leaves out: with all that lies below it where one says so, else
+/// alone.
+#[derive(Drop)]
+pub struct FilterAny<R> {
+    rules: Vec<R>,
+}
+
+impl<R: Rule> FilterAny<R> {
+    /// These rules as one.
+    pub fn new(rules: Vec<R>) -> Self
+        ensures { ⟦<FilterAny<R> as Rule>⟧.rule result ≡ any_mark (map R.rule rules.items) }
+    {
+        FilterAny { rules }
+    }
+}
+
+impl<R: Rule> Rule for FilterAny<R> {
+    ghost rule = { λ s. any_mark (map R.rule s.rules.items) };
+
+    fn residue<E: Entry>(
+        &self,
+        alloc: Global,
+        entry: &E,
+    ) -> Result<Option<EntryResidue>, NoMemory> {
+        let mut is_left_out = false;
+        for rule in &self.rules {
+            match rule.residue(alloc, entry)? {
+                None => {}
+                Some(EntryResidue::File) => is_left_out = true,
+                Some(EntryResidue::Tree) => return Ok(Some(EntryResidue::Tree)),
+            }
+        }
+        if is_left_out {
+            Ok(Some(EntryResidue::File))
+        } else {
+            Ok(None)
+        }
+    }
+}

@@ -1,0 +1,246 @@
+//! The walk of a glob.
+
+ghost use Rattle.std.specs.Prelude.{◌≡◌, IfOk, chars, false};
+ghost use Rattle.std.specs.Iterator.{IsFinite};
+ghost use Rattle.wax_candidate.specs.Matched.{IsMatchOf};
+ghost use Rattle.wax_filter.specs.Feeding.{NextFiltrate};
+ghost use Rattle.wax_glob_walk.specs.Matches.{IsMatchedIn, glob_facts, shown_entry};
+ghost use Rattle.wax_glob_walk.specs.Programs.{leading_mark, means_mark};
+ghost use Rattle.wax_walk.specs.Entries.{given_of, facts_of};
+ghost use Rattle.wax_walk.specs.Given.{changed_by};
+ghost use Rattle.wax_walk.specs.Ruled.{ruled_view};
+ghost use Rattle.wax_walk.specs.View.{IsSeenAs};
+
+use crate::entry::GlobEntry;
+use crate::leading::{Leading, NameTest};
+use std::alloc::Global;
+use wax_candidate::{CandidatePath, MatchedText, Program};
+use wax_directory::directory::Directory;
+use wax_filter::filter::{
+    CancelWalk, Feed, Isomeric, Product, SeparatingFilter, Separation, TreeResidue, filtrate,
+};
+use wax_query::diagnostics::NoMemory;
+use wax_tree::WalkTree;
+use wax_walk::{Entry, FileIterator, TreeEntry, WalkError, Without};
+
+/// What a glob's walk and each filter over it give.
+pub struct GlobFeed;
+
+impl Feed for GlobFeed {
+    type Filtrate = Result<GlobEntry, WalkError>;
+
+    type Residue = TreeResidue<TreeEntry>;
+}
+
+impl Isomeric for GlobFeed {
+    type Substituent = TreeEntry;
+
+    ghost shown = { λ x. shown_entry x };
+
+    fn entry(separation: &Separation<GlobFeed>) -> Option<&TreeEntry> {
+        match separation {
+            Separation::Filtrate(filtrate) => match filtrate.get() {
+                Ok(entry) => Some(&entry.entry),
+                Err(_) => None,
+            },
+            Separation::Residue(residue) => Some(residue.get().get()),
+        }
+    }
+}
+
+// What is captured of an entry's candidate, or None where that isn't meant.
+fn captured<P: Program>(
+    alloc: Global,
+    program: &P,
+    entry: &TreeEntry,
+) -> Result<Option<MatchedText<'static>>, NoMemory>
+    ensures { IfOk result (IsMatchOf (P.means program.now) (P.captured program.now)
+        (chars (facts_of entry.now).candidate)) }
+{
+    let (_, candidate) = entry.root_relative_paths();
+    let path = CandidatePath::from(candidate);
+    match program.matched(alloc, &path)? {
+        Some(matched) => Ok(Some(matched.into_owned(alloc)?)),
+        None => Ok(None),
+    }
+}
+
+// The item after what a program says of it.
+fn separated<P, F>(
+    alloc: Global,
+    program: &P,
+    separation: Separation<F>,
+) -> Result<Separation<GlobFeed>, NoMemory>
+where
+    P: Program,
+    F: Feed<Filtrate = Result<TreeEntry, WalkError>, Residue = TreeResidue<TreeEntry>>,
+    ensures gives { IfOk result (λ r. given_of glob_facts facts_of r
+        ≡ changed_by (means_mark P.decides program.now) (given_of facts_of facts_of separation)) }
+    ensures matches { IfOk result (IsMatchedIn (P.means program.now) (P.captured program.now)) }
+{
+    match separation {
+        Separation::Filtrate(filtrate) => match filtrate.into_inner() {
+            Ok(entry) => match captured(alloc, program, &entry)? {
+                Some(matched) => {
+                    let entry = GlobEntry::new(entry, matched);
+                    Ok(Separation::Filtrate(Product::new(Ok(entry))))
+                }
+                None => Ok(Separation::Residue(Product::new(TreeResidue::Node(entry)))),
+            },
+            Err(error) => Ok(Separation::Filtrate(Product::new(Err(error)))),
+        },
+        Separation::Residue(residue) => {
+            Ok(Separation::Residue(Product::new(residue.into_inner())))
+        }
+    }
+}
+
+/// A walk of which a program leaves out what it doesn't mean, each entry alone. The others are kept, each
+/// with what is captured of its candidate. Each entry is matched at most once.
+#[derive(Drop)]
+pub struct Matching<'g, I, P> {
+    alloc: Global,
+    input: I,
+    program: &'g P,
+    has_ended: bool,
+}
+
+/// The walk of a glob. An entry one of whose names isn't meant by the leading component at its place is
+/// left out with all that lies below it, which is cancelled; any other that isn't meant is left out alone.
+pub type GlobWalk<'g, D, P, C> = Matching<'g, Without<WalkTree<D>, Leading<C>>, P>;
+
+/// The walk of the glob of this program and these leading components, of what a plain walk gives.
+pub fn walk_of<'g, D, P, C>(
+    alloc: Global,
+    walk: WalkTree<D>,
+    leading: Vec<C>,
+    program: &'g P,
+) -> GlobWalk<'g, D, P, C>
+where
+    D: Directory,
+    P: Program,
+    C: NameTest,
+    ensures view { IsSeenAs (ruled_view (⟦<WalkTree<D> as FileIterator>⟧.view walk)
+        (leading_mark C.decides leading.items P.decides program.now) false)
+        (⟦<GlobWalk<'g, D, P, C> as FileIterator>⟧.view result) }
+    ensures ends { ⟦<GlobWalk<'g, D, P, C> as SeparatingFilter>⟧.left result
+        ≡ ⟦<WalkTree<D> as SeparatingFilter>⟧.left walk }
+    ensures feeds { ⟦<GlobWalk<'g, D, P, C> as SeparatingFilter>⟧.can_feed result }
+{
+    Matching {
+        alloc,
+        input: walk.without(alloc, Leading::new(leading)),
+        program,
+        has_ended: false,
+    }
+}
+
+impl<I, P> SeparatingFilter for Matching<'_, I, P>
+where
+    I: FileIterator<Entry = TreeEntry, Residue = TreeEntry>,
+    P: Program,
+{
+    ghost use Rattle.wax_glob_walk.specs.Matches.{IsMatchedAnswer, glob_facts};
+    ghost use Rattle.wax_walk.specs.Entries.{answer_of, facts_of};
+    ghost use Rattle.wax_walk.specs.View.{FeedStep};
+
+    type Feed = GlobFeed;
+
+    ghost can_feed = { λ s. I.can_feed s.input };
+
+    ghost feeds = { λ s r t. FeedStep I.Directory.law
+        (ruled_view (I.view s.input) (means_mark P.decides s.program.now) s.has_ended)
+        (answer_of glob_facts facts_of r)
+        (ruled_view (I.view t.input) (means_mark P.decides t.program.now) t.has_ended)
+        × IsMatchedAnswer (P.means s.program.now) (P.captured s.program.now) r };
+
+    ghost left = { λ s. I.left s.input };
+
+    fn feed(&mut self) -> Option<Separation<GlobFeed>> {
+        if self.has_ended {
+            return None;
+        }
+        let separation = self.input.feed()?;
+        let Ok(separation) = separated(self.alloc, self.program, separation) else {
+            self.has_ended = true;
+            return Some(Separation::Filtrate(Product::new(Err(WalkError::Memory))));
+        };
+        Some(separation)
+    }
+}
+
+impl<I, P> CancelWalk for Matching<'_, I, P>
+where
+    I: FileIterator<Entry = TreeEntry, Residue = TreeEntry>,
+    P: Program,
+{
+    ghost use Rattle.std.proofs.Common.{◌∙◌};
+
+    ghost cancels = { λ s t. I.cancels s.input t.input × (t.program ≡ s.program)
+        × (t.has_ended ≡ s.has_ended) };
+
+    fn cancel_walk_tree(&mut self) {
+        self.input.cancel_walk_tree()
+    }
+
+    ghost once = { λ s t u a b. (I.once s.input t.input u.input a.0 b.0, b.1 ∙ a.1, b.2 ∙ a.2) };
+
+    ghost can_go_on = { λ s t h c. I.can_go_on s.input t.input h.0 c };
+
+    ghost no_longer = { λ s t h e. I.no_longer s.input t.input h.0 e };
+}
+
+impl<I, P> FileIterator for Matching<'_, I, P>
+where
+    I: FileIterator<Entry = TreeEntry, Residue = TreeEntry>,
+    P: Program,
+{
+    ghost use Rattle.std.proofs.Common.{ap};
+    ghost use Rattle.wax_walk.specs.Entries.{facts_of};
+    ghost use Rattle.wax_walk.specs.Laws.{ruled_telling, ruled_cancelling};
+
+    type Entry = GlobEntry;
+
+    type Residue = TreeEntry;
+
+    type Directory = I::Directory;
+
+    ghost view = { λ s. ruled_view (I.view s.input) (means_mark P.decides s.program.now) s.has_ended };
+
+    fn directory(&self) -> &I::Directory {
+        self.input.directory()
+    }
+
+    fn into_directory(self) -> I::Directory {
+        self.input.into_directory()
+    }
+
+    ghost telling = { λ s q i. ruled_telling (I.view s.input) (means_mark P.decides s.program.now)
+        (I.Directory.law.tells (I.view s.input).directory) (I.telling s.input) q i.1 };
+
+    ghost same_facts = { λ e r h. ap facts_of h };
+
+    ghost feeding = { λ s t r f. f.0 };
+
+    ghost cancelling = { λ s t h. ruled_cancelling (I.view s.input) (I.view t.input)
+        (λ p. means_mark P.decides p.now) s.program t.program s.has_ended t.has_ended
+        (I.cancelling s.input t.input h.0) h.1 h.2 };
+}
+
+impl<I, P> Iterator for Matching<'_, I, P>
+where
+    I: FileIterator<Entry = TreeEntry, Residue = TreeEntry>,
+    P: Program,
+{
+    type Item = Result<GlobEntry, WalkError>;
+
+    ghost can_next = { λ s. I.can_feed s.input × IsFinite (I.left s.input) };
+
+    ghost next_gives = { λ s r t. NextFiltrate ⟦<Self as SeparatingFilter>⟧.feeds s r t };
+
+    ghost remaining = { λ s. I.left s.input };
+
+    fn next(&mut self) -> Option<Result<GlobEntry, WalkError>> {
+        filtrate(self)
+    }
+}

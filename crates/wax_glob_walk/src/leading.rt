@@ -1,0 +1,88 @@
+//! The leading components of a glob, as a filter of its walk.
+
+ghost use Rattle.std.specs.Prelude.{◌≡◌, ◌∷◌, [], ℕ, Bool, List, IfOk, MatchOption, chars, map};
+ghost use Rattle.wax_directory.specs.Names.{names_in_path};
+ghost use Rattle.wax_glob_walk.specs.Programs.{leads, led_mark};
+
+use std::alloc::Global;
+use wax_query::diagnostics::NoMemory;
+use wax_walk::{Entry, EntryResidue, Rule};
+
+/// What a leading component means: a set of names.
+pub trait NameTest: Drop {
+    /// Whether it means a name, as its characters.
+    ghost decides: { Self → List ℕ → Bool };
+
+    /// Whether the name is meant. Refused with 10 where memory was.
+    fn is_match(&self, alloc: Global, name: &str) -> Result<bool, NoMemory>
+        ensures { IfOk result (λ answer. answer ≡ decides self.now (chars name.now)) };
+}
+
+// The first name of a path, and what comes after it.
+fn first_name(path: &str) -> Option<(&str, &str)>
+    ensures { MatchOption result (names_in_path path.now ≡ [])
+        (λ r. names_in_path path.now ≡ r.0.now ∷ names_in_path r.1.now) }
+{
+    let mut text = path;
+    while let Some((name, after)) = text.split_once('/') {
+        if !name.is_empty() {
+            return Some((name, after));
+        }
+        text = after;
+    }
+    if text.is_empty() {
+        None
+    } else {
+        Some((text, ""))
+    }
+}
+
+// Each name of the path is meant by the component at its place; names past the last component are free.
+fn are_led<C: NameTest>(alloc: Global, leading: &[C], path: &str) -> Result<bool, NoMemory>
+    ensures { IfOk result
+        (λ led. led ≡ leads C.decides leading.now (map chars (names_in_path path.now))) }
+{
+    let mut rest = path;
+    for component in leading {
+        let Some((name, after)) = first_name(rest) else {
+            return Ok(true);
+        };
+        if !component.is_match(alloc, name)? {
+            return Ok(false);
+        }
+        rest = after;
+    }
+    Ok(true)
+}
+
+/// Leaves out each entry one of whose names isn't meant by the component at its place, with all that
+/// lies below it.
+#[derive(Drop)]
+pub struct Leading<C> {
+    components: Vec<C>,
+}
+
+impl<C: NameTest> Leading<C> {
+    /// The filter of these components.
+    pub(crate) fn new(components: Vec<C>) -> Self
+        ensures { result ≡ record { components = components } }
+    {
+        Leading { components }
+    }
+}
+
+impl<C: NameTest> Rule for Leading<C> {
+    ghost rule = { λ s f. led_mark C.decides s.components.items f };
+
+    fn residue<E: Entry>(
+        &self,
+        alloc: Global,
+        entry: &E,
+    ) -> Result<Option<EntryResidue>, NoMemory> {
+        let (_, candidate) = entry.root_relative_paths();
+        if are_led(alloc, &self.components, candidate)? {
+            return Ok(None);
+        }
+        Ok(Some(EntryResidue::Tree))
+    }
+}

@@ -1,0 +1,3 @@
+pub mod Compiled
+pub mod Excluded
+pub mod Prefix

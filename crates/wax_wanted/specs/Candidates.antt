@@ -1,0 +1,46 @@
+-- Candidates: what patterns see of an entry.
+use Rattle.std.specs.Prelude.{◌≡◌, ℕ, Bool, true, false, ⊤, List, [], ◌∷◌, ◌++◌, length, map, chars}
+use Rattle.wax_token.specs.Meaning.{HasNoSlash}
+use Rattle.wax_directory.specs.Names.{names_in_path}
+use Rattle.wax_walk.specs.Given.{Facts}
+
+-- names, each after a `/`
+abbrev pub slashed : List (List ℕ) → List ℕ
+slashed [] = []
+slashed (n ∷ names) = 47 ∷ (n ++ slashed names)
+
+-- names with a `/` between each two
+abbrev pub joined_names : List (List ℕ) → List ℕ
+joined_names [] = []
+joined_names (n ∷ names) = n ++ slashed names
+
+-- names that aren't empty and hold no `/`
+abbrev pub AreNames : List (List ℕ) → Type 0
+AreNames [] = ⊤
+AreNames (n ∷ names) = ¬ (n ≡ []) × HasNoSlash n × AreNames names
+
+-- the candidate of the start: empty, and `/` in a walk from the root
+abbrev pub base : Bool → List ℕ
+base true = 47 ∷ []
+base false = []
+
+-- the candidate of these names, in a walk from the root or not
+abbrev pub text_at : Bool → List (List ℕ) → List ℕ
+text_at rooted names = base rooted ++ joined_names names
+
+-- what is seen of an entry, as characters: its names from the start, its text, and how many names it has
+pub record Candidate : Type 0 where
+  pub names : List (List ℕ)
+  pub text : List ℕ
+  pub depth : ℕ
+
+abbrev pub candidate_of : Facts → Candidate
+candidate_of f = record {
+  names = map chars (names_in_path f.candidate);
+  text = chars f.candidate;
+  depth = f.depth;
+}
+
+-- of an entry of these names
+abbrev pub candidate_at : Bool → List (List ℕ) → Candidate
+candidate_at rooted names = record { names = names; text = text_at rooted names; depth = length names }

@@ -1,0 +1,10 @@
+pub mod Candidates
+pub mod Leading
+pub mod Covers
+pub mod Marks
+pub mod Wanted
+pub mod Walked
+pub mod Premises
+pub mod Law
+pub mod Ignored
+pub mod inner
