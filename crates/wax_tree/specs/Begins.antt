@@ -75,7 +75,8 @@ pub record HasEnded {D C : Type 0} (law : Law D C) (d : D) (range : Range) (view
   pub directory : view.directory ≡ d
 
 -- a walk over this directory for whose start there was no memory: whatever is to come, want of memory comes
-pub record LacksMemory {D C : Type 0} (law : Law D C) (d : D) (range : Range) (view : WalkView D) : Type 0 where
+pub record LacksMemory {D C : Type 0} (law : Law D C) (d : D) (range : Range)
+    (view : WalkView D) : Type 0 where
   pub comes : (p : Pending Given) → law.tells d p.listed → view.to_come p
   pub listings : view.listings_left ≡ range.budget + 1
   pub names : view.names_left ≡ 0
