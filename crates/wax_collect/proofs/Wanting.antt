@@ -1,17 +1,14 @@
 -- What is wanted of a walk comes, and is what is kept.
 use Rattle.std.proofs.Common.{◌≡◌, ℕ, ◌+◌, ◌<◌, ◌≤◌, Bool, true, false, cond, List, [], ◌∷◌, ◌++◌, length, filter}
 use Rattle.std.proofs.Common.{refl, sym, ap, subst, ◌∙◌, arith, inl, inr}
-use Rattle.std.specs.Prelude.{◌&&◌, if◌then◌else◌, All, map, chars}
+use Rattle.std.specs.Prelude.{◌&&◌, if◌then◌else◌, All}
 use Rattle.std.proofs.lemmas.Bool.{ltb-false, ltb-true}
 use Rattle.std.proofs.lemmas.List.Elements.{filter-append}
 use Rattle.wax_directory.specs.Law.{Law}
-use Rattle.wax_directory.specs.Names.{names_in_path}
 use Rattle.wax_directory.specs.Shown.{Shown}
 use Rattle.wax_token.specs.Reads.{Span}
 use Rattle.wax_token.specs.Syntax.{Tree}
-use Rattle.wax_tree.specs.Begins.{BeginsAt}
 use Rattle.wax_tree.specs.Plain.{count_shown}
-use Rattle.wax_tree.specs.Prefix.{ArePlain}
 use Rattle.wax_walk.specs.Collected.{IsCutShort, GaveAll, whole, lacks_memory, over_budget}
 use Rattle.wax_walk.specs.declared.error.FaultKind.TheVariants.{Budget}
 use Rattle.wax_walk.specs.Forest.{Pending, Forest, nothing, pending, preorder, listings}
@@ -19,82 +16,20 @@ use Rattle.wax_walk.specs.Given.{Facts, Mark, kept, alone, with_tree, Given, ent
 use Rattle.wax_walk.specs.Ruled.{ruled_view}
 use Rattle.wax_walk.specs.View.{WalkView, IsSeenAs}
 use Rattle.wax_wanted.specs.Law.{GivesWanted, ListsFew, WantsNothing}
-use Rattle.wax_wanted.specs.Leading.{leading_of, lead_test}
 use Rattle.wax_wanted.specs.Marks.{glob_mark, of_candidate}
 use Rattle.wax_wanted.specs.Premises.{IsWellNamed}
 use Rattle.wax_wanted.specs.Walked.{glob_walk, wanted_entries, way_walk, MayList}
-use Rattle.wax_wanted.specs.Wanted.{Wanted, is_kept_entry, stacked, not_rules, rules_of}
-use Rattle.wax_glob_walk.specs.Programs.{leads, leading_mark, any_mark}
+use Rattle.wax_wanted.specs.Wanted.{is_kept_entry, stacked, not_rules, rules_of}
+use Rattle.wax_glob_walk.specs.Programs.{any_mark}
 use Rattle.wax_collect.specs.Trips as T
-use Rattle.wax_collect.specs.Trips.{AreComponents, AreOf, IsNot, AreNots, Trip, trip_less, is_beyond}
+use Rattle.wax_collect.specs.Trips.{IsNot, AreNots, Trip, trip_less, is_beyond}
 use Rattle.wax_collect.specs.Trips.{MayGo, goes, unmeant, trip_walk, trip_items, trip_pending, ComesWanted, KeepsWanted}
 use Rattle.wax_glob_walk.proofs.Combining.{ruled}
 use Rattle.wax_collect.proofs.Stacking.{stacked_more, not_rules_more, stacked_any, stacked_nots}
 
--- ---- programs and trees
-
-leads_same : {A C : Type 0} (tests : C → List ℕ → Bool) (cs : List C) (ts : List (List (Tree A)))
-    (names : List (List ℕ)) → AreComponents tests cs ts → leads tests cs names ≡ lead_test ts names
-leads_same tests [] [] names h = refl
-leads_same tests [] (t ∷ ts) names h = absurd h
-leads_same tests (c ∷ cs) [] names h = absurd h
-leads_same tests (c ∷ cs) (t ∷ ts) [] h = refl
-leads_same tests (c ∷ cs) (t ∷ ts) (n ∷ names) h =
-    λ i. h.0 n i && leads_same tests cs ts names h.1 i
-
-glob_same : {A P C : Type 0} (w : Wanted A) (decides : P → List ℕ → Bool) (p : P) (tests : C → List ℕ → Bool)
-    (cs : List C) → AreOf w decides p tests cs → (f : Facts)
-    → leading_mark tests cs decides p f ≡ of_candidate (glob_mark w.rooted w.glob) f
-glob_same w decides p tests cs h f =
-    let led = leads_same tests cs (leading_of w.rooted w.glob) (map chars (names_in_path f.candidate))
-    h.components in
-    λ i. if led i then (if h.glob (chars f.candidate) i then kept else alone) else with_tree
-
 -- ---- what comes
 
 module _ {D C : Type 0} (law : Law D C) (d : D) where
-  -- the glob's walk
-  pub glob_comes : {P K : Type 0} (trip : Trip) (decides : P → List ℕ → Bool) (p : P)
-      (tests : K → List ℕ → Bool) (cs : List K) (v u : WalkView D)
-      → AreOf trip.wanted decides p tests cs → trip.wanted.nots ≡ []
-      → MayGo trip → BeginsAt law d trip.way trip.walked v
-      → IsSeenAs (ruled_view v (leading_mark tests cs decides p) false) u → ComesWanted law d trip u
-  glob_comes trip decides p tests cs v u h none can b seen = record {
-    comes = λ s listed shows told. comes s listed shows told (is_beyond trip) refl;
-    listings = seen.listings_left ∙ b.listings;
-  } where
-    plain : MayGo trip → length trip.way.names ≤ trip.walked.max → ArePlain trip.way.names
-    plain (goes c) l = c.plain
-    plain (unmeant n e m) l = absurd (omega (arith, l, m))
-
-    rule : Facts → Mark
-    rule = leading_mark tests cs decides p
-
-    same : (f : Forest Given) → ruled rule f ≡ stacked (rules_of trip.wanted) f
-    same f = (λ i. ruled (λ v. glob_same trip.wanted decides p tests cs h v i) f)
-        ∙ ap (λ ts. stacked (not_rules ts) (ruled (of_candidate (glob_mark trip.wanted.rooted trip.wanted.glob))
-        f)) (sym none)
-
-    comes : (s : Shown) (listed : List (List ℕ)) → law.shows d trip.way.path s → law.tells d listed → (b : Bool)
-        → is_beyond trip ≡ b
-        → u.to_come (pending nothing (if b then nothing else glob_walk trip.wanted trip.walked trip.way s) listed
-        (if b then 0 else count_shown s))
-    comes s listed shows told true e = seen.to_come _ (
-      refl,
-      (pending nothing nothing listed 0, b.beyond s listed shows told (ltb-true _ _ e), refl),
-    )
-    comes s listed shows told false e =
-        let walk = way_walk trip.walked trip.way s in
-        subst (λ f. u.to_come (pending nothing f listed (count_shown s))) (same walk)
-        (seen.to_come _ (
-          refl,
-          (
-            pending nothing walk listed (count_shown s),
-            b.shown s listed shows told (plain can (ltb-false _ _ e)) (ltb-false _ _ e),
-            refl,
-          ),
-        ))
-
   -- a filter that turns what comes into what comes of another trip of this way
   filter_comes : (trip : Trip) (ts : List (Tree Span)) (rule : Facts → Mark) (v u : WalkView D)
       → ((f : Forest Given) → ruled rule f ≡ stacked (not_rules ts) f) → ComesWanted law d trip v
@@ -136,30 +71,6 @@ module _ {D C : Type 0} (law : Law D C) (d : D) where
       → IsSeenAs (ruled_view v rule false) u → ComesWanted law d (trip_less trip ts) u
   nots_come trip ts rules rule v u h e = filter_comes trip ts rule v u
       (λ f. ap (λ r. ruled r f) e ∙ (sym (stacked_any rules f) ∙ stacked_nots ts rules f h))
-
-  bare_goes : (trip : Trip) → MayGo trip → MayGo (record trip { wanted = record trip.wanted { nots = [] } })
-  bare_goes trip (goes c) = goes (record {
-    spelled = c.spelled;
-    least = c.least;
-    greatest = c.greatest;
-    candidate = c.candidate;
-    begins = c.begins;
-    plain = c.plain;
-  })
-  bare_goes trip (unmeant n e m) = unmeant n e m
-
-  -- the glob's walk, less what all patterns mean
-  pub all_come : {P K : Type 0} (trip : Trip) (decides : P → List ℕ → Bool) (p : P) (tests : K → List ℕ → Bool)
-      (cs : List K) (rules : List (Facts → Mark)) (rule : Facts → Mark) (v u k : WalkView D)
-      → AreOf trip.wanted decides p tests cs → AreNots trip.wanted.nots rules → rule ≡ any_mark rules → MayGo trip
-      → BeginsAt law d trip.way trip.walked v → IsSeenAs (ruled_view v (leading_mark tests cs decides p) false) u
-      → IsSeenAs (ruled_view u rule false) k → ComesWanted law d trip k
-  all_come trip decides p tests cs rules rule v u k h nots e can b seen less_seen =
-      let bare : Trip = record trip { wanted = record trip.wanted { nots = [] } } in
-      nots_come bare trip.wanted.nots rules rule u k nots e
-      (glob_comes bare decides p tests cs v u (record { glob = h.glob; components = h.components }) refl
-      (bare_goes trip can) b seen)
-      less_seen
 
   -- what a walk gave to its end is what was to come at first
   pub all_gave : (trip : Trip) (view : WalkView D) (tells : List (List ℕ) → Type 0) (s : Shown)

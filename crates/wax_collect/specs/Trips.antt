@@ -3,7 +3,6 @@ use Rattle.std.specs.Prelude.{◌≡◌, ℕ, ◌+◌, ◌<◌, Bool, false, if�
 use Rattle.std.specs.Prelude.{All, filter, length}
 use Rattle.wax_directory.specs.Law.{Law}
 use Rattle.wax_directory.specs.Shown.{Shown}
-use Rattle.wax_token.specs.Decided.{means_test}
 use Rattle.wax_token.specs.Reads.{Span}
 use Rattle.wax_token.specs.Syntax.{Tree}
 use Rattle.wax_tree.specs.Begins.{Way}
@@ -15,27 +14,12 @@ use Rattle.wax_walk.specs.Forest.{Forest, nothing, Pending, pending, preorder, l
 use Rattle.wax_walk.specs.Given.{Facts, Mark, Given, fault, no_memory, is_kept}
 use Rattle.wax_walk.specs.View.{WalkView}
 use Rattle.wax_wanted.specs.Candidates.{base}
-use Rattle.wax_wanted.specs.Leading.{component_test, leading_of}
 use Rattle.wax_wanted.specs.Marks.{not_mark, of_candidate}
 use Rattle.wax_wanted.specs.Premises.{CanWalk, IsUnmeant}
 use Rattle.wax_wanted.specs.Walked.{glob_walk, wanted_entries, MayList}
 use Rattle.wax_wanted.specs.Wanted.{Wanted, is_kept_entry}
 
--- ---- programs of a glob, and rules of patterns
-
--- these programs are those of the components, one for one
-abbrev pub AreComponents : {A C : Type 0} → (C → List ℕ → Bool) → List C → List (List (Tree A)) → Type 0
-AreComponents tests [] [] = ⊤
-AreComponents tests [] (t ∷ ts) = ⊥
-AreComponents tests (c ∷ cs) [] = ⊥
-AreComponents tests (c ∷ cs) (t ∷ ts) = ((name : List ℕ) → tests c name ≡ component_test t name)
-    × AreComponents tests cs ts
-
--- the program decides what the glob means, and these are the programs of its leading components
-pub record AreOf {A P C : Type 0} (w : Wanted A) (decides : P → List ℕ → Bool) (p : P)
-    (tests : C → List ℕ → Bool) (cs : List C) : Type 0 where
-  pub glob : (s : List ℕ) → decides p s ≡ means_test w.glob false false s
-  pub components : AreComponents tests cs (leading_of w.rooted w.glob)
+-- ---- rules of patterns
 
 -- the rule is that of a pattern that is left out
 abbrev pub IsNot : {A : Type 0} → Tree A → (Facts → Mark) → Type 0

@@ -3,23 +3,19 @@
 ghost use Rattle.std.specs.Prelude.{◌≡◌, ◌+◌, ◌≤◌, List, ℕ, IfOk, filter, length, map};
 ghost use Rattle.std.specs.Iterator.{IsFinite, size};
 ghost use Rattle.wax_directory.specs.Shown.{Shown};
-ghost use Rattle.wax_collect.specs.Trips.{AreNots, AreOf, ComesWanted, KeepsWanted, MayGo, Trip};
-ghost use Rattle.wax_collect.specs.Trips.{trip_pending};
+ghost use Rattle.wax_collect.specs.Trips.{AreNots, ComesWanted, KeepsWanted, MayGo, Trip};
+ghost use Rattle.wax_collect.specs.Trips.{trip_less, trip_pending};
 ghost use Rattle.wax_token.specs.Reads.{Span};
 ghost use Rattle.wax_token.specs.Syntax.{Tree};
-ghost use Rattle.wax_tree.specs.Begins.{BeginsAt};
 ghost use Rattle.wax_walk.specs.Collected.{GaveAll, Took};
 ghost use Rattle.wax_walk.specs.Entries.{given_of, given_outcome};
 ghost use Rattle.wax_walk.specs.Given.{Given, is_kept};
 
 use std::alloc::Global;
-use wax_candidate::Program;
-use wax_directory::directory::Directory;
-use wax_filter::filter::{SeparatingFilter, Separation};
-use wax_glob_walk::{FilterAny, GlobEntry, NameTest, walk_of};
+use wax_filter::filter::Separation;
+use wax_glob_walk::FilterAny;
 use wax_query::diagnostics::NoMemory;
-use wax_tree::WalkTree;
-use wax_walk::{Entry, FileIterator, Rule, TreeEntry, WalkError, collect, collect_feed};
+use wax_walk::{Entry, FileIterator, Rule, WalkError, collect, collect_feed};
 use wax_wanted::law_of_walks;
 
 /// The items that are kept of a walk, in order, errors among them, and the directory. Where the walk is
@@ -70,31 +66,26 @@ where
     collect_feed(alloc, walk)
 }
 
-/// The items that are kept of the walk of the glob of this program and these leading components, less
-/// what these rules leave out, in order, errors among them, and the directory.
-pub fn collect_less<D, P, C, R>(
+/// The items that are kept of a walk less what these rules leave out, in order, errors among them, and the
+/// directory. Where the walk is that of a glob and the rules are those of patterns, the entries are those of
+/// the plain walk that the glob means and no pattern means.
+pub fn collect_less<I, R>(
     alloc: Global,
-    walk: WalkTree<D>,
-    leading: Vec<C>,
-    program: &P,
+    walk: I,
     nots: Vec<R>,
-) -> Result<(Vec<Result<GlobEntry, WalkError>>, D), NoMemory>
+) -> Result<(Vec<Result<I::Entry, WalkError>>, I::Directory), NoMemory>
 where
-    D: Directory,
-    P: Program,
-    C: NameTest,
+    I: FileIterator,
     R: Rule,
-    requires { IsFinite (⟦<WalkTree<D> as SeparatingFilter>⟧.left walk) }
-    ensures { IfOk result (λ r. (d : D) (trip : Trip) (s : Shown) (listed : List (List ℕ))
-        → BeginsAt D.law d trip.way trip.walked (⟦<WalkTree<D> as FileIterator>⟧.view walk)
-        → AreOf trip.wanted P.decides program.now C.decides leading.items
-        → AreNots trip.wanted.nots (map R.rule nots.items)
-        → MayGo trip
-        → D.law.shows d trip.way.path s → D.law.tells d listed
-        → KeepsWanted (D.law.tells r.1) trip s listed
-        (map (given_outcome ⟦<GlobEntry as Entry>⟧.facts ⟦<TreeEntry as Entry>⟧.facts) r.0.items)) }
+    requires can { I.can_feed walk }
+    requires ends { IsFinite (I.left walk) }
+    ensures { IfOk result (λ r. (d : I.Directory) (trip : Trip) (ts : List (Tree Span)) (s : Shown)
+        (listed : List (List ℕ)) → ComesWanted I.Directory.law d trip (I.view walk)
+        → AreNots ts (map R.rule nots.items) → MayGo (trip_less trip ts)
+        → I.Directory.law.shows d trip.way.path s → I.Directory.law.tells d listed
+        → KeepsWanted (I.Directory.law.tells r.1) (trip_less trip ts) s listed
+        (map (given_outcome I.Entry.facts I.Residue.facts) r.0.items)) }
 {
-    let walk = walk_of(alloc, walk, leading, program);
     let kept = walk.without(alloc, FilterAny::new(nots));
     collect_wanted(alloc, kept)
 }

@@ -15,10 +15,10 @@ ghost use Rattle.wax.specs.GlobWalks.{BeginsGlob, IsPlan, way_from, within};
 use crate::glob::Glob;
 use std::alloc::Global;
 use wax_candidate::Program;
-use wax_collect::collect_wanted;
+use wax_collect::collect_less;
 use wax_directory::directory::Directory;
 use wax_filter::filter::SeparatingFilter;
-use wax_glob_walk::{FilterAny, GlobEntry, walk_of};
+use wax_glob_walk::{GlobEntry, walk_of};
 use wax_leading::{Component, Exclusion, Way, leading, way_of};
 use wax_query::diagnostics::NoMemory;
 use wax_tree::{Range, WalkBehavior, WalkTree};
@@ -194,7 +194,6 @@ impl<'t> Glob<'t> {
             (map (given_outcome ⟦<GlobEntry as Entry>⟧.facts ⟦<TreeEntry as Entry>⟧.facts) r.0.items))) }
     {
         let walk = walk_in(alloc, self, directory, start, behavior);
-        let kept = walk.without(alloc, FilterAny::new(nots));
-        collect_wanted(alloc, kept)
+        collect_less(alloc, walk, nots)
     }
 }

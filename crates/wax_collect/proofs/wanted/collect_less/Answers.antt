@@ -1,14 +1,14 @@
 use Rattle.std.proofs.Common.{map}
+use Rattle.wax_collect.specs.Trips.{trip_less}
 use Rattle.wax_walk.proofs.Collecting.{map_ok}
-use Rattle.wax_collect.proofs.Wanting.{all_come}
+use Rattle.wax_collect.proofs.Wanting.{nots_come}
 use Rattle.wax_collect.proofs.wanted.collect_less.Goals as goal
 
 pub returns : goal.returns
 returns g c =
-    map_ok (λ r h d trip s listed begins programs nots can shows told.
-    h d trip s listed
-    (all_come g.D.Directory.law d trip g.P.Program.decides c.args.program.now g.C.NameTest.decides
-    c.args.leading.items (map g.R.Rule.rule c.args.nots.items) _ _ _ _ programs nots c.new.ensures can begins
-    c.walk_of-walk.ensures.view c.without-kept.ensures.view)
+    map_ok (λ r h d trip ts s listed comes nots can shows told.
+    h d (trip_less trip ts) s listed
+    (nots_come g.I.Directory.Directory.law d trip ts (map g.R.Rule.rule c.args.nots.items) _ _ _ nots c.new.ensures comes
+    c.without-kept.ensures.view)
     can shows told)
     c.collect_wanted.result c.collect_wanted.ensures.wanted

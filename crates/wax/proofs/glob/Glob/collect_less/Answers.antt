@@ -1,6 +1,5 @@
-use Rattle.std.proofs.Common.{[], map}
+use Rattle.std.proofs.Common.{[]}
 use Rattle.wax_collect.specs.Trips.{goes}
-use Rattle.wax_collect.proofs.Wanting.{nots_come}
 use Rattle.wax_tree.specs.Begins.{range_of}
 use Rattle.wax_walk.proofs.Collecting.{map_ok}
 use Rattle.wax.specs.GlobWalks.{trip_of}
@@ -19,8 +18,7 @@ returns g c =
       h.depth,
       h.depth_is,
       λ b ts s listed nots plain shows told.
-          k d (trip_of start asked h.depth b ts) s listed
-          (nots_come law d (trip_of start asked h.depth b []) ts _ _ _ _ nots c.new.ensures (comes_glob c.args.self.now.tree law d start asked _ h b plain) c.without-kept.ensures.view)
-          (goes (h.can b ts plain)) shows told,
+          k d (trip_of start asked h.depth b []) ts s listed
+          (comes_glob c.args.self.now.tree law d start asked _ h b plain) nots (goes (h.can b ts plain)) shows told,
     ))
-    c.collect_wanted.result c.collect_wanted.ensures.wanted
+    c.collect_less.result c.collect_less.ensures
