@@ -1,7 +1,7 @@
 -- What is known of entries, through a filter and in a list.
 use Rattle.std.proofs.Common.{◌≡◌, List, [], ◌∷◌, ◌++◌, sym, subst}
 use Rattle.std.specs.Prelude.{Some, All, Result, Ok, Err}
-use Rattle.std.proofs.lemmas.List.Elements.{All-append, All-push, All-nil}
+use Rattle.std.proofs.lemmas.List.Elements.{All-append, All-push, All-nil, All-weaker}
 use Rattle.wax_filter.specs.declared.filter.separation.Separation.{Separation}
 use Rattle.wax_filter.specs.declared.filter.separation.Separation.TheVariants.{Filtrate, Residue}
 use Rattle.wax_walk.specs.declared.error.WalkError.{WalkError}
@@ -34,6 +34,12 @@ outcome_before : {T : Type 0} (start now : T → Type 0) (x : Result T WalkError
     → KnownOutcome now x → KnownOutcome start x
 outcome_before start now (Ok e) s k = s e k
 outcome_before start now (Err e) s k = tt
+
+-- what is known of a list's entries was known before
+pub all_before : {T : Type 0} (start now : T → Type 0) (xs : List (Result T WalkError))
+    → StaysKnown start now → All (KnownOutcome now) xs → All (KnownOutcome start) xs
+all_before start now xs s h =
+    All-weaker (KnownOutcome now) (KnownOutcome start) (λ x k. outcome_before start now x s k) xs h
 
 module _ {S T R : Type 0} where
   item_before : (start now : T → Type 0) (x : Separation S (Result T WalkError) R) → StaysKnown start now
