@@ -33,4 +33,5 @@ shown_entry (Residue x) = Some (residue_item x.inner)
 
 -- what was captured of an entry is what is captured of its candidate
 abbrev pub IsMatchedEntry : (List ℕ → Type 0) → (List ℕ → List (List ℕ) → Type 0) → GlobEntry → Type 0
-IsMatchedEntry Means Captured e = IsMatchOf Means Captured (chars (glob_facts e).candidate) (Some (match_of e))
+IsMatchedEntry Means Captured e =
+    IsMatchOf Means Captured (chars (glob_facts e).candidate) (Some (match_of e))
