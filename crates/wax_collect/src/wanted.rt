@@ -1,16 +1,18 @@
 //! What is wanted of a walk.
 
-ghost use Rattle.std.specs.Prelude.{◌≡◌, ◌+◌, ◌≤◌, List, ℕ, IfOk, filter, length, map};
+ghost use Rattle.std.specs.Prelude.{◌≡◌, ◌+◌, ◌≤◌, All, List, ℕ, IfOk, filter, length, map};
 ghost use Rattle.std.specs.Iterator.{IsFinite, size};
 ghost use Rattle.wax_directory.specs.Shown.{Shown};
 ghost use Rattle.wax_collect.specs.Trips.{AreNots, AreOf, ComesWanted, KeepsWanted, MayGo, Trip};
 ghost use Rattle.wax_collect.specs.Trips.{trip_pending};
+ghost use Rattle.wax_glob_walk.specs.Matches.{IsMatchedEntry};
 ghost use Rattle.wax_token.specs.Reads.{Span};
 ghost use Rattle.wax_token.specs.Syntax.{Tree};
 ghost use Rattle.wax_tree.specs.Begins.{BeginsAt};
 ghost use Rattle.wax_walk.specs.Collected.{GaveAll, Took};
 ghost use Rattle.wax_walk.specs.Entries.{given_of, given_outcome};
 ghost use Rattle.wax_walk.specs.Given.{Given, is_kept};
+ghost use Rattle.wax_walk.specs.Known.{KnownItem, KnownOutcome};
 
 use std::alloc::Global;
 use wax_candidate::Program;
@@ -22,9 +24,10 @@ use wax_tree::WalkTree;
 use wax_walk::{Entry, FileIterator, Rule, TreeEntry, WalkError, collect, collect_feed};
 use wax_wanted::law_of_walks;
 
-/// The items that are kept of a walk, in order, errors among them, and the directory. Where the walk is
-/// that of a glob less what patterns mean, its entries are those of the plain walk that the glob means
-/// and no pattern means. Where memory is refused for the list itself, nothing is answered.
+/// The items that are kept of a walk, in order, errors among them, and the directory. What is known of the
+/// walk's entries holds of each. Where the walk is that of a glob less what patterns mean, its entries are
+/// those of the plain walk that the glob means and no pattern means. Where memory is refused for the list
+/// itself, nothing is answered.
 pub fn collect_wanted<I>(
     alloc: Global,
     walk: I,
@@ -36,6 +39,7 @@ where
     ensures took { IfOk result (λ r. (xs : List Given) × Took I.Directory.law (I.view walk) r.1 xs
         × (length xs ≤ size (I.left walk))
         × (map (given_outcome I.Entry.facts I.Residue.facts) r.0.items ≡ filter is_kept xs)) }
+    ensures known { IfOk result (λ r. All (KnownOutcome (I.known walk)) r.0.items) }
     ensures wanted { IfOk result (λ r. (d : I.Directory) (trip : Trip) (s : Shown) (listed : List (List ℕ))
         → ComesWanted I.Directory.law d trip (I.view walk)
         → MayGo trip
@@ -48,8 +52,9 @@ where
 }
 
 /// All items of the feed of a walk in order, kept or left out, errors among those that are kept, and the
-/// directory. Where the walk is that of a glob less what patterns mean, this is what comes of it. Where
-/// memory is refused for the list itself, nothing is answered.
+/// directory. What is known of the walk's entries holds of those that are kept. Where the walk is that of a
+/// glob less what patterns mean, this is what comes of it. Where memory is refused for the list itself,
+/// nothing is answered.
 pub fn collect_wanted_feed<I>(
     alloc: Global,
     walk: I,
@@ -61,6 +66,7 @@ where
     ensures took { IfOk result (λ r. Took I.Directory.law (I.view walk) r.1
         (map (given_of I.Entry.facts I.Residue.facts) r.0.items)) }
     ensures few { IfOk result (λ r. length r.0.items ≤ size (I.left walk)) }
+    ensures known { IfOk result (λ r. All (KnownItem (I.known walk)) r.0.items) }
     ensures wanted { IfOk result (λ r. (d : I.Directory) (trip : Trip) (s : Shown) (listed : List (List ℕ))
         → ComesWanted I.Directory.law d trip (I.view walk)
         → I.Directory.law.shows d trip.way.path s → I.Directory.law.tells d listed
@@ -71,7 +77,8 @@ where
 }
 
 /// The items that are kept of the walk of the glob of this program and these leading components, less
-/// what these rules leave out, in order, errors among them, and the directory.
+/// what these rules leave out, in order, errors among them, and the directory. What was captured of each
+/// entry is what the program captures of its candidate.
 pub fn collect_less<D, P, C, R>(
     alloc: Global,
     walk: WalkTree<D>,
@@ -85,7 +92,9 @@ where
     C: NameTest,
     R: Rule,
     requires { IsFinite (⟦<WalkTree<D> as SeparatingFilter>⟧.left walk) }
-    ensures { IfOk result (λ r. (d : D) (trip : Trip) (s : Shown) (listed : List (List ℕ))
+    ensures matched { IfOk result
+        (λ r. All (KnownOutcome (IsMatchedEntry (P.means program.now) (P.captured program.now))) r.0.items) }
+    ensures wanted { IfOk result (λ r. (d : D) (trip : Trip) (s : Shown) (listed : List (List ℕ))
         → BeginsAt D.law d trip.way trip.walked (⟦<WalkTree<D> as FileIterator>⟧.view walk)
         → AreOf trip.wanted P.decides program.now C.decides leading.items
         → AreNots trip.wanted.nots (map R.rule nots.items)
