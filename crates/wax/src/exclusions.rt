@@ -1,5 +1,6 @@
 //! Patterns that are left out of walks.
-ghost use Rattle.std.specs.Prelude.{◌≡◌, MatchResult};
+ghost use Rattle.std.specs.Prelude.{◌≡◌, IfOk, MatchResult};
+ghost use Rattle.wax_walk.specs.Known.{StaysKnown};
 ghost use Rattle.wax_walk.specs.Ruled.{ruled_view};
 ghost use Rattle.wax_walk.specs.View.{IsSeenAs};
 ghost use Rattle.wax.specs.Exclusions.{IsLeftOut, IsWalkWithout, NoExclusion};
@@ -40,10 +41,12 @@ pub trait FileIteratorExt: FileIterator {
     final fn not<P: Pattern>(self, alloc: Global, pattern: P) -> Result<Not<Self>, BuildError>
     where
         Self: Sized,
-        ensures { MatchResult result (λ w. IsWalkWithout (P.spells pattern) (Self.view self)
+        ensures less { MatchResult result (λ w. IsWalkWithout (P.spells pattern) (Self.view self)
             (⟦<Not<Self> as FileIterator>⟧.view w)
             × (⟦<Not<Self> as SeparatingFilter>⟧.left w ≡ Self.left self))
             (NoExclusion (P.spells pattern) (P.refuses pattern)) }
+        ensures known { IfOk result
+            (λ w. StaysKnown (Self.known self) (⟦<Not<Self> as FileIterator>⟧.known w)) }
     {
         match exclusion_of(alloc, pattern) {
             Ok(exclusion) => Ok(self.without(alloc, exclusion)),
