@@ -1,0 +1,6 @@
+//! Ignore lists: the lines of their texts, and what they say of entries and paths.
+#![tactic(auto)]
+
+mod lines;
+
+pub use lines::{WrittenLine, written_lines};
