@@ -2,5 +2,7 @@
 #![tactic(auto)]
 
 mod lines;
+mod rules;
 
 pub use lines::{WrittenLine, written_lines};
+pub use rules::{IgnoreLine, IgnoreRule};
