@@ -7,7 +7,7 @@ use std::alloc::{AllocError, Global};
 use wax_query::diagnostics::NoMemory;
 
 /// A line of an ignore list that isn't skipped.
-#[derive(Clone, Copy, Debug, Drop)]
+#[derive(Clone, Copy, Debug)]
 pub struct WrittenLine<'t> {
     /// The number of the line, from 1; lines that are skipped count.
     pub number: usize,
