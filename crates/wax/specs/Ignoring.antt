@@ -1,5 +1,5 @@
 -- Ignore lists.
-use Rattle.std.specs.Prelude.{◌≡◌, ℕ, ◌++◌, List, ◌∷◌, chars, map}
+use Rattle.std.specs.Prelude.{◌≡◌, ℕ, false, ◌++◌, List, ◌∷◌, chars, map}
 use Rattle.std.specs.List.{AllZip}
 use Rattle.wax_ignore.specs.Held.{HasLines, line_of}
 use Rattle.wax_ignore.specs.Lines.{Written, written_lines}
