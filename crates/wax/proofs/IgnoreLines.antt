@@ -1,14 +1,19 @@
 -- The lines of an ignore list that were read, and the first that isn't.
-use Rattle.std.proofs.Common.{◌≡◌, ◌∙◌, ◌<◌, ◌≤◌, ◌+◌, ◌++◌, ◌∷◌, ℕ, List, [], ap, chars, drop, get_or, length, map, refl, subst, sym, take}
+use Rattle.std.proofs.Common.{◌≡◌, ◌∙◌, ◌<◌, ◌≤◌, ◌+◌, ◌++◌, ◌∷◌, ℕ, List, [], false, ap, chars, drop, get_or, length, map, refl, subst, sym, take}
 use Rattle.std.specs.List.{AllZip}
 use Rattle.std.proofs.lemmas.List.{map-append, take_more, drop_more, take_all, take-append-drop}
-use Rattle.wax_ignore.specs.Held.{line_of}
+use Rattle.wax_ignore.proofs.Listing.{says_lines}
+use Rattle.wax_ignore.specs.Held.{HasLines, line_of}
 use Rattle.wax_ignore.specs.Lines.{Written, written_lines, written_of}
 use Rattle.wax_ignore.specs.declared.lines.WrittenLine.{WrittenLine}
 use Rattle.wax_ignore.specs.declared.rules.IgnoreLine.{IgnoreLine}
+use Rattle.wax_ignore.specs.declared.rules.IgnoreRule.{IgnoreRule}
+use Rattle.wax_ignore.specs.inner.Listed.{listed_mark}
 use Rattle.wax_token.specs.Reads.{Span}
+use Rattle.wax_walk.specs.Ruled.{ruled_view}
+use Rattle.wax_walk.specs.View.{IsSeenAs, WalkView}
 use Rattle.wax_wanted.specs.Ignored.{Line}
-use Rattle.wax.specs.Ignoring.{AreReadAs, IsFirstUnread, IsNoList, IsReadAs, IsUnread, refused_at}
+use Rattle.wax.specs.Ignoring.{AreReadAs, IsFirstUnread, IsNoList, IsReadAs, IsUnread, IsWalkIgnoring, refused_at}
 use Rattle.wax.specs.declared.build_error.BuildError.{BuildError}
 use Rattle.wax.specs.declared.build_error.BuildError.TheVariants.{Parse, Rule, Compile, Memory}
 
@@ -73,3 +78,10 @@ pub all_read : (text : List ℕ) (all : List WrittenLine) (i : ℕ) (held held' 
 all_read text all i held held' whole over same read =
     subst (AreReadAs (written_lines text)) (sym same)
     (subst (λ ws. AreReadAs ws held) (ap (map written_of) (take_all i all over) ∙ whole) read)
+
+-- ---- walks
+
+-- a walk that the rule of these lines filters
+pub seen_ignoring : {D : Type 0} (inner outer : WalkView D) (rule : IgnoreRule) (lines : List (Line Span)) → HasLines rule lines →
+    IsSeenAs (ruled_view inner (λ f. listed_mark rule.lines.items f) false) outer → IsWalkIgnoring lines inner outer
+seen_ignoring inner outer rule lines held seen = subst (λ r. IsSeenAs (ruled_view inner r false) outer) (says_lines rule lines held) seen
