@@ -1,8 +1,8 @@
 -- What lines say that are held by their alternatives.
-use Rattle.std.proofs.Common.{◌≡◌, ℕ, Bool, true, false, ◌&&◌, ◌||◌, not, cond, List, [], ◌∷◌, Option, Some, None, refl, sym, ap, ◌∙◌, map, drop, length, get_or, ◌+◌, ◌<◌, chars}
+use Rattle.std.proofs.Common.{◌≡◌, ℕ, Bool, true, false, ◌&&◌, ◌||◌, not, cond, List, [], ◌∷◌, Option, Some, None, refl, sym, ap, ◌∙◌, map, drop, length, get_or, ◌+◌, ◌<◌, ◌≤◌, chars}
 use Rattle.std.specs.Option.{is_some}
 use Rattle.std.proofs.lemmas.Bool.{false≢true}
-use Rattle.std.proofs.lemmas.List.{drop_more}
+use Rattle.std.proofs.lemmas.List.{drop_all, drop_more}
 use Rattle.wax_alternatives.proofs.Means.{means_one_of}
 use Rattle.wax_alternatives.specs.Alternatives.{alternatives}
 use Rattle.wax_leading.proofs.Excluding.{some_is_pattern}
@@ -73,7 +73,7 @@ mark_from before lines f =
 pub from_start : (lines : List IgnoreLine) (f : Facts) → mark_from kept lines f ≡ listed_mark lines f
 from_start lines f = refl
 
-pub at_end : (before : Mark) (f : Facts) → mark_from before [] f ≡ before
+at_end : (before : Mark) (f : Facts) → mark_from before [] f ≡ before
 at_end kept f = refl
 at_end alone f = refl
 at_end with_tree f = refl
@@ -134,6 +134,12 @@ next_said before after said whole lines i line f in' here s a h =
     ap (λ m. mark_from m (drop (i + 1) lines) f) (a ∙ ap (mark_after line.ignores before) s)
     ∙ sym (after_line before line (drop (i + 1) lines) f)
     ∙ ap (λ ls. mark_from before ls f) (sym split) ∙ h
+
+pub last_said : (residue : Option EntryResidue) (lines all : List IgnoreLine) (i : ℕ) (f : Facts) → length lines ≤ i → lines ≡ all →
+    mark_from (mark_of residue) (drop i lines) f ≡ listed_mark lines f → mark_of residue ≡ listed_mark all f
+last_said residue lines all i f over same h =
+    let none : mark_of residue ≡ mark_from (mark_of residue) (drop i lines) f = sym (ap (λ ls. mark_from (mark_of residue) ls f) (drop_all i lines over) ∙ at_end (mark_of residue) f) in
+    none ∙ h ∙ ap (λ ls. listed_mark ls f) same
 
 -- ---- paths
 

@@ -1,7 +1,5 @@
-use Rattle.std.proofs.Common.{◌∙◌, ap, sym}
-use Rattle.std.proofs.lemmas.List.{drop_all}
 use Rattle.wax_walk.specs.Said.{mark_of}
-use Rattle.wax_ignore.proofs.Listing.{at_end, from_start, mark_from, next_said}
+use Rattle.wax_ignore.proofs.Listing.{from_start, last_said, next_said}
 use Rattle.wax_ignore.specs.inner.Listed.{listed_mark}
 use Rattle.wax_ignore.proofs.rules.IgnoreRuleRule.residue.Goals as goal
 
@@ -18,8 +16,5 @@ loop-line-preserved g c =
 
 pub returns : goal.returns
 returns g c =
-    let f = g.E.Entry.facts c.args.entry.now in
-    let lines = c.deref-line-items.result.now in
-    sym (ap (λ ls. mark_from (mark_of c.loop-line.residue) ls f) (drop_all c.loop-line.line-index lines c.loop-line-test.false)
-    ∙ at_end (mark_of c.loop-line.residue) f)
-    ∙ c.loop-line.invariant ∙ ap (λ ls. listed_mark ls f) c.deref-line-items.ensures.value
+    last_said c.loop-line.residue c.deref-line-items.result.now c.args.self.now.lines.items c.loop-line.line-index
+    (g.E.Entry.facts c.args.entry.now) c.loop-line-test.false c.deref-line-items.ensures.value c.loop-line.invariant
