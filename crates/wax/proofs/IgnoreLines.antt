@@ -2,6 +2,7 @@
 use Rattle.std.proofs.Common.{◌≡◌, ◌∙◌, ◌<◌, ◌≤◌, ◌+◌, ◌++◌, ◌∷◌, ℕ, List, [], false, ap, chars, drop, get_or, length, map, refl, subst, sym, take}
 use Rattle.std.specs.List.{AllZip}
 use Rattle.std.proofs.lemmas.List.{map-append, take_more, drop_more, take_all, take-append-drop}
+use Rattle.wax_directory.specs.Law.{Law}
 use Rattle.wax_ignore.proofs.Listing.{says_lines}
 use Rattle.wax_ignore.specs.Held.{HasLines, line_of}
 use Rattle.wax_ignore.specs.Lines.{Written, written_lines, written_of}
@@ -10,6 +11,8 @@ use Rattle.wax_ignore.specs.declared.rules.IgnoreLine.{IgnoreLine}
 use Rattle.wax_ignore.specs.declared.rules.IgnoreRule.{IgnoreRule}
 use Rattle.wax_ignore.specs.inner.Listed.{listed_mark}
 use Rattle.wax_token.specs.Reads.{Span}
+use Rattle.wax_tree.specs.Begins.{Begins, range_of}
+use Rattle.wax_tree.specs.declared.behavior.WalkBehavior.{WalkBehavior}
 use Rattle.wax_walk.specs.Ruled.{ruled_view}
 use Rattle.wax_walk.specs.View.{IsSeenAs, WalkView}
 use Rattle.wax_wanted.specs.Ignored.{Line}
@@ -85,3 +88,7 @@ all_read text all i held held' whole over same read =
 pub seen_ignoring : {D : Type 0} (inner outer : WalkView D) (rule : IgnoreRule) (lines : List (Line Span)) → HasLines rule lines →
     IsSeenAs (ruled_view inner (λ f. listed_mark rule.lines.items f) false) outer → IsWalkIgnoring lines inner outer
 seen_ignoring inner outer rule lines held seen = subst (λ r. IsSeenAs (ruled_view inner r false) outer) (says_lines rule lines held) seen
+
+pub begins_so : {D C : Type 0} (law : Law D C) (d : D) (start : List ℕ) (b behavior : WalkBehavior) (view : WalkView D) → b ≡ behavior →
+    Begins law d start (range_of b) view → Begins law d start (range_of behavior) view
+begins_so law d start b behavior view same begins = subst (λ z. Begins law d start (range_of z) view) same begins

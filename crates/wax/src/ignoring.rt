@@ -1,8 +1,12 @@
 //! Ignore lists: texts whose lines say what is left out of walks.
-ghost use Rattle.std.specs.Prelude.{◌≡◌, ◌++◌, ◌∷◌, [], List, IfOk, MatchResult};
+ghost use Rattle.std.specs.Prelude.{◌≡◌, ◌++◌, ◌∷◌, [], ℕ, List, IfOk, MatchResult, map};
+ghost use Rattle.wax_directory.specs.Shown.{Shown};
 ghost use Rattle.wax_ignore.specs.Held.{line_of};
+ghost use Rattle.wax_ignore.specs.Kept.{KeepsUnignored};
 ghost use Rattle.wax_ignore.specs.Lines.{written_of};
 ghost use Rattle.wax_token.specs.Reads.{Span};
+ghost use Rattle.wax_tree.specs.Begins.{range_of};
+ghost use Rattle.wax_walk.specs.Entries.{given_outcome};
 ghost use Rattle.wax_wanted.specs.Ignored.{Line, is_ignored};
 ghost use Rattle.wax.specs.Ignoring.{Holds, IsListOf, IsNoList, IsReadAs, IsUnread};
 ghost use Rattle.wax.specs.Ignoring.{refusal_number, refused_at};
@@ -12,9 +16,11 @@ use crate::pattern::Pattern;
 use std::alloc::Global;
 use thiserror::Error;
 use wax_candidate::CandidatePath;
-use wax_ignore::{IgnoreLine, IgnoreRule, WrittenLine, written_lines};
+use wax_directory::directory::Directory;
+use wax_ignore::{IgnoreLine, IgnoreRule, WrittenLine, collect_unignored, written_lines};
 use wax_query::diagnostics::NoMemory;
-use wax_walk::{Entry, EntryResidue, Rule};
+use wax_tree::{PathExt, WalkBehavior};
+use wax_walk::{Entry, EntryResidue, Rule, TreeEntry, WalkError};
 
 /// Why a text is no ignore list.
 #[derive(Debug, Drop, Error)]
@@ -58,10 +64,10 @@ pub struct IgnoreList {
 }
 
 impl IgnoreList {
-    /// The list of a text. A line ends at a line feed or at the end of the text, and one carriage return at its
-    /// end is dropped. A line that is empty then, or that begins with `#`, is skipped; one that begins with `!`
-    /// takes back what the glob after that means; any other line is a glob that ignores. The first line whose
-    /// glob isn't built is refused with 21; and where memory is refused, the text is with 10. It takes time and
+    /// The list of a text. A line ends at a line feed or at the end of the text, and one carriage return at
+    /// its end is dropped. A line that is empty then, or that begins with `#`, is skipped; one that begins
+    /// with `!` takes back what the glob after that means; any other line is a glob that ignores. The first
+    /// line whose glob isn't built is refused with 21. Refused with 10 where memory is. It takes time and
     /// memory of the order of the text, and of the lines' tokens and their cost.
     pub fn parse(alloc: Global, text: &str) -> Result<IgnoreList, IgnoreError>
         ensures { MatchResult result (IsListOf text.now) (IsNoList text.now) }
@@ -85,6 +91,26 @@ impl IgnoreList {
             → answer ≡ is_ignored lines path.now) }
     {
         self.rule.is_ignored(alloc, path)
+    }
+
+    /// The items that are kept of the plain walk from `start` less what the list ignores, in order, errors
+    /// among them, and the directory: the entries are those of the whole walk, of the depths that the behavior
+    /// has, that the list doesn't ignore. Where memory is refused for the list itself, nothing is answered.
+    pub fn entries<D: Directory>(
+        self,
+        alloc: Global,
+        directory: D,
+        start: &str,
+        behavior: WalkBehavior,
+    ) -> Result<(Vec<Result<TreeEntry, WalkError>>, D), NoMemory>
+        ensures { IfOk result (λ r. (lines : List (Line Span)) (s : Shown) (listed : List (List ℕ))
+            → Holds self lines → D.law.shows directory start.now s → D.law.tells directory listed
+            → KeepsUnignored (D.law.tells r.1)
+            (record { lines = lines; range = range_of behavior; start = start.now }) s listed
+            (map (given_outcome ⟦<TreeEntry as Entry>⟧.facts ⟦<TreeEntry as Entry>⟧.facts) r.0.items)) }
+    {
+        let walk = start.walk_with_behavior(alloc, directory, behavior);
+        collect_unignored(alloc, walk, self.rule)
     }
 }
 
