@@ -46,6 +46,31 @@ where
     collect(alloc, walk)
 }
 
+/// All items of the feed of a walk in order, kept or left out, errors among those that are kept, and the
+/// directory. What is known of the walk's entries holds of those that are kept. Where the walk is that of a
+/// glob less what patterns mean, this is what comes of it. Where memory is refused for the list itself,
+/// nothing is answered.
+pub fn collect_wanted_feed<I>(
+    alloc: Global,
+    walk: I,
+) -> Result<(Vec<Separation<I::Feed>>, I::Directory), NoMemory>
+where
+    I: FileIterator,
+    requires can { I.can_feed walk }
+    requires ends { IsFinite (I.left walk) }
+    ensures took { IfOk result (λ r. Took I.Directory.law (I.view walk) r.1
+        (map (given_of I.Entry.facts I.Residue.facts) r.0.items)) }
+    ensures few { IfOk result (λ r. length r.0.items ≤ size (I.left walk)) }
+    ensures known { IfOk result (λ r. All (KnownItem (I.known walk)) r.0.items) }
+    ensures wanted { IfOk result (λ r. (d : I.Directory) (trip : Trip) (s : Shown) (listed : List (List ℕ))
+        → ComesWanted I.Directory.law d trip (I.view walk)
+        → I.Directory.law.shows d trip.way.path s → I.Directory.law.tells d listed
+        → GaveAll (I.Directory.law.tells r.1) (trip.walked.budget + 1) (trip_pending trip s listed)
+        (map (given_of I.Entry.facts I.Residue.facts) r.0.items)) }
+{
+    collect_feed(alloc, walk)
+}
+
 /// The items that are kept of a walk less what these rules leave out, in order, errors among them, and the
 /// directory, as `collect_wanted` gives them. Where the walk is that of a glob and the rules are those of
 /// patterns, its entries are those of the plain walk that the glob means and no pattern means.
