@@ -9,6 +9,8 @@ mod escapes;
 #[cfg(test)]
 mod folds;
 #[cfg(test)]
+mod ignores;
+#[cfg(test)]
 mod lines;
 #[cfg(test)]
 mod streams;
