@@ -72,12 +72,6 @@ AreBounds [] (n ∷ []) = ⊤
 AreBounds (m ∷ []) (n ∷ []) = m ≤ n
 AreBounds _ _ = ⊥
 
--- where the walk starts, its expression, and its options
-pub record WalkRequest : Type 0 where
-  pub start : List ℕ
-  pub expression : List ℕ
-  pub options : List WalkOption
-
 -- the least depth, 0 where none is said
 abbrev pub least_in : List WalkOption → ℕ
 least_in options = unwrap_or (slice_get (leasts_in options) 0) 0
@@ -85,6 +79,12 @@ least_in options = unwrap_or (slice_get (leasts_in options) 0) 0
 -- the greatest depth, if one is said
 abbrev pub greatest_in : List WalkOption → Option ℕ
 greatest_in options = slice_get (greatests_in options) 0
+
+-- where the walk starts, its expression, and its options
+pub record WalkRequest : Type 0 where
+  pub start : List ℕ
+  pub expression : List ℕ
+  pub options : List WalkOption
 
 abbrev pub SaysWalk : {A : Type 0} → List (Option (String A)) → WalkRequest → Type 0
 SaysWalk (Some command ∷ Some start ∷ Some expression ∷ options) asked =

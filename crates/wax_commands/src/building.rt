@@ -1,6 +1,6 @@
 //! What is built of expressions.
-ghost use Rattle.std.specs.Prelude.{◌≡◌, ◌∷◌, ◌++◌, [], List, IfSome, IfNone, IfOk, IfErr, OnOk, OnErr, IsSome};
-ghost use Rattle.std.specs.Prelude.{chars, map};
+ghost use Rattle.std.specs.Prelude.{◌≡◌, ◌∷◌, ◌++◌, [], List, chars, map};
+ghost use Rattle.std.specs.Prelude.{IfSome, IfNone, IfOk, IfErr, OnOk, OnErr, IsSome};
 ghost use Rattle.std.specs.List.{AllZip};
 ghost use Rattle.wax.specs.Build.{IsGlob};
 ghost use Rattle.wax.specs.Exclusions.{NoExclusion};
@@ -85,7 +85,8 @@ fn push_exclusion(
     ensures ok { OnOk result ((t : Tree Span) × IsNotOf expression.now t
         × (map ⟦<Exclusion as Rule>⟧.rule exclusions.new.items
         ≡ map ⟦<Exclusion as Rule>⟧.rule exclusions.old.items ++ of_candidate (not_mark t) ∷ [])) }
-    ensures err { IfErr result (NoExclusion (Spells (chars expression.now)) (Refuses (chars expression.now))) }
+    ensures err { IfErr result
+        (NoExclusion (Spells (chars expression.now)) (Refuses (chars expression.now))) }
 {
     let exclusion = exclusion_of(alloc, expression)?;
     match exclusions.push(exclusion) {

@@ -37,10 +37,12 @@ where
     F: Write,
     requires can { ⟦<GlobWalk<'g, D, P, C> as SeparatingFilter>⟧.can_feed walk }
     requires ends { IsFinite (⟦<GlobWalk<'g, D, P, C> as SeparatingFilter>⟧.left walk) }
-    ensures done { IfOk result (WroteWanted D.law (⟦<GlobWalk<'g, D, P, C> as FileIterator>⟧.view walk.entry)
-        (map R.rule nots.items) (W.contents output.old.inner) (W.contents output.new.inner)) }
-    ensures stopped { OnErr result (WroteFirst D.law (⟦<GlobWalk<'g, D, P, C> as FileIterator>⟧.view walk.entry)
-        (map R.rule nots.items) (W.contents output.old.inner) (W.contents output.new.inner)) }
+    ensures done { IfOk result (WroteWanted D.law
+        (⟦<GlobWalk<'g, D, P, C> as FileIterator>⟧.view walk.entry) (map R.rule nots.items)
+        (W.contents output.old.inner) (W.contents output.new.inner)) }
+    ensures stopped { OnErr result (WroteFirst D.law
+        (⟦<GlobWalk<'g, D, P, C> as FileIterator>⟧.view walk.entry) (map R.rule nots.items)
+        (W.contents output.old.inner) (W.contents output.new.inner)) }
     ensures quiet { IfOk result (λ has_errors. has_errors ≡ false → faults.new ≡ faults.old) }
 {
     write_less(alloc, walk, nots, output, faults)

@@ -1,8 +1,8 @@
 //! What the program does with its words and its streams.
 ghost use Rattle.std.specs.Prelude.{◌≡◌, ℕ, List, IfOk, IfErr, IfSome, IfNone};
 ghost use Rattle.wax_lines.specs.Lines.{Filtered, Stopped};
-ghost use Rattle.wax_commands.specs.Commands.{Asks, AsksMatch, AsksCaptures, AsksQuery, AsksWalk, HasNoCommand};
-ghost use Rattle.wax_commands.specs.Commands.{WalkRequest};
+ghost use Rattle.wax_commands.specs.Commands.{Asks, AsksMatch, AsksCaptures, AsksQuery, AsksWalk};
+ghost use Rattle.wax_commands.specs.Commands.{HasNoCommand, WalkRequest};
 ghost use Rattle.wax_commands.specs.LineCommands.{LinesEnd, captures_of, match_of};
 ghost use Rattle.wax_commands.specs.Queried.{QueryEnds, Writes};
 ghost use Rattle.wax_commands.specs.Walked.{WalkEnds};

@@ -1,9 +1,12 @@
 //! The words of a walk.
-ghost use Rattle.std.specs.Prelude.{◌≡◌, ◌++◌, ◌∷◌, [], ℕ, List, IfSome, IfNone, MatchOption, ◌≤◌, length, unwrap_or};
-ghost use Rattle.wax_commands.specs.Commands.{AreBounds, AsksWalk, IsNumber, SayEach, Says, WalkOption, WalkRequest};
+ghost use Rattle.std.specs.Prelude.{◌≡◌, ◌≤◌, ◌++◌, ◌∷◌, [], ℕ, List, length, unwrap_or};
+ghost use Rattle.std.specs.Prelude.{IfSome, IfNone, MatchOption};
+ghost use Rattle.wax_commands.specs.Commands.{AreBounds, AsksWalk, IsNumber, SayEach, Says, WalkOption};
+ghost use Rattle.wax_commands.specs.Commands.{WalkRequest};
 ghost use Rattle.wax_commands.specs.Commands.{greatest_in, greatests_in, least_in, leasts_in};
 ghost use Rattle.wax_tree.specs.Depths.{greatest, least};
-ghost use Rattle.wax_commands.specs.inner.WalkWords.{AreMore, AreSaidBy, HasNoFirst, HasNoNext, IsDoubled, IsFirst, IsNext, IsRead, all_in};
+ghost use Rattle.wax_commands.specs.inner.WalkWords.{AreMore, AreSaidBy, HasNoFirst, HasNoNext, IsDoubled};
+ghost use Rattle.wax_commands.specs.inner.WalkWords.{IsFirst, IsNext, IsRead, all_in};
 
 use wax_tree::{DepthBehavior, DepthMax, DepthMin, DepthMinMax};
 

@@ -54,4 +54,5 @@ module _ {D C : Type 0} (law : Law D C) (walk : WalkView D) (rules : List (Facts
   -- a beginning of the lines of what is wanted was written
   abbrev pub WroteFirst : Option (List ℕ) → Option (List ℕ) → Type 0
   WroteFirst held held' = (bytes : List ℕ) × Appends held held' bytes
-      × OnTrips (λ trip s _. (unwritten : List ℕ) × (bytes ++ unwritten ≡ candidate_lines (preorder (trip_walk trip s))))
+      × OnTrips (λ trip s _. (unwritten : List ℕ)
+      × (bytes ++ unwritten ≡ candidate_lines (preorder (trip_walk trip s))))

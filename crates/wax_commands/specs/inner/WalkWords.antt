@@ -1,5 +1,6 @@
 -- What is read of the words of a walk. Only private functions cite this file.
-use Rattle.std.specs.Prelude.{◌≡◌, ◌≤◌, ◌⊎◌, ℕ, List, [], ◌∷◌, ◌++◌, length, Option, Some, None, String, string_bytes, ⊤}
+use Rattle.std.specs.Prelude.{◌≡◌, ◌≤◌, ◌⊎◌, ⊤, ℕ, List, [], ◌∷◌, ◌++◌, length, Option, Some, None}
+use Rattle.std.specs.Prelude.{String, string_bytes}
 use Rattle.wax_tree.specs.Depths.{greatest, least}
 use Rattle.wax_commands.specs.Commands.{WalkOption, WalkRequest, SayEach, greatest_in, greatests_in}
 use Rattle.wax_commands.specs.Commands.{least_in, leasts_in}
@@ -36,7 +37,8 @@ HasNoFirst (Some w ∷ words) = ⊥
 HasNoFirst words = ⊤
 
 -- a name and a word, and then the rest
-abbrev pub IsNext : {A : Type 0} → List (Option (String A)) → List ℕ → List ℕ → List (Option (String A)) → Type 0
+abbrev pub IsNext : {A : Type 0} → List (Option (String A)) → List ℕ → List ℕ → List (Option (String A))
+    → Type 0
 IsNext (Some n ∷ Some w ∷ words) name word rest =
     (string_bytes n ≡ name) × (string_bytes w ≡ word) × (rest ≡ words)
 IsNext _ name word rest = ⊥
