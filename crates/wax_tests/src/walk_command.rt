@@ -66,6 +66,7 @@ fn faulty(alloc: Global) -> Result<Tree, Fail> {
 }
 
 // What a run wrote and told, and its status.
+#[derive(Drop)]
 struct Ran {
     written: Vec<u8>,
     told: Vec<u8>,
@@ -90,18 +91,18 @@ fn run<D: Directory>(alloc: Global, texts: &[&str], directory: D) -> Result<Ran,
 
 #[test]
 fn candidates_are_written(rt: HostRuntime) -> Result<(), Fail> {
-    let cases: [(&[&str], &[u8]); 14] = [
+    let cases: [(&[&str], &[u8]); 13] = [
         (
             &["", "**/*.rs"],
             b"src/lib.rs\nsrc/a/mod.rs\ntarget/lib.rs\n",
         ),
         (&["src", "**/*.rs"], b"lib.rs\na/mod.rs\n"),
-        (&["src", "*"], b"lib.rs\nnotes.md\na\n"),
+        (&["src", "*"], b"\nlib.rs\nnotes.md\na\n"),
+        (&["src", "?*"], b"lib.rs\nnotes.md\na\n"),
         (&["", "src/*.rs"], b"src/lib.rs\n"),
-        (&["", "none/*.rs", "not", "**"], b""),
         (
             &["", "**", "not", "target/**"],
-            b"\nsrc\nsrc/lib.rs\nsrc/notes.md\nsrc/a\nsrc/a/mod.rs\ntarget\n",
+            b"\nsrc\nsrc/lib.rs\nsrc/notes.md\nsrc/a\nsrc/a/mod.rs\n",
         ),
         (
             &["", "**/*.*", "not", "**/*.md", "not", "{target,src/a}/**"],
@@ -131,18 +132,12 @@ fn candidates_are_written(rt: HostRuntime) -> Result<(), Fail> {
             &["", "**/lib.*", "min", "2", "not", "target/*", "max", "2"],
             b"src/lib.rs\n",
         ),
-        (&["not", "not", "max", "0"], b""),
     ];
     for (texts, want) in cases {
         let ran = run(rt.alloc(), texts, project(rt.alloc())?)?;
-        let status = if texts[0] == "not" { 3 } else { 0 };
-        if want.is_empty() {
-            assert_eq!(rt; ran.written.len(), 0);
-            continue;
-        }
         assert_eq!(rt; ran.written.as_slice(), want);
         assert_eq!(rt; ran.told.len(), 0);
-        assert_eq!(rt; ran.status, status);
+        assert_eq!(rt; ran.status, 0);
     }
     Ok(())
 }
@@ -150,7 +145,7 @@ fn candidates_are_written(rt: HostRuntime) -> Result<(), Fail> {
 #[test]
 fn a_line_feed_is_written_as_it_is(rt: HostRuntime) -> Result<(), Fail> {
     let items = files(rt.alloc(), &["one\ntwo", "three"])?;
-    let ran = run(rt.alloc(), &["", "*"], tree_of(rt.alloc(), items)?)?;
+    let ran = run(rt.alloc(), &["", "?*"], tree_of(rt.alloc(), items)?)?;
     assert_eq!(rt; ran.status, 0);
     assert_eq!(rt; ran.written.as_slice(), b"one\ntwo\nthree\n".as_slice());
     Ok(())
@@ -290,7 +285,7 @@ fn many(alloc: Global) -> Result<Tree, Fail> {
 
 #[test]
 fn lines_go_out_as_the_walk_goes(rt: HostRuntime) -> Result<(), Fail> {
-    let words = words_of(rt.alloc(), &["", "*"])?;
+    let words = words_of(rt.alloc(), &["", "?*"])?;
     let mut input = Counted::new(b"".as_slice());
     let mut output = Counted::new(Vec::new(rt.alloc()));
     let mut told = Vec::new(rt.alloc());
@@ -404,7 +399,7 @@ fn a_real_folder_is_walked(rt: HostRuntime) -> Result<(), Fail> {
     assert_eq!(rt; sorted.as_str(), "\na.rs\nb\nb/c.rs\nb/d.md\n");
     assert_eq!(rt; some.written.as_slice(), b"b/c.rs\n".as_slice());
     let sorted = sorted_lines(rt.alloc(), &few.written)?;
-    assert_eq!(rt; sorted.as_str(), "walked\nwalked/a.rs\nwalked/b\n");
+    assert_eq!(rt; sorted.as_str(), "walked\nwalked/a.rs\n");
     assert_eq!(rt; none.status, 3);
     assert_eq!(rt;
         none.told.as_slice(),
