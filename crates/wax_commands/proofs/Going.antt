@@ -5,10 +5,8 @@ use Rattle.std.specs.List.{AllZip}
 use Rattle.wax.specs.Build.{IsGlob}
 use Rattle.wax.specs.GlobView.{GlobView}
 use Rattle.wax_collect.specs.Trips.{AreNots, KeepsWanted, Trip, goes, trip_walk}
-use Rattle.wax_depth.specs.Depth.{Depth}
 use Rattle.wax_directory.specs.Law.{Law}
 use Rattle.wax_directory.specs.Shown.{Shown}
-use Rattle.wax_query.specs.Ranges.{Bounds}
 use Rattle.wax_token.specs.Reads.{Span}
 use Rattle.wax_token.specs.Syntax.{Tree}
 use Rattle.wax_tree.specs.Begins.{or_greatest, range_of}

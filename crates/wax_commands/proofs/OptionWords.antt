@@ -1,6 +1,6 @@
 -- The words of walks.
-use Rattle.std.proofs.Common.{◌≡◌, ℕ, ◌≤◌, ◌+◌, ◌⊎◌, List, [], ◌∷◌, ◌++◌, length, length-append, get_or, Option, Some, None, inl, inr, refl, sym, ap, subst, ◌∙◌, append_assoc, arith}
-use Rattle.std.specs.Prelude.{⊤, ◌↔◌, IfNone, String, string_bytes, codes, slice_get}
+use Rattle.std.proofs.Common.{◌≡◌, ℕ, ◌≤◌, List, [], ◌∷◌, ◌++◌, length, length-append, get_or, Option, Some, None, inl, inr, refl, sym, ap, subst, ◌∙◌, append_assoc, arith}
+use Rattle.std.specs.Prelude.{◌↔◌, IfNone, String, string_bytes, codes, slice_get}
 use Rattle.wax_commands.specs.Commands.{WalkOption, without, at_least, at_most, Says, SayEach, leasts_in, greatests_in, AreBounds, SaysWalk, AsksWalk, WalkRequest}
 use Rattle.wax_commands.specs.inner.WalkWords.{AreMore, AreSaidBy, all_in, IsFirst, IsNext, IsDoubled}
 use Rattle.wax_commands.specs.declared.walk_words.DepthWords.{DepthWords}

@@ -1,4 +1,4 @@
-use Rattle.std.proofs.Common.{rules, ◌≡◌, List, map, refl}
+use Rattle.std.proofs.Common.{rules, ◌≡◌, List}
 use Rattle.std.specs.Prelude.{codes}
 use Rattle.wax_commands.specs.Commands.{SayEach, WalkOption, exclusions_in}
 use Rattle.wax_commands.specs.Walked.{HasRefused}

@@ -1,4 +1,4 @@
-use Rattle.std.proofs.Common.{rules, subst, sym, ◌≡◌}
+use Rattle.std.proofs.Common.{rules, subst, ◌≡◌}
 use Rattle.wax_lines.specs.Written.{WritesPart}
 use Rattle.wax_commands.proofs.Lines.{err_holds, part_longer}
 use Rattle.wax_commands.proofs.candidates.write_candidate.Goals as goal

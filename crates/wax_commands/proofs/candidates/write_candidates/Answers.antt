@@ -1,4 +1,4 @@
-use Rattle.std.proofs.Common.{rules, refl, sym, subst, ap, ◌≡◌, ◌∙◌}
+use Rattle.std.proofs.Common.{rules, refl, subst, ap, ◌≡◌, ◌∙◌}
 use Rattle.std.specs.Prelude.{Some, None, ◌||◌}
 use Rattle.std.proofs.lemmas.Bool.{or_parts}
 use Rattle.std.specs.Io.KnownBytes.{Appends}

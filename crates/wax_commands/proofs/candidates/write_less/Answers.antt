@@ -1,7 +1,7 @@
-use Rattle.std.proofs.Common.{map, subst, sym, ◌∙◌}
+use Rattle.std.proofs.Common.{map, subst, ◌∙◌}
 use Rattle.std.specs.Prelude.{filter}
 use Rattle.std.specs.Io.KnownBytes.{Appends}
-use Rattle.wax_collect.specs.Trips.{KeepsWanted, trip_less, trip_pending}
+use Rattle.wax_collect.specs.Trips.{trip_less, trip_pending}
 use Rattle.wax_collect.proofs.Wanting.{all_gave, keeps_wanted, nots_come}
 use Rattle.wax_walk.proofs.Collecting.{map_ok}
 use Rattle.wax_walk.specs.Given.{is_kept}

@@ -1,5 +1,4 @@
 use Rattle.std.proofs.Common.{rules, refl}
-use Rattle.std.specs.Prelude.{Some}
 use Rattle.wax_commands.specs.Commands.{without, at_least, at_most}
 use Rattle.std.proofs.lemmas.List.{append-nil}
 use Rattle.wax_commands.proofs.walk_words.with_option.Goals as goal

@@ -1,4 +1,4 @@
-use Rattle.std.proofs.Common.{◌≡◌, rules, subst}
+use Rattle.std.proofs.Common.{◌≡◌, subst}
 use Rattle.wax_tree.specs.Depths.{at_depth}
 use Rattle.wax_commands.specs.inner.Candidates.{WroteWanted}
 use Rattle.wax_commands.proofs.Going.{ends_done, ends_faulty, ends_stopped}
