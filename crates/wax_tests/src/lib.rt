@@ -15,4 +15,6 @@ mod lines;
 #[cfg(test)]
 mod streams;
 #[cfg(test)]
+mod walk_command;
+#[cfg(test)]
 mod walks;
