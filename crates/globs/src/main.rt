@@ -3,6 +3,7 @@
 
 use std::process::ExitCode;
 use wax::Counted;
+use wax::walk::Folders;
 use wax_commands::{run_globs, words};
 
 fn main(rt: HostRuntime) -> ExitCode {
@@ -13,6 +14,8 @@ fn main(rt: HostRuntime) -> ExitCode {
     };
     let mut input = Counted::new(rt.stdin());
     let mut output = Counted::new(rt.stdout());
-    let status = run_globs(alloc, &words, &mut input, &mut output, &mut rt.stderr());
+    let mut faults = rt.stderr();
+    let folders = Folders::new(rt);
+    let status = run_globs(alloc, &words, &mut input, &mut output, &mut faults, folders);
     ExitCode::from(status)
 }

@@ -3,6 +3,7 @@ pub mod Build
 pub mod Exclusions
 pub mod GlobView
 pub mod GlobWalks
+pub mod Ignoring
 pub mod Locations
 pub mod Partition
 pub mod Patterns

@@ -1,10 +1,15 @@
 //! Patterns that are left out of walks.
-ghost use Rattle.std.specs.Prelude.{◌≡◌, MatchResult};
+ghost use Rattle.std.specs.Prelude.{◌≡◌, IfOk, List, MatchResult};
+ghost use Rattle.wax_token.specs.Reads.{Span};
+ghost use Rattle.wax_walk.specs.Known.{StaysKnown};
 ghost use Rattle.wax_walk.specs.Ruled.{ruled_view};
 ghost use Rattle.wax_walk.specs.View.{IsSeenAs};
+ghost use Rattle.wax_wanted.specs.Ignored.{Line};
 ghost use Rattle.wax.specs.Exclusions.{IsLeftOut, IsWalkWithout, NoExclusion};
+ghost use Rattle.wax.specs.Ignoring.{Holds, IsWalkIgnoring};
 
 use crate::build_error::BuildError;
+use crate::ignoring::IgnoreList;
 use crate::pattern::Pattern;
 use std::alloc::Global;
 use wax_filter::filter::SeparatingFilter;
@@ -14,6 +19,9 @@ use wax_walk::{FileIterator, Rule, Without};
 
 /// A walk less what a pattern means.
 pub type Not<I> = Without<I, Exclusion>;
+
+/// A walk less what a list ignores.
+pub type Ignore<I> = Without<I, IgnoreList>;
 
 /// What is left out of a walk where a pattern is. The pattern is refused as `Pattern::into_checked` refuses
 /// it; else with 9 where the cost of its token plus 1 is above 1,048,576, and with 10 where memory is.
@@ -40,15 +48,32 @@ pub trait FileIteratorExt: FileIterator {
     final fn not<P: Pattern>(self, alloc: Global, pattern: P) -> Result<Not<Self>, BuildError>
     where
         Self: Sized,
-        ensures { MatchResult result (λ w. IsWalkWithout (P.spells pattern) (Self.view self)
+        ensures less { MatchResult result (λ w. IsWalkWithout (P.spells pattern) (Self.view self)
             (⟦<Not<Self> as FileIterator>⟧.view w)
             × (⟦<Not<Self> as SeparatingFilter>⟧.left w ≡ Self.left self))
             (NoExclusion (P.spells pattern) (P.refuses pattern)) }
+        ensures known { IfOk result
+            (λ w. StaysKnown (Self.known self) (⟦<Not<Self> as FileIterator>⟧.known w)) }
     {
         match exclusion_of(alloc, pattern) {
             Ok(exclusion) => Ok(self.without(alloc, exclusion)),
             Err(error) => Err(error),
         }
+    }
+
+    /// The walk less what the list ignores: with all that lies below it, which is cancelled, where an
+    /// alternative of a line that ignores covers it and no line that takes back stands after that line; else
+    /// alone.
+    final fn ignore(self, alloc: Global, list: IgnoreList) -> Ignore<Self>
+    where
+        Self: Sized,
+        ensures view { (lines : List (Line Span)) → Holds list lines
+            → IsWalkIgnoring lines (Self.view self) (⟦<Ignore<Self> as FileIterator>⟧.view result) }
+        ensures ends { ⟦<Ignore<Self> as SeparatingFilter>⟧.left result ≡ Self.left self }
+        ensures feeds { Self.can_feed self → ⟦<Ignore<Self> as SeparatingFilter>⟧.can_feed result }
+        ensures known { StaysKnown (Self.known self) (⟦<Ignore<Self> as FileIterator>⟧.known result) }
+    {
+        self.without(alloc, list)
     }
 }
 

@@ -8,6 +8,7 @@ pub mod encode;
 mod exclusions;
 pub mod filter;
 mod glob;
+mod ignoring;
 mod location;
 mod pattern;
 pub mod prelude;

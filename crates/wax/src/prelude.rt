@@ -2,5 +2,5 @@
 
 pub use crate::diagnostics::LocatedError;
 pub use crate::filter::HierarchicalIterator;
-pub use crate::walk::{Entry, FileIterator, PathExt};
+pub use crate::walk::{Entry, FileIterator, FileIteratorExt, IgnoreList, PathExt};
 pub use crate::{CandidatePath, Glob, Program};

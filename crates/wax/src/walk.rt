@@ -1,7 +1,8 @@
 //! Directories, walks through them, and filters over walks.
 
-pub use crate::exclusions::{FileIteratorExt, Not, exclusion_of};
+pub use crate::exclusions::{FileIteratorExt, Ignore, Not, exclusion_of};
 pub use crate::glob::GlobWalk;
+pub use crate::ignoring::{IgnoreError, IgnoreList};
 pub use wax_directory::directory::{Directory, DirectoryFault, FileType, ListItem};
 pub use wax_directory::failing::Failing;
 pub use wax_directory::folders::Folders;

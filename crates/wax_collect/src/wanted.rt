@@ -1,6 +1,6 @@
 //! What is wanted of a walk.
 
-ghost use Rattle.std.specs.Prelude.{◌≡◌, ◌+◌, ◌≤◌, List, ℕ, IfOk, filter, length, map};
+ghost use Rattle.std.specs.Prelude.{◌≡◌, ◌+◌, ◌≤◌, All, List, ℕ, IfOk, filter, length, map};
 ghost use Rattle.std.specs.Iterator.{IsFinite, size};
 ghost use Rattle.wax_directory.specs.Shown.{Shown};
 ghost use Rattle.wax_collect.specs.Trips.{AreNots, ComesWanted, KeepsWanted, MayGo, Trip};
@@ -10,6 +10,7 @@ ghost use Rattle.wax_token.specs.Syntax.{Tree};
 ghost use Rattle.wax_walk.specs.Collected.{GaveAll, Took};
 ghost use Rattle.wax_walk.specs.Entries.{given_of, given_outcome};
 ghost use Rattle.wax_walk.specs.Given.{Given, is_kept};
+ghost use Rattle.wax_walk.specs.Known.{KnownItem, KnownOutcome};
 
 use std::alloc::Global;
 use wax_filter::filter::Separation;
@@ -18,9 +19,10 @@ use wax_query::diagnostics::NoMemory;
 use wax_walk::{Entry, FileIterator, Rule, WalkError, collect, collect_feed};
 use wax_wanted::law_of_walks;
 
-/// The items that are kept of a walk, in order, errors among them, and the directory. Where the walk is
-/// that of a glob less what patterns mean, its entries are those of the plain walk that the glob means
-/// and no pattern means. Where memory is refused for the list itself, nothing is answered.
+/// The items that are kept of a walk, in order, errors among them, and the directory. What is known of the
+/// walk's entries holds of each. Where the walk is that of a glob less what patterns mean, its entries are
+/// those of the plain walk that the glob means and no pattern means. Where memory is refused for the list
+/// itself, nothing is answered.
 pub fn collect_wanted<I>(
     alloc: Global,
     walk: I,
@@ -32,6 +34,7 @@ where
     ensures took { IfOk result (λ r. (xs : List Given) × Took I.Directory.law (I.view walk) r.1 xs
         × (length xs ≤ size (I.left walk))
         × (map (given_outcome I.Entry.facts I.Residue.facts) r.0.items ≡ filter is_kept xs)) }
+    ensures known { IfOk result (λ r. All (KnownOutcome (I.known walk)) r.0.items) }
     ensures wanted { IfOk result (λ r. (d : I.Directory) (trip : Trip) (s : Shown) (listed : List (List ℕ))
         → ComesWanted I.Directory.law d trip (I.view walk)
         → MayGo trip
@@ -44,8 +47,9 @@ where
 }
 
 /// All items of the feed of a walk in order, kept or left out, errors among those that are kept, and the
-/// directory. Where the walk is that of a glob less what patterns mean, this is what comes of it. Where
-/// memory is refused for the list itself, nothing is answered.
+/// directory. What is known of the walk's entries holds of those that are kept. Where the walk is that of a
+/// glob less what patterns mean, this is what comes of it. Where memory is refused for the list itself,
+/// nothing is answered.
 pub fn collect_wanted_feed<I>(
     alloc: Global,
     walk: I,
@@ -57,6 +61,7 @@ where
     ensures took { IfOk result (λ r. Took I.Directory.law (I.view walk) r.1
         (map (given_of I.Entry.facts I.Residue.facts) r.0.items)) }
     ensures few { IfOk result (λ r. length r.0.items ≤ size (I.left walk)) }
+    ensures known { IfOk result (λ r. All (KnownItem (I.known walk)) r.0.items) }
     ensures wanted { IfOk result (λ r. (d : I.Directory) (trip : Trip) (s : Shown) (listed : List (List ℕ))
         → ComesWanted I.Directory.law d trip (I.view walk)
         → I.Directory.law.shows d trip.way.path s → I.Directory.law.tells d listed
@@ -67,8 +72,8 @@ where
 }
 
 /// The items that are kept of a walk less what these rules leave out, in order, errors among them, and the
-/// directory. Where the walk is that of a glob and the rules are those of patterns, the entries are those of
-/// the plain walk that the glob means and no pattern means.
+/// directory, as `collect_wanted` gives them. Where the walk is that of a glob and the rules are those of
+/// patterns, its entries are those of the plain walk that the glob means and no pattern means.
 pub fn collect_less<I, R>(
     alloc: Global,
     walk: I,
@@ -79,7 +84,8 @@ where
     R: Rule,
     requires can { I.can_feed walk }
     requires ends { IsFinite (I.left walk) }
-    ensures { IfOk result (λ r. (d : I.Directory) (trip : Trip) (ts : List (Tree Span)) (s : Shown)
+    ensures known { IfOk result (λ r. All (KnownOutcome (I.known walk)) r.0.items) }
+    ensures wanted { IfOk result (λ r. (d : I.Directory) (trip : Trip) (ts : List (Tree Span)) (s : Shown)
         (listed : List (List ℕ)) → ComesWanted I.Directory.law d trip (I.view walk)
         → AreNots ts (map R.rule nots.items) → MayGo (trip_less trip ts)
         → I.Directory.law.shows d trip.way.path s → I.Directory.law.tells d listed

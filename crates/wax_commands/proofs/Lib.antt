@@ -1,0 +1,4 @@
+pub mod OptionWords
+pub mod Lines
+pub mod Leaving
+pub mod Going

@@ -1,5 +1,7 @@
 -- What the words ask for.
-use Rattle.std.specs.Prelude.{◌≡◌, ℕ, List, [], ◌∷◌, Option, Some, String, string_bytes, codes}
+use Rattle.std.specs.Prelude.{◌≡◌, ◌≤◌, ◌<◌, ◌^◌, ⊤, ℕ, List, [], ◌∷◌, Option, Some, String, string_bytes}
+use Rattle.std.specs.Prelude.{codes, slice_get, unwrap_or}
+use Rattle.std.specs.Str.Parse.{IsNumeral, digits_value}
 
 -- the name of a command, and an expression
 abbrev pub Asks : {A : Type 0} → List ℕ → List (Option (String A)) → List ℕ → Type 0
@@ -19,7 +21,86 @@ AsksCaptures words e = Asks (codes "captures") words e
 abbrev pub AsksQuery : {A : Type 0} → List (Option (String A)) → List ℕ → Type 0
 AsksQuery words e = Asks (codes "query") words e
 
+-- ---- walks
+
+-- an option of a walk: an expression whose entries are left out, a least depth, or a greatest
+pub data WalkOption : Type 0 where
+  without : List ℕ → WalkOption
+  at_least : ℕ → WalkOption
+  at_most : ℕ → WalkOption
+
+-- the ASCII digits of a number of at most 64 bits
+abbrev pub IsNumber : List ℕ → ℕ → Type 0
+IsNumber word n = IsNumeral 10 word × (n ≡ digits_value 10 word) × (n < 2 ^ 64)
+
+-- a name and a word say an option
+abbrev pub Says : List ℕ → List ℕ → WalkOption → Type 0
+Says name word (without e) = (name ≡ codes "not") × (e ≡ word)
+Says name word (at_least n) = (name ≡ codes "min") × IsNumber word n
+Says name word (at_most n) = (name ≡ codes "max") × IsNumber word n
+
+-- the words say these options, two words each
+abbrev pub SayEach : {A : Type 0} → List (Option (String A)) → List WalkOption → Type 0
+SayEach [] [] = ⊤
+SayEach (Some name ∷ Some word ∷ words) (o ∷ options) =
+    Says (string_bytes name) (string_bytes word) o × SayEach words options
+SayEach _ _ = ⊥
+
+abbrev pub exclusions_in : List WalkOption → List (List ℕ)
+exclusions_in [] = []
+exclusions_in (without e ∷ options) = e ∷ exclusions_in options
+exclusions_in (at_least n ∷ options) = exclusions_in options
+exclusions_in (at_most n ∷ options) = exclusions_in options
+
+abbrev pub leasts_in : List WalkOption → List ℕ
+leasts_in [] = []
+leasts_in (without e ∷ options) = leasts_in options
+leasts_in (at_least n ∷ options) = n ∷ leasts_in options
+leasts_in (at_most n ∷ options) = leasts_in options
+
+abbrev pub greatests_in : List WalkOption → List ℕ
+greatests_in [] = []
+greatests_in (without e ∷ options) = greatests_in options
+greatests_in (at_least n ∷ options) = greatests_in options
+greatests_in (at_most n ∷ options) = n ∷ greatests_in options
+
+-- each at most once, and the least no greater than the greatest
+abbrev pub AreBounds : List ℕ → List ℕ → Type 0
+AreBounds [] [] = ⊤
+AreBounds (m ∷ []) [] = ⊤
+AreBounds [] (n ∷ []) = ⊤
+AreBounds (m ∷ []) (n ∷ []) = m ≤ n
+AreBounds _ _ = ⊥
+
+-- the least depth, 0 where none is said
+abbrev pub least_in : List WalkOption → ℕ
+least_in options = unwrap_or (slice_get (leasts_in options) 0) 0
+
+-- the greatest depth, if one is said
+abbrev pub greatest_in : List WalkOption → Option ℕ
+greatest_in options = slice_get (greatests_in options) 0
+
+-- where the walk starts, its expression, and its options
+pub record WalkRequest : Type 0 where
+  pub start : List ℕ
+  pub expression : List ℕ
+  pub options : List WalkOption
+
+abbrev pub SaysWalk : {A : Type 0} → List (Option (String A)) → WalkRequest → Type 0
+SaysWalk (Some command ∷ Some start ∷ Some expression ∷ options) asked =
+    (string_bytes command ≡ codes "walk") × (asked.start ≡ string_bytes start)
+    × (asked.expression ≡ string_bytes expression) × SayEach options asked.options
+SaysWalk _ asked = ⊥
+
+-- what an expression means below a start, less what others mean, of some depths
+pub record AsksWalk {A : Type 0} (words : List (Option (String A))) (asked : WalkRequest) : Type 0 where
+  pub says : SaysWalk words asked
+  pub bounds : AreBounds (leasts_in asked.options) (greatests_in asked.options)
+
+-- ---- nothing
+
 -- they ask for nothing that there is
 abbrev pub HasNoCommand : {A : Type 0} → List (Option (String A)) → Type 0
 HasNoCommand words =
-    (e : List ℕ) → (AsksMatch words e → ⊥) × (AsksCaptures words e → ⊥) × (AsksQuery words e → ⊥)
+    ((e : List ℕ) → (AsksMatch words e → ⊥) × (AsksCaptures words e → ⊥) × (AsksQuery words e → ⊥))
+    × ((asked : WalkRequest) → AsksWalk words asked → ⊥)

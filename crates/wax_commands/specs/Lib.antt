@@ -1,5 +1,7 @@
+pub mod Candidates
 pub mod Commands
 pub mod LineCommands
 pub mod Queried
 pub mod Refused
+pub mod Walked
 pub mod inner

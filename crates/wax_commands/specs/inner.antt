@@ -1,1 +1,3 @@
+pub mod Candidates
 pub mod Outputs
+pub mod WalkWords

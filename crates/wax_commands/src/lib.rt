@@ -2,8 +2,13 @@
 #![tactic(auto)]
 
 mod arguments;
+mod building;
+mod candidates;
 mod query;
 mod run;
+mod status;
+mod walk_words;
+mod walking;
 
 pub use arguments::words;
 pub use query::{depth_text, when_text};

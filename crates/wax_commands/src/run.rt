@@ -1,16 +1,21 @@
 //! What the program does with its words and its streams.
-ghost use Rattle.std.specs.Prelude.{◌≡◌, ℕ, List, IfOk, IfErr, IfSome, IfNone, IsSome, chars};
-ghost use Rattle.wax.specs.Build.{IsGlob};
+ghost use Rattle.std.specs.Prelude.{◌≡◌, ℕ, List, IfOk, IfErr, IfSome, IfNone};
 ghost use Rattle.wax_lines.specs.Lines.{Filtered, Stopped};
-ghost use Rattle.wax_commands.specs.Commands.{Asks, AsksMatch, AsksCaptures, AsksQuery, HasNoCommand};
+ghost use Rattle.wax_commands.specs.Commands.{Asks, AsksMatch, AsksCaptures, AsksQuery, AsksWalk};
+ghost use Rattle.wax_commands.specs.Commands.{HasNoCommand, WalkRequest};
 ghost use Rattle.wax_commands.specs.LineCommands.{LinesEnd, captures_of, match_of};
 ghost use Rattle.wax_commands.specs.Queried.{QueryEnds, Writes};
-ghost use Rattle.wax_commands.specs.Refused.{IsRefused};
+ghost use Rattle.wax_commands.specs.Walked.{WalkEnds};
 ghost use Rattle.wax_commands.specs.inner.Outputs.{command_of, writes_of};
 
+use crate::building::built;
 use crate::query::query_lines;
+use crate::status::{DONE, FAILED, WRONG_WORDS};
+use crate::walk_words::read_walk;
+use crate::walking::run_walk;
 use std::alloc::Global;
 use std::io::{Read, Write};
+use wax::walk::Directory;
 use wax::{Counted, Glob, capture_lines, filter_lines};
 use wax_lines::{LinesError, write_whole};
 
@@ -28,25 +33,24 @@ enum Lines {
     Captured,
 }
 
-const DONE: u8 = 0;
-
-const FAILED: u8 = 1;
-
-const WRONG_WORDS: u8 = 2;
-
 /// Does what the words ask for, and answers the status: 0 done; 1 a refused build, a line that isn't
-/// text, a failed read or write, or want of memory; 2 wrong words. A word is None where it isn't UTF-8.
+/// text, a failed read or write, or want of memory but for that of a walk; 2 wrong words; 3 some item of a
+/// walk was an error. A word is None where it isn't UTF-8.
 ///
 /// `match EXPR` writes the lines of the input that the expression means; `captures EXPR` writes these, each
 /// with what the expression captures of it and a tab between; `query EXPR` writes what is known of the
-/// expression and reads nothing. Faults are told in one line, wrong words by the usage text, and nothing else
-/// is written to `faults`; where that can't be written, the status is the same.
-pub fn run_globs<R: Read, W: Write, F: Write>(
+/// expression; `walk START EXPR` writes the candidates of the entries below a start that the expression
+/// means, but for those that the expressions after `not` leave out and depths below `min` or above `max`.
+/// The last two read nothing. Faults are told in one line, each error of a walk in one where it comes, wrong
+/// words by the usage text, and nothing else is written to `faults`; where that can't be written, the status
+/// is the same.
+pub fn run_globs<R: Read, W: Write, F: Write, D: Directory>(
     alloc: Global,
     words: &[Option<String>],
     input: &mut Counted<R>,
     output: &mut Counted<W>,
     faults: &mut F,
+    directory: D,
 ) -> u8
     ensures wrong_words { HasNoCommand words.now
         → (result ≡ 2) × (input.new ≡ input.old) × (output.new ≡ output.old) }
@@ -59,6 +63,9 @@ pub fn run_globs<R: Read, W: Write, F: Write>(
     ensures query { (e : List ℕ) → AsksQuery words.now e
         → QueryEnds e (W.contents output.old.inner) (W.contents output.new.inner) result }
     ensures query_reads { (e : List ℕ) → AsksQuery words.now e → input.new ≡ input.old }
+    ensures walk { (asked : WalkRequest) → AsksWalk words.now asked → WalkEnds D.law directory asked
+        (W.contents output.old.inner) (W.contents output.new.inner) result }
+    ensures walk_reads { (asked : WalkRequest) → AsksWalk words.now asked → input.new ≡ input.old }
     ensures quiet { result ≡ 0 → faults.new ≡ faults.old }
 {
     if let Some(expression) = expression_after("match", words) {
@@ -69,6 +76,9 @@ pub fn run_globs<R: Read, W: Write, F: Write>(
     }
     if let Some(expression) = expression_after("query", words) {
         return run_query(alloc, expression, output, faults);
+    }
+    if let Some(walk) = read_walk(words) {
+        return run_walk(alloc, walk, output, faults, directory);
     }
     let _ = faults.write_all(USAGE.as_bytes());
     WRONG_WORDS
@@ -156,21 +166,6 @@ fn run_query<W: Write, F: Write>(
         Err(error) => {
             let _ = writeln!(faults, "globs: {error}");
             FAILED
-        }
-    }
-}
-
-// The glob of the expression, or none where it is refused; the reason is told.
-fn built<'e, F: Write>(alloc: Global, expression: &'e str, faults: &mut F) -> Option<Glob<'e>>
-    ensures some { IfSome result (IsGlob (chars expression.now)) }
-    ensures none { IfNone result (IsRefused expression.now) }
-    ensures quiet { IsSome result → faults.new ≡ faults.old }
-{
-    match Glob::new(alloc, expression) {
-        Ok(glob) => Some(glob),
-        Err(error) => {
-            let _ = writeln!(faults, "globs: {error}");
-            None
         }
     }
 }

@@ -31,18 +31,7 @@ abbrev pub shown_entry : {S : Type 0} → Separation S (Result GlobEntry WalkErr
 shown_entry (Filtrate x) = shown_outcome x.inner
 shown_entry (Residue x) = Some (residue_item x.inner)
 
-module _ (Means : List ℕ → Type 0) (Captured : List ℕ → List (List ℕ) → Type 0) where
-  -- what was captured of an entry that is kept is what is captured of its candidate
-  abbrev pub IsMatchedEntry : Result GlobEntry WalkError → Type 0
-  IsMatchedEntry (Ok e) = IsMatchOf Means Captured (chars (glob_facts e).candidate) (Some (match_of e))
-  IsMatchedEntry (Err e) = Unit {0}
-
-  abbrev pub IsMatchedIn : {S : Type 0} → Separation S (Result GlobEntry WalkError) (TreeResidue TreeEntry)
-      → Type 0
-  IsMatchedIn (Filtrate x) = IsMatchedEntry x.inner
-  IsMatchedIn (Residue x) = Unit {0}
-
-  abbrev pub IsMatchedAnswer : {S : Type 0}
-      → Option (Separation S (Result GlobEntry WalkError) (TreeResidue TreeEntry)) → Type 0
-  IsMatchedAnswer None = Unit {0}
-  IsMatchedAnswer (Some x) = IsMatchedIn x
+-- what was captured of an entry is what is captured of its candidate
+abbrev pub IsMatchedEntry : (List ℕ → Type 0) → (List ℕ → List (List ℕ) → Type 0) → GlobEntry → Type 0
+IsMatchedEntry Means Captured e =
+    IsMatchOf Means Captured (chars (glob_facts e).candidate) (Some (match_of e))

@@ -4,10 +4,11 @@ ghost use Rattle.std.specs.Prelude.{◌≡◌, IfOk, chars, false};
 ghost use Rattle.std.specs.Iterator.{IsFinite};
 ghost use Rattle.wax_candidate.specs.Matched.{IsMatchOf};
 ghost use Rattle.wax_filter.specs.Feeding.{NextFiltrate};
-ghost use Rattle.wax_glob_walk.specs.Matches.{IsMatchedIn, glob_facts, shown_entry};
+ghost use Rattle.wax_glob_walk.specs.Matches.{IsMatchedEntry, glob_facts, shown_entry};
 ghost use Rattle.wax_glob_walk.specs.Programs.{leading_mark, means_mark};
 ghost use Rattle.wax_walk.specs.Entries.{given_of, facts_of};
 ghost use Rattle.wax_walk.specs.Given.{changed_by};
+ghost use Rattle.wax_walk.specs.Known.{KnownItem, StaysKnown};
 ghost use Rattle.wax_walk.specs.Ruled.{ruled_view};
 ghost use Rattle.wax_walk.specs.View.{IsSeenAs};
 
@@ -76,7 +77,8 @@ where
     F: Feed<Filtrate = Result<TreeEntry, WalkError>, Residue = TreeResidue<TreeEntry>>,
     ensures gives { IfOk result (λ r. given_of glob_facts facts_of r
         ≡ changed_by (means_mark P.decides program.now) (given_of facts_of facts_of separation)) }
-    ensures matches { IfOk result (IsMatchedIn (P.means program.now) (P.captured program.now)) }
+    ensures matches { IfOk result
+        (KnownItem (IsMatchedEntry (P.means program.now) (P.captured program.now))) }
 {
     match separation {
         Separation::Filtrate(filtrate) => match filtrate.into_inner() {
@@ -109,7 +111,8 @@ pub struct Matching<'g, I, P> {
 /// left out with all that lies below it, which is cancelled; any other that isn't meant is left out alone.
 pub type GlobWalk<'g, D, P, C> = Matching<'g, Without<WalkTree<D>, Leading<C>>, P>;
 
-/// The walk of the glob of this program and these leading components, of what a plain walk gives.
+/// The walk of the glob of this program and these leading components, of what a plain walk gives. Of each
+/// entry that is kept it is known that what was captured of it is what the program captures of its candidate.
 pub fn walk_of<'g, D, P, C>(
     alloc: Global,
     walk: WalkTree<D>,
@@ -126,6 +129,8 @@ where
     ensures ends { ⟦<GlobWalk<'g, D, P, C> as SeparatingFilter>⟧.left result
         ≡ ⟦<WalkTree<D> as SeparatingFilter>⟧.left walk }
     ensures feeds { ⟦<GlobWalk<'g, D, P, C> as SeparatingFilter>⟧.can_feed result }
+    ensures known { StaysKnown (IsMatchedEntry (P.means program.now) (P.captured program.now))
+        (⟦<GlobWalk<'g, D, P, C> as FileIterator>⟧.known result) }
 {
     Matching {
         alloc,
@@ -140,8 +145,9 @@ where
     I: FileIterator<Entry = TreeEntry, Residue = TreeEntry>,
     P: Program,
 {
-    ghost use Rattle.wax_glob_walk.specs.Matches.{IsMatchedAnswer, glob_facts};
+    ghost use Rattle.wax_glob_walk.specs.Matches.{IsMatchedEntry, glob_facts};
     ghost use Rattle.wax_walk.specs.Entries.{answer_of, facts_of};
+    ghost use Rattle.wax_walk.specs.Known.{KeepsKnown};
     ghost use Rattle.wax_walk.specs.View.{FeedStep};
 
     type Feed = GlobFeed;
@@ -152,7 +158,8 @@ where
         (ruled_view (I.view s.input) (means_mark P.decides s.program.now) s.has_ended)
         (answer_of glob_facts facts_of r)
         (ruled_view (I.view t.input) (means_mark P.decides t.program.now) t.has_ended)
-        × IsMatchedAnswer (P.means s.program.now) (P.captured s.program.now) r };
+        × KeepsKnown (IsMatchedEntry (P.means s.program.now) (P.captured s.program.now)) r
+        (IsMatchedEntry (P.means t.program.now) (P.captured t.program.now)) };
 
     ghost left = { λ s. I.left s.input };
 
@@ -195,7 +202,8 @@ where
     I: FileIterator<Entry = TreeEntry, Residue = TreeEntry>,
     P: Program,
 {
-    ghost use Rattle.std.proofs.Common.{ap};
+    ghost use Rattle.std.proofs.Common.{ap, subst};
+    ghost use Rattle.wax_glob_walk.specs.Matches.{IsMatchedEntry};
     ghost use Rattle.wax_walk.specs.Entries.{facts_of};
     ghost use Rattle.wax_walk.specs.Laws.{ruled_telling, ruled_cancelling};
 
@@ -206,6 +214,8 @@ where
     type Directory = I::Directory;
 
     ghost view = { λ s. ruled_view (I.view s.input) (means_mark P.decides s.program.now) s.has_ended };
+
+    ghost known = { λ s. IsMatchedEntry (P.means s.program.now) (P.captured s.program.now) };
 
     fn directory(&self) -> &I::Directory {
         self.input.directory()
@@ -225,6 +235,10 @@ where
     ghost cancelling = { λ s t h. ruled_cancelling (I.view s.input) (I.view t.input)
         (λ p. means_mark P.decides p.now) s.program t.program s.has_ended t.has_ended
         (I.cancelling s.input t.input h.0) h.1 h.2 };
+
+    ghost keeping = { λ s t r f. f.1 };
+
+    ghost staying = { λ s t h e k. subst (λ p. IsMatchedEntry (P.means p.now) (P.captured p.now) e) h.1 k };
 }
 
 impl<I, P> Iterator for Matching<'_, I, P>

@@ -6,6 +6,7 @@ use std::env::FillError;
 use std::rt::Env;
 use std::test::*;
 use wax::Counted;
+use wax::walk::{Node, Tree};
 use wax_commands::{run_globs, words};
 
 const USAGE: &[u8] = b"usage: globs match EXPR
@@ -20,6 +21,14 @@ fn words_of(alloc: Global, texts: &[&str]) -> Result<Vec<Option<String>>, AllocE
         words.push(Some(String::from_str(alloc, *text)?))?;
     }
     Ok(words)
+}
+
+// A directory of which no command but `walk` asks.
+fn nothing(alloc: Global) -> Result<Tree, Fail> {
+    match Tree::new(alloc, Node::File, Node::File) {
+        Ok(tree) => Ok(tree),
+        Err(_) => Err(Fail::from("no tree")),
+    }
 }
 
 #[test]
@@ -37,7 +46,14 @@ fn wrong_words_give_the_usage_text(rt: HostRuntime) -> Result<(), Fail> {
         let mut input = Counted::new(b"a\n".as_slice());
         let mut output = Counted::new(Vec::new(rt.alloc()));
         let mut faults = Vec::new(rt.alloc());
-        let status = run_globs(rt.alloc(), &words, &mut input, &mut output, &mut faults);
+        let status = run_globs(
+            rt.alloc(),
+            &words,
+            &mut input,
+            &mut output,
+            &mut faults,
+            nothing(rt.alloc())?,
+        );
         assert_eq!(rt; status, 2);
         assert_eq!(rt; input.calls(), 0);
         assert_eq!(rt; output.calls(), 0);
@@ -53,7 +69,14 @@ fn a_word_that_is_not_text_is_wrong(rt: HostRuntime) -> Result<(), Fail> {
     let mut input = Counted::new(b"a\n".as_slice());
     let mut output = Counted::new(Vec::new(rt.alloc()));
     let mut faults = Vec::new(rt.alloc());
-    let status = run_globs(rt.alloc(), &words, &mut input, &mut output, &mut faults);
+    let status = run_globs(
+        rt.alloc(),
+        &words,
+        &mut input,
+        &mut output,
+        &mut faults,
+        nothing(rt.alloc())?,
+    );
     assert_eq!(rt; status, 2);
     assert_eq!(rt; faults.as_slice(), USAGE);
     Ok(())
@@ -139,7 +162,14 @@ fn refused_builds_print_their_reason(rt: HostRuntime) -> Result<(), Fail> {
             let mut input = Counted::new(b"a\n".as_slice());
             let mut output = Counted::new(Vec::new(rt.alloc()));
             let mut faults = Vec::new(rt.alloc());
-            let status = run_globs(rt.alloc(), &words, &mut input, &mut output, &mut faults);
+            let status = run_globs(
+                rt.alloc(),
+                &words,
+                &mut input,
+                &mut output,
+                &mut faults,
+                nothing(rt.alloc())?,
+            );
             assert_eq!(rt; status, 1);
             assert_eq!(rt; input.calls(), 0);
             assert_eq!(rt; output.calls(), 0);
@@ -176,7 +206,14 @@ fn lines_that_are_not_text_are_counted(rt: HostRuntime) -> Result<(), Fail> {
         let mut input = Counted::new(bytes);
         let mut output = Counted::new(Vec::new(rt.alloc()));
         let mut faults = Vec::new(rt.alloc());
-        let status = run_globs(rt.alloc(), &words, &mut input, &mut output, &mut faults);
+        let status = run_globs(
+            rt.alloc(),
+            &words,
+            &mut input,
+            &mut output,
+            &mut faults,
+            nothing(rt.alloc())?,
+        );
         assert_eq!(rt; status, want_status);
         assert_eq!(rt; output.into_inner().as_slice(), want);
         assert_eq!(rt; faults.as_slice(), told);
@@ -215,7 +252,14 @@ fn captures_are_written_with_tabs(rt: HostRuntime) -> Result<(), Fail> {
         let mut input = Counted::new(Slow { bytes, left: 1000 });
         let mut output = Counted::new(Vec::new(rt.alloc()));
         let mut faults = Vec::new(rt.alloc());
-        let status = run_globs(rt.alloc(), &words, &mut input, &mut output, &mut faults);
+        let status = run_globs(
+            rt.alloc(),
+            &words,
+            &mut input,
+            &mut output,
+            &mut faults,
+            nothing(rt.alloc())?,
+        );
         assert_eq!(rt; status, want_status);
         assert_eq!(rt; output.into_inner().as_slice(), want);
         assert_eq!(rt; faults.as_slice(), told);
@@ -234,7 +278,14 @@ fn a_failed_read_is_told_after_the_lines_before(rt: HostRuntime) -> Result<(), F
         });
         let mut output = Counted::new(Vec::new(rt.alloc()));
         let mut faults = Vec::new(rt.alloc());
-        let status = run_globs(rt.alloc(), &words, &mut input, &mut output, &mut faults);
+        let status = run_globs(
+            rt.alloc(),
+            &words,
+            &mut input,
+            &mut output,
+            &mut faults,
+            nothing(rt.alloc())?,
+        );
         assert_eq!(rt; status, 1);
         assert_eq!(rt; output.into_inner().as_slice(), want);
         assert_eq!(rt; faults.as_slice(), b"globs: read failed\n".as_slice());
@@ -250,7 +301,14 @@ fn a_failed_write_is_told(rt: HostRuntime) -> Result<(), Fail> {
         let mut input = Counted::new(b"\xff\na.png\nb.png\n".as_slice());
         let mut output = Counted::new(failing_after(rt.alloc(), 7));
         let mut faults = Vec::new(rt.alloc());
-        let status = run_globs(rt.alloc(), &words, &mut input, &mut output, &mut faults);
+        let status = run_globs(
+            rt.alloc(),
+            &words,
+            &mut input,
+            &mut output,
+            &mut faults,
+            nothing(rt.alloc())?,
+        );
         assert_eq!(rt; status, 1);
         assert_eq!(rt; output.into_inner().taken.as_slice(), want);
         assert_eq!(rt; faults.as_slice(), b"globs: write failed\n".as_slice());
@@ -270,7 +328,14 @@ fn untold_faults_change_nothing_else(rt: HostRuntime) -> Result<(), Fail> {
         let mut input = Counted::new(b"\xff\na\n".as_slice());
         let mut output = Counted::new(Vec::new(rt.alloc()));
         let mut faults = failing_after(rt.alloc(), 0);
-        let status = run_globs(rt.alloc(), &words, &mut input, &mut output, &mut faults);
+        let status = run_globs(
+            rt.alloc(),
+            &words,
+            &mut input,
+            &mut output,
+            &mut faults,
+            nothing(rt.alloc())?,
+        );
         assert_eq!(rt; status, want_status);
         assert_eq!(rt; output.into_inner().as_slice(), want);
         assert_eq!(rt; faults.taken.len(), 0);
@@ -307,7 +372,14 @@ fn a_query_writes_what_is_known(rt: HostRuntime) -> Result<(), Fail> {
         let mut input = Counted::new(b"a\n".as_slice());
         let mut output = Counted::new(Vec::new(rt.alloc()));
         let mut faults = Vec::new(rt.alloc());
-        let status = run_globs(rt.alloc(), &words, &mut input, &mut output, &mut faults);
+        let status = run_globs(
+            rt.alloc(),
+            &words,
+            &mut input,
+            &mut output,
+            &mut faults,
+            nothing(rt.alloc())?,
+        );
         assert_eq!(rt; status, 0);
         assert_eq!(rt; input.calls(), 0);
         assert_eq!(rt; output.into_inner().as_slice(), want);
@@ -322,7 +394,14 @@ fn a_failed_write_of_a_query_is_told(rt: HostRuntime) -> Result<(), Fail> {
     let mut input = Counted::new(b"".as_slice());
     let mut output = Counted::new(failing_after(rt.alloc(), 7));
     let mut faults = Vec::new(rt.alloc());
-    let status = run_globs(rt.alloc(), &words, &mut input, &mut output, &mut faults);
+    let status = run_globs(
+        rt.alloc(),
+        &words,
+        &mut input,
+        &mut output,
+        &mut faults,
+        nothing(rt.alloc())?,
+    );
     assert_eq!(rt; status, 1);
     assert_eq!(rt; output.into_inner().taken.as_slice(), b"depth 1".as_slice());
     assert_eq!(rt; faults.as_slice(), b"globs: write failed\n".as_slice());

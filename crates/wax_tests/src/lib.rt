@@ -9,8 +9,12 @@ mod escapes;
 #[cfg(test)]
 mod folds;
 #[cfg(test)]
+mod ignores;
+#[cfg(test)]
 mod lines;
 #[cfg(test)]
 mod streams;
+#[cfg(test)]
+mod walk_command;
 #[cfg(test)]
 mod walks;

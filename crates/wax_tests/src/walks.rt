@@ -19,7 +19,7 @@ fn sources(alloc: Global) -> Result<Node, AllocError> {
 }
 
 // The same folder twice, as `src` and as `target`.
-fn project(alloc: Global) -> io::Result<Tree> {
+pub fn project(alloc: Global) -> io::Result<Tree> {
     let mut items = Vec::new(alloc);
     items.push(item(alloc, "src", sources(alloc)?)?)?;
     items.push(item(alloc, "target", sources(alloc)?)?)?;

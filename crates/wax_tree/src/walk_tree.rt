@@ -1,6 +1,6 @@
 //! The plain walk.
 
-ghost use Rattle.std.specs.Prelude.{◌≡◌, ◌+◌, ◌*◌, string_bytes, IfOk};
+ghost use Rattle.std.specs.Prelude.{◌≡◌, ◌+◌, ◌*◌, string_bytes, IfOk, ⊤};
 ghost use Rattle.std.specs.Iterator.{at_most};
 ghost use Rattle.wax_filter.specs.Feeding.{NextFiltrate};
 ghost use Rattle.wax_tree.specs.Begins.{AtMost, Begins, BeginsAt, HasEnded, LacksMemory};
@@ -180,6 +180,7 @@ impl<D: Directory> CancelWalk for WalkTree<D> {
 
 impl<D: Directory> FileIterator for WalkTree<D> {
     ghost use Rattle.wax_tree.specs.WalkLaws.{cancel_law, comes_told};
+    ghost use Rattle.wax_walk.specs.Laws.{nothing_known};
     ghost use Rattle.std.proofs.Common.{ap};
 
     type Entry = TreeEntry;
@@ -189,6 +190,8 @@ impl<D: Directory> FileIterator for WalkTree<D> {
     type Directory = D;
 
     ghost view = { tree_view D.law };
+
+    ghost known = { λ s e. ⊤ };
 
     fn directory(&self) -> &D {
         &self.steps.directory
@@ -205,6 +208,10 @@ impl<D: Directory> FileIterator for WalkTree<D> {
     ghost feeding = { λ s t r f. f };
 
     ghost cancelling = { λ s t h. cancel_law D.law s t h };
+
+    ghost keeping = { λ s t r f. nothing_known r };
+
+    ghost staying = { λ s t h e k. tt };
 }
 
 impl<D: Directory> Iterator for WalkTree<D> {

@@ -2,6 +2,7 @@
 
 use std::alloc::{AllocError, Global};
 use wax::Counted;
+use wax::walk::{Node, Tree};
 use wax_commands::run_globs;
 
 /// The expression, and each line that is written of its glob: depth, text, root, exhaustiveness, prefix, rest,
@@ -13,7 +14,10 @@ pub fn query_row(alloc: Global, expression: &str) -> Result<String, AllocError> 
     let mut input = Counted::new(b"".as_slice());
     let mut output = Counted::new(Vec::new(alloc));
     let mut faults = Vec::new(alloc);
-    let status = run_globs(alloc, &words, &mut input, &mut output, &mut faults);
+    let Ok(nothing) = Tree::new(alloc, Node::File, Node::File) else {
+        return Err(AllocError);
+    };
+    let status = run_globs(alloc, &words, &mut input, &mut output, &mut faults, nothing);
     if status != 0 {
         return format!(in alloc; "{expression}\tnot built");
     }

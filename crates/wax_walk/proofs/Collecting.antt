@@ -1,13 +1,16 @@
 -- A loop that takes all that a walk gives.
-use Rattle.std.proofs.Common.{◌≡◌, ℕ, ◌+◌, ◌<◌, ◌≤◌, Bool, true, false, cond, length, length-append, List, []}
+use Rattle.std.proofs.Common.{◌≡◌, ℕ, ◌+◌, ◌<◌, ◌≤◌, true, false, length, length-append, List, []}
 use Rattle.std.proofs.Common.{◌∷◌, ◌++◌, refl, sym, ap, subst, ◌∙◌, append_assoc, inl, inr, arith}
-use Rattle.std.specs.Prelude.{Some, None, Result, Ok, Err, IfOk, filter}
+use Rattle.std.specs.Prelude.{Some, None, Result, Ok, Err, IfOk, filter, map}
 use Rattle.std.specs.List.{Contains}
+use Rattle.std.proofs.lemmas.List.{map-append}
 use Rattle.std.proofs.lemmas.List.Elements.{filter-append, Contains-append_left, Contains-push_cases}
 use Rattle.wax_directory.specs.Counting.{grown, plus}
 use Rattle.wax_directory.specs.Law.{Law}
 use Rattle.wax_directory.specs.declared.tally.Tally.{Tally}
 use Rattle.wax_directory.proofs.Counts.{plus_assoc, plus_none}
+use Rattle.wax_filter.specs.declared.filter.separation.Separation.{Separation}
+use Rattle.wax_filter.specs.declared.filter.separation.Separation.TheVariants.{Filtrate, Residue}
 use Rattle.wax_filter.specs.declared.filter.tree_residue.TreeResidue.{TreeResidue}
 use Rattle.wax_filter.specs.declared.filter.tree_residue.TreeResidue.TheVariants.{Node, Tree}
 use Rattle.wax_walk.specs.declared.error.WalkError.{WalkError}
@@ -15,10 +18,11 @@ use Rattle.wax_walk.specs.declared.error.WalkError.TheVariants.{Fault, Memory}
 use Rattle.wax_walk.specs.declared.error.FaultKind.TheVariants.{NotAFolder, Budget}
 use Rattle.wax_walk.specs.Collected.{IsCutShort, GaveAll, whole, Took, all_fault_counts}
 use Rattle.wax_walk.specs.Collected as all
-use Rattle.wax_walk.specs.Entries.{given_outcome, given_residue}
+use Rattle.wax_walk.specs.Entries.{given_of, given_outcome, given_residue}
 use Rattle.wax_walk.specs.Forest.{Forest, nothing, item, lists, followed_by, Pending, pending, all_pending}
 use Rattle.wax_walk.specs.Forest.{FirstIs, IsListed, listed_next, preorder, listings}
 use Rattle.wax_walk.specs.Given.{Given, Facts, fault, no_memory, is_kept}
+use Rattle.wax_walk.specs.Known.{kept_of}
 use Rattle.wax_walk.specs.View.{WalkView, FeedStep, GivesOrStops, lacks_memory, over_budget, gives}
 use Rattle.wax_walk.specs.View.{CountsFaults, fault_counts, IsLast, IsMisplaced, Takes}
 use Rattle.wax_walk.proofs.Accounting.{takes_within, takes_exactly, counts_faults_then, counts_then_none}
@@ -263,22 +267,32 @@ module _ {D C : Type 0} (law : Law D C) where
 
 -- ---- what is kept of it
 
-pub kept_more : (zs ys xs : List Given) (y : Given) → zs ≡ cond (is_kept y) (ys ++ y ∷ []) ys
-    → ys ≡ filter is_kept xs → zs ≡ filter is_kept (xs ++ y ∷ [])
-kept_more zs ys xs y e f = e ∙ (go (is_kept y) refl ∙ sym (filter-append is_kept xs (y ∷ []))) where
-  go : (b : Bool) → is_kept y ≡ b → cond b (ys ++ y ∷ []) ys ≡ filter is_kept xs ++ cond b (y ∷ []) []
-  go true i = ap (λ v. v ++ y ∷ []) f
-  go false i = f ∙ sym (append-nil (filter is_kept xs))
-
 module _ {T R : Type 0} (of_entry : T → Facts) (of_residue : R → Facts) where
-  pub outcome_kept : (x : Result T WalkError) → is_kept (given_outcome of_entry of_residue x) ≡ true
+  outcome_kept : (x : Result T WalkError) → is_kept (given_outcome of_entry of_residue x) ≡ true
   outcome_kept (Ok e) = refl
   outcome_kept (Err (Fault kind path depth)) = refl
   outcome_kept (Err Memory) = refl
 
-  pub residue_left : (x : TreeResidue R) → is_kept (given_residue of_entry of_residue x) ≡ false
+  residue_left : (x : TreeResidue R) → is_kept (given_residue of_entry of_residue x) ≡ false
   residue_left (Node e) = refl
   residue_left (Tree e) = refl
+
+  kept_one : {S : Type 0} (x : Separation S (Result T WalkError) (TreeResidue R))
+      → map (given_outcome of_entry of_residue) (kept_of x)
+      ≡ filter is_kept (given_of of_entry of_residue x ∷ [])
+  kept_one (Filtrate x) = rw (outcome_kept x.inner) refl
+  kept_one (Residue x) = rw (residue_left x.inner) refl
+
+  pub kept_more : {S : Type 0} (zs ys : List (Result T WalkError))
+      (x : Separation S (Result T WalkError) (TreeResidue R)) (xs : List Given) → zs ≡ ys ++ kept_of x
+      → map (given_outcome of_entry of_residue) ys ≡ filter is_kept xs
+      → map (given_outcome of_entry of_residue) zs ≡ filter is_kept (xs ++ given_of of_entry of_residue x ∷ [])
+  kept_more zs ys x xs e f =
+      let given = given_outcome of_entry of_residue in
+      let y = given_of of_entry of_residue x in
+      ap (map given) e ∙ (map-append given ys (kept_of x)
+      ∙ (ap (λ v. v ++ map given (kept_of x)) f
+      ∙ (ap (λ v. filter is_kept xs ++ v) (kept_one x) ∙ sym (filter-append is_kept xs (y ∷ [])))))
 
 -- what is said of a value that is answered
 pub map_ok : {A E : Type 0} {P Q : A → Type 0} → ((a : A) → P a → Q a) → (r : Result A E) → IfOk r P

@@ -1,11 +1,15 @@
 -- Proofs of laws that impls cite.
-use Rattle.std.specs.Prelude.{◌≡◌, List, ℕ, Bool, true, Option, ◌⊎◌}
+use Rattle.std.specs.Prelude.{◌≡◌, List, ℕ, Bool, true, Option, Some, None, Result, Ok, Err, ◌⊎◌, ⊤}
 use Rattle.std.proofs.Common.{ap, subst, sym, ◌∙◌, inl, inr}
 use denote.Ref.{Bor}
+use Rattle.wax_filter.specs.declared.filter.separation.Separation.{Separation}
+use Rattle.wax_filter.specs.declared.filter.separation.Separation.TheVariants.{Filtrate, Residue}
 use Rattle.wax_walk.specs.declared.entry.TreeEntry.{TreeEntry}
+use Rattle.wax_walk.specs.declared.error.WalkError.{WalkError}
 use Rattle.wax_walk.specs.declared.iterator.EntryResidue.{EntryResidue}
 use Rattle.wax_walk.specs.Forest.{Pending, cancelled}
 use Rattle.wax_walk.specs.Given.{Given, Facts, Mark, ToComeFiltered}
+use Rattle.wax_walk.specs.Known.{KnownOutcome, KnownAnswer, KeepsKnown}
 use Rattle.wax_walk.specs.Ruled.{ruled_view}
 use Rattle.wax_walk.specs.Says.{Says, ToComeByClosure, closure_view}
 use Rattle.wax_walk.specs.View.{WalkView, CancelStep}
@@ -64,3 +68,19 @@ module _ {F : Type 0} (step : F → Bor TreeEntry → Option EntryResidue → F 
     names_left = h.names_left;
     ends = h.ends;
   }
+
+-- ---- where nothing is known
+
+nothing_known_outcome : {T : Type 0} (x : Result T WalkError) → KnownOutcome (λ e. ⊤) x
+nothing_known_outcome (Ok e) = tt
+nothing_known_outcome (Err e) = tt
+
+nothing_known_answer : {S T R : Type 0} (r : Option (Separation S (Result T WalkError) R))
+    → KnownAnswer (λ e. ⊤) r
+nothing_known_answer None = tt
+nothing_known_answer (Some (Filtrate x)) = nothing_known_outcome x.inner
+nothing_known_answer (Some (Residue x)) = tt
+
+pub nothing_known : {S T R : Type 0} (r : Option (Separation S (Result T WalkError) R))
+    → KeepsKnown (λ e. ⊤) r (λ e. ⊤)
+nothing_known r = record { answer = nothing_known_answer r; stays = λ e k. tt }

@@ -6,4 +6,5 @@ pub mod View
 pub mod Says
 pub mod Ruled
 pub mod Collected
+pub mod Known
 pub mod Laws

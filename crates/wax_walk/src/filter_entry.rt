@@ -5,6 +5,7 @@ ghost use Rattle.std.specs.Iterator.{IsFinite};
 ghost use Rattle.wax_filter.specs.Feeding.{NextFiltrate};
 ghost use Rattle.wax_walk.specs.Entries.{given_of, answer_of};
 ghost use Rattle.wax_walk.specs.Given.{Facts, Mark, mark_by};
+ghost use Rattle.wax_walk.specs.Known.{KeepsKnown};
 ghost use Rattle.wax_walk.specs.Said.{mark_of};
 ghost use Rattle.wax_walk.specs.Says.{Says, closure_view};
 ghost use Rattle.wax_walk.specs.View.{FeedStep};
@@ -61,7 +62,8 @@ where
     ghost can_feed = { λ s. I.can_feed s.input × F.IsAlwaysCallable s.f };
 
     ghost feeds = { λ s r t. FeedStep I.Directory.law (closure_view F.step (I.view s.input) s.f)
-        (answer_of I.Entry.facts I.Residue.facts r) (closure_view F.step (I.view t.input) t.f) };
+        (answer_of I.Entry.facts I.Residue.facts r) (closure_view F.step (I.view t.input) t.f)
+        × KeepsKnown (I.known s.input) r (I.known t.input) };
 
     ghost left = { λ s. I.left s.input };
 
@@ -111,6 +113,8 @@ where
 
     ghost view = { λ s. closure_view F.step (I.view s.input) s.f };
 
+    ghost known = { λ s. I.known s.input };
+
     fn directory(&self) -> &I::Directory {
         self.input.directory()
     }
@@ -124,10 +128,14 @@ where
 
     ghost same_facts = { λ e r h. I.same_facts e r h };
 
-    ghost feeding = { λ s t r f. f };
+    ghost feeding = { λ s t r f. f.0 };
 
     ghost cancelling = { λ s t h. closure_cancelling F.step (I.view s.input) (I.view t.input) s.f t.f
         (I.cancelling s.input t.input h.0) h.1 };
+
+    ghost keeping = { λ s t r f. f.1 };
+
+    ghost staying = { λ s t h. I.staying s.input t.input h.0 };
 }
 
 impl<I, F> Iterator for FilterEntry<I, F>

@@ -1,10 +1,11 @@
 //! All that a walk gives.
 
-ghost use Rattle.std.specs.Prelude.{◌≡◌, ◌≤◌, ◌++◌, ◌∷◌, [], List, IfOk, length, map, filter, cond};
+ghost use Rattle.std.specs.Prelude.{◌≡◌, ◌≤◌, ◌++◌, ◌∷◌, [], All, List, IfOk, length, map, filter};
 ghost use Rattle.std.specs.Iterator.{IsFinite, size};
 ghost use Rattle.wax_walk.specs.Collected.{Took};
 ghost use Rattle.wax_walk.specs.Entries.{given_of, given_outcome};
 ghost use Rattle.wax_walk.specs.Given.{Given, is_kept};
+ghost use Rattle.wax_walk.specs.Known.{KnownItem, KnownOutcome, kept_of};
 
 use crate::entry::Entry;
 use crate::error::WalkError;
@@ -32,9 +33,7 @@ where
     T: Entry,
     R: Entry,
     F: Feed<Filtrate = Result<T, WalkError>, Residue = TreeResidue<R>>,
-    ensures { IfOk result (λ _. let given = map (given_outcome T.facts R.facts) in
-        let x = given_of T.facts R.facts separation in
-        given items.new.items ≡ cond (is_kept x) (given items.old.items ++ x ∷ []) (given items.old.items)) }
+    ensures { IfOk result (λ _. items.new.items ≡ items.old.items ++ kept_of separation) }
 {
     match separation {
         Separation::Filtrate(filtrate) => push(items, filtrate.into_inner()),
@@ -43,7 +42,8 @@ where
 }
 
 /// All items of the feed in order, kept or left out, errors among those that are kept, and the
-/// directory. Where memory is refused for the list itself, nothing is answered.
+/// directory. What is known of the walk's entries holds of those that are kept. Where memory is refused
+/// for the list itself, nothing is answered.
 pub fn collect_feed<I>(
     alloc: Global,
     mut walk: I,
@@ -55,6 +55,7 @@ where
     ensures took { IfOk result (λ r. Took I.Directory.law (I.view walk) r.1
         (map (given_of I.Entry.facts I.Residue.facts) r.0.items)) }
     ensures few { IfOk result (λ r. length r.0.items ≤ size (I.left walk)) }
+    ensures known { IfOk result (λ r. All (KnownItem (I.known walk)) r.0.items) }
 {
     let mut items = Vec::new(alloc);
     while let Some(item) = walk.feed() {
@@ -63,8 +64,8 @@ where
     Ok((items, walk.into_directory()))
 }
 
-/// The items that are kept, in order, errors among them, and the directory. Where memory is refused
-/// for the list itself, nothing is answered.
+/// The items that are kept, in order, errors among them, and the directory. What is known of the walk's
+/// entries holds of each. Where memory is refused for the list itself, nothing is answered.
 pub fn collect<I>(
     alloc: Global,
     mut walk: I,
@@ -73,9 +74,10 @@ where
     I: FileIterator,
     requires can { I.can_feed walk }
     requires ends { IsFinite (I.left walk) }
-    ensures { IfOk result (λ r. (xs : List Given) × Took I.Directory.law (I.view walk) r.1 xs
+    ensures took { IfOk result (λ r. (xs : List Given) × Took I.Directory.law (I.view walk) r.1 xs
         × (length xs ≤ size (I.left walk))
         × (map (given_outcome I.Entry.facts I.Residue.facts) r.0.items ≡ filter is_kept xs)) }
+    ensures known { IfOk result (λ r. All (KnownOutcome (I.known walk)) r.0.items) }
 {
     let mut items = Vec::new(alloc);
     while let Some(item) = walk.feed() {

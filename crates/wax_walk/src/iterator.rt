@@ -3,6 +3,7 @@
 ghost use Rattle.std.specs.Prelude.{◌≡◌, List, ℕ, Option, Result, false};
 ghost use Rattle.wax_walk.specs.Forest.{Pending};
 ghost use Rattle.wax_walk.specs.Given.{Given};
+ghost use Rattle.wax_walk.specs.Known.{KeepsKnown, StaysKnown};
 ghost use Rattle.wax_walk.specs.Ruled.{ruled_view};
 ghost use Rattle.wax_walk.specs.Says.{closure_view};
 ghost use Rattle.wax_walk.specs.View.{WalkView, FeedStep, CancelStep, IsSeenAs};
@@ -44,6 +45,9 @@ pub trait FileIterator: CancelWalk<
     /// What contracts see of the walk.
     ghost view: { Self → WalkView Self.Directory };
 
+    /// What is known of each entry that the walk keeps.
+    ghost known: { Self → Self.Entry → Type 0 };
+
     /// The directory that is walked.
     fn directory(&self) -> &Self::Directory
         ensures { result.now ≡ (view self.now).directory };
@@ -71,6 +75,14 @@ pub trait FileIterator: CancelWalk<
     /// What cancelling does.
     ghost cancelling: { (s t : Self) → Self.cancels s t → CancelStep (view s) (view t) };
 
+    /// What is known holds of what a call of `feed` keeps, and stays known after it.
+    ghost keeping: { (s t : Self)
+        (r : Option (Separation Self.Feed (Result Self.Entry WalkError) (TreeResidue Self.Residue)))
+        → Self.feeds s r t → KeepsKnown (known s) r (known t) };
+
+    /// What is known stays known where something is cancelled.
+    ghost staying: { (s t : Self) → Self.cancels s t → StaysKnown (known s) (known t) };
+
     /// Leaves out what a rule says.
     final fn without<P: Rule>(self, alloc: Global, rule: P) -> Without<Self, P>
     where
@@ -79,6 +91,7 @@ pub trait FileIterator: CancelWalk<
             (⟦<Without<Self, P> as FileIterator>⟧.view result) }
         ensures ends { ⟦<Without<Self, P> as SeparatingFilter>⟧.left result ≡ Self.left self }
         ensures feeds { Self.can_feed self → ⟦<Without<Self, P> as SeparatingFilter>⟧.can_feed result }
+        ensures known { StaysKnown (Self.known self) (⟦<Without<Self, P> as FileIterator>⟧.known result) }
     {
         Without::new(alloc, self, rule)
     }
@@ -95,6 +108,7 @@ pub trait FileIterator: CancelWalk<
         ensures ends { ⟦<FilterEntry<Self, F> as SeparatingFilter>⟧.left result ≡ Self.left self }
         ensures feeds { Self.can_feed self → F.IsAlwaysCallable f
             → ⟦<FilterEntry<Self, F> as SeparatingFilter>⟧.can_feed result }
+        ensures known { StaysKnown (Self.known self) (⟦<FilterEntry<Self, F> as FileIterator>⟧.known result) }
     {
         FilterEntry::new(self, f)
     }

@@ -3,8 +3,10 @@
 ghost use Rattle.std.specs.Prelude.{◌≡◌, ◌⊎◌, IfOk, true, false};
 ghost use Rattle.std.specs.Iterator.{IsFinite};
 ghost use Rattle.wax_filter.specs.Feeding.{NextFiltrate};
+ghost use Rattle.wax_filter.specs.Separating.{AtFiltrate};
 ghost use Rattle.wax_walk.specs.Entries.{given_of, given_outcome};
 ghost use Rattle.wax_walk.specs.Given.{Facts, Mark, mark_by, is_cut, with_mark};
+ghost use Rattle.wax_walk.specs.Known.{KeepsKnown, KeepsOnly};
 ghost use Rattle.wax_walk.specs.Said.{mark_of};
 
 use crate::entry::Entry;
@@ -85,8 +87,9 @@ where
     R: Entry + From<T>,
     F: Feed<Filtrate = Result<T, WalkError>, Residue = TreeResidue<R>>,
     requires { (e : T) (r : R) → R.from_gives e r → R.facts r ≡ T.facts e }
-    ensures { given_of T.facts R.facts result ≡ with_mark (given_outcome T.facts R.facts outcome)
+    ensures given { given_of T.facts R.facts result ≡ with_mark (given_outcome T.facts R.facts outcome)
         (mark_of residue) }
+    ensures kept { AtFiltrate (λ x. x ≡ outcome) result }
 {
     match (outcome, residue) {
         (Ok(entry), Some(EntryResidue::File)) => {
@@ -109,8 +112,9 @@ where
     R: Entry + From<T>,
     F: Feed<Filtrate = Result<T, WalkError>, Residue = TreeResidue<R>>,
     requires { (e : T) (r : R) → R.from_gives e r → R.facts r ≡ T.facts e }
-    ensures { given_of T.facts R.facts result ≡ with_mark (given_of T.facts R.facts separation)
+    ensures given { given_of T.facts R.facts result ≡ with_mark (given_of T.facts R.facts separation)
         (mark_of residue) }
+    ensures kept { KeepsOnly separation result }
 {
     match separation {
         Separation::Filtrate(filtrate) => separated_outcome(filtrate.into_inner(), residue),
@@ -161,7 +165,8 @@ where
     ghost feeds = { λ s r t. FeedStep I.Directory.law
         (ruled_view (I.view s.input) (P.rule s.rule) s.has_ended)
         (answer_of I.Entry.facts I.Residue.facts r)
-        (ruled_view (I.view t.input) (P.rule t.rule) t.has_ended) };
+        (ruled_view (I.view t.input) (P.rule t.rule) t.has_ended)
+        × KeepsKnown (I.known s.input) r (I.known t.input) };
 
     ghost left = { λ s. I.left s.input };
 
@@ -217,6 +222,8 @@ where
 
     ghost view = { λ s. ruled_view (I.view s.input) (P.rule s.rule) s.has_ended };
 
+    ghost known = { λ s. I.known s.input };
+
     fn directory(&self) -> &I::Directory {
         self.input.directory()
     }
@@ -230,10 +237,14 @@ where
 
     ghost same_facts = { λ e r h. I.same_facts e r h };
 
-    ghost feeding = { λ s t r f. f };
+    ghost feeding = { λ s t r f. f.0 };
 
     ghost cancelling = { λ s t h. ruled_cancelling (I.view s.input) (I.view t.input) P.rule s.rule t.rule
         s.has_ended t.has_ended (I.cancelling s.input t.input h.0) h.1 h.2 };
+
+    ghost keeping = { λ s t r f. f.1 };
+
+    ghost staying = { λ s t h. I.staying s.input t.input h.0 };
 }
 
 impl<I: FileIterator, P: Rule> Iterator for Without<I, P> {

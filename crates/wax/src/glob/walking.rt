@@ -2,6 +2,7 @@
 ghost use Rattle.std.specs.Prelude.{◌≡◌, ◌≤◌, ◌+◌, ◌*◌, ℕ, List, IfOk, MatchOption, map};
 ghost use Rattle.wax_depth.specs.Depth.{Depth};
 ghost use Rattle.wax_facts.specs.Prefix.{Prefix};
+ghost use Rattle.wax_glob_walk.specs.Matches.{IsMatchedEntry};
 ghost use Rattle.wax_leading.specs.Prefix.{HasEmptyName};
 ghost use Rattle.wax_query.specs.Components.{components};
 ghost use Rattle.wax_query.specs.Ranges.{AtMost as AtMostComponents, Bounds};
@@ -9,7 +10,8 @@ ghost use Rattle.wax_tree.specs.Begins.{AtMost, BeginsAt, range_of};
 ghost use Rattle.wax_tree.specs.Depths.{at_depth};
 ghost use Rattle.wax_tree.specs.Prefix.{from_last};
 ghost use Rattle.wax_tree.specs.declared.behavior.DepthBehavior.TheVariants.{Unbounded};
-ghost use Rattle.wax.specs.GlobView.{IsKept, IsMeant};
+ghost use Rattle.wax_walk.specs.Known.{StaysKnown};
+ghost use Rattle.wax.specs.GlobView.{HasCaptures, IsKept, IsMeant};
 ghost use Rattle.wax.specs.GlobWalks.{BeginsGlob, IsPlan, way_from, within};
 
 use crate::glob::Glob;
@@ -45,6 +47,8 @@ impl<'t> Glob<'t> {
             (⟦<GlobWalk<'g, 't, D> as FileIterator>⟧.view result) }
         ensures gives { AtMost (2 * (at_depth Unbounded).budget + 3)
             (⟦<GlobWalk<'g, 't, D> as SeparatingFilter>⟧.left result) }
+        ensures known { StaysKnown (IsMatchedEntry (IsMeant self.now) (HasCaptures self.now))
+            (⟦<GlobWalk<'g, 't, D> as FileIterator>⟧.known result) }
     {
         walk_in(alloc, self, directory, start, WalkBehavior::default())
     }
@@ -61,10 +65,12 @@ impl<'t> Glob<'t> {
     where
         D: Directory,
         B: Into<WalkBehavior>,
-        ensures { (b : WalkBehavior) × B.converts behavior b
+        ensures begins { (b : WalkBehavior) × B.converts behavior b
             × BeginsGlob self.now.tree D.law directory start.now (range_of b)
             (⟦<GlobWalk<'g, 't, D> as FileIterator>⟧.view result)
             × AtMost (2 * b.budget + 3) (⟦<GlobWalk<'g, 't, D> as SeparatingFilter>⟧.left result) }
+        ensures known { StaysKnown (IsMatchedEntry (IsMeant self.now) (HasCaptures self.now))
+            (⟦<GlobWalk<'g, 't, D> as FileIterator>⟧.known result) }
     {
         walk_in(alloc, self, directory, start, behavior.into())
     }
@@ -145,6 +151,8 @@ fn walk_in<'g, 't, D: Directory>(
         (⟦<GlobWalk<'g, 't, D> as FileIterator>⟧.view result) }
     ensures gives { AtMost (2 * behavior.budget + 3)
         (⟦<GlobWalk<'g, 't, D> as SeparatingFilter>⟧.left result) }
+    ensures known { StaysKnown (IsMatchedEntry (IsMeant glob.now) (HasCaptures glob.now))
+        (⟦<GlobWalk<'g, 't, D> as FileIterator>⟧.known result) }
 {
     glob.keeps_rules();
     let range = glob.within(behavior.range());
@@ -165,17 +173,20 @@ fn walk_in<'g, 't, D: Directory>(
 }
 
 impl<'t> Glob<'t> {
+    ghost use Rattle.std.specs.Prelude.{All};
     ghost use Rattle.wax_collect.specs.Trips.{AreNots, KeepsWanted};
     ghost use Rattle.wax_directory.specs.Shown.{Shown};
     ghost use Rattle.wax_token.specs.Reads.{Span};
     ghost use Rattle.wax_token.specs.Syntax.{Tree};
     ghost use Rattle.wax_tree.specs.Prefix.{ArePlain};
     ghost use Rattle.wax_walk.specs.Entries.{given_outcome};
+    ghost use Rattle.wax_walk.specs.Known.{KnownOutcome};
     ghost use Rattle.wax.specs.GlobWalks.{Beginning, trip_of};
 
     /// The items that are kept of the walk of the glob less what patterns mean, in order, errors among them,
     /// and the directory: the entries are those of the whole walk, in range, that the glob means and that no
-    /// pattern means. Where memory is refused for the list itself, nothing is answered.
+    /// pattern means. What was captured of each is what the glob captures of its candidate. Where memory is
+    /// refused for the list itself, nothing is answered.
     pub fn collect_less<D: Directory>(
         &self,
         alloc: Global,
@@ -184,7 +195,9 @@ impl<'t> Glob<'t> {
         behavior: WalkBehavior,
         nots: Vec<Exclusion>,
     ) -> Result<(Vec<Result<GlobEntry, WalkError>>, D), NoMemory>
-        ensures { IfOk result (λ r. (depth : Bounds) × Depth self.now.tree depth
+        ensures matched { IfOk result
+            (λ r. All (KnownOutcome (IsMatchedEntry (IsMeant self.now) (HasCaptures self.now))) r.0.items) }
+        ensures wanted { IfOk result (λ r. (depth : Bounds) × Depth self.now.tree depth
             × ((b : Beginning self.now.tree) (ts : List (Tree Span)) (s : Shown) (listed : List (List ℕ))
             → AreNots ts (map ⟦<Exclusion as Rule>⟧.rule nots.items) → ArePlain b.names
             → D.law.shows directory (way_from start.now b.rooted b.names).path s

@@ -16,4 +16,4 @@ returns-clause-wanted g c =
     let all = all_gave law d trip _ tells s listed h.0 comes shows told h.1.all in
     subst (KeepsWanted tells trip s listed) (sym h.3)
     (keeps_wanted wanted.gives wanted.lists wanted.nothing tells trip s listed h.0 can named all))
-    c.collect.result c.collect.ensures
+    c.collect.result c.collect.ensures.took

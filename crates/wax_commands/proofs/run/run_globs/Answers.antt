@@ -3,6 +3,8 @@ use Rattle.std.specs.Prelude.{String}
 use Rattle.wax_commands.specs.Commands.{Asks}
 use Rattle.wax_commands.specs.LineCommands.{LinesEnd, match_of, captures_of}
 use Rattle.wax_commands.specs.Queried.{QueryEnds}
+use Rattle.wax_commands.specs.inner.WalkWords.{IsRead}
+use Rattle.wax_commands.proofs.OptionWords.{same_walk}
 use Rattle.wax_commands.proofs.run.run_globs.Goals as goal
 
 -- the words ask for one expression at most
@@ -35,3 +37,8 @@ returns-in-Some-expression_after-2-clause-query g c e asks =
     let held = g.W.Write.contents c.args.output.now.inner in
     let held' = g.W.Write.contents c.run_query.new.output.inner in
     subst (λ z. QueryEnds z held held' c.run_query.result) (one_expression _ c.args.words.now c.in-Some-expression_after-2.expression.now e c.in-Some-expression_after-2.ensures.some asks) c.run_query.ensures.ends
+
+pub returns-in-Some-read_walk-clause-walk : goal.returns-in-Some-read_walk-clause-walk
+returns-in-Some-read_walk-clause-walk g c asked asks =
+    let read = c.in-Some-read_walk.ensures.some in
+    c.run_walk.ensures.ends asked (subst (IsRead c.in-Some-read_walk.walk) (same_walk c.args.words.now read.0 asked read.1 asks) read.2)

@@ -1,8 +1,9 @@
 use Rattle.std.proofs.Common.{◌≡◌, List, map}
-use Rattle.std.specs.Prelude.{filter}
+use Rattle.std.specs.Prelude.{All, filter}
 use Rattle.std.specs.Iterator.{IsFinite, size}
 use Rattle.wax_walk.specs.Entries.{given_outcome}
 use Rattle.wax_walk.specs.Given.{Given, is_kept}
+use Rattle.wax_walk.specs.Known.{KnownOutcome, StaysKnown}
 use Rattle.wax_walk.proofs.Collecting.{Taking}
 use Rattle.wax_walk.proofs.gather.collect.Given as goal
 
@@ -10,6 +11,7 @@ abbrev pub invariant-loop-item : goal.invariant-loop-item
 invariant-loop-item g l =
     let left = g.I.SeparatingFilter.left in
     let view = g.I.FileIterator.view in
+    let known = g.I.FileIterator.known in
     record {
       can : g.I.SeparatingFilter.can_feed l.walk;
       ends : IsFinite (left l.walk);
@@ -17,6 +19,7 @@ invariant-loop-item g l =
           (size (left l.fn.walk)) (size (left l.walk)) xs ×
           (map (given_outcome g.I.Entry.Entry.facts g.I.Residue.Entry.facts) l.items.items ≡ filter is_kept
           xs);
+      known : All (KnownOutcome (known l.fn.walk)) l.items.items × StaysKnown (known l.fn.walk) (known l.walk);
     }
 
 abbrev pub decreases-loop-item : goal.decreases-loop-item

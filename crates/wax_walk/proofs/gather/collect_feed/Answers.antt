@@ -1,8 +1,10 @@
 use Rattle.std.proofs.Common.{rules, arith}
 use Rattle.std.specs.Prelude.{Some, None}
 use Rattle.std.proofs.lemmas.List.{map-append, length-map}
+use Rattle.std.proofs.lemmas.List.Elements.{All-nil}
 use Rattle.wax_walk.specs.Entries.{given_of}
 use Rattle.wax_walk.proofs.Collecting.{taking_none, taking_more, taking_end}
+use Rattle.wax_walk.proofs.Knowing.{all_fed}
 use Rattle.wax_walk.proofs.gather.collect_feed.Goals as goal
 
 pub loop-item-init : goal.loop-item-init
@@ -10,6 +12,7 @@ loop-item-init g c = record {
   can = search rules;
   ends = search rules;
   taking = rw c.new-items.ensures.items (taking_none g.I.Directory.Directory.law _ _);
+  known = rw c.new-items.ensures.items (All-nil _, λ e h. h);
 }
 
 pub loop-item-preserved : goal.loop-item-preserved
@@ -18,6 +21,7 @@ loop-item-preserved g c =
     let t = c.feed.new.self in
     let fed = c.in-Some.ensures.steps in
     let goes = c.in-Some.ensures.goes.on c.loop-item.invariant.ends in
+    let known = c.loop-item.invariant.known in
     record {
       can = search rules;
       ends = search rules;
@@ -25,6 +29,8 @@ loop-item-preserved g c =
           (taking_more g.I.Directory.Directory.law _ _ _ _ _ _ _
           (given_of g.I.Entry.Entry.facts g.I.Residue.Entry.facts c.in-Some.item)
           c.loop-item.invariant.taking (g.met.I.FileIterator.feeding s t (Some c.in-Some.item) fed) goes.2);
+      known = all_fed _ _ _ c.in-Some.item known.1 (g.met.I.FileIterator.keeping s t (Some c.in-Some.item) fed)
+          _ _ c.in_ok-push.ensures known.0;
     }
 
 pub returns-clause-took : goal.returns-clause-took
@@ -44,3 +50,6 @@ returns-clause-few g c =
       length-map c.loop-item.items.items
           (given_of g.I.Entry.Entry.facts g.I.Residue.Entry.facts),
     )
+
+pub returns-clause-known : goal.returns-clause-known
+returns-clause-known g c = c.loop-item.invariant.known.0

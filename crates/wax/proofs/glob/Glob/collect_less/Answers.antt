@@ -1,13 +1,19 @@
-use Rattle.std.proofs.Common.{[]}
+use Rattle.std.proofs.Common.{[], map}
 use Rattle.wax_collect.specs.Trips.{goes}
 use Rattle.wax_tree.specs.Begins.{range_of}
 use Rattle.wax_walk.proofs.Collecting.{map_ok}
+use Rattle.wax_walk.proofs.Knowing.{all_before}
 use Rattle.wax.specs.GlobWalks.{trip_of}
 use Rattle.wax.proofs.GlobWalks.{comes_glob}
 use Rattle.wax.proofs.glob.Glob.collect_less.Goals as goal
 
-pub returns : goal.returns
-returns g c =
+pub returns-clause-matched : goal.returns-clause-matched
+returns-clause-matched g c =
+    map_ok (λ r h. all_before _ _ r.0.items c.walk_in-walk.ensures.known h)
+    c.collect_less.result c.collect_less.ensures.known
+
+pub returns-clause-wanted : goal.returns-clause-wanted
+returns-clause-wanted g c =
     let law = g.D.Directory.law in
     let d = c.args.directory in
     let start = c.args.start.now in
@@ -19,6 +25,7 @@ returns g c =
       h.depth_is,
       λ b ts s listed nots plain shows told.
           k d (trip_of start asked h.depth b []) ts s listed
-          (comes_glob c.args.self.now.tree law d start asked _ h b plain) nots (goes (h.can b ts plain)) shows told,
+          (comes_glob c.args.self.now.tree law d start asked _ h b plain) nots
+          (goes (h.can b ts plain)) shows told,
     ))
-    c.collect_less.result c.collect_less.ensures
+    c.collect_less.result c.collect_less.ensures.wanted

@@ -16,7 +16,7 @@ returns-in_err-separation-clause-steps g c =
     rw c.from_residual.ensures (
       ruled_ends g.I.Directory.Directory.law (means_mark g.P.Program.decides s.program.now) (view s.input)
           (view c.feed.new.self) s.has_ended c.if-self.false fed,
-      tt,
+      record { answer = tt; stays = λ e k. k },
     )
 
 pub returns-clause-steps : goal.returns-clause-steps
@@ -31,5 +31,5 @@ returns-clause-steps g c =
       ruled_passes g.I.Directory.Directory.law rule (view s.input) (view c.feed.new.self) s.has_ended
           c.if-self.false x y (mark_by rule x) fed refl c.in-Ok.ensures.gives
           (never_cuts g.P.Program.decides s.program.now x),
-      c.in-Ok.ensures.matches,
+      record { answer = c.in-Ok.ensures.matches; stays = λ e k. k },
     )

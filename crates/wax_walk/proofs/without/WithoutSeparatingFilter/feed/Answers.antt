@@ -1,6 +1,7 @@
 use Rattle.std.specs.Prelude.{Some, None}
 use Rattle.wax_walk.specs.Entries.{given_of}
 use Rattle.wax_walk.proofs.RuleSteps.{ruled_ends, ruled_cuts, ruled_passes}
+use Rattle.wax_walk.proofs.Knowing.{keeps_passed, keeps_cut}
 use Rattle.wax_walk.proofs.without.WithoutSeparatingFilter.feed.Goals as goal
 use Rattle.wax_walk.proofs.without.WithoutSeparatingFilter.feed.Goals.{then-cuts, else-cuts}
 
@@ -9,9 +10,11 @@ returns-in_err-separation-clause-steps g c =
     let view = g.I.FileIterator.view in
     let fed = g.met.I.FileIterator.feeding c.args.self.now.input c.feed.new.self None
     c.in_err-separation.ensures.steps in
-    rw c.from_residual.ensures
-    (ruled_ends g.I.Directory.Directory.law (g.P.Rule.rule c.args.self.now.rule)
-    (view c.args.self.now.input) (view c.feed.new.self) c.args.self.now.has_ended c.if-self.false fed)
+    rw c.from_residual.ensures (
+      ruled_ends g.I.Directory.Directory.law (g.P.Rule.rule c.args.self.now.rule)
+          (view c.args.self.now.input) (view c.feed.new.self) c.args.self.now.has_ended c.if-self.false fed,
+      g.met.I.FileIterator.keeping c.args.self.now.input c.feed.new.self None c.in_err-separation.ensures.steps,
+    )
 
 pub returns-clause-steps : goal.returns-clause-steps
 returns-clause-steps g c =
@@ -22,14 +25,23 @@ returns-clause-steps g c =
     let y = given_of g.I.Entry.Entry.facts g.I.Residue.Entry.facts c.separated.result in
     let fed = g.met.I.FileIterator.feeding c.args.self.now.input c.feed.new.self
     (Some c.in_ok-separation.separation) c.in_ok-separation.ensures.steps in
+    let keeps = g.met.I.FileIterator.keeping c.args.self.now.input c.feed.new.self
+    (Some c.in_ok-separation.separation) c.in_ok-separation.ensures.steps in
     elim c.if-cuts.branch [
-      | then-cuts w ↦ rw w.self-is
-          (ruled_cuts law rule (view c.args.self.now.input) (view c.feed.new.self)
-          (view w.cancel_walk_tree.new.self) c.args.self.now.has_ended c.if-self.false x y _ fed
-          c.in-Ok.ensures c.separated.ensures w.if-cuts.ensures
-          (g.met.I.FileIterator.cancelling c.feed.new.self w.cancel_walk_tree.new.self
-          w.cancel_walk_tree.ensures))
-      | else-cuts w ↦ rw w.self-is
-          (ruled_passes law rule (view c.args.self.now.input) (view c.feed.new.self) c.args.self.now.has_ended
-          c.if-self.false x y _ fed c.in-Ok.ensures c.separated.ensures w.if-cuts.ensures)
+      | then-cuts w ↦ rw w.self-is (
+        ruled_cuts law rule (view c.args.self.now.input) (view c.feed.new.self)
+            (view w.cancel_walk_tree.new.self) c.args.self.now.has_ended c.if-self.false x y _ fed
+            c.in-Ok.ensures c.separated.ensures.given w.if-cuts.ensures
+            (g.met.I.FileIterator.cancelling c.feed.new.self w.cancel_walk_tree.new.self
+            w.cancel_walk_tree.ensures),
+        keeps_cut _ _ _ _ _ keeps c.separated.ensures.kept
+            (g.met.I.FileIterator.staying c.feed.new.self w.cancel_walk_tree.new.self
+            w.cancel_walk_tree.ensures),
+      )
+      | else-cuts w ↦ rw w.self-is (
+        ruled_passes law rule (view c.args.self.now.input) (view c.feed.new.self)
+            c.args.self.now.has_ended c.if-self.false x y _ fed c.in-Ok.ensures
+            c.separated.ensures.given w.if-cuts.ensures,
+        keeps_passed _ _ _ _ keeps c.separated.ensures.kept,
+      )
     ]

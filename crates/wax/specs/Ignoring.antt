@@ -1,0 +1,73 @@
+-- Ignore lists.
+use Rattle.std.specs.Prelude.{◌≡◌, ℕ, false, ◌++◌, List, ◌∷◌, chars, map}
+use Rattle.std.specs.List.{AllZip}
+use Rattle.wax_ignore.specs.Held.{HasLines, line_of}
+use Rattle.wax_ignore.specs.Lines.{Written, written_lines}
+use Rattle.wax_ignore.specs.declared.rules.IgnoreLine.{IgnoreLine}
+use Rattle.wax_token.specs.Reads.{Span}
+use Rattle.wax_walk.specs.Ruled.{ruled_view}
+use Rattle.wax_walk.specs.View.{IsSeenAs, WalkView}
+use Rattle.wax_wanted.specs.Ignored.{Line, ignore_mark}
+use Rattle.wax_wanted.specs.Marks.{of_candidate}
+use Rattle.wax.specs.Exclusions.{FitsAlone, NoExclusion}
+use Rattle.wax.specs.Patterns.{Refuses, Spells}
+use Rattle.wax.specs.declared.build_error.BuildError.{BuildError}
+use Rattle.wax.specs.declared.build_error.BuildError.TheVariants as build
+use Rattle.wax.specs.declared.ignoring.IgnoreError.{IgnoreError}
+use Rattle.wax.specs.declared.ignoring.IgnoreError.TheVariants.{BadLine, Memory}
+use Rattle.wax.specs.declared.ignoring.IgnoreList.{IgnoreList}
+
+-- The line that is written so: its glob is the only tree that its expression spells, which fits.
+pub record IsReadAs (written : Written) (line : Line Span) : Type 0 where
+  pub ignores : line.ignores ≡ written.ignores
+  pub glob : FitsAlone (Spells (chars written.expression)) line.glob
+
+-- why a line isn't read
+abbrev pub IsUnread : Written → BuildError → Type 0
+IsUnread written =
+    NoExclusion (Spells (chars written.expression)) (Refuses (chars written.expression))
+
+-- the list holds exactly these lines
+abbrev pub Holds : IgnoreList → List (Line Span) → Type 0
+Holds list lines = HasLines list.rule lines
+
+-- what is held are the lines that are written so, in order
+abbrev pub AreReadAs : List Written → List IgnoreLine → Type 0
+AreReadAs written held =
+    (lines : List (Line Span)) × AllZip IsReadAs written lines × (held ≡ map line_of lines)
+
+-- the list of this text: it holds exactly the lines that aren't skipped, in order
+abbrev pub IsListOf : List ℕ → IgnoreList → Type 0
+IsListOf text list =
+    (lines : List (Line Span)) × AllZip IsReadAs (written_lines text) lines × Holds list lines
+
+-- The first line that isn't read has this number, and this is why.
+pub record IsFirstUnread (text : List ℕ) (number : ℕ) (error : BuildError) : Type 0 where
+  pub before : List Written
+  pub lines : List (Line Span)
+  pub each : AllZip IsReadAs before lines
+  pub line : Written
+  pub number_is : line.number ≡ number
+  pub unread : IsUnread line error
+  pub no_want : ¬ (error ≡ build.Memory)
+  pub after : List Written
+  pub all : written_lines text ≡ before ++ line ∷ after
+
+-- why a text is no list; nothing is said where memory was refused
+abbrev pub IsNoList : List ℕ → IgnoreError → Type 0
+IsNoList text (BadLine number error) = IsFirstUnread text number error
+IsNoList text Memory = Unit {0}
+
+-- the number of the refusal
+abbrev pub refusal_number : IgnoreError → ℕ
+refusal_number (BadLine number error) = 21
+refusal_number Memory = 10
+
+-- how a line is refused
+abbrev pub refused_at : ℕ → BuildError → IgnoreError
+refused_at number build.Memory = Memory
+refused_at number error = BadLine number error
+
+-- one walk is seen as the other less what these lines ignore
+abbrev pub IsWalkIgnoring : {D : Type 0} → List (Line Span) → WalkView D → WalkView D → Type 0
+IsWalkIgnoring lines inner outer = IsSeenAs (ruled_view inner (of_candidate (ignore_mark lines)) false) outer

@@ -1,0 +1,218 @@
+-- The words of walks.
+use Rattle.std.proofs.Common.{◌≡◌, ℕ, ◌≤◌, List, [], ◌∷◌, ◌++◌, length, length-append, get_or, Option, Some, None, inl, inr, refl, sym, ap, subst, ◌∙◌, append_assoc, arith}
+use Rattle.std.specs.Prelude.{◌↔◌, IfNone, String, string_bytes, codes, slice_get}
+use Rattle.wax_commands.specs.Commands.{WalkOption, without, at_least, at_most, Says, SayEach, leasts_in, greatests_in, AreBounds, SaysWalk, AsksWalk, WalkRequest}
+use Rattle.wax_commands.specs.inner.WalkWords.{AreMore, AreSaidBy, all_in, IsFirst, IsNext, IsDoubled}
+use Rattle.wax_commands.specs.declared.walk_words.DepthWords.{DepthWords}
+
+-- ---- an option is known by its words
+
+letter : {x y : List ℕ} (k : ℕ) → x ≡ y → get_or x k 0 ≡ get_or y k 0
+letter k e = ap (λ v. get_or v k 0) e
+
+pub same_option : (name word : List ℕ) (o u : WalkOption) → Says name word o → Says name word u → o ≡ u
+same_option name word (without e) (without f) h k = ap without (h.1 ∙ sym k.1)
+same_option name word (without e) (at_least n) h k = let d : 110 ≡ 109 = letter 0 (sym h.0 ∙ k.0) in absurd (omega (arith, d))
+same_option name word (without e) (at_most n) h k = let d : 110 ≡ 109 = letter 0 (sym h.0 ∙ k.0) in absurd (omega (arith, d))
+same_option name word (at_least m) (without f) h k = let d : 109 ≡ 110 = letter 0 (sym h.0 ∙ k.0) in absurd (omega (arith, d))
+same_option name word (at_least m) (at_least n) h k = ap at_least (h.1.1 ∙ sym k.1.1)
+same_option name word (at_least m) (at_most n) h k = let d : 105 ≡ 97 = letter 1 (sym h.0 ∙ k.0) in absurd (omega (arith, d))
+same_option name word (at_most m) (without f) h k = let d : 109 ≡ 110 = letter 0 (sym h.0 ∙ k.0) in absurd (omega (arith, d))
+same_option name word (at_most m) (at_least n) h k = let d : 97 ≡ 105 = letter 1 (sym h.0 ∙ k.0) in absurd (omega (arith, d))
+same_option name word (at_most m) (at_most n) h k = ap at_most (h.1.1 ∙ sym k.1.1)
+
+said_so : (a b c d : List ℕ) (o : WalkOption) → a ≡ b → c ≡ d → Says a c o → Says b d o
+said_so a b c d o e f h = subst (λ v. Says v d o) e (subst (λ v. Says a v o) f h)
+
+pub same_options : {A : Type 0} (words : List (Option (String A))) (os us : List WalkOption) → SayEach words os → SayEach words us → os ≡ us
+same_options [] [] [] h k = refl
+same_options [] [] (u ∷ us) h k = absurd k
+same_options [] (o ∷ os) us h k = absurd h
+same_options (None ∷ words) os us h k = absurd h
+same_options (Some name ∷ []) os us h k = absurd h
+same_options (Some name ∷ None ∷ words) os us h k = absurd h
+same_options (Some name ∷ Some word ∷ words) [] us h k = absurd h
+same_options (Some name ∷ Some word ∷ words) (o ∷ os) [] h k = absurd k
+same_options (Some name ∷ Some word ∷ words) (o ∷ os) (u ∷ us) h k =
+    let e = same_option (string_bytes name) (string_bytes word) o u h.0 k.0 in
+    let f = same_options words os us h.1 k.1 in
+    λ i. e i ∷ f i
+
+pub same_walk : {A : Type 0} (words : List (Option (String A))) (a b : WalkRequest) → AsksWalk words a → AsksWalk words b → a ≡ b
+same_walk [] a b h k = absurd h.says
+same_walk (None ∷ words) a b h k = absurd h.says
+same_walk (Some x ∷ []) a b h k = absurd h.says
+same_walk (Some x ∷ None ∷ words) a b h k = absurd h.says
+same_walk (Some x ∷ Some y ∷ []) a b h k = absurd h.says
+same_walk (Some x ∷ Some y ∷ None ∷ words) a b h k = absurd h.says
+same_walk (Some x ∷ Some y ∷ Some z ∷ words) a b h k =
+    let s = h.says in
+    let t = k.says in
+    let start = s.1 ∙ sym t.1 in
+    let expression = s.2 ∙ sym t.2 in
+    let options = same_options words a.options b.options s.3 t.3 in
+    λ i. record { start = start i; expression = expression i; options = options i }
+
+-- ---- options one after another
+
+pub leasts_more : (os us : List WalkOption) → leasts_in (os ++ us) ≡ leasts_in os ++ leasts_in us
+leasts_more [] us = refl
+leasts_more (without e ∷ os) us = leasts_more os us
+leasts_more (at_least n ∷ os) us = ap (λ ns. n ∷ ns) (leasts_more os us)
+leasts_more (at_most n ∷ os) us = leasts_more os us
+
+pub greatests_more : (os us : List WalkOption) → greatests_in (os ++ us) ≡ greatests_in os ++ greatests_in us
+greatests_more [] us = refl
+greatests_more (without e ∷ os) us = greatests_more os us
+greatests_more (at_least n ∷ os) us = greatests_more os us
+greatests_more (at_most n ∷ os) us = ap (λ ns. n ∷ ns) (greatests_more os us)
+
+-- the words say these options, and then what the rest says
+pub record Begins {A : Type 0} (words rest : List (Option (String A))) (done : List WalkOption) : Type 0 where
+  pub whole : (os : List WalkOption) → SayEach rest os → SayEach words (done ++ os)
+  pub parts : (os : List WalkOption) → SayEach words os → (us : List WalkOption) × SayEach rest us × (os ≡ done ++ us)
+
+pub begins_none : {A : Type 0} (words : List (Option (String A))) → Begins words words []
+begins_none words = record { whole = λ os h. h; parts = λ os h. (os, h, refl) }
+
+begins_parts : {A : Type 0} (words : List (Option (String A))) (name word : List ℕ) (rest : List (Option (String A))) (done us : List WalkOption) (o : WalkOption)
+    → IsNext words name word rest → Says name word o → SayEach words us
+    → (vs : List WalkOption) × SayEach rest vs × (done ++ us ≡ (done ++ o ∷ []) ++ vs)
+begins_parts [] name word rest done us o n h k = absurd n
+begins_parts (None ∷ words) name word rest done us o n h k = absurd n
+begins_parts (Some x ∷ []) name word rest done us o n h k = absurd n
+begins_parts (Some x ∷ None ∷ words) name word rest done us o n h k = absurd n
+begins_parts (Some x ∷ Some y ∷ words) name word rest done [] o n h k = absurd k
+begins_parts (Some x ∷ Some y ∷ words) name word rest done (u ∷ us) o n h k =
+    let same = same_option name word u o (said_so _ _ _ _ u n.0 n.1 k.0) h in
+    (us, subst (λ ws. SayEach ws us) (sym n.2) k.1, ap (λ v. done ++ v ∷ us) same ∙ sym (append_assoc done (o ∷ []) us))
+
+next_whole : {A : Type 0} (words : List (Option (String A))) (name word : List ℕ) (rest : List (Option (String A))) (os : List WalkOption) (o : WalkOption)
+    → IsNext words name word rest → Says name word o → SayEach rest os → SayEach words (o ∷ os)
+next_whole [] name word rest os o n h k = absurd n
+next_whole (None ∷ words) name word rest os o n h k = absurd n
+next_whole (Some x ∷ []) name word rest os o n h k = absurd n
+next_whole (Some x ∷ None ∷ words) name word rest os o n h k = absurd n
+next_whole (Some x ∷ Some y ∷ words) name word rest os o n h k = (said_so _ _ _ _ o (sym n.0) (sym n.1) h, subst (λ ws. SayEach ws os) n.2 k)
+
+pub begins_more : {A : Type 0} (words : List (Option (String A))) (name word : List ℕ) (now rest : List (Option (String A))) (done : List WalkOption) (o : WalkOption)
+    → Begins words now done → IsNext now name word rest → Says name word o → Begins words rest (done ++ o ∷ [])
+begins_more words name word now rest done o h n k = record {
+  whole = λ os l. subst (SayEach words) (sym (append_assoc done (o ∷ []) os)) (h.whole (o ∷ os) (next_whole now name word rest os o n k l));
+  parts = λ os l.
+      let p = h.parts os l in
+      let q = begins_parts now name word rest done p.0 o n k p.1 in
+      (q.0, q.1, p.2 ∙ q.2);
+}
+
+-- the next two words say the first option that is left
+pub next_says : {A : Type 0} (words : List (Option (String A))) (name word : List ℕ) (rest : List (Option (String A))) (us : List WalkOption)
+    → IsNext words name word rest → SayEach words us → (o : WalkOption) × (vs : List WalkOption) × Says name word o × SayEach rest vs × (us ≡ o ∷ vs)
+next_says [] name word rest us n k = absurd n
+next_says (None ∷ words) name word rest us n k = absurd n
+next_says (Some x ∷ []) name word rest us n k = absurd n
+next_says (Some x ∷ None ∷ words) name word rest us n k = absurd n
+next_says (Some x ∷ Some y ∷ words) name word rest [] n k = absurd k
+next_says (Some x ∷ Some y ∷ words) name word rest (u ∷ us) n k = (u, us, said_so _ _ _ _ u n.0 n.1 k.0, subst (λ ws. SayEach ws us) (sym n.2) k.1, refl)
+
+-- ---- the words of a walk
+
+module _ {A : Type 0} (options : List (Option (String A))) (command start expression : List ℕ) (asked : WalkRequest) where
+  -- what is said of the first three words, and of the others
+  abbrev pub AreSaid : Type 0
+  AreSaid = (command ≡ codes "walk") × (asked.start ≡ start) × (asked.expression ≡ expression) × SayEach options asked.options
+
+  said_all : (x y z : String A) (others : List (Option (String A))) → string_bytes x ≡ command → string_bytes y ≡ start → string_bytes z ≡ expression → options ≡ others
+      → AreSaid → SaysWalk (Some x ∷ Some y ∷ Some z ∷ others) asked
+  said_all x y z others f g h e k = (f ∙ k.0, k.1 ∙ sym g, k.2 ∙ sym h, subst (λ us. SayEach us asked.options) e k.3)
+
+  all_said : (x y z : String A) (others : List (Option (String A))) → string_bytes x ≡ command → string_bytes y ≡ start → string_bytes z ≡ expression → options ≡ others
+      → SaysWalk (Some x ∷ Some y ∷ Some z ∷ others) asked → AreSaid
+  all_said x y z others f g h e k = (sym f ∙ k.0, k.1 ∙ g, k.2 ∙ h, subst (λ us. SayEach us asked.options) (sym e) k.3)
+
+  third : (x y : String A) (rest : List (Option (String A))) → string_bytes x ≡ command → string_bytes y ≡ start → IsFirst rest expression options
+      → SaysWalk (Some x ∷ Some y ∷ rest) asked ↔ AreSaid
+  third x y [] f g h = absurd h
+  third x y (None ∷ rest) f g h = absurd h
+  third x y (Some z ∷ rest) f g h = (all_said x y z rest f g h.0 h.1, said_all x y z rest f g h.0 h.1)
+
+  second : (x : String A) (after rest : List (Option (String A))) → string_bytes x ≡ command → IsFirst after start rest → IsFirst rest expression options
+      → SaysWalk (Some x ∷ after) asked ↔ AreSaid
+  second x [] rest f g h = absurd g
+  second x (None ∷ after) rest f g h = absurd g
+  second x (Some y ∷ after) rest f g h = third x y after f g.0 (subst (λ ws. IsFirst ws expression options) g.1 h)
+
+  -- a walk is said by its first three words and its options
+  pub says_walk : (words after rest : List (Option (String A))) → IsFirst words command after → IsFirst after start rest → IsFirst rest expression options
+      → SaysWalk words asked ↔ AreSaid
+  says_walk [] after rest f g h = absurd f
+  says_walk (None ∷ words) after rest f g h = absurd f
+  says_walk (Some x ∷ words) after rest f g h = second x words rest f.0 (subst (λ ws. IsFirst ws start rest) f.1 g) h
+
+-- what holds where there is nothing
+pub none_holds : {B : Type 0} {P : Type 0} (r : Option B) → P → IfNone r P
+none_holds (Some x) p = tt
+none_holds None p = p
+
+-- ---- bounds
+
+pub doubled : (xs ys : List ℕ) → IsDoubled xs ys → AreBounds xs ys → ⊥
+doubled [] [] d b = elim d [ inl e ↦ omega (arith, e) | inr e ↦ omega (arith, e) ]
+doubled (m ∷ []) [] d b = elim d [ inl e ↦ omega (arith, e) | inr e ↦ omega (arith, e) ]
+doubled [] (n ∷ []) d b = elim d [ inl e ↦ omega (arith, e) | inr e ↦ omega (arith, e) ]
+doubled (m ∷ []) (n ∷ []) d b = elim d [ inl e ↦ omega (arith, e) | inr e ↦ omega (arith, e) ]
+doubled (m ∷ k ∷ xs) ys d b = absurd b
+doubled [] (m ∷ k ∷ ys) d b = absurd b
+doubled (n ∷ []) (m ∷ k ∷ ys) d b = absurd b
+
+longer : (front os : List ℕ) (xs : List ℕ) → 2 ≤ length (front ++ os) → 2 ≤ length ((front ++ os) ++ xs)
+longer front os xs h = let e = length-append (front ++ os) xs in omega (arith, e, h)
+
+-- a bound that is said again is said twice
+pub doubled_so_far : (front : List WalkOption) (o : WalkOption) (rest : List WalkOption) → IsDoubled (leasts_in front ++ leasts_in (o ∷ [])) (greatests_in front ++ greatests_in (o ∷ []))
+    → IsDoubled (leasts_in (front ++ o ∷ rest)) (greatests_in (front ++ o ∷ rest))
+doubled_so_far front o rest d =
+    let e = append_assoc front (o ∷ []) rest in
+    let l = leasts_more (front ++ o ∷ []) rest ∙ ap (λ v. v ++ leasts_in rest) (leasts_more front (o ∷ [])) in
+    let g = greatests_more (front ++ o ∷ []) rest ∙ ap (λ v. v ++ greatests_in rest) (greatests_more front (o ∷ [])) in
+    elim d [
+      | inl h ↦ inl (subst (λ os. 2 ≤ length (leasts_in os)) e (subst (λ v. 2 ≤ length v) (sym l) (longer (leasts_in front) (leasts_in (o ∷ [])) (leasts_in rest) h)))
+      | inr h ↦ inr (subst (λ os. 2 ≤ length (greatests_in os)) e (subst (λ v. 2 ≤ length v) (sym g) (longer (greatests_in front) (greatests_in (o ∷ [])) (greatests_in rest) h)))
+    ]
+
+pub said_more : (bounds more : DepthWords) (front : List WalkOption) (o : WalkOption) → AreSaidBy bounds front → AreMore bounds o more → AreSaidBy more (front ++ o ∷ [])
+said_more bounds more front o h m = record {
+  least = leasts_more front (o ∷ []) ∙ (ap (λ v. v ++ leasts_in (o ∷ [])) h.least ∙ sym m.least);
+  greatest = greatests_more front (o ∷ []) ∙ (ap (λ v. v ++ greatests_in (o ∷ [])) h.greatest ∙ sym m.greatest);
+}
+
+-- an option that can't be added doubles a bound
+pub doubled_by : {A : Type 0} (words now : List (Option (String A))) (name word : List ℕ) (rest : List (Option (String A))) (bounds : DepthWords) (front : List WalkOption)
+    → Begins words now front → AreSaidBy bounds front → IsNext now name word rest
+    → ((o : WalkOption) → Says name word o → IsDoubled (all_in bounds.lower ++ leasts_in (o ∷ [])) (all_in bounds.upper ++ greatests_in (o ∷ [])))
+    → (options : List WalkOption) → SayEach words options → IsDoubled (leasts_in options) (greatests_in options)
+doubled_by words now name word rest bounds front b s n twice options h =
+    let parts = b.parts options h in
+    let next = next_says now name word rest parts.0 n parts.1 in
+    let o = next.0 in
+    let l : all_in bounds.lower ++ leasts_in (o ∷ []) ≡ leasts_in front ++ leasts_in (o ∷ []) = ap (λ v. v ++ leasts_in (o ∷ [])) (sym s.least) in
+    let g : all_in bounds.upper ++ greatests_in (o ∷ []) ≡ greatests_in front ++ greatests_in (o ∷ []) = ap (λ v. v ++ greatests_in (o ∷ [])) (sym s.greatest) in
+    let e : front ++ o ∷ next.1 ≡ options = ap (λ v. front ++ v) (sym next.4) ∙ sym parts.2 in
+    subst (λ os. IsDoubled (leasts_in os) (greatests_in os)) e
+    (doubled_so_far front o next.1
+    (subst (λ v. IsDoubled v (greatests_in front ++ greatests_in (o ∷ []))) l
+    (subst (λ v. IsDoubled (all_in bounds.lower ++ leasts_in (o ∷ [])) v) g (twice o next.2))))
+
+pub first_in : (n : Option ℕ) → slice_get (all_in n) 0 ≡ n
+first_in None = refl
+first_in (Some n) = refl
+
+pub bounds_so : (bounds : DepthWords) (options read : List WalkOption) → options ≡ read → AreSaidBy bounds read → AreBounds (leasts_in options) (greatests_in options)
+    → AreBounds (all_in bounds.lower) (all_in bounds.upper)
+bounds_so bounds options read e s h =
+    let k : AreBounds (leasts_in read) (greatests_in read) = subst (λ os. AreBounds (leasts_in os) (greatests_in os)) e h in
+    subst (λ v. AreBounds v (all_in bounds.upper)) s.least (subst (λ v. AreBounds (leasts_in read) v) s.greatest k)
+
+pub said_bounds : (bounds : DepthWords) (options : List WalkOption) → AreSaidBy bounds options → AreBounds (all_in bounds.lower) (all_in bounds.upper)
+    → AreBounds (leasts_in options) (greatests_in options)
+said_bounds bounds options s h = subst (λ v. AreBounds v (greatests_in options)) (sym s.least) (subst (λ v. AreBounds (all_in bounds.lower) v) (sym s.greatest) h)

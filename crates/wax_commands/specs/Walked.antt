@@ -1,0 +1,104 @@
+-- How a run of `walk` can end.
+use Rattle.std.specs.Prelude.{◌≡◌, ℕ, ◌-◌, ◌^◌, true, false, List, ◌∷◌, ◌++◌, Option, chars}
+use Rattle.std.specs.Io.KnownBytes.{Appends}
+use Rattle.std.specs.List.{AllZip, list_any}
+use Rattle.wax.specs.Build.{IsGlob}
+use Rattle.wax.specs.Exclusions.{FitsAlone, NoExclusion}
+use Rattle.wax.specs.GlobView.{GlobView}
+use Rattle.wax.specs.GlobWalks.{Beginning, trip_of, way_from}
+use Rattle.wax.specs.Patterns.{Refuses, Spells}
+use Rattle.wax.specs.declared.build_error.BuildError.{BuildError}
+use Rattle.wax_collect.specs.Trips.{KeepsWanted, Trip, trip_walk}
+use Rattle.wax_depth.specs.Depth.{Depth}
+use Rattle.wax_directory.specs.Law.{Law}
+use Rattle.wax_directory.specs.Shown.{Shown}
+use Rattle.wax_query.specs.Ranges.{Bounds}
+use Rattle.wax_token.specs.Reads.{Span}
+use Rattle.wax_token.specs.Syntax.{Tree}
+use Rattle.wax_tree.specs.Begins.{or_greatest}
+use Rattle.wax_tree.specs.Prefix.{ArePlain}
+use Rattle.wax_tree.specs.declared.steps.Range.{Range}
+use Rattle.wax_walk.specs.Forest.{preorder}
+use Rattle.wax_walk.specs.Given.{Given}
+use Rattle.wax_commands.specs.Candidates.{candidate_lines, is_error}
+use Rattle.wax_commands.specs.Commands.{WalkOption, WalkRequest, exclusions_in, greatest_in, least_in}
+use Rattle.wax_commands.specs.Refused.{IsRefused}
+
+-- ---- builds
+
+-- the tree is the only one that the expression spells, and fits
+abbrev pub IsNotOf : List ℕ → Tree Span → Type 0
+IsNotOf e t = FitsAlone (Spells (chars e)) t
+
+-- the glob, and the trees of what is left out
+pub record WalkGlobs : Type 0 where
+  pub glob : GlobView
+  pub nots : List (Tree Span)
+
+-- all expressions were built
+pub record AreBuilt (asked : WalkRequest) (globs : WalkGlobs) : Type 0 where
+  pub glob : IsGlob (chars asked.expression) globs.glob
+  pub nots : AllZip IsNotOf (exclusions_in asked.options) globs.nots
+
+-- one of these expressions is refused, and each one before it was built
+pub record HasRefused (expressions : List (List ℕ)) : Type 0 where
+  pub before : List (List ℕ)
+  pub nots : List (Tree Span)
+  pub built : AllZip IsNotOf before nots
+  pub expression : List ℕ
+  pub error : BuildError
+  pub refused : NoExclusion (Spells (chars expression)) (Refuses (chars expression)) error
+  pub after : List (List ℕ)
+  pub all : expressions ≡ before ++ expression ∷ after
+
+-- the glob is refused, or else something that is left out
+pub data IsUnbuilt (asked : WalkRequest) : Type 0 where
+  no_glob : IsRefused asked.expression → IsUnbuilt asked
+  no_exclusion : (g : GlobView) → IsGlob (chars asked.expression) g → HasRefused (exclusions_in asked.options)
+      → IsUnbuilt asked
+
+-- ---- walks
+
+-- the depths that are asked for
+abbrev pub range_in : List WalkOption → Range
+range_in options = record {
+  min = least_in options;
+  max = or_greatest (greatest_in options);
+  budget = 2 ^ 32 - 1;
+}
+
+module _ {D C : Type 0} (law : Law D C) (d : D) (asked : WalkRequest) (globs : WalkGlobs) where
+  -- what holds of the walk, from wherever it begins, of whatever the directory shows there
+  abbrev pub OnWalk : (Trip → Shown → List (List ℕ) → Type 0) → Type 0
+  OnWalk P = (depth : Bounds) × Depth globs.glob.tree depth
+      × ((b : Beginning globs.glob.tree) (s : Shown) (listed : List (List ℕ)) → ArePlain b.names
+      → law.shows d (way_from asked.start b.rooted b.names).path s → law.tells d listed
+      → P (trip_of asked.start (range_in asked.options) depth b globs.nots) s listed)
+
+  -- these items were kept of the walk, to its end
+  abbrev pub KeepsAll : List Given → Type 0
+  KeepsAll items =
+      (d' : D) × OnWalk (λ trip s listed. KeepsWanted (law.tells d') trip s listed items)
+
+  -- these bytes are a beginning of the lines of all that is kept of the walk
+  abbrev pub StartsLines : List ℕ → Type 0
+  StartsLines bytes = OnWalk (λ trip s listed.
+      (rest : List ℕ) × (bytes ++ rest ≡ candidate_lines (preorder (trip_walk trip s))))
+
+-- The walk that is asked for was run over the directory d. `held` is what the writer holds, before and
+-- after.
+pub data WalkEnds {D C : Type 0} (law : Law D C) (d : D) (asked : WalkRequest)
+    (held held' : Option (List ℕ)) (status : ℕ) : Type 0 where
+  -- the candidates of all that is kept were written, and no item was an error
+  done : (globs : WalkGlobs) (items : List Given) → AreBuilt asked globs → KeepsAll law d asked globs items
+      → Appends held held' (candidate_lines items) → list_any is_error items ≡ false
+      → status ≡ 0 → WalkEnds law d asked held held' status
+  -- the same, but some item was an error
+  faulty : (globs : WalkGlobs) (items : List Given) → AreBuilt asked globs → KeepsAll law d asked globs items
+      → Appends held held' (candidate_lines items) → list_any is_error items ≡ true
+      → status ≡ 3 → WalkEnds law d asked held held' status
+  -- a beginning of the lines was written
+  stopped : (globs : WalkGlobs) (bytes : List ℕ) → AreBuilt asked globs → Appends held held' bytes
+      → StartsLines law d asked globs bytes → status ≡ 1 → WalkEnds law d asked held held' status
+  -- some build was refused, and nothing was written
+  refused : IsUnbuilt asked → held' ≡ held → status ≡ 1 → WalkEnds law d asked held held' status

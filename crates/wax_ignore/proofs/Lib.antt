@@ -1,0 +1,4 @@
+pub mod Keeping
+pub mod Listing
+pub mod Worked
+pub mod Written

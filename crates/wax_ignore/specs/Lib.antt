@@ -1,0 +1,4 @@
+pub mod Held
+pub mod Kept
+pub mod Lines
+pub mod inner

@@ -1,0 +1,77 @@
+//! Ignore lists, and walks that they filter.
+
+use std::alloc::Global;
+use std::test::*;
+use wax::prelude::*;
+use wax::walk::{IgnoreError, WalkBehavior, collect};
+
+use crate::walks::project;
+
+fn parsed(alloc: Global, text: &str) -> Result<IgnoreList, Fail> {
+    match IgnoreList::parse(alloc, text) {
+        Ok(list) => Ok(list),
+        Err(_) => Err(Fail::from("not read")),
+    }
+}
+
+#[test]
+fn last_line_decides(rt: HostRuntime) -> Result<(), Fail> {
+    let alloc = rt.alloc();
+    for (text, path, want) in [
+        ("*.log", "a.log", true),
+        ("*.log", "x/a.log", false),
+        ("**/*.log\n!x/**", "x/a.log", false),
+        ("!x/**\n**/*.log", "x/a.log", true),
+        ("# a\r\n\r\na\r\n", "a", true),
+        ("(?-i)#a", "#a", true),
+        ("a\n!", "a", true),
+        ("target/**", "target", true),
+    ] {
+        let list = parsed(alloc, text)?;
+        let Ok(answer) = list.is_ignored(alloc, &CandidatePath::from(path)) else {
+            return Err(Fail::from("no memory"));
+        };
+        assert_eq!(rt; answer, want);
+    }
+    Ok(())
+}
+
+#[test]
+fn first_bad_line_is_told(rt: HostRuntime) -> Result<(), Fail> {
+    let Err(error) = IgnoreList::parse(rt.alloc(), "# a\n\nb\n!**b\n***") else {
+        return Err(Fail::from("not refused"));
+    };
+    assert_eq!(rt; error.number(), 21);
+    let IgnoreError::BadLine { line, error: _ } = error else {
+        return Err(Fail::from("no memory"));
+    };
+    assert_eq!(rt; line, 4);
+    Ok(())
+}
+
+// Of each list, how many entries are kept, and how many folders were listed.
+#[test]
+fn walks_leave_out_what_is_ignored(rt: HostRuntime) -> Result<(), Fail> {
+    let alloc = rt.alloc();
+    for (text, want) in [
+        ("", (7, 3)),
+        ("target", (6, 3)),
+        ("target/**", (4, 2)),
+        ("target/**\n!target/lib.rs", (5, 3)),
+        ("!target/lib.rs\ntarget/**", (4, 2)),
+        ("**", (0, 0)),
+    ] {
+        let walk = "".walk(alloc, project(alloc)?);
+        let Ok((items, tree)) = collect(alloc, walk.ignore(alloc, parsed(alloc, text)?)) else {
+            return Err(Fail::from("no memory"));
+        };
+        assert_eq!(rt; (items.len(), tree.listed().len()), want);
+        let behavior = WalkBehavior::default();
+        let Ok((items, _tree)) = parsed(alloc, text)?.entries(alloc, project(alloc)?, "", behavior)
+        else {
+            return Err(Fail::from("no memory"));
+        };
+        assert_eq!(rt; items.len(), want.0);
+    }
+    Ok(())
+}
