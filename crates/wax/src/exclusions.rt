@@ -40,6 +40,18 @@ pub fn exclusion_of<P: Pattern>(alloc: Global, pattern: P) -> Result<Exclusion, 
     }
 }
 
+/// The walk less what the list ignores: with all that lies below it, which is cancelled, where an alternative
+/// of a line that ignores covers it and no line that takes back stands after that line; else alone.
+pub fn without_ignored<I: FileIterator>(alloc: Global, walk: I, list: IgnoreList) -> Ignore<I>
+    ensures view { (lines : List (Line Span)) → Holds list lines
+        → IsWalkIgnoring lines (I.view walk) (⟦<Ignore<I> as FileIterator>⟧.view result) }
+    ensures ends { ⟦<Ignore<I> as SeparatingFilter>⟧.left result ≡ I.left walk }
+    ensures feeds { I.can_feed walk → ⟦<Ignore<I> as SeparatingFilter>⟧.can_feed result }
+    ensures known { StaysKnown (I.known walk) (⟦<Ignore<I> as FileIterator>⟧.known result) }
+{
+    walk.without(alloc, list)
+}
+
 /// Walks that patterns can be left out of.
 pub trait FileIteratorExt: FileIterator {
     /// The walk less what the pattern means: with all that lies below it where an alternative of the pattern
@@ -61,9 +73,7 @@ pub trait FileIteratorExt: FileIterator {
         }
     }
 
-    /// The walk less what the list ignores: with all that lies below it, which is cancelled, where an
-    /// alternative of a line that ignores covers it and no line that takes back stands after that line; else
-    /// alone.
+    /// The walk less what the list ignores, as `without_ignored` says.
     final fn ignore(self, alloc: Global, list: IgnoreList) -> Ignore<Self>
     where
         Self: Sized,
@@ -73,7 +83,7 @@ pub trait FileIteratorExt: FileIterator {
         ensures feeds { Self.can_feed self → ⟦<Ignore<Self> as SeparatingFilter>⟧.can_feed result }
         ensures known { StaysKnown (Self.known self) (⟦<Ignore<Self> as FileIterator>⟧.known result) }
     {
-        self.without(alloc, list)
+        without_ignored(alloc, self, list)
     }
 }
 

@@ -1,11 +1,10 @@
 //! Ignore lists, and walks that they filter.
 
+use crate::walks::project;
 use std::alloc::Global;
 use std::test::*;
 use wax::prelude::*;
-use wax::walk::{IgnoreError, WalkBehavior, collect};
-
-use crate::walks::project;
+use wax::walk::{IgnoreError, WalkBehavior, collect, without_ignored};
 
 fn parsed(alloc: Global, text: &str) -> Result<IgnoreList, Fail> {
     match IgnoreList::parse(alloc, text) {
@@ -49,7 +48,24 @@ fn first_bad_line_is_told(rt: HostRuntime) -> Result<(), Fail> {
     Ok(())
 }
 
-// Of each list, how many entries are kept, and how many folders were listed.
+// How many entries are kept of a walk less what the list ignores, and how many folders were listed.
+fn kept(alloc: Global, list: IgnoreList) -> Result<(usize, usize), Fail> {
+    let walk = without_ignored(alloc, "".walk(alloc, project(alloc)?), list);
+    let Ok((items, tree)) = collect(alloc, walk) else {
+        return Err(Fail::from("no memory"));
+    };
+    Ok((items.len(), tree.listed().len()))
+}
+
+// The same of the entries that the list answers.
+fn entries(alloc: Global, list: IgnoreList) -> Result<(usize, usize), Fail> {
+    let behavior = WalkBehavior::default();
+    let Ok((items, tree)) = list.entries(alloc, project(alloc)?, "", behavior) else {
+        return Err(Fail::from("no memory"));
+    };
+    Ok((items.len(), tree.listed().len()))
+}
+
 #[test]
 fn walks_leave_out_what_is_ignored(rt: HostRuntime) -> Result<(), Fail> {
     let alloc = rt.alloc();
@@ -61,17 +77,8 @@ fn walks_leave_out_what_is_ignored(rt: HostRuntime) -> Result<(), Fail> {
         ("!target/lib.rs\ntarget/**", (4, 2)),
         ("**", (0, 0)),
     ] {
-        let walk = "".walk(alloc, project(alloc)?);
-        let Ok((items, tree)) = collect(alloc, walk.ignore(alloc, parsed(alloc, text)?)) else {
-            return Err(Fail::from("no memory"));
-        };
-        assert_eq!(rt; (items.len(), tree.listed().len()), want);
-        let behavior = WalkBehavior::default();
-        let Ok((items, _tree)) = parsed(alloc, text)?.entries(alloc, project(alloc)?, "", behavior)
-        else {
-            return Err(Fail::from("no memory"));
-        };
-        assert_eq!(rt; items.len(), want.0);
+        assert_eq!(rt; kept(alloc, parsed(alloc, text)?)?, want);
+        assert_eq!(rt; entries(alloc, parsed(alloc, text)?)?, want);
     }
     Ok(())
 }

@@ -1,5 +1,5 @@
 use Rattle.wax.proofs.IgnoreLines.{seen_ignoring}
-use Rattle.wax.proofs.exclusions.FileIteratorExt.ignore.Goals as goal
+use Rattle.wax.proofs.exclusions.without_ignored.Goals as goal
 
 pub returns-clause-view : goal.returns-clause-view
 returns-clause-view g c = λ lines held. seen_ignoring _ _ c.args.list.rule lines held c.without.ensures.view
