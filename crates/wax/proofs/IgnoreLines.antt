@@ -1,5 +1,5 @@
 -- The lines of an ignore list that were read, and the first that isn't.
-use Rattle.std.proofs.Common.{◌≡◌, ◌∙◌, ◌<◌, ◌≤◌, ◌+◌, ◌++◌, ◌∷◌, ℕ, List, [], false, ap, chars, drop, get_or, length, map, refl, subst, sym, take}
+use Rattle.std.proofs.Common.{◌≡◌, ◌∙◌, ◌<◌, ◌≤◌, ◌+◌, ◌++◌, ◌∷◌, ℕ, List, [], false, ap, drop, get_or, length, map, refl, subst, sym, take}
 use Rattle.std.specs.List.{AllZip}
 use Rattle.std.proofs.lemmas.List.{map-append, take_more, drop_more, take_all, take-append-drop}
 use Rattle.wax_directory.specs.Law.{Law}

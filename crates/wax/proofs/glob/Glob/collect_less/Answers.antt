@@ -1,4 +1,4 @@
-use Rattle.std.proofs.Common.{[], map}
+use Rattle.std.proofs.Common.{[]}
 use Rattle.wax_collect.specs.Trips.{goes}
 use Rattle.wax_tree.specs.Begins.{range_of}
 use Rattle.wax_walk.proofs.Collecting.{map_ok}

@@ -1,6 +1,6 @@
-use Rattle.std.proofs.Common.{◌≡◌, ◌∙◌, ap, map, subst, sym, take}
+use Rattle.std.proofs.Common.{◌≡◌, ◌∙◌, ap, map, subst, sym}
 use Rattle.wax_ignore.specs.Lines.{written_lines, written_of}
-use Rattle.wax.specs.Ignoring.{AreReadAs, IsNoList}
+use Rattle.wax.specs.Ignoring.{IsNoList}
 use Rattle.wax.proofs.IgnoreLines.{all_read, first_unread, next_read, none_read}
 use Rattle.wax.proofs.ignoring.IgnoreList.parse.Goals as goal
 
