@@ -94,8 +94,9 @@ impl IgnoreList {
     }
 
     /// The items that are kept of the plain walk from `start` less what the list ignores, in order, errors
-    /// among them, and the directory: the entries are those of the whole walk, of the depths that the behavior
-    /// has, that the list doesn't ignore. Where memory is refused for the list itself, nothing is answered.
+    /// among them, and the directory: the entries are those of the whole walk, of the depths that the
+    /// behavior has, that the list doesn't ignore. Where memory is refused for the list itself, nothing is
+    /// answered.
     pub fn entries<D: Directory>(
         self,
         alloc: Global,
