@@ -265,7 +265,7 @@ fn want_of_memory_on_a_walk_is_told(rt: HostRuntime) -> Result<(), Fail> {
             assert_eq!(rt; ran.told.len(), 0);
             continue;
         }
-        told_once += 1;
+        told_once = told_once.saturating_add(1);
         assert_eq!(rt; ran.status, 3);
         assert_eq!(rt; ran.told.as_slice(), b"globs: no memory\n".as_slice());
     }
@@ -308,7 +308,8 @@ fn lines_go_out_as_the_walk_goes(rt: HostRuntime) -> Result<(), Fail> {
         assert_eq!(rt; status, 1);
         assert_eq!(rt; told.as_slice(), b"globs: write failed\n".as_slice());
         let taken = output.into_inner().taken;
-        assert_eq!(rt; taken.as_slice(), &want[..room]);
+        let end = room.min(want.len());
+        assert_eq!(rt; taken.as_slice(), &want[..end]);
     }
     Ok(())
 }
