@@ -40,6 +40,26 @@ pub fn exclusion_of<P: Pattern>(alloc: Global, pattern: P) -> Result<Exclusion, 
     }
 }
 
+/// The walk less what the pattern means: with all that lies below it where an alternative of the pattern
+/// covers it, which is cancelled, else alone. Refused as `exclusion_of` refuses the pattern; the walk is gone
+/// then.
+pub fn without_meant<I, P>(alloc: Global, walk: I, pattern: P) -> Result<Not<I>, BuildError>
+where
+    I: FileIterator,
+    P: Pattern,
+    ensures less { MatchResult result (λ w. IsWalkWithout (P.spells pattern) (I.view walk)
+        (⟦<Not<I> as FileIterator>⟧.view w)
+        × (⟦<Not<I> as SeparatingFilter>⟧.left w ≡ I.left walk))
+        (NoExclusion (P.spells pattern) (P.refuses pattern)) }
+    ensures feeds { I.can_feed walk → IfOk result (λ w. ⟦<Not<I> as SeparatingFilter>⟧.can_feed w) }
+    ensures known { IfOk result (λ w. StaysKnown (I.known walk) (⟦<Not<I> as FileIterator>⟧.known w)) }
+{
+    match exclusion_of(alloc, pattern) {
+        Ok(exclusion) => Ok(walk.without(alloc, exclusion)),
+        Err(error) => Err(error),
+    }
+}
+
 /// The walk less what the list ignores: with all that lies below it, which is cancelled, where an alternative
 /// of a line that ignores covers it and no line that takes back stands after that line; else alone.
 pub fn without_ignored<I: FileIterator>(alloc: Global, walk: I, list: IgnoreList) -> Ignore<I>
@@ -54,9 +74,7 @@ pub fn without_ignored<I: FileIterator>(alloc: Global, walk: I, list: IgnoreList
 
 /// Walks that patterns can be left out of.
 pub trait FileIteratorExt: FileIterator {
-    /// The walk less what the pattern means: with all that lies below it where an alternative of the pattern
-    /// covers it, which is cancelled, else alone. Refused as `exclusion_of` refuses the pattern; the walk is
-    /// gone then.
+    /// The walk less what the pattern means, as `without_meant` says.
     final fn not<P: Pattern>(self, alloc: Global, pattern: P) -> Result<Not<Self>, BuildError>
     where
         Self: Sized,
@@ -64,13 +82,12 @@ pub trait FileIteratorExt: FileIterator {
             (⟦<Not<Self> as FileIterator>⟧.view w)
             × (⟦<Not<Self> as SeparatingFilter>⟧.left w ≡ Self.left self))
             (NoExclusion (P.spells pattern) (P.refuses pattern)) }
+        ensures feeds { Self.can_feed self
+            → IfOk result (λ w. ⟦<Not<Self> as SeparatingFilter>⟧.can_feed w) }
         ensures known { IfOk result
             (λ w. StaysKnown (Self.known self) (⟦<Not<Self> as FileIterator>⟧.known w)) }
     {
-        match exclusion_of(alloc, pattern) {
-            Ok(exclusion) => Ok(self.without(alloc, exclusion)),
-            Err(error) => Err(error),
-        }
+        without_meant(alloc, self, pattern)
     }
 
     /// The walk less what the list ignores, as `without_ignored` says.

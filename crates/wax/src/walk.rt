@@ -1,6 +1,8 @@
 //! Directories, walks through them, and filters over walks.
 
-pub use crate::exclusions::{FileIteratorExt, Ignore, Not, exclusion_of, without_ignored};
+pub use crate::exclusions::{
+    FileIteratorExt, Ignore, Not, exclusion_of, without_ignored, without_meant,
+};
 pub use crate::glob::GlobWalk;
 pub use crate::ignoring::{IgnoreError, IgnoreList};
 pub use wax_directory::directory::{Directory, DirectoryFault, FileType, ListItem};
