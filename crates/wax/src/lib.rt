@@ -8,6 +8,7 @@ pub mod encode;
 mod exclusions;
 pub mod filter;
 mod glob;
+mod glob_error;
 mod ignoring;
 mod location;
 mod pattern;
@@ -20,6 +21,7 @@ pub mod walk;
 
 pub use build_error::BuildError;
 pub use glob::Glob;
+pub use glob_error::GlobError;
 pub use location::ErrorLocation;
 pub use pattern::{Pattern, any};
 pub use set::Any;

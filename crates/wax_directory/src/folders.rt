@@ -65,12 +65,20 @@ fn kind_at(runtime: &HostRuntime, path: &str) -> Result<Option<FileType>, Direct
     }
 }
 
-fn opened_at(runtime: &HostRuntime, path: &str) -> Result<ReadDir, DirectoryFault> {
+// in a box, since a cursor holds the 8 KiB that the system fills
+fn opened_at(
+    alloc: Global,
+    runtime: &HostRuntime,
+    path: &str,
+) -> Result<Box<ReadDir>, DirectoryFault> {
     let Some(FileType::Folder) = kind_at(runtime, path)? else {
         return Err(DirectoryFault::Failed);
     };
     match fs::read_dir(runtime, system_path(path)) {
-        Ok(cursor) => Ok(cursor),
+        Ok(cursor) => match Box::new(alloc, cursor) {
+            Ok(cursor) => Ok(cursor),
+            Err(_) => Err(DirectoryFault::Memory),
+        },
         Err(error) => Err(fault_of(&error)),
     }
 }
@@ -100,7 +108,7 @@ fn listed(alloc: Global, entry: io::Result<fs::DirEntry>) -> Result<ListItem, No
 impl Directory for Folders {
     ghost use Rattle.std.specs.Prelude.{⊤, []};
 
-    type Cursor = ReadDir;
+    type Cursor = Box<ReadDir>;
 
     ghost law = { record { shows = λ _ _ _. ⊥; holds = λ _ _ _. ⊥; tells = λ _ _. ⊤; tally = λ s. s.tally } };
 
@@ -110,13 +118,17 @@ impl Directory for Folders {
         answer
     }
 
-    fn open(&mut self, _alloc: Global, path: &str) -> Result<ReadDir, DirectoryFault> {
-        let answer = opened_at(&self.runtime, path);
+    fn open(&mut self, alloc: Global, path: &str) -> Result<Box<ReadDir>, DirectoryFault> {
+        let answer = opened_at(alloc, &self.runtime, path);
         self.tally.add(Tally::of_opening(&answer));
         answer
     }
 
-    fn next(&mut self, alloc: Global, cursor: &mut ReadDir) -> Result<Option<ListItem>, NoMemory> {
+    fn next(
+        &mut self,
+        alloc: Global,
+        cursor: &mut Box<ReadDir>,
+    ) -> Result<Option<ListItem>, NoMemory> {
         let Some(entry) = cursor.next() else {
             return Ok(None);
         };
