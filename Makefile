@@ -1,11 +1,11 @@
-# make globs: proves and builds the program, and leaves it as ./globs; some 15 minutes on 4 processors the first time
+# make globs: proves and builds the program, and leaves it as ./globs; some 25 minutes on 4 processors the first time
 # make test:  proves everything from nothing and runs all tests; docs/GATE.md says how long that takes
 # make bench: times matches and ./globs beside grep, and walks beside find, on this machine (docs/BENCH.md)
 
 .PHONY: globs test bench
 
 globs:
-	@echo 'proving the crates below globs, side by side; some 15 minutes on 4 processors the first time'
+	@echo 'proving the crates below globs, side by side; some 25 minutes on 4 processors the first time'
 	./prove wax_commands
 	cd crates/globs && mkdir -p out && rm -f out/globs && { rt run </dev/null >/dev/null 2>out/prove.log || true; }
 	test -x crates/globs/out/globs || { cat crates/globs/out/prove.log; exit 1; }
