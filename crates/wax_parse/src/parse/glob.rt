@@ -32,7 +32,8 @@ pub(super) fn read_glob<'t>(
 ) -> Result<(ReadToken<'t>, Cursor<'t>), Refusal<ParseError>>
     requires { Within scope from }
     ensures { MatchBuild result
-        (λ r. Sole (GlobAt scope.entry from.entry) r.0 (place r.1) × Beyond (chars from.entry.rest.now) (chars r.1.rest.now))
+        (λ r. Sole (GlobAt scope.entry from.entry) r.0 (place r.1)
+        × Beyond (chars from.entry.rest.now) (chars r.1.rest.now))
         (λ e. Unreadable (GlobAt scope.entry from.entry) × IsPlace (chars scope.entry.expression.now) e) }
 {
     let mut tokens = Vec::new(alloc);
@@ -63,8 +64,10 @@ fn read_token<'t>(
 ) -> Result<(ReadToken<'t>, Cursor<'t>), Refusal<ParseError>>
     requires { Within scope from }
     ensures { MatchBuild result
-        (λ r. Sole (TokenAt scope.entry is_first from.entry) r.0 (place r.1) × Taken (chars from.entry.rest.now) (chars r.1.rest.now))
-        (λ e. Unreadable (TokenAt scope.entry is_first from.entry) × IsPlace (chars scope.entry.expression.now) e) }
+        (λ r. Sole (TokenAt scope.entry is_first from.entry) r.0 (place r.1)
+        × Taken (chars from.entry.rest.now) (chars r.1.rest.now))
+        (λ e. Unreadable (TokenAt scope.entry is_first from.entry)
+        × IsPlace (chars scope.entry.expression.now) e) }
 {
     let start = read_flags(from);
     if let Some(rest) = strip(start.rest, '{') {
@@ -91,8 +94,10 @@ fn read_alternation<'t>(
     requires within { Within scope flags }
     requires opened { flags_end (place flags) ≡ at from.is_case_insensitive (123 ∷ chars from.rest.now) }
     ensures { (first : Bool) → MatchBuild result
-        (λ r. Sole (TokenAt scope.entry first flags.entry) r.0 (place r.1) × Taken (chars flags.entry.rest.now) (chars r.1.rest.now))
-        (λ e. Unreadable (TokenAt scope.entry first flags.entry) × IsPlace (chars scope.entry.expression.now) e) }
+        (λ r. Sole (TokenAt scope.entry first flags.entry) r.0 (place r.1)
+        × Taken (chars flags.entry.rest.now) (chars r.1.rest.now))
+        (λ e. Unreadable (TokenAt scope.entry first flags.entry)
+        × IsPlace (chars scope.entry.expression.now) e) }
 {
     let Some(inner) = scope.inside(Around::InAlternation) else {
         return Err(refusal(scope.expression, from.rest));
@@ -113,7 +118,8 @@ fn read_branches<'t>(
     requires within { Within scope from }
     requires around { around_of scope.around ≡ in_alternation }
     ensures { MatchBuild result
-        (λ r. Sole (BranchesAt scope.entry from.entry) (trees r.0.items) (place r.1) × Beyond (chars from.entry.rest.now) (chars r.1.rest.now))
+        (λ r. Sole (BranchesAt scope.entry from.entry) (trees r.0.items) (place r.1)
+        × Beyond (chars from.entry.rest.now) (chars r.1.rest.now))
         (λ e. Unreadable (BranchesAt scope.entry from.entry) × IsPlace (chars scope.entry.expression.now) e) }
 {
     let mut branches = Vec::new(alloc);
@@ -142,8 +148,10 @@ fn read_repetition<'t>(
     requires within { Within scope flags }
     requires opened { flags_end (place flags) ≡ at from.is_case_insensitive (60 ∷ chars from.rest.now) }
     ensures { (first : Bool) → MatchBuild result
-        (λ r. Sole (TokenAt scope.entry first flags.entry) r.0 (place r.1) × Taken (chars flags.entry.rest.now) (chars r.1.rest.now))
-        (λ e. Unreadable (TokenAt scope.entry first flags.entry) × IsPlace (chars scope.entry.expression.now) e) }
+        (λ r. Sole (TokenAt scope.entry first flags.entry) r.0 (place r.1)
+        × Taken (chars flags.entry.rest.now) (chars r.1.rest.now))
+        (λ e. Unreadable (TokenAt scope.entry first flags.entry)
+        × IsPlace (chars scope.entry.expression.now) e) }
 {
     let Some(inner) = scope.inside(Around::InRepetition) else {
         return Err(refusal(scope.expression, from.rest));
@@ -182,7 +190,10 @@ fn boxed<'t>(alloc: Global, token: ReadToken<'t>) -> Result<Box<ReadToken<'t>>, 
 fn metadata(expression: &str, from: &str, to: &str) -> ExpressionMetadata
     requires from { utf8_len (chars from.now) ≤ utf8_len (chars expression.now) }
     requires to { utf8_len (chars to.now) ≤ utf8_len (chars from.now) }
-    ensures { result ≡ (utf8_len (chars expression.now) - utf8_len (chars from.now), utf8_len (chars from.now) - utf8_len (chars to.now)) }
+    ensures { result ≡ (
+      utf8_len (chars expression.now) - utf8_len (chars from.now),
+      utf8_len (chars from.now) - utf8_len (chars to.now),
+    ) }
 {
     ExpressionMetadata::new((expression.len() - from.len(), from.len() - to.len()))
 }

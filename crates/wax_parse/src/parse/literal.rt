@@ -27,7 +27,9 @@ fn split_plain(text: &str) -> (&str, &str)
 
 /// Pushes the run of a literal's characters that the text begins with, and answers what follows.
 fn push_run<'t>(literal: &mut String, text: &'t str) -> Result<&'t str, AllocError>
-    ensures { IfOk result (λ rest. (chars (string_bytes literal.new) ≡ chars (string_bytes literal.old) ++ (literal_run (chars text.now)).0) × (chars rest.now ≡ (literal_run (chars text.now)).1)) }
+    ensures { IfOk result (λ rest. (chars (string_bytes literal.new)
+        ≡ chars (string_bytes literal.old) ++ (literal_run (chars text.now)).0)
+        × (chars rest.now ≡ (literal_run (chars text.now)).1)) }
 {
     let mut rest = text;
     while let Some((c, next)) = literal_character(rest) {
@@ -57,8 +59,10 @@ pub(super) fn read_literal<'t>(
     is_case_insensitive: bool,
     text: &'t str,
 ) -> Result<Option<(LeafKind<'t>, &'t str)>, AllocError>
-    ensures { IfOk result (λ r. MatchOption r (literal_leaf is_case_insensitive (literal_run (chars text.now)) ≡ None)
-        (λ l. literal_leaf is_case_insensitive (literal_run (chars text.now)) ≡ Some (leaf_of l.0, chars l.1.now))) }
+    ensures { IfOk result (λ r. MatchOption r
+        (literal_leaf is_case_insensitive (literal_run (chars text.now)) ≡ None)
+        (λ l. literal_leaf is_case_insensitive (literal_run (chars text.now))
+        ≡ Some (leaf_of l.0, chars l.1.now))) }
 {
     let (literal, rest) = literal_text(alloc, text)?;
     if literal.as_str().is_empty() {
