@@ -64,7 +64,8 @@ is_broken_at rule row i = is_some (first_in rule (slice_get row i))
 
 -- the breaks of all but sizes
 abbrev pub breaks_beside : List Situated → List Break
-breaks_beside row = flat_map (breaks_of Boundary) row ++ flat_map (breaks_of Bounds) row ++ flat_map (breaks_of Branch) row
+breaks_beside row =
+    flat_map (breaks_of Boundary) row ++ flat_map (breaks_of Bounds) row ++ flat_map (breaks_of Branch) row
 
 abbrev pub oversized : List Situated → List Break
 oversized row = flat_map (λ s. size_breaks s.token) row

@@ -14,7 +14,8 @@ branches left right (more t ts) = record { token = t; left = left; right = right
 
 abbrev pub siblings : Option Side → Option Side → Trees Span → List Situated
 siblings left right none = []
-siblings left right (more t ts) = record { token = t; left = left; right = right_of ts right } ∷ siblings (Some (end_of t)) right ts
+siblings left right (more t ts) =
+    record { token = t; left = left; right = right_of ts right } ∷ siblings (Some (end_of t)) right ts
 
 abbrev pub children_between : Option Side → Option Side → Tree Span → List Situated
 children_between left right (leaf a l) = []
@@ -38,8 +39,11 @@ children_at ss i = flat_map children (take 1 (drop i ss))
 -- how proofs tell these apart: each is stored as the tuple of its fields
 abbrev pub side_code : Coded Side
 side_code = code_by (Span × (Bool × Bool)) (coded× (coded× coded_ℕ coded_ℕ) (coded× coded_bool coded_bool))
-    (λ s. (s.span, (s.has_boundary, s.has_zero_or_more))) (λ p. record { span = p.0; has_boundary = p.1.0; has_zero_or_more = p.1.1 }) (λ _. refl)
+    (λ s. (s.span, (s.has_boundary, s.has_zero_or_more)))
+    (λ p. record { span = p.0; has_boundary = p.1.0; has_zero_or_more = p.1.1 }) (λ _. refl)
 
 abbrev pub situated_code : Coded Situated
-situated_code = code_by (Tree Span × (Option Side × Option Side)) (coded× (tree_code (coded× coded_ℕ coded_ℕ)) (coded× (coded_option side_code) (coded_option side_code)))
+situated_code =
+    code_by (Tree Span × (Option Side × Option Side))
+    (coded× (tree_code (coded× coded_ℕ coded_ℕ)) (coded× (coded_option side_code) (coded_option side_code)))
     (λ s. (s.token, (s.left, s.right))) (λ p. record { token = p.0; left = p.1.0; right = p.1.1 }) (λ _. refl)

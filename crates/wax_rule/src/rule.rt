@@ -84,7 +84,11 @@ impl<'t> Model for RuleError<'t> {
 
     ghost Value = { ErrorView };
 
-    ghost view = { λ e. record { kind = e.kind; location = e.location; expression = chars (cow_str_bytes e.expression) } };
+    ghost view = { λ e. record {
+      kind = e.kind;
+      location = e.location;
+      expression = chars (cow_str_bytes e.expression);
+    } };
 }
 
 impl<'t> RuleError<'t> {
@@ -287,7 +291,8 @@ pub fn check<'t>(
 ) -> Result<Checked<Tokenized<'t, ExpressionMetadata>>, Refusal<RuleError<'t>>>
     ensures kept { IfOk result (λ t. t ≡ tokenized.entry) }
     ensures rules { MatchBuild result (λ t. broken t.token ≡ []) (IsFirst (broken tokenized.entry.token)) }
-    ensures expression { MatchBuild result (λ _. Unit {0}) (λ e. e.expression ≡ chars (cow_str_bytes tokenized.entry.expression)) }
+    ensures expression { MatchBuild result (λ _. Unit {0})
+        (λ e. e.expression ≡ chars (cow_str_bytes tokenized.entry.expression)) }
 {
     let Some(found) = find_first(alloc, &tokenized.token)? else {
         return Ok(Checked { inner: tokenized });

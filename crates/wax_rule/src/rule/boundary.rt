@@ -58,7 +58,8 @@ fn adjacent_span_at<'t>(tokens: &[Token<'t, ExpressionMetadata>], index: usize) 
 
 /// The first two neighbours that are both boundaries: the index of the left one, and their span.
 fn find_adjacent<'t>(tokens: &[Token<'t, ExpressionMetadata>]) -> Option<(usize, Option<Span>)>
-    ensures { result ≡ find_at is_some 0 (map (adjacent_at tokens.now) (range_with_len 0 (length tokens.now))) }
+    ensures { result
+        ≡ find_at is_some 0 (map (adjacent_at tokens.now) (range_with_len 0 (length tokens.now))) }
 {
     let mut spans = (0..tokens.len()).map(|index| adjacent_span_at(tokens, index));
     spans.find_position(|span| span.is_some())

@@ -221,7 +221,8 @@ fn find_row(
     last: Terminal,
     several: bool,
 ) -> Option<Row>
-    ensures { result ≡ option_or (first_that_holds (shared_rows left right first last several)) (first_that_holds (own_rows branch left first last several)) }
+    ensures { result ≡ option_or (first_that_holds (shared_rows left right first last several))
+        (first_that_holds (own_rows branch left first last several)) }
 {
     let shared = first_that_holds(&shared_rows(left, right, first, last, several));
     let own = match branch {
