@@ -6,7 +6,7 @@ use Rattle.wax_token.specs.Syntax.{repetition}
 use Rattle.wax_token.specs.Words.{annotation_of, members}
 use Rattle.wax_rule.specs.Rules.{adjacent_span, alternative_breaks, boundary_break, has_boundary}
 use Rattle.wax_token.specs.Kinds.{is_such}
-use Rattle.wax_rule.specs.Rules.{span_union}
+use Rattle.wax_query.specs.Spans.{span_union}
 use Rattle.wax_rule.specs.Situated.{Situated, ends_in, first_starts_in, last_ends_in}
 use Rattle.wax_token.specs.Kinds.{is_boundary_leaf}
 use Rattle.wax_rule.specs.Situated.{some_ends_in, some_starts_in, starts_in}

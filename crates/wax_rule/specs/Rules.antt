@@ -1,7 +1,8 @@
 -- The breaks of the rules, in order.
-use Rattle.std.specs.Prelude.{ℕ, ◌+◌, ◌-◌, max, min, Bool, true, false, ◌&&◌, ◌||◌, not, nat_lt, ◌==◌, List, [], ◌∷◌, ◌++◌, if◌then◌else◌, Option, Some, None, codes}
+use Rattle.std.specs.Prelude.{ℕ, Bool, true, false, ◌&&◌, ◌||◌, not, nat_lt, ◌==◌, List, [], ◌∷◌, ◌++◌, if◌then◌else◌, Option, Some, None, codes}
 use Rattle.std.specs.List.{flat_map}
 use Rattle.std.specs.Option.{is_none}
+use Rattle.wax_query.specs.Spans.{span_union}
 use Rattle.wax_query.specs.declared.diagnostics.located.CorrelatedSpan.{CorrelatedSpan}
 use Rattle.wax_query.specs.declared.diagnostics.located.CorrelatedSpan.TheVariants.{Contiguous, Split}
 use Rattle.wax_rule.specs.declared.rule.Break.{Break}
@@ -25,10 +26,6 @@ break_here kind s =
     record { kind = kind; location = record { label = codes "here"; span = s; correlated = None } }
 
 -- ---- adjacent boundaries: two neighbours of a concatenation are both `/` or `**`
--- the least span that holds both
-abbrev pub span_union : Span → Span → Span
-span_union s t = (min s.0 t.0, max (s.0 + s.1) (t.0 + t.1) - min s.0 t.0)
-
 -- the span of two tokens that are both boundaries
 abbrev pub adjacent_span : Tree Span → Tree Span → Option Span
 adjacent_span t u =

@@ -43,16 +43,16 @@ abbrev mutual
 
 -- what a token shows to the one after it: its span, and whether it has a boundary, or a `*` or `$`, at that
 -- side
-abbrev pub end_of : Tree Span → Side
-end_of t = record {
+abbrev pub end_side : Tree Span → Side
+end_side t = record {
   span = annotation_of t;
   has_boundary = ends_in is_boundary_leaf t;
   has_zero_or_more = ends_in is_zero_or_more_leaf t;
 }
 
 -- what it shows to the one before it
-abbrev pub start_of : Tree Span → Side
-start_of t = record {
+abbrev pub start_side : Tree Span → Side
+start_side t = record {
   span = annotation_of t;
   has_boundary = starts_in is_boundary_leaf t;
   has_zero_or_more = starts_in is_zero_or_more_leaf t;
@@ -68,7 +68,7 @@ pub record Situated : Type 0 where
 -- the neighbour on the right of a token that these come after
 abbrev pub right_of : Trees Span → Option Side → Option Side
 right_of none outer = outer
-right_of (more t ts) outer = Some (start_of t)
+right_of (more t ts) outer = Some (start_side t)
 
 -- two rows of levels, side by side
 abbrev pub beside : {A : Type 0} → List (List A) → List (List A) → List (List A)
@@ -96,7 +96,7 @@ abbrev mutual
   pub member_levels : Option Side → Option Side → Trees Span → List (List Situated)
   member_levels left right none = []
   member_levels left right (more t ts) =
-      beside (levels left (right_of ts right) t) (member_levels (Some (end_of t)) right ts)
+      beside (levels left (right_of ts right) t) (member_levels (Some (end_side t)) right ts)
 
 -- all tokens of a glob, breadth first
 abbrev pub breadth_first : Tree Span → List Situated
