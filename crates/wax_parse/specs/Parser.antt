@@ -38,8 +38,8 @@ class_step p = spelled_step class_escapable class_escapable p
 abbrev pub is_plain_character : ℕ → Bool
 is_plain_character c = not (is_one_of (92 ∷ 47 ∷ escapable) c)
 
-abbrev pub is_plain : List ℕ → Bool
-is_plain t = list_all is_plain_character t
+abbrev pub is_plain_text : List ℕ → Bool
+is_plain_text t = list_all is_plain_character t
 
 -- the end, or a character that isn't plain
 abbrev pub StopsPlain : List ℕ → Type 0

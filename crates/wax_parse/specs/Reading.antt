@@ -38,8 +38,8 @@ BranchesFrom size depth p ts q = (k : Place) × ReadsBranches size ts p k × Pas
 abbrev pub Beyond : List ℕ → List ℕ → Type 0
 Beyond p q = (x : List ℕ) × (p ≡ x ++ q)
 
-abbrev pub Taken : List ℕ → List ℕ → Type 0
-Taken p q = (x : List ℕ) × (p ≡ x ++ q) × (0 < length x)
+abbrev pub IsTaken : List ℕ → List ℕ → Type 0
+IsTaken p q = (x : List ℕ) × (p ≡ x ++ q) × (0 < length x)
 
 -- a refusal for this reason
 abbrev pub IsRefusal : {E : Type 0} → (E → Type 0) → Refusal E → Type 0
@@ -74,5 +74,5 @@ BranchesAt scope from ts q =
     BranchesFrom (utf8_len (chars scope.expression.now)) scope.depth (place from) ts q
 
 -- the cursor stands in the expression
-abbrev pub Within : Scope → Cursor → Type 0
-Within scope from = Beyond (chars scope.expression.now) (chars from.rest.now)
+abbrev pub IsWithinScope : Scope → Cursor → Type 0
+IsWithinScope scope from = Beyond (chars scope.expression.now) (chars from.rest.now)

@@ -2,7 +2,7 @@
 ghost use Rattle.std.specs.Prelude.{◌≡◌, ◌++◌, List, ℕ, IfOk, MatchOption, Some, None, chars, string_bytes, true};
 ghost use Rattle.std.specs.Cow.{cow_str_bytes};
 ghost use Rattle.wax_token.specs.View.{leaf_of};
-ghost use Rattle.wax_parse.specs.Parser.{literal_run, literal_leaf, is_plain, StopsPlain};
+ghost use Rattle.wax_parse.specs.Parser.{literal_run, literal_leaf, is_plain_text, StopsPlain};
 
 use crate::parse::text::{before, is_plain, literal_character, split_first, strip};
 use std::alloc::{AllocError, Global};
@@ -12,7 +12,7 @@ use wax_token::token::{LeafKind, Literal};
 /// The characters up to the first that isn't plain, and the text from there on.
 fn split_plain(text: &str) -> (&str, &str)
     ensures whole { chars text.now ≡ chars result.0.now ++ chars result.1.now }
-    ensures plain { is_plain (chars result.0.now) ≡ true }
+    ensures plain { is_plain_text (chars result.0.now) ≡ true }
     ensures stop { StopsPlain (chars result.1.now) }
 {
     let mut rest = text;
