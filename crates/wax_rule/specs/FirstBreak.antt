@@ -23,9 +23,9 @@ abbrev pub IsFirst : List Break → ErrorView → Type 0
 IsFirst [] e = ⊥
 IsFirst (b ∷ bs) e = (e.kind ≡ b.kind) × (e.location ≡ b.location)
 
-abbrev pub first_of : {A : Type 0} → List A → Option A
-first_of [] = None
-first_of (x ∷ xs) = Some x
+abbrev pub head_of : {A : Type 0} → List A → Option A
+head_of [] = None
+head_of (x ∷ xs) = Some x
 
 abbrev pub adjacent_to : Tree Span → Option (Tree Span) → Option Span
 adjacent_to t None = None
@@ -56,7 +56,7 @@ breaks_of Branch s = branch_breaks s.left s.right s.token
 
 abbrev pub first_in : Rule → Option Situated → Option Break
 first_in rule None = None
-first_in rule (Some s) = first_of (breaks_of rule s)
+first_in rule (Some s) = head_of (breaks_of rule s)
 
 -- the token at the index breaks the rule
 abbrev pub is_broken_at : Rule → List Situated → ℕ → Bool

@@ -73,9 +73,9 @@ terminal_of t = record {
 }
 
 -- the neighbour, if there is one, has a boundary at its side
-abbrev pub has_boundary : Option Side → Bool
-has_boundary None = false
-has_boundary (Some s) = s.has_boundary
+abbrev pub side_has_boundary : Option Side → Bool
+side_has_boundary None = false
+side_has_boundary (Some s) = s.has_boundary
 
 -- the same of `*` and `$`
 abbrev pub has_zero_or_more : Option Side → Bool
@@ -92,23 +92,23 @@ split_from (Some s) t = Split s.span t.span
 abbrev pub shared_rows : Option Side → Option Side → Terminal → Terminal → Bool → List Row
 shared_rows left right first last several =
     record {
-      holds = first.is_separator && has_boundary left;
+      holds = first.is_separator && side_has_boundary left;
       kind = AdjacentBoundary;
       correlated = split_from left first;
     }
     ∷ record {
-      holds = last.is_separator && has_boundary right;
+      holds = last.is_separator && side_has_boundary right;
       kind = AdjacentBoundary;
       correlated = split_from right last;
     }
     ∷ record { holds = not several && first.is_tree; kind = SingularTree; correlated = Contiguous first.span }
     ∷ record {
-      holds = several && first.is_tree && has_boundary left;
+      holds = several && first.is_tree && side_has_boundary left;
       kind = AdjacentBoundary;
       correlated = split_from left first;
     }
     ∷ record {
-      holds = several && last.is_tree && has_boundary right;
+      holds = several && last.is_tree && side_has_boundary right;
       kind = AdjacentBoundary;
       correlated = split_from right last;
     }

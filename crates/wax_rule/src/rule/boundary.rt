@@ -8,7 +8,7 @@ ghost use Rattle.wax_token.specs.Kinds.{is_boundary_leaf};
 ghost use Rattle.wax_query.specs.Spans.{span_union};
 ghost use Rattle.wax_rule.specs.Rules.{adjacent_span, boundary_breaks, adjacent_boundaries};
 ghost use Rattle.wax_token.specs.Kinds.{is_such};
-ghost use Rattle.wax_rule.specs.FirstBreak.{adjacent_at, first_of};
+ghost use Rattle.wax_rule.specs.FirstBreak.{adjacent_at, head_of};
 
 use super::{Break, RuleErrorKind, break_here};
 use itertools::Itertools;
@@ -67,7 +67,7 @@ fn find_adjacent<'t>(tokens: &[Token<'t, ExpressionMetadata>]) -> Option<(usize,
 }
 
 fn adjacent_break<'t>(tokens: &[Token<'t, ExpressionMetadata>]) -> Option<Break>
-    ensures { result ≡ first_of (adjacent_boundaries (trees tokens.now)) }
+    ensures { result ≡ head_of (adjacent_boundaries (trees tokens.now)) }
 {
     let (_, span) = find_adjacent(tokens)?;
     Some(break_here(RuleErrorKind::AdjacentBoundary, span?))
@@ -75,7 +75,7 @@ fn adjacent_break<'t>(tokens: &[Token<'t, ExpressionMetadata>]) -> Option<Break>
 
 /// The first two neighbours in the token that are both boundaries.
 pub(super) fn boundary_break<'t>(token: &Token<'t, ExpressionMetadata>) -> Option<Break>
-    ensures { result ≡ first_of (boundary_breaks token.now) }
+    ensures { result ≡ head_of (boundary_breaks token.now) }
 {
     match token.topology() {
         Topology::Branch(branch) => match branch {
