@@ -13,6 +13,8 @@ globs:
 
 test:
 	rt ci
+	tests/documents
+	tests/names
 
 bench: globs
 	cd crates/wax_bench && rt run </dev/null

@@ -12,7 +12,7 @@ use Rattle.std.specs.Char.{len_utf8}
 use Rattle.wax_token.specs.Reads.{utf8_len}
 use Rattle.wax_candidate.specs.Parts.{IsPart, cut}
 use Rattle.wax_capture.specs.inner.Bytes.{byte_at, in_bytes}
-use Rattle.wax_capture.specs.inner.Parts.{IsWithin, between, parts}
+use Rattle.wax_capture.specs.inner.Parts.{IsWithin, part_between, parts}
 
 -- ---- how many bytes characters have
 pub length-encodes : (cs : List ℕ) → length (encode_utf8_all cs) ≡ utf8_len cs
@@ -94,26 +94,26 @@ module _ (cs : List ℕ) (u : IsUtf8 (encode_utf8_all cs)) where
     ends = boundary p.1;
   }
 
-  part_bytes : (p : ℕ × ℕ) → IsWithin cs p → take (byte_at cs p.1 - byte_at cs p.0) (drop (byte_at cs p.0) (encode_utf8_all cs)) ≡ encode_utf8_all (between cs p)
+  part_bytes : (p : ℕ × ℕ) → IsWithin cs p → take (byte_at cs p.1 - byte_at cs p.0) (drop (byte_at cs p.0) (encode_utf8_all cs)) ≡ encode_utf8_all (part_between cs p)
   part_bytes p within =
-      let n : byte_at cs p.1 - byte_at cs p.0 ≡ length (encode_utf8_all (between cs p)) =
-      omega (arith, byte_at_between cs p.0 p.1 within.ordered, length-encodes (between cs p)) in
+      let n : byte_at cs p.1 - byte_at cs p.0 ≡ length (encode_utf8_all (part_between cs p)) =
+      omega (arith, byte_at_between cs p.0 p.1 within.ordered, length-encodes (part_between cs p)) in
       ap (take (byte_at cs p.1 - byte_at cs p.0)) (rest_bytes cs p.0 ∙ seam (drop p.0 cs) (p.1 - p.0))
-      ∙ ap (λ k. take k (encode_utf8_all (between cs p) ++ encode_utf8_all (drop (p.1 - p.0) (drop p.0 cs)))) n
-      ∙ take-append_seam (encode_utf8_all (between cs p)) (encode_utf8_all (drop (p.1 - p.0) (drop p.0 cs)))
+      ∙ ap (λ k. take k (encode_utf8_all (part_between cs p) ++ encode_utf8_all (drop (p.1 - p.0) (drop p.0 cs)))) n
+      ∙ take-append_seam (encode_utf8_all (part_between cs p)) (encode_utf8_all (drop (p.1 - p.0) (drop p.0 cs)))
 
-  cut_is : (p : ℕ × ℕ) → IsWithin cs p → cut (encode_utf8_all cs) (in_bytes cs p) ≡ between cs p
+  cut_is : (p : ℕ × ℕ) → IsWithin cs p → cut (encode_utf8_all cs) (in_bytes cs p) ≡ part_between cs p
   cut_is p within =
       let is = part_is p within in
       let bytes : List ℕ = take (byte_at cs p.1 - byte_at cs p.0) (drop (byte_at cs p.0) (encode_utf8_all cs)) in
       let whole : IsUtf8 bytes = IsUtf8-between (encode_utf8_all cs) (byte_at cs p.0) (byte_at cs p.1) u is.ordered is.starts is.ends in
-      encodes_same (chars bytes) (between cs p) (encodes-chars bytes whole ∙ part_bytes p within)
+      encodes_same (chars bytes) (part_between cs p) (encodes-chars bytes whole ∙ part_bytes p within)
 
   pub parts_cut : (places : List (ℕ × ℕ)) → All (IsWithin cs) places → map (cut (encode_utf8_all cs)) (map (in_bytes cs) places) ≡ parts cs places
   parts_cut [] within = refl
   parts_cut (p ∷ places) within =
       ap (λ z. z ∷ map (cut (encode_utf8_all cs)) (map (in_bytes cs) places)) (cut_is p (All-head (IsWithin cs) p places within))
-      ∙ ap (λ z. between cs p ∷ z) (parts_cut places (All-tail (IsWithin cs) p places within))
+      ∙ ap (λ z. part_between cs p ∷ z) (parts_cut places (All-tail (IsWithin cs) p places within))
 
   pub all_parts : (places : List (ℕ × ℕ)) → All (IsWithin cs) places → All (IsPart (encode_utf8_all cs)) (map (in_bytes cs) places)
   all_parts [] within = All-nil (IsPart (encode_utf8_all cs))

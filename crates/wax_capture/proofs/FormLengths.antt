@@ -9,7 +9,7 @@ use Rattle.wax_program.specs.Machine.{Passes}
 use Rattle.wax_program.specs.Threads.{Has}
 use Rattle.wax_token.specs.Meaning.{Begins, Ends, HasNoSlash, TreeMeans}
 use Rattle.wax_capture.specs.Pieces.{IsLetter, SpelledBy}
-use Rattle.wax_capture.specs.inner.Names.{end_of, least_of, marks_of, name_len}
+use Rattle.wax_capture.specs.inner.Names.{name_end, least_of, marks_of, name_len}
 use Rattle.wax_capture.specs.inner.Spans.{AreLengths, IsMarked}
 use Rattle.wax_capture.specs.declared.span.Marks.TheVariants.{All, AfterSlash}
 use Rattle.wax_capture.specs.declared.span.Span.{Span}
@@ -237,33 +237,33 @@ marked_none s (suc n) e = absurd (omega (arith, e))
 
 -- at most so many, if a `/` has to come first and doesn't
 abbrev tree_span : Bool → Bool → Bool → Bool → ℕ → Span
-tree_span before after rooted begins rest = record { low = least_of before after rooted; end = end_of (before || rooted) begins rest; marks = marks_of after }
+tree_span before after rooted begins rest = record { low = least_of before after rooted; end = name_end (before || rooted) begins rest; marks = marks_of after }
 
 module _ (s : List ℕ) (b : Bool) (is : IsTrue b ↔ Begins s) where
   -- a `/` comes first
-  bound_to : (n : ℕ) → n ≤ length s → Begins (take n s) → (1 ≤ n) × (n < end_of true b (length s))
+  bound_to : (n : ℕ) → n ≤ length s → Begins (take n s) → (1 ≤ n) × (n < name_end true b (length s))
   bound_to n le h =
       let r = begins_taken s n le h in
-      let e : end_of true b (length s) ≡ length s + 1 = ap (λ z. end_of true z (length s)) (is.1 r.1) in
+      let e : name_end true b (length s) ≡ length s + 1 = ap (λ z. name_end true z (length s)) (is.1 r.1) in
       (r.0, omega (arith, e, le))
 
-  bound_from : (n : ℕ) → 1 ≤ n → n < end_of true b (length s) → Begins (take n s)
+  bound_from : (n : ℕ) → 1 ≤ n → n < name_end true b (length s) → Begins (take n s)
   bound_from n some lt = elim (either b) [
     | inl so ↦ taken_begins s n some (is.0 so)
-    | inr fails ↦ (let e : end_of true b (length s) ≡ 1 = ap (λ z. end_of true z (length s)) fails in absurd (past e))
+    | inr fails ↦ (let e : name_end true b (length s) ≡ 1 = ap (λ z. name_end true z (length s)) fails in absurd (past e))
   ]
     where
       either : (b : Bool) → (b ≡ true) ⊎ (b ≡ false)
       either true = inl refl
       either false = inr refl
 
-      past : end_of true b (length s) ≡ 1 → ⊥
+      past : name_end true b (length s) ≡ 1 → ⊥
       past e = omega (arith, some, lt, e)
 
-  none_bound : (n : ℕ) → n ≡ 0 → n < end_of true b (length s)
+  none_bound : (n : ℕ) → n ≡ 0 → n < name_end true b (length s)
   none_bound n e = bounded b e
     where
-      bounded : (b : Bool) → n ≡ 0 → n < end_of true b (length s)
+      bounded : (b : Bool) → n ≡ 0 → n < name_end true b (length s)
       bounded true e = omega (arith, e)
       bounded false e = omega (arith, e)
 

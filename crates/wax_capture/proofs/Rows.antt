@@ -7,13 +7,13 @@ use Rattle.std.proofs.Math.Seq.{get_or-append_seam}
 use Rattle.std.proofs.lemmas.Bool.{cases_lt}
 use Rattle.std.proofs.lemmas.List.{drop_all, get_or_append_left, length-replicate, length_push}
 use Rattle.std.proofs.lemmas.Option.{slice_get_within}
-use Rattle.wax_capture.specs.inner.Rows.{AreRows, IsCell, IsFilled, Row, Takes}
+use Rattle.wax_capture.specs.inner.Rows.{ArePieceRows, IsCell, IsFilled, Row, TakesPiece}
 use Rattle.wax_capture.specs.inner.Splits.{Splits}
 use Rattle.wax_capture.specs.declared.piece.Piece.{Piece}
 use Rattle.wax_capture.proofs.Lists.{slice_left, slice_seam, some_same}
 
 -- ---- one cell
-pub takes_splits : (ps : List Piece) (s : List ℕ) (n : ℕ) → Takes ps s n → Splits ps s
+pub takes_splits : (ps : List Piece) (s : List ℕ) (n : ℕ) → TakesPiece ps s n → Splits ps s
 takes_splits [] s n h = h
 takes_splits (p ∷ ps) s n c = (c.way, n, c.fits.0, c.fits.1, c.fits.2)
 
@@ -65,8 +65,8 @@ row_none s n le = elim (cases_lt n (length s)) [
 
 -- ---- one row more
 module _ (ps : List Piece) (s : List ℕ) (rows : List (Vec (Option ℕ))) where
-  pub rows_push : (i : ℕ) (row : Vec (Option ℕ)) → length rows + i ≡ length ps → AreRows ps s rows →
-      Row (drop i ps) s row.items → length row.items ≡ length s + 1 → AreRows ps s (rows ++ row ∷ [])
+  pub rows_push : (i : ℕ) (row : Vec (Option ℕ)) → length rows + i ≡ length ps → ArePieceRows ps s rows →
+      Row (drop i ps) s row.items → length row.items ≡ length s + 1 → ArePieceRows ps s (rows ++ row ∷ [])
   rows_push i row count are here len j r e = elim (cases_lt j (length rows)) [
     | inl less ↦ are j r (sym (slice_left rows (row ∷ []) j less) ∙ e)
     | inr ge ↦ (let within : j < length (rows ++ row ∷ []) = slice_get_within (rows ++ row ∷ []) j r e in
@@ -77,7 +77,7 @@ module _ (ps : List Piece) (s : List ℕ) (rows : List (Vec (Option ℕ))) where
   ]
 
   -- the row that was pushed last
-  pub row_next : (i j : ℕ) (p : Piece) (row : Vec (Option ℕ)) → length rows + i ≡ length ps → i < length ps → p ≡ get_or ps i p → AreRows ps s rows →
+  pub row_next : (i j : ℕ) (p : Piece) (row : Vec (Option ℕ)) → length rows + i ≡ length ps → i < length ps → p ≡ get_or ps i p → ArePieceRows ps s rows →
       j + 1 ≡ length rows → slice_get rows j ≡ Some row →
       (Row (drop (i + 1) ps) s row.items × (length row.items ≡ length s + 1)) × (drop i ps ≡ p ∷ drop (i + 1) ps)
   row_next i j p row count lt e are last at =
@@ -86,7 +86,7 @@ module _ (ps : List Piece) (s : List ℕ) (rows : List (Vec (Option ℕ))) where
       let m : suc i ≡ i + 1 = omega arith in
       ((subst (λ k. Row (drop k ps) s row.items) n r.0, r.1), drop-cons ps i p lt ∙ ap (λ z. z ∷ drop (suc i) ps) (sym e) ∙ ap (λ k. p ∷ drop k ps) m)
 
-pub rows_none : (ps : List Piece) (s : List ℕ) (row : Vec (Option ℕ)) → Row [] s row.items → length row.items ≡ length s + 1 → AreRows ps s ([] ++ row ∷ [])
+pub rows_none : (ps : List Piece) (s : List ℕ) (row : Vec (Option ℕ)) → Row [] s row.items → length row.items ≡ length s + 1 → ArePieceRows ps s ([] ++ row ∷ [])
 rows_none ps s row here len =
     rows_push ps s [] (length ps) row (omega arith) (λ j r e. absurd (no_row j r e)) (subst (λ z. Row z s row.items) (sym (drop_all (length ps) ps (omega arith))) here) len
   where

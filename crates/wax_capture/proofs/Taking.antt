@@ -6,7 +6,7 @@ use Rattle.std.proofs.lemmas.List.{drop-drop, drop_all}
 use Rattle.std.proofs.lemmas.Option.{get_or_from_slice_get}
 use Rattle.wax_capture.specs.Pieces.{captured_by}
 use Rattle.wax_capture.specs.inner.Parts.{parts}
-use Rattle.wax_capture.specs.inner.Rows.{AreRows, IsCell, Row}
+use Rattle.wax_capture.specs.inner.Rows.{ArePieceRows, IsCell, Row}
 use Rattle.wax_capture.specs.inner.Splits.{AreChosen, CapturedBy, IsChosenBy, Splits}
 use Rattle.wax_capture.specs.declared.piece.Piece.{Piece}
 use Rattle.wax_capture.proofs.Lists.{slice_read}
@@ -15,12 +15,12 @@ use Rattle.wax_capture.proofs.Rows.{takes_splits}
 -- ---- the table
 -- the row that was read is as long as the text, and one more
 pub row_long : (ps : List Piece) (s : List ℕ) (rows : List (Vec (Option ℕ))) (i : ℕ) (row : Vec (Option ℕ)) →
-    length rows ≡ length ps + 1 → AreRows ps s rows → i ≤ length ps → row ≡ get_or rows (length ps - i) row → length row.items ≡ length s + 1
+    length rows ≡ length ps + 1 → ArePieceRows ps s rows → i ≤ length ps → row ≡ get_or rows (length ps - i) row → length row.items ≡ length s + 1
 row_long ps s rows i row len are le is = (are (length ps - i) row (slice_read rows (length ps - i) row (omega (arith, len, le)) is)).1
 
 -- the cell that was read
 pub cell_read : (ps : List Piece) (s : List ℕ) (rows : List (Vec (Option ℕ))) (i at : ℕ) (row : Vec (Option ℕ)) (r : Option ℕ) →
-    length rows ≡ length ps + 1 → AreRows ps s rows → i ≤ length ps → row ≡ get_or rows (length ps - i) row → r ≡ get_or row.items at r →
+    length rows ≡ length ps + 1 → ArePieceRows ps s rows → i ≤ length ps → row ≡ get_or rows (length ps - i) row → r ≡ get_or row.items at r →
     at ≤ length s → IsCell (drop i ps) (drop at s) r
 cell_read ps s rows i at row r len are le is_row is within =
     let long : length row.items ≡ length s + 1 = row_long ps s rows i row len are le is_row in

@@ -6,7 +6,7 @@ use Rattle.wax_capture.specs.Captures.{Prefers}
 use Rattle.wax_capture.specs.Pieces.{TakenBy, WayOf, forms_of}
 use Rattle.wax_capture.specs.inner.Spans.{HasLengths, InSpan, IsNarrowed, IsPicked, looks}
 use Rattle.wax_capture.specs.inner.Splits.{AreChosen, FitsBy, IsChosenBy, Splits}
-use Rattle.wax_capture.specs.inner.Trials.{HasRoom, HasTaken, IsOpen, Trail, lengths_of, taken}
+use Rattle.wax_capture.specs.inner.Trials.{HasRoom, HasTaken, IsOpen, Trail, lengths_of, characters_taken}
 use Rattle.wax_capture.specs.declared.form.Form.{Form}
 use Rattle.wax_capture.specs.declared.piece.Piece.{Piece}
 use Rattle.wax_capture.specs.declared.trial.Frame.{Frame}
@@ -106,7 +106,7 @@ module _ (p : Piece) (ps : List Piece) (s : List ℕ) where
 
 -- ---- the pieces that have taken a part
 module _ (text : List ℕ) (most : ℕ) where
-  pub trail_push : (ps rest : List Piece) (p : Piece) (at : ℕ) (fs : List Frame) (f : Frame) → drop (length fs) ps ≡ p ∷ rest → f.at ≡ at + taken fs → HasTaken p rest (drop f.at text) f → HasRoom text most f →
+  pub trail_push : (ps rest : List Piece) (p : Piece) (at : ℕ) (fs : List Frame) (f : Frame) → drop (length fs) ps ≡ p ∷ rest → f.at ≡ at + characters_taken fs → HasTaken p rest (drop f.at text) f → HasRoom text most f →
       Trail ps text most at fs → Trail ps text most at (fs ++ f ∷ [])
   trail_push [] rest p at [] f e is t room h = absurd (cc)
   trail_push (q ∷ ps) rest p at [] f e is t room h =
@@ -123,7 +123,7 @@ module _ (text : List ℕ) (most : ℕ) where
     pub piece : Piece
     pub rest : List Piece
     pub is : drop (length fs) ps ≡ piece ∷ rest
-    pub place : f.at ≡ at + taken fs
+    pub place : f.at ≡ at + characters_taken fs
     pub takes : HasTaken piece rest (drop f.at text) f
     pub room : HasRoom text most f
 
@@ -144,17 +144,17 @@ module _ (text : List ℕ) (most : ℕ) where
       record { trail = (h.0, h.1, h.2, r.trail); piece = r.piece; rest = r.rest; is = r.is; place = omega (arith, r.place); takes = r.takes; room = r.room }
 
   -- all of them took the whole text
-  pub trail_done : (ps : List Piece) (at : ℕ) (fs : List Frame) → length ps ≡ length fs → drop (at + taken fs) text ≡ [] → Trail ps text most at fs → AreChosen ps (drop at text) (lengths_of fs)
+  pub trail_done : (ps : List Piece) (at : ℕ) (fs : List Frame) → length ps ≡ length fs → drop (at + characters_taken fs) text ≡ [] → Trail ps text most at fs → AreChosen ps (drop at text) (lengths_of fs)
   trail_done [] at [] count end h = let e : at + 0 ≡ at = omega arith in ap (λ k. drop k text) (sym e) ∙ end
   trail_done [] at (f ∷ fs) count end h = absurd h
   trail_done (p ∷ ps) at [] count end h = absurd (omega (arith, count))
   trail_done (p ∷ ps) at (f ∷ fs) count end h =
-      let e : at + f.n + taken fs ≡ at + (f.n + taken fs) = omega arith in
+      let e : at + f.n + characters_taken fs ≡ at + (f.n + characters_taken fs) = omega arith in
       let later : AreChosen ps (drop (at + f.n) text) (lengths_of fs) = trail_done ps (at + f.n) fs (omega (arith, count)) (ap (λ k. drop k text) e ∙ end) h.3 in
       let rest : AreChosen ps (drop f.n (drop at text)) (lengths_of fs) = subst (λ z. AreChosen ps z (lengths_of fs)) (sym (drop-drop f.n at text)) later in
       (taken_chosen p ps (drop at text) f h.1 (chosen_splits ps (drop f.n (drop at text)) (lengths_of fs) rest), rest)
 
-pub taken_push : (fs : List Frame) (f : Frame) → taken (fs ++ f ∷ []) ≡ taken fs + f.n
+pub taken_push : (fs : List Frame) (f : Frame) → characters_taken (fs ++ f ∷ []) ≡ characters_taken fs + f.n
 taken_push [] f = omega arith
 taken_push (g ∷ fs) f = omega (arith, taken_push fs f)
 
@@ -189,14 +189,14 @@ module _ (text : List ℕ) (most : ℕ) (ps : List Piece) where
   -- the first pieces have taken parts, and the next one is tried
   pub record Stands (fs : List Frame) (f : Frame) : Type 0 where
     pub trail : Trail ps text most 0 fs
-    pub place : f.at ≡ taken fs
+    pub place : f.at ≡ characters_taken fs
     pub tried : (p : Piece) (rest : List Piece) → drop (length fs) ps ≡ p ∷ rest → IsOpen p rest (drop f.at text) f
     pub room : HasRoom text most f
 
   -- the next one has taken a part as well
   pub record Took (fs : List Frame) (f : Frame) : Type 0 where
     pub trail : Trail ps text most 0 fs
-    pub place : f.at ≡ taken fs
+    pub place : f.at ≡ characters_taken fs
     pub is : (p : Piece) × (drop (length fs) ps ≡ p ∷ drop (length fs + 1) ps) × HasTaken p (drop (length fs + 1) ps) (drop f.at text) f
     pub room : HasRoom text most f
 
@@ -204,13 +204,13 @@ module _ (text : List ℕ) (most : ℕ) (ps : List Piece) where
   took_within fs f t = omega (arith, t.is.2.within, length-drop f.at text, t.room.within)
 
   -- it doesn't take any: the piece before it has to take another
-  pub stands_pop : (below fs : List Frame) (f : Frame) (at : ℕ) (p : Piece) (rest : List Piece) → below ≡ fs ++ f ∷ [] → Trail ps text most 0 below → at ≡ taken below → drop (length below) ps ≡ p ∷ rest →
+  pub stands_pop : (below fs : List Frame) (f : Frame) (at : ℕ) (p : Piece) (rest : List Piece) → below ≡ fs ++ f ∷ [] → Trail ps text most 0 below → at ≡ characters_taken below → drop (length below) ps ≡ p ∷ rest →
       (Splits (p ∷ rest) (drop at text) → ⊥) → Stands fs f
   stands_pop below fs f at p rest same trail place is fails =
       let r : Popped text most ps 0 fs f = trail_pop text most ps 0 fs f (subst (Trail ps text most 0) same trail) in
       let len : length below ≡ length fs + 1 = omega (arith, ap length same, length_push fs f) in
       let next : r.rest ≡ p ∷ rest = ap (drop 1) (sym r.is) ∙ drop-drop 1 (length fs) ps ∙ ap (λ k. drop k ps) (sym len) ∙ is in
-      let end : f.at + f.n ≡ at = omega (arith, place, ap taken same, taken_push fs f, r.place) in
+      let end : f.at + f.n ≡ at = omega (arith, place, ap characters_taken same, taken_push fs f, r.place) in
       let none : Splits r.rest (drop f.n (drop f.at text)) → ⊥ = λ h.
       let g : Splits (p ∷ rest) (drop f.n (drop f.at text)) = subst (λ z. Splits z (drop f.n (drop f.at text))) next h in
       fails (subst (Splits (p ∷ rest)) (drop-drop f.n f.at text ∙ ap (λ k. drop k text) end) g) in
@@ -255,16 +255,16 @@ module _ (text : List ℕ) (most : ℕ) (ps : List Piece) where
   -- and it is
   pub took_all : (fs : List Frame) (f : Frame) → Took fs f → length ps ≡ length fs + 1 → f.at + f.n ≡ length text → AreChosen ps text (lengths_of fs ++ f.n ∷ [])
   took_all fs f t count end =
-      let e : 0 + taken (fs ++ f ∷ []) ≡ length text = omega (arith, taken_push fs f, t.place, end) in
-      let nothing : drop (0 + taken (fs ++ f ∷ [])) text ≡ [] = ap (λ k. drop k text) e ∙ drop_all (length text) text (omega arith) in
+      let e : 0 + characters_taken (fs ++ f ∷ []) ≡ length text = omega (arith, taken_push fs f, t.place, end) in
+      let nothing : drop (0 + characters_taken (fs ++ f ∷ [])) text ≡ [] = ap (λ k. drop k text) e ∙ drop_all (length text) text (omega arith) in
       subst (AreChosen ps text) (lengths_push fs f) (trail_done text most ps 0 (fs ++ f ∷ []) (omega (arith, count, length_push fs f)) nothing (took_trail fs f t))
 
 -- the first piece doesn't take any
-pub none_first : (text : List ℕ) (ps : List Piece) (fs : List Frame) (at : ℕ) (p : Piece) (rest : List Piece) → fs ≡ [] → at ≡ taken fs → drop (length fs) ps ≡ p ∷ rest →
+pub none_first : (text : List ℕ) (ps : List Piece) (fs : List Frame) (at : ℕ) (p : Piece) (rest : List Piece) → fs ≡ [] → at ≡ characters_taken fs → drop (length fs) ps ≡ p ∷ rest →
     (Splits (p ∷ rest) (drop at text) → ⊥) → Splits ps text → ⊥
 none_first text ps fs at p rest none place is fails h =
     let zero_len : length fs ≡ 0 = ap length none in
-    let start : at ≡ 0 = place ∙ ap taken none in
+    let start : at ≡ 0 = place ∙ ap characters_taken none in
     let all : ps ≡ p ∷ rest = ap (λ k. drop k ps) (sym zero_len) ∙ is in
     let g : Splits (p ∷ rest) text = subst (λ z. Splits z text) all h in
     fails (subst (λ k. Splits (p ∷ rest) (drop k text)) (sym start) g)

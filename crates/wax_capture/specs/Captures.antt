@@ -94,12 +94,12 @@ Fits t ts before after s (k, n) =
     (n ≤ length s) × Way t k before (after || has_more ts) (take n s) × MeansEach ts true after (drop n s)
 
 -- of all lengths that fit, n is the one by the best way, and by that way the longest or the shortest
-pub record IsChosen {A : Type 0} (t : Tree A) (ts : Trees A) (before after : Bool) (s : List ℕ) (n : ℕ) : Type 0
-  where
-    pub way : ℕ
-    pub fits : Fits t ts before after s (way, n)
-    pub first : (k m : ℕ) → Fits t ts before after s (k, m) → way ≤ k
-    pub best : (m : ℕ) → Fits t ts before after s (way, m) → Prefers (is_lazy t) n m
+pub record IsChosen {A : Type 0} (t : Tree A) (ts : Trees A) (before after : Bool) (s : List ℕ) (n : ℕ) :
+    Type 0 where
+  pub way : ℕ
+  pub fits : Fits t ts before after s (way, n)
+  pub first : (k m : ℕ) → Fits t ts before after s (k, m) → way ≤ k
+  pub best : (m : ℕ) → Fits t ts before after s (way, m) → Prefers (is_lazy t) n m
 
 -- the captures of the tokens, whose pieces are chosen from left to right
 abbrev pub Captured : {A : Type 0} → Trees A → Bool → Bool → List ℕ → List (List ℕ) → Type 0

@@ -24,7 +24,8 @@ fn choose_by(
 ) -> Result<Option<usize>, AllocError>
     requires within { at ≤ length text.now }
     requires next { length next.now ≡ length text.now + 1 }
-    ensures best { IfOk result (λ r. MatchOption r ((m : ℕ) → FitsIn form.now (drop at text.now) next.now at m → ⊥)
+    ensures best { IfOk result (λ r. MatchOption r
+        ((m : ℕ) → FitsIn form.now (drop at text.now) next.now at m → ⊥)
         (λ n. FitsIn form.now (drop at text.now) next.now at n
         × ((m : ℕ) → FitsIn form.now (drop at text.now) next.now at m → Prefers is_lazy n m))) }
     ensures above { visits.new ≤ visits.old + form_size form.now * (length text.now + 1) }

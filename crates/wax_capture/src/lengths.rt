@@ -3,7 +3,7 @@ ghost use Rattle.std.specs.Prelude.{◌≡◌, ◌⊎◌, ◌||◌, ◌+◌, ◌
 ghost use Rattle.wax_program.specs.Machine.{Accepts, Passes};
 ghost use Rattle.wax_token.specs.Meaning.{Begins, HasNoSlash, TreeMeans};
 ghost use Rattle.wax_capture.specs.Pieces.{IsLetter, SpelledBy, form_size, program_size};
-ghost use Rattle.wax_capture.specs.inner.Names.{end_of, least_of, marks_of, name_len};
+ghost use Rattle.wax_capture.specs.inner.Names.{name_end, least_of, marks_of, name_len};
 ghost use Rattle.wax_capture.specs.inner.Spans.{AreLengths, HasLengths, looks};
 
 use crate::form::Form;
@@ -149,7 +149,7 @@ fn least(before: bool, after: bool, has_root: bool) -> usize
 /// only 0 is left.
 fn end(is_bound: bool, begins: bool, rest: usize) -> usize
     requires { rest + 1 < 18446744073709551616 }
-    ensures { result ≡ end_of is_bound begins rest }
+    ensures { result ≡ name_end is_bound begins rest }
 {
     if is_bound && !begins { 1 } else { rest + 1 }
 }

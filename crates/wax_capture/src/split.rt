@@ -4,7 +4,7 @@ ghost use Rattle.std.specs.Prelude.{length, drop, take, false};
 ghost use Rattle.std.specs.List.{All};
 ghost use Rattle.wax_capture.specs.Captures.{tree_capture};
 ghost use Rattle.wax_capture.specs.Pieces.{captured_by};
-ghost use Rattle.wax_capture.specs.inner.Parts.{IsWithin, between, parts};
+ghost use Rattle.wax_capture.specs.inner.Parts.{IsWithin, part_between, parts};
 ghost use Rattle.wax_capture.specs.inner.Splits.{AreChosen, CapturedBy, Splits, all_sizes};
 
 use crate::piece::{Capture, Piece};
@@ -16,7 +16,7 @@ use std::alloc::{AllocError, Global};
 /// Where the part of `n` characters from `at` on ends, or `at` where it is one `/`.
 fn end_unless_slash(text: &[char], at: usize, n: usize) -> usize
     requires { at + n ≤ length text.now }
-    ensures part { between text.now (at, result) ≡ tree_capture false false (take n (drop at text.now)) }
+    ensures part { part_between text.now (at, result) ≡ tree_capture false false (take n (drop at text.now)) }
     ensures within { IsWithin text.now (at, result) }
 {
     if n == 1 && text[at] == '/' {
@@ -57,7 +57,8 @@ fn captures_of(
     lengths: &[usize],
 ) -> Result<Vec<(usize, usize)>, AllocError>
     requires { AreChosen pieces.now text.now lengths.now }
-    ensures captured { IfOk result (λ captures. CapturedBy pieces.now text.now (parts text.now captures.items)) }
+    ensures captured { IfOk result (λ captures.
+        CapturedBy pieces.now text.now (parts text.now captures.items)) }
     ensures within { IfOk result (λ captures. All (IsWithin text.now) captures.items) }
 {
     let mut captures = Vec::new(alloc);

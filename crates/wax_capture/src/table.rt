@@ -1,7 +1,7 @@
 //! How many characters each piece takes from each place of a text on.
 ghost use Rattle.std.specs.Prelude.{◌≡◌, ◌+◌, ◌*◌, ◌≤◌, ◌∷◌, [], ◌++◌, ℕ, List, IfOk, MatchOption, length};
 ghost use Rattle.wax_capture.specs.Pieces.{forms_of, size_of};
-ghost use Rattle.wax_capture.specs.inner.Rows.{AreRows, Row};
+ghost use Rattle.wax_capture.specs.inner.Rows.{ArePieceRows, Row};
 ghost use Rattle.wax_capture.specs.inner.Splits.{AreChosen, Splits, all_sizes};
 ghost use Rattle.wax_capture.specs.declared.piece.Piece.{Piece};
 
@@ -51,7 +51,7 @@ fn table(
     text: &[char],
     visits: &mut Visits,
 ) -> Result<Vec<Vec<Option<usize>>>, AllocError>
-    ensures rows { IfOk result (λ rows. AreRows pieces.now text.now rows.items) }
+    ensures rows { IfOk result (λ rows. ArePieceRows pieces.now text.now rows.items) }
     ensures len { IfOk result (λ rows. length rows.items ≡ length pieces.now + 1) }
     ensures above { visits.new
         ≤ visits.old + all_sizes pieces.now * ((length text.now + 1) * (length text.now + 1)) }

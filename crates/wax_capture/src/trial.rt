@@ -125,8 +125,8 @@ fn lengths(alloc: Global, frames: &[Frame], last: usize) -> Result<Vec<usize>, A
     Ok(lengths)
 }
 
-/// The lengths of the pieces by the chosen split. The first length that wasn't tried is taken for each piece in
-/// turn, and where there is none, the piece before it has to take another. It gives up once the meter has
+/// The lengths of the pieces by the chosen split. The first length that wasn't tried is taken for each piece
+/// in turn, and where there is none, the piece before it has to take another. It gives up once the meter has
 /// counted `limit`.
 pub fn split_by_trial(
     alloc: Global,

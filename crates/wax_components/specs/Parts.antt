@@ -58,12 +58,12 @@ joint_span [] = (0, 0)
 joint_span (t ∷ ts) = fold (λ s u. span_union s (annotation_of u)) (annotation_of t) ts
 
 -- what literals spell together
-abbrev pub text_of : {A : Type 0} → List (Tree A) → List ℕ
-text_of ts = flat_map literal_text ts
+abbrev pub literals_text : {A : Type 0} → List (Tree A) → List ℕ
+literals_text ts = flat_map literal_text ts
 
 -- a component with its text, if it is of literals alone
 abbrev pub with_text : {A : Type 0} → List (Tree A) → List (List (Tree A) × List ℕ)
-with_text ts = if list_all is_literal ts then (ts, text_of ts) ∷ [] else []
+with_text ts = if list_all is_literal ts then (ts, literals_text ts) ∷ [] else []
 
 -- `.` or `..`
 abbrev pub is_semantic : List ℕ → Bool

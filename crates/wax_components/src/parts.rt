@@ -3,7 +3,7 @@ ghost use Rattle.std.specs.Prelude.{◌≡◌, All, IfOk, MatchOption, if◌then
 ghost use Rattle.std.specs.Prelude.{chars, fold, string_bytes};
 ghost use Rattle.std.specs.List.{list_all, position_or_len};
 ghost use Rattle.wax_components.specs.Parts.{IsComponent, components, components_in, is_semantic, joint_span};
-ghost use Rattle.wax_components.specs.Parts.{text_of};
+ghost use Rattle.wax_components.specs.Parts.{literals_text};
 ghost use Rattle.wax_components.specs.inner.Dots.{dot_after, dots_of};
 ghost use Rattle.wax_components.specs.TopLevel.{tokens_of};
 ghost use Rattle.wax_token.specs.Kinds.{is_boundary, is_literal};
@@ -60,7 +60,7 @@ impl<'i, 't, A> Component<'i, 't, A> {
 
     /// Its literals, if all its tokens are literals. Takes no memory.
     pub fn literal(&self) -> Option<LiteralSequence<'i, 't, A>>
-        ensures { result ≡ (if list_all is_literal self.now then Some (text_of self.now) else None) }
+        ensures { result ≡ (if list_all is_literal self.now then Some (literals_text self.now) else None) }
     {
         for token in self.tokens {
             if !token.is_literal() {
@@ -97,11 +97,11 @@ pub struct LiteralSequence<'i, 't, A> {
 
 impl<'i, 't, A> Model for LiteralSequence<'i, 't, A> {
     ghost use Rattle.std.specs.Prelude.{List, ℕ};
-    ghost use Rattle.wax_components.specs.Parts.{text_of};
+    ghost use Rattle.wax_components.specs.Parts.{literals_text};
 
     ghost Value = { List ℕ };
 
-    ghost view = { λ s. text_of s.tokens.now };
+    ghost view = { λ s. literals_text s.tokens.now };
 }
 
 impl<'i, 't, A> LiteralSequence<'i, 't, A> {

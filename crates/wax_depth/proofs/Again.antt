@@ -3,7 +3,7 @@ use Rattle.std.proofs.Common.{◌*◌, ◌++◌, ◌∙◌, ◌≡◌, ◌≤◌
 use Rattle.std.proofs.Common.{sym, zero}
 use Rattle.wax_query.specs.Components.{slashes}
 use Rattle.wax_token.proofs.Copies.{Many, many_add}
-use Rattle.wax_depth.specs.inner.Shapes.{Shape, empty, ended, join, shape}
+use Rattle.wax_depth.specs.inner.Shapes.{Shape, empty, ended, joined_shape, shape}
 use Rattle.wax_depth.proofs.Basics.{suc_mul}
 use Rattle.wax_depth.proofs.Shapes.{shape_append, slashes_append}
 
@@ -16,14 +16,14 @@ unfolding again
 again_slashes zero w le = omega arith
 again_slashes (suc m) w le = omega (arith, le, slashes_append w (again m w), again_slashes m w le)
 
-twice_same : (x : Shape) → (x ≡ empty → ⊥) → join x x ≡ x
+twice_same : (x : Shape) → (x ≡ empty → ⊥) → joined_shape x x ≡ x
 twice_same empty h = absurd (h refl)
 twice_same (ended x y) h = refl
 
 pub again_shape : (m : ℕ) (w : List ℕ) → (shape w ≡ empty → ⊥) → shape (again (suc m) w) ≡ shape w
 unfolding again
 again_shape zero w h = ap shape (append-nil w)
-again_shape (suc m) w h = shape_append w (again (suc m) w) ∙ ap (join (shape w)) (again_shape m w h) ∙ twice_same (shape w) h
+again_shape (suc m) w h = shape_append w (again (suc m) w) ∙ ap (joined_shape (shape w)) (again_shape m w h) ∙ twice_same (shape w) h
 
 pub again_many : (P : List ℕ → Type 0) (k m : ℕ) (w : List ℕ) → Many P k w → Many P (m * k) (again m w)
 unfolding again

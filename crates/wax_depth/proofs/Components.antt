@@ -6,7 +6,7 @@ use Rattle.wax_token.specs.Syntax.{Tree}
 use Rattle.wax_depth.specs.Depth.{Depth, HasComponents, IsGreatest}
 use Rattle.wax_depth.specs.declared.profile.Profile.{Profile}
 use Rattle.wax_depth.specs.inner.Intervals.{Interval, hull, or_zero}
-use Rattle.wax_depth.specs.inner.Shapes.{Shape, empty, ended, join, shape}
+use Rattle.wax_depth.specs.inner.Shapes.{Shape, empty, ended, joined_shape, shape}
 use Rattle.wax_depth.specs.inner.TreeProfiles.{component_bound, component_count, component_hull}
 use Rattle.wax_depth.specs.inner.TreeProfiles.{component_interval, tree_profile}
 use Rattle.wax_depth.proofs.Exact.{Exact, Has}
@@ -18,14 +18,14 @@ first_is : (c : ℕ) (s : List ℕ) (x y : Bool) → shape (c ∷ s) ≡ ended x
 first_is c [] x y e = let f : (c == 47) ≡ x = cc in ap (λ b. if b then 1 else 0) f
 first_is c (d ∷ s) x y e =
     let r : (x : Bool) × (y : Bool) × (shape (d ∷ s) ≡ ended x y) = shape_of_some d s in
-    let f : ended (c == 47) r.1 ≡ ended x y = sym (ap (λ z. join (ended (c == 47) (c == 47)) z) r.2) ∙ e in
+    let f : ended (c == 47) r.1 ≡ ended x y = sym (ap (λ z. joined_shape (ended (c == 47) (c == 47)) z) r.2) ∙ e in
     let g : (c == 47) ≡ x = cc in ap (λ b. if b then 1 else 0) g
 
 last_is : (c : ℕ) (s : List ℕ) (x y : Bool) → shape (c ∷ s) ≡ ended x y → last_slash (c ∷ s) ≡ (if y then 1 else 0)
 last_is c [] x y e = let f : (c == 47) ≡ y = cc in ap (λ b. if b then 1 else 0) f
 last_is c (d ∷ s) x y e =
     let r : (x : Bool) × (y : Bool) × (shape (d ∷ s) ≡ ended x y) = shape_of_some d s in
-    let f : ended (c == 47) r.1 ≡ ended x y = sym (ap (λ z. join (ended (c == 47) (c == 47)) z) r.2) ∙ e in
+    let f : ended (c == 47) r.1 ≡ ended x y = sym (ap (λ z. joined_shape (ended (c == 47) (c == 47)) z) r.2) ∙ e in
     let g : r.1 ≡ y = cc in
     last_is d s r.0 y (r.2 ∙ ap (λ z. ended r.0 z) g)
 

@@ -6,10 +6,10 @@ use Rattle.wax_token.specs.Syntax.{Tree}
 use Rattle.wax_token.specs.Words.{trees}
 use Rattle.wax_depth.specs.declared.profile.Profile.{Profile}
 use Rattle.wax_depth.specs.declared.profiles.Profiles.{Profiles}
-use Rattle.wax_depth.specs.inner.Profiles.{at, concatenated, empty_text, only, power_range, single, union}
+use Rattle.wax_depth.specs.inner.Profiles.{concatenated, empty_text, only, power_range, single, union}
 use Rattle.wax_depth.specs.inner.Saturation.{ProfilesOf, either_profile, in_context, profiles, saturated}
 use Rattle.wax_depth.specs.inner.Saturation.{saturated_beside, saturated_repeated}
-use Rattle.wax_depth.specs.inner.Shapes.{Shape, empty, ended, join, shape}
+use Rattle.wax_depth.specs.inner.Shapes.{Shape, empty, ended, joined_shape, shape}
 use Rattle.wax_depth.specs.inner.TreeProfiles.{admits, admits_two, each_profile, less_two, repeated_profile}
 use Rattle.wax_depth.specs.inner.TreeProfiles.{some_profile, tree_profile, two_or_more}
 use Rattle.wax_depth.proofs.Saturation.{Close, concatenated_close, only_close, power_range_close}
@@ -56,7 +56,7 @@ module _ (body : Profiles) (low : ℕ) (high : Option ℕ) where
       (only_close (admits_two low high) (many b a) (two_or_more (low - 2) (less_two high) f b a) (many_close f h b a))))
 
 -- ---- texts
-pub single_concatenated : (a b : Shape) (m n : ℕ) → concatenated (single a m) (single b n) ≡ single (join a b) (m + n)
+pub single_concatenated : (a b : Shape) (m n : ℕ) → concatenated (single a m) (single b n) ≡ single (joined_shape a b) (m + n)
 single_concatenated empty empty m n = refl
 single_concatenated empty (ended false false) m n = refl
 single_concatenated empty (ended false true) m n = refl

@@ -5,9 +5,9 @@ use Rattle.wax_query.specs.Components.{slashes}
 use Rattle.wax_token.proofs.Copies.{OneThen}
 use Rattle.wax_depth.specs.declared.profile.Profile.{Profile}
 use Rattle.wax_depth.specs.inner.Intervals.{Interval, hull, interval_sum}
-use Rattle.wax_depth.specs.inner.Profiles.{at, concatenated, concatenated_at, empty_text, no_text, profile}
+use Rattle.wax_depth.specs.inner.Profiles.{interval_at, concatenated, concatenated_at, empty_text, no_text, profile}
 use Rattle.wax_depth.specs.inner.Profiles.{union}
-use Rattle.wax_depth.specs.inner.Shapes.{Shape, empty, ended, join, shape}
+use Rattle.wax_depth.specs.inner.Shapes.{Shape, empty, ended, joined_shape, shape}
 use Rattle.wax_depth.proofs.Hulls.{IsHull, Plus, hull_same, hull_sum, hull_union}
 use Rattle.wax_depth.proofs.Shapes.{both_empty, joined_from, not_ended, shape_append, slashes_append}
 
@@ -16,12 +16,12 @@ abbrev pub Has : (List ℕ → Type 0) → Shape → ℕ → Type 0
 Has P a n = (s : List ℕ) × P s × (shape s ≡ a) × (slashes s ≡ n)
 
 pub record Exact (r : Profile) (P : List ℕ → Type 0) : Type 0 where
-  pub hulls : (a : Shape) → IsHull (at r a) (Has P a)
+  pub hulls : (a : Shape) → IsHull (interval_at r a) (Has P a)
 
 pub by_shape : (f : Shape → Interval) (P : List ℕ → Type 0) → ((a : Shape) → IsHull (f a) (Has P a)) → Exact (profile f) P
 by_shape f P h = record { hulls = each }
   where
-    each : (a : Shape) → IsHull (at (profile f) a) (Has P a)
+    each : (a : Shape) → IsHull (interval_at (profile f) a) (Has P a)
     each empty = h empty
     each (ended false false) = h (ended false false)
     each (ended false true) = h (ended false true)
@@ -30,7 +30,7 @@ by_shape f P h = record { hulls = each }
 
 pub exact_same : {r : Profile} {P Q : List ℕ → Type 0} → ((s : List ℕ) → P s → Q s) → ((s : List ℕ) → Q s → P s) → Exact r P → Exact r Q
 exact_same {r} {P} {Q} to from f = record {
-  hulls = λ a. hull_same (Has P a) (Has Q a) (λ n h. (h.0, to h.0 h.1, h.2, h.3)) (λ n h. (h.0, from h.0 h.1, h.2, h.3)) (at r a) (f.hulls a);
+  hulls = λ a. hull_same (Has P a) (Has Q a) (λ n h. (h.0, to h.0 h.1, h.2, h.3)) (λ n h. (h.0, from h.0 h.1, h.2, h.3)) (interval_at r a) (f.hulls a);
 }
 
 pub exact_no_text : Exact no_text (λ s. ⊥)
@@ -42,7 +42,7 @@ exact_empty_text = record { hulls = each }
     out : (x y : Bool) (n : ℕ) → Has (λ s. s ≡ []) (ended x y) n → ⊥
     out x y n h = not_ended x y (sym (ap shape h.1) ∙ h.2)
 
-    each : (a : Shape) → IsHull (at empty_text a) (Has (λ s. s ≡ []) a)
+    each : (a : Shape) → IsHull (interval_at empty_text a) (Has (λ s. s ≡ []) a)
     each empty = ((([], refl, refl, refl), λ n h. omega arith), (([], refl, refl, refl), λ n h. let e : slashes h.0 ≡ 0 = ap slashes h.1 in omega (arith, e, h.3)))
     each (ended false false) = out false false
     each (ended false true) = out false true
@@ -51,7 +51,7 @@ exact_empty_text = record { hulls = each }
 
 module _ {r q : Profile} {P Q : List ℕ → Type 0} (f : Exact r P) (g : Exact q Q) where
   pub exact_union : Exact (union r q) (λ s. P s ⊎ Q s)
-  exact_union = by_shape (λ a. hull (at r a) (at q a)) (λ s. P s ⊎ Q s) (λ a. hull_same (λ n. Has P a n ⊎ Has Q a n) (Has (λ s. P s ⊎ Q s) a) (to a) (from a) (hull (at r a) (at q a)) (hull_union (Has P a) (Has Q a) (at r a) (at q a) (f.hulls a) (g.hulls a)))
+  exact_union = by_shape (λ a. hull (interval_at r a) (interval_at q a)) (λ s. P s ⊎ Q s) (λ a. hull_same (λ n. Has P a n ⊎ Has Q a n) (Has (λ s. P s ⊎ Q s) a) (to a) (from a) (hull (interval_at r a) (interval_at q a)) (hull_union (Has P a) (Has Q a) (interval_at r a) (interval_at q a) (f.hulls a) (g.hulls a)))
     where
       to : (a : Shape) (n : ℕ) → Has P a n ⊎ Has Q a n → Has (λ s. P s ⊎ Q s) a n
       to a n (inl h) = (h.0, inl h.1, h.2, h.3)
@@ -61,13 +61,13 @@ module _ {r q : Profile} {P Q : List ℕ → Type 0} (f : Exact r P) (g : Exact 
       from a n h = elim h.1 [ inl p ↦ inl (h.0, p, h.2, h.3) | inr p ↦ inr (h.0, p, h.2, h.3) ]
 
   -- two texts, one after another
-  together : (a b c : Shape) (n : ℕ) → join a b ≡ c → Plus (Has P a) (Has Q b) n → Has (OneThen P Q) c n
+  together : (a b c : Shape) (n : ℕ) → joined_shape a b ≡ c → Plus (Has P a) (Has Q b) n → Has (OneThen P Q) c n
   together a b c n e h =
       let x : List ℕ = h.2.0 in
       let y : List ℕ = h.3.0 in (
         x ++ y,
         (x, y, refl, h.2.1, h.3.1),
-        shape_append x y ∙ ap (λ z. join z (shape y)) h.2.2 ∙ ap (λ z. join a z) h.3.2 ∙ e,
+        shape_append x y ∙ ap (λ z. joined_shape z (shape y)) h.2.2 ∙ ap (λ z. joined_shape a z) h.3.2 ∙ e,
         (let k : slashes (x ++ y) ≡ slashes x + slashes y = slashes_append x y in omega (arith, k, h.2.3, h.3.3, h.4)),
       )
 
@@ -126,31 +126,31 @@ module _ {r q : Profile} {P Q : List ℕ → Type 0} (f : Exact r P) (g : Exact 
 
   module _ (x y : Bool) where
     abbrev before : Interval
-    before = hull (at r (ended x false)) (at r (ended x true))
+    before = hull (interval_at r (ended x false)) (interval_at r (ended x true))
 
     abbrev behind : Interval
-    behind = hull (at q (ended false y)) (at q (ended true y))
+    behind = hull (interval_at q (ended false y)) (interval_at q (ended true y))
 
     ends_hull : IsHull (interval_sum before behind) (Plus (Begin x) (End y))
     ends_hull = hull_sum (Begin x) (End y) before behind
-        (hull_union (Has P (ended x false)) (Has P (ended x true)) (at r (ended x false)) (at r (ended x true)) (f.hulls (ended x false)) (f.hulls (ended x true)))
-        (hull_union (Has Q (ended false y)) (Has Q (ended true y)) (at q (ended false y)) (at q (ended true y)) (g.hulls (ended false y)) (g.hulls (ended true y)))
+        (hull_union (Has P (ended x false)) (Has P (ended x true)) (interval_at r (ended x false)) (interval_at r (ended x true)) (f.hulls (ended x false)) (f.hulls (ended x true)))
+        (hull_union (Has Q (ended false y)) (Has Q (ended true y)) (interval_at q (ended false y)) (interval_at q (ended true y)) (g.hulls (ended false y)) (g.hulls (ended true y)))
 
-    first_hull : IsHull (interval_sum (at r empty) (at q (ended x y))) (Plus (Has P empty) (Has Q (ended x y)))
-    first_hull = hull_sum (Has P empty) (Has Q (ended x y)) (at r empty) (at q (ended x y)) (f.hulls empty) (g.hulls (ended x y))
+    first_hull : IsHull (interval_sum (interval_at r empty) (interval_at q (ended x y))) (Plus (Has P empty) (Has Q (ended x y)))
+    first_hull = hull_sum (Has P empty) (Has Q (ended x y)) (interval_at r empty) (interval_at q (ended x y)) (f.hulls empty) (g.hulls (ended x y))
 
-    second_hull : IsHull (interval_sum (at r (ended x y)) (at q empty)) (Plus (Has P (ended x y)) (Has Q empty))
-    second_hull = hull_sum (Has P (ended x y)) (Has Q empty) (at r (ended x y)) (at q empty) (f.hulls (ended x y)) (g.hulls empty)
+    second_hull : IsHull (interval_sum (interval_at r (ended x y)) (interval_at q empty)) (Plus (Has P (ended x y)) (Has Q empty))
+    second_hull = hull_sum (Has P (ended x y)) (Has Q empty) (interval_at r (ended x y)) (interval_at q empty) (f.hulls (ended x y)) (g.hulls empty)
 
     ways_hull : IsHull (concatenated_at r q (ended x y)) (Ways x y)
     ways_hull =
         hull_union (Plus (Has P empty) (Has Q (ended x y))) (λ n. Plus (Has P (ended x y)) (Has Q empty) n ⊎ Plus (Begin x) (End y) n)
-        (interval_sum (at r empty) (at q (ended x y))) (hull (interval_sum (at r (ended x y)) (at q empty)) (interval_sum before behind)) first_hull
-        (hull_union (Plus (Has P (ended x y)) (Has Q empty)) (Plus (Begin x) (End y)) (interval_sum (at r (ended x y)) (at q empty)) (interval_sum before behind) second_hull ends_hull)
+        (interval_sum (interval_at r empty) (interval_at q (ended x y))) (hull (interval_sum (interval_at r (ended x y)) (interval_at q empty)) (interval_sum before behind)) first_hull
+        (hull_union (Plus (Has P (ended x y)) (Has Q empty)) (Plus (Begin x) (End y)) (interval_sum (interval_at r (ended x y)) (interval_at q empty)) (interval_sum before behind) second_hull ends_hull)
 
   concatenated_hull : (a : Shape) → IsHull (concatenated_at r q a) (Has (OneThen P Q) a)
-  concatenated_hull empty = hull_same (Plus (Has P empty) (Has Q empty)) (Has (OneThen P Q) empty) (λ n h. together empty empty empty n refl h) none_from (interval_sum (at r empty) (at q empty))
-      (hull_sum (Has P empty) (Has Q empty) (at r empty) (at q empty) (f.hulls empty) (g.hulls empty))
+  concatenated_hull empty = hull_same (Plus (Has P empty) (Has Q empty)) (Has (OneThen P Q) empty) (λ n h. together empty empty empty n refl h) none_from (interval_sum (interval_at r empty) (interval_at q empty))
+      (hull_sum (Has P empty) (Has Q empty) (interval_at r empty) (interval_at q empty) (f.hulls empty) (g.hulls empty))
   concatenated_hull (ended x y) = hull_same (Ways x y) (Has (OneThen P Q) (ended x y)) (ways_to x y) (ways_from x y) (concatenated_at r q (ended x y)) (ways_hull x y)
 
   pub exact_concatenated : Exact (concatenated r q) (OneThen P Q)

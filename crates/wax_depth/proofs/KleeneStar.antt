@@ -7,9 +7,9 @@ use Rattle.wax_query.specs.Components.{slashes}
 use Rattle.wax_token.proofs.Copies.{AnyNumber, Many, OneThen, many_add}
 use Rattle.wax_depth.specs.declared.profile.Profile.{Profile}
 use Rattle.wax_depth.specs.inner.Intervals.{Interval, exceeds_zero, unbounded}
-use Rattle.wax_depth.specs.inner.Profiles.{at, concatenated, empty_text, has_slash, kleene_star}
+use Rattle.wax_depth.specs.inner.Profiles.{interval_at, concatenated, empty_text, has_slash, kleene_star}
 use Rattle.wax_depth.specs.inner.Profiles.{unbounded_profile, union}
-use Rattle.wax_depth.specs.inner.Shapes.{Shape, empty, ended, join, shape}
+use Rattle.wax_depth.specs.inner.Shapes.{Shape, empty, ended, joined_shape, shape}
 use Rattle.wax_depth.proofs.Again.{again, again_many, again_slashes}
 use Rattle.wax_depth.proofs.Basics.{either}
 use Rattle.wax_depth.proofs.Exact.{Exact, Has, exact_concatenated, exact_empty_text, exact_union}
@@ -33,7 +33,7 @@ module _ {r : Profile} {P : List ℕ → Type 0} (f : Exact r P) where
   fewer_step x y u [] p a b e le = (
     x ++ u,
     (x, u, refl, inr p, a),
-    shape_append x u ∙ ap (λ z. join (shape x) z) (ap shape (sym (append-nil u)) ∙ e) ∙ sym (shape_append x y),
+    shape_append x u ∙ ap (λ z. joined_shape (shape x) z) (ap shape (sym (append-nil u)) ∙ e) ∙ sym (shape_append x y),
     (let g : slashes (u ++ []) ≡ slashes u = ap slashes (append-nil u) in omega (arith, le, g, slashes_append x u, slashes_append x y)),
   )
   fewer_step [] y u (d ∷ v) p a b e le = (u ++ d ∷ v, (u, d ∷ v, refl, a, b), e, le)
@@ -42,8 +42,8 @@ module _ {r : Profile} {P : List ℕ → Type 0} (f : Exact r P) where
       let n : (x' : Bool) × (y' : Bool) × (shape (d ∷ v) ≡ ended x' y') = shape_of_some d v in (
         (c ∷ x) ++ d ∷ v,
         (c ∷ x, d ∷ v, refl, inr p, b),
-        shape_append (c ∷ x) (d ∷ v) ∙ ap (λ z. join z (shape (d ∷ v))) m.2 ∙ ap (λ z. join (ended m.0 m.1) z) n.2
-            ∙ sym (shape_append (c ∷ x) y ∙ ap (λ z. join z (shape y)) m.2 ∙ ap (λ z. join (ended m.0 m.1) z) (sym e ∙ shape_append u (d ∷ v) ∙ ap (λ z. join (shape u) z) n.2) ∙ between_ends m.0 m.1 n.0 n.1 (shape u)),
+        shape_append (c ∷ x) (d ∷ v) ∙ ap (λ z. joined_shape z (shape (d ∷ v))) m.2 ∙ ap (λ z. joined_shape (ended m.0 m.1) z) n.2
+            ∙ sym (shape_append (c ∷ x) y ∙ ap (λ z. joined_shape z (shape y)) m.2 ∙ ap (λ z. joined_shape (ended m.0 m.1) z) (sym e ∙ shape_append u (d ∷ v) ∙ ap (λ z. joined_shape (shape u) z) n.2) ∙ between_ends m.0 m.1 n.0 n.1 (shape u)),
         omega (arith, le, slashes_append u (d ∷ v), slashes_append (c ∷ x) (d ∷ v), slashes_append (c ∷ x) y),
       )
 
@@ -76,14 +76,14 @@ module _ {r : Profile} {P : List ℕ → Type 0} (f : Exact r P) where
   zero_hull (Some (low, Some zero)) X e h n x = let le : n ≤ 0 = h.1.1 n x in omega (arith, le)
   zero_hull (Some (low, Some (suc m))) X e h n x = absurd (let g : ⊥ = cc in g)
 
-  no_slash_at : has_slash r ≡ false → (x y : Bool) → exceeds_zero (at r (ended x y)) ≡ false
+  no_slash_at : has_slash r ≡ false → (x y : Bool) → exceeds_zero (interval_at r (ended x y)) ≡ false
   no_slash_at e x y =
       let a : (exceeds_zero r.bare ≡ false) × ((exceeds_zero r.ending || (exceeds_zero r.beginning || exceeds_zero r.enclosed)) ≡ false) = or_parts (exceeds_zero r.bare) (exceeds_zero r.ending || (exceeds_zero r.beginning || exceeds_zero r.enclosed)) e in
       let b : (exceeds_zero r.ending ≡ false) × ((exceeds_zero r.beginning || exceeds_zero r.enclosed) ≡ false) = or_parts (exceeds_zero r.ending) (exceeds_zero r.beginning || exceeds_zero r.enclosed) a.1 in
       let c : (exceeds_zero r.beginning ≡ false) × (exceeds_zero r.enclosed ≡ false) = or_parts (exceeds_zero r.beginning) (exceeds_zero r.enclosed) b.1 in
       each a.0 b.0 c.0 c.1 x y
     where
-      each : exceeds_zero r.bare ≡ false → exceeds_zero r.ending ≡ false → exceeds_zero r.beginning ≡ false → exceeds_zero r.enclosed ≡ false → (x y : Bool) → exceeds_zero (at r (ended x y)) ≡ false
+      each : exceeds_zero r.bare ≡ false → exceeds_zero r.ending ≡ false → exceeds_zero r.beginning ≡ false → exceeds_zero r.enclosed ≡ false → (x y : Bool) → exceeds_zero (interval_at r (ended x y)) ≡ false
       each a b c d false false = a
       each a b c d false true = b
       each a b c d true false = c
@@ -93,7 +93,7 @@ module _ {r : Profile} {P : List ℕ → Type 0} (f : Exact r P) where
   none_has e [] p = refl
   none_has e (c ∷ s) p =
       let k : (x : Bool) × (y : Bool) × (shape (c ∷ s) ≡ ended x y) = shape_of_some c s in
-      zero_hull (at r (ended k.0 k.1)) (Has P (ended k.0 k.1)) (no_slash_at e k.0 k.1) (f.hulls (ended k.0 k.1)) (slashes (c ∷ s)) (c ∷ s, p, k.2, refl)
+      zero_hull (interval_at r (ended k.0 k.1)) (Has P (ended k.0 k.1)) (no_slash_at e k.0 k.1) (f.hulls (ended k.0 k.1)) (slashes (c ∷ s)) (c ∷ s, p, k.2, refl)
 
   none_have : has_slash r ≡ false → (k : ℕ) (s : List ℕ) → Many P k s → slashes s ≡ 0
   none_have e zero s h = ap slashes h
@@ -128,8 +128,8 @@ module _ {r : Profile} {P : List ℕ → Type 0} (f : Exact r P) where
 
   surrounded : (x y : Bool) (u m : List ℕ) → shape u ≡ ended x y → shape (u ++ (m ++ u)) ≡ ended x y
   surrounded x y u m e =
-      shape_append u (m ++ u) ∙ ap (λ z. join (shape u) z) (shape_append m u) ∙ ap (λ z. join z (join (shape m) (shape u))) e
-      ∙ ap (λ z. join (ended x y) (join (shape m) z)) e ∙ between_ends x y x y (shape m)
+      shape_append u (m ++ u) ∙ ap (λ z. joined_shape (shape u) z) (shape_append m u) ∙ ap (λ z. joined_shape z (joined_shape (shape m) (shape u))) e
+      ∙ ap (λ z. joined_shape (ended x y) (joined_shape (shape m) z)) e ∙ between_ends x y x y (shape m)
 
   unbounded_hull : WithSlash → (x y : Bool) (d : Interval) → IsHull d (Has (OneThen (OrNone P) (OrNone P)) (ended x y)) → IsHull (unbounded d) (Has (AnyNumber P) (ended x y))
   unbounded_hull w x y None h = λ n g. let k : Fewer g.0 = fewer g.1.0 g.0 g.1.1 in h (slashes k.0) (k.0, k.1, k.2 ∙ g.2, refl)
@@ -155,12 +155,12 @@ module _ {r : Profile} {P : List ℕ → Type 0} (f : Exact r P) where
   pub exact_kleene_star : Exact (kleene_star r) (AnyNumber P)
   exact_kleene_star = elim (has_slash r) as (λ b. has_slash r ≡ b → Exact (if b then unbounded_profile twice else twice) (AnyNumber P)) [
     | true ↦ λ e. record { hulls = each (with_slash e) }
-    | false ↦ λ e. record { hulls = λ a. hull_same (Has (OneThen (OrNone P) (OrNone P)) a) (Has (AnyNumber P) a) (two_to a) (none_from e a) (at twice a) (exact_twice.hulls a) }
+    | false ↦ λ e. record { hulls = λ a. hull_same (Has (OneThen (OrNone P) (OrNone P)) a) (Has (AnyNumber P) a) (two_to a) (none_from e a) (interval_at twice a) (exact_twice.hulls a) }
   ] refl
     where
-      each : WithSlash → (a : Shape) → IsHull (at (unbounded_profile twice) a) (Has (AnyNumber P) a)
-      each w empty = hull_same (Has (OneThen (OrNone P) (OrNone P)) empty) (Has (AnyNumber P) empty) (two_to empty) empty_from (at twice empty) (exact_twice.hulls empty)
-      each w (ended false false) = unbounded_hull w false false (at twice (ended false false)) (exact_twice.hulls (ended false false))
-      each w (ended false true) = unbounded_hull w false true (at twice (ended false true)) (exact_twice.hulls (ended false true))
-      each w (ended true false) = unbounded_hull w true false (at twice (ended true false)) (exact_twice.hulls (ended true false))
-      each w (ended true true) = unbounded_hull w true true (at twice (ended true true)) (exact_twice.hulls (ended true true))
+      each : WithSlash → (a : Shape) → IsHull (interval_at (unbounded_profile twice) a) (Has (AnyNumber P) a)
+      each w empty = hull_same (Has (OneThen (OrNone P) (OrNone P)) empty) (Has (AnyNumber P) empty) (two_to empty) empty_from (interval_at twice empty) (exact_twice.hulls empty)
+      each w (ended false false) = unbounded_hull w false false (interval_at twice (ended false false)) (exact_twice.hulls (ended false false))
+      each w (ended false true) = unbounded_hull w false true (interval_at twice (ended false true)) (exact_twice.hulls (ended false true))
+      each w (ended true false) = unbounded_hull w true false (interval_at twice (ended true false)) (exact_twice.hulls (ended true false))
+      each w (ended true true) = unbounded_hull w true true (interval_at twice (ended true true)) (exact_twice.hulls (ended true true))

@@ -3,7 +3,7 @@ use Rattle.std.proofs.Common.{if◌then◌else◌, ◌+◌, ◌==◌, ◌∙◌,
 use Rattle.std.proofs.Common.{subst, sym, true}
 use Rattle.wax_query.specs.Components.{slash, slashes}
 use Rattle.wax_token.specs.Meaning.{SameFold, SameText}
-use Rattle.wax_depth.specs.inner.Shapes.{ended, join, shape}
+use Rattle.wax_depth.specs.inner.Shapes.{ended, joined_shape, shape}
 use Rattle.wax_depth.proofs.Basics.{is_slash}
 use Rattle.wax_depth.proofs.Slash.{alone_slash, slash_alone}
 
@@ -40,7 +40,7 @@ same_text b (c ∷ e ∷ t) (d ∷ []) h = shorter b (onward b c d (e ∷ t) [] 
 same_text b (c ∷ e ∷ t) (d ∷ f ∷ s) h =
     let g : (d == 47) ≡ (c == 47) = alike b c d (e ∷ t) (f ∷ s) h in
     let r : (shape (f ∷ s) ≡ shape (e ∷ t)) × (slashes (f ∷ s) ≡ slashes (e ∷ t)) = same_text b (e ∷ t) (f ∷ s) (onward b c d (e ∷ t) (f ∷ s) h) in
-    (ap (λ z. join (ended z z) (shape (f ∷ s))) g ∙ ap (λ z. join (ended (c == 47) (c == 47)) z) r.0, ap (λ z. (if z then 1 else 0) + slashes (f ∷ s)) g ∙ ap (λ z. slash c + z) r.1)
+    (ap (λ z. joined_shape (ended z z) (shape (f ∷ s))) g ∙ ap (λ z. joined_shape (ended (c == 47) (c == 47)) z) r.0, ap (λ z. (if z then 1 else 0) + slashes (f ∷ s)) g ∙ ap (λ z. slash c + z) r.1)
 
 pub itself : (insensitive : Bool) (t : List ℕ) → SameText insensitive t t
 unfolding SameFold

@@ -11,7 +11,7 @@ use Rattle.wax_token.specs.Meaning.{AtMost, Copies, LeafMeans, Means, MeansEach,
 use Rattle.wax_token.specs.Syntax.{Leaf, Tree, Trees, alternation, class, concatenation, leaf, literal, more}
 use Rattle.wax_token.specs.Syntax.{none, one, repetition, separator, tree, zero_or_more}
 use Rattle.wax_depth.specs.Depth.{Depth, HasComponents, thinned, thinned_each, thinned_leaf}
-use Rattle.wax_depth.specs.inner.Shapes.{Shape, ended, join, shape}
+use Rattle.wax_depth.specs.inner.Shapes.{Shape, ended, joined_shape, shape}
 use Rattle.wax_depth.specs.inner.TreeProfiles.{tree_allows}
 use Rattle.wax_depth.proofs.Again.{again, again_many, again_shape, again_slashes}
 use Rattle.wax_depth.proofs.Basics.{bit_at_most, suc_mul, zero_or_some}
@@ -35,10 +35,10 @@ few_or_pumps_join : (P Q : List ℕ → Type 0) (m n : ℕ) (x y s : List ℕ) �
 few_or_pumps_join P Q m n x y s e p q (inl h) (inl k) = inl (let g : slashes s ≡ slashes (x ++ y) = ap slashes e in omega (arith, g, slashes_append x y, h, k))
 few_or_pumps_join P Q m n x y s e p q (inr h) k = inr (λ j.
     let r : (u : List ℕ) × P u × (shape u ≡ shape x) × (j ≤ slashes u) = h j in
-    (r.0 ++ y, (r.0, y, refl, r.1, q), shape_append r.0 y ∙ ap (λ z. join z (shape y)) r.2 ∙ sym (shape_append x y) ∙ sym (ap shape e), omega (arith, slashes_append r.0 y, r.3)))
+    (r.0 ++ y, (r.0, y, refl, r.1, q), shape_append r.0 y ∙ ap (λ z. joined_shape z (shape y)) r.2 ∙ sym (shape_append x y) ∙ sym (ap shape e), omega (arith, slashes_append r.0 y, r.3)))
 few_or_pumps_join P Q m n x y s e p q (inl h) (inr k) = inr (λ j.
     let r : (u : List ℕ) × Q u × (shape u ≡ shape y) × (j ≤ slashes u) = k j in
-    (x ++ r.0, (x, r.0, refl, p, r.1), shape_append x r.0 ∙ ap (join (shape x)) r.2 ∙ sym (shape_append x y) ∙ sym (ap shape e), omega (arith, slashes_append x r.0, r.3)))
+    (x ++ r.0, (x, r.0, refl, p, r.1), shape_append x r.0 ∙ ap (joined_shape (shape x)) r.2 ∙ sym (shape_append x y) ∙ sym (ap shape e), omega (arith, slashes_append x r.0, r.3)))
 
 -- ---- leaves
 few_or_pumps_wildcard : (b a rooted : Bool) (s : List ℕ) → TreeMeans b a rooted s → FewOrPumps (TreeMeans b a rooted) 6 s
@@ -87,7 +87,7 @@ module _ (Body : Bool → Bool → List ℕ → Type 0) (n : ℕ) (f : (b a : Bo
         let g : shape v ≡ shape r.0 = again_shape m r.0 (some_shape r.0 e) in (
           h.0 ++ (v ++ r.1),
           (suc (suc (suc m * k)), omega (arith, le, j), tt, (h.0, v ++ r.1, refl, h.3, tail_from Body (suc m * k) a (v ++ r.1) (v, r.1, refl, again_many (Body true true) k (suc m) r.0 r.3, r.4))),
-          shape_append h.0 (v ++ r.1) ∙ ap (join (shape h.0)) (shape_append v r.1 ∙ ap (λ z. join z (shape r.1)) g ∙ sym (shape_append r.0 r.1) ∙ sym (ap shape r.2)) ∙ sym (shape_append h.0 h.1) ∙ sym (ap shape h.2),
+          shape_append h.0 (v ++ r.1) ∙ ap (joined_shape (shape h.0)) (shape_append v r.1 ∙ ap (λ z. joined_shape z (shape r.1)) g ∙ sym (shape_append r.0 r.1) ∙ sym (ap shape r.2)) ∙ sym (shape_append h.0 h.1) ∙ sym (ap shape h.2),
           omega (arith, slashes_append h.0 (v ++ r.1), slashes_append v r.1, again_slashes (suc m) r.0 e),
         ))
   ]

@@ -4,7 +4,7 @@ use Rattle.std.proofs.Common.{Some, ℕ, ap, arith, false, min, nat_le, refl, su
 use Rattle.wax_depth.specs.declared.profile.Profile.{Profile}
 use Rattle.wax_depth.specs.inner.Intervals.{Interval, exceeds_zero, hull, interval_sum, saturated_interval}
 use Rattle.wax_depth.specs.inner.Intervals.{unbounded}
-use Rattle.wax_depth.specs.inner.Profiles.{at, concatenated, concatenated_at, doubled, empty_text, has_slash}
+use Rattle.wax_depth.specs.inner.Profiles.{interval_at, concatenated, concatenated_at, doubled, empty_text, has_slash}
 use Rattle.wax_depth.specs.inner.Profiles.{kleene_star, no_text, only, power, power_in, power_range, profile}
 use Rattle.wax_depth.specs.inner.Profiles.{unbounded_profile, union}
 use Rattle.wax_depth.specs.inner.Saturation.{saturated, u128_max}
@@ -14,7 +14,7 @@ use Rattle.wax_depth.proofs.Intervals.{hull_close, interval_sum_close, saturated
 abbrev made : Interval → Interval → Interval → Interval → Interval → Profile
 made a b c d f = record { nothing = a; bare = b; ending = c; beginning = d; enclosed = f }
 
-pub profile_same : (r q : Profile) → ((a : Shape) → at r a ≡ at q a) → r ≡ q
+pub profile_same : (r q : Profile) → ((a : Shape) → interval_at r a ≡ interval_at q a) → r ≡ q
 profile_same r q e =
     ap (λ z. made z r.bare r.ending r.beginning r.enclosed) (e empty)
     ∙ ap (λ z. made q.nothing z r.ending r.beginning r.enclosed) (e (ended false false))
@@ -22,51 +22,51 @@ profile_same r q e =
     ∙ ap (λ z. made q.nothing q.bare q.ending z r.enclosed) (e (ended true false))
     ∙ ap (λ z. made q.nothing q.bare q.ending q.beginning z) (e (ended true true))
 
-pub at_profile : (f : Shape → Interval) (a : Shape) → at (profile f) a ≡ f a
+pub at_profile : (f : Shape → Interval) (a : Shape) → interval_at (profile f) a ≡ f a
 at_profile f empty = refl
 at_profile f (ended false false) = refl
 at_profile f (ended false true) = refl
 at_profile f (ended true false) = refl
 at_profile f (ended true true) = refl
 
-at_saturated : (r : Profile) (a : Shape) → at (saturated r) a ≡ saturated_interval u128_max (at r a)
-at_saturated r a = at_profile (λ b. saturated_interval u128_max (at r b)) a
+at_saturated : (r : Profile) (a : Shape) → interval_at (saturated r) a ≡ saturated_interval u128_max (interval_at r a)
+at_saturated r a = at_profile (λ b. saturated_interval u128_max (interval_at r b)) a
 
 pub saturated_twice : (r : Profile) → saturated (saturated r) ≡ saturated r
-saturated_twice r = profile_same (saturated (saturated r)) (saturated r) (λ a. at_saturated (saturated r) a ∙ ap (saturated_interval u128_max) (at_saturated r a) ∙ saturated_interval_twice u128_max (at r a) ∙ sym (at_saturated r a))
+saturated_twice r = profile_same (saturated (saturated r)) (saturated r) (λ a. at_saturated (saturated r) a ∙ ap (saturated_interval u128_max) (at_saturated r a) ∙ saturated_interval_twice u128_max (interval_at r a) ∙ sym (at_saturated r a))
 
 -- they differ only past the greatest number
 abbrev pub Close : Profile → Profile → Type 0
 Close r q = saturated r ≡ saturated q
 
-pub close_at : (r q : Profile) → Close r q → (a : Shape) → saturated_interval u128_max (at r a) ≡ saturated_interval u128_max (at q a)
-close_at r q e a = sym (at_saturated r a) ∙ ap (λ z. at z a) e ∙ at_saturated q a
+pub close_at : (r q : Profile) → Close r q → (a : Shape) → saturated_interval u128_max (interval_at r a) ≡ saturated_interval u128_max (interval_at q a)
+close_at r q e a = sym (at_saturated r a) ∙ ap (λ z. interval_at z a) e ∙ at_saturated q a
 
-close_by : (r q : Profile) → ((a : Shape) → saturated_interval u128_max (at r a) ≡ saturated_interval u128_max (at q a)) → Close r q
+close_by : (r q : Profile) → ((a : Shape) → saturated_interval u128_max (interval_at r a) ≡ saturated_interval u128_max (interval_at q a)) → Close r q
 close_by r q e = profile_same (saturated r) (saturated q) (λ a. at_saturated r a ∙ e a ∙ sym (at_saturated q a))
 
 pub union_close : (r q r' q' : Profile) → Close r r' → Close q q' → Close (union r q) (union r' q')
 union_close r q r' q' e g = close_by (union r q) (union r' q') (λ a.
-    ap (saturated_interval u128_max) (at_profile (λ b. hull (at r b) (at q b)) a) ∙ hull_close u128_max (at r a) (at q a) (at r' a) (at q' a) (close_at r r' e a) (close_at q q' g a)
-    ∙ sym (ap (saturated_interval u128_max) (at_profile (λ b. hull (at r' b) (at q' b)) a)))
+    ap (saturated_interval u128_max) (at_profile (λ b. hull (interval_at r b) (interval_at q b)) a) ∙ hull_close u128_max (interval_at r a) (interval_at q a) (interval_at r' a) (interval_at q' a) (close_at r r' e a) (close_at q q' g a)
+    ∙ sym (ap (saturated_interval u128_max) (at_profile (λ b. hull (interval_at r' b) (interval_at q' b)) a)))
 
 abbrev before : Bool → Profile → Interval
-before x r = hull (at r (ended x false)) (at r (ended x true))
+before x r = hull (interval_at r (ended x false)) (interval_at r (ended x true))
 
 abbrev behind : Bool → Profile → Interval
-behind y q = hull (at q (ended false y)) (at q (ended true y))
+behind y q = hull (interval_at q (ended false y)) (interval_at q (ended true y))
 
 concatenated_at_close : (r q r' q' : Profile) → Close r r' → Close q q' → (a : Shape) → saturated_interval u128_max (concatenated_at r q a) ≡ saturated_interval u128_max (concatenated_at r' q' a)
-concatenated_at_close r q r' q' e g empty = interval_sum_close u128_max (at r empty) (at q empty) (at r' empty) (at q' empty) (close_at r r' e empty) (close_at q q' g empty)
+concatenated_at_close r q r' q' e g empty = interval_sum_close u128_max (interval_at r empty) (interval_at q empty) (interval_at r' empty) (interval_at q' empty) (close_at r r' e empty) (close_at q q' g empty)
 concatenated_at_close r q r' q' e g (ended x y) =
-    hull_close u128_max (interval_sum (at r empty) (at q (ended x y))) (hull (interval_sum (at r (ended x y)) (at q empty)) (interval_sum (before x r) (behind y q)))
-    (interval_sum (at r' empty) (at q' (ended x y))) (hull (interval_sum (at r' (ended x y)) (at q' empty)) (interval_sum (before x r') (behind y q')))
-    (interval_sum_close u128_max (at r empty) (at q (ended x y)) (at r' empty) (at q' (ended x y)) (close_at r r' e empty) (close_at q q' g (ended x y)))
-    (hull_close u128_max (interval_sum (at r (ended x y)) (at q empty)) (interval_sum (before x r) (behind y q)) (interval_sum (at r' (ended x y)) (at q' empty)) (interval_sum (before x r') (behind y q'))
-    (interval_sum_close u128_max (at r (ended x y)) (at q empty) (at r' (ended x y)) (at q' empty) (close_at r r' e (ended x y)) (close_at q q' g empty))
+    hull_close u128_max (interval_sum (interval_at r empty) (interval_at q (ended x y))) (hull (interval_sum (interval_at r (ended x y)) (interval_at q empty)) (interval_sum (before x r) (behind y q)))
+    (interval_sum (interval_at r' empty) (interval_at q' (ended x y))) (hull (interval_sum (interval_at r' (ended x y)) (interval_at q' empty)) (interval_sum (before x r') (behind y q')))
+    (interval_sum_close u128_max (interval_at r empty) (interval_at q (ended x y)) (interval_at r' empty) (interval_at q' (ended x y)) (close_at r r' e empty) (close_at q q' g (ended x y)))
+    (hull_close u128_max (interval_sum (interval_at r (ended x y)) (interval_at q empty)) (interval_sum (before x r) (behind y q)) (interval_sum (interval_at r' (ended x y)) (interval_at q' empty)) (interval_sum (before x r') (behind y q'))
+    (interval_sum_close u128_max (interval_at r (ended x y)) (interval_at q empty) (interval_at r' (ended x y)) (interval_at q' empty) (close_at r r' e (ended x y)) (close_at q q' g empty))
     (interval_sum_close u128_max (before x r) (behind y q) (before x r') (behind y q')
-    (hull_close u128_max (at r (ended x false)) (at r (ended x true)) (at r' (ended x false)) (at r' (ended x true)) (close_at r r' e (ended x false)) (close_at r r' e (ended x true)))
-    (hull_close u128_max (at q (ended false y)) (at q (ended true y)) (at q' (ended false y)) (at q' (ended true y)) (close_at q q' g (ended false y)) (close_at q q' g (ended true y)))))
+    (hull_close u128_max (interval_at r (ended x false)) (interval_at r (ended x true)) (interval_at r' (ended x false)) (interval_at r' (ended x true)) (close_at r r' e (ended x false)) (close_at r r' e (ended x true)))
+    (hull_close u128_max (interval_at q (ended false y)) (interval_at q (ended true y)) (interval_at q' (ended false y)) (interval_at q' (ended true y)) (close_at q q' g (ended false y)) (close_at q q' g (ended true y)))))
 
 pub concatenated_close : (r q r' q' : Profile) → Close r r' → Close q q' → Close (concatenated r q) (concatenated r' q')
 concatenated_close r q r' q' e g = close_by (concatenated r q) (concatenated r' q') (λ a.
@@ -111,7 +111,7 @@ saturated_unbounded (Some x) = refl
 pub unbounded_saturated : (r : Profile) → unbounded_profile (saturated r) ≡ saturated (unbounded_profile r)
 unbounded_saturated r = profile_same (unbounded_profile (saturated r)) (saturated (unbounded_profile r)) each
   where
-    each : (a : Shape) → at (unbounded_profile (saturated r)) a ≡ at (saturated (unbounded_profile r)) a
+    each : (a : Shape) → interval_at (unbounded_profile (saturated r)) a ≡ interval_at (saturated (unbounded_profile r)) a
     each empty = refl
     each (ended false false) = saturated_unbounded r.bare
     each (ended false true) = saturated_unbounded r.ending

@@ -5,7 +5,7 @@ use Rattle.wax_query.specs.Components.{slash, slashes}
 use Rattle.wax_token.specs.Meaning.{Begins, Ends, TreeMeans}
 use Rattle.wax_depth.specs.inner.Intervals.{kept}
 use Rattle.wax_depth.specs.inner.Profiles.{profile}
-use Rattle.wax_depth.specs.inner.Shapes.{Shape, empty, ended, join, shape}
+use Rattle.wax_depth.specs.inner.Shapes.{Shape, empty, ended, joined_shape, shape}
 use Rattle.wax_depth.specs.inner.TreeProfiles.{every_text, tree_allows}
 use Rattle.wax_depth.proofs.Basics.{both_true, is_slash, not_true}
 use Rattle.wax_depth.proofs.Exact.{Exact, Has, by_shape}
@@ -25,14 +25,14 @@ many_slashes (suc n) = omega (arith, many_slashes n)
 between_is : (c d : ℕ) (m : List ℕ) → shape (c ∷ (m ++ d ∷ [])) ≡ ended (c == 47) (d == 47)
 between_is c d m = shape_append (c ∷ m) (d ∷ []) ∙ ends c m
   where
-    ends : (c : ℕ) (m : List ℕ) → join (shape (c ∷ m)) (ended (d == 47) (d == 47)) ≡ ended (c == 47) (d == 47)
+    ends : (c : ℕ) (m : List ℕ) → joined_shape (shape (c ∷ m)) (ended (d == 47) (d == 47)) ≡ ended (c == 47) (d == 47)
     ends c m = let r : (x : Bool) × (y : Bool) × (shape (c ∷ m) ≡ ended x y) = shape_of_some c m in
-        ap (λ z. join z (ended (d == 47) (d == 47))) r.2 ∙ ap (λ z. ended z (d == 47)) (first c m r.0 r.1 r.2)
+        ap (λ z. joined_shape z (ended (d == 47) (d == 47))) r.2 ∙ ap (λ z. ended z (d == 47)) (first c m r.0 r.1 r.2)
       where
         first : (c : ℕ) (m : List ℕ) (x y : Bool) → shape (c ∷ m) ≡ ended x y → x ≡ (c == 47)
         first c [] x y e = cc
         first c (b ∷ m) x y e = let r : (x : Bool) × (y : Bool) × (shape (b ∷ m) ≡ ended x y) = shape_of_some b m in
-            same_first x y (c == 47) r.1 (sym e ∙ ap (λ z. join (ended (c == 47) (c == 47)) z) r.2)
+            same_first x y (c == 47) r.1 (sym e ∙ ap (λ z. joined_shape (ended (c == 47) (c == 47)) z) r.2)
 
 abbrev pub Anything : List ℕ → Type 0
 Anything s = Unit {0}
@@ -53,7 +53,7 @@ one_at_least [] x y e h = absurd (let f : ⊥ = cc in f)
 one_at_least (c ∷ []) x y e h = let f : slash c ≡ 1 = slash_one c (elim h [ inl g ↦ (let k : (c == 47) ≡ true = cc in k) | inr g ↦ (let k : (c == 47) ≡ true = cc in k) ]) in omega (arith, f)
 one_at_least (c ∷ d ∷ s) x y e h =
     let r : (x : Bool) × (y : Bool) × (shape (d ∷ s) ≡ ended x y) = shape_of_some d s in
-    let f : ended (c == 47) r.1 ≡ ended x y = sym (ap (λ z. join (ended (c == 47) (c == 47)) z) r.2) ∙ e in
+    let f : ended (c == 47) r.1 ≡ ended x y = sym (ap (λ z. joined_shape (ended (c == 47) (c == 47)) z) r.2) ∙ e in
     elim h [
       | inl g ↦ (let k : slash c ≡ 1 = slash_one c (same_first (c == 47) r.1 x y f ∙ g) in omega (arith, k))
       | inr g ↦ (let k : 1 ≤ slashes (d ∷ s) = one_at_least (d ∷ s) r.0 r.1 r.2 (inr (same_last (c == 47) r.1 x y f ∙ g)) in omega (arith, k))
@@ -84,7 +84,7 @@ begins_to (c ∷ d ∷ s) x y b e =
     let r : (x : Bool) × (y : Bool) × (shape (d ∷ s) ≡ ended x y) = shape_of_some d s in
     let k : c ≡ 47 = cc in
     let j : (c == 47) ≡ true = ap (λ d. d == 47) k in
-    let f : ended (c == 47) r.1 ≡ ended x y = sym (ap (λ z. join (ended (c == 47) (c == 47)) z) r.2) ∙ e in
+    let f : ended (c == 47) r.1 ≡ ended x y = sym (ap (λ z. joined_shape (ended (c == 47) (c == 47)) z) r.2) ∙ e in
     let g : (c == 47) ≡ x = cc in sym g ∙ j
 
 begins_from : (s : List ℕ) (y : Bool) → shape s ≡ ended true y → Begins s
@@ -92,14 +92,14 @@ begins_from [] y e = absurd (let f : ⊥ = cc in f)
 begins_from (c ∷ []) y e = let k : (c == 47) ≡ true = cc in ([], ap (λ d. d ∷ []) (is_slash c k))
 begins_from (c ∷ d ∷ s) y e =
     let r : (x : Bool) × (y : Bool) × (shape (d ∷ s) ≡ ended x y) = shape_of_some d s in
-    let f : ended (c == 47) r.1 ≡ ended true y = sym (ap (λ z. join (ended (c == 47) (c == 47)) z) r.2) ∙ e in
+    let f : ended (c == 47) r.1 ≡ ended true y = sym (ap (λ z. joined_shape (ended (c == 47) (c == 47)) z) r.2) ∙ e in
     let k : (c == 47) ≡ true = cc in
     (d ∷ s, ap (λ b. b ∷ d ∷ s) (is_slash c k))
 
 ends_to : (s : List ℕ) (x y : Bool) → Ends s → shape s ≡ ended x y → y ≡ true
 ends_to s x y b e = last (shape b.0) (sym (ap shape b.1 ∙ shape_append b.0 (47 ∷ [])) ∙ e)
   where
-    last : (a : Shape) → join a (ended true true) ≡ ended x y → y ≡ true
+    last : (a : Shape) → joined_shape a (ended true true) ≡ ended x y → y ≡ true
     last empty e = cc
     last (ended z w) e = cc
 
@@ -108,7 +108,7 @@ ends_from [] x e = absurd (let f : ⊥ = cc in f)
 ends_from (c ∷ []) x e = let k : (c == 47) ≡ true = cc in ([], ap (λ d. d ∷ []) (is_slash c k))
 ends_from (c ∷ d ∷ s) x e =
     let r : (x : Bool) × (y : Bool) × (shape (d ∷ s) ≡ ended x y) = shape_of_some d s in
-    let f : ended (c == 47) r.1 ≡ ended x true = sym (ap (λ z. join (ended (c == 47) (c == 47)) z) r.2) ∙ e in
+    let f : ended (c == 47) r.1 ≡ ended x true = sym (ap (λ z. joined_shape (ended (c == 47) (c == 47)) z) r.2) ∙ e in
     let k : r.1 ≡ true = cc in
     let g : Ends (d ∷ s) = ends_from (d ∷ s) r.0 (r.2 ∙ ap (λ z. ended r.0 z) k) in
     (c ∷ g.0, ap (λ z. c ∷ z) g.1)

@@ -4,7 +4,7 @@ use Rattle.wax_token.specs.Reads.{Span}
 use Rattle.wax_token.specs.Syntax.{Tree, Trees, alternation, class, concatenation, leaf, literal, more, none}
 use Rattle.wax_token.specs.Syntax.{one, repetition, separator, tree, zero_or_more}
 use Rattle.wax_token.specs.Words.{members}
-use Rattle.wax_rule.specs.Rules.{alternative_breaks, branch_breaks, break_in, first_that_holds, has_boundary}
+use Rattle.wax_rule.specs.Rules.{alternative_breaks, branch_breaks, break_in, first_that_holds, side_has_boundary}
 use Rattle.wax_rule.specs.Rules.{last_of, rows_of, sub_glob_breaks}
 use Rattle.wax_token.specs.Kinds.{is_separator_leaf, is_such, is_tree_leaf}
 use Rattle.wax_rule.specs.Situated.{Situated}
@@ -51,25 +51,25 @@ LastBare (more t ts) = is_such is_boundary_leaf (last_of t ts) ≡ false
 
 -- a sub-glob beside a boundary has none at that side
 abbrev pub Bare : Situated → Trees Span → Type 0
-Bare c ts = (has_boundary c.left ≡ true → FirstBare ts) × (has_boundary c.right ≡ true → LastBare ts)
+Bare c ts = (side_has_boundary c.left ≡ true → FirstBare ts) × (side_has_boundary c.right ≡ true → LastBare ts)
 
 rows_bare : (branch : _) (c : Situated) (ts : Trees Span) → first_that_holds (rows_of branch c.left c.right ts) ≡ None → Bare c ts
 rows_bare branch c none h = ((λ e. tt), λ e. tt)
 rows_bare branch c (more t none) h =
-    let separator_left : Bool = is_such is_separator_leaf t && has_boundary c.left in
-    let separator_right : Bool = is_such is_separator_leaf t && has_boundary c.right in
+    let separator_left : Bool = is_such is_separator_leaf t && side_has_boundary c.left in
+    let separator_right : Bool = is_such is_separator_leaf t && side_has_boundary c.right in
     let k : (separator_left ≡ false) × (separator_right ≡ false) × (is_such is_tree_leaf t ≡ false) = three_not separator_left separator_right (is_such is_tree_leaf t) _ _ _ _ h in (
-      (λ e. not_boundary t (and_left (is_such is_separator_leaf t) (has_boundary c.left) k.0 e) k.2),
-      λ e. not_boundary t (and_left (is_such is_separator_leaf t) (has_boundary c.right) k.1 e) k.2,
+      (λ e. not_boundary t (and_left (is_such is_separator_leaf t) (side_has_boundary c.left) k.0 e) k.2),
+      λ e. not_boundary t (and_left (is_such is_separator_leaf t) (side_has_boundary c.right) k.1 e) k.2,
     )
 rows_bare branch c (more t (more u us)) h =
-    let separator_left : Bool = is_such is_separator_leaf t && has_boundary c.left in
-    let separator_right : Bool = is_such is_separator_leaf (last_of u us) && has_boundary c.right in
-    let tree_left : Bool = is_such is_tree_leaf t && has_boundary c.left in
-    let tree_right : Bool = is_such is_tree_leaf (last_of u us) && has_boundary c.right in
+    let separator_left : Bool = is_such is_separator_leaf t && side_has_boundary c.left in
+    let separator_right : Bool = is_such is_separator_leaf (last_of u us) && side_has_boundary c.right in
+    let tree_left : Bool = is_such is_tree_leaf t && side_has_boundary c.left in
+    let tree_right : Bool = is_such is_tree_leaf (last_of u us) && side_has_boundary c.right in
     let k : (separator_left ≡ false) × (separator_right ≡ false) × (tree_left ≡ false) × (tree_right ≡ false) = four_not separator_left separator_right tree_left tree_right _ _ _ _ _ h in (
-      (λ e. not_boundary t (and_left (is_such is_separator_leaf t) (has_boundary c.left) k.0 e) (and_left (is_such is_tree_leaf t) (has_boundary c.left) k.2 e)),
-      λ e. not_boundary (last_of u us) (and_left (is_such is_separator_leaf (last_of u us)) (has_boundary c.right) k.1 e) (and_left (is_such is_tree_leaf (last_of u us)) (has_boundary c.right) k.3 e),
+      (λ e. not_boundary t (and_left (is_such is_separator_leaf t) (side_has_boundary c.left) k.0 e) (and_left (is_such is_tree_leaf t) (side_has_boundary c.left) k.2 e)),
+      λ e. not_boundary (last_of u us) (and_left (is_such is_separator_leaf (last_of u us)) (side_has_boundary c.right) k.1 e) (and_left (is_such is_tree_leaf (last_of u us)) (side_has_boundary c.right) k.3 e),
     )
 
 sub_glob_bare : (branch : _) (s : Span) (c : Situated) (t : Tree Span) → sub_glob_breaks branch s c.left c.right t ≡ [] → Bare c (members t)

@@ -5,7 +5,7 @@ use Rattle.wax_token.specs.Reads.{Span}
 use Rattle.wax_token.specs.Syntax.{Tree, Trees, alternation, concatenation, leaf, more, none, repetition}
 use Rattle.wax_rule.specs.Rules.{adjacent_boundaries, alternative_breaks, boundary_breaks, bounds_breaks}
 use Rattle.wax_rule.specs.Rules.{branch_breaks, broken, size_breaks}
-use Rattle.wax_rule.specs.Situated.{Situated, beside, branch_levels, breadth_first, end_of, levels}
+use Rattle.wax_rule.specs.Situated.{Situated, beside, branch_levels, breadth_first, end_side, levels}
 use Rattle.wax_rule.specs.Situated.{member_levels, right_of}
 use Rattle.wax_facts.proofs.Lists.{nil_left, nil_right}
 
@@ -60,7 +60,7 @@ abbrev pub before_these : Situated → Trees Span → Situated
 before_these c ts = record { token = c.token; left = c.left; right = right_of ts c.right }
 
 abbrev pub after_this : Situated → Tree Span → Situated
-after_this c t = record { token = c.token; left = Some (end_of t); right = c.right }
+after_this c t = record { token = c.token; left = Some (end_side t); right = c.right }
 
 abbrev mutual
   pub Lawful : Situated → Tree Span → Type 0
@@ -93,8 +93,8 @@ mutual
   lawful_each : (c : Situated) (ts : Trees Span) → EachLevel Kept (member_levels c.left c.right ts) → LawfulEach c ts
   lawful_each c none h = tt
   lawful_each c (more t ts) h =
-      let k : EachLevel Kept (levels c.left (right_of ts c.right) t) × EachLevel Kept (member_levels (Some (end_of t)) c.right ts) =
-      beside_parts Kept (levels c.left (right_of ts c.right) t) (member_levels (Some (end_of t)) c.right ts) h in
+      let k : EachLevel Kept (levels c.left (right_of ts c.right) t) × EachLevel Kept (member_levels (Some (end_side t)) c.right ts) =
+      beside_parts Kept (levels c.left (right_of ts c.right) t) (member_levels (Some (end_side t)) c.right ts) h in
       (lawful (before_these c ts) t k.0, lawful_each (after_this c t) ts k.1)
 
 abbrev pub top : Tree Span → Situated

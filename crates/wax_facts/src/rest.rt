@@ -6,7 +6,7 @@ ghost use Rattle.wax_token.specs.Syntax.{alternation, repetition};
 ghost use Rattle.wax_token.specs.Words.{annotation_of, members, trees};
 ghost use Rattle.wax_facts.specs.Prefix.{opened};
 ghost use Rattle.wax_facts.specs.Rest.{begins_with_tree};
-ghost use Rattle.wax_facts.specs.inner.Bodies.{IsInside, IsRest, inside, last_body, open_body};
+ghost use Rattle.wax_facts.specs.inner.Bodies.{IsInside, AreRestTokens, inside, last_body, open_body};
 
 use crate::opened;
 use std::alloc::{AllocError, Global};
@@ -23,7 +23,7 @@ pub fn rest_of<'t>(
     glob: Token<'t, ExpressionMetadata>,
     taken: usize,
 ) -> Result<(Vec<Token<'t, ExpressionMetadata>>, Span), AllocError>
-    ensures rest { IfOk result (λ r. IsRest glob.entry taken r.0.items r.1) }
+    ensures rest { IfOk result (λ r. AreRestTokens glob.entry taken r.0.items r.1) }
     ensures fits { IfOk result (λ r. r.1.0 + r.1.1 < 2 ^ 64) }
 {
     let span = glob.annotation().span();

@@ -15,7 +15,7 @@ use Rattle.wax_fold.specs.Branches.{Branch, branch_of, picked}
 use Rattle.wax_token.specs.Words.{listed}
 use Rattle.wax_fold.specs.Folded.{Folding, listed_term, branch_term, folded, folded_each}
 use Rattle.wax_fold.specs.inner.BranchFolded.{branch_folded}
-use Rattle.wax_fold.specs.inner.OpenBranches.{OpenBranch, closing, folding, with_term, counting, visits}
+use Rattle.wax_fold.specs.inner.OpenBranches.{OpenBranch, closing, folding, with_term, counting, branch_visits}
 use Rattle.wax_fold.specs.inner.Opens.{Open, closed, closed_all, results, total, steps_in, steps_left}
 use Rattle.wax_fold.proofs.Opens.{alone, entered, left, steps_entered, steps_back}
 use Rattle.wax_fold.proofs.Picking.{picked_mapped}
@@ -88,7 +88,7 @@ total-append [] ys = omega arith
 total-append (x ∷ xs) ys = omega (arith, total-append xs ys)
 
 module _ {A : Type 0} (chosen : Branch A → List ℕ) where
-  total_visits : (ts : List (Tree A)) → total (map (visits chosen) ts) ≡ total (results (folded chosen counting) ts)
+  total_visits : (ts : List (Tree A)) → total (map (branch_visits chosen) ts) ≡ total (results (folded chosen counting) ts)
   total_visits [] = refl
   total_visits (t ∷ ts) =
       omega (arith, total-append (listed_term (folded chosen counting t)) (results (folded chosen counting) ts), total_visits ts)
@@ -96,28 +96,28 @@ module _ {A : Type 0} (chosen : Branch A → List ℕ) where
   -- the tokens of a branch take fewer steps than the branch
   pub visits_inside : {T : Type 0} (o : OpenBranch A T) (b : Branch A) (t : Tree A) →
       o ≡ record { branch = b; rest = picked (chosen b) b.tokens; terms = [] } →
-      branch_folded chosen counting b ≡ folded chosen counting t → total (map (visits chosen) o.rest) + 2 ≤ visits chosen t
+      branch_folded chosen counting b ≡ folded chosen counting t → total (map (branch_visits chosen) o.rest) + 2 ≤ branch_visits chosen t
   visits_inside o b t e h =
       let inside : List ℕ = flat_map listed_term (picked (chosen b) (map (folded chosen counting) b.tokens)) in
-      let here : total (inside ++ []) + 2 + 0 ≡ visits chosen t = ap (λ z. total (listed_term z)) h in
+      let here : total (inside ++ []) + 2 + 0 ≡ branch_visits chosen t = ap (λ z. total (listed_term z)) h in
       let within : total (inside ++ []) ≡ total (results (folded chosen counting) (picked (chosen b) b.tokens)) =
       ap total (append-nil inside ∙ picked_mapped listed_term (folded chosen counting) (chosen b) b.tokens) in
-      let rest : total (map (visits chosen) o.rest) ≡ total (map (visits chosen) (picked (chosen b) b.tokens)) =
-      ap (λ z. total (map (visits chosen) z.rest)) e in
+      let rest : total (map (branch_visits chosen) o.rest) ≡ total (map (branch_visits chosen) (picked (chosen b) b.tokens)) =
+      ap (λ z. total (map (branch_visits chosen) z.rest)) e in
       omega (arith, here, within, rest, total_visits (picked (chosen b) b.tokens))
 
   pub fewer_deeper : {T : Type 0} (f : Folding A T) (os all : List (Open A T)) (o n inner : OpenBranch A T) (t : Tree A) (b : Branch A) →
       all ≡ os ++ folding f n ∷ [] → o.rest ≡ t ∷ n.rest →
       inner ≡ record { branch = b; rest = picked (chosen b) b.tokens; terms = [] } →
       branch_folded chosen counting b ≡ folded chosen counting t →
-      steps_left (visits chosen) all + steps_in (visits chosen) (folding f inner)
-      < steps_left (visits chosen) os + steps_in (visits chosen) (folding f o)
+      steps_left (branch_visits chosen) all + steps_in (branch_visits chosen) (folding f inner)
+      < steps_left (branch_visits chosen) os + steps_in (branch_visits chosen) (folding f o)
   fewer_deeper f os all o n inner t b e r i k =
-      steps_entered (visits chosen) os all (folding f o) (folding f n) (folding f inner) t e r (visits_inside inner b t i k)
+      steps_entered (branch_visits chosen) os all (folding f o) (folding f n) (folding f inner) t e r (visits_inside inner b t i k)
 
   pub fewer_back : {T : Type 0} (f : Folding A T) (os all : List (Open A T)) (o around new : OpenBranch A T) (x : Option T) →
       all ≡ os ++ folding f around ∷ [] → new ≡ with_term around x →
-      steps_left (visits chosen) os + steps_in (visits chosen) (folding f new)
-      < steps_left (visits chosen) all + steps_in (visits chosen) (folding f o)
+      steps_left (branch_visits chosen) os + steps_in (branch_visits chosen) (folding f new)
+      < steps_left (branch_visits chosen) all + steps_in (branch_visits chosen) (folding f o)
   fewer_back f os all o around new x e i =
-      steps_back (visits chosen) os all (folding f o) (folding f around) (folding f new) e (ap (λ z. z.rest) i)
+      steps_back (branch_visits chosen) os all (folding f o) (folding f around) (folding f new) e (ap (λ z. z.rest) i)

@@ -13,7 +13,7 @@ use Rattle.wax_fold.specs.declared.walk.entry.Position.{Position}
 use Rattle.wax_fold.specs.declared.walk.branch.BranchFold.TheVariants.{Alternation, Concatenation, Repetition}
 use Rattle.wax_fold.specs.Branches.{Branch, branch_of, picked}
 use Rattle.wax_token.specs.Words.{listed}
-use Rattle.wax_fold.specs.Order.{Entry, root, alternatives, conjuncts, chosen_in, children_at, children, level, levels_to, height, breadth_first}
+use Rattle.wax_fold.specs.Order.{Entry, root_entry, disjuncts, conjuncts, chosen_in, children_at, children, level, levels_to, height, breadth_first}
 use Rattle.wax_fold.proofs.Folds.{listed_trees}
 
 -- ---- what a branch holds is lower than the branch
@@ -44,10 +44,10 @@ unfolding tallest
 listed_lower none = omega arith
 listed_lower (more t ts) = omega (arith, listed_lower ts)
 
-alternatives-height : {A : Type 0} (p : Position) (n : ℕ) (ts : List (Tree A)) → height (alternatives p n ts) ≡ tallest ts
+disjuncts-height : {A : Type 0} (p : Position) (n : ℕ) (ts : List (Tree A)) → height (disjuncts p n ts) ≡ tallest ts
 unfolding tallest
-alternatives-height p n [] = refl
-alternatives-height p n (t ∷ ts) = ap (max (tree_size t + 1)) (alternatives-height p (n + 1) ts)
+disjuncts-height p n [] = refl
+disjuncts-height p n (t ∷ ts) = ap (max (tree_size t + 1)) (disjuncts-height p (n + 1) ts)
 
 conjuncts-height : {A : Type 0} (p : Position) (ts : List (Tree A)) → height (conjuncts p ts) ≡ tallest ts
 unfolding tallest
@@ -73,7 +73,7 @@ module _ {A : Type 0} (chosen : Branch A → List ℕ) where
   lower p (leaf a l) = omega arith
   lower p (alternation a ts) =
       let ns = chosen (record { kind = Alternation; tokens = listed ts }) in
-      omega (arith, alternatives-height p 0 (picked ns (listed ts)), picked_lower ns (listed ts), listed_lower ts)
+      omega (arith, disjuncts-height p 0 (picked ns (listed ts)), picked_lower ns (listed ts), listed_lower ts)
   lower p (concatenation a ts) =
       let ns = chosen (record { kind = Concatenation; tokens = listed ts }) in
       omega (arith, conjuncts-height p (picked ns (listed ts)), picked_lower ns (listed ts), listed_lower ts)
@@ -106,8 +106,8 @@ module _ {A : Type 0} (chosen : Branch A → List ℕ) where
   beyond (suc n) es h =
       level-below n es ∙ beyond n (flat_map (children chosen) es) (omega (arith, all_lower es, h))
 
-  pub no_deeper : (t : Tree A) (n : ℕ) → tree_size t < n → level chosen n (root t ∷ []) ≡ []
-  no_deeper t n h = beyond n (root t ∷ []) (omega (arith, h))
+  pub no_deeper : (t : Tree A) (n : ℕ) → tree_size t < n → level chosen n (root_entry t ∷ []) ≡ []
+  no_deeper t n h = beyond n (root_entry t ∷ []) (omega (arith, h))
 
   further : (k n : ℕ) (es : List (Entry A)) → height es ≤ n → levels_to chosen (added k n) es ≡ levels_to chosen n es
   unfolding added

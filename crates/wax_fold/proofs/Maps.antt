@@ -12,7 +12,7 @@ use Rattle.wax_fold.specs.declared.walk.branch.BranchFold.TheVariants.{Alternati
 use Rattle.wax_fold.specs.Branches.{branch_of}
 use Rattle.wax_fold.specs.Folded.{listed_term}
 use Rattle.wax_fold.specs.Mapped.{Mapping, mapped, mapped_each}
-use Rattle.wax_fold.specs.inner.OpenTokens.{OpenToken, NextToken, mapping, visits, with_token}
+use Rattle.wax_fold.specs.inner.OpenTokens.{OpenToken, NextToken, mapping, tree_visits, with_token}
 use Rattle.wax_fold.specs.inner.Opens.{Open, closed, closed_all, results, total, steps_in, steps_left}
 use Rattle.wax_fold.proofs.Opens.{alone, entered, left, steps_entered, steps_back}
 
@@ -67,11 +67,11 @@ module _ {A X : Type 0} (f : Mapping A X) (w : Option X) where
       (k ∙ ap (λ z. z.fold n.annotation n.kind n.done) s ∙ ap (λ z. f.fold z.annotation z.kind z.done) h.1)
       (ap (mapping f) i) ∙ v
 
-visits_trees : {A : Type 0} (ts : List (Tree A)) → total (map visits ts) ≤ 2 * trees_size (trees ts)
+visits_trees : {A : Type 0} (ts : List (Tree A)) → total (map tree_visits ts) ≤ 2 * trees_size (trees ts)
 visits_trees [] = omega arith
 visits_trees (t ∷ ts) = omega (arith, visits_trees ts)
 
-visits_branch : {A : Type 0} (b : BranchKind A) (a : A) → total (map visits (branch_of b).tokens) + 2 ≤ visits (branch_tree b a)
+visits_branch : {A : Type 0} (b : BranchKind A) (a : A) → total (map tree_visits (branch_of b).tokens) + 2 ≤ tree_visits (branch_tree b a)
 visits_branch (kind.Alternation x) a = omega (arith, visits_trees x.tokens.items)
 visits_branch (kind.Concatenation x) a = omega (arith, visits_trees x.tokens.items)
 visits_branch (kind.Repetition r) a = omega arith
@@ -79,22 +79,22 @@ visits_branch (kind.Repetition r) a = omega arith
 -- the tokens of a branch take fewer steps than the branch
 pub visits_inside : {A X : Type 0} (o : OpenToken A X) (x : Topology (BranchKind A) LeafKind) (b : BranchKind A) (t : Tree A) (a : A) →
     o ≡ record { annotation = a; kind = (branch_of b).kind; rest = (branch_of b).tokens; done = [] } →
-    x ≡ BranchOf b → topology_tree x a ≡ t → total (map visits o.rest) + 2 ≤ visits t
+    x ≡ BranchOf b → topology_tree x a ≡ t → total (map tree_visits o.rest) + 2 ≤ tree_visits t
 visits_inside o x b t a e i h =
-    let rest : total (map visits o.rest) ≡ total (map visits (branch_of b).tokens) = ap (λ z. total (map visits z.rest)) e in
-    let token : visits (branch_tree b a) ≡ visits t = ap (λ z. visits (topology_tree z a)) (sym i) ∙ ap visits h in
+    let rest : total (map tree_visits o.rest) ≡ total (map tree_visits (branch_of b).tokens) = ap (λ z. total (map tree_visits z.rest)) e in
+    let token : tree_visits (branch_tree b a) ≡ tree_visits t = ap (λ z. tree_visits (topology_tree z a)) (sym i) ∙ ap tree_visits h in
     omega (arith, rest, token, visits_branch b a)
 
 pub fewer_deeper : {A X : Type 0} (f : Mapping A X) (os all : List (Open A X)) (o n inner : OpenToken A X) (x : Topology (BranchKind A) LeafKind)
     (b : BranchKind A) (t : Tree A) (a : A) → all ≡ os ++ mapping f n ∷ [] → o.rest ≡ t ∷ n.rest →
     inner ≡ record { annotation = a; kind = (branch_of b).kind; rest = (branch_of b).tokens; done = [] } →
     x ≡ BranchOf b → topology_tree x a ≡ t →
-    steps_left visits all + steps_in visits (mapping f inner) < steps_left visits os + steps_in visits (mapping f o)
+    steps_left tree_visits all + steps_in tree_visits (mapping f inner) < steps_left tree_visits os + steps_in tree_visits (mapping f o)
 fewer_deeper f os all o n inner x b t a e r i k h =
-    steps_entered visits os all (mapping f o) (mapping f n) (mapping f inner) t e r (visits_inside inner x b t a i k h)
+    steps_entered tree_visits os all (mapping f o) (mapping f n) (mapping f inner) t e r (visits_inside inner x b t a i k h)
 
 pub fewer_back : {A X : Type 0} (f : Mapping A X) (os all : List (Open A X)) (o around new : OpenToken A X) (x : Option X) →
     all ≡ os ++ mapping f around ∷ [] → new ≡ with_token around x →
-    steps_left visits os + steps_in visits (mapping f new) < steps_left visits all + steps_in visits (mapping f o)
+    steps_left tree_visits os + steps_in tree_visits (mapping f new) < steps_left tree_visits all + steps_in tree_visits (mapping f o)
 fewer_back f os all o around new x e i =
-    steps_back visits os all (mapping f o) (mapping f around) (mapping f new) e (ap (λ z. z.rest) i)
+    steps_back tree_visits os all (mapping f o) (mapping f around) (mapping f new) e (ap (λ z. z.rest) i)

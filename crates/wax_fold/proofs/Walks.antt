@@ -4,7 +4,7 @@ use Rattle.wax_fold.specs.Branches.{Branch}
 use Rattle.wax_fold.specs.Folded.{listed_term}
 use Rattle.wax_fold.specs.Order.{Entry, breadth_first}
 use Rattle.wax_fold.specs.Walking.{Walking, below_current, roots, to_come, items_left}
-use Rattle.wax_fold.specs.inner.WalkSteps.{Ends}
+use Rattle.wax_fold.specs.inner.WalkSteps.{StepsToEnd}
 use Rattle.wax_fold.proofs.Levels.{next_first}
 
 module _ {A : Type 0} (chosen : Branch A → List ℕ) where
@@ -24,7 +24,7 @@ module _ {A : Type 0} (chosen : Branch A → List ℕ) where
   some_length None h = absurd (cc)
   some_length (Some e) h = omega arith
 
-  pub none_left : (old new : Walking A) → Ends old new → items_left chosen new < items_left chosen old
+  pub none_left : (old new : Walking A) → StepsToEnd old new → items_left chosen new < items_left chosen old
   none_left old new h =
       let nothing : length (to_come chosen new) ≡ 0 =
       ap (λ z. length (breadth_first chosen (z ++ below_current chosen new.current))) h.1

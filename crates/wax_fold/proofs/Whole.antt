@@ -9,7 +9,7 @@ use Rattle.wax_token.specs.Syntax.{Tree, leaf, alternation, concatenation, repet
 use Rattle.wax_fold.specs.declared.walk.entry.Position.{Position}
 use Rattle.wax_fold.specs.Branches.{picked}
 use Rattle.wax_token.specs.Words.{listed}
-use Rattle.wax_fold.specs.Order.{Entry, root, alternatives, conjuncts, children_at, children, breadth_first}
+use Rattle.wax_fold.specs.Order.{Entry, root_entry, disjuncts, conjuncts, children_at, children, breadth_first}
 use Rattle.wax_fold.specs.Sequences.{forward_chosen, places}
 use Rattle.wax_fold.specs.Subtrees.{subtrees, subtrees_each}
 use Rattle.wax_fold.proofs.Levels.{next_first}
@@ -23,9 +23,9 @@ inside : {A : Type 0} (ts : Trees A) → flat_map subtrees (listed ts) ≡ subtr
 inside none = refl
 inside (more t ts) = ap (λ z. subtrees t ++ z) (inside ts)
 
-of_alternatives : {A : Type 0} (p : Position) (n : ℕ) (ts : List (Tree A)) → below (alternatives p n ts) ≡ flat_map subtrees ts
-of_alternatives p n [] = refl
-of_alternatives p n (t ∷ ts) = ap (λ z. subtrees t ++ z) (of_alternatives p (n + 1) ts)
+of_disjuncts : {A : Type 0} (p : Position) (n : ℕ) (ts : List (Tree A)) → below (disjuncts p n ts) ≡ flat_map subtrees ts
+of_disjuncts p n [] = refl
+of_disjuncts p n (t ∷ ts) = ap (λ z. subtrees t ++ z) (of_disjuncts p (n + 1) ts)
 
 of_conjuncts : {A : Type 0} (p : Position) (ts : List (Tree A)) → below (conjuncts p ts) ≡ flat_map subtrees ts
 of_conjuncts p [] = refl
@@ -35,7 +35,7 @@ of_conjuncts p (t ∷ ts) = ap (λ z. subtrees t ++ z) (of_conjuncts p ts)
 parted : {A : Type 0} (p : Position) (t : Tree A) → subtrees t ≡ t ∷ below (children_at forward_chosen p t)
 parted p (leaf a l) = refl
 parted p (alternation a ts) =
-    ap (λ z. alternation a ts ∷ z) (sym (of_alternatives p 0 (picked (places (listed ts)) (listed ts))
+    ap (λ z. alternation a ts ∷ z) (sym (of_disjuncts p 0 (picked (places (listed ts)) (listed ts))
     ∙ ap (flat_map subtrees) (all_picked (listed ts)) ∙ inside ts))
 parted p (concatenation a ts) =
     ap (λ z. concatenation a ts ∷ z) (sym (of_conjuncts p (picked (places (listed ts)) (listed ts))
@@ -67,7 +67,7 @@ all_given {A = A} (suc n) (e ∷ es) h =
     (IsPermutation-cons e.token (below cs ++ below es) rest turned))
 
 pub each_once : {A : Type 0} (t : Tree A) →
-    IsPermutation (subtrees t) (map (λ e. e.token) (breadth_first forward_chosen (root t ∷ [])))
+    IsPermutation (subtrees t) (map (λ e. e.token) (breadth_first forward_chosen (root_entry t ∷ [])))
 each_once t =
-    subst (λ z. IsPermutation z (map (λ e. e.token) (breadth_first forward_chosen (root t ∷ [])))) (append-nil (subtrees t))
-    (all_given (length (below (root t ∷ []))) (root t ∷ []) refl)
+    subst (λ z. IsPermutation z (map (λ e. e.token) (breadth_first forward_chosen (root_entry t ∷ [])))) (append-nil (subtrees t))
+    (all_given (length (below (root_entry t ∷ []))) (root_entry t ∷ []) refl)

@@ -6,8 +6,8 @@ use Rattle.wax_fold.specs.declared.walk.branch.BranchFold.{BranchFold}
 use Rattle.wax_fold.specs.declared.walk.branch.BranchFold.TheVariants.{Alternation, Concatenation, Repetition}
 use Rattle.wax_fold.specs.Folded.{listed_term}
 
--- what a folder answers: the new token of a branch, by its annotation, its kind and its new tokens, and the new
--- token of a leaf with its annotation
+-- what a folder answers: the new token of a branch, by its annotation, its kind and its new tokens, and the
+-- new token of a leaf with its annotation
 pub record Mapping (A X : Type 0) : Type 0 where
   pub fold : A → BranchFold → List X → Option X
   pub map : A → Leaf → X

@@ -15,13 +15,13 @@ pub record Entry (A : Type 0) : Type 0 where
   pub position : Position
 
 -- a whole tree
-abbrev pub root : {A : Type 0} → Tree A → Entry A
-root t = record { token = t; position = origin }
+abbrev pub root_entry : {A : Type 0} → Tree A → Entry A
+root_entry t = record { token = t; position = origin }
 
 -- branches of an alternation, numbered from a number on
-abbrev pub alternatives : {A : Type 0} → Position → ℕ → List (Tree A) → List (Entry A)
-alternatives p n [] = []
-alternatives p n (t ∷ ts) = record { token = t; position = disjunction p n } ∷ alternatives p (n + 1) ts
+abbrev pub disjuncts : {A : Type 0} → Position → ℕ → List (Tree A) → List (Entry A)
+disjuncts p n [] = []
+disjuncts p n (t ∷ ts) = record { token = t; position = disjunction p n } ∷ disjuncts p (n + 1) ts
 
 -- tokens of a concatenation or a repetition
 abbrev pub conjuncts : {A : Type 0} → Position → List (Tree A) → List (Entry A)
@@ -29,7 +29,7 @@ conjuncts p ts = map (λ t. record { token = t; position = conjunction p }) ts
 
 -- tokens of a branch of that kind that stands there
 abbrev pub placed : {A : Type 0} → BranchFold → Position → List (Tree A) → List (Entry A)
-placed Alternation p ts = alternatives p 0 ts
+placed Alternation p ts = disjuncts p 0 ts
 placed Concatenation p ts = conjuncts p ts
 placed (Repetition low high) p ts = conjuncts p ts
 
@@ -68,4 +68,4 @@ breadth_first chosen es = levels_to chosen (height es) es
 
 -- all tokens of a tree that are chosen
 abbrev pub tree_order : {A : Type 0} → (Branch A → List ℕ) → Tree A → List (Entry A)
-tree_order chosen t = breadth_first chosen (root t ∷ [])
+tree_order chosen t = breadth_first chosen (root_entry t ∷ [])

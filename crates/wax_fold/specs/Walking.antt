@@ -9,7 +9,7 @@ use Rattle.wax_fold.specs.declared.walk.entry.WalkEntry.{WalkEntry}
 use Rattle.wax_fold.specs.declared.walk.iterator.Walk.{Walk}
 use Rattle.wax_fold.specs.Branches.{Branch}
 use Rattle.wax_fold.specs.Folded.{listed_term}
-use Rattle.wax_fold.specs.Order.{Entry, root, children, breadth_first}
+use Rattle.wax_fold.specs.Order.{Entry, root_entry, children, breadth_first}
 
 -- the tokens that are to come with all below them, and the token given last, unless what is below it was
 -- cancelled
@@ -17,18 +17,18 @@ pub record Walking (A : Type 0) : Type 0 where
   pub rest : List (Entry A)
   pub current : Option (Entry A)
 
-abbrev pub entry_of : {A : Type 0} → WalkEntry (Bor (Tree A)) → Entry A
-entry_of e = record { token = e.token.now; position = e.position }
+abbrev pub walk_entry : {A : Type 0} → WalkEntry (Bor (Tree A)) → Entry A
+walk_entry e = record { token = e.token.now; position = e.position }
 
 abbrev pub walking : {A S : Type 0} → Walk A S → Walking A
 walking w = record {
-  rest = map entry_of (listed_term w.first ++ w.queue.items);
-  current = option_map entry_of w.current;
+  rest = map walk_entry (listed_term w.first ++ w.queue.items);
+  current = option_map walk_entry w.current;
 }
 
 -- nothing was given yet
-abbrev pub begun : {A : Type 0} → Tree A → Walking A
-begun t = record { rest = root t ∷ []; current = None }
+abbrev pub walk_begun : {A : Type 0} → Tree A → Walking A
+walk_begun t = record { rest = root_entry t ∷ []; current = None }
 
 module _ {A : Type 0} (chosen : Branch A → List ℕ) where
   abbrev pub below_current : Option (Entry A) → List (Entry A)
@@ -51,8 +51,8 @@ module _ {A : Type 0} (chosen : Branch A → List ℕ) where
   -- want of memory
   abbrev pub Nexts : Walking A → Option (Result (WalkEntry (Bor (Tree A))) NoMemory) → Walking A → Type 0
   Nexts old None new = (to_come old ≡ []) × (to_come new ≡ [])
-  Nexts old (Some (Ok e)) new = (to_come old ≡ entry_of e ∷ to_come new)
-      × (roots old ≡ entry_of e ∷ new.rest) × (new.current ≡ Some (entry_of e))
+  Nexts old (Some (Ok e)) new = (to_come old ≡ walk_entry e ∷ to_come new)
+      × (roots old ≡ walk_entry e ∷ new.rest) × (new.current ≡ Some (walk_entry e))
   Nexts old (Some (Err f)) new = (new.rest ≡ []) × (new.current ≡ None)
 
   -- no more items come than this

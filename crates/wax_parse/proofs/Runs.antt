@@ -4,7 +4,7 @@ use Rattle.wax_token.specs.declared.token.Archetype.{Archetype}
 use Rattle.wax_token.specs.declared.token.Archetype.TheVariants.{Character}
 use Rattle.wax_token.specs.Syntax.{literal}
 use Rattle.wax_token.specs.Reads.{is_one_of, starts_in, escapable, class_escapable}
-use Rattle.wax_parse.specs.Parser.{strip, escaped_step, literal_step, put, literal_run, literal_leaf, is_plain_character, is_plain, StopsPlain, class_step, range_to, archetype_of, archetype_after, archetype_step, put_some, go_on, class_run, prefixed}
+use Rattle.wax_parse.specs.Parser.{strip, escaped_step, literal_step, put, literal_run, literal_leaf, is_plain_character, is_plain_text, StopsPlain, class_step, range_to, archetype_of, archetype_after, archetype_step, put_some, go_on, class_run, prefixed}
 
 pub none_some : {A : Type 0} (x : A) → None ≡ Some x → ⊥
 none_some x e = cc
@@ -25,11 +25,11 @@ not_true false e = refl
 pub shift_one : {A : Type 0} (whole t p q : List A) (c : A) → whole ≡ t ++ p → p ≡ c ∷ q → whole ≡ (t ++ c ∷ []) ++ q
 shift_one whole t p q c e f = e ∙ ap (λ z. t ++ z) f ∙ sym (append_assoc t (c ∷ []) q)
 
-pub plain_more : (t : List ℕ) (c : ℕ) → is_plain t ≡ true → is_plain_character c ≡ true → is_plain (t ++ c ∷ []) ≡ true
+pub plain_more : (t : List ℕ) (c : ℕ) → is_plain_text t ≡ true → is_plain_character c ≡ true → is_plain_text (t ++ c ∷ []) ≡ true
 plain_more [] c e f = ap (λ b. b && true) f
 plain_more (d ∷ t) c e f =
-    let h : (is_plain_character d ≡ true) × (is_plain t ≡ true) = and_true (is_plain_character d) (is_plain t) e in
-    ap (λ b. b && is_plain (t ++ c ∷ [])) h.0 ∙ plain_more t c h.1 f
+    let h : (is_plain_character d ≡ true) × (is_plain_text t ≡ true) = and_true (is_plain_character d) (is_plain_text t) e in
+    ap (λ b. b && is_plain_text (t ++ c ∷ [])) h.0 ∙ plain_more t c h.1 f
 
 -- ---- the run of a literal by its steps
 abbrev StepsTo : List ℕ → Option (ℕ × List ℕ) → Type 0
@@ -92,10 +92,10 @@ plain_step c s e =
     ∙ ap (one_step c s) h.1
 
 -- plain characters first
-pub run_plain : (t q : List ℕ) → is_plain t ≡ true → literal_run (t ++ q) ≡ (t ++ (literal_run q).0, (literal_run q).1)
+pub run_plain : (t q : List ℕ) → is_plain_text t ≡ true → literal_run (t ++ q) ≡ (t ++ (literal_run q).0, (literal_run q).1)
 run_plain [] q e = refl
 run_plain (c ∷ t) q e =
-    let h : (is_plain_character c ≡ true) × (is_plain t ≡ true) = and_true (is_plain_character c) (is_plain t) e in
+    let h : (is_plain_character c ≡ true) × (is_plain_text t ≡ true) = and_true (is_plain_character c) (is_plain_text t) e in
     run_step (c ∷ (t ++ q)) (t ++ q) c (plain_step c (t ++ q) h.0) ∙ ap (put c) (run_plain t q h.1)
 
 -- no plain character and no backslash
@@ -110,11 +110,11 @@ stops (c ∷ s) h e = elim (92 == c) as (λ b. (if b then Some s else None) ≡ 
       ] k
     ] e h
 
-pub run_borrowed : (whole t q : List ℕ) → whole ≡ t ++ q → is_plain t ≡ true → StopsPlain q → strip 92 q ≡ None → literal_run whole ≡ (t, q)
+pub run_borrowed : (whole t q : List ℕ) → whole ≡ t ++ q → is_plain_text t ≡ true → StopsPlain q → strip 92 q ≡ None → literal_run whole ≡ (t, q)
 run_borrowed whole t q e f g h =
     run_end whole t q (stops q g h) (ap literal_run e ∙ run_plain t q f)
 
-pub run_owned : (whole t q u v : List ℕ) → whole ≡ t ++ q → is_plain t ≡ true → u ≡ t ++ (literal_run q).0 → v ≡ (literal_run q).1 → literal_run whole ≡ (u, v)
+pub run_owned : (whole t q u v : List ℕ) → whole ≡ t ++ q → is_plain_text t ≡ true → u ≡ t ++ (literal_run q).0 → v ≡ (literal_run q).1 → literal_run whole ≡ (u, v)
 run_owned whole t q u v e f g h = ap literal_run e ∙ run_plain t q f ∙ (λ i. (sym g i, sym h i))
 
 -- ---- the leaf of a run

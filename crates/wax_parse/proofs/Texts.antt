@@ -5,7 +5,7 @@ use Rattle.std.specs.Char.{IsScalar}
 use Rattle.std.proofs.lemmas.Str.{encodes-chars, encodes-append, encodes_same, chars-append, chars_past_char, chars-nil, len_utf8_bounds, IsUtf8-encode, IsCharBoundary-at_seam}
 use Rattle.wax_token.specs.Reads.{Span, utf8_len}
 use Rattle.wax_parse.specs.Accepted.{IsPlace, first_len}
-use Rattle.wax_parse.specs.Reading.{Beyond, Taken}
+use Rattle.wax_parse.specs.Reading.{Beyond, IsTaken}
 use Rattle.wax_token.proofs.Bytes.{bytes_len}
 use Rattle.std.proofs.Math.Seq.{take-append_seam}
 
@@ -75,13 +75,13 @@ beyond_same p = ([], refl)
 pub beyond_more : (p q r : List ℕ) → Beyond p q → Beyond q r → Beyond p r
 beyond_more p q r h k = (h.0 ++ k.0, h.1 ∙ ap (λ z. h.0 ++ z) k.1 ∙ sym (append_assoc h.0 k.0 r))
 
-pub taken_beyond : (p q : List ℕ) → Taken p q → Beyond p q
+pub taken_beyond : (p q : List ℕ) → IsTaken p q → Beyond p q
 taken_beyond p q h = (h.0, h.1)
 
-pub beyond_taken : (p q r : List ℕ) → Beyond p q → Taken q r → Taken p r
+pub beyond_taken : (p q r : List ℕ) → Beyond p q → IsTaken q r → IsTaken p r
 beyond_taken p q r h k = (h.0 ++ k.0, h.1 ∙ ap (λ z. h.0 ++ z) k.1 ∙ sym (append_assoc h.0 k.0 r), omega (arith, k.2, length-append h.0 k.0))
 
-pub taken_shorter : (p q : List ℕ) → Taken p q → length q < length p
+pub taken_shorter : (p q : List ℕ) → IsTaken p q → length q < length p
 taken_shorter p q h = omega (arith, ap length h.1, length-append h.0 q, h.2)
 
 -- an end of the text that is as long

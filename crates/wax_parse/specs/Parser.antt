@@ -24,7 +24,8 @@ escaped_step set (d ∷ s) = if is_one_of set d then Some (d, s) else None
 -- the next character, where those of the set are escaped, and the text after it; a stop ends the run
 abbrev pub spelled_step : List ℕ → List ℕ → List ℕ → Option (ℕ × List ℕ)
 spelled_step set stop [] = None
-spelled_step set stop (c ∷ s) = if 92 == c then escaped_step set s else if is_one_of stop c then None else Some (c, s)
+spelled_step set stop (c ∷ s) =
+    if 92 == c then escaped_step set s else if is_one_of stop c then None else Some (c, s)
 
 abbrev pub literal_step : List ℕ → Option (ℕ × List ℕ)
 literal_step p = spelled_step escapable (47 ∷ escapable) p
@@ -37,8 +38,8 @@ class_step p = spelled_step class_escapable class_escapable p
 abbrev pub is_plain_character : ℕ → Bool
 is_plain_character c = not (is_one_of (92 ∷ 47 ∷ escapable) c)
 
-abbrev pub is_plain : List ℕ → Bool
-is_plain t = list_all is_plain_character t
+abbrev pub is_plain_text : List ℕ → Bool
+is_plain_text t = list_all is_plain_character t
 
 -- the end, or a character that isn't plain
 abbrev pub StopsPlain : List ℕ → Type 0
@@ -81,7 +82,8 @@ abbrev pub put_some : Archetype → Option (List Archetype × List ℕ) → Opti
 put_some a None = None
 put_some a (Some r) = Some (put a r)
 
-abbrev pub go_on : (List ℕ → Option (List Archetype × List ℕ)) → Option (Archetype × List ℕ) → Option (List Archetype × List ℕ)
+abbrev pub go_on : (List ℕ → Option (List Archetype × List ℕ)) → Option (Archetype × List ℕ)
+    → Option (List Archetype × List ℕ)
 go_on again None = None
 go_on again (Some r) = put_some r.0 (again r.1)
 
@@ -104,7 +106,8 @@ prefixed xs (Some r) = Some (xs ++ r.0, r.1)
 -- a class, after its opening bracket
 abbrev pub read_class : List ℕ → Option (Leaf × List ℕ)
 read_class [] = None
-read_class (c ∷ s) = if 33 == c then class_leaf true (class_run (length s) s) else class_leaf false (class_run (length (c ∷ s)) (c ∷ s))
+read_class (c ∷ s) = if 33 == c then class_leaf true (class_run (length s) s)
+    else class_leaf false (class_run (length (c ∷ s)) (c ∷ s))
 
 -- ---- flag groups
 abbrev pub at : Bool → List ℕ → Place
@@ -128,7 +131,8 @@ toggle_step (c ∷ s) = if 105 == c then Some (true, s) else if 45 == c then tog
 abbrev mutual
   pub group_end : Bool → List ℕ → Option Place
   group_end b [] = None
-  group_end b (c ∷ s) = if 41 == c then Some (at b s) else if 105 == c then group_end true s else if 45 == c then dash_end s else None
+  group_end b (c ∷ s) = if 41 == c then Some (at b s) else if 105 == c then group_end true s
+      else if 45 == c then dash_end s else None
 
   pub dash_end : List ℕ → Option Place
   dash_end [] = None
@@ -204,7 +208,8 @@ boundary_leaf p None = (separator, p)
 boundary_leaf p (Some q) = (tree true, q)
 
 abbrev pub zero_or_more_leaf : Evaluation → Place → Option (Leaf × Place)
-zero_or_more_leaf evaluation p = if starts_in (codes "*$") (flags_end p).rest then None else Some (zero_or_more evaluation, p)
+zero_or_more_leaf evaluation p =
+    if starts_in (codes "*$") (flags_end p).rest then None else Some (zero_or_more evaluation, p)
 
 -- a leaf before which and after which literals are the same
 abbrev pub with_flag : Bool → Option (Leaf × List ℕ) → Option (Leaf × Place)
@@ -243,7 +248,9 @@ next_number n d = if ltb (n * 10 + d) (2 ^ 64) then Some (n * 10 + d) else None
 abbrev pub digits_run : ℕ → List ℕ → Option (ℕ × List ℕ)
 digits_run n [] = Some (n, [])
 digits_run n (c ∷ s) =
-    if is_ascii_digit c then (if ltb (n * 10 + (c - 48)) (2 ^ 64) then digits_run (n * 10 + (c - 48)) s else None) else Some (n, c ∷ s)
+    if is_ascii_digit c
+    then (if ltb (n * 10 + (c - 48)) (2 ^ 64) then digits_run (n * 10 + (c - 48)) s else None)
+    else Some (n, c ∷ s)
 
 abbrev pub digits_after : Option (ℕ × List ℕ) → Option (ℕ × List ℕ)
 digits_after None = None

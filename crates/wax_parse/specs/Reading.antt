@@ -1,4 +1,5 @@
--- What a part of the expression is read as. What the parser's functions answer, and no part of the language's definition.
+-- What a part of the expression is read as. What the parser's functions answer, and no part of the language's
+-- definition.
 use Rattle.wax_query.specs.declared.diagnostics.Refusal.{Refusal}
 use Rattle.wax_query.specs.declared.diagnostics.Refusal.TheVariants.{Refused, Memory}
 use Rattle.std.specs.Prelude.{chars, ◌≡◌, ◌≤◌, ◌<◌, length, Bool, true, false, ℕ, List, [], ◌∷◌, ◌++◌, codes}
@@ -21,22 +22,24 @@ abbrev pub TokenFrom : ℕ → Around → ℕ → Bool → Place → Tree Span �
 TokenFrom size around depth first p t q = ReadsToken size t around first p q × (nesting t ≤ depth)
 
 abbrev pub TokensFrom : ℕ → Around → ℕ → Bool → Place → Trees Span → Place → Type 0
-TokensFrom size around depth first p ts q = ReadsTokens size ts around first p q × IsEnd around q × (deepest ts ≤ depth)
+TokensFrom size around depth first p ts q = ReadsTokens size ts around first p q × IsEnd around q
+    × (deepest ts ≤ depth)
 
 abbrev pub GlobFrom : ℕ → Around → ℕ → Place → Tree Span → Place → Type 0
 GlobFrom size around depth p t q = ReadsGlob size t around p q × (nesting t ≤ depth)
 
 -- the branches of an alternation, and its closing brace
 abbrev pub BranchesFrom : ℕ → ℕ → Place → Trees Span → Place → Type 0
-BranchesFrom size depth p ts q = (k : Place) × ReadsBranches size ts p k × Past (codes "}") k q × (deepest ts ≤ depth)
+BranchesFrom size depth p ts q = (k : Place) × ReadsBranches size ts p k × Past (codes "}") k q
+    × (deepest ts ≤ depth)
 
 -- ---- what there is to read
 -- q comes after p, or is p
 abbrev pub Beyond : List ℕ → List ℕ → Type 0
 Beyond p q = (x : List ℕ) × (p ≡ x ++ q)
 
-abbrev pub Taken : List ℕ → List ℕ → Type 0
-Taken p q = (x : List ℕ) × (p ≡ x ++ q) × (0 < length x)
+abbrev pub IsTaken : List ℕ → List ℕ → Type 0
+IsTaken p q = (x : List ℕ) × (p ≡ x ++ q) × (0 < length x)
 
 -- a refusal for this reason
 abbrev pub IsRefusal : {E : Type 0} → (E → Type 0) → Refusal E → Type 0
@@ -58,14 +61,18 @@ pub record Begun (R S : Trees Span → Place → Type 0) (ts : List (Tree Span))
 
 -- ---- from a cursor
 abbrev pub GlobAt : Scope → Cursor → Tree Span → Place → Type 0
-GlobAt scope from t q = GlobFrom (utf8_len (chars scope.expression.now)) (around_of scope.around) scope.depth (place from) t q
+GlobAt scope from t q =
+    GlobFrom (utf8_len (chars scope.expression.now)) (around_of scope.around) scope.depth (place from) t q
 
 abbrev pub TokenAt : Scope → Bool → Cursor → Tree Span → Place → Type 0
-TokenAt scope first from t q = TokenFrom (utf8_len (chars scope.expression.now)) (around_of scope.around) scope.depth first (place from) t q
+TokenAt scope first from t q =
+    TokenFrom (utf8_len (chars scope.expression.now)) (around_of scope.around) scope.depth first
+    (place from) t q
 
 abbrev pub BranchesAt : Scope → Cursor → Trees Span → Place → Type 0
-BranchesAt scope from ts q = BranchesFrom (utf8_len (chars scope.expression.now)) scope.depth (place from) ts q
+BranchesAt scope from ts q =
+    BranchesFrom (utf8_len (chars scope.expression.now)) scope.depth (place from) ts q
 
 -- the cursor stands in the expression
-abbrev pub Within : Scope → Cursor → Type 0
-Within scope from = Beyond (chars scope.expression.now) (chars from.rest.now)
+abbrev pub IsWithinScope : Scope → Cursor → Type 0
+IsWithinScope scope from = Beyond (chars scope.expression.now) (chars from.rest.now)

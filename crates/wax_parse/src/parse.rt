@@ -85,7 +85,8 @@ fn read_expression<'t>(
     alloc: Global,
     expression: &'t str,
 ) -> Result<Token<'t, ExpressionMetadata>, Refusal<ParseError>>
-    ensures { MatchBuild result (λ t. Reads (chars expression.now) t × ((u : Tree Span) → Reads (chars expression.now) u → u ≡ t))
+    ensures { MatchBuild result
+        (λ t. Reads (chars expression.now) t × ((u : Tree Span) → Reads (chars expression.now) u → u ≡ t))
         (λ e. ((t : Tree Span) → Reads (chars expression.now) t → ⊥) × IsPlace (chars expression.now) e) }
 {
     if expression.is_empty() {

@@ -7,13 +7,13 @@ use Rattle.wax_token.specs.Syntax.{literal, class, separator, one, zero_or_more,
 use Rattle.wax_token.specs.Words.{members}
 use Rattle.wax_facts.specs.Prefix.{opened}
 use Rattle.wax_facts.specs.Rest.{after, begins_with_tree, entered, inner, inner_last, left, or_here, owner, rest, unrooted}
-use Rattle.wax_partition.specs.Shifted.{shifted, shifted_each, shifted_rest}
+use Rattle.wax_partition.specs.Shifted.{shifted_tree, shifted_each, shifted_rest}
 use Rattle.wax_partition.proofs.RestMeans.{rest_same}
 
 -- ---- no span changes a cost
 module _ (k : ℕ) where
   mutual
-    holds_here : (t : Tree Span) → holds_tree (shifted k t) ≡ holds_tree t
+    holds_here : (t : Tree Span) → holds_tree (shifted_tree k t) ≡ holds_tree t
     holds_here (leaf a l) = refl
     holds_here (alternation a ts) = some_hold ts
     holds_here (concatenation a ts) = some_hold ts
@@ -24,7 +24,7 @@ module _ (k : ℕ) where
     some_hold (more t ts) = λ i. holds_here t i || some_hold ts i
 
   mutual
-    cost_here : (t : Tree Span) → cost (shifted k t) ≡ cost t
+    cost_here : (t : Tree Span) → cost (shifted_tree k t) ≡ cost t
     cost_here (leaf a l) = refl
     cost_here (alternation a ts) = ap (λ n. 1 + n) (branches_here ts)
     cost_here (concatenation a ts) = costs_here ts

@@ -4,7 +4,7 @@ use Rattle.std.proofs.lemmas.List.{reverse-append}
 use Rattle.wax_token.specs.Reads.{Span}
 use Rattle.wax_token.specs.Syntax.{Tree, more, tree_size, trees_size}
 use Rattle.wax_token.specs.Words.{trees}
-use Rattle.wax_partition.specs.Shifted.{shifted, shifted_each}
+use Rattle.wax_partition.specs.Shifted.{shifted_tree, shifted_each}
 
 size_pushed : {A : Type 0} (ts : List (Tree A)) (t : Tree A) → trees_size (trees (ts ++ t ∷ [])) ≡ trees_size (trees ts) + tree_size t + 1
 size_pushed [] t = omega arith
@@ -27,6 +27,6 @@ shifted_step f old new x done grown y all e g h k =
     ap (λ z. map f new ++ z) (ap reverse g ∙ reverse-append done (y ∷ []) ∙ ap (λ z. z ∷ reverse done) h)
     ∙ sym (map_pushed f new x (reverse done)) ∙ ap (λ z. map f z ++ reverse done) (sym e) ∙ k
 
-pub each_shifted : (k : ℕ) (ts : List (Tree Span)) → trees (map (shifted k) ts) ≡ shifted_each k (trees ts)
+pub each_shifted : (k : ℕ) (ts : List (Tree Span)) → trees (map (shifted_tree k) ts) ≡ shifted_each k (trees ts)
 each_shifted k [] = refl
-each_shifted k (t ∷ ts) = ap (λ z. more (shifted k t) z) (each_shifted k ts)
+each_shifted k (t ∷ ts) = ap (λ z. more (shifted_tree k t) z) (each_shifted k ts)

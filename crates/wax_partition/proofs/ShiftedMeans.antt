@@ -3,11 +3,11 @@ use Rattle.std.proofs.Common.{◌≡◌, ◌≤◌, ◌⊎◌, ℕ, Bool, true, 
 use Rattle.wax_token.specs.Meaning.{AtMost, Copies, Means, MeansEach, MeansSome}
 use Rattle.wax_token.specs.Reads.{Span}
 use Rattle.wax_token.specs.Syntax.{Tree, leaf, alternation, concatenation, repetition, Trees, none, more}
-use Rattle.wax_partition.specs.Shifted.{shifted, shifted_each}
+use Rattle.wax_partition.specs.Shifted.{shifted_tree, shifted_each}
 
 module _ (k : ℕ) where
   mutual
-    pub means_shifted : (t : Tree Span) (b f : Bool) (s : List ℕ) → Means (shifted k t) b f s ≡ Means t b f s
+    pub means_shifted : (t : Tree Span) (b f : Bool) (s : List ℕ) → Means (shifted_tree k t) b f s ≡ Means t b f s
     means_shifted (leaf a l) b f s = refl
     means_shifted (alternation a ts) b f s = some_shifted ts b f s
     means_shifted (concatenation a ts) b f s = each_shifted ts b f s

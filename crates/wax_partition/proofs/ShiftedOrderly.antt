@@ -6,21 +6,21 @@ use Rattle.wax_rule.specs.Rules.{are_incompatible}
 use Rattle.wax_rule.specs.Situated.{starts_in, some_starts_in, first_starts_in, ends_in, some_ends_in, last_ends_in}
 use Rattle.wax_token.specs.Kinds.{is_boundary_leaf}
 use Rattle.wax_facts.specs.Orderly.{Apart, ApartEach, ApartSome, Flat, FlatEach, FlatSome, Full, FullEach, IsSome, Orderly, Worded, WordedEach, is_token}
-use Rattle.wax_partition.specs.Shifted.{shifted, shifted_each}
+use Rattle.wax_partition.specs.Shifted.{shifted_tree, shifted_each}
 
 module _ (k : ℕ) where
   some_here : (ts : Trees Span) → IsSome (shifted_each k ts) ≡ IsSome ts
   some_here none = refl
   some_here (more t ts) = refl
 
-  token_here : (t : Tree Span) → is_token (shifted k t) ≡ is_token t
+  token_here : (t : Tree Span) → is_token (shifted_tree k t) ≡ is_token t
   token_here (leaf a l) = refl
   token_here (alternation a ts) = refl
   token_here (concatenation a ts) = refl
   token_here (repetition a t low high) = refl
 
   mutual
-    full_here : (t : Tree Span) → Full (shifted k t) ≡ Full t
+    full_here : (t : Tree Span) → Full (shifted_tree k t) ≡ Full t
     full_here (leaf a l) = refl
     full_here (alternation a ts) = λ i. some_here ts i × full_each ts i
     full_here (concatenation a ts) = λ i. some_here ts i × full_each ts i
@@ -31,7 +31,7 @@ module _ (k : ℕ) where
     full_each (more t ts) = λ i. full_here t i × full_each ts i
 
   mutual
-    flat_here : (t : Tree Span) → Flat (shifted k t) ≡ Flat t
+    flat_here : (t : Tree Span) → Flat (shifted_tree k t) ≡ Flat t
     flat_here (leaf a l) = refl
     flat_here (alternation a ts) = flat_some ts
     flat_here (concatenation a ts) = flat_each ts
@@ -46,7 +46,7 @@ module _ (k : ℕ) where
     flat_each (more t ts) = λ i. (token_here t i ≡ true) × flat_here t i × flat_each ts i
 
   mutual
-    worded_here : (t : Tree Span) → Worded (shifted k t) ≡ Worded t
+    worded_here : (t : Tree Span) → Worded (shifted_tree k t) ≡ Worded t
     worded_here (leaf a l) = refl
     worded_here (alternation a ts) = worded_each ts
     worded_here (concatenation a ts) = worded_each ts
@@ -57,7 +57,7 @@ module _ (k : ℕ) where
     worded_each (more t ts) = λ i. worded_here t i × worded_each ts i
 
   mutual
-    starts_here : (such : Leaf → Bool) (t : Tree Span) → starts_in such (shifted k t) ≡ starts_in such t
+    starts_here : (such : Leaf → Bool) (t : Tree Span) → starts_in such (shifted_tree k t) ≡ starts_in such t
     starts_here such (leaf a l) = refl
     starts_here such (alternation a ts) = starts_some such ts
     starts_here such (concatenation a ts) = starts_first such ts
@@ -72,7 +72,7 @@ module _ (k : ℕ) where
     starts_first such (more t ts) = starts_here such t
 
   mutual
-    ends_here : (such : Leaf → Bool) (t : Tree Span) → ends_in such (shifted k t) ≡ ends_in such t
+    ends_here : (such : Leaf → Bool) (t : Tree Span) → ends_in such (shifted_tree k t) ≡ ends_in such t
     ends_here such (leaf a l) = refl
     ends_here such (alternation a ts) = ends_some such ts
     ends_here such (concatenation a ts) = ends_last such ts
@@ -88,7 +88,7 @@ module _ (k : ℕ) where
     ends_last such (more t (more u us)) = ends_last such (more u us)
 
   mutual
-    apart_here : (t : Tree Span) → Apart (shifted k t) ≡ Apart t
+    apart_here : (t : Tree Span) → Apart (shifted_tree k t) ≡ Apart t
     apart_here (leaf a l) = refl
     apart_here (alternation a ts) = apart_some ts
     apart_here (concatenation a ts) = apart_each ts

@@ -3,7 +3,7 @@ ghost use Rattle.std.specs.Prelude.{◌≡◌, IfOk};
 ghost use Rattle.wax_token.specs.Reads.{Span};
 ghost use Rattle.wax_token.specs.View.{branch_tree};
 ghost use Rattle.wax_token.specs.Words.{trees};
-ghost use Rattle.wax_partition.specs.Shifted.{shifted, shifted_each, shifted_span};
+ghost use Rattle.wax_partition.specs.Shifted.{shifted_tree, shifted_each, shifted_span};
 
 use std::alloc::{AllocError, Global};
 use wax_token::token::{
@@ -18,7 +18,7 @@ pub fn shifted<'t>(
     token: Token<'t, ExpressionMetadata>,
     bytes: usize,
 ) -> Result<Token<'t, ExpressionMetadata>, AllocError>
-    ensures { IfOk result (λ t. t ≡ shifted bytes token.entry) }
+    ensures { IfOk result (λ t. t ≡ shifted_tree bytes token.entry) }
 {
     let (topology, annotation) = token.into_parts();
     let here = shifted_metadata(annotation, bytes);
@@ -42,7 +42,7 @@ fn shifted_branch<'t>(
     bytes: usize,
 ) -> Result<BranchKind<'t, ExpressionMetadata>, AllocError>
     ensures { (s : Span) → IfOk result (λ b.
-        branch_tree b (shifted_span bytes s) ≡ shifted bytes (branch_tree branch.entry s)) }
+        branch_tree b (shifted_span bytes s) ≡ shifted_tree bytes (branch_tree branch.entry s)) }
 {
     match branch {
         BranchKind::Alternation(a) => {

@@ -8,7 +8,7 @@ use Rattle.wax_token.specs.Syntax.{Tree, Trees, none, more}
 use Rattle.wax_token.specs.Words.{trees}
 use Rattle.wax_token.specs.Reads.{Span}
 use Rattle.wax_rule.specs.Rules.{break_here, adjacent_span, boundary_break, adjacent_boundaries}
-use Rattle.wax_rule.specs.FirstBreak.{adjacent_after, adjacent_at, first_some, first_adjacent, first_of}
+use Rattle.wax_rule.specs.FirstBreak.{adjacent_after, adjacent_at, first_some, first_adjacent, head_of}
 
 abbrev pub found : Option (ℕ × Option Span) → Option Span
 found None = None
@@ -33,17 +33,17 @@ found_first f a j (t ∷ u ∷ us) h =
       | Some s ↦ λ e. rw e refl
     ] here
 
-first_is : (ts : Trees Span) → first_of (adjacent_boundaries ts) ≡ option_map (break_here AdjacentBoundary) (first_adjacent ts)
+first_is : (ts : Trees Span) → head_of (adjacent_boundaries ts) ≡ option_map (break_here AdjacentBoundary) (first_adjacent ts)
 first_is none = refl
 first_is (more t none) = refl
-first_is (more t (more u us)) = elim (adjacent_span t u) as (λ o. first_of (boundary_break o ++ adjacent_boundaries (more u us)) ≡ option_map (break_here AdjacentBoundary) (first_some o (first_adjacent (more u us)))) [
+first_is (more t (more u us)) = elim (adjacent_span t u) as (λ o. head_of (boundary_break o ++ adjacent_boundaries (more u us)) ≡ option_map (break_here AdjacentBoundary) (first_some o (first_adjacent (more u us)))) [
   | None ↦ first_is (more u us)
   | Some s ↦ refl
 ]
 
 -- what was found tells the first break
 pub found_adjacent : (ts : List (Tree Span)) (o : Option (ℕ × Option Span)) → o ≡ find_at is_some 0 (map (adjacent_at ts) (range_with_len 0 (length ts))) →
-    first_of (adjacent_boundaries (trees ts)) ≡ option_map (break_here AdjacentBoundary) (found o)
+    head_of (adjacent_boundaries (trees ts)) ≡ option_map (break_here AdjacentBoundary) (found o)
 found_adjacent ts o e =
     first_is (trees ts)
     ∙ ap (option_map (break_here AdjacentBoundary)) (sym (ap found e ∙ found_first (adjacent_at ts) 0 0 ts (λ k. (let n : 0 + k ≡ k = omega arith in ap (adjacent_at ts) n))))

@@ -6,7 +6,7 @@ use Rattle.wax_rule.specs.declared.rule.Break.{Break}
 use Rattle.wax_rule.specs.declared.rule.RuleErrorKind.{RuleErrorKind}
 use Rattle.wax_rule.specs.declared.rule.RuleErrorKind.TheVariants.{AdjacentBoundary, IncompatibleBounds, SingularTree, AdjacentZeroOrMore, RootedSubGlob, SingularZeroOrMore, OversizedInvariant}
 use Rattle.wax_rule.specs.Rules.{broken, break_here}
-use Rattle.wax_rule.specs.FirstBreak.{first_of}
+use Rattle.wax_rule.specs.FirstBreak.{head_of}
 use Rattle.wax_token.specs.declared.token.Evaluation.TheVariants.{Eager}
 use Rattle.wax_token.specs.Reads.{Span}
 use Rattle.wax_token.specs.Syntax.{Tree, leaf, alternation, concatenation, repetition, literal, separator, zero_or_more, tree}
@@ -37,7 +37,7 @@ pub neighbours : broken (glob 0 4 (letter 0 ∷ slash 1 ∷ slash 2 ∷ letter 3
 neighbours = refl
 
 -- `{**}//a`: neighbours before branches
-pub neighbours_first : first_of (broken (glob 0 7 (alternation (0, 4) (trees (glob 1 2 (leaf (1, 2) (tree false) ∷ []) ∷ [])) ∷ slash 4 ∷ slash 5 ∷ letter 6 ∷ []))) ≡ Some (break_here AdjacentBoundary (4, 2))
+pub neighbours_first : head_of (broken (glob 0 7 (alternation (0, 4) (trees (glob 1 2 (leaf (1, 2) (tree false) ∷ []) ∷ [])) ∷ slash 4 ∷ slash 5 ∷ letter 6 ∷ []))) ≡ Some (break_here AdjacentBoundary (4, 2))
 neighbours_first = refl
 
 -- `<a/:10,9>`
@@ -49,36 +49,36 @@ pub bounds_of_zero : broken (glob 0 5 (repetition (0, 5) (glob 1 1 (letter 1 ∷
 bounds_of_zero = refl
 
 -- `{a,**}`
-pub tree_alone : first_of (broken (glob 0 6 (alternation (0, 6) (trees (glob 1 1 (letter 1 ∷ []) ∷ glob 3 2 (leaf (3, 2) (tree false) ∷ []) ∷ [])) ∷ [])))
+pub tree_alone : head_of (broken (glob 0 6 (alternation (0, 6) (trees (glob 1 1 (letter 1 ∷ []) ∷ glob 3 2 (leaf (3, 2) (tree false) ∷ []) ∷ [])) ∷ [])))
     ≡ in_alternation SingularTree (0, 6) (Contiguous (3, 2))
 tree_alone = refl
 
 -- `*{a,*}`
-pub stars : first_of (broken (glob 0 6 (star 0 ∷ alternation (1, 5) (trees (glob 2 1 (letter 2 ∷ []) ∷ glob 4 1 (star 4 ∷ []) ∷ [])) ∷ [])))
+pub stars : head_of (broken (glob 0 6 (star 0 ∷ alternation (1, 5) (trees (glob 2 1 (letter 2 ∷ []) ∷ glob 4 1 (star 4 ∷ []) ∷ [])) ∷ [])))
     ≡ in_alternation AdjacentZeroOrMore (1, 5) (Split (0, 1) (4, 1))
 stars = refl
 
 -- `{a,/a}`
-pub root : first_of (broken (glob 0 6 (alternation (0, 6) (trees (glob 1 1 (letter 1 ∷ []) ∷ glob 3 2 (slash 3 ∷ letter 4 ∷ []) ∷ [])) ∷ [])))
+pub root : head_of (broken (glob 0 6 (alternation (0, 6) (trees (glob 1 1 (letter 1 ∷ []) ∷ glob 3 2 (slash 3 ∷ letter 4 ∷ []) ∷ [])) ∷ [])))
     ≡ in_alternation RootedSubGlob (0, 6) (Contiguous (3, 1))
 root = refl
 
 -- `</a/:1,>`
-pub copies : first_of (broken (glob 0 8 (repetition (0, 8) (glob 1 3 (slash 1 ∷ letter 2 ∷ slash 3 ∷ [])) 1 None ∷ [])))
+pub copies : head_of (broken (glob 0 8 (repetition (0, 8) (glob 1 3 (slash 1 ∷ letter 2 ∷ slash 3 ∷ [])) 1 None ∷ [])))
     ≡ in_repetition AdjacentBoundary (0, 8) (Split (1, 1) (3, 1))
 copies = refl
 
 -- `<*:1,>`
-pub star_alone : first_of (broken (glob 0 6 (repetition (0, 6) (glob 1 1 (star 1 ∷ [])) 1 None ∷ [])))
+pub star_alone : head_of (broken (glob 0 6 (repetition (0, 6) (glob 1 1 (star 1 ∷ [])) 1 None ∷ [])))
     ≡ in_repetition SingularZeroOrMore (0, 6) (Contiguous (1, 1))
 star_alone = refl
 
 -- `b<a:65536>`: the whole before its tokens
-pub size_of_the_whole : first_of (broken (glob 0 10 (letter 0 ∷ repetition (1, 9) (glob 2 1 (letter 2 ∷ [])) 65536 (Some 65536) ∷ []))) ≡ Some (break_here OversizedInvariant (0, 10))
+pub size_of_the_whole : head_of (broken (glob 0 10 (letter 0 ∷ repetition (1, 9) (glob 2 1 (letter 2 ∷ [])) 65536 (Some 65536) ∷ []))) ≡ Some (break_here OversizedInvariant (0, 10))
 size_of_the_whole = refl
 
 -- `*<a:65536>`
-pub size_of_a_token : first_of (broken (glob 0 10 (star 0 ∷ repetition (1, 9) (glob 2 1 (letter 2 ∷ [])) 65536 (Some 65536) ∷ []))) ≡ Some (break_here OversizedInvariant (1, 9))
+pub size_of_a_token : head_of (broken (glob 0 10 (star 0 ∷ repetition (1, 9) (glob 2 1 (letter 2 ∷ [])) 65536 (Some 65536) ∷ []))) ≡ Some (break_here OversizedInvariant (1, 9))
 size_of_a_token = refl
 
 -- `<a:65535>`
@@ -86,7 +86,7 @@ pub size_that_fits : broken (glob 0 9 (repetition (0, 9) (glob 1 1 (letter 1 ∷
 size_that_fits = refl
 
 -- `a/{{/b}c}`: neighbours of the branch around, each side by itself
-pub inherited : first_of (broken (glob 0 9 (letter 0 ∷ slash 1 ∷ alternation (2, 7) (trees (glob 3 5 (alternation (3, 4) (trees (glob 4 2 (slash 4 ∷ letter 5 ∷ []) ∷ [])) ∷ letter 7 ∷ []) ∷ [])) ∷ [])))
+pub inherited : head_of (broken (glob 0 9 (letter 0 ∷ slash 1 ∷ alternation (2, 7) (trees (glob 3 5 (alternation (3, 4) (trees (glob 4 2 (slash 4 ∷ letter 5 ∷ []) ∷ [])) ∷ letter 7 ∷ []) ∷ [])) ∷ [])))
     ≡ in_alternation AdjacentBoundary (3, 4) (Split (1, 1) (4, 1))
 inherited = refl
 

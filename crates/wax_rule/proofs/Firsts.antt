@@ -6,7 +6,7 @@ use Rattle.std.specs.List.{flat_map, range_with_len}
 use Rattle.itertools.specs.Consumer.{find_at}
 use Rattle.wax_rule.specs.declared.rule.Break.{Break}
 use Rattle.wax_rule.specs.declared.rule.Rule.{Rule}
-use Rattle.wax_rule.specs.FirstBreak.{first_of, breaks_beside, breaks_of, first_in, is_broken_at, oversized}
+use Rattle.wax_rule.specs.FirstBreak.{head_of, breaks_beside, breaks_of, first_in, is_broken_at, oversized}
 use Rattle.wax_rule.specs.declared.rule.Rule.TheVariants.{Boundary, Bounds, Branch}
 use Rattle.wax_rule.specs.declared.rule.branch.Sort.TheVariants.{Alternation}
 use Rattle.wax_rule.specs.declared.rule.situated.Side.{Side}
@@ -16,9 +16,9 @@ use Rattle.wax_token.specs.Reads.{Span}
 use Rattle.wax_token.specs.Syntax.{Tree}
 use Rattle.wax_token.specs.Words.{trees}
 
-pub first_of_append : {A : Type 0} (xs ys : List A) → first_of (xs ++ ys) ≡ option_or (first_of xs) (first_of ys)
-first_of_append [] ys = refl
-first_of_append (x ∷ xs) ys = refl
+pub head_of_append : {A : Type 0} (xs ys : List A) → head_of (xs ++ ys) ≡ option_or (head_of xs) (head_of ys)
+head_of_append [] ys = refl
+head_of_append (x ∷ xs) ys = refl
 
 -- the first break of the token that was found
 abbrev pub first_found : Rule → List Situated → Option (ℕ × ℕ) → Option Break
@@ -26,14 +26,14 @@ first_found rule row None = None
 first_found rule row (Some p) = first_in rule (slice_get row p.1)
 
 find_first : (rule : Rule) (row rest : List Situated) (a j : ℕ) → ((k : ℕ) → slice_get row (a + k) ≡ slice_get rest k) →
-    first_of (flat_map (breaks_of rule) rest) ≡ first_found rule row (find_at (is_broken_at rule row) j (range_with_len a (length rest)))
+    head_of (flat_map (breaks_of rule) rest) ≡ first_found rule row (find_at (is_broken_at rule row) j (range_with_len a (length rest)))
 find_first rule row [] a j h = refl
 find_first rule row (s ∷ ss) a j h =
     let here : slice_get row a ≡ Some s = (let n : a ≡ a + 0 = omega arith in ap (slice_get row) n) ∙ h 0 in
-    let later : first_of (flat_map (breaks_of rule) ss) ≡ first_found rule row (find_at (is_broken_at rule row) (j + 1) (range_with_len (a + 1) (length ss))) =
+    let later : head_of (flat_map (breaks_of rule) ss) ≡ first_found rule row (find_at (is_broken_at rule row) (j + 1) (range_with_len (a + 1) (length ss))) =
     find_first rule row ss (a + 1) (j + 1) (λ k. (let n : a + 1 + k ≡ a + suc k = omega arith in ap (slice_get row) n) ∙ h (suc k)) in
-    first_of_append (breaks_of rule s) (flat_map (breaks_of rule) ss)
-    ∙ choose (first_of (breaks_of rule s)) (first_of (flat_map (breaks_of rule) ss)) (find_at (is_broken_at rule row) (j + 1) (range_with_len (a + 1) (length ss)))
+    head_of_append (breaks_of rule s) (flat_map (breaks_of rule) ss)
+    ∙ choose (head_of (breaks_of rule s)) (head_of (flat_map (breaks_of rule) ss)) (find_at (is_broken_at rule row) (j + 1) (range_with_len (a + 1) (length ss)))
     (is_broken_at rule row a) (ap (λ o. is_some (first_in rule o)) here) (ap (first_in rule) here) later
   where
     choose : (o p : Option Break) (q : Option (ℕ × ℕ)) (b : Bool) → b ≡ is_some o → first_in rule (slice_get row a) ≡ o → p ≡ first_found rule row q →
@@ -44,36 +44,36 @@ find_first rule row (s ∷ ss) a j h =
     choose (Some x) p q false e f g = absurd (cc)
 
 pub found_first : (rule : Rule) (row : List Situated) (o : Option (ℕ × ℕ)) → o ≡ find_at (is_broken_at rule row) 0 (range_with_len 0 (length row)) →
-    first_of (flat_map (breaks_of rule) row) ≡ first_found rule row o
+    head_of (flat_map (breaks_of rule) row) ≡ first_found rule row o
 found_first rule tokens o e =
     find_first rule tokens tokens 0 0 (λ k. (let n : 0 + k ≡ k = omega arith in ap (slice_get tokens) n)) ∙ ap (first_found rule tokens) (sym e)
 
 -- ---- all rules
 pub first_beside : (row : List Situated) (a b c o p : Option Break) →
-    a ≡ first_of (flat_map (breaks_of Boundary) row) → b ≡ first_of (flat_map (breaks_of Bounds) row) → c ≡ first_of (flat_map (breaks_of Branch) row) →
-    o ≡ option_or a b → p ≡ option_or o c → p ≡ first_of (breaks_beside row)
+    a ≡ head_of (flat_map (breaks_of Boundary) row) → b ≡ head_of (flat_map (breaks_of Bounds) row) → c ≡ head_of (flat_map (breaks_of Branch) row) →
+    o ≡ option_or a b → p ≡ option_or o c → p ≡ head_of (breaks_beside row)
 first_beside row a b c o p x y z j k =
     let u : List Break = flat_map (breaks_of Boundary) row in
     let v : List Break = flat_map (breaks_of Bounds) row in
     let w : List Break = flat_map (breaks_of Branch) row in
     k ∙ ap (λ o. option_or o c) j
-    ∙ ap (λ a. option_or (option_or a b) c) x ∙ ap (λ b. option_or (option_or (first_of u) b) c) y ∙ ap (option_or (option_or (first_of u) (first_of v))) z
-    ∙ ap (λ o. option_or o (first_of w)) (sym (first_of_append u v)) ∙ sym (first_of_append (u ++ v) w)
+    ∙ ap (λ a. option_or (option_or a b) c) x ∙ ap (λ b. option_or (option_or (head_of u) b) c) y ∙ ap (option_or (option_or (head_of u) (head_of v))) z
+    ∙ ap (λ o. option_or o (head_of w)) (sym (head_of_append u v)) ∙ sym (head_of_append (u ++ v) w)
 
-pub first_among : (row : List Situated) → first_of (breaks_among row) ≡ option_or (first_of (breaks_beside row)) (first_of (oversized row))
-first_among row = first_of_append (breaks_beside row) (oversized row)
+pub first_among : (row : List Situated) → head_of (breaks_among row) ≡ option_or (head_of (breaks_beside row)) (head_of (oversized row))
+first_among row = head_of_append (breaks_beside row) (oversized row)
 
 pub oversized_step : (row : List Situated) (i : ℕ) (s : Situated) → i < length row → s ≡ get_or row i s →
-    first_of (oversized (drop i row)) ≡ option_or (first_of (size_breaks s.token)) (first_of (oversized (drop (i + 1) row)))
+    head_of (oversized (drop i row)) ≡ option_or (head_of (size_breaks s.token)) (head_of (oversized (drop (i + 1) row)))
 oversized_step row i s h e =
-    ap (λ z. first_of (oversized z)) (drop_more row i s h)
-    ∙ first_of_append (size_breaks (get_or row i s).token) (oversized (drop (i + 1) row))
-    ∙ ap (λ (z : Situated). option_or (first_of (size_breaks z.token)) (first_of (oversized (drop (i + 1) row)))) (sym e)
+    ap (λ z. head_of (oversized z)) (drop_more row i s h)
+    ∙ head_of_append (size_breaks (get_or row i s).token) (oversized (drop (i + 1) row))
+    ∙ ap (λ (z : Situated). option_or (head_of (size_breaks z.token)) (head_of (oversized (drop (i + 1) row)))) (sym e)
 
 -- ---- the branches of an alternation
 pub alternatives_step : (s : Span) (left right : Option Side) (ts : List (Tree Span)) (i : ℕ) (t : Tree Span) → i < length ts → t ≡ get_or ts i t →
-    first_of (alternative_breaks s left right (trees (drop i ts))) ≡ option_or (first_of (sub_glob_breaks Alternation s left right t)) (first_of (alternative_breaks s left right (trees (drop (i + 1) ts))))
+    head_of (alternative_breaks s left right (trees (drop i ts))) ≡ option_or (head_of (sub_glob_breaks Alternation s left right t)) (head_of (alternative_breaks s left right (trees (drop (i + 1) ts))))
 alternatives_step s left right ts i t h e =
-    ap (λ z. first_of (alternative_breaks s left right (trees z))) (drop_more ts i t h)
-    ∙ first_of_append (sub_glob_breaks Alternation s left right (get_or ts i t)) (alternative_breaks s left right (trees (drop (i + 1) ts)))
-    ∙ ap (λ z. option_or (first_of (sub_glob_breaks Alternation s left right z)) (first_of (alternative_breaks s left right (trees (drop (i + 1) ts))))) (sym e)
+    ap (λ z. head_of (alternative_breaks s left right (trees z))) (drop_more ts i t h)
+    ∙ head_of_append (sub_glob_breaks Alternation s left right (get_or ts i t)) (alternative_breaks s left right (trees (drop (i + 1) ts)))
+    ∙ ap (λ z. option_or (head_of (sub_glob_breaks Alternation s left right z)) (head_of (alternative_breaks s left right (trees (drop (i + 1) ts))))) (sym e)

@@ -4,8 +4,8 @@ use Rattle.std.proofs.lemmas.List.{take-append-drop, drop-append-le, length-drop
 use Rattle.std.proofs.lemmas.Grind.{flat_map-append}
 use Rattle.std.proofs.Math.Seq.{drop-append_seam, take-append_seam, take-add, drop-drop}
 use Rattle.std.specs.List.{flat_map}
-use Rattle.wax_rule.specs.Queue.{branches, siblings, children, children_at, children_between, all_levels}
-use Rattle.wax_rule.specs.Situated.{Situated, end_of, right_of, beside, levels, branch_levels, member_levels, breadth_first}
+use Rattle.wax_rule.specs.Queue.{branches, siblings, children, queue_children, children_between, all_levels}
+use Rattle.wax_rule.specs.Situated.{Situated, end_side, right_of, beside, levels, branch_levels, member_levels, breadth_first}
 use Rattle.wax_rule.specs.declared.rule.situated.Side.{Side}
 use Rattle.wax_token.specs.Reads.{Span}
 use Rattle.wax_token.specs.Syntax.{Tree, leaf, alternation, concatenation, repetition, Trees, none, more}
@@ -31,7 +31,7 @@ branch_levels-all left right (more t ts) = ap (beside (levels left right t)) (br
 
 member_levels-all : (left right : Option Side) (ts : Trees Span) → member_levels left right ts ≡ all_levels (siblings left right ts)
 member_levels-all left right none = refl
-member_levels-all left right (more t ts) = ap (beside (levels left (right_of ts right) t)) (member_levels-all (Some (end_of t)) right ts)
+member_levels-all left right (more t ts) = ap (beside (levels left (right_of ts right) t)) (member_levels-all (Some (end_side t)) right ts)
 
 -- a token alone, and then the levels of what it holds
 levels_between : (left right : Option Side) (t : Tree Span) → levels left right t ≡ (record { token = t; left = left; right = right } ∷ []) ∷ all_levels (children_between left right t)
@@ -78,7 +78,7 @@ first_row t = ap (flat_map (λ level. level)) (beside-nil (levels None None t))
 
 -- one more token's children
 pub children_more : (row row' new : List Situated) (from i : ℕ) → from ≤ i → i < length row →
-    row' ≡ row ++ flat_map children (take (i - from) (drop from row)) → new ≡ row' ++ children_at row' i →
+    row' ≡ row ++ flat_map children (take (i - from) (drop from row)) → new ≡ row' ++ queue_children row' i →
     new ≡ row ++ flat_map children (take (i + 1 - from) (drop from row))
 children_more row row' new from i h k e f =
     let rest : List Situated = flat_map children (take (i - from) (drop from row)) in
@@ -88,8 +88,8 @@ children_more row row' new from i h k e f =
     let there : take 1 (drop i row') ≡ take 1 (drop (i - from) (drop from row)) =
     ap (take 1) place ∙ one (drop i row) rest (let l = length-drop i row in omega (arith, l, k))
     ∙ ap (λ z. take 1 (drop z row)) n ∙ ap (take 1) (sym (drop-drop (i - from) from row)) in
-    f ∙ ap (λ z. z ++ children_at row' i) e
-    ∙ append_assoc row rest (children_at row' i)
+    f ∙ ap (λ z. z ++ queue_children row' i) e
+    ∙ append_assoc row rest (queue_children row' i)
     ∙ ap (λ z. row ++ (rest ++ flat_map children z)) there
     ∙ ap (λ z. row ++ z) (sym (flat_map-append children (take (i - from) (drop from row)) (take 1 (drop (i - from) (drop from row)))))
     ∙ ap (λ z. row ++ flat_map children z) (sym (take-add (i - from) 1 (drop from row)))

@@ -23,9 +23,9 @@ abbrev pub IsFirst : List Break → ErrorView → Type 0
 IsFirst [] e = ⊥
 IsFirst (b ∷ bs) e = (e.kind ≡ b.kind) × (e.location ≡ b.location)
 
-abbrev pub first_of : {A : Type 0} → List A → Option A
-first_of [] = None
-first_of (x ∷ xs) = Some x
+abbrev pub head_of : {A : Type 0} → List A → Option A
+head_of [] = None
+head_of (x ∷ xs) = Some x
 
 abbrev pub adjacent_to : Tree Span → Option (Tree Span) → Option Span
 adjacent_to t None = None
@@ -56,7 +56,7 @@ breaks_of Branch s = branch_breaks s.left s.right s.token
 
 abbrev pub first_in : Rule → Option Situated → Option Break
 first_in rule None = None
-first_in rule (Some s) = first_of (breaks_of rule s)
+first_in rule (Some s) = head_of (breaks_of rule s)
 
 -- the token at the index breaks the rule
 abbrev pub is_broken_at : Rule → List Situated → ℕ → Bool
@@ -64,7 +64,8 @@ is_broken_at rule row i = is_some (first_in rule (slice_get row i))
 
 -- the breaks of all but sizes
 abbrev pub breaks_beside : List Situated → List Break
-breaks_beside row = flat_map (breaks_of Boundary) row ++ flat_map (breaks_of Bounds) row ++ flat_map (breaks_of Branch) row
+breaks_beside row =
+    flat_map (breaks_of Boundary) row ++ flat_map (breaks_of Bounds) row ++ flat_map (breaks_of Branch) row
 
 abbrev pub oversized : List Situated → List Break
 oversized row = flat_map (λ s. size_breaks s.token) row

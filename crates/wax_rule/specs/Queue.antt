@@ -6,7 +6,7 @@ use Rattle.wax_token.specs.TreeCode.{tree_code}
 use Rattle.wax_token.specs.Reads.{Span}
 use Rattle.wax_token.specs.Syntax.{Tree, leaf, alternation, concatenation, repetition, Trees, none, more}
 use Rattle.wax_rule.specs.declared.rule.situated.Side.{Side}
-use Rattle.wax_rule.specs.Situated.{Situated, end_of, right_of, beside, levels}
+use Rattle.wax_rule.specs.Situated.{Situated, end_side, right_of, beside, levels}
 
 abbrev pub branches : Option Side → Option Side → Trees Span → List Situated
 branches left right none = []
@@ -14,7 +14,8 @@ branches left right (more t ts) = record { token = t; left = left; right = right
 
 abbrev pub siblings : Option Side → Option Side → Trees Span → List Situated
 siblings left right none = []
-siblings left right (more t ts) = record { token = t; left = left; right = right_of ts right } ∷ siblings (Some (end_of t)) right ts
+siblings left right (more t ts) =
+    record { token = t; left = left; right = right_of ts right } ∷ siblings (Some (end_side t)) right ts
 
 abbrev pub children_between : Option Side → Option Side → Tree Span → List Situated
 children_between left right (leaf a l) = []
@@ -32,14 +33,17 @@ all_levels [] = []
 all_levels (s ∷ ss) = beside (levels s.left s.right s.token) (all_levels ss)
 
 -- the tokens that the one at the index holds
-abbrev pub children_at : List Situated → ℕ → List Situated
-children_at ss i = flat_map children (take 1 (drop i ss))
+abbrev pub queue_children : List Situated → ℕ → List Situated
+queue_children ss i = flat_map children (take 1 (drop i ss))
 
 -- how proofs tell these apart: each is stored as the tuple of its fields
 abbrev pub side_code : Coded Side
 side_code = code_by (Span × (Bool × Bool)) (coded× (coded× coded_ℕ coded_ℕ) (coded× coded_bool coded_bool))
-    (λ s. (s.span, (s.has_boundary, s.has_zero_or_more))) (λ p. record { span = p.0; has_boundary = p.1.0; has_zero_or_more = p.1.1 }) (λ _. refl)
+    (λ s. (s.span, (s.has_boundary, s.has_zero_or_more)))
+    (λ p. record { span = p.0; has_boundary = p.1.0; has_zero_or_more = p.1.1 }) (λ _. refl)
 
 abbrev pub situated_code : Coded Situated
-situated_code = code_by (Tree Span × (Option Side × Option Side)) (coded× (tree_code (coded× coded_ℕ coded_ℕ)) (coded× (coded_option side_code) (coded_option side_code)))
+situated_code =
+    code_by (Tree Span × (Option Side × Option Side))
+    (coded× (tree_code (coded× coded_ℕ coded_ℕ)) (coded× (coded_option side_code) (coded_option side_code)))
     (λ s. (s.token, (s.left, s.right))) (λ p. record { token = p.0; left = p.1.0; right = p.1.1 }) (λ _. refl)

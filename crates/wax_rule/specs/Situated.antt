@@ -7,7 +7,8 @@ use Rattle.wax_token.specs.Reads.{Span}
 use Rattle.wax_token.specs.Syntax.{Leaf, Tree, leaf, alternation, concatenation, repetition, Trees, none, more}
 use Rattle.wax_token.specs.Words.{annotation_of}
 
--- such a leaf is reached through first tokens of concatenations, bodies of repetitions and all branches of alternations
+-- such a leaf is reached through first tokens of concatenations, bodies of repetitions and all branches of
+-- alternations
 abbrev mutual
   pub starts_in : {A : Type 0} → (Leaf → Bool) → Tree A → Bool
   starts_in such (leaf a l) = such l
@@ -40,15 +41,25 @@ abbrev mutual
   last_ends_in such (more t none) = ends_in such t
   last_ends_in such (more t (more u us)) = last_ends_in such (more u us)
 
--- what a token shows to the one after it: its span, and whether it has a boundary, or a `*` or `$`, at that side
-abbrev pub end_of : Tree Span → Side
-end_of t = record { span = annotation_of t; has_boundary = ends_in is_boundary_leaf t; has_zero_or_more = ends_in is_zero_or_more_leaf t }
+-- what a token shows to the one after it: its span, and whether it has a boundary, or a `*` or `$`, at that
+-- side
+abbrev pub end_side : Tree Span → Side
+end_side t = record {
+  span = annotation_of t;
+  has_boundary = ends_in is_boundary_leaf t;
+  has_zero_or_more = ends_in is_zero_or_more_leaf t;
+}
 
 -- what it shows to the one before it
-abbrev pub start_of : Tree Span → Side
-start_of t = record { span = annotation_of t; has_boundary = starts_in is_boundary_leaf t; has_zero_or_more = starts_in is_zero_or_more_leaf t }
+abbrev pub start_side : Tree Span → Side
+start_side t = record {
+  span = annotation_of t;
+  has_boundary = starts_in is_boundary_leaf t;
+  has_zero_or_more = starts_in is_zero_or_more_leaf t;
+}
 
--- A token with its neighbours: those beside it in its concatenation, else those of the branch around it, each side by itself.
+-- A token with its neighbours: those beside it in its concatenation, else those of the branch around it, each
+-- side by itself.
 pub record Situated : Type 0 where
   pub token : Tree Span
   pub left : Option Side
@@ -57,7 +68,7 @@ pub record Situated : Type 0 where
 -- the neighbour on the right of a token that these come after
 abbrev pub right_of : Trees Span → Option Side → Option Side
 right_of none outer = outer
-right_of (more t ts) outer = Some (start_of t)
+right_of (more t ts) outer = Some (start_side t)
 
 -- two rows of levels, side by side
 abbrev pub beside : {A : Type 0} → List (List A) → List (List A) → List (List A)
@@ -69,9 +80,12 @@ beside (x ∷ xs) (y ∷ ys) = (x ++ y) ∷ beside xs ys
 abbrev mutual
   pub levels : Option Side → Option Side → Tree Span → List (List Situated)
   levels left right (leaf a l) = (record { token = leaf a l; left = left; right = right } ∷ []) ∷ []
-  levels left right (alternation a ts) = (record { token = alternation a ts; left = left; right = right } ∷ []) ∷ branch_levels left right ts
-  levels left right (concatenation a ts) = (record { token = concatenation a ts; left = left; right = right } ∷ []) ∷ member_levels left right ts
-  levels left right (repetition a t low high) = (record { token = repetition a t low high; left = left; right = right } ∷ []) ∷ levels left right t
+  levels left right (alternation a ts) =
+      (record { token = alternation a ts; left = left; right = right } ∷ []) ∷ branch_levels left right ts
+  levels left right (concatenation a ts) =
+      (record { token = concatenation a ts; left = left; right = right } ∷ []) ∷ member_levels left right ts
+  levels left right (repetition a t low high) =
+      (record { token = repetition a t low high; left = left; right = right } ∷ []) ∷ levels left right t
 
   -- the branches of an alternation have its neighbours
   pub branch_levels : Option Side → Option Side → Trees Span → List (List Situated)
@@ -81,7 +95,8 @@ abbrev mutual
   -- the tokens of a concatenation are one another's neighbours
   pub member_levels : Option Side → Option Side → Trees Span → List (List Situated)
   member_levels left right none = []
-  member_levels left right (more t ts) = beside (levels left (right_of ts right) t) (member_levels (Some (end_of t)) right ts)
+  member_levels left right (more t ts) =
+      beside (levels left (right_of ts right) t) (member_levels (Some (end_side t)) right ts)
 
 -- all tokens of a glob, breadth first
 abbrev pub breadth_first : Tree Span → List Situated

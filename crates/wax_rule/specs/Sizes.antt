@@ -54,12 +54,12 @@ abbrev mutual
   are_of_size n (more t ts) = is_size n (fixed_size t) && are_of_size n ts
 
 -- the size, or the greatest number of 64 bits where it is above that
-abbrev pub saturated : Option ℕ → Option ℕ
-saturated None = None
-saturated (Some n) = Some (min n (2 ^ 64 - 1))
+abbrev pub cut_size : Option ℕ → Option ℕ
+cut_size None = None
+cut_size (Some n) = Some (min n (2 ^ 64 - 1))
 
 abbrev pub saturated_size : {A : Type 0} → Tree A → Option ℕ
-saturated_size t = saturated (fixed_size t)
+saturated_size t = cut_size (fixed_size t)
 
 -- a size of 65,536 or more
 abbrev pub is_large : Option ℕ → Bool

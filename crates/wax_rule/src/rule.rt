@@ -6,7 +6,7 @@ ghost use Rattle.itertools.specs.Consumer.{find_at};
 ghost use Rattle.wax_query.specs.Outcome.{MatchBuild};
 ghost use Rattle.wax_rule.specs.Situated.{breadth_first};
 ghost use Rattle.wax_rule.specs.Rules.{broken, break_here, breaks_among, size_breaks};
-ghost use Rattle.wax_rule.specs.FirstBreak.{IsFirst, first_of, breaks_of, breaks_beside, oversized, first_in, is_broken_at};
+ghost use Rattle.wax_rule.specs.FirstBreak.{IsFirst, head_of, breaks_of, breaks_beside, oversized, first_in, is_broken_at};
 
 mod boundary;
 mod bounds;
@@ -84,7 +84,11 @@ impl<'t> Model for RuleError<'t> {
 
     ghost Value = { ErrorView };
 
-    ghost view = { λ e. record { kind = e.kind; location = e.location; expression = chars (cow_str_bytes e.expression) } };
+    ghost view = { λ e. record {
+      kind = e.kind;
+      location = e.location;
+      expression = chars (cow_str_bytes e.expression);
+    } };
 }
 
 impl<'t> RuleError<'t> {
@@ -181,7 +185,7 @@ enum Rule {
 
 /// The first break of a rule in a token.
 fn first_break(rule: Rule, token: &Situated<'_, '_>) -> Option<Break>
-    ensures { result ≡ first_of (breaks_of rule token.now) }
+    ensures { result ≡ head_of (breaks_of rule token.now) }
 {
     match rule {
         Rule::Boundary => boundary_break(token.token()),
@@ -216,7 +220,7 @@ fn find_broken(rule: Rule, row: &[Situated<'_, '_>]) -> Option<(usize, usize)>
 
 /// The first break of the rule.
 fn find_break(rule: Rule, row: &[Situated<'_, '_>]) -> Option<Break>
-    ensures { result ≡ first_of (flat_map (breaks_of rule) row.now) }
+    ensures { result ≡ head_of (flat_map (breaks_of rule) row.now) }
 {
     let (_, index) = find_broken(rule, row)?;
     first_break_at(rule, row, index)
@@ -224,7 +228,7 @@ fn find_break(rule: Rule, row: &[Situated<'_, '_>]) -> Option<Break>
 
 /// The first break of the rules that look at tokens and their neighbours.
 fn find_beside(row: &[Situated<'_, '_>]) -> Option<Break>
-    ensures { result ≡ first_of (breaks_beside row.now) }
+    ensures { result ≡ head_of (breaks_beside row.now) }
 {
     find_break(Rule::Boundary, row)
         .or(find_break(Rule::Bounds, row))
@@ -236,7 +240,7 @@ fn size_break<'t>(
     alloc: Global,
     token: &Token<'t, ExpressionMetadata>,
 ) -> Result<Option<Break>, AllocError>
-    ensures { IfOk result (λ found. found ≡ first_of (size_breaks token.now)) }
+    ensures { IfOk result (λ found. found ≡ head_of (size_breaks token.now)) }
 {
     if is_oversized(alloc, token)? {
         let span = token.annotation().span();
@@ -247,7 +251,7 @@ fn size_break<'t>(
 
 /// The first token of such a size.
 fn find_oversized(alloc: Global, row: &[Situated<'_, '_>]) -> Result<Option<Break>, AllocError>
-    ensures { IfOk result (λ found. found ≡ first_of (oversized row.now)) }
+    ensures { IfOk result (λ found. found ≡ head_of (oversized row.now)) }
 {
     for token in row {
         if let Some(found) = size_break(alloc, token.token())? {
@@ -259,7 +263,7 @@ fn find_oversized(alloc: Global, row: &[Situated<'_, '_>]) -> Result<Option<Brea
 
 /// The first break of all rules.
 fn find_among(alloc: Global, row: &[Situated<'_, '_>]) -> Result<Option<Break>, AllocError>
-    ensures { IfOk result (λ found. found ≡ first_of (breaks_among row.now)) }
+    ensures { IfOk result (λ found. found ≡ head_of (breaks_among row.now)) }
 {
     match find_beside(row) {
         Some(found) => Ok(Some(found)),
@@ -272,7 +276,7 @@ fn find_first<'t>(
     alloc: Global,
     token: &Token<'t, ExpressionMetadata>,
 ) -> Result<Option<Break>, AllocError>
-    ensures { IfOk result (λ found. found ≡ first_of (broken token.now)) }
+    ensures { IfOk result (λ found. found ≡ head_of (broken token.now)) }
 {
     let row = breadth_first(alloc, token)?;
     find_among(alloc, row.as_slice())
@@ -287,7 +291,8 @@ pub fn check<'t>(
 ) -> Result<Checked<Tokenized<'t, ExpressionMetadata>>, Refusal<RuleError<'t>>>
     ensures kept { IfOk result (λ t. t ≡ tokenized.entry) }
     ensures rules { MatchBuild result (λ t. broken t.token ≡ []) (IsFirst (broken tokenized.entry.token)) }
-    ensures expression { MatchBuild result (λ _. Unit {0}) (λ e. e.expression ≡ chars (cow_str_bytes tokenized.entry.expression)) }
+    ensures expression { MatchBuild result (λ _. Unit {0})
+        (λ e. e.expression ≡ chars (cow_str_bytes tokenized.entry.expression)) }
 {
     let Some(found) = find_first(alloc, &tokenized.token)? else {
         return Ok(Checked { inner: tokenized });

@@ -16,10 +16,10 @@ least_of false after true = 1
 least_of false after false = 0
 
 -- the number above the lengths: where a `/` has to come first and doesn't, only 0 is left
-abbrev pub end_of : Bool → Bool → ℕ → ℕ
-end_of true true n = n + 1
-end_of true false n = 1
-end_of false begins n = n + 1
+abbrev pub name_end : Bool → Bool → ℕ → ℕ
+name_end true true n = n + 1
+name_end true false n = 1
+name_end false begins n = n + 1
 
 abbrev pub marks_of : Bool → Marks
 marks_of true = AfterSlash

@@ -40,9 +40,9 @@ Trail (p ∷ ps) text most at (f ∷ fs) =
     (f.at ≡ at) × HasTaken p ps (drop at text) f × HasRoom text most f × Trail ps text most (at + f.n) fs
 
 -- how many characters they take
-abbrev pub taken : List Frame → ℕ
-taken [] = 0
-taken (f ∷ fs) = f.n + taken fs
+abbrev pub characters_taken : List Frame → ℕ
+characters_taken [] = 0
+characters_taken (f ∷ fs) = f.n + characters_taken fs
 
 abbrev pub lengths_of : List Frame → List ℕ
 lengths_of [] = []

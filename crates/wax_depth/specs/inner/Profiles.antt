@@ -5,12 +5,12 @@ use Rattle.wax_depth.specs.declared.profile.Profile.{Profile}
 use Rattle.wax_depth.specs.inner.Intervals.{Interval, exceeds_zero, hull, interval_sum, kept, unbounded}
 use Rattle.wax_depth.specs.inner.Shapes.{Shape, empty, ended, same_shape}
 
-abbrev pub at : Profile → Shape → Interval
-at p empty = p.nothing
-at p (ended false false) = p.bare
-at p (ended false true) = p.ending
-at p (ended true false) = p.beginning
-at p (ended true true) = p.enclosed
+abbrev pub interval_at : Profile → Shape → Interval
+interval_at p empty = p.nothing
+interval_at p (ended false false) = p.bare
+interval_at p (ended false true) = p.ending
+interval_at p (ended true false) = p.beginning
+interval_at p (ended true true) = p.enclosed
 
 abbrev pub profile : (Shape → Interval) → Profile
 profile f = record {
@@ -42,16 +42,16 @@ only true p = p
 only false p = no_text
 
 abbrev pub union : Profile → Profile → Profile
-union p q = profile (λ a. hull (at p a) (at q a))
+union p q = profile (λ a. hull (interval_at p a) (interval_at q a))
 
 -- one text after another: the first's beginning, the other's end
 abbrev pub concatenated_at : Profile → Profile → Shape → Interval
-concatenated_at p q empty = interval_sum (at p empty) (at q empty)
+concatenated_at p q empty = interval_sum (interval_at p empty) (interval_at q empty)
 concatenated_at p q (ended x y) =
-    hull (interval_sum (at p empty) (at q (ended x y)))
-    (hull (interval_sum (at p (ended x y)) (at q empty))
-    (interval_sum (hull (at p (ended x false)) (at p (ended x true)))
-    (hull (at q (ended false y)) (at q (ended true y)))))
+    hull (interval_sum (interval_at p empty) (interval_at q (ended x y)))
+    (hull (interval_sum (interval_at p (ended x y)) (interval_at q empty))
+    (interval_sum (hull (interval_at p (ended x false)) (interval_at p (ended x true)))
+    (hull (interval_at q (ended false y)) (interval_at q (ended true y)))))
 
 abbrev pub concatenated : Profile → Profile → Profile
 concatenated p q = profile (concatenated_at p q)

@@ -5,14 +5,14 @@ use Rattle.wax_depth.specs.Depth.{usize_max}
 use Rattle.wax_depth.specs.declared.profile.Profile.{Profile}
 use Rattle.wax_depth.specs.declared.profiles.Profiles.{Profiles}
 use Rattle.wax_depth.specs.inner.Intervals.{Interval, hull, or_zero, saturated_interval}
-use Rattle.wax_depth.specs.inner.Profiles.{at, concatenated, empty_text, only, power_range, profile, union}
+use Rattle.wax_depth.specs.inner.Profiles.{interval_at, concatenated, empty_text, only, power_range, profile, union}
 use Rattle.wax_depth.specs.inner.TreeProfiles.{admits, admits_two, less_two}
 
 abbrev pub u128_max : ℕ
 u128_max = 2 ^ 128 - 1
 
 abbrev pub saturated : Profile → Profile
-saturated p = profile (λ a. saturated_interval u128_max (at p a))
+saturated p = profile (λ a. saturated_interval u128_max (interval_at p a))
 
 -- with nothing around it, with something after it, before it, and on both sides
 abbrev pub in_context : Profiles → Bool → Bool → Profile

@@ -7,15 +7,15 @@ pub data Shape : Type 0 where
   ended : Bool → Bool → Shape
 
 -- of one text after another
-abbrev pub join : Shape → Shape → Shape
-join empty b = b
-join (ended x y) empty = ended x y
-join (ended x y) (ended z w) = ended x w
+abbrev pub joined_shape : Shape → Shape → Shape
+joined_shape empty b = b
+joined_shape (ended x y) empty = ended x y
+joined_shape (ended x y) (ended z w) = ended x w
 
 abbrev pub shape : List ℕ → Shape
 shape [] = empty
 shape (c ∷ []) = ended (c == 47) (c == 47)
-shape (c ∷ d ∷ s) = join (ended (c == 47) (c == 47)) (shape (d ∷ s))
+shape (c ∷ d ∷ s) = joined_shape (ended (c == 47) (c == 47)) (shape (d ∷ s))
 
 abbrev pub same_bool : Bool → Bool → Bool
 same_bool true b = b

@@ -44,6 +44,6 @@ abbrev pub IsInside : {A : Type 0} → Trees A → ℕ → ℕ → Type 0
 IsInside {A = A} ts n k = (b : Tree A) × (inside ts n ≡ Some (b, k))
 
 -- of a flat tree: the tokens of the rest, and the span of the glob or sub-glob that they belong to
-abbrev pub IsRest : Tree Span → ℕ → List (Tree Span) → Span → Type 0
-IsRest t n ts s =
+abbrev pub AreRestTokens : Tree Span → ℕ → List (Tree Span) → Span → Type 0
+AreRestTokens t n ts s =
     Flat t → (trees ts ≡ after (owner t n).1 (members (owner t n).0)) × (s ≡ annotation_of (owner t n).0)

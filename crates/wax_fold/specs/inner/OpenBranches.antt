@@ -47,5 +47,5 @@ counting = record {
   term = λ l. 1;
 }
 
-abbrev pub visits : {A : Type 0} → (Branch A → List ℕ) → Tree A → ℕ
-visits chosen t = total (listed_term (folded chosen counting t))
+abbrev pub branch_visits : {A : Type 0} → (Branch A → List ℕ) → Tree A → ℕ
+branch_visits chosen t = total (listed_term (folded chosen counting t))

@@ -36,5 +36,5 @@ with_token o x =
     record { annotation = o.annotation; kind = o.kind; rest = o.rest; done = o.done ++ listed_term x }
 
 -- so many steps are taken in a token
-abbrev pub visits : {A : Type 0} → Tree A → ℕ
-visits t = 2 * tree_size t + 1
+abbrev pub tree_visits : {A : Type 0} → Tree A → ℕ
+tree_visits t = 2 * tree_size t + 1

@@ -3,12 +3,12 @@ ghost use Rattle.std.specs.Prelude.{◌≡◌, ◌++◌, ◌∷◌, ◌<◌, [],
 ghost use Rattle.std.specs.Iterator.{at_most};
 ghost use Rattle.std.specs.List.Sorted.{IsPermutation};
 ghost use Rattle.wax_token.specs.Syntax.{tree_size};
-ghost use Rattle.wax_fold.specs.Order.{alternatives, children, conjuncts, level, placed, root, tree_order};
+ghost use Rattle.wax_fold.specs.Order.{disjuncts, children, conjuncts, level, placed, root_entry, tree_order};
 ghost use Rattle.wax_fold.specs.Branches.{branch_of};
 ghost use Rattle.wax_fold.specs.Sequences.{forward_chosen, starting_chosen, ending_chosen};
 ghost use Rattle.wax_fold.specs.Subtrees.{subtrees};
-ghost use Rattle.wax_fold.specs.inner.WalkSteps.{Ends, Gives, TakesFirst, gone_below};
-ghost use Rattle.wax_fold.specs.Walking.{Nexts, begun, below, cancelled, entry_of, items_left, to_come, walking};
+ghost use Rattle.wax_fold.specs.inner.WalkSteps.{StepsToEnd, GivesEntry, TakesFirst, gone_below};
+ghost use Rattle.wax_fold.specs.Walking.{Nexts, walk_begun, below, cancelled, walk_entry, items_left, to_come, walking};
 
 use crate::walk::entry::{Depth, Position, TokenEntry, WalkEntry};
 use crate::walk::sequence::{ChildToken, Parent, Sequencer};
@@ -60,7 +60,7 @@ impl<'i, 't, A, S: Sequencer> Walk<'i, 't, A, S> {
     /// Puts the tokens below the current one at the end of those that are to come.
     fn go_below(&mut self) -> Result<(), NoMemory>
         ensures { MatchResult result (λ _. walking self.new ≡ gone_below (S.chosen A) (walking self.old))
-            (λ _. Ends (walking self.old) (walking self.new)) }
+            (λ _. StepsToEnd (walking self.old) (walking self.new)) }
     {
         let Some(current) = self.current.take() else {
             return Ok(());
@@ -79,7 +79,7 @@ impl<'i, 't, A, S: Sequencer> Walk<'i, 't, A, S> {
 impl<'i, 't, A, S> Walk<'i, 't, A, S> {
     /// The first of those that are to come, which is the current one from then on.
     fn give(&mut self) -> Option<TokenEntry<'i, 't, A>>
-        ensures { Gives (walking self.old) result (walking self.new) }
+        ensures { GivesEntry (walking self.old) result (walking self.new) }
     {
         let entry = self.take_first()?;
         self.current = Some(WalkEntry {
@@ -107,8 +107,8 @@ fn push_children<'i, 't, A, S: Sequencer>(
     entry: &TokenEntry<'i, 't, A>,
     sequencer: &mut S,
 ) -> Result<(), NoMemory>
-    ensures { OnOk result (map entry_of queue.new.items
-        ≡ map entry_of queue.old.items ++ children (S.chosen A) (entry_of entry.now)) }
+    ensures { OnOk result (map walk_entry queue.new.items
+        ≡ map walk_entry queue.old.items ++ children (S.chosen A) (walk_entry entry.now)) }
 {
     let token: &'i Token<'t, A> = entry.token;
     match token.topology() {
@@ -127,7 +127,7 @@ fn push_chosen<'i, 't, A>(
     position: Position,
     chosen: &[ChildToken<'i, 't, A>],
 ) -> Result<(), AllocError>
-    ensures { OnOk result (map entry_of queue.new.items ≡ map entry_of queue.old.items
+    ensures { OnOk result (map walk_entry queue.new.items ≡ map walk_entry queue.old.items
         ++ placed (branch_of branch.now).kind position (map (λ c. c.now) chosen.now)) }
 {
     match branch {
@@ -143,8 +143,8 @@ fn push_alternatives<'i, 't, A>(
     position: Position,
     chosen: &[ChildToken<'i, 't, A>],
 ) -> Result<(), AllocError>
-    ensures { OnOk result (map entry_of queue.new.items ≡ map entry_of queue.old.items
-        ++ alternatives position 0 (map (λ c. c.now) chosen.now)) }
+    ensures { OnOk result (map walk_entry queue.new.items ≡ map walk_entry queue.old.items
+        ++ disjuncts position 0 (map (λ c. c.now) chosen.now)) }
 {
     for (branch, child) in chosen.iter().enumerate() {
         queue.push_back(WalkEntry {
@@ -161,7 +161,7 @@ fn push_conjuncts<'i, 't, A>(
     position: Position,
     chosen: &[ChildToken<'i, 't, A>],
 ) -> Result<(), AllocError>
-    ensures { OnOk result (map entry_of queue.new.items ≡ map entry_of queue.old.items
+    ensures { OnOk result (map walk_entry queue.new.items ≡ map walk_entry queue.old.items
         ++ conjuncts position (map (λ c. c.now) chosen.now)) }
 {
     for child in chosen {
@@ -182,9 +182,10 @@ pub fn with_sequence<'i, 't, A, S: Sequencer>(
     sequencer: S,
 ) -> Walk<'i, 't, A, S>
     ensures all { to_come (S.chosen A) (walking result) ≡ tree_order (S.chosen A) tree.now }
-    ensures start { walking result ≡ begun tree.now }
+    ensures start { walking result ≡ walk_begun tree.now }
     // no level is left out
-    ensures deepest { (n : ℕ) → tree_size tree.now < n → level (S.chosen A) n (root tree.now ∷ []) ≡ [] }
+    ensures deepest { (n : ℕ) → tree_size tree.now < n
+        → level (S.chosen A) n (root_entry tree.now ∷ []) ≡ [] }
 {
     Walk {
         alloc,
@@ -208,7 +209,7 @@ pub fn with_sequence<'i, 't, A, S: Sequencer>(
 #[tactic(auto, using(crate::proofs::Whole::each_once))]
 pub fn forward<'i, 't, A>(alloc: Global, tree: &'i Token<'t, A>) -> Walk<'i, 't, A, Forward>
     ensures all { to_come forward_chosen (walking result) ≡ tree_order forward_chosen tree.now }
-    ensures start { walking result ≡ begun tree.now }
+    ensures start { walking result ≡ walk_begun tree.now }
     ensures each_once { IsPermutation (subtrees tree.now)
         (map (λ e. e.token) (tree_order forward_chosen tree.now)) }
 {
@@ -220,7 +221,7 @@ pub fn forward<'i, 't, A>(alloc: Global, tree: &'i Token<'t, A>) -> Walk<'i, 't,
 /// a repetition.
 pub fn starting<'i, 't, A>(alloc: Global, tree: &'i Token<'t, A>) -> Walk<'i, 't, A, Starting>
     ensures all { to_come starting_chosen (walking result) ≡ tree_order starting_chosen tree.now }
-    ensures start { walking result ≡ begun tree.now }
+    ensures start { walking result ≡ walk_begun tree.now }
 {
     with_sequence(alloc, tree, Starting)
 }
@@ -228,7 +229,7 @@ pub fn starting<'i, 't, A>(alloc: Global, tree: &'i Token<'t, A>) -> Walk<'i, 't
 /// The same of the tokens with which texts end: the last of a concatenation.
 pub fn ending<'i, 't, A>(alloc: Global, tree: &'i Token<'t, A>) -> Walk<'i, 't, A, Ending>
     ensures all { to_come ending_chosen (walking result) ≡ tree_order ending_chosen tree.now }
-    ensures start { walking result ≡ begun tree.now }
+    ensures start { walking result ≡ walk_begun tree.now }
 {
     with_sequence(alloc, tree, Ending)
 }

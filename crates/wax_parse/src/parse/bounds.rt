@@ -6,7 +6,8 @@ use crate::parse::text::{split_first, strip};
 
 /// A decimal digit that the text begins with, and the text after it.
 fn read_digit(text: &str) -> Option<(usize, &str)>
-    ensures { MatchOption result (digit_step (chars text.now) ≡ None) (λ r. digit_step (chars text.now) ≡ Some (r.0, chars r.1.now)) }
+    ensures { MatchOption result (digit_step (chars text.now) ≡ None)
+        (λ r. digit_step (chars text.now) ≡ Some (r.0, chars r.1.now)) }
 {
     let (c, rest) = split_first(text)?;
     if c.is_ascii_digit() {
@@ -25,7 +26,8 @@ fn push_digit(number: usize, digit: usize) -> Option<usize>
 
 /// A decimal number of 64 bits that the text begins with, and the text after it.
 fn read_number(text: &str) -> Option<(usize, &str)>
-    ensures { MatchOption result (number_run (chars text.now) ≡ None) (λ r. number_run (chars text.now) ≡ Some (r.0, chars r.1.now)) }
+    ensures { MatchOption result (number_run (chars text.now) ≡ None)
+        (λ r. number_run (chars text.now) ≡ Some (r.0, chars r.1.now)) }
 {
     let (first, after) = read_digit(text)?;
     let mut number = first;
@@ -39,7 +41,8 @@ fn read_number(text: &str) -> Option<(usize, &str)>
 
 /// The bounds of a repetition, and the text after its closing bracket.
 pub(super) fn read_bounds(text: &str) -> Option<((usize, Option<usize>), &str)>
-    ensures { MatchOption result (read_bounds (chars text.now) ≡ None) (λ r. read_bounds (chars text.now) ≡ Some (r.0, chars r.1.now)) }
+    ensures { MatchOption result (read_bounds (chars text.now) ≡ None)
+        (λ r. read_bounds (chars text.now) ≡ Some (r.0, chars r.1.now)) }
 {
     match strip(text, ':') {
         None => Some(((0, None), strip(text, '>')?)),
@@ -52,7 +55,8 @@ pub(super) fn read_bounds(text: &str) -> Option<((usize, Option<usize>), &str)>
 
 /// One or two numbers of bounds, and the text after the closing bracket.
 fn read_numbers(text: &str) -> Option<((usize, Option<usize>), &str)>
-    ensures { MatchOption result (read_numbers (chars text.now) ≡ None) (λ r. read_numbers (chars text.now) ≡ Some (r.0, chars r.1.now)) }
+    ensures { MatchOption result (read_numbers (chars text.now) ≡ None)
+        (λ r. read_numbers (chars text.now) ≡ Some (r.0, chars r.1.now)) }
 {
     let (lower, rest) = read_number(text)?;
     match strip(rest, ',') {
@@ -66,7 +70,8 @@ fn read_numbers(text: &str) -> Option<((usize, Option<usize>), &str)>
 
 /// The upper bound, if there is one, and the text after the closing bracket.
 fn read_upper(text: &str) -> Option<(Option<usize>, &str)>
-    ensures { MatchOption result (read_upper (chars text.now) ≡ None) (λ r. read_upper (chars text.now) ≡ Some (r.0, chars r.1.now)) }
+    ensures { MatchOption result (read_upper (chars text.now) ≡ None)
+        (λ r. read_upper (chars text.now) ≡ Some (r.0, chars r.1.now)) }
 {
     match strip(text, '>') {
         Some(rest) => Some((None, rest)),

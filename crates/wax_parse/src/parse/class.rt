@@ -9,7 +9,8 @@ use wax_token::token::{Archetype, Class, LeafKind};
 
 /// A character or a range of a class, and the text after it.
 fn read_archetype(text: &str) -> Option<(Archetype, &str)>
-    ensures { MatchOption result (archetype_step (chars text.now) ≡ None) (λ r. archetype_step (chars text.now) ≡ Some (r.0, chars r.1.now)) }
+    ensures { MatchOption result (archetype_step (chars text.now) ≡ None)
+        (λ r. archetype_step (chars text.now) ≡ Some (r.0, chars r.1.now)) }
 {
     let (first, rest) = class_character(text)?;
     match strip(rest, '-') {
@@ -46,8 +47,10 @@ fn class_of<'t>(
     is_negated: bool,
     text: &'t str,
 ) -> Result<Option<(LeafKind<'static>, &'t str)>, AllocError>
-    ensures { IfOk result (λ r. MatchOption r (class_leaf is_negated (class_run (length (chars text.now)) (chars text.now)) ≡ None)
-        (λ l. class_leaf is_negated (class_run (length (chars text.now)) (chars text.now)) ≡ Some (leaf_of l.0, chars l.1.now))) }
+    ensures { IfOk result (λ r. MatchOption r
+        (class_leaf is_negated (class_run (length (chars text.now)) (chars text.now)) ≡ None)
+        (λ l. class_leaf is_negated (class_run (length (chars text.now)) (chars text.now))
+        ≡ Some (leaf_of l.0, chars l.1.now))) }
 {
     match read_archetypes(alloc, text)? {
         None => Ok(None),
@@ -65,7 +68,8 @@ pub(super) fn read_class<'t>(
     alloc: Global,
     text: &'t str,
 ) -> Result<Option<(LeafKind<'static>, &'t str)>, AllocError>
-    ensures { IfOk result (λ r. MatchOption r (read_class (chars text.now) ≡ None) (λ l. read_class (chars text.now) ≡ Some (leaf_of l.0, chars l.1.now))) }
+    ensures { IfOk result (λ r. MatchOption r (read_class (chars text.now) ≡ None)
+        (λ l. read_class (chars text.now) ≡ Some (leaf_of l.0, chars l.1.now))) }
 {
     match strip(text, '!') {
         Some(rest) => class_of(alloc, true, rest),

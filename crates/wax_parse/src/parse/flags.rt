@@ -14,7 +14,8 @@ pub(super) struct Cursor<'t> {
 
 /// `i` or `-i`, whether it turns the flag on, and the text after it.
 fn read_toggle(text: &str) -> Option<(bool, &str)>
-    ensures { MatchOption result (toggle_step (chars text.now) ≡ None) (λ r. toggle_step (chars text.now) ≡ Some (r.0, chars r.1.now)) }
+    ensures { MatchOption result (toggle_step (chars text.now) ≡ None)
+        (λ r. toggle_step (chars text.now) ≡ Some (r.0, chars r.1.now)) }
 {
     if let Some(rest) = strip(text, 'i') {
         return Some((true, rest));
@@ -69,8 +70,10 @@ pub(super) fn read_flags(from: Cursor<'_>) -> Cursor<'_>
 
 /// What comes after the flag groups and the `/` that close a `**`, or the end of the glob, after the `**`.
 fn after_stars(around: Around, from: Cursor<'_>) -> Option<Cursor<'_>>
-    ensures { MatchOption result (after_stars (around_of around) from.entry.is_case_insensitive (chars from.entry.rest.now) ≡ None)
-        (λ q. after_stars (around_of around) from.entry.is_case_insensitive (chars from.entry.rest.now) ≡ Some (place q)) }
+    ensures { MatchOption result
+        (after_stars (around_of around) from.entry.is_case_insensitive (chars from.entry.rest.now) ≡ None)
+        (λ q. after_stars (around_of around) from.entry.is_case_insensitive (chars from.entry.rest.now)
+        ≡ Some (place q)) }
 {
     if around.is_end(from.rest) {
         return Some(from);
@@ -82,7 +85,8 @@ fn after_stars(around: Around, from: Cursor<'_>) -> Option<Cursor<'_>>
 
 /// What comes after `**` and what closes it.
 pub(super) fn after_tree(around: Around, from: Cursor<'_>) -> Option<Cursor<'_>>
-    ensures { MatchOption result (after_tree (around_of around) (place from.entry) ≡ None) (λ q. after_tree (around_of around) (place from.entry) ≡ Some (place q)) }
+    ensures { MatchOption result (after_tree (around_of around) (place from.entry) ≡ None)
+        (λ q. after_tree (around_of around) (place from.entry) ≡ Some (place q)) }
 {
     let rest = strip(from.rest, '*')?;
     let rest = strip(rest, '*')?;

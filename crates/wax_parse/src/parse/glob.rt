@@ -4,7 +4,7 @@ ghost use Rattle.wax_query.specs.Outcome.{MatchBuild};
 ghost use Rattle.wax_token.specs.Reads.{in_alternation, in_repetition, utf8_len};
 ghost use Rattle.wax_token.specs.Words.{trees};
 ghost use Rattle.wax_parse.specs.Accepted.{IsPlace, first_len};
-ghost use Rattle.wax_parse.specs.Reading.{Beyond, BranchesAt, GlobAt, IsRefusal, Sole, Taken, TokenAt, Unreadable, Within};
+ghost use Rattle.wax_parse.specs.Reading.{Beyond, BranchesAt, GlobAt, IsRefusal, Sole, IsTaken, TokenAt, Unreadable, IsWithinScope};
 ghost use Rattle.wax_parse.specs.Parser.{around_of, flags_end, place, at};
 
 use super::ParseError;
@@ -30,9 +30,10 @@ pub(super) fn read_glob<'t>(
     scope: Scope<'t>,
     from: Cursor<'t>,
 ) -> Result<(ReadToken<'t>, Cursor<'t>), Refusal<ParseError>>
-    requires { Within scope from }
+    requires { IsWithinScope scope from }
     ensures { MatchBuild result
-        (λ r. Sole (GlobAt scope.entry from.entry) r.0 (place r.1) × Beyond (chars from.entry.rest.now) (chars r.1.rest.now))
+        (λ r. Sole (GlobAt scope.entry from.entry) r.0 (place r.1)
+        × Beyond (chars from.entry.rest.now) (chars r.1.rest.now))
         (λ e. Unreadable (GlobAt scope.entry from.entry) × IsPlace (chars scope.entry.expression.now) e) }
 {
     let mut tokens = Vec::new(alloc);
@@ -61,10 +62,12 @@ fn read_token<'t>(
     is_first: bool,
     from: Cursor<'t>,
 ) -> Result<(ReadToken<'t>, Cursor<'t>), Refusal<ParseError>>
-    requires { Within scope from }
+    requires { IsWithinScope scope from }
     ensures { MatchBuild result
-        (λ r. Sole (TokenAt scope.entry is_first from.entry) r.0 (place r.1) × Taken (chars from.entry.rest.now) (chars r.1.rest.now))
-        (λ e. Unreadable (TokenAt scope.entry is_first from.entry) × IsPlace (chars scope.entry.expression.now) e) }
+        (λ r. Sole (TokenAt scope.entry is_first from.entry) r.0 (place r.1)
+        × IsTaken (chars from.entry.rest.now) (chars r.1.rest.now))
+        (λ e. Unreadable (TokenAt scope.entry is_first from.entry)
+        × IsPlace (chars scope.entry.expression.now) e) }
 {
     let start = read_flags(from);
     if let Some(rest) = strip(start.rest, '{') {
@@ -88,11 +91,13 @@ fn read_alternation<'t>(
     flags: Cursor<'t>,
     from: Cursor<'t>,
 ) -> Result<(ReadToken<'t>, Cursor<'t>), Refusal<ParseError>>
-    requires within { Within scope flags }
+    requires within { IsWithinScope scope flags }
     requires opened { flags_end (place flags) ≡ at from.is_case_insensitive (123 ∷ chars from.rest.now) }
     ensures { (first : Bool) → MatchBuild result
-        (λ r. Sole (TokenAt scope.entry first flags.entry) r.0 (place r.1) × Taken (chars flags.entry.rest.now) (chars r.1.rest.now))
-        (λ e. Unreadable (TokenAt scope.entry first flags.entry) × IsPlace (chars scope.entry.expression.now) e) }
+        (λ r. Sole (TokenAt scope.entry first flags.entry) r.0 (place r.1)
+        × IsTaken (chars flags.entry.rest.now) (chars r.1.rest.now))
+        (λ e. Unreadable (TokenAt scope.entry first flags.entry)
+        × IsPlace (chars scope.entry.expression.now) e) }
 {
     let Some(inner) = scope.inside(Around::InAlternation) else {
         return Err(refusal(scope.expression, from.rest));
@@ -110,10 +115,11 @@ fn read_branches<'t>(
     scope: Scope<'t>,
     from: Cursor<'t>,
 ) -> Result<(Vec<ReadToken<'t>>, Cursor<'t>), Refusal<ParseError>>
-    requires within { Within scope from }
+    requires within { IsWithinScope scope from }
     requires around { around_of scope.around ≡ in_alternation }
     ensures { MatchBuild result
-        (λ r. Sole (BranchesAt scope.entry from.entry) (trees r.0.items) (place r.1) × Beyond (chars from.entry.rest.now) (chars r.1.rest.now))
+        (λ r. Sole (BranchesAt scope.entry from.entry) (trees r.0.items) (place r.1)
+        × Beyond (chars from.entry.rest.now) (chars r.1.rest.now))
         (λ e. Unreadable (BranchesAt scope.entry from.entry) × IsPlace (chars scope.entry.expression.now) e) }
 {
     let mut branches = Vec::new(alloc);
@@ -139,11 +145,13 @@ fn read_repetition<'t>(
     flags: Cursor<'t>,
     from: Cursor<'t>,
 ) -> Result<(ReadToken<'t>, Cursor<'t>), Refusal<ParseError>>
-    requires within { Within scope flags }
+    requires within { IsWithinScope scope flags }
     requires opened { flags_end (place flags) ≡ at from.is_case_insensitive (60 ∷ chars from.rest.now) }
     ensures { (first : Bool) → MatchBuild result
-        (λ r. Sole (TokenAt scope.entry first flags.entry) r.0 (place r.1) × Taken (chars flags.entry.rest.now) (chars r.1.rest.now))
-        (λ e. Unreadable (TokenAt scope.entry first flags.entry) × IsPlace (chars scope.entry.expression.now) e) }
+        (λ r. Sole (TokenAt scope.entry first flags.entry) r.0 (place r.1)
+        × IsTaken (chars flags.entry.rest.now) (chars r.1.rest.now))
+        (λ e. Unreadable (TokenAt scope.entry first flags.entry)
+        × IsPlace (chars scope.entry.expression.now) e) }
 {
     let Some(inner) = scope.inside(Around::InRepetition) else {
         return Err(refusal(scope.expression, from.rest));
@@ -182,7 +190,10 @@ fn boxed<'t>(alloc: Global, token: ReadToken<'t>) -> Result<Box<ReadToken<'t>>, 
 fn metadata(expression: &str, from: &str, to: &str) -> ExpressionMetadata
     requires from { utf8_len (chars from.now) ≤ utf8_len (chars expression.now) }
     requires to { utf8_len (chars to.now) ≤ utf8_len (chars from.now) }
-    ensures { result ≡ (utf8_len (chars expression.now) - utf8_len (chars from.now), utf8_len (chars from.now) - utf8_len (chars to.now)) }
+    ensures { result ≡ (
+      utf8_len (chars expression.now) - utf8_len (chars from.now),
+      utf8_len (chars from.now) - utf8_len (chars to.now),
+    ) }
 {
     ExpressionMetadata::new((expression.len() - from.len(), from.len() - to.len()))
 }

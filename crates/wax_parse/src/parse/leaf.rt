@@ -14,7 +14,8 @@ use wax_token::token::{Evaluation, LeafKind, Separator, Wildcard};
 
 /// `/`, or `/**` where flag groups and `**` follow, after the `/`.
 fn read_boundary(around: Around, rest: Cursor<'_>) -> (LeafKind<'static>, Cursor<'_>)
-    ensures { boundary_leaf (place rest.entry) (after_tree (around_of around) (flags_end (place rest.entry))) ≡ (leaf_of result.0, place result.1) }
+    ensures { boundary_leaf (place rest.entry) (after_tree (around_of around) (flags_end (place rest.entry)))
+        ≡ (leaf_of result.0, place result.1) }
 {
     match after_tree(around, read_flags(rest)) {
         None => (LeafKind::Separator(Separator), rest),
@@ -52,8 +53,10 @@ fn read_inner_leaf<'t>(
     around: Around,
     from: Cursor<'t>,
 ) -> Result<Option<(LeafKind<'t>, Cursor<'t>)>, AllocError>
-    ensures { IfOk result (λ r. MatchOption r (inner_leaf (around_of around) from.entry.is_case_insensitive (chars from.entry.rest.now) ≡ None)
-        (λ l. inner_leaf (around_of around) from.entry.is_case_insensitive (chars from.entry.rest.now) ≡ Some (leaf_of l.0, place l.1))) }
+    ensures { IfOk result (λ r. MatchOption r
+        (inner_leaf (around_of around) from.entry.is_case_insensitive (chars from.entry.rest.now) ≡ None)
+        (λ l. inner_leaf (around_of around) from.entry.is_case_insensitive (chars from.entry.rest.now)
+        ≡ Some (leaf_of l.0, place l.1))) }
 {
     let Some((first, rest)) = split_first(from.rest) else {
         return Ok(None);
@@ -77,7 +80,9 @@ fn with_flag<'t>(
     is_case_insensitive: bool,
     read: Option<(LeafKind<'t>, &'t str)>,
 ) -> Option<(LeafKind<'t>, Cursor<'t>)>
-    ensures { MatchOption read.entry (result ≡ None) (λ r. MatchOption result ⊥ (λ l. (l.0 ≡ r.0) × (place l.1 ≡ at is_case_insensitive (chars r.1.now)))) }
+    ensures { MatchOption read.entry (result ≡ None)
+        (λ r. MatchOption result ⊥
+        (λ l. (l.0 ≡ r.0) × (place l.1 ≡ at is_case_insensitive (chars r.1.now)))) }
 {
     let (leaf, rest) = read?;
     Some((
@@ -96,7 +101,8 @@ pub(super) fn read_leaf<'t>(
     is_first: bool,
     from: Cursor<'t>,
 ) -> Result<Option<(LeafKind<'t>, Cursor<'t>)>, AllocError>
-    ensures { IfOk result (λ r. MatchOption r (read_leaf (around_of around) is_first (place from.entry) ≡ None)
+    ensures { IfOk result (λ r. MatchOption r
+        (read_leaf (around_of around) is_first (place from.entry) ≡ None)
         (λ l. read_leaf (around_of around) is_first (place from.entry) ≡ Some (leaf_of l.0, place l.1))) }
 {
     if is_first {

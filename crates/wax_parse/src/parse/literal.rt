@@ -2,7 +2,7 @@
 ghost use Rattle.std.specs.Prelude.{◌≡◌, ◌++◌, List, ℕ, IfOk, MatchOption, Some, None, chars, string_bytes, true};
 ghost use Rattle.std.specs.Cow.{cow_str_bytes};
 ghost use Rattle.wax_token.specs.View.{leaf_of};
-ghost use Rattle.wax_parse.specs.Parser.{literal_run, literal_leaf, is_plain, StopsPlain};
+ghost use Rattle.wax_parse.specs.Parser.{literal_run, literal_leaf, is_plain_text, StopsPlain};
 
 use crate::parse::text::{before, is_plain, literal_character, split_first, strip};
 use std::alloc::{AllocError, Global};
@@ -12,7 +12,7 @@ use wax_token::token::{LeafKind, Literal};
 /// The characters up to the first that isn't plain, and the text from there on.
 fn split_plain(text: &str) -> (&str, &str)
     ensures whole { chars text.now ≡ chars result.0.now ++ chars result.1.now }
-    ensures plain { is_plain (chars result.0.now) ≡ true }
+    ensures plain { is_plain_text (chars result.0.now) ≡ true }
     ensures stop { StopsPlain (chars result.1.now) }
 {
     let mut rest = text;
@@ -27,7 +27,9 @@ fn split_plain(text: &str) -> (&str, &str)
 
 /// Pushes the run of a literal's characters that the text begins with, and answers what follows.
 fn push_run<'t>(literal: &mut String, text: &'t str) -> Result<&'t str, AllocError>
-    ensures { IfOk result (λ rest. (chars (string_bytes literal.new) ≡ chars (string_bytes literal.old) ++ (literal_run (chars text.now)).0) × (chars rest.now ≡ (literal_run (chars text.now)).1)) }
+    ensures { IfOk result (λ rest. (chars (string_bytes literal.new)
+        ≡ chars (string_bytes literal.old) ++ (literal_run (chars text.now)).0)
+        × (chars rest.now ≡ (literal_run (chars text.now)).1)) }
 {
     let mut rest = text;
     while let Some((c, next)) = literal_character(rest) {
@@ -57,8 +59,10 @@ pub(super) fn read_literal<'t>(
     is_case_insensitive: bool,
     text: &'t str,
 ) -> Result<Option<(LeafKind<'t>, &'t str)>, AllocError>
-    ensures { IfOk result (λ r. MatchOption r (literal_leaf is_case_insensitive (literal_run (chars text.now)) ≡ None)
-        (λ l. literal_leaf is_case_insensitive (literal_run (chars text.now)) ≡ Some (leaf_of l.0, chars l.1.now))) }
+    ensures { IfOk result (λ r. MatchOption r
+        (literal_leaf is_case_insensitive (literal_run (chars text.now)) ≡ None)
+        (λ l. literal_leaf is_case_insensitive (literal_run (chars text.now))
+        ≡ Some (leaf_of l.0, chars l.1.now))) }
 {
     let (literal, rest) = literal_text(alloc, text)?;
     if literal.as_str().is_empty() {

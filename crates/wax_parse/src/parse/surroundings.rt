@@ -43,7 +43,8 @@ impl<'t> Scope<'t> {
     /// The scope of the globs of a branch, unless they would nest too deep.
     pub(super) fn inside(self, around: Around) -> Option<Scope<'t>>
         ensures { MatchOption result (self.entry.depth ≡ 0)
-            (λ s. (s.expression.now ≡ self.entry.expression.now) × (s.around ≡ around) × (s.depth + 1 ≡ self.entry.depth)) }
+            (λ s. (s.expression.now ≡ self.entry.expression.now) × (s.around ≡ around)
+            × (s.depth + 1 ≡ self.entry.depth)) }
     {
         let depth = self.depth.checked_sub(1)?;
         Some(Scope {

@@ -14,7 +14,8 @@ pub(super) fn split_first(text: &str) -> Option<(char, &str)>
 
 /// The text after the character, where it begins with it.
 pub(super) fn strip(text: &str, first: char) -> Option<&str>
-    ensures { MatchOption result (strip first (chars text.now) ≡ None) (λ r. strip first (chars text.now) ≡ Some (chars r.now)) }
+    ensures { MatchOption result (strip first (chars text.now) ≡ None)
+        (λ r. strip first (chars text.now) ≡ Some (chars r.now)) }
 {
     let (c, rest) = split_first(text)?;
     if first == c { Some(rest) } else { None }
@@ -54,7 +55,8 @@ fn is_class_meta_character(c: char) -> bool
 
 /// The next character of a literal, and the text after it.
 pub(super) fn literal_character(text: &str) -> Option<(char, &str)>
-    ensures { MatchOption result (literal_step (chars text.now) ≡ None) (λ r. literal_step (chars text.now) ≡ Some (r.0, chars r.1.now)) }
+    ensures { MatchOption result (literal_step (chars text.now) ≡ None)
+        (λ r. literal_step (chars text.now) ≡ Some (r.0, chars r.1.now)) }
 {
     let (c, rest) = split_first(text)?;
     if c == '\\' {
@@ -73,7 +75,8 @@ pub(super) fn literal_character(text: &str) -> Option<(char, &str)>
 
 /// The next character of a class, and the text after it.
 pub(super) fn class_character(text: &str) -> Option<(char, &str)>
-    ensures { MatchOption result (class_step (chars text.now) ≡ None) (λ r. class_step (chars text.now) ≡ Some (r.0, chars r.1.now)) }
+    ensures { MatchOption result (class_step (chars text.now) ≡ None)
+        (λ r. class_step (chars text.now) ≡ Some (r.0, chars r.1.now)) }
 {
     let (c, rest) = split_first(text)?;
     if c == '\\' {

@@ -5,9 +5,10 @@ ghost use Rattle.std.specs.List.{range_with_len};
 ghost use Rattle.itertools.specs.Consumer.{find_at};
 ghost use Rattle.wax_token.specs.Words.{trees};
 ghost use Rattle.wax_token.specs.Kinds.{is_boundary_leaf};
-ghost use Rattle.wax_rule.specs.Rules.{span_union, adjacent_span, boundary_breaks, adjacent_boundaries};
+ghost use Rattle.wax_query.specs.Spans.{span_union};
+ghost use Rattle.wax_rule.specs.Rules.{adjacent_span, boundary_breaks, adjacent_boundaries};
 ghost use Rattle.wax_token.specs.Kinds.{is_such};
-ghost use Rattle.wax_rule.specs.FirstBreak.{adjacent_at, first_of};
+ghost use Rattle.wax_rule.specs.FirstBreak.{adjacent_at, head_of};
 
 use super::{Break, RuleErrorKind, break_here};
 use itertools::Itertools;
@@ -58,14 +59,15 @@ fn adjacent_span_at<'t>(tokens: &[Token<'t, ExpressionMetadata>], index: usize) 
 
 /// The first two neighbours that are both boundaries: the index of the left one, and their span.
 fn find_adjacent<'t>(tokens: &[Token<'t, ExpressionMetadata>]) -> Option<(usize, Option<Span>)>
-    ensures { result ≡ find_at is_some 0 (map (adjacent_at tokens.now) (range_with_len 0 (length tokens.now))) }
+    ensures { result
+        ≡ find_at is_some 0 (map (adjacent_at tokens.now) (range_with_len 0 (length tokens.now))) }
 {
     let mut spans = (0..tokens.len()).map(|index| adjacent_span_at(tokens, index));
     spans.find_position(|span| span.is_some())
 }
 
 fn adjacent_break<'t>(tokens: &[Token<'t, ExpressionMetadata>]) -> Option<Break>
-    ensures { result ≡ first_of (adjacent_boundaries (trees tokens.now)) }
+    ensures { result ≡ head_of (adjacent_boundaries (trees tokens.now)) }
 {
     let (_, span) = find_adjacent(tokens)?;
     Some(break_here(RuleErrorKind::AdjacentBoundary, span?))
@@ -73,7 +75,7 @@ fn adjacent_break<'t>(tokens: &[Token<'t, ExpressionMetadata>]) -> Option<Break>
 
 /// The first two neighbours in the token that are both boundaries.
 pub(super) fn boundary_break<'t>(token: &Token<'t, ExpressionMetadata>) -> Option<Break>
-    ensures { result ≡ first_of (boundary_breaks token.now) }
+    ensures { result ≡ head_of (boundary_breaks token.now) }
 {
     match token.topology() {
         Topology::Branch(branch) => match branch {

@@ -1,7 +1,7 @@
 //! Incompatible bounds: of a repetition, the upper bound is below the lower one, or both are zero.
 ghost use Rattle.std.specs.Prelude.{◌≡◌};
 ghost use Rattle.wax_rule.specs.Rules.{are_incompatible, bounds_breaks};
-ghost use Rattle.wax_rule.specs.FirstBreak.{first_of};
+ghost use Rattle.wax_rule.specs.FirstBreak.{head_of};
 
 use super::{Break, RuleErrorKind, break_here};
 use wax_token::token::{BranchKind, ExpressionMetadata, Token, Topology};
@@ -17,7 +17,7 @@ fn are_incompatible(lower: usize, upper: Option<usize>) -> bool
 
 /// Whether the token is a repetition with such bounds.
 pub(super) fn bounds_break<'t>(token: &Token<'t, ExpressionMetadata>) -> Option<Break>
-    ensures { result ≡ first_of (bounds_breaks token.now) }
+    ensures { result ≡ head_of (bounds_breaks token.now) }
 {
     match token.topology() {
         Topology::Branch(branch) => match branch {

@@ -2,8 +2,8 @@
 ghost use Rattle.std.specs.Prelude.{◌≡◌};
 ghost use Rattle.std.specs.Option.{option_or};
 ghost use Rattle.wax_token.specs.Words.{trees};
-ghost use Rattle.wax_rule.specs.Rules.{terminal_of, has_boundary, has_zero_or_more, split_from, shared_rows, alternation_rows, repetition_rows, own_rows, first_that_holds, rows_of, sub_glob_breaks, alternative_breaks, branch_breaks, label_of};
-ghost use Rattle.wax_rule.specs.FirstBreak.{first_of};
+ghost use Rattle.wax_rule.specs.Rules.{terminal_of, side_has_boundary, has_zero_or_more, split_from, shared_rows, alternation_rows, repetition_rows, own_rows, first_that_holds, rows_of, sub_glob_breaks, alternative_breaks, branch_breaks, label_of};
+ghost use Rattle.wax_rule.specs.FirstBreak.{head_of};
 
 use super::situated::{Side, Situated};
 use super::{Break, RuleErrorKind};
@@ -61,8 +61,8 @@ fn terminal_of<'t>(token: &Token<'t, ExpressionMetadata>) -> Terminal
 }
 
 /// Whether the neighbour has a boundary at its side.
-fn has_boundary(side: Option<Side>) -> bool
-    ensures { result ≡ has_boundary side }
+fn side_has_boundary(side: Option<Side>) -> bool
+    ensures { result ≡ side_has_boundary side }
 {
     match side {
         Some(side) => side.has_boundary,
@@ -104,13 +104,13 @@ fn shared_rows(
     [
         // `a/{/b}`
         Row {
-            holds: first.is_separator && has_boundary(left),
+            holds: first.is_separator && side_has_boundary(left),
             kind: RuleErrorKind::AdjacentBoundary,
             correlated: split_from(left, first),
         },
         // `{a/}/b`
         Row {
-            holds: last.is_separator && has_boundary(right),
+            holds: last.is_separator && side_has_boundary(right),
             kind: RuleErrorKind::AdjacentBoundary,
             correlated: split_from(right, last),
         },
@@ -122,13 +122,13 @@ fn shared_rows(
         },
         // `a/{**/b}`
         Row {
-            holds: several && first.is_tree && has_boundary(left),
+            holds: several && first.is_tree && side_has_boundary(left),
             kind: RuleErrorKind::AdjacentBoundary,
             correlated: split_from(left, first),
         },
         // `{a/**}/b`
         Row {
-            holds: several && last.is_tree && has_boundary(right),
+            holds: several && last.is_tree && side_has_boundary(right),
             kind: RuleErrorKind::AdjacentBoundary,
             correlated: split_from(right, last),
         },
@@ -221,7 +221,8 @@ fn find_row(
     last: Terminal,
     several: bool,
 ) -> Option<Row>
-    ensures { result ≡ option_or (first_that_holds (shared_rows left right first last several)) (first_that_holds (own_rows branch left first last several)) }
+    ensures { result ≡ option_or (first_that_holds (shared_rows left right first last several))
+        (first_that_holds (own_rows branch left first last several)) }
 {
     let shared = first_that_holds(&shared_rows(left, right, first, last, several));
     let own = match branch {
@@ -264,7 +265,7 @@ fn sub_glob_break<'t>(
     right: Option<Side>,
     sub_glob: &Token<'t, ExpressionMetadata>,
 ) -> Option<Break>
-    ensures { result ≡ first_of (sub_glob_breaks branch span left right sub_glob.now) }
+    ensures { result ≡ head_of (sub_glob_breaks branch span left right sub_glob.now) }
 {
     let row = find_row_of(branch, left, right, sub_glob.concatenation())?;
     Some(Break {
@@ -280,7 +281,7 @@ fn alternative_break<'t>(
     right: Option<Side>,
     branches: &[Token<'t, ExpressionMetadata>],
 ) -> Option<Break>
-    ensures { result ≡ first_of (alternative_breaks span left right (trees branches.now)) }
+    ensures { result ≡ head_of (alternative_breaks span left right (trees branches.now)) }
 {
     for sub_glob in branches {
         if let Some(found) = sub_glob_break(Sort::Alternation, span, left, right, sub_glob) {
@@ -292,7 +293,7 @@ fn alternative_break<'t>(
 
 /// What the first of a branch's sub-globs breaks.
 pub(super) fn branch_break(token: &Situated<'_, '_>) -> Option<Break>
-    ensures { result ≡ first_of (branch_breaks token.now.left token.now.right token.now.token) }
+    ensures { result ≡ head_of (branch_breaks token.now.left token.now.right token.now.token) }
 {
     let (left, right) = (token.left(), token.right());
     let token = token.token();

@@ -3,9 +3,9 @@ ghost use Rattle.std.specs.Prelude.{◌≡◌, ◌++◌, ◌∷◌, [], Bool, If
 ghost use Rattle.std.specs.List.{flat_map};
 ghost use Rattle.wax_token.specs.View.{leaf_of};
 ghost use Rattle.wax_token.specs.Words.{trees, annotation_of};
-ghost use Rattle.wax_rule.specs.Situated.{starts_in, some_starts_in, ends_in, some_ends_in, end_of, start_of, right_of, breadth_first};
+ghost use Rattle.wax_rule.specs.Situated.{starts_in, some_starts_in, ends_in, some_ends_in, end_side, start_side, right_of, breadth_first};
 ghost use Rattle.wax_token.specs.Kinds.{is_boundary_leaf, is_zero_or_more_leaf};
-ghost use Rattle.wax_rule.specs.Queue.{branches, siblings, children, children_at};
+ghost use Rattle.wax_rule.specs.Queue.{branches, siblings, children, queue_children};
 
 use std::alloc::{AllocError, Global};
 use std::marker::Model;
@@ -161,8 +161,8 @@ fn found_at_ends<'t>(tokens: &[Token<'t, ExpressionMetadata>]) -> Found
     }
 }
 
-fn start_of<'t>(token: &Token<'t, ExpressionMetadata>) -> Side
-    ensures { result ≡ start_of token.now }
+fn start_side<'t>(token: &Token<'t, ExpressionMetadata>) -> Side
+    ensures { result ≡ start_side token.now }
 {
     let found = found_at_start(token);
     Side {
@@ -172,8 +172,8 @@ fn start_of<'t>(token: &Token<'t, ExpressionMetadata>) -> Side
     }
 }
 
-fn end_of<'t>(token: &Token<'t, ExpressionMetadata>) -> Side
-    ensures { result ≡ end_of token.now }
+fn end_side<'t>(token: &Token<'t, ExpressionMetadata>) -> Side
+    ensures { result ≡ end_side token.now }
 {
     let found = found_at_end(token);
     Side {
@@ -192,7 +192,7 @@ fn right_of<'t>(
     ensures { result ≡ right_of (trees (drop index tokens.now)) outer }
 {
     match tokens.get(index) {
-        Some(token) => Some(start_of(token)),
+        Some(token) => Some(start_side(token)),
         None => outer,
     }
 }
@@ -214,7 +214,7 @@ fn push_siblings<'i, 't>(
             left: before,
             right: right_of(tokens, index + 1, right),
         })?;
-        before = Some(end_of(token));
+        before = Some(end_side(token));
     }
     Ok(())
 }
@@ -237,7 +237,7 @@ fn push_branches<'i, 't>(
 /// Puts the tokens that the one at the index holds into the row.
 fn push_children<'i, 't>(row: &mut Vec<Situated<'i, 't>>, index: usize) -> Result<(), AllocError>
     requires { index < length row.old.items }
-    ensures { OnOk result (row.new.items ≡ row.old.items ++ children_at row.old.items index) }
+    ensures { OnOk result (row.new.items ≡ row.old.items ++ queue_children row.old.items index) }
 {
     let here = &row[index];
     let (token, left, right) = (here.token(), here.left(), here.right());

@@ -2,7 +2,7 @@ use Rattle.std.proofs.Common.{◌≡◌, ◌≤◌, ◌*◌, ◌+◌, ◌++◌, 
 use Rattle.wax_token.specs.Syntax.{tree_size, trees_size}
 use Rattle.wax_token.specs.View.{branch_tree}
 use Rattle.wax_token.specs.Words.{trees}
-use Rattle.wax_partition.specs.Shifted.{shifted}
+use Rattle.wax_partition.specs.Shifted.{shifted_tree}
 use Rattle.wax_partition.proofs.shift.+shifted.Given as goal
 
 abbrev pub decreases-shifted : goal.decreases-shifted
@@ -18,7 +18,7 @@ decreases-shifted_each l = 3 * trees_size (trees l.tokens.items)
 abbrev pub invariant-shifted_each-loop-token : goal.invariant-shifted_each-loop-token
 invariant-shifted_each-loop-token l = record {
   fewer : trees_size (trees l.tokens.items) ≤ trees_size (trees l.fn.tokens.items);
-  done : map (shifted l.bytes) l.tokens.items ++ reverse l.done.items ≡ map (shifted l.bytes) l.fn.tokens.items;
+  done : map (shifted_tree l.bytes) l.tokens.items ++ reverse l.done.items ≡ map (shifted_tree l.bytes) l.fn.tokens.items;
 }
 
 abbrev pub decreases-shifted_each-loop-token : goal.decreases-shifted_each-loop-token

@@ -1,7 +1,7 @@
 use Rattle.std.proofs.Common.{◌≡◌, drop, fold}
-use Rattle.wax_components.specs.Parts.{text_of}
+use Rattle.wax_components.specs.Parts.{literals_text}
 use Rattle.wax_components.specs.inner.Dots.{dot_after, dots_of}
 use Rattle.wax_components.proofs.parts.LiteralSequence.dots.Given as goal
 
 abbrev pub invariant-loop-token : goal.invariant-loop-token
-invariant-loop-token g l = fold dot_after l.dots (text_of (drop l.token-index l.token-items)) ≡ dots_of l.self
+invariant-loop-token g l = fold dot_after l.dots (literals_text (drop l.token-index l.token-items)) ≡ dots_of l.self

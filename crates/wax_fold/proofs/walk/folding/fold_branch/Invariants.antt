@@ -2,7 +2,7 @@ use Rattle.std.proofs.Common.{◌≡◌, ◌+◌, map}
 use Rattle.wax_fold.specs.Branches.{branch_of}
 use Rattle.wax_fold.specs.Folded.{folded}
 use Rattle.wax_fold.specs.inner.BranchFolded.{branch_folded}
-use Rattle.wax_fold.specs.inner.OpenBranches.{open_branch, folding, visits}
+use Rattle.wax_fold.specs.inner.OpenBranches.{open_branch, folding, branch_visits}
 use Rattle.wax_fold.specs.inner.Opens.{closed, closed_all, steps_in, steps_left}
 use Rattle.wax_fold.proofs.walk.folding.fold_branch.Given as goal
 
@@ -21,5 +21,5 @@ abbrev pub decreases-loop-token : goal.decreases-loop-token
 decreases-loop-token g l =
     let chosen = g.F.Sequencer.Sequencer.chosen g.row.A.Denot in
     let f = g.F.Fold.answers l.fn.folder in
-    steps_left (visits chosen) (map (λ o. folding f (open_branch o)) l.outer.items)
-    + steps_in (visits chosen) (folding f (open_branch l.current))
+    steps_left (branch_visits chosen) (map (λ o. folding f (open_branch o)) l.outer.items)
+    + steps_in (branch_visits chosen) (folding f (open_branch l.current))

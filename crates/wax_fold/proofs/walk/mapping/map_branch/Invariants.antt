@@ -1,7 +1,7 @@
 use Rattle.std.proofs.Common.{◌≡◌, ◌+◌, map}
 use Rattle.wax_token.specs.View.{branch_tree}
 use Rattle.wax_fold.specs.Mapped.{mapped}
-use Rattle.wax_fold.specs.inner.OpenTokens.{open_token, mapping, visits}
+use Rattle.wax_fold.specs.inner.OpenTokens.{open_token, mapping, tree_visits}
 use Rattle.wax_fold.specs.inner.Opens.{closed, closed_all, steps_in, steps_left}
 use Rattle.wax_fold.proofs.walk.mapping.map_branch.Given as goal
 
@@ -18,5 +18,5 @@ invariant-loop-token g l =
 abbrev pub decreases-loop-token : goal.decreases-loop-token
 decreases-loop-token g l =
     let f = g.F.FoldMap.answers l.fn.folder in
-    steps_left visits (map (λ o. mapping f (open_token o)) l.outer.items)
-    + steps_in visits (mapping f (open_token l.current))
+    steps_left tree_visits (map (λ o. mapping f (open_token o)) l.outer.items)
+    + steps_in tree_visits (mapping f (open_token l.current))

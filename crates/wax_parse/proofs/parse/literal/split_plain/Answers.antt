@@ -1,6 +1,6 @@
 use Rattle.std.proofs.Common.{rules, ◌≡◌, ◌++◌, ◌∷◌, [], chars, ◌∙◌, ap, true}
 use Rattle.wax_parse.proofs.Runs.{shift_one, plain_more}
-use Rattle.wax_parse.specs.Parser.{is_plain, is_plain_character}
+use Rattle.wax_parse.specs.Parser.{is_plain_text, is_plain_character}
 use Rattle.wax_parse.proofs.parse.literal.split_plain.Goals as goal
 
 pub loop-c-preserved : goal.loop-c-preserved
@@ -15,4 +15,4 @@ loop-c-preserved c =
     )
 
 pub returns-clause-plain : goal.returns-clause-plain
-returns-clause-plain c = ap is_plain (c.before-2.ensures c.loop-c.invariant.1.0 c.loop-c.invariant.1.2) ∙ c.loop-c.invariant.1.1
+returns-clause-plain c = ap is_plain_text (c.before-2.ensures c.loop-c.invariant.1.0 c.loop-c.invariant.1.2) ∙ c.loop-c.invariant.1.1
