@@ -11,7 +11,7 @@ use Rattle.wax_walk.specs.Given.{Facts, Mark}
 use Rattle.wax_wanted.specs.Ignored.{Line}
 use Rattle.wax_wanted.specs.Wanted.{Filter, not_ignored, not_meant}
 use Rattle.wax_commands.specs.Commands.{WalkOption, without, ignoring, at_least, at_most, Says}
-use Rattle.wax_commands.specs.Files.{Answers, IsListIn}
+use Rattle.wax_commands.specs.Files.{FileAnswers, IsListIn}
 use Rattle.wax_commands.specs.Walked.{AreAskedBy, IsNotOf}
 use Rattle.wax_commands.proofs.OptionWords.{same_option}
 
@@ -29,14 +29,14 @@ module _ {X A E : Type 0} (rule : X → Facts → Mark) (old new : List X) (x : 
       → OnOk r ((t : Tree Span) × (rules : List (Facts → Mark)) × IsNotOf word t × AreRulesOf (not_meant t ∷ []) rules × (map rule new ≡ map rule old ++ rules))
   pattern_added word left pushed = map_on_ok (λ e. (left.0, rule x ∷ [], left.1, (left.2, tt), rule_added e)) r pushed
 
-  pub list_added : {Z : Type 0} (answers : Answers Z) (file : List ℕ) (lines : List (Line Span)) → IsListIn answers file lines → IsRuleOf (not_ignored lines) (rule x)
+  pub list_added : {Z : Type 0} (answers : FileAnswers Z) (file : List ℕ) (lines : List (Line Span)) → IsListIn answers file lines → IsRuleOf (not_ignored lines) (rule x)
       → OnOk r (new ≡ old ++ x ∷ [])
       → OnOk r ((lines : List (Line Span)) × (rules : List (Facts → Mark)) × IsListIn answers file lines × AreRulesOf (not_ignored lines ∷ []) rules × (map rule new ≡ map rule old ++ rules))
   list_added answers file lines read is pushed = map_on_ok (λ e. (lines, rule x ∷ [], read, (is, tt), rule_added e)) r pushed
 
 -- ---- what was asked for
 
-module _ {Z : Type 0} (answers : Answers Z) (name word : List ℕ) (P : List (Facts → Mark) → Type 0) where
+module _ {Z : Type 0} (answers : FileAnswers Z) (name word : List ℕ) (P : List (Facts → Mark) → Type 0) where
   abbrev Adds : WalkOption → Type 0
   Adds o = (xs : List (Filter Span)) × (rules : List (Facts → Mark)) × AreAskedBy answers o xs × AreRulesOf xs rules × P rules
 

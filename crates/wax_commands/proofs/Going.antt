@@ -17,7 +17,7 @@ use Rattle.wax.specs.GlobWalks.{BeginsGlob, trip_of}
 use Rattle.wax.proofs.GlobWalks.{comes_glob}
 use Rattle.wax_walk.specs.Forest.{preorder}
 use Rattle.wax_commands.specs.Candidates.{candidate_lines}
-use Rattle.wax_commands.specs.Files.{Answers}
+use Rattle.wax_commands.specs.Files.{FileAnswers}
 use Rattle.wax_commands.specs.Commands.{SayEach, WalkOption, WalkRequest}
 use Rattle.wax_commands.specs.Refused.{IsRefused}
 use Rattle.wax_commands.specs.Walked.{AreAskedByAll, AreBuilt, Ground, HasRefused, OnWalk, WalkEnds, WalkGlobs, done, faulty, no_filter, no_glob}
@@ -51,7 +51,7 @@ range_read : (walk : WalkWords) (asked : WalkRequest) (b : WalkBehavior) → IsR
 range_read walk asked b read e =
     ap range_of e ∙ (λ i. record { min = read.lower i; max = or_greatest (read.upper i); budget = 2 ^ 32 - 1 })
 
-abbrev pub ground : {D C Z : Type 0} → Law D C → D → Answers Z → Ground D C Z
+abbrev pub ground : {D C Z : Type 0} → Law D C → D → FileAnswers Z → Ground D C Z
 ground law d answers = record { law = law; directory = d; answers = answers }
 
 module _ {D C Z : Type 0} (over : Ground D C Z) (walk : WalkWords) (asked : WalkRequest) (read : IsRead walk asked) where

@@ -7,7 +7,7 @@ use Rattle.wax_token.specs.Reads.{Span}
 use Rattle.wax_walk.specs.Given.{Facts, Mark}
 use Rattle.wax_wanted.specs.Wanted.{Filter}
 use Rattle.wax_commands.specs.Commands.{WalkOption, Says, SayEach}
-use Rattle.wax_commands.specs.Files.{Answers}
+use Rattle.wax_commands.specs.Files.{FileAnswers}
 use Rattle.wax_commands.specs.Walked.{AreAskedBy, AreAskedByAll, HasRefused, IsRefusedOption}
 use Rattle.wax_commands.specs.inner.WalkWords.{HasNoNext, IsNext}
 use Rattle.wax_commands.proofs.OptionWords.{next_says}
@@ -26,7 +26,7 @@ none_left (Some x ∷ []) left s e = absurd s
 none_left (Some x ∷ None ∷ rest) left s e = absurd s
 none_left (Some x ∷ Some y ∷ rest) left s e = absurd e
 
-module _ {Z : Type 0} (answers : Answers Z) where
+module _ {Z : Type 0} (answers : FileAnswers Z) where
   asked_more : (os : List WalkOption) (o : WalkOption) (xs ys : List (Filter Span)) → AreAskedByAll answers os xs → AreAskedBy answers o ys
       → AreAskedByAll answers (os ++ o ∷ []) (xs ++ ys)
   asked_more [] o xs ys h k = (ys, [], k, refl, ap (λ v. v ++ ys) h ∙ sym (append-nil ys))

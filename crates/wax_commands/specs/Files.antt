@@ -10,10 +10,10 @@ use Rattle.wax_wanted.specs.Ignored.{Line}
 use Rattle.wax_commands.specs.declared.files.FileFault.{FileFault}
 
 -- what may be answered of a file, by its name
-abbrev pub Answers : Type 0 → Type 1
-Answers Z = List ℕ → Result (Vec ℕ Z) FileFault → Type 0
+abbrev pub FileAnswers : Type 0 → Type 1
+FileAnswers Z = List ℕ → Result (Vec ℕ Z) FileFault → Type 0
 
-module _ {Z : Type 0} (answers : Answers Z) where
+module _ {Z : Type 0} (answers : FileAnswers Z) where
   -- the file holds a text, of which these are the lines that aren't skipped
   abbrev pub IsListIn : List ℕ → List (Line Span) → Type 0
   IsListIn file lines = (bytes : Vec ℕ Z) × answers file (Ok bytes) × IsUtf8 bytes.items

@@ -24,14 +24,14 @@ use Rattle.wax_commands.specs.Candidates.{candidate_lines, is_error}
 use Rattle.wax_wanted.specs.Wanted.{Filter, not_meant, not_ignored}
 use Rattle.wax_commands.specs.Commands.{WalkOption, without, ignoring, at_least, at_most, WalkRequest}
 use Rattle.wax_commands.specs.Commands.{greatest_in, least_in}
-use Rattle.wax_commands.specs.Files.{Answers, IsListIn, IsUnlisted}
+use Rattle.wax_commands.specs.Files.{FileAnswers, IsListIn, IsUnlisted}
 use Rattle.wax_commands.specs.Refused.{IsRefused}
 
 -- what a walk is run over: a directory, with its law, and what may be answered of files
 pub record Ground (D C Z : Type 0) : Type 1 where
   pub law : Law D C
   pub directory : D
-  pub answers : Answers Z
+  pub answers : FileAnswers Z
 
 -- ---- builds
 
@@ -44,7 +44,7 @@ pub record WalkGlobs : Type 0 where
   pub glob : GlobView
   pub filters : List (Filter Span)
 
-module _ {Z : Type 0} (answers : Answers Z) where
+module _ {Z : Type 0} (answers : FileAnswers Z) where
   -- the filters that an option asks for: one, or none
   abbrev pub AreAskedBy : WalkOption → List (Filter Span) → Type 0
   AreAskedBy (without e) (not_meant t ∷ []) = IsNotOf e t
