@@ -23,8 +23,8 @@ AsksQuery words e = Asks (codes "query") words e
 
 -- ---- walks
 
--- an option of a walk: an expression whose entries are left out, a file with an ignore list, a least depth, or
--- a greatest
+-- an option of a walk: an expression whose entries are left out, a file with an ignore list, a least depth,
+-- or a greatest
 pub data WalkOption : Type 0 where
   without : List ℕ → WalkOption
   ignoring : List ℕ → WalkOption

@@ -44,9 +44,9 @@ enum Lines {
 /// expression; `walk START EXPR` writes the candidates of the entries below a start that the expression
 /// means, but for those that the expressions after `not` mean, those that the ignore list in the file after
 /// `ignore` ignores, and depths below `min` or above `max`. `read` gives the bytes of a file by its name, and
-/// is asked for that list alone, before anything is listed. The last two read nothing of the input. Faults are told in one line, each error of a walk in one where it comes, wrong
-/// words by the usage text, and nothing else is written to `faults`; where that can't be written, the status
-/// is the same.
+/// is asked for that list alone, before anything is listed. The last two read nothing of the input. Faults
+/// are told in one line, each error of a walk in one where it comes, wrong words by the usage text, and
+/// nothing else is written to `faults`; where that can't be written, the status is the same.
 pub fn run_globs<R, W, F, D, B>(
     alloc: Global,
     words: &[Option<String>],

@@ -1,6 +1,6 @@
-//! Prints what walks of globs through trees in memory give, less what patterns mean and lists ignore, with the
-//! folders that were listed, row by row; and counts the random walks that come to something else than the whole walk,
-//! filtered. The file `stdout` beside this folder has what has to be printed.
+//! Prints what walks of globs through trees in memory give, less what patterns mean and lists ignore, with
+//! the folders that were listed, row by row; and counts the random walks that come to something else than the
+//! whole walk, filtered. The file `stdout` beside this folder has what has to be printed.
 #![tactic(auto)]
 
 mod draws;

@@ -65,25 +65,32 @@ up_to_code (suc n) a = skip (a ++ up_to_code n a)
 -- as many times a as the bounds say
 abbrev pub counted_code : ℕ → Option ℕ → List Instruction → List Instruction
 counted_code low None a = copies_code low a ++ loop a
-counted_code low (Some high) a = if nat_le low high then copies_code low a ++ up_to_code (high - low) a else never
+counted_code low (Some high) a =
+    if nat_le low high then copies_code low a ++ up_to_code (high - low) a else never
 
 -- two copies or more, each with the others around it
 abbrev pub many_code : ℕ → Option ℕ → (Bool → Bool → List Instruction) → Bool → Bool → List Instruction
-many_code low high body before after = body before true ++ (counted_code low high (body true true) ++ body true after)
+many_code low high body before after =
+    body before true ++ (counted_code low high (body true true) ++ body true after)
 
 -- the same for a body that depends on what stands around it: no copy, one copy, or two copies or more
 abbrev pub copied_code : ℕ → Option ℕ → (Bool → Bool → List Instruction) → Bool → Bool → List Instruction
 copied_code zero (Some zero) body before after = []
 copied_code zero (Some (suc zero)) body before after = skip (body before after)
-copied_code zero (Some (suc (suc high))) body before after = skip (choose (body before after) (many_code 0 (Some high) body before after))
-copied_code zero None body before after = skip (choose (body before after) (many_code 0 None body before after))
+copied_code zero (Some (suc (suc high))) body before after =
+    skip (choose (body before after) (many_code 0 (Some high) body before after))
+copied_code zero None body before after =
+    skip (choose (body before after) (many_code 0 None body before after))
 copied_code (suc zero) (Some zero) body before after = never
 copied_code (suc zero) (Some (suc zero)) body before after = body before after
-copied_code (suc zero) (Some (suc (suc high))) body before after = choose (body before after) (many_code 0 (Some high) body before after)
-copied_code (suc zero) None body before after = choose (body before after) (many_code 0 None body before after)
+copied_code (suc zero) (Some (suc (suc high))) body before after =
+    choose (body before after) (many_code 0 (Some high) body before after)
+copied_code (suc zero) None body before after =
+    choose (body before after) (many_code 0 None body before after)
 copied_code (suc (suc low)) (Some zero) body before after = never
 copied_code (suc (suc low)) (Some (suc zero)) body before after = never
-copied_code (suc (suc low)) (Some (suc (suc high))) body before after = many_code low (Some high) body before after
+copied_code (suc (suc low)) (Some (suc (suc high))) body before after =
+    many_code low (Some high) body before after
 copied_code (suc (suc low)) None body before after = many_code low None body before after
 
 -- a tree; its branches, each before the others; trees one after another
@@ -93,7 +100,8 @@ abbrev mutual
   tree_code (alternation a ts) before after = branches_code ts before after
   tree_code (concatenation a ts) before after = sequence_code ts before after
   tree_code (repetition a t low high) before after =
-      if holds_tree t then copied_code low high (tree_code t) before after else counted_code low high (tree_code t before after)
+      if holds_tree t then copied_code low high (tree_code t) before after
+      else counted_code low high (tree_code t before after)
 
   pub branches_code : {A : Type 0} → Trees A → Bool → Bool → List Instruction
   branches_code none before after = never
@@ -102,9 +110,11 @@ abbrev mutual
   pub sequence_code : {A : Type 0} → Trees A → Bool → Bool → List Instruction
   sequence_code none before after = []
   sequence_code (more t none) before after = tree_code t before after
-  sequence_code (more t (more u us)) before after = tree_code t before true ++ sequence_code (more u us) true after
+  sequence_code (more t (more u us)) before after =
+      tree_code t before true ++ sequence_code (more u us) true after
 
 -- a repetition of the tree
 abbrev pub repeated_code : {A : Type 0} → ℕ → Option ℕ → Tree A → Bool → Bool → List Instruction
 repeated_code low high t before after =
-    if holds_tree t then copied_code low high (tree_code t) before after else counted_code low high (tree_code t before after)
+    if holds_tree t then copied_code low high (tree_code t) before after
+    else counted_code low high (tree_code t before after)

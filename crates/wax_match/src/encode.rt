@@ -37,8 +37,11 @@ pub fn compile<'t, A>(
     before: bool,
     after: bool,
 ) -> Result<Program, Refusal<CompileError>>
-    ensures means { IfOk result (λ p. (s : List ℕ) → Accepts p.0 0 s ↔ MeansEach (trees tokens.now) before after s) }
-    ensures length { MatchBuild result (λ p. (p.1 ≡ costs (trees tokens.now) + 1) × (p.1 ≤ 1048576)) (λ _. 1048576 < costs (trees tokens.now) + 1) }
+    ensures means { IfOk result
+        (λ p. (s : List ℕ) → Accepts p.0 0 s ↔ MeansEach (trees tokens.now) before after s) }
+    ensures length { MatchBuild result
+        (λ p. (p.1 ≡ costs (trees tokens.now) + 1) × (p.1 ≤ 1048576))
+        (λ _. 1048576 < costs (trees tokens.now) + 1) }
 {
     let cost = weigh_all(tokens).cost;
     if cost >= LONGEST {

@@ -15,12 +15,14 @@ CanBeAfter Anywhere before = Unit {0}
 -- these characters stand there in each text that is meant so
 abbrev pub AllStand : Place → NeedleView → (Bool → Bool → List ℕ → Type 0) → Type 0
 AllStand place held Meant =
-    (before after : Bool) (text : List ℕ) → CanBeAfter place before → Meant before after text → StandsAt place held text
+    (before after : Bool) (text : List ℕ) → CanBeAfter place before → Meant before after text
+    → StandsAt place held text
 
 -- each text that is meant so holds one of these
 abbrev pub AllHold : Place → List NeedleView → (Bool → Bool → List ℕ → Type 0) → Type 0
 AllHold place needles Meant =
-    (before after : Bool) (text : List ℕ) → CanBeAfter place before → Meant before after text → HoldsOne place needles text
+    (before after : Bool) (text : List ℕ) → CanBeAfter place before → Meant before after text
+    → HoldsOne place needles text
 
 -- and has at least so many characters
 abbrev pub IsAtMostAll : ℕ → (Bool → Bool → List ℕ → Type 0) → Type 0

@@ -31,7 +31,8 @@ Moves (Back n) Then pc s = Then (pc - n) s
 -- from pc on the text is accepted in at most n steps: it has to end where the program does
 abbrev pub AcceptsIn : List Instruction → ℕ → ℕ → List ℕ → Type 0
 AcceptsIn code zero pc s = ⊥
-AcceptsIn code (suc n) pc s = ((pc ≡ length code) × (s ≡ [])) ⊎ ((i : Instruction) × (slice_get code pc ≡ Some i) × Moves i (AcceptsIn code n) pc s)
+AcceptsIn code (suc n) pc s = ((pc ≡ length code) × (s ≡ []))
+    ⊎ ((i : Instruction) × (slice_get code pc ≡ Some i) × Moves i (AcceptsIn code n) pc s)
 
 -- from pc on the text is accepted
 abbrev pub Accepts : List Instruction → ℕ → List ℕ → Type 0

@@ -47,7 +47,8 @@ Lets code Lost d = ⊥
 
 -- the instruction at k does by each such character what it does by c
 abbrev pub Covers : List Instruction → ℕ → Watch → ℕ → Type 0
-Covers code c watch k = (i : Instruction) → slice_get code k ≡ Some i → (d : ℕ) → c ≢ 47 → d ≢ 47 → Lets code watch d → Alike i c d
+Covers code c watch k = (i : Instruction) → slice_get code k ≡ Some i
+    → (d : ℕ) → c ≢ 47 → d ≢ 47 → Lets code watch d → Alike i c d
 
 -- the instruction at k was read, and what was watched still is
 pub record Noted (code : List Instruction) (c k : ℕ) (old new : Watch) : Type 0 where
@@ -63,7 +64,8 @@ abbrev pub NotedRepeat : Watch → Watch → Test → Type 0
 NotedRepeat old new t = ((new ≡ old) × ((t ≡ NotSlash) ⊎ (t ≡ Any))) ⊎ (new ≡ Lost)
 
 -- a round by c with that watch led from the set back to it
-pub record Comes (code : List Instruction) (c : ℕ) (next : List Bool) (here : Option ℕ) (watch : Watch) (s : Steady) : Type 0 where
+pub record Comes (code : List Instruction) (c : ℕ) (next : List Bool) (here : Option ℕ) (watch : Watch)
+    (s : Steady) : Type 0 where
   pub other : c ≢ 47
   pub back : next ≡ places_of s.word
   pub began : here ≡ Some s.word

@@ -111,8 +111,10 @@ pub record Followed (code : List Instruction) (c k : ℕ) (old new : Position) :
   pub handled : Handled code c new k
   pub keeps : (x : ℕ) → Has old.pending x → Has new.pending x
   pub keeps_next : (x : ℕ) → Has old.next x → Has new.next x
-  pub only : (x : ℕ) → Has new.pending x → Has old.pending x ⊎ ((s : List ℕ) → Accepts code x s → Accepts code k s)
-  pub only_next : (x : ℕ) → Has new.next x → Has old.next x ⊎ ((s : List ℕ) → Accepts code x s → Accepts code k (c ∷ s))
+  pub only : (x : ℕ) → Has new.pending x
+      → Has old.pending x ⊎ ((s : List ℕ) → Accepts code x s → Accepts code k s)
+  pub only_next : (x : ℕ) → Has new.next x
+      → Has old.next x ⊎ ((s : List ℕ) → Accepts code x s → Accepts code k (c ∷ s))
 
 -- the places that were read are followed, and all of them come from the old set
 pub record Round (code : List Instruction) (c : ℕ) (old : List Bool) (p : Position) : Type 0 where

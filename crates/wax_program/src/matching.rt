@@ -25,7 +25,8 @@ pub fn run(
 ) -> Result<bool, NoMemory>
     ensures decides { IfOk result (λ b. IsTrue b ↔ Accepts program.now.0 0 (chars text.now)) }
     ensures above { meter.new ≤ meter.old + program.now.1 * (length (chars text.now) + 1) }
-    ensures below { IfOk result (λ b. IsTrue b → min (meter.old + length (chars text.now)) most_ticks ≤ meter.new) }
+    ensures below { IfOk result
+        (λ b. IsTrue b → min (meter.old + length (chars text.now)) most_ticks ≤ meter.new) }
     ensures steady { meter.old ≤ meter.new }
 {
     let size = program.size();

@@ -49,7 +49,8 @@ fn begin<R: Rows>(starts: &[bool], at: usize, rows: &mut R)
     ensures read { (R.position rows.new).read ≡ (R.position rows.old).read }
     ensures next { (R.position rows.new).next ≡ (R.position rows.old).next }
     ensures kept { (k : ℕ) → Has (R.position rows.old).pending k → Has (R.position rows.new).pending k }
-    ensures begun { IsEmpty (R.position rows.old).read → Has starts.now at → Has (R.position rows.new).pending 0 }
+    ensures begun { IsEmpty (R.position rows.old).read → Has starts.now at
+        → Has (R.position rows.new).pending 0 }
 {
     if starts[at] {
         rows.insert(0);

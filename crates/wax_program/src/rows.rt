@@ -24,7 +24,8 @@ pub trait Rows {
     fn is_at(&self, word: u64) -> bool
         ensures { IsTrue result → (position self.now).pending ≡ places_of word };
 
-    /// Whether the word's set is to be read at the next position. It may deny it where sets aren't held by words.
+    /// Whether the word's set is to be read at the next position. It may deny it where sets aren't held by
+    /// words.
     fn leads_to(&self, word: u64) -> bool
         ensures { IsTrue result → (position self.now).next ≡ places_of word };
 
@@ -32,7 +33,8 @@ pub trait Rows {
     fn take(&mut self) -> Option<usize>
         ensures few { members (position self.new).read ≤ (position self.new).size }
         ensures small { (position self.old).size < 2 ^ 64 }
-        ensures taken { MatchOption result ((position self.new ≡ position self.old) × IsDone (position self.new))
+        ensures taken { MatchOption result
+            ((position self.new ≡ position self.old) × IsDone (position self.new))
             (λ at. Taken (position self.old) (position self.new) at) };
 
     /// The place is to be read here, unless it was.

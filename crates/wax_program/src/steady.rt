@@ -60,7 +60,8 @@ impl Watch {
     /// The place whose check is to be watched. Any place will do where none has to be.
     #[inline(always)]
     pub fn place(self) -> Option<usize>
-        ensures { IfSome result (λ k. (code : List Instruction) (d : ℕ) → Misses code k d → Lets code self d) }
+        ensures { IfSome result
+            (λ k. (code : List Instruction) (d : ℕ) → Misses code k d → Lets code self d) }
     {
         match self {
             Watch::Nothing => Some(0),
@@ -103,7 +104,8 @@ pub fn stays<R: Rows>(
     meter: &mut Meter,
 ) -> bool
     requires known { IfSome steady (IsKnown program.now.0) }
-    ensures advances { IsTrue result → Advances program.now.0 c (R.position rows.now).pending (R.position rows.now).pending }
+    ensures advances { IsTrue result
+        → Advances program.now.0 c (R.position rows.now).pending (R.position rows.now).pending }
     ensures above { meter.new ≤ meter.old + 1 }
     ensures steady { meter.old ≤ meter.new }
     ensures below { IsTrue result → min (meter.old + 1) most_ticks ≤ meter.new }

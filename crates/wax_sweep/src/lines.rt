@@ -1,4 +1,5 @@
-//! Lines that are read one byte at a time, and written to standard output. What stands behind `=` isn't theirs.
+//! Lines that are read one byte at a time, and written to standard output. What stands behind `=` isn't
+//! theirs.
 
 use crate::answers::{glob_of, print_answer};
 use std::alloc::Global;

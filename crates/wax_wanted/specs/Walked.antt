@@ -44,8 +44,8 @@ abbrev pub path_from : List ℕ → List (List ℕ) → List ℕ
 path_from path [] = path
 path_from path (x ∷ names) = path_from (join path x) names
 
--- the filter leaves out the candidate with all that can lie below it: an alternative of the pattern covers it,
--- or a line that ignores does and no line that takes back stands after that
+-- the filter leaves out the candidate with all that can lie below it: an alternative of the pattern covers
+-- it, or a line that ignores does and no line that takes back stands after that
 abbrev pub LeavesOutBelow : {A : Type 0} → Filter A → Candidate → Type 0
 LeavesOutBelow (not_meant t) c = CoversSome (alternatives t) c
 LeavesOutBelow (not_ignored lines) c = IgnoresBelow lines c

@@ -184,7 +184,8 @@ fn put_few<'t, A>(
     after: bool,
 ) -> Result<(), AllocError>
     requires { upper < 2 }
-    ensures { OnOk result (tail.new ≡ copied_code lower (Some upper) (tree_code body.now) before after ++ tail.old) }
+    ensures { OnOk result
+        (tail.new ≡ copied_code lower (Some upper) (tree_code body.now) before after ++ tail.old) }
 {
     if upper < lower {
         tail.put(Instruction::Check(Test::Never))?;
@@ -231,7 +232,8 @@ fn put_counted<'t, A>(
     before: bool,
     after: bool,
 ) -> Result<(), AllocError>
-    ensures { OnOk result (tail.new ≡ counted_code lower upper (tree_code body.now before after) ++ tail.old) }
+    ensures { OnOk result
+        (tail.new ≡ counted_code lower upper (tree_code body.now before after) ++ tail.old) }
 {
     let Some(upper) = upper else {
         put_loop_of(alloc, tail, body, before, after)?;
