@@ -1,10 +1,12 @@
 //! The program `globs`.
 #![tactic(auto)]
 
+use std::fs;
+use std::io::ErrorKind;
 use std::process::ExitCode;
 use wax::Counted;
 use wax::walk::Folders;
-use wax_commands::{run_globs, words};
+use wax_commands::{FileFault, run_globs, words};
 
 fn main(rt: HostRuntime) -> ExitCode {
     let alloc = rt.alloc();
@@ -16,6 +18,23 @@ fn main(rt: HostRuntime) -> ExitCode {
     let mut output = Counted::new(rt.stdout());
     let mut faults = rt.stderr();
     let folders = Folders::new(rt);
-    let status = run_globs(alloc, &words, &mut input, &mut output, &mut faults, folders);
+    let status = run_globs(
+        alloc,
+        &words,
+        &mut input,
+        &mut output,
+        &mut faults,
+        folders,
+        |file| bytes_of(&rt, file),
+    );
     ExitCode::from(status)
+}
+
+// The bytes of a file.
+fn bytes_of(rt: &HostRuntime, file: &str) -> Result<Vec<u8>, FileFault> {
+    match fs::read(rt, file) {
+        Ok(bytes) => Ok(bytes),
+        Err(error) if error.kind() == ErrorKind::OutOfMemory => Err(FileFault::Memory),
+        Err(_) => Err(FileFault::ReadFailed),
+    }
 }

@@ -17,6 +17,7 @@ use Rattle.wax_tree.specs.Plain.{count_shown}
 use Rattle.wax_walk.specs.Ruled.{ruled_view}
 use Rattle.wax_walk.specs.View.{IsSeenAs, WalkView}
 use Rattle.wax_tree.specs.Prefix.{ArePlain}
+use Rattle.wax_wanted.specs.Wanted.{Filter}
 use Rattle.wax_wanted.specs.Premises.{CanWalk}
 use Rattle.wax_wanted.specs.Walked.{glob_walk, way_walk}
 use Rattle.wax_token.specs.Decided.{means_test}
@@ -124,7 +125,7 @@ same_way p b c names others h k =
 -- ---- what is to come
 
 module _ {D C : Type 0} (g : GlobView) (law : Law D C) (d : D) (start : List ℕ) (asked : Range) (depth : Bounds) (depth_is : Depth g.tree depth)
-    (can : (b : Beginning g.tree) (nots : List (Tree Span)) → ArePlain b.names → CanWalk (wants g.tree b nots) asked (within asked depth) (way_from start b.rooted b.names))
+    (can : (b : Beginning g.tree) (filters : List (Filter Span)) → ArePlain b.names → CanWalk (wants g.tree b filters) asked (within asked depth) (way_from start b.rooted b.names))
     (view : WalkView D) where
   abbrev walked : Range
   walked = within asked depth

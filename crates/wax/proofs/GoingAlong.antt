@@ -14,6 +14,7 @@ use Rattle.wax_token.specs.Syntax.{Leaf, literal, class, separator, one, zero_or
 use Rattle.wax_tree.specs.Prefix.{ArePlain}
 use Rattle.wax_tree.specs.declared.steps.Range.{Range}
 use Rattle.wax_wanted.specs.Candidates.{base}
+use Rattle.wax_wanted.specs.Wanted.{Filter}
 use Rattle.wax_wanted.specs.Premises.{BeginsWith, BoundsNames, CanWalk}
 use Rattle.wax.specs.GlobView.{IsKept}
 use Rattle.wax.specs.GlobWalks.{Beginning, up_to, wants, way_from, within}
@@ -72,9 +73,9 @@ greatest_at t rooted most (Some upper) h = elim (cases_lt upper most) [
 ]
 
 pub can_walk : (t : Tree Span) → IsKept t → (depth : Bounds) → ((s : List ℕ) → Means t false false s → AtMost (components s) depth.1) →
-    (start : List ℕ) (asked : Range) (b : Beginning t) (nots : List (Tree Span)) → ArePlain b.names →
-    CanWalk (wants t b nots) asked (within asked depth) (way_from start b.rooted b.names)
-can_walk t kept depth bound start asked b nots plain =
+    (start : List ℕ) (asked : Range) (b : Beginning t) (filters : List (Filter Span)) → ArePlain b.names →
+    CanWalk (wants t b filters) asked (within asked depth) (way_from start b.rooted b.names)
+can_walk t kept depth bound start asked b filters plain =
     let k = b.names_are in
     let same = names_are start b.rooted b.names in
     let prefix : Prefix t b.taken (chars k.text) = subst (Prefix t b.taken) (sym k.characters) b.prefix_is in

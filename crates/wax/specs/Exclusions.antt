@@ -1,5 +1,6 @@
 -- Patterns that are left out of walks.
-use Rattle.std.specs.Prelude.{◌≡◌, ◌<◌, ◌≤◌, ◌⊎◌, false}
+use Rattle.std.specs.Prelude.{◌≡◌, ◌<◌, ◌≤◌, ◌⊎◌, false, List}
+use Rattle.wax_collect.specs.Trips.{IsRuleOf}
 use Rattle.wax_token.specs.Cost.{program_length}
 use Rattle.wax_token.specs.Reads.{Span}
 use Rattle.wax_token.specs.Syntax.{Tree}
@@ -7,9 +8,13 @@ use Rattle.wax_walk.specs.Given.{Facts, Mark}
 use Rattle.wax_walk.specs.Ruled.{ruled_view}
 use Rattle.wax_walk.specs.View.{IsSeenAs, WalkView}
 use Rattle.wax_wanted.specs.Marks.{not_mark, of_candidate}
+use Rattle.wax_wanted.specs.Wanted.{not_meant}
 use Rattle.wax.specs.Patterns.{IsOnly}
 use Rattle.wax.specs.declared.build_error.BuildError.{BuildError}
 use Rattle.wax.specs.declared.build_error.BuildError.TheVariants.{Parse, Rule, Compile, Memory}
+use Rattle.wax.specs.declared.ignoring.IgnoreList.{IgnoreList}
+use Rattle.wax.specs.declared.walk_filter.WalkFilter.{WalkFilter}
+use Rattle.wax.specs.declared.walk_filter.WalkFilter.TheVariants.{Not, Ignore}
 
 -- The only tree that is spelled, which fits.
 pub record FitsAlone (SpellsTree : Tree Span → Type 0) (t : Tree Span) : Type 0 where
@@ -33,3 +38,15 @@ NoExclusion SpellsTree RefusesAs Memory = Unit {0}
 abbrev pub IsWalkWithout : {D : Type 0} → (Tree Span → Type 0) → WalkView D → WalkView D → Type 0
 IsWalkWithout SpellsTree inner outer = (t : Tree Span) × FitsAlone SpellsTree t
     × IsSeenAs (ruled_view inner (of_candidate (not_mark t)) false) outer
+
+-- ---- filters
+
+-- the rule is that of the tree that is spelled, which fits
+abbrev pub IsNotRule : (Tree Span → Type 0) → (Facts → Mark) → Type 0
+IsNotRule SpellsTree rule = (t : Tree Span) × FitsAlone SpellsTree t × IsRuleOf (not_meant t) rule
+
+-- what a filter says, by what its pattern or its list says
+abbrev pub rule_by : (List (Tree Span) → Facts → Mark) → (IgnoreList → Facts → Mark) → WalkFilter → Facts
+    → Mark
+rule_by not_rule ignore_rule (Not alternatives) = not_rule alternatives
+rule_by not_rule ignore_rule (Ignore list) = ignore_rule list

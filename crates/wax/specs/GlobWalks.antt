@@ -19,7 +19,7 @@ use Rattle.wax_walk.specs.View.{WalkView}
 use Rattle.wax_wanted.specs.Leading.{leading_of}
 use Rattle.wax_wanted.specs.Premises.{CanWalk}
 use Rattle.wax_wanted.specs.Walked.{glob_walk}
-use Rattle.wax_wanted.specs.Wanted.{Wanted}
+use Rattle.wax_wanted.specs.Wanted.{Filter, Wanted}
 
 -- the lesser of a greatest depth and the greatest number of components
 abbrev pub up_to : ℕ → Option ℕ → ℕ
@@ -48,18 +48,18 @@ pub record Beginning (t : Tree Span) : Type 0 where
   pub names : List (List ℕ)
   pub names_are : IsPrefixWay prefix rooted names
 
--- what the glob wants, less these patterns
-abbrev pub wants : (t : Tree Span) → Beginning t → List (Tree Span) → Wanted Span
-wants t b nots = record { rooted = b.rooted; glob = t; nots = nots }
+-- what the glob wants, less what these filters leave out
+abbrev pub wants : (t : Tree Span) → Beginning t → List (Filter Span) → Wanted Span
+wants t b filters = record { rooted = b.rooted; glob = t; filters = filters }
 
 -- A walk over this directory that was made of a glob, in a range: what it means of what is shown will come.
 pub record BeginsGlob {D C : Type 0} (t : Tree Span) (law : Law D C) (d : D) (start : List ℕ) (asked : Range)
     (view : WalkView D) : Type 0 where
   pub depth : Bounds
   pub depth_is : Depth t depth
-  -- less whatever patterns, this is all that is wanted, as the law of glob walks says
-  pub can : (b : Beginning t) (nots : List (Tree Span)) → ArePlain b.names
-      → CanWalk (wants t b nots) asked (within asked depth) (way_from start b.rooted b.names)
+  -- less whatever filters, this is all that is wanted, as the law of glob walks says
+  pub can : (b : Beginning t) (filters : List (Filter Span)) → ArePlain b.names
+      → CanWalk (wants t b filters) asked (within asked depth) (way_from start b.rooted b.names)
   -- from the prefix on, to the greatest depth of the texts
   pub shown : (b : Beginning t) (s : Shown) (listed : List (List ℕ))
       → law.shows d (way_from start b.rooted b.names).path s → law.tells d listed → ArePlain b.names
@@ -78,10 +78,10 @@ pub record BeginsGlob {D C : Type 0} (t : Tree Span) (law : Law D C) (d : D) (st
   pub listings : view.listings_left ≡ asked.budget + 1
   pub directory : view.directory ≡ d
 
--- what is wanted of the walk of a glob, less these patterns
-abbrev pub trip_of : {t : Tree Span} → List ℕ → Range → Bounds → Beginning t → List (Tree Span) → Trip
-trip_of {t} start asked depth b nots = record {
-  wanted = wants t b nots;
+-- what is wanted of the walk of a glob, less what these filters leave out
+abbrev pub trip_of : {t : Tree Span} → List ℕ → Range → Bounds → Beginning t → List (Filter Span) → Trip
+trip_of {t} start asked depth b filters = record {
+  wanted = wants t b filters;
   asked = asked;
   walked = within asked depth;
   way = way_from start b.rooted b.names;

@@ -18,6 +18,7 @@ pub mod rule;
 mod set;
 pub mod token;
 pub mod walk;
+mod walk_filter;
 
 pub use build_error::BuildError;
 pub use glob::Glob;

@@ -5,6 +5,7 @@ pub use crate::exclusions::{
 };
 pub use crate::glob::GlobWalk;
 pub use crate::ignoring::{IgnoreError, IgnoreList};
+pub use crate::walk_filter::WalkFilter;
 pub use wax_directory::directory::{Directory, DirectoryFault, FileType, ListItem};
 pub use wax_directory::failing::Failing;
 pub use wax_directory::folders::Folders;

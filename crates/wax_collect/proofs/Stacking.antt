@@ -1,13 +1,12 @@
 -- Rules one after another.
 use Rattle.std.proofs.Common.{◌≡◌, cond, List, [], ◌∷◌, ◌++◌, refl, sym, ap, ◌∙◌}
-use Rattle.wax_token.specs.Syntax.{Tree}
 use Rattle.wax_walk.specs.Forest.{Forest, nothing, item, lists}
 use Rattle.wax_walk.specs.Given.{Facts, Mark, kept, alone, with_tree, Given, entry, fault, no_memory}
 use Rattle.wax_walk.specs.Given.{changed_by, cut_by}
-use Rattle.wax_wanted.specs.Marks.{not_mark, of_candidate}
-use Rattle.wax_wanted.specs.Wanted.{stacked, not_rules}
+use Rattle.wax_wanted.specs.Marks.{of_candidate}
+use Rattle.wax_wanted.specs.Wanted.{Filter, filter_mark, filter_rules, stacked}
 use Rattle.wax_glob_walk.specs.Programs.{any_mark}
-use Rattle.wax_collect.specs.Trips.{AreNots}
+use Rattle.wax_collect.specs.Trips.{AreRulesOf}
 use Rattle.wax_glob_walk.proofs.Combining.{ruled, filtered_twice}
 
 pub stacked_more : (rules others : List (Facts → Mark)) (f : Forest Given)
@@ -15,9 +14,10 @@ pub stacked_more : (rules others : List (Facts → Mark)) (f : Forest Given)
 stacked_more [] others f = refl
 stacked_more (rule ∷ rules) others f = stacked_more rules others (ruled rule f)
 
-pub not_rules_more : {A : Type 0} (ts us : List (Tree A)) → not_rules (ts ++ us) ≡ not_rules ts ++ not_rules us
-not_rules_more [] us = refl
-not_rules_more (t ∷ ts) us = ap (λ v. of_candidate (not_mark t) ∷ v) (not_rules_more ts us)
+pub filter_rules_more : {A : Type 0} (xs ys : List (Filter A))
+    → filter_rules (xs ++ ys) ≡ filter_rules xs ++ filter_rules ys
+filter_rules_more [] ys = refl
+filter_rules_more (x ∷ xs) ys = ap (λ v. of_candidate (filter_mark x) ∷ v) (filter_rules_more xs ys)
 
 -- ---- all at once
 
@@ -38,10 +38,10 @@ pub stacked_any : (rules : List (Facts → Mark)) (f : Forest Given) → stacked
 stacked_any [] f = sym (unruled f)
 stacked_any (rule ∷ rules) f = stacked_any rules (ruled rule f) ∙ filtered_twice rule (any_mark rules) f
 
-pub stacked_nots : {A : Type 0} (ts : List (Tree A)) (rules : List (Facts → Mark)) (f : Forest Given)
-    → AreNots ts rules → stacked rules f ≡ stacked (not_rules ts) f
-stacked_nots [] [] f h = refl
-stacked_nots [] (rule ∷ rules) f h = absurd h
-stacked_nots (t ∷ ts) [] f h = absurd h
-stacked_nots (t ∷ ts) (rule ∷ rules) f h =
-    (λ i. stacked rules (ruled (λ v. h.0 v i) f)) ∙ stacked_nots ts rules _ h.1
+pub stacked_filters : {A : Type 0} (filters : List (Filter A)) (rules : List (Facts → Mark)) (f : Forest Given)
+    → AreRulesOf filters rules → stacked rules f ≡ stacked (filter_rules filters) f
+stacked_filters [] [] f h = refl
+stacked_filters [] (rule ∷ rules) f h = absurd h
+stacked_filters (x ∷ filters) [] f h = absurd h
+stacked_filters (x ∷ filters) (rule ∷ rules) f h =
+    (λ i. stacked rules (ruled (λ v. h.0 v i) f)) ∙ stacked_filters filters rules _ h.1

@@ -1,40 +1,68 @@
 -- What is wanted of a walk comes, and is what is kept.
 use Rattle.std.proofs.Common.{◌≡◌, ℕ, ◌+◌, ◌<◌, ◌≤◌, Bool, true, false, cond, List, [], ◌∷◌, ◌++◌, length, filter}
 use Rattle.std.proofs.Common.{refl, sym, ap, subst, ◌∙◌, arith, inl, inr}
-use Rattle.std.specs.Prelude.{◌&&◌, if◌then◌else◌, All}
+use Rattle.std.specs.Prelude.{if◌then◌else◌, All}
 use Rattle.std.proofs.lemmas.Bool.{ltb-false, ltb-true}
 use Rattle.std.proofs.lemmas.List.Elements.{filter-append}
+use Rattle.wax_directory.specs.Counting.{grown}
 use Rattle.wax_directory.specs.Law.{Law}
 use Rattle.wax_directory.specs.Shown.{Shown}
 use Rattle.wax_token.specs.Reads.{Span}
-use Rattle.wax_token.specs.Syntax.{Tree}
 use Rattle.wax_tree.specs.Plain.{count_shown}
-use Rattle.wax_walk.specs.Collected.{IsCutShort, GaveAll, whole, lacks_memory, over_budget}
+use Rattle.wax_walk.specs.Collected.{IsCutShort, GaveAll, whole, lacks_memory, over_budget, Took}
+use Rattle.wax_walk.specs.Collected.{all_fault_counts}
 use Rattle.wax_walk.specs.declared.error.FaultKind.TheVariants.{Budget}
 use Rattle.wax_walk.specs.Forest.{Pending, Forest, nothing, pending, preorder, listings}
 use Rattle.wax_walk.specs.Given.{Facts, Mark, kept, alone, with_tree, Given, entry, fault, no_memory, is_kept}
 use Rattle.wax_walk.specs.Ruled.{ruled_view}
-use Rattle.wax_walk.specs.View.{WalkView, IsSeenAs}
+use Rattle.wax_walk.specs.View.{WalkView, CountsFaults, IsSeenAs}
 use Rattle.wax_wanted.specs.Law.{GivesWanted, ListsFew, WantsNothing}
 use Rattle.wax_wanted.specs.Marks.{glob_mark, of_candidate}
 use Rattle.wax_wanted.specs.Premises.{IsWellNamed}
 use Rattle.wax_wanted.specs.Walked.{glob_walk, wanted_entries, way_walk, MayList}
-use Rattle.wax_wanted.specs.Wanted.{is_kept_entry, stacked, not_rules, rules_of}
+use Rattle.wax_wanted.specs.Wanted.{Filter, filter_rules, is_kept_entry, stacked, rules_of}
 use Rattle.wax_glob_walk.specs.Programs.{any_mark}
 use Rattle.wax_collect.specs.Trips as T
-use Rattle.wax_collect.specs.Trips.{IsNot, AreNots, Trip, trip_less, is_beyond}
+use Rattle.wax_collect.specs.Trips.{AreRulesOf, Trip, trip_less, is_beyond}
 use Rattle.wax_collect.specs.Trips.{MayGo, goes, unmeant, trip_walk, trip_items, trip_pending, ComesWanted, KeepsWanted}
 use Rattle.wax_glob_walk.proofs.Combining.{ruled}
-use Rattle.wax_collect.proofs.Stacking.{stacked_more, not_rules_more, stacked_any, stacked_nots}
+use Rattle.wax_collect.proofs.Stacking.{stacked_more, filter_rules_more, stacked_any, stacked_filters}
+
+-- ---- whatever comes
+
+module _ {D C : Type 0} (law : Law D C) where
+  -- what a walk gave that is seen as this one
+  took_seen : (this that : WalkView D) (new : D) (xs : List Given) → IsSeenAs this that
+      → Took law that new xs → Took law this new xs
+  took_seen this that new xs seen took = record {
+    all = λ p h.
+        subst (λ n. GaveAll (law.tells new) n p xs) seen.listings_left (took.all p (seen.to_come p h));
+    counts = subst (λ v. CountsFaults (all_fault_counts xs) (law.tally v) (law.tally new)) seen.directory
+        took.counts;
+    taken = took.taken;
+    counted = took.counted ∙ ap (λ v. grown took.taken (law.tally v).items) seen.directory;
+    within = subst (λ n. took.taken ≤ n) seen.listings_left took.within;
+    spent = λ path depth h. took.spent path depth h ∙ seen.listings_left;
+    misplaced = λ path depth h. subst (λ n. 0 < n) seen.names_left (took.misplaced path depth h);
+  }
+
+  -- what a walk gave that these rules filter
+  pub took_less : (rules : List (Facts → Mark)) (rule : Facts → Mark) (v u : WalkView D) (new : D)
+      (xs : List Given) → rule ≡ any_mark rules → IsSeenAs (ruled_view v rule false) u → Took law u new xs
+      → Took law (ruled_view v (any_mark rules) false) new xs
+  took_less rules rule v u new xs says seen took =
+      subst (λ r. Took law (ruled_view v r false) new xs) says
+      (took_seen (ruled_view v rule false) u new xs seen took)
 
 -- ---- what comes
 
 module _ {D C : Type 0} (law : Law D C) (d : D) where
-  -- a filter that turns what comes into what comes of another trip of this way
-  filter_comes : (trip : Trip) (ts : List (Tree Span)) (rule : Facts → Mark) (v u : WalkView D)
-      → ((f : Forest Given) → ruled rule f ≡ stacked (not_rules ts) f) → ComesWanted law d trip v
-      → IsSeenAs (ruled_view v rule false) u → ComesWanted law d (trip_less trip ts) u
-  filter_comes trip ts rule v u same h seen = record {
+  -- rules that are those of filters turn what comes into what comes of another trip of this way
+  pub filters_come : (trip : Trip) (filters : List (Filter Span)) (rules : List (Facts → Mark))
+      (rule : Facts → Mark) (v u : WalkView D) → AreRulesOf filters rules → rule ≡ any_mark rules
+      → ComesWanted law d trip v → IsSeenAs (ruled_view v rule false) u
+      → ComesWanted law d (trip_less trip filters) u
+  filters_come trip filters rules rule v u are says h seen = record {
     comes = λ s listed shows told.
         subst (λ f. u.to_come (pending nothing f listed (trip_items trip s))) (walks s (is_beyond trip))
         (seen.to_come _ (
@@ -47,30 +75,19 @@ module _ {D C : Type 0} (law : Law D C) (d : D) where
         ));
     listings = seen.listings_left ∙ h.listings;
   } where
+    same : (f : Forest Given) → ruled rule f ≡ stacked (filter_rules filters) f
+    same f = ap (λ r. ruled r f) says ∙ (sym (stacked_any rules f) ∙ stacked_filters filters rules f are)
+
     walks : (s : Shown) (b : Bool)
         → ruled rule (if b then nothing else glob_walk trip.wanted trip.walked trip.way s)
-        ≡ (if b then nothing else glob_walk (trip_less trip ts).wanted trip.walked trip.way s)
+        ≡ (if b then nothing else glob_walk (trip_less trip filters).wanted trip.walked trip.way s)
     walks s true = refl
     walks s false =
         let walk = way_walk trip.walked trip.way s in
         same (glob_walk trip.wanted trip.walked trip.way s)
-        ∙ (sym (stacked_more (rules_of trip.wanted) (not_rules ts) walk)
+        ∙ (sym (stacked_more (rules_of trip.wanted) (filter_rules filters) walk)
         ∙ ap (λ rules. stacked rules (ruled (of_candidate (glob_mark trip.wanted.rooted trip.wanted.glob)) walk))
-        (sym (not_rules_more trip.wanted.nots ts)))
-
-  -- less what one more pattern means
-  pub not_comes : (trip : Trip) (t : Tree Span) (rule : Facts → Mark) (v u : WalkView D) → IsNot t rule
-      → ComesWanted law d trip v → IsSeenAs (ruled_view v rule false) u
-      → ComesWanted law d (trip_less trip (t ∷ [])) u
-  not_comes trip t rule v u h = filter_comes trip (t ∷ []) rule v u
-      (λ f. stacked_nots (t ∷ []) (rule ∷ []) f (h, tt))
-
-  -- less what several mean
-  pub nots_come : (trip : Trip) (ts : List (Tree Span)) (rules : List (Facts → Mark)) (rule : Facts → Mark)
-      (v u : WalkView D) → AreNots ts rules → rule ≡ any_mark rules → ComesWanted law d trip v
-      → IsSeenAs (ruled_view v rule false) u → ComesWanted law d (trip_less trip ts) u
-  nots_come trip ts rules rule v u h e = filter_comes trip ts rule v u
-      (λ f. ap (λ r. ruled r f) e ∙ (sym (stacked_any rules f) ∙ stacked_nots ts rules f h))
+        (sym (filter_rules_more trip.wanted.filters filters)))
 
   -- what a walk gave to its end is what was to come at first
   pub all_gave : (trip : Trip) (view : WalkView D) (tells : List (List ℕ) → Type 0) (s : Shown)

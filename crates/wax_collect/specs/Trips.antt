@@ -1,10 +1,9 @@
--- What a walk of a glob, less what patterns mean, gives to its end.
-use Rattle.std.specs.Prelude.{◌≡◌, ℕ, ◌+◌, ◌<◌, Bool, false, if◌then◌else◌, nat_lt, ⊤, List, [], ◌∷◌, ◌++◌}
+-- What a walk of a glob, less what filters leave out, gives to its end.
+use Rattle.std.specs.Prelude.{◌≡◌, ℕ, ◌+◌, ◌<◌, Bool, if◌then◌else◌, nat_lt, ⊤, List, [], ◌∷◌, ◌++◌}
 use Rattle.std.specs.Prelude.{All, filter, length}
 use Rattle.wax_directory.specs.Law.{Law}
 use Rattle.wax_directory.specs.Shown.{Shown}
 use Rattle.wax_token.specs.Reads.{Span}
-use Rattle.wax_token.specs.Syntax.{Tree}
 use Rattle.wax_tree.specs.Begins.{Way}
 use Rattle.wax_tree.specs.declared.steps.Range.{Range}
 use Rattle.wax_tree.specs.Plain.{count_shown}
@@ -14,26 +13,26 @@ use Rattle.wax_walk.specs.Forest.{Forest, nothing, Pending, pending, preorder, l
 use Rattle.wax_walk.specs.Given.{Facts, Mark, Given, fault, no_memory, is_kept}
 use Rattle.wax_walk.specs.View.{WalkView}
 use Rattle.wax_wanted.specs.Candidates.{base}
-use Rattle.wax_wanted.specs.Marks.{not_mark, of_candidate}
+use Rattle.wax_wanted.specs.Marks.{of_candidate}
 use Rattle.wax_wanted.specs.Premises.{CanWalk, IsUnmeant}
 use Rattle.wax_wanted.specs.Walked.{glob_walk, wanted_entries, MayList}
-use Rattle.wax_wanted.specs.Wanted.{Wanted, is_kept_entry}
+use Rattle.wax_wanted.specs.Wanted.{Filter, Wanted, filter_mark, is_kept_entry}
 
--- ---- rules of patterns
+-- ---- rules of filters
 
--- the rule is that of a pattern that is left out
-abbrev pub IsNot : {A : Type 0} → Tree A → (Facts → Mark) → Type 0
-IsNot t rule = (f : Facts) → rule f ≡ of_candidate (not_mark t) f
+-- the rule says what the filter says
+abbrev pub IsRuleOf : {A : Type 0} → Filter A → (Facts → Mark) → Type 0
+IsRuleOf x rule = (f : Facts) → rule f ≡ of_candidate (filter_mark x) f
 
-abbrev pub AreNots : {A : Type 0} → List (Tree A) → List (Facts → Mark) → Type 0
-AreNots [] [] = ⊤
-AreNots [] (rule ∷ rules) = ⊥
-AreNots (t ∷ ts) [] = ⊥
-AreNots (t ∷ ts) (rule ∷ rules) = IsNot t rule × AreNots ts rules
+abbrev pub AreRulesOf : {A : Type 0} → List (Filter A) → List (Facts → Mark) → Type 0
+AreRulesOf [] [] = ⊤
+AreRulesOf [] (rule ∷ rules) = ⊥
+AreRulesOf (x ∷ filters) [] = ⊥
+AreRulesOf (x ∷ filters) (rule ∷ rules) = IsRuleOf x rule × AreRulesOf filters rules
 
 -- what more is left out
-abbrev pub less : {A : Type 0} → Wanted A → List (Tree A) → Wanted A
-less w ts = record w { nots = w.nots ++ ts }
+abbrev pub less : {A : Type 0} → Wanted A → List (Filter A) → Wanted A
+less w filters = record w { filters = w.filters ++ filters }
 
 -- ---- walks
 
@@ -44,8 +43,8 @@ pub record Trip : Type 0 where
   pub walked : Range
   pub way : Way
 
-abbrev pub trip_less : Trip → List (Tree Span) → Trip
-trip_less trip ts = record trip { wanted = less trip.wanted ts }
+abbrev pub trip_less : Trip → List (Filter Span) → Trip
+trip_less trip filters = record trip { wanted = less trip.wanted filters }
 
 -- the glob's walk may go this way; or no candidate is meant, and the way has more names than the greatest
 -- depth
@@ -77,9 +76,8 @@ pub record ComesWanted {D C : Type 0} (law : Law D C) (d : D) (trip : Trip) (vie
   pub listings : view.listings_left ≡ trip.walked.budget + 1
 
 -- These items were kept: all that comes, of which the entries are those of the whole walk that are in the
--- range asked for, that the glob means and that no pattern means that is left out, in order, and only folders
--- were listed that may be; or a beginning of it, and then that memory was refused, or that the budget is
--- reached.
+-- range asked for, that the glob means and that no filter leaves out, in order, and only folders were listed
+-- that may be; or a beginning of it, and then that memory was refused, or that the budget is reached.
 pub data KeepsWanted (tells : List (List ℕ) → Type 0) (trip : Trip) (s : Shown) (listed : List (List ℕ))
     (ys : List Given) : Type 0 where
   gives : ys ≡ filter is_kept (preorder (trip_walk trip s))

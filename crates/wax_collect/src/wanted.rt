@@ -1,16 +1,18 @@
 //! What is wanted of a walk.
 
-ghost use Rattle.std.specs.Prelude.{◌≡◌, ◌+◌, ◌≤◌, All, List, ℕ, IfOk, filter, length, map};
+ghost use Rattle.std.specs.Prelude.{◌≡◌, ◌+◌, ◌≤◌, All, List, ℕ, IfOk, false, filter, length, map};
 ghost use Rattle.std.specs.Iterator.{IsFinite, size};
 ghost use Rattle.wax_directory.specs.Shown.{Shown};
-ghost use Rattle.wax_collect.specs.Trips.{AreNots, ComesWanted, KeepsWanted, MayGo, Trip};
+ghost use Rattle.wax_glob_walk.specs.Programs.{any_mark};
+ghost use Rattle.wax_collect.specs.Trips.{AreRulesOf, ComesWanted, KeepsWanted, MayGo, Trip};
 ghost use Rattle.wax_collect.specs.Trips.{trip_less, trip_pending};
 ghost use Rattle.wax_token.specs.Reads.{Span};
-ghost use Rattle.wax_token.specs.Syntax.{Tree};
 ghost use Rattle.wax_walk.specs.Collected.{GaveAll, Took};
 ghost use Rattle.wax_walk.specs.Entries.{given_of, given_outcome};
 ghost use Rattle.wax_walk.specs.Given.{Given, is_kept};
 ghost use Rattle.wax_walk.specs.Known.{KnownItem, KnownOutcome};
+ghost use Rattle.wax_walk.specs.Ruled.{ruled_view};
+ghost use Rattle.wax_wanted.specs.Wanted.{Filter};
 
 use std::alloc::Global;
 use wax_filter::filter::Separation;
@@ -73,25 +75,29 @@ where
 
 /// The items that are kept of a walk less what these rules leave out, in order, errors among them, and the
 /// directory, as `collect_wanted` gives them. Where the walk is that of a glob and the rules are those of
-/// patterns, its entries are those of the plain walk that the glob means and no pattern means.
+/// filters, its entries are those of the plain walk that the glob means and no filter leaves out.
 pub fn collect_less<I, R>(
     alloc: Global,
     walk: I,
-    nots: Vec<R>,
+    rules: Vec<R>,
 ) -> Result<(Vec<Result<I::Entry, WalkError>>, I::Directory), NoMemory>
 where
     I: FileIterator,
     R: Rule,
     requires can { I.can_feed walk }
     requires ends { IsFinite (I.left walk) }
+    ensures took { IfOk result (λ r. (xs : List Given)
+        × Took I.Directory.law (ruled_view (I.view walk) (any_mark (map R.rule rules.items)) false) r.1 xs
+        × (length xs ≤ size (I.left walk))
+        × (map (given_outcome I.Entry.facts I.Residue.facts) r.0.items ≡ filter is_kept xs)) }
     ensures known { IfOk result (λ r. All (KnownOutcome (I.known walk)) r.0.items) }
-    ensures wanted { IfOk result (λ r. (d : I.Directory) (trip : Trip) (ts : List (Tree Span)) (s : Shown)
-        (listed : List (List ℕ)) → ComesWanted I.Directory.law d trip (I.view walk)
-        → AreNots ts (map R.rule nots.items) → MayGo (trip_less trip ts)
+    ensures wanted { IfOk result (λ r. (d : I.Directory) (trip : Trip) (filters : List (Filter Span))
+        (s : Shown) (listed : List (List ℕ)) → ComesWanted I.Directory.law d trip (I.view walk)
+        → AreRulesOf filters (map R.rule rules.items) → MayGo (trip_less trip filters)
         → I.Directory.law.shows d trip.way.path s → I.Directory.law.tells d listed
-        → KeepsWanted (I.Directory.law.tells r.1) (trip_less trip ts) s listed
+        → KeepsWanted (I.Directory.law.tells r.1) (trip_less trip filters) s listed
         (map (given_outcome I.Entry.facts I.Residue.facts) r.0.items)) }
 {
-    let kept = walk.without(alloc, FilterAny::new(nots));
+    let kept = walk.without(alloc, FilterAny::new(rules));
     collect_wanted(alloc, kept)
 }

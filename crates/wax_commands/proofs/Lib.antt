@@ -1,4 +1,5 @@
 pub mod OptionWords
 pub mod Lines
 pub mod Leaving
+pub mod Adding
 pub mod Going

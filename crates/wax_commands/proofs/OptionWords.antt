@@ -1,9 +1,10 @@
 -- The words of walks.
-use Rattle.std.proofs.Common.{◌≡◌, ℕ, ◌≤◌, List, [], ◌∷◌, ◌++◌, length, length-append, get_or, Option, Some, None, inl, inr, refl, sym, ap, subst, ◌∙◌, append_assoc, arith}
+use Rattle.std.proofs.Common.{◌≡◌, ℕ, ◌+◌, ◌≤◌, Bool, true, false, List, [], ◌∷◌, ◌++◌, length, length-append, get_or, Option, Some, None, inl, inr, refl, sym, ap, subst, ◌∙◌, append_assoc, arith}
 use Rattle.std.specs.Prelude.{◌↔◌, IfNone, String, string_bytes, codes, slice_get}
-use Rattle.wax_commands.specs.Commands.{WalkOption, without, at_least, at_most, Says, SayEach, leasts_in, greatests_in, AreBounds, SaysWalk, AsksWalk, WalkRequest}
-use Rattle.wax_commands.specs.inner.WalkWords.{AreMore, AreSaidBy, all_in, IsFirst, IsNext, IsDoubled}
-use Rattle.wax_commands.specs.declared.walk_words.DepthWords.{DepthWords}
+use Rattle.wax_commands.specs.Commands.{WalkOption, without, ignoring, at_least, at_most, Says, SayEach, leasts_in, greatests_in, count_lists}
+use Rattle.wax_commands.specs.Commands.{AreBounds, SaysWalk, AsksWalk, WalkRequest}
+use Rattle.wax_commands.specs.inner.WalkWords.{AreDoubled, AreMore, AreSaidBy, all_in, one_if, IsFirst, IsNext, IsDoubled}
+use Rattle.wax_commands.specs.declared.walk_words.OptionWords.{OptionWords}
 
 -- ---- an option is known by its words
 
@@ -12,12 +13,19 @@ letter k e = ap (λ v. get_or v k 0) e
 
 pub same_option : (name word : List ℕ) (o u : WalkOption) → Says name word o → Says name word u → o ≡ u
 same_option name word (without e) (without f) h k = ap without (h.1 ∙ sym k.1)
+same_option name word (without e) (ignoring f) h k = let d : 110 ≡ 105 = letter 0 (sym h.0 ∙ k.0) in absurd (omega (arith, d))
 same_option name word (without e) (at_least n) h k = let d : 110 ≡ 109 = letter 0 (sym h.0 ∙ k.0) in absurd (omega (arith, d))
 same_option name word (without e) (at_most n) h k = let d : 110 ≡ 109 = letter 0 (sym h.0 ∙ k.0) in absurd (omega (arith, d))
+same_option name word (ignoring e) (without f) h k = let d : 105 ≡ 110 = letter 0 (sym h.0 ∙ k.0) in absurd (omega (arith, d))
+same_option name word (ignoring e) (ignoring f) h k = ap ignoring (h.1 ∙ sym k.1)
+same_option name word (ignoring e) (at_least n) h k = let d : 105 ≡ 109 = letter 0 (sym h.0 ∙ k.0) in absurd (omega (arith, d))
+same_option name word (ignoring e) (at_most n) h k = let d : 105 ≡ 109 = letter 0 (sym h.0 ∙ k.0) in absurd (omega (arith, d))
 same_option name word (at_least m) (without f) h k = let d : 109 ≡ 110 = letter 0 (sym h.0 ∙ k.0) in absurd (omega (arith, d))
+same_option name word (at_least m) (ignoring f) h k = let d : 109 ≡ 105 = letter 0 (sym h.0 ∙ k.0) in absurd (omega (arith, d))
 same_option name word (at_least m) (at_least n) h k = ap at_least (h.1.1 ∙ sym k.1.1)
 same_option name word (at_least m) (at_most n) h k = let d : 105 ≡ 97 = letter 1 (sym h.0 ∙ k.0) in absurd (omega (arith, d))
 same_option name word (at_most m) (without f) h k = let d : 109 ≡ 110 = letter 0 (sym h.0 ∙ k.0) in absurd (omega (arith, d))
+same_option name word (at_most m) (ignoring f) h k = let d : 109 ≡ 105 = letter 0 (sym h.0 ∙ k.0) in absurd (omega (arith, d))
 same_option name word (at_most m) (at_least n) h k = let d : 97 ≡ 105 = letter 1 (sym h.0 ∙ k.0) in absurd (omega (arith, d))
 same_option name word (at_most m) (at_most n) h k = ap at_most (h.1.1 ∙ sym k.1.1)
 
@@ -58,14 +66,23 @@ same_walk (Some x ∷ Some y ∷ Some z ∷ words) a b h k =
 pub leasts_more : (os us : List WalkOption) → leasts_in (os ++ us) ≡ leasts_in os ++ leasts_in us
 leasts_more [] us = refl
 leasts_more (without e ∷ os) us = leasts_more os us
+leasts_more (ignoring e ∷ os) us = leasts_more os us
 leasts_more (at_least n ∷ os) us = ap (λ ns. n ∷ ns) (leasts_more os us)
 leasts_more (at_most n ∷ os) us = leasts_more os us
 
 pub greatests_more : (os us : List WalkOption) → greatests_in (os ++ us) ≡ greatests_in os ++ greatests_in us
 greatests_more [] us = refl
 greatests_more (without e ∷ os) us = greatests_more os us
+greatests_more (ignoring e ∷ os) us = greatests_more os us
 greatests_more (at_least n ∷ os) us = greatests_more os us
 greatests_more (at_most n ∷ os) us = ap (λ ns. n ∷ ns) (greatests_more os us)
+
+pub lists_more : (os us : List WalkOption) → count_lists (os ++ us) ≡ count_lists os + count_lists us
+lists_more [] us = omega arith
+lists_more (without e ∷ os) us = lists_more os us
+lists_more (ignoring e ∷ os) us = let h = lists_more os us in omega (arith, h)
+lists_more (at_least n ∷ os) us = lists_more os us
+lists_more (at_most n ∷ os) us = lists_more os us
 
 -- the words say these options, and then what the rest says
 pub record Begins {A : Type 0} (words rest : List (Option (String A))) (done : List WalkOption) : Type 0 where
@@ -156,63 +173,81 @@ none_holds None p = p
 
 -- ---- bounds
 
-pub doubled : (xs ys : List ℕ) → IsDoubled xs ys → AreBounds xs ys → ⊥
-doubled [] [] d b = elim d [ inl e ↦ omega (arith, e) | inr e ↦ omega (arith, e) ]
-doubled (m ∷ []) [] d b = elim d [ inl e ↦ omega (arith, e) | inr e ↦ omega (arith, e) ]
-doubled [] (n ∷ []) d b = elim d [ inl e ↦ omega (arith, e) | inr e ↦ omega (arith, e) ]
-doubled (m ∷ []) (n ∷ []) d b = elim d [ inl e ↦ omega (arith, e) | inr e ↦ omega (arith, e) ]
-doubled (m ∷ k ∷ xs) ys d b = absurd b
-doubled [] (m ∷ k ∷ ys) d b = absurd b
-doubled (n ∷ []) (m ∷ k ∷ ys) d b = absurd b
+not_longer : (xs ys : List ℕ) (n : ℕ) → IsDoubled xs ys n → length xs ≤ 1 → length ys ≤ 1 → n ≤ 1 → ⊥
+not_longer xs ys n d l g c = elim d [
+  | inl e ↦ omega (arith, e, l)
+  | inr e ↦ elim e [ inl f ↦ omega (arith, f, g) | inr f ↦ omega (arith, f, c) ]
+]
+
+pub doubled : (xs ys : List ℕ) (n : ℕ) → IsDoubled xs ys n → AreBounds xs ys → n ≤ 1 → ⊥
+doubled [] [] n d b c = not_longer [] [] n d (omega arith) (omega arith) c
+doubled (m ∷ []) [] n d b c = not_longer (m ∷ []) [] n d (omega arith) (omega arith) c
+doubled [] (k ∷ []) n d b c = not_longer [] (k ∷ []) n d (omega arith) (omega arith) c
+doubled (m ∷ []) (k ∷ []) n d b c = not_longer (m ∷ []) (k ∷ []) n d (omega arith) (omega arith) c
+doubled (m ∷ k ∷ xs) ys n d b c = absurd b
+doubled [] (m ∷ k ∷ ys) n d b c = absurd b
+doubled (p ∷ []) (m ∷ k ∷ ys) n d b c = absurd b
 
 longer : (front os : List ℕ) (xs : List ℕ) → 2 ≤ length (front ++ os) → 2 ≤ length ((front ++ os) ++ xs)
 longer front os xs h = let e = length-append (front ++ os) xs in omega (arith, e, h)
 
--- a bound that is said again is said twice
-pub doubled_so_far : (front : List WalkOption) (o : WalkOption) (rest : List WalkOption) → IsDoubled (leasts_in front ++ leasts_in (o ∷ [])) (greatests_in front ++ greatests_in (o ∷ []))
-    → IsDoubled (leasts_in (front ++ o ∷ rest)) (greatests_in (front ++ o ∷ rest))
+-- what is said again is said twice
+pub doubled_so_far : (front : List WalkOption) (o : WalkOption) (rest : List WalkOption) → IsDoubled (leasts_in front ++ leasts_in (o ∷ [])) (greatests_in front ++ greatests_in (o ∷ [])) (count_lists front + count_lists (o ∷ []))
+    → AreDoubled (front ++ o ∷ rest)
 doubled_so_far front o rest d =
     let e = append_assoc front (o ∷ []) rest in
     let l = leasts_more (front ++ o ∷ []) rest ∙ ap (λ v. v ++ leasts_in rest) (leasts_more front (o ∷ [])) in
     let g = greatests_more (front ++ o ∷ []) rest ∙ ap (λ v. v ++ greatests_in rest) (greatests_more front (o ∷ [])) in
-    elim d [
-      | inl h ↦ inl (subst (λ os. 2 ≤ length (leasts_in os)) e (subst (λ v. 2 ≤ length v) (sym l) (longer (leasts_in front) (leasts_in (o ∷ [])) (leasts_in rest) h)))
-      | inr h ↦ inr (subst (λ os. 2 ≤ length (greatests_in os)) e (subst (λ v. 2 ≤ length v) (sym g) (longer (greatests_in front) (greatests_in (o ∷ [])) (greatests_in rest) h)))
-    ]
+    let c = lists_more (front ++ o ∷ []) rest in
+    let a = lists_more front (o ∷ []) in
+    subst AreDoubled e (elim d [
+      | inl h ↦ inl (subst (λ v. 2 ≤ length v) (sym l) (longer (leasts_in front) (leasts_in (o ∷ [])) (leasts_in rest) h))
+      | inr k ↦ elim k [
+        | inl h ↦ inr (inl (subst (λ v. 2 ≤ length v) (sym g) (longer (greatests_in front) (greatests_in (o ∷ [])) (greatests_in rest) h)))
+        | inr h ↦ inr (inr (omega (arith, h, a, c)))
+      ]
+    ])
 
-pub said_more : (bounds more : DepthWords) (front : List WalkOption) (o : WalkOption) → AreSaidBy bounds front → AreMore bounds o more → AreSaidBy more (front ++ o ∷ [])
+pub said_more : (bounds more : OptionWords) (front : List WalkOption) (o : WalkOption) → AreSaidBy bounds front → AreMore bounds o more → AreSaidBy more (front ++ o ∷ [])
 said_more bounds more front o h m = record {
   least = leasts_more front (o ∷ []) ∙ (ap (λ v. v ++ leasts_in (o ∷ [])) h.least ∙ sym m.least);
   greatest = greatests_more front (o ∷ []) ∙ (ap (λ v. v ++ greatests_in (o ∷ [])) h.greatest ∙ sym m.greatest);
+  lists = lists_more front (o ∷ []) ∙ (ap (λ n. n + count_lists (o ∷ [])) h.lists ∙ sym m.lists);
 }
 
--- an option that can't be added doubles a bound
-pub doubled_by : {A : Type 0} (words now : List (Option (String A))) (name word : List ℕ) (rest : List (Option (String A))) (bounds : DepthWords) (front : List WalkOption)
+-- an option that can't be added is said twice
+pub doubled_by : {A : Type 0} (words now : List (Option (String A))) (name word : List ℕ) (rest : List (Option (String A))) (bounds : OptionWords) (front : List WalkOption)
     → Begins words now front → AreSaidBy bounds front → IsNext now name word rest
-    → ((o : WalkOption) → Says name word o → IsDoubled (all_in bounds.lower ++ leasts_in (o ∷ [])) (all_in bounds.upper ++ greatests_in (o ∷ [])))
-    → (options : List WalkOption) → SayEach words options → IsDoubled (leasts_in options) (greatests_in options)
+    → ((o : WalkOption) → Says name word o → IsDoubled (all_in bounds.lower ++ leasts_in (o ∷ [])) (all_in bounds.upper ++ greatests_in (o ∷ [])) (one_if bounds.has_list + count_lists (o ∷ [])))
+    → (options : List WalkOption) → SayEach words options → AreDoubled options
 doubled_by words now name word rest bounds front b s n twice options h =
     let parts = b.parts options h in
     let next = next_says now name word rest parts.0 n parts.1 in
     let o = next.0 in
-    let l : all_in bounds.lower ++ leasts_in (o ∷ []) ≡ leasts_in front ++ leasts_in (o ∷ []) = ap (λ v. v ++ leasts_in (o ∷ [])) (sym s.least) in
-    let g : all_in bounds.upper ++ greatests_in (o ∷ []) ≡ greatests_in front ++ greatests_in (o ∷ []) = ap (λ v. v ++ greatests_in (o ∷ [])) (sym s.greatest) in
     let e : front ++ o ∷ next.1 ≡ options = ap (λ v. front ++ v) (sym next.4) ∙ sym parts.2 in
-    subst (λ os. IsDoubled (leasts_in os) (greatests_in os)) e
+    subst AreDoubled e
     (doubled_so_far front o next.1
-    (subst (λ v. IsDoubled v (greatests_in front ++ greatests_in (o ∷ []))) l
-    (subst (λ v. IsDoubled (all_in bounds.lower ++ leasts_in (o ∷ [])) v) g (twice o next.2))))
+    (subst (λ v. IsDoubled (leasts_in front ++ leasts_in (o ∷ [])) (greatests_in front ++ greatests_in (o ∷ [])) (v + count_lists (o ∷ []))) (sym s.lists)
+    (subst (λ v. IsDoubled v (greatests_in front ++ greatests_in (o ∷ [])) (one_if bounds.has_list + count_lists (o ∷ []))) (ap (λ v. v ++ leasts_in (o ∷ [])) (sym s.least))
+    (subst (λ v. IsDoubled (all_in bounds.lower ++ leasts_in (o ∷ [])) v (one_if bounds.has_list + count_lists (o ∷ []))) (ap (λ v. v ++ greatests_in (o ∷ [])) (sym s.greatest)) (twice o next.2)))))
 
 pub first_in : (n : Option ℕ) → slice_get (all_in n) 0 ≡ n
 first_in None = refl
 first_in (Some n) = refl
 
-pub bounds_so : (bounds : DepthWords) (options read : List WalkOption) → options ≡ read → AreSaidBy bounds read → AreBounds (leasts_in options) (greatests_in options)
+pub bounds_so : (bounds : OptionWords) (options read : List WalkOption) → options ≡ read → AreSaidBy bounds read → AreBounds (leasts_in options) (greatests_in options)
     → AreBounds (all_in bounds.lower) (all_in bounds.upper)
 bounds_so bounds options read e s h =
     let k : AreBounds (leasts_in read) (greatests_in read) = subst (λ os. AreBounds (leasts_in os) (greatests_in os)) e h in
     subst (λ v. AreBounds v (all_in bounds.upper)) s.least (subst (λ v. AreBounds (leasts_in read) v) s.greatest k)
 
-pub said_bounds : (bounds : DepthWords) (options : List WalkOption) → AreSaidBy bounds options → AreBounds (all_in bounds.lower) (all_in bounds.upper)
+pub said_bounds : (bounds : OptionWords) (options : List WalkOption) → AreSaidBy bounds options → AreBounds (all_in bounds.lower) (all_in bounds.upper)
     → AreBounds (leasts_in options) (greatests_in options)
 said_bounds bounds options s h = subst (λ v. AreBounds v (greatests_in options)) (sym s.least) (subst (λ v. AreBounds (all_in bounds.lower) v) (sym s.greatest) h)
+
+at_most_one : (b : Bool) → one_if b ≤ 1
+at_most_one true = omega arith
+at_most_one false = omega arith
+
+pub said_lists : (bounds : OptionWords) (options : List WalkOption) → AreSaidBy bounds options → count_lists options ≤ 1
+said_lists bounds options s = subst (λ n. n ≤ 1) (sym s.lists) (at_most_one bounds.has_list)

@@ -1,5 +1,5 @@
 -- What the words ask for.
-use Rattle.std.specs.Prelude.{◌≡◌, ◌≤◌, ◌<◌, ◌^◌, ⊤, ℕ, List, [], ◌∷◌, Option, Some, String, string_bytes}
+use Rattle.std.specs.Prelude.{◌≡◌, ◌≤◌, ◌<◌, ◌+◌, ◌^◌, ⊤, ℕ, List, [], ◌∷◌, Option, Some, String, string_bytes}
 use Rattle.std.specs.Prelude.{codes, slice_get, unwrap_or}
 use Rattle.std.specs.Str.Parse.{IsNumeral, digits_value}
 
@@ -23,9 +23,11 @@ AsksQuery words e = Asks (codes "query") words e
 
 -- ---- walks
 
--- an option of a walk: an expression whose entries are left out, a least depth, or a greatest
+-- an option of a walk: an expression whose entries are left out, a file with an ignore list, a least depth, or
+-- a greatest
 pub data WalkOption : Type 0 where
   without : List ℕ → WalkOption
+  ignoring : List ℕ → WalkOption
   at_least : ℕ → WalkOption
   at_most : ℕ → WalkOption
 
@@ -36,6 +38,7 @@ IsNumber word n = IsNumeral 10 word × (n ≡ digits_value 10 word) × (n < 2 ^ 
 -- a name and a word say an option
 abbrev pub Says : List ℕ → List ℕ → WalkOption → Type 0
 Says name word (without e) = (name ≡ codes "not") × (e ≡ word)
+Says name word (ignoring file) = (name ≡ codes "ignore") × (file ≡ word)
 Says name word (at_least n) = (name ≡ codes "min") × IsNumber word n
 Says name word (at_most n) = (name ≡ codes "max") × IsNumber word n
 
@@ -46,21 +49,25 @@ SayEach (Some name ∷ Some word ∷ words) (o ∷ options) =
     Says (string_bytes name) (string_bytes word) o × SayEach words options
 SayEach _ _ = ⊥
 
-abbrev pub exclusions_in : List WalkOption → List (List ℕ)
-exclusions_in [] = []
-exclusions_in (without e ∷ options) = e ∷ exclusions_in options
-exclusions_in (at_least n ∷ options) = exclusions_in options
-exclusions_in (at_most n ∷ options) = exclusions_in options
+-- how many of them name an ignore list
+abbrev pub count_lists : List WalkOption → ℕ
+count_lists [] = 0
+count_lists (without e ∷ options) = count_lists options
+count_lists (ignoring file ∷ options) = count_lists options + 1
+count_lists (at_least n ∷ options) = count_lists options
+count_lists (at_most n ∷ options) = count_lists options
 
 abbrev pub leasts_in : List WalkOption → List ℕ
 leasts_in [] = []
 leasts_in (without e ∷ options) = leasts_in options
+leasts_in (ignoring file ∷ options) = leasts_in options
 leasts_in (at_least n ∷ options) = n ∷ leasts_in options
 leasts_in (at_most n ∷ options) = leasts_in options
 
 abbrev pub greatests_in : List WalkOption → List ℕ
 greatests_in [] = []
 greatests_in (without e ∷ options) = greatests_in options
+greatests_in (ignoring file ∷ options) = greatests_in options
 greatests_in (at_least n ∷ options) = greatests_in options
 greatests_in (at_most n ∷ options) = n ∷ greatests_in options
 
@@ -92,10 +99,11 @@ SaysWalk (Some command ∷ Some start ∷ Some expression ∷ options) asked =
     × (asked.expression ≡ string_bytes expression) × SayEach options asked.options
 SaysWalk _ asked = ⊥
 
--- what an expression means below a start, less what others mean, of some depths
+-- what an expression means below a start, less what others mean and at most one list ignores, of some depths
 pub record AsksWalk {A : Type 0} (words : List (Option (String A))) (asked : WalkRequest) : Type 0 where
   pub says : SaysWalk words asked
   pub bounds : AreBounds (leasts_in asked.options) (greatests_in asked.options)
+  pub lists : count_lists asked.options ≤ 1
 
 -- ---- nothing
 

@@ -1,5 +1,6 @@
 pub mod Candidates
 pub mod Commands
+pub mod Files
 pub mod LineCommands
 pub mod Queried
 pub mod Refused

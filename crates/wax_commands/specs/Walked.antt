@@ -1,7 +1,7 @@
 -- How a run of `walk` can end.
-use Rattle.std.specs.Prelude.{◌≡◌, ℕ, ◌-◌, ◌^◌, true, false, List, ◌∷◌, ◌++◌, Option, chars}
+use Rattle.std.specs.Prelude.{◌≡◌, ℕ, ◌-◌, ◌^◌, true, false, ⊤, List, [], ◌∷◌, ◌++◌, Option, chars}
 use Rattle.std.specs.Io.KnownBytes.{Appends}
-use Rattle.std.specs.List.{AllZip, list_any}
+use Rattle.std.specs.List.{list_any}
 use Rattle.wax.specs.Build.{IsGlob}
 use Rattle.wax.specs.Exclusions.{FitsAlone, NoExclusion}
 use Rattle.wax.specs.GlobView.{GlobView}
@@ -21,8 +21,17 @@ use Rattle.wax_tree.specs.declared.steps.Range.{Range}
 use Rattle.wax_walk.specs.Forest.{preorder}
 use Rattle.wax_walk.specs.Given.{Given}
 use Rattle.wax_commands.specs.Candidates.{candidate_lines, is_error}
-use Rattle.wax_commands.specs.Commands.{WalkOption, WalkRequest, exclusions_in, greatest_in, least_in}
+use Rattle.wax_wanted.specs.Wanted.{Filter, not_meant, not_ignored}
+use Rattle.wax_commands.specs.Commands.{WalkOption, without, ignoring, at_least, at_most, WalkRequest}
+use Rattle.wax_commands.specs.Commands.{greatest_in, least_in}
+use Rattle.wax_commands.specs.Files.{Answers, IsListIn, IsUnlisted}
 use Rattle.wax_commands.specs.Refused.{IsRefused}
+
+-- what a walk is run over: a directory, with its law, and what may be answered of files
+pub record Ground (D C Z : Type 0) : Type 1 where
+  pub law : Law D C
+  pub directory : D
+  pub answers : Answers Z
 
 -- ---- builds
 
@@ -30,32 +39,54 @@ use Rattle.wax_commands.specs.Refused.{IsRefused}
 abbrev pub IsNotOf : List ℕ → Tree Span → Type 0
 IsNotOf e t = FitsAlone (Spells (chars e)) t
 
--- the glob, and the trees of what is left out
+-- the glob, and what is left out
 pub record WalkGlobs : Type 0 where
   pub glob : GlobView
-  pub nots : List (Tree Span)
+  pub filters : List (Filter Span)
 
--- all expressions were built
-pub record AreBuilt (asked : WalkRequest) (globs : WalkGlobs) : Type 0 where
-  pub glob : IsGlob (chars asked.expression) globs.glob
-  pub nots : AllZip IsNotOf (exclusions_in asked.options) globs.nots
+module _ {Z : Type 0} (answers : Answers Z) where
+  -- the filters that an option asks for: one, or none
+  abbrev pub AreAskedBy : WalkOption → List (Filter Span) → Type 0
+  AreAskedBy (without e) (not_meant t ∷ []) = IsNotOf e t
+  AreAskedBy (ignoring file) (not_ignored lines ∷ []) = IsListIn answers file lines
+  AreAskedBy (at_least n) [] = ⊤
+  AreAskedBy (at_most n) [] = ⊤
+  AreAskedBy _ _ = ⊥
 
--- one of these expressions is refused, and each one before it was built
-pub record HasRefused (expressions : List (List ℕ)) : Type 0 where
-  pub before : List (List ℕ)
-  pub nots : List (Tree Span)
-  pub built : AllZip IsNotOf before nots
-  pub expression : List ℕ
-  pub error : BuildError
-  pub refused : NoExclusion (Spells (chars expression)) (Refuses (chars expression)) error
-  pub after : List (List ℕ)
-  pub all : expressions ≡ before ++ expression ∷ after
+  -- those that options ask for, in order
+  abbrev pub AreAskedByAll : List WalkOption → List (Filter Span) → Type 0
+  AreAskedByAll [] filters = filters ≡ []
+  AreAskedByAll (o ∷ options) filters = (first rest : List (Filter Span)) × AreAskedBy o first
+      × AreAskedByAll options rest × (filters ≡ first ++ rest)
 
--- the glob is refused, or else something that is left out
-pub data IsUnbuilt (asked : WalkRequest) : Type 0 where
-  no_glob : IsRefused asked.expression → IsUnbuilt asked
-  no_exclusion : (g : GlobView) → IsGlob (chars asked.expression) g → HasRefused (exclusions_in asked.options)
-      → IsUnbuilt asked
+  -- what an option asks for is refused
+  abbrev pub IsRefusedOption : WalkOption → Type 0
+  IsRefusedOption (without e) =
+      (error : BuildError) × NoExclusion (Spells (chars e)) (Refuses (chars e)) error
+  IsRefusedOption (ignoring file) = IsUnlisted answers file
+  IsRefusedOption (at_least n) = ⊥
+  IsRefusedOption (at_most n) = ⊥
+
+  -- one of these options is refused, and what each one before it asks for was built
+  pub record HasRefused (options : List WalkOption) : Type 0 where
+    pub before : List WalkOption
+    pub filters : List (Filter Span)
+    pub built : AreAskedByAll before filters
+    pub option : WalkOption
+    pub refused : IsRefusedOption option
+    pub after : List WalkOption
+    pub all : options ≡ before ++ option ∷ after
+
+  -- all that is asked for was built
+  pub record AreBuilt (asked : WalkRequest) (globs : WalkGlobs) : Type 0 where
+    pub glob : IsGlob (chars asked.expression) globs.glob
+    pub filters : AreAskedByAll asked.options globs.filters
+
+  -- the glob is refused, or else something that is left out
+  pub data IsUnbuilt (asked : WalkRequest) : Type 0 where
+    no_glob : IsRefused asked.expression → IsUnbuilt asked
+    no_filter : (g : GlobView) → IsGlob (chars asked.expression) g → HasRefused asked.options
+        → IsUnbuilt asked
 
 -- ---- walks
 
@@ -73,7 +104,7 @@ module _ {D C : Type 0} (law : Law D C) (d : D) (asked : WalkRequest) (globs : W
   OnWalk P = (depth : Bounds) × Depth globs.glob.tree depth
       × ((b : Beginning globs.glob.tree) (s : Shown) (listed : List (List ℕ)) → ArePlain b.names
       → law.shows d (way_from asked.start b.rooted b.names).path s → law.tells d listed
-      → P (trip_of asked.start (range_in asked.options) depth b globs.nots) s listed)
+      → P (trip_of asked.start (range_in asked.options) depth b globs.filters) s listed)
 
   -- these items were kept of the walk, to its end
   abbrev pub KeepsAll : List Given → Type 0
@@ -85,20 +116,20 @@ module _ {D C : Type 0} (law : Law D C) (d : D) (asked : WalkRequest) (globs : W
   StartsLines bytes = OnWalk (λ trip s listed.
       (rest : List ℕ) × (bytes ++ rest ≡ candidate_lines (preorder (trip_walk trip s))))
 
--- The walk that is asked for was run over the directory d. `held` is what the writer holds, before and
--- after.
-pub data WalkEnds {D C : Type 0} (law : Law D C) (d : D) (asked : WalkRequest)
-    (held held' : Option (List ℕ)) (status : ℕ) : Type 0 where
+-- The walk that is asked for was run. `held` is what the writer holds, before and after.
+pub data WalkEnds {D C Z : Type 0} (over : Ground D C Z) (asked : WalkRequest) (held held' : Option (List ℕ))
+    (status : ℕ) : Type 0 where
   -- the candidates of all that is kept were written, and no item was an error
-  done : (globs : WalkGlobs) (items : List Given) → AreBuilt asked globs → KeepsAll law d asked globs items
-      → Appends held held' (candidate_lines items) → list_any is_error items ≡ false
-      → status ≡ 0 → WalkEnds law d asked held held' status
+  done : (globs : WalkGlobs) (items : List Given) → AreBuilt over.answers asked globs
+      → KeepsAll over.law over.directory asked globs items → Appends held held' (candidate_lines items)
+      → list_any is_error items ≡ false → status ≡ 0 → WalkEnds over asked held held' status
   -- the same, but some item was an error
-  faulty : (globs : WalkGlobs) (items : List Given) → AreBuilt asked globs → KeepsAll law d asked globs items
-      → Appends held held' (candidate_lines items) → list_any is_error items ≡ true
-      → status ≡ 3 → WalkEnds law d asked held held' status
+  faulty : (globs : WalkGlobs) (items : List Given) → AreBuilt over.answers asked globs
+      → KeepsAll over.law over.directory asked globs items → Appends held held' (candidate_lines items)
+      → list_any is_error items ≡ true → status ≡ 3 → WalkEnds over asked held held' status
   -- a beginning of the lines was written
-  stopped : (globs : WalkGlobs) (bytes : List ℕ) → AreBuilt asked globs → Appends held held' bytes
-      → StartsLines law d asked globs bytes → status ≡ 1 → WalkEnds law d asked held held' status
-  -- some build was refused, and nothing was written
-  refused : IsUnbuilt asked → held' ≡ held → status ≡ 1 → WalkEnds law d asked held held' status
+  stopped : (globs : WalkGlobs) (bytes : List ℕ) → AreBuilt over.answers asked globs
+      → Appends held held' bytes → StartsLines over.law over.directory asked globs bytes → status ≡ 1
+      → WalkEnds over asked held held' status
+  -- something was refused, and nothing was written
+  refused : IsUnbuilt over.answers asked → held' ≡ held → status ≡ 1 → WalkEnds over asked held held' status

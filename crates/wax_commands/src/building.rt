@@ -1,24 +1,54 @@
-//! What is built of expressions.
+//! What is built of the words.
+ghost use Rattle.std.specs.Fn.{FnReturnsAt};
 ghost use Rattle.std.specs.Prelude.{◌≡◌, ◌∷◌, ◌++◌, [], List, chars, map};
-ghost use Rattle.std.specs.Prelude.{IfSome, IfNone, IfOk, IfErr, OnOk, OnErr, IsSome};
-ghost use Rattle.std.specs.List.{AllZip};
+ghost use Rattle.std.specs.Prelude.{IfSome, IfNone, IfOk, OnOk, OnErr, IsSome};
 ghost use Rattle.wax.specs.Build.{IsGlob};
 ghost use Rattle.wax.specs.Exclusions.{NoExclusion};
 ghost use Rattle.wax.specs.Patterns.{Refuses, Spells};
-ghost use Rattle.wax_collect.specs.Trips.{AreNots};
-ghost use Rattle.wax_commands.specs.Commands.{SayEach, WalkOption, exclusions_in};
-ghost use Rattle.wax_commands.specs.Refused.{IsRefused};
-ghost use Rattle.wax_commands.specs.Walked.{HasRefused, IsNotOf};
+ghost use Rattle.wax_collect.specs.Trips.{AreRulesOf};
 ghost use Rattle.wax_token.specs.Reads.{Span};
 ghost use Rattle.wax_token.specs.Syntax.{Tree};
-ghost use Rattle.wax_wanted.specs.Marks.{not_mark, of_candidate};
+ghost use Rattle.wax_walk.specs.Given.{Facts, Mark};
+ghost use Rattle.wax_wanted.specs.Ignored.{Line};
+ghost use Rattle.wax_wanted.specs.Wanted.{Filter, not_ignored, not_meant};
+ghost use Rattle.wax_commands.specs.Commands.{SayEach, Says, WalkOption};
+ghost use Rattle.wax_commands.specs.Files.{IsListIn, IsUnlisted};
+ghost use Rattle.wax_commands.specs.Refused.{IsRefused};
+ghost use Rattle.wax_commands.specs.Walked.{AreAskedBy, AreAskedByAll, HasRefused, IsNotOf};
+ghost use Rattle.wax_commands.specs.Walked.{IsRefusedOption};
 
+use crate::files::{FileFault, list_in};
 use crate::walk_words::next_option;
 use std::alloc::Global;
 use std::io::Write;
-use wax::walk::{Exclusion, exclusion_of};
+use thiserror::Error;
+use wax::walk::WalkFilter;
 use wax::{BuildError, Glob};
 use wax_walk::Rule;
+
+/// Why something isn't built that is left out of a walk.
+#[derive(Debug, Drop, Error)]
+pub enum FilterFault<'w> {
+    /// An expression isn't built.
+    #[error("{0}")]
+    Pattern(BuildError),
+    /// A line of an ignore list isn't built (21).
+    #[error("{file}:{line}: {error}")]
+    BadLine {
+        file: &'w str,
+        line: usize,
+        error: BuildError,
+    },
+    /// A file can't be read (18).
+    #[error("{0}: read failed")]
+    ReadFailed(&'w str),
+    /// A file isn't UTF-8 (22).
+    #[error("{0}: not text")]
+    NotText(&'w str),
+    /// Memory was asked for and refused (10).
+    #[error("no memory")]
+    Memory,
+}
 
 /// The glob of the expression, or none where it is refused; the reason is told.
 pub fn built<'e, F: Write>(alloc: Global, expression: &'e str, faults: &mut F) -> Option<Glob<'e>>
@@ -36,61 +66,128 @@ pub fn built<'e, F: Write>(alloc: Global, expression: &'e str, faults: &mut F) -
 }
 
 /// What the options of a walk leave out, in their order, or none where one is refused; the reason is told.
-pub fn built_exclusions<F: Write>(
+pub fn built_filters<B, F>(
     alloc: Global,
     options: &[Option<String>],
+    read: &B,
     faults: &mut F,
-) -> Option<Vec<Exclusion>>
-    ensures some { IfSome result (λ nots. (asked : List WalkOption) → SayEach options.now asked
-        → (ts : List (Tree Span)) × AllZip IsNotOf (exclusions_in asked) ts
-        × AreNots ts (map ⟦<Exclusion as Rule>⟧.rule nots.items)) }
+) -> Option<Vec<WalkFilter>>
+where
+    B: Fn(&str) -> Result<Vec<u8>, FileFault>,
+    F: Write,
+    requires { B.IsAlwaysCallable read.now }
+    ensures some { IfSome result (λ filters. (asked : List WalkOption) → SayEach options.now asked
+        → (xs : List (Filter Span)) × AreAskedByAll (FnReturnsAt B.Fn read.now) asked xs
+        × AreRulesOf xs (map ⟦<WalkFilter as Rule>⟧.rule filters.items)) }
     ensures none { IfNone result ((asked : List WalkOption) → SayEach options.now asked
-        → HasRefused (exclusions_in asked)) }
+        → HasRefused (FnReturnsAt B.Fn read.now) asked) }
     ensures quiet { IsSome result → faults.new ≡ faults.old }
 {
-    match exclusions_of(alloc, options) {
-        Ok(exclusions) => Some(exclusions),
-        Err(error) => {
-            let _ = writeln!(faults, "globs: {error}");
+    match filters_of(alloc, options, read) {
+        Ok(filters) => Some(filters),
+        Err(fault) => {
+            let _ = writeln!(faults, "globs: {fault}");
             None
         }
     }
 }
 
 // What the options leave out, in their order. The first that is refused ends it.
-fn exclusions_of(alloc: Global, options: &[Option<String>]) -> Result<Vec<Exclusion>, BuildError>
-    ensures ok { IfOk result (λ nots. (asked : List WalkOption) → SayEach options.now asked
-        → (ts : List (Tree Span)) × AllZip IsNotOf (exclusions_in asked) ts
-        × AreNots ts (map ⟦<Exclusion as Rule>⟧.rule nots.items)) }
+fn filters_of<'w, B>(
+    alloc: Global,
+    options: &'w [Option<String>],
+    read: &B,
+) -> Result<Vec<WalkFilter>, FilterFault<'w>>
+where
+    B: Fn(&str) -> Result<Vec<u8>, FileFault>,
+    requires { B.IsAlwaysCallable read.now }
+    ensures ok { IfOk result (λ filters. (asked : List WalkOption) → SayEach options.now asked
+        → (xs : List (Filter Span)) × AreAskedByAll (FnReturnsAt B.Fn read.now) asked xs
+        × AreRulesOf xs (map ⟦<WalkFilter as Rule>⟧.rule filters.items)) }
     ensures err { OnErr result ((asked : List WalkOption) → SayEach options.now asked
-        → HasRefused (exclusions_in asked)) }
+        → HasRefused (FnReturnsAt B.Fn read.now) asked) }
 {
-    let mut exclusions = Vec::new(alloc);
+    let mut filters = Vec::new(alloc);
     let mut rest = options;
     while let Some((name, word, after)) = next_option(rest) {
-        if name == "not" {
-            push_exclusion(alloc, word, &mut exclusions)?;
-        }
+        add_filter(alloc, name, word, read, &mut filters)?;
         rest = after;
     }
-    Ok(exclusions)
+    Ok(filters)
 }
 
-// One more.
-fn push_exclusion(
+// Adds what an option leaves out, if it leaves out something.
+fn add_filter<'w, B>(
     alloc: Global,
-    expression: &str,
-    exclusions: &mut Vec<Exclusion>,
-) -> Result<(), BuildError>
-    ensures ok { OnOk result ((t : Tree Span) × IsNotOf expression.now t
-        × (map ⟦<Exclusion as Rule>⟧.rule exclusions.new.items
-        ≡ map ⟦<Exclusion as Rule>⟧.rule exclusions.old.items ++ of_candidate (not_mark t) ∷ [])) }
-    ensures err { IfErr result
-        (NoExclusion (Spells (chars expression.now)) (Refuses (chars expression.now))) }
+    name: &str,
+    word: &'w str,
+    read: &B,
+    filters: &mut Vec<WalkFilter>,
+) -> Result<(), FilterFault<'w>>
+where
+    B: Fn(&str) -> Result<Vec<u8>, FileFault>,
+    requires { B.IsAlwaysCallable read.now }
+    ensures ok { OnOk result ((o : WalkOption) → Says name.now word.now o
+        → (xs : List (Filter Span)) × (rules : List (Facts → Mark))
+        × AreAskedBy (FnReturnsAt B.Fn read.now) o xs × AreRulesOf xs rules
+        × (map ⟦<WalkFilter as Rule>⟧.rule filters.new.items
+        ≡ map ⟦<WalkFilter as Rule>⟧.rule filters.old.items ++ rules)) }
+    ensures err { OnErr result ((o : WalkOption) → Says name.now word.now o
+        → IsRefusedOption (FnReturnsAt B.Fn read.now) o) }
 {
-    let exclusion = exclusion_of(alloc, expression)?;
-    match exclusions.push(exclusion) {
+    if name == "not" {
+        return add_pattern(alloc, word, filters);
+    }
+    if name == "ignore" {
+        return add_list(alloc, word, read, filters);
+    }
+    Ok(())
+}
+
+// Adds what leaves out what an expression means.
+fn add_pattern<'w>(
+    alloc: Global,
+    expression: &'w str,
+    filters: &mut Vec<WalkFilter>,
+) -> Result<(), FilterFault<'w>>
+    ensures ok { OnOk result ((t : Tree Span) × (rules : List (Facts → Mark)) × IsNotOf expression.now t
+        × AreRulesOf (not_meant t ∷ []) rules
+        × (map ⟦<WalkFilter as Rule>⟧.rule filters.new.items
+        ≡ map ⟦<WalkFilter as Rule>⟧.rule filters.old.items ++ rules)) }
+    ensures err { OnErr result ((error : BuildError)
+        × NoExclusion (Spells (chars expression.now)) (Refuses (chars expression.now)) error) }
+{
+    match WalkFilter::not(alloc, expression) {
+        Ok(filter) => push(filters, filter),
+        Err(error) => Err(FilterFault::Pattern(error)),
+    }
+}
+
+// Adds what leaves out what the list in a file ignores.
+fn add_list<'w, B>(
+    alloc: Global,
+    file: &'w str,
+    read: &B,
+    filters: &mut Vec<WalkFilter>,
+) -> Result<(), FilterFault<'w>>
+where
+    B: Fn(&str) -> Result<Vec<u8>, FileFault>,
+    requires { B.IsAlwaysCallable read.now }
+    ensures ok { OnOk result ((lines : List (Line Span)) × (rules : List (Facts → Mark))
+        × IsListIn (FnReturnsAt B.Fn read.now) file.now lines × AreRulesOf (not_ignored lines ∷ []) rules
+        × (map ⟦<WalkFilter as Rule>⟧.rule filters.new.items
+        ≡ map ⟦<WalkFilter as Rule>⟧.rule filters.old.items ++ rules)) }
+    ensures err { OnErr result (IsUnlisted (FnReturnsAt B.Fn read.now) file.now) }
+{
+    let list = list_in(alloc, file, read)?;
+    push(filters, WalkFilter::ignore(list))
+}
+
+fn push<'w, T: Drop>(items: &mut Vec<T>, item: T) -> Result<(), FilterFault<'w>>
+    ensures { OnOk result (items.new.items ≡ items.old.items ++ item ∷ []) }
+{
+    match items.push(item) {
         Ok(()) => Ok(()),
-        Err(_) => Err(BuildError::Memory),
+        Err(_) => Err(FilterFault::Memory),
     }
 }

@@ -24,7 +24,7 @@ const CHUNK: usize = 8192;
 pub fn write_wanted<'g, D, P, C, R, W, F>(
     alloc: Global,
     walk: GlobWalk<'g, D, P, C>,
-    nots: Vec<R>,
+    rules: Vec<R>,
     output: &mut Counted<W>,
     faults: &mut F,
 ) -> Result<bool, LinesError>
@@ -38,21 +38,21 @@ where
     requires can { ⟦<GlobWalk<'g, D, P, C> as SeparatingFilter>⟧.can_feed walk }
     requires ends { IsFinite (⟦<GlobWalk<'g, D, P, C> as SeparatingFilter>⟧.left walk) }
     ensures done { IfOk result (WroteWanted D.law
-        (⟦<GlobWalk<'g, D, P, C> as FileIterator>⟧.view walk.entry) (map R.rule nots.items)
+        (⟦<GlobWalk<'g, D, P, C> as FileIterator>⟧.view walk.entry) (map R.rule rules.items)
         (W.contents output.old.inner) (W.contents output.new.inner)) }
     ensures stopped { OnErr result (WroteFirst D.law
-        (⟦<GlobWalk<'g, D, P, C> as FileIterator>⟧.view walk.entry) (map R.rule nots.items)
+        (⟦<GlobWalk<'g, D, P, C> as FileIterator>⟧.view walk.entry) (map R.rule rules.items)
         (W.contents output.old.inner) (W.contents output.new.inner)) }
     ensures quiet { IfOk result (λ has_errors. has_errors ≡ false → faults.new ≡ faults.old) }
 {
-    write_less(alloc, walk, nots, output, faults)
+    write_less(alloc, walk, rules, output, faults)
 }
 
 // The same of any walk.
 fn write_less<I, R, W, F>(
     alloc: Global,
     walk: I,
-    nots: Vec<R>,
+    rules: Vec<R>,
     output: &mut Counted<W>,
     faults: &mut F,
 ) -> Result<bool, LinesError>
@@ -63,14 +63,14 @@ where
     F: Write,
     requires can { I.can_feed walk }
     requires ends { IsFinite (I.left walk) }
-    ensures done { IfOk result (WroteWanted I.Directory.law (I.view walk) (map R.rule nots.items)
+    ensures done { IfOk result (WroteWanted I.Directory.law (I.view walk) (map R.rule rules.items)
         (W.contents output.old.inner) (W.contents output.new.inner)) }
-    ensures stopped { OnErr result (WroteFirst I.Directory.law (I.view walk) (map R.rule nots.items)
+    ensures stopped { OnErr result (WroteFirst I.Directory.law (I.view walk) (map R.rule rules.items)
         (W.contents output.old.inner) (W.contents output.new.inner)) }
     ensures quiet { IfOk result (λ has_errors. has_errors ≡ false → faults.new ≡ faults.old) }
 {
     law_of_walks();
-    let kept = walk.without(alloc, FilterAny::new(nots));
+    let kept = walk.without(alloc, FilterAny::new(rules));
     write_candidates(alloc, kept, output, faults)
 }
 

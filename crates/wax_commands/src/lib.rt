@@ -4,6 +4,7 @@
 mod arguments;
 mod building;
 mod candidates;
+mod files;
 mod query;
 mod run;
 mod status;
@@ -11,5 +12,6 @@ mod walk_words;
 mod walking;
 
 pub use arguments::words;
+pub use files::FileFault;
 pub use query::{depth_text, when_text};
 pub use run::run_globs;

@@ -1,4 +1,5 @@
 //! What the program does with its words and its streams.
+ghost use Rattle.std.specs.Fn.{FnReturnsAt};
 ghost use Rattle.std.specs.Prelude.{◌≡◌, ℕ, List, IfOk, IfErr, IfSome, IfNone};
 ghost use Rattle.wax_lines.specs.Lines.{Filtered, Stopped};
 ghost use Rattle.wax_commands.specs.Commands.{Asks, AsksMatch, AsksCaptures, AsksQuery, AsksWalk};
@@ -9,6 +10,7 @@ ghost use Rattle.wax_commands.specs.Walked.{WalkEnds};
 ghost use Rattle.wax_commands.specs.inner.Outputs.{command_of, writes_of};
 
 use crate::building::built;
+use crate::files::FileFault;
 use crate::query::query_lines;
 use crate::status::{DONE, FAILED, WRONG_WORDS};
 use crate::walk_words::read_walk;
@@ -23,7 +25,7 @@ const USAGE: &str = "\
 usage: globs match EXPR
        globs captures EXPR
        globs query EXPR
-       globs walk START EXPR [not EXPR].. [min N] [max N]
+       globs walk START EXPR [not EXPR].. [min N] [max N] [ignore FILE]
 ";
 
 /// What is written for a line that a glob means: the line alone, or with what is captured of it.
@@ -40,18 +42,27 @@ enum Lines {
 /// `match EXPR` writes the lines of the input that the expression means; `captures EXPR` writes these, each
 /// with what the expression captures of it and a tab between; `query EXPR` writes what is known of the
 /// expression; `walk START EXPR` writes the candidates of the entries below a start that the expression
-/// means, but for those that the expressions after `not` leave out and depths below `min` or above `max`.
-/// The last two read nothing. Faults are told in one line, each error of a walk in one where it comes, wrong
+/// means, but for those that the expressions after `not` mean, those that the ignore list in the file after
+/// `ignore` ignores, and depths below `min` or above `max`. `read` gives the bytes of a file by its name, and
+/// is asked for that list alone, before anything is listed. The last two read nothing of the input. Faults are told in one line, each error of a walk in one where it comes, wrong
 /// words by the usage text, and nothing else is written to `faults`; where that can't be written, the status
 /// is the same.
-pub fn run_globs<R: Read, W: Write, F: Write, D: Directory>(
+pub fn run_globs<R, W, F, D, B>(
     alloc: Global,
     words: &[Option<String>],
     input: &mut Counted<R>,
     output: &mut Counted<W>,
     faults: &mut F,
     directory: D,
+    read: B,
 ) -> u8
+where
+    R: Read,
+    W: Write,
+    F: Write,
+    D: Directory,
+    B: Fn(&str) -> Result<Vec<u8>, FileFault>,
+    requires { B.IsAlwaysCallable read }
     ensures wrong_words { HasNoCommand words.now
         → (result ≡ 2) × (input.new ≡ input.old) × (output.new ≡ output.old) }
     ensures matches { (e : List ℕ) → AsksMatch words.now e → LinesEnd (match_of e)
@@ -63,7 +74,8 @@ pub fn run_globs<R: Read, W: Write, F: Write, D: Directory>(
     ensures query { (e : List ℕ) → AsksQuery words.now e
         → QueryEnds e (W.contents output.old.inner) (W.contents output.new.inner) result }
     ensures query_reads { (e : List ℕ) → AsksQuery words.now e → input.new ≡ input.old }
-    ensures walk { (asked : WalkRequest) → AsksWalk words.now asked → WalkEnds D.law directory asked
+    ensures walk { (asked : WalkRequest) → AsksWalk words.now asked → WalkEnds
+        (record { law = D.law; directory = directory; answers = FnReturnsAt B.Fn read }) asked
         (W.contents output.old.inner) (W.contents output.new.inner) result }
     ensures walk_reads { (asked : WalkRequest) → AsksWalk words.now asked → input.new ≡ input.old }
     ensures quiet { result ≡ 0 → faults.new ≡ faults.old }
@@ -78,7 +90,7 @@ pub fn run_globs<R: Read, W: Write, F: Write, D: Directory>(
         return run_query(alloc, expression, output, faults);
     }
     if let Some(walk) = read_walk(words) {
-        return run_walk(alloc, walk, output, faults, directory);
+        return run_walk(alloc, walk, output, faults, directory, &read);
     }
     let _ = faults.write_all(USAGE.as_bytes());
     WRONG_WORDS

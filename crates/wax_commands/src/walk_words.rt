@@ -1,12 +1,13 @@
 //! The words of a walk.
-ghost use Rattle.std.specs.Prelude.{◌≡◌, ◌≤◌, ◌++◌, ◌∷◌, [], ℕ, List, length, unwrap_or};
+ghost use Rattle.std.specs.Prelude.{◌≡◌, ◌≤◌, ◌+◌, ◌++◌, ◌∷◌, [], ℕ, List, length, unwrap_or};
 ghost use Rattle.std.specs.Prelude.{IfSome, IfNone, MatchOption};
 ghost use Rattle.wax_commands.specs.Commands.{AreBounds, AsksWalk, IsNumber, SayEach, Says, WalkOption};
 ghost use Rattle.wax_commands.specs.Commands.{WalkRequest};
-ghost use Rattle.wax_commands.specs.Commands.{greatest_in, greatests_in, least_in, leasts_in};
+ghost use Rattle.wax_commands.specs.Commands.{count_lists, greatests_in, leasts_in};
 ghost use Rattle.wax_tree.specs.Depths.{greatest, least};
-ghost use Rattle.wax_commands.specs.inner.WalkWords.{AreMore, AreSaidBy, HasNoFirst, HasNoNext, IsDoubled};
-ghost use Rattle.wax_commands.specs.inner.WalkWords.{IsFirst, IsNext, IsRead, all_in};
+ghost use Rattle.wax_commands.specs.inner.WalkWords.{AreDoubled, AreMore, AreSaidBy, HasNoFirst};
+ghost use Rattle.wax_commands.specs.inner.WalkWords.{HasNoNext, IsDoubled, IsFirst, IsNext, IsRead};
+ghost use Rattle.wax_commands.specs.inner.WalkWords.{all_in, one_if};
 
 use wax_tree::{DepthBehavior, DepthMax, DepthMin, DepthMinMax};
 
@@ -21,11 +22,12 @@ pub struct WalkWords<'w> {
     pub depth: DepthBehavior,
 }
 
-// The depths that options say.
+// The depths that options say, and whether one names an ignore list.
 #[derive(Clone, Copy)]
-struct DepthWords {
+struct OptionWords {
     lower: Option<usize>,
     upper: Option<usize>,
+    has_list: bool,
 }
 
 /// The walk that the words ask for, if they ask for one.
@@ -50,7 +52,7 @@ pub fn read_walk<'w>(words: &'w [Option<String>]) -> Option<WalkWords<'w>>
 }
 
 // The depths within the bounds; none where the least is above the greatest.
-fn depths_of(bounds: DepthWords) -> Option<DepthBehavior>
+fn depths_of(bounds: OptionWords) -> Option<DepthBehavior>
     ensures some { IfSome result (λ depth. AreBounds (all_in bounds.lower) (all_in bounds.upper)
         × (least depth ≡ unwrap_or bounds.lower 0) × (greatest depth ≡ bounds.upper)) }
     ensures none { IfNone result (AreBounds (all_in bounds.lower) (all_in bounds.upper) → ⊥) }
@@ -66,16 +68,17 @@ fn depths_of(bounds: DepthWords) -> Option<DepthBehavior>
     }
 }
 
-// The depths that the words of options say, each at most once.
-fn read_options(words: &[Option<String>]) -> Option<DepthWords>
+// What the words of options say, each depth and a list at most once.
+fn read_options(words: &[Option<String>]) -> Option<OptionWords>
     ensures some { IfSome result (λ bounds. (options : List WalkOption) × SayEach words.now options
         × AreSaidBy bounds options) }
     ensures none { IfNone result ((options : List WalkOption) → SayEach words.now options
-        → IsDoubled (leasts_in options) (greatests_in options)) }
+        → AreDoubled options) }
 {
-    let mut bounds = DepthWords {
+    let mut bounds = OptionWords {
         lower: None,
         upper: None,
+        has_list: false,
     };
     let mut rest = words;
     while let Some((name, word, after)) = next_option(rest) {
@@ -109,23 +112,33 @@ fn first_word<'w>(words: &'w [Option<String>]) -> Option<(&'w str, &'w [Option<S
     }
 }
 
-// The depths with one more option.
-fn with_option(bounds: DepthWords, name: &str, word: &str) -> Option<DepthWords>
+// The same with one more option.
+fn with_option(bounds: OptionWords, name: &str, word: &str) -> Option<OptionWords>
     ensures some { IfSome result (λ more. (o : WalkOption) × Says name.now word.now o
         × AreMore bounds o more) }
     ensures none { IfNone result ((o : WalkOption) → Says name.now word.now o → IsDoubled
-        (all_in bounds.lower ++ leasts_in (o ∷ [])) (all_in bounds.upper ++ greatests_in (o ∷ []))) }
+        (all_in bounds.lower ++ leasts_in (o ∷ [])) (all_in bounds.upper ++ greatests_in (o ∷ []))
+        (one_if bounds.has_list + count_lists (o ∷ []))) }
 {
     if name == "not" {
         return Some(bounds);
     }
+    if name == "ignore" {
+        if bounds.has_list {
+            return None;
+        }
+        return Some(OptionWords {
+            has_list: true,
+            ..bounds
+        });
+    }
     if name == "min" {
         let lower = said_once(bounds.lower, word)?;
-        return Some(DepthWords { lower, ..bounds });
+        return Some(OptionWords { lower, ..bounds });
     }
     if name == "max" {
         let upper = said_once(bounds.upper, word)?;
-        return Some(DepthWords { upper, ..bounds });
+        return Some(OptionWords { upper, ..bounds });
     }
     None
 }

@@ -1,11 +1,13 @@
-//! A walk of a glob, less what other expressions mean.
+//! A walk of a glob, less what other expressions mean and a list ignores.
+ghost use Rattle.std.specs.Fn.{FnReturnsAt};
 ghost use Rattle.std.specs.Prelude.{◌≡◌};
 ghost use Rattle.wax_commands.specs.Commands.{WalkRequest};
 ghost use Rattle.wax_commands.specs.Walked.{WalkEnds};
 ghost use Rattle.wax_commands.specs.inner.WalkWords.{IsRead};
 
-use crate::building::{built, built_exclusions};
+use crate::building::{built, built_filters};
 use crate::candidates::write_wanted;
+use crate::files::FileFault;
 use crate::status::{DONE, FAILED, HAS_ERRORS};
 use crate::walk_words::WalkWords;
 use std::alloc::Global;
@@ -15,25 +17,33 @@ use wax::walk::Directory;
 
 /// Builds the glob, then what is left out, in the order of the words, and then writes the candidates of the
 /// walk over the directory. Errors of the walk are told where they come.
-pub fn run_walk<W: Write, F: Write, D: Directory>(
+pub fn run_walk<W, F, D, B>(
     alloc: Global,
     walk: WalkWords<'_>,
     output: &mut Counted<W>,
     faults: &mut F,
     directory: D,
+    read: &B,
 ) -> u8
-    ensures ends { (asked : WalkRequest) → IsRead walk.entry asked → WalkEnds D.law directory asked
+where
+    W: Write,
+    F: Write,
+    D: Directory,
+    B: Fn(&str) -> Result<Vec<u8>, FileFault>,
+    requires { B.IsAlwaysCallable read.now }
+    ensures ends { (asked : WalkRequest) → IsRead walk.entry asked → WalkEnds
+        (record { law = D.law; directory = directory; answers = FnReturnsAt B.Fn read.now }) asked
         (W.contents output.old.inner) (W.contents output.new.inner) result }
     ensures quiet { result ≡ 0 → faults.new ≡ faults.old }
 {
     let Some(glob) = built(alloc, walk.expression, faults) else {
         return FAILED;
     };
-    let Some(nots) = built_exclusions(alloc, walk.options, faults) else {
+    let Some(filters) = built_filters(alloc, walk.options, read, faults) else {
         return FAILED;
     };
     let entries = glob.walk_with_behavior(alloc, directory, walk.start, walk.depth);
-    match write_wanted(alloc, entries, nots, output, faults) {
+    match write_wanted(alloc, entries, filters, output, faults) {
         Ok(false) => DONE,
         Ok(true) => HAS_ERRORS,
         Err(error) => {

@@ -8,7 +8,7 @@ use crate::walks::{behavior_of, glob_of};
 use std::alloc::{AllocError, Global};
 use std::io;
 use wax::walk::{
-    Entry, PathExt, Range, Tree, WalkBehavior, WalkError, collect, entries, exclusion_of,
+    Entry, IgnoreList, PathExt, Range, Tree, WalkBehavior, WalkError, WalkFilter, collect, entries,
 };
 use wax::{CandidatePath, Glob, NoMemory, Program};
 
@@ -18,6 +18,8 @@ struct Drawn {
     plan: String,
     expression: String,
     nots: Vec<String>,
+    /// The text of an ignore list.
+    list: String,
     start: &'static str,
     range: Range,
 }
@@ -38,7 +40,36 @@ struct Counts {
     unlisted: usize,
 }
 
-fn draw_walk(alloc: Global, draws: &mut Draws) -> Result<Drawn, AllocError> {
+/// A line of an ignore list: whether it ignores, and its glob.
+#[derive(Drop)]
+struct Line<'t> {
+    ignores: bool,
+    glob: Glob<'t>,
+}
+
+/// What of a candidate is wanted: what the glob means, but not what others mean or the last line ignores that
+/// means it.
+#[derive(Drop)]
+struct Meanings<'t> {
+    glob: &'t Glob<'t>,
+    nots: Vec<Glob<'t>>,
+    lines: Vec<Line<'t>>,
+}
+
+/// A list of up to five lines, a third of which take back.
+fn draw_list(alloc: Global, draws: &mut Draws) -> Result<String, AllocError> {
+    let mut list = String::new(alloc);
+    for _ in 0..draws.below(6) {
+        if draws.below(3) == 0 {
+            list.push('!')?;
+        }
+        list.push_str(draws.expression(alloc)?.as_str())?;
+        list.push('\n')?;
+    }
+    Ok(list)
+}
+
+fn draw_walk(alloc: Global, draws: &mut Draws, has_list: bool) -> Result<Drawn, AllocError> {
     let plan = draws.plan(alloc)?;
     let expression = draws.expression(alloc)?;
     let mut nots = Vec::new(alloc);
@@ -50,10 +81,16 @@ fn draw_walk(alloc: Global, draws: &mut Draws) -> Result<Drawn, AllocError> {
         0 => min.saturating_add(draws.below(4)),
         _ => NO_BOUND,
     };
+    let list = if has_list {
+        draw_list(alloc, draws)?
+    } else {
+        String::new(alloc)
+    };
     Ok(Drawn {
         plan,
         expression,
         nots,
+        list,
         start: draws.start(),
         range: Range {
             min,
@@ -80,17 +117,27 @@ fn add(candidates: &mut String, candidate: &str) -> Result<(), AllocError> {
     candidates.push('\n')
 }
 
-/// What the walk of the glob gives, less what each pattern means.
-fn walk_less(alloc: Global, drawn: &Drawn, glob: &Glob<'_>) -> io::Result<Walked> {
-    let mut nots = Vec::new(alloc);
+/// What is left out: what each pattern means, and what the list ignores.
+fn filters_of(alloc: Global, drawn: &Drawn) -> io::Result<Vec<WalkFilter>> {
+    let mut filters = Vec::new(alloc);
     for not in &drawn.nots {
-        match exclusion_of(alloc, not.as_str()) {
-            Ok(exclusion) => nots.push(exclusion)?,
+        match WalkFilter::not(alloc, not.as_str()) {
+            Ok(filter) => filters.push(filter)?,
             Err(_) => return Err(not_made()),
         }
     }
+    match IgnoreList::parse(alloc, drawn.list.as_str()) {
+        Ok(list) => filters.push(WalkFilter::ignore(list))?,
+        Err(_) => return Err(not_made()),
+    }
+    Ok(filters)
+}
+
+/// What the walk of the glob gives, less what is left out.
+fn walk_less(alloc: Global, drawn: &Drawn, glob: &Glob<'_>) -> io::Result<Walked> {
+    let filters = filters_of(alloc, drawn)?;
     let behavior = behavior_of(&drawn.range);
-    let walked = glob.collect_less(alloc, tree(alloc, drawn)?, drawn.start, behavior, nots);
+    let walked = glob.collect_less(alloc, tree(alloc, drawn)?, drawn.start, behavior, filters);
     let Ok((items, tree)) = walked else {
         return Err(not_made());
     };
@@ -109,25 +156,54 @@ fn walk_less(alloc: Global, drawn: &Drawn, glob: &Glob<'_>) -> io::Result<Walked
     })
 }
 
-/// Whether the glob means the candidate, and none of the others does.
-fn is_wanted(
+/// The lines of a list.
+fn lines_of(alloc: Global, list: &str) -> io::Result<Vec<Line<'_>>> {
+    let mut lines = Vec::new(alloc);
+    for line in list.split_terminator('\n') {
+        let (ignores, expression) = match line.strip_prefix('!') {
+            Some(expression) => (false, expression),
+            None => (true, line),
+        };
+        let glob = glob_of(alloc, expression)?;
+        lines.push(Line { ignores, glob })?;
+    }
+    Ok(lines)
+}
+
+/// Whether the last line that means the candidate ignores.
+fn is_ignored(
     alloc: Global,
-    glob: &Glob<'_>,
-    nots: &[Glob<'_>],
-    candidate: &str,
+    lines: &[Line<'_>],
+    path: &CandidatePath<'_>,
 ) -> Result<bool, NoMemory> {
+    for line in lines.iter().rev() {
+        if line.glob.is_match(alloc, path)? {
+            return Ok(line.ignores);
+        }
+    }
+    Ok(false)
+}
+
+fn is_wanted(alloc: Global, meanings: &Meanings<'_>, candidate: &str) -> Result<bool, NoMemory> {
     let path = CandidatePath::from(candidate);
-    for not in nots {
+    for not in &meanings.nots {
         if not.is_match(alloc, &path)? {
             return Ok(false);
         }
     }
-    glob.is_match(alloc, &path)
+    if is_ignored(alloc, meanings.lines.as_slice(), &path)? {
+        return Ok(false);
+    }
+    meanings.glob.is_match(alloc, &path)
 }
 
 /// What is wanted of the whole walk.
 fn wanted(alloc: Global, drawn: &Drawn, glob: &Glob<'_>) -> io::Result<Walked> {
-    let nots = globs_of(alloc, drawn.nots.as_slice())?;
+    let meanings = Meanings {
+        glob,
+        nots: globs_of(alloc, drawn.nots.as_slice())?,
+        lines: lines_of(alloc, drawn.list.as_str())?,
+    };
     let is_rooted = drawn.expression.starts_with('/');
     let start = if is_rooted { "/" } else { drawn.start };
     let whole = entries(alloc, tree(alloc, drawn)?, start, WalkBehavior::default());
@@ -148,7 +224,7 @@ fn wanted(alloc: Global, drawn: &Drawn, glob: &Glob<'_>) -> io::Result<Walked> {
         } else {
             entry.root_relative_paths().1
         };
-        match is_wanted(alloc, glob, nots.as_slice(), candidate) {
+        match is_wanted(alloc, &meanings, candidate) {
             Ok(true) => add(&mut candidates, candidate)?,
             Ok(false) => continue,
             Err(_) => return Err(not_made()),
@@ -178,8 +254,14 @@ fn compare(rt: &HostRuntime, drawn: &Drawn, counts: &mut Counts) -> io::Result<(
     if !is_equal || !are_among(listed, whole) {
         counts.different = counts.different.saturating_add(1);
         println!(rt;
-            "differs: \"{}\" from \"{}\" in \"{}\", depth {} to {}, not {:?}",
-            drawn.expression, drawn.start, drawn.plan, drawn.range.min, drawn.range.max, drawn.nots
+            "differs: \"{}\" from \"{}\" in \"{}\", depth {} to {}, not {:?}, ignore {:?}",
+            drawn.expression,
+            drawn.start,
+            drawn.plan,
+            drawn.range.min,
+            drawn.range.max,
+            drawn.nots,
+            drawn.list
         )?;
     }
     counts.entries = counts.entries.saturating_add(walked.count);
@@ -188,18 +270,26 @@ fn compare(rt: &HostRuntime, drawn: &Drawn, counts: &mut Counts) -> io::Result<(
     Ok(())
 }
 
-pub fn print_counts(rt: &HostRuntime) -> io::Result<()> {
-    let mut draws = Draws::new();
+/// Draws so many walks, and prints how many differ.
+fn print_count(rt: &HostRuntime, draws: &mut Draws, walks: u32, has_lists: bool) -> io::Result<()> {
     let mut counts = Counts {
         different: 0,
         entries: 0,
         unlisted: 0,
     };
-    for _ in 0..2000u32 {
-        compare(rt, &draw_walk(rt.alloc(), &mut draws)?, &mut counts)?;
+    for _ in 0..walks {
+        let drawn = draw_walk(rt.alloc(), draws, has_lists)?;
+        compare(rt, &drawn, &mut counts)?;
     }
+    let lists = if has_lists { " with ignore lists" } else { "" };
     println!(rt;
-        "2000 trees, {} differ; {} entries, {} folders not listed",
+        "{walks} trees{lists}, {} differ; {} entries, {} folders not listed",
         counts.different, counts.entries, counts.unlisted
     )
+}
+
+pub fn print_counts(rt: &HostRuntime) -> io::Result<()> {
+    let mut draws = Draws::new();
+    print_count(rt, &mut draws, 2000, false)?;
+    print_count(rt, &mut draws, 500, true)
 }

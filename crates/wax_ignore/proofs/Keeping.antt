@@ -11,7 +11,8 @@ use Rattle.wax_walk.specs.Forest.{Pending, nothing, pending}
 use Rattle.wax_walk.specs.Given.{kept, alone, with_tree, Given, entry, fault, no_memory, is_kept}
 use Rattle.wax_walk.specs.Ruled.{ruled_view}
 use Rattle.wax_walk.specs.View.{WalkView, IsSeenAs}
-use Rattle.wax_wanted.specs.Ignored.{GivesUnignored, LosesIgnored, ignore_mark}
+use Rattle.wax_wanted.specs.Ignored.{ignore_mark}
+use Rattle.wax_wanted.specs.Unignored.{GivesUnignored, LosesIgnored}
 use Rattle.wax_wanted.specs.Marks.{of_candidate}
 use Rattle.wax_wanted.specs.Premises.{IsPlainShown}
 use Rattle.wax_wanted.specs.Wanted.{is_kept_entry}

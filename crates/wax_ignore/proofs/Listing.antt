@@ -15,7 +15,7 @@ use Rattle.wax_walk.specs.declared.iterator.EntryResidue.TheVariants.{File, Tree
 use Rattle.wax_walk.specs.Given.{Facts, Mark, kept, alone, with_tree}
 use Rattle.wax_walk.specs.Said.{mark_of}
 use Rattle.wax_wanted.proofs.Descending.{covers_some_meant}
-use Rattle.wax_wanted.proofs.Ignores.{ignore_keeps}
+use Rattle.wax_wanted.proofs.Ignored.{ignore_keeps}
 use Rattle.wax_wanted.proofs.Tests.{covers_tested}
 use Rattle.wax_wanted.specs.Candidates.{Candidate, candidate_of}
 use Rattle.wax_wanted.specs.Covers.{covers_test}

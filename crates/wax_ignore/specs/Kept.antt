@@ -11,7 +11,8 @@ use Rattle.wax_walk.specs.Collected.{IsCutShort}
 use Rattle.wax_walk.specs.declared.error.FaultKind.TheVariants.{Budget}
 use Rattle.wax_walk.specs.Forest.{Forest, preorder, listings}
 use Rattle.wax_walk.specs.Given.{Given, fault, no_memory, is_kept}
-use Rattle.wax_wanted.specs.Ignored.{Line, ignore_rules, is_unignored, IsIgnoredBelow}
+use Rattle.wax_wanted.specs.Ignored.{Line}
+use Rattle.wax_wanted.specs.Unignored.{ignore_rules, is_unignored, IsIgnoredBelow}
 use Rattle.wax_wanted.specs.Wanted.{is_kept_entry, stacked}
 
 -- a plain walk from a start, of the depths in range, less what these lines ignore

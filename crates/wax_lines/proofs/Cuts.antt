@@ -1,6 +1,11 @@
 -- How an input falls into lines.
 use Rattle.std.proofs.Common.{◌≡◌, ◌≢◌, ℕ, ◌+◌, false, List, [], ◌∷◌, ◌++◌, ◌==◌, if◌then◌else◌, All, refl, sym, ◌∙◌, ap, inl, inr, append_assoc, append-nil, arith}
+use Rattle.std.proofs.Common.{◌<◌, Bor, MatchOption, Option, Some, None, length, get_or, length-take, true≢false, eqb-true}
 use Rattle.std.proofs.lemmas.Bool.Decides.{eqb_tells}
+use Rattle.std.proofs.lemmas.List.{get_or-take}
+use Rattle.std.proofs.lemmas.List.Elements.{All-from_get_or}
+use Rattle.std.proofs.lemmas.List.Sums.{fails_before_first, passes_at_first, split_at_first}
+use Rattle.std.specs.List.{position_or_len, before_first, after_first}
 use Rattle.std.proofs.lemmas.List.Elements.{All-head, All-tail}
 use Rattle.wax_lines.specs.Lines.{onto_lines, lines, onto_whole, whole_lines, Gives, Filters}
 use Rattle.wax_lines.specs.inner.Sifted.{HasNoFeed, joined}
@@ -60,3 +65,31 @@ Filters-more Writes [] line out more bad m h g =
 Filters-more Writes (first ∷ rest) line out more bad m h g =
     let (x, y, k, n, gives, filters, same, count) = h in
     (x, y ++ more, k, n + m, gives, Filters-more Writes rest line y more n m filters g, ap (λ z. z ++ more) same ∙ append_assoc x y more, omega (arith, count))
+
+-- ---- the first line feed
+is_other : (b : ℕ) → (b == 10) ≡ false → b ≢ 10
+is_other b e h = elim (eqb_tells b 10) [ inl t ↦ true≢false (sym t.0 ∙ e) | inr f ↦ f.1 h ]
+
+no_feed : (s : List ℕ) → position_or_len (λ b. b == 10) s ≡ length s → HasNoFeed s
+no_feed s e = All-from_get_or (λ b. b ≢ 10) s 0 (λ i lt. is_other (get_or s i 0) (fails_before_first (λ b. b == 10) s i 0 (omega (arith, e, lt))))
+
+no_feed_before : (s : List ℕ) → HasNoFeed (before_first (λ b. b == 10) s)
+no_feed_before s = All-from_get_or (λ b. b ≢ 10) (before_first (λ b. b == 10) s) 0 (λ i lt.
+    let at : i < position_or_len (λ b. b == 10) s = omega (arith, lt, length-take (position_or_len (λ b. b == 10) s) s) in
+    is_other (get_or (before_first (λ b. b == 10) s) i 0)
+    (ap (λ z. z == 10) (get_or-take (position_or_len (λ b. b == 10) s) s i 0 at) ∙ fails_before_first (λ b. b == 10) s i 0 at))
+
+feed_at : (s : List ℕ) → position_or_len (λ b. b == 10) s < length s
+    → s ≡ before_first (λ b. b == 10) s ++ 10 ∷ after_first (λ b. b == 10) s
+feed_at s lt = split_at_first (λ b. b == 10) s 0 lt
+    ∙ ap (λ z. before_first (λ b. b == 10) s ++ z ∷ after_first (λ b. b == 10) s)
+    (eqb-true (get_or s (position_or_len (λ b. b == 10) s) 0) 10 (passes_at_first (λ b. b == 10) s 0 lt))
+
+-- what a search of the first line feed tells
+pub feed_found : (s : List ℕ) (r : Option (Bor (List ℕ) × Bor (List ℕ)))
+    → MatchOption r (position_or_len (λ b. b == 10) s ≡ length s)
+    (λ x. (x.0.now ≡ before_first (λ b. b == 10) s) × (x.1.now ≡ after_first (λ b. b == 10) s)
+    × (position_or_len (λ b. b == 10) s < length s))
+    → MatchOption r (HasNoFeed s) (λ parts. (s ≡ parts.0.now ++ 10 ∷ parts.1.now) × HasNoFeed parts.0.now)
+feed_found s None h = no_feed s h
+feed_found s (Some x) h = (feed_at s h.2 ∙ (λ i. sym h.0 i ++ 10 ∷ sym h.1 i), rw h.0 (no_feed_before s))

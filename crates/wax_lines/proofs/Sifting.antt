@@ -1,8 +1,9 @@
 -- What the sieve of a filter of lines holds after each step.
-use Rattle.std.proofs.Common.{true≢false, ◌≡◌, ◌≢◌, ℕ, ◌+◌, List, [], ◌∷◌, ◌++◌, refl, sym, ◌∙◌, ap, subst, append_assoc, append-nil, Result, Ok, Err, OnErr, IfErr, IsErrAnd, length, true, false, ◌==◌, eqb-true}
+use Rattle.std.proofs.Common.{true≢false, ◌≡◌, ◌≢◌, ℕ, ◌+◌, List, [], ◌∷◌, ◌++◌, refl, sym, ◌∙◌, ap, subst, append_assoc, append-nil, Result, Ok, Err, OnErr, IfErr, IsErrAnd, length, true, false, ◌==◌, eqb-true, IsUtf8, chars, arith}
 use Rattle.std.proofs.lemmas.List.Elements.{All-nil, All-append, All-cons}
 use Rattle.std.proofs.lemmas.List.{nil_from_length}
-use Rattle.wax_lines.specs.Lines.{lines, whole_lines, Gives, Filters}
+use Rattle.std.specs.Io.Iter.{u64_saturate}
+use Rattle.wax_lines.specs.Lines.{lines, whole_lines, Gives, text, Filters}
 use Rattle.wax_lines.specs.inner.Sifted.{HasNoFeed, CountsMore, joined, Sifted}
 use Rattle.wax_lines.specs.declared.lines.sieve.Sieve.{Sieve}
 use Rattle.wax_lines.specs.inner.Progress.{TakesIn, TakesLast}
@@ -83,6 +84,18 @@ module _ (Writes : List ℕ → List ℕ → Type 0) where
       → CountsMore old.kept.not_text new.kept.not_text m → TakesIn Writes (end ++ 10 ∷ []) old new
   TakesIn-line old new end out m k gives e f g taken written h =
       rw (e, f) (sifted_line Writes taken written old.carry.items old.kept.bytes.items old.kept.not_text h end out m new.kept.not_text k gives g)
+
+  -- a line that is text, at its beginning
+  pub TakesIn-text : (old new : Sieve) (line out : List ℕ) → old.carry.items ≡ [] → HasNoFeed line → IsUtf8 line → Writes (chars line) out
+      → new.carry.items ≡ [] → new.kept.bytes.items ≡ old.kept.bytes.items ++ out → new.kept.not_text ≡ old.kept.not_text
+      → TakesIn Writes (line ++ 10 ∷ []) old new
+  TakesIn-text old new line out empty k utf8 writes e f g =
+      TakesIn-line old new line out 0 k (subst (λ z. Gives Writes (z ++ line) out 0) (sym empty) (text utf8 writes refl)) e f
+      (λ n c. g ∙ c ∙ ap u64_saturate (omega arith))
+
+  -- nothing more
+  pub TakesIn-still : (old mid new : Sieve) (x : List ℕ) → TakesIn Writes x old mid → TakesIn Writes [] mid new → TakesIn Writes x old new
+  TakesIn-still old mid new x f g = subst (λ z. TakesIn Writes z old new) (append-nil x) (TakesIn-then old mid new x [] f g)
 
   -- no rest
   pub TakesLast-none : (old new : Sieve) → old.carry.items ≡ []

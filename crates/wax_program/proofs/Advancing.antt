@@ -1,6 +1,8 @@
 -- A round over the places that a run has reached.
 use Rattle.std.proofs.Common.{◌≡◌, ℕ, zero, suc, ◌+◌, ◌-◌, ◌*◌, ◌<◌, ◌≤◌, ◌⊎◌, Bool, List, [], ◌∷◌, length, Some, slice_get, get_or, drop, drop-cons, refl, sym, ◌∙◌, ap, subst, inl, inr, arith}
+use Rattle.std.proofs.Common.{IsUtf8, chars, encode_utf8, encode_utf8_all, length-append}
 use Rattle.std.proofs.lemmas.Option.{slice_get_within}
+use Rattle.std.proofs.lemmas.Str.{encodes-chars, len_utf8_bounds, length-encode, length-le-encodes}
 use Rattle.std.proofs.Math.Nat.{mul-le-mul_left, mul-le-mul_right}
 use Rattle.wax_program.specs.declared.instruction.Test.{Test}
 use Rattle.wax_program.specs.declared.instruction.Instruction.{Instruction}
@@ -297,6 +299,24 @@ pub reads_within : (len i n old new : ℕ) → i ≤ n → new ≤ old + len * i
 reads_within len i n old new le h =
     let a : len * (i + 1) ≤ len * (n + 1) = mul-le-mul_left len (let e : i + 1 ≤ n + 1 = omega (arith, le) in e) in
     omega (arith, a, h)
+
+-- so many rounds, one more, and what is left is counted by its bytes
+pub reads_passed : (len m r n bytes old met mid passed new : ℕ) → 4 ≤ len → (m + 1) + r ≡ n → bytes ≤ 4 * r → met ≤ old + len * m → mid ≤ met + len
+    → passed ≤ mid + bytes → new ≤ passed + len → new ≤ old + len * (n + 1)
+reads_passed len m r n bytes old met mid passed new wide e few a b d h =
+    let less : 4 * r ≤ len * r = mul-le-mul_right r (let k : 4 ≤ len = wide in k) in
+    subst (λ k. new ≤ old + len * (k + 1)) e (omega (arith, less, few, a, b, d, h))
+
+-- a character takes one to four bytes
+pub chars_few : (bs : List ℕ) → IsUtf8 bs → (length (chars bs) ≤ length bs) × (length bs ≤ 4 * length (chars bs))
+chars_few bs utf8 = (omega (arith, length-le-encodes (chars bs), same), omega (arith, four (chars bs), same))
+  where
+    same : length (encode_utf8_all (chars bs)) ≡ length bs
+    same = ap length (encodes-chars bs utf8)
+
+    four : (cs : List ℕ) → length (encode_utf8_all cs) ≤ 4 * length cs
+    four [] = omega arith
+    four (c ∷ cs) = omega (arith, four cs, length-append (encode_utf8 c) (encode_utf8_all cs), length-encode c, (len_utf8_bounds c).1)
 
 -- a longer program
 pub reads_longer : (len most n old new : ℕ) → len < most → new ≤ old + len * (n + 1) → new ≤ old + most * (n + 1)

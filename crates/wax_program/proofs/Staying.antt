@@ -1,5 +1,6 @@
 -- Sets of places that most characters leave as they are.
-use Rattle.std.proofs.Common.{◌≡◌, ◌≢◌, ◌≤◌, ◌+◌, ◌-◌, ◌⊎◌, ◌↔◌, ℕ, zero, suc, Bool, List, [], ◌∷◌, Option, Some, None, IfSome, IsSomeAnd, length, slice_get, sym, ◌∙◌, subst, inl, inr, arith}
+use Rattle.std.proofs.Common.{◌≡◌, ◌≢◌, ◌≤◌, ◌+◌, ◌-◌, ◌⊎◌, ◌↔◌, ℕ, zero, suc, Bool, List, [], ◌∷◌, Option, Some, None, IfSome, IsSomeAnd, IsTrue, length, slice_get, sym, ◌∙◌, subst, inl, inr, arith}
+use Rattle.std.proofs.lemmas.Bool.Decides.{eqb_tells}
 use Rattle.std.proofs.lemmas.Option.{slice_get_within}
 use Rattle.wax_program.specs.declared.instruction.Test.{Test}
 use Rattle.wax_program.specs.declared.instruction.Test.TheVariants.{NotSlash, Any}
@@ -10,7 +11,7 @@ use Rattle.wax_program.specs.declared.steady.Watch.{Watch}
 use Rattle.wax_program.specs.declared.steady.Watch.TheVariants.{Nothing, Place, Lost}
 use Rattle.wax_program.specs.Bits.{places_of}
 use Rattle.wax_program.specs.Machine.{Passes, Moves, AcceptsIn}
-use Rattle.wax_program.specs.Steady.{Alike, Comes, Covers, IsKnown, Lets, Noted, NotedMiss, NotedRepeat}
+use Rattle.wax_program.specs.Steady.{Alike, Comes, Covers, IsAbsorbing, IsKnown, Lets, Noted, NotedMiss, NotedRepeat}
 use Rattle.wax_program.specs.Threads.{Has, Position, IsDone, Reached, Taken, Followed, Round, Led, AnyOf, Advances}
 use Rattle.wax_program.proofs.Advancing.{in_range, round_end, was_read}
 
@@ -130,7 +131,12 @@ module _ (code : List Instruction) (c : ℕ) (old : List Bool) (p : Position) (s
   pub round_known : (watch : Watch) → ((x : ℕ) → Has p.read x → Covers code c watch x) → (here : Option ℕ) → IfSome here (λ word. old ≡ places_of word) →
       (result : Option Steady) → IfSome result (Comes code c p.next here watch) → IfSome result (IsKnown code)
   round_known watch covers here began None h = tt
-  round_known watch covers here began (Some s) h = (h.below, (λ d dn missed. steady d dn (h.lets d missed)), (λ t. absurd (h.not_by_slash t)))
+  round_known watch covers here began (Some s) h = let known : IsKnown code s = record {
+    below = h.below;
+    steady = λ d dn missed. steady d dn (h.lets d missed);
+    slash = λ t. absurd (h.not_by_slash t);
+    others = λ t d dn. steady d dn (h.others t d);
+  } in known
     where
       is : old ≡ places_of s.word
       is = let e : IfSome (Some s.word) (λ word. old ≡ places_of word) = subst (λ z. IfSome z (λ word. old ≡ places_of word)) h.began began in e
@@ -144,3 +150,15 @@ pub slash_back : (code : List Instruction) (c : ℕ) (old next : List Bool) (her
 slash_back code c old next None e a h g = tt
 slash_back code c old next (Some word) e a h g =
     subst (λ z. Advances code z (places_of word) (places_of word)) e (subst (λ z. Advances code c z (places_of word)) h (subst (λ z. Advances code c old z) g a))
+
+-- ---- a set that each character leads back to
+pub absorbing : (code : List Instruction) (s : Steady) (set : List Bool) → IsKnown code s → IsTrue s.by_slash → IsTrue s.by_others → set ≡ places_of s.word → IsAbsorbing code set
+absorbing code s set known slash others e d = subst (λ z. Advances code d z z) (sym e) (elim (eqb_tells d 47) [
+  | inl h ↦ subst (λ z. Advances code z (places_of s.word) (places_of s.word)) (sym h.1) (known.slash slash)
+  | inr h ↦ known.others others d h.1
+])
+
+-- what is left of the text changes nothing
+pub absorbed : (code : List Instruction) (set : List Bool) → IsAbsorbing code set → (s : List ℕ) → AnyOf code set s ↔ AnyOf code set []
+absorbed code set a [] = ((λ h. h), (λ h. h))
+absorbed code set a (d ∷ s) = ((λ h. (absorbed code set a s).0 ((a d).onward s h)), (λ h. (a d).backward s ((absorbed code set a s).1 h)))

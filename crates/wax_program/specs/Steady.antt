@@ -19,9 +19,16 @@ Misses code k c = (t : Test) → slice_get code k ≡ Some (Check t) → Passes 
 abbrev pub IsSteady : List Instruction → List Bool → ℕ → Type 0
 IsSteady code set watch = (d : ℕ) → d ≢ 47 → Misses code watch d → Advances code d set set
 
--- such a set of the program
-abbrev pub IsKnown : List Instruction → Steady → Type 0
-IsKnown code s = (s.watch < length code) × IsSteady code (places_of s.word) s.watch × (IsTrue s.by_slash → Advances code 47 (places_of s.word) (places_of s.word))
+-- the set leads to itself by each character
+abbrev pub IsAbsorbing : List Instruction → List Bool → Type 0
+IsAbsorbing code set = (d : ℕ) → Advances code d set set
+
+-- such a set of the program, and by which characters it is known to lead to itself
+pub record IsKnown (code : List Instruction) (s : Steady) : Type 0 where
+  pub below : s.watch < length code
+  pub steady : IsSteady code (places_of s.word) s.watch
+  pub slash : IsTrue s.by_slash → Advances code 47 (places_of s.word) (places_of s.word)
+  pub others : IsTrue s.by_others → (d : ℕ) → d ≢ 47 → Advances code d (places_of s.word) (places_of s.word)
 
 -- the instruction does the same by both characters
 abbrev pub Alike : Instruction → ℕ → ℕ → Type 0
@@ -63,3 +70,4 @@ pub record Comes (code : List Instruction) (c : ℕ) (next : List Bool) (here : 
   pub below : s.watch < length code
   pub lets : (d : ℕ) → Misses code s.watch d → Lets code watch d
   pub not_by_slash : IsTrue s.by_slash → ⊥
+  pub others : IsTrue s.by_others → (d : ℕ) → Lets code watch d

@@ -8,6 +8,7 @@ use crate::machine::{Meter, Program};
 use crate::narrow::Narrow;
 use crate::rounds::{finish, step};
 use crate::rows::Rows;
+use crate::steady::absorbs;
 use crate::wide::Wide;
 use std::alloc::Global;
 use wax_query::diagnostics::NoMemory;
@@ -36,7 +37,8 @@ pub fn run(
     Ok(run_over(program, text, &mut rows, meter))
 }
 
-/// The same, over empty rows.
+/// The same, over empty rows. Once no character changes anything any more, the rest of the text is counted
+/// at once, by its bytes: there are no fewer of them than characters, and at most four times as many.
 fn run_over<R: Rows>(program: &Program, text: &str, rows: &mut R, meter: &mut Meter) -> bool
     requires size { (R.position rows.old).size ≡ length program.now.0 }
     requires few { length program.now.0 < program.now.1 }
@@ -50,9 +52,14 @@ fn run_over<R: Rows>(program: &Program, text: &str, rows: &mut R, meter: &mut Me
 {
     rows.insert(0);
     let mut steady = None;
-    for c in text.chars() {
+    let mut left = text.chars();
+    while let Some(c) = left.next() {
         if !step(program, c, rows, &mut steady, meter) {
             return false;
+        }
+        if c == '/' && program.len() >= 4 && absorbs(program, rows, steady) {
+            meter.pass(left.as_str().len());
+            return finish(program, rows, meter);
         }
     }
     finish(program, rows, meter)

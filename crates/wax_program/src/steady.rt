@@ -2,7 +2,7 @@
 ghost use Rattle.std.specs.Prelude.{◌≡◌, ◌+◌, ◌≤◌, ℕ, List, IfSome, IsTrue, min};
 ghost use Rattle.wax_program.specs.Machine.{Passes};
 ghost use Rattle.wax_program.specs.Meter.{most_ticks};
-ghost use Rattle.wax_program.specs.Steady.{IsKnown, Lets, Misses, NotedMiss, NotedRepeat};
+ghost use Rattle.wax_program.specs.Steady.{IsAbsorbing, IsKnown, Lets, Misses, NotedMiss, NotedRepeat};
 ghost use Rattle.wax_program.specs.Threads.{Advances};
 
 use crate::instruction::{Instruction, Test};
@@ -16,6 +16,8 @@ pub struct Steady {
     pub watch: usize,
     /// Whether it leads to itself by `/` too.
     pub by_slash: bool,
+    /// Whether it leads to itself by each character but `/`.
+    pub by_others: bool,
 }
 
 /// Which characters but `/` do what the character of a round did, by the instructions that were read.
@@ -66,6 +68,17 @@ impl Watch {
             Watch::Lost => None,
         }
     }
+
+    /// Whether no character has to be told from others.
+    #[inline(always)]
+    pub fn is_nothing(self) -> bool
+        ensures { IsTrue result → (code : List Instruction) (d : ℕ) → Lets code self d }
+    {
+        match self {
+            Watch::Nothing => true,
+            _ => false,
+        }
+    }
 }
 
 /// Whether the instruction is no check that takes the character.
@@ -105,4 +118,18 @@ pub fn stays<R: Rows>(
     let is_missed = misses(program.fetch(known.watch, &mut visits), c);
     meter.add(visits);
     c == '/' || is_missed
+}
+
+/// Whether each character is known to lead from the places that are to be read back to them, so that no
+/// further character changes anything.
+#[inline(always)]
+#[tactic(auto, using(crate::proofs::Staying::absorbing))]
+pub fn absorbs<R: Rows>(program: &Program, rows: &R, steady: Option<Steady>) -> bool
+    requires known { IfSome steady (IsKnown program.now.0) }
+    ensures { IsTrue result → IsAbsorbing program.now.0 (R.position rows.now).pending }
+{
+    let Some(known) = steady else {
+        return false;
+    };
+    known.by_slash && known.by_others && rows.is_at(known.word)
 }

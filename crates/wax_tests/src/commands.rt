@@ -1,5 +1,6 @@
 //! What `run_globs` does, and how words are read.
 
+use crate::files::no_files;
 use crate::streams::{Narrow, Slow};
 use std::alloc::{AllocError, Global};
 use std::env::FillError;
@@ -12,7 +13,7 @@ use wax_commands::{run_globs, words};
 const USAGE: &[u8] = b"usage: globs match EXPR
        globs captures EXPR
        globs query EXPR
-       globs walk START EXPR [not EXPR].. [min N] [max N]
+       globs walk START EXPR [not EXPR].. [min N] [max N] [ignore FILE]
 ";
 
 fn words_of(alloc: Global, texts: &[&str]) -> Result<Vec<Option<String>>, AllocError> {
@@ -53,6 +54,7 @@ fn wrong_words_give_the_usage_text(rt: HostRuntime) -> Result<(), Fail> {
             &mut output,
             &mut faults,
             nothing(rt.alloc())?,
+            no_files,
         );
         assert_eq!(rt; status, 2);
         assert_eq!(rt; input.calls(), 0);
@@ -76,6 +78,7 @@ fn a_word_that_is_not_text_is_wrong(rt: HostRuntime) -> Result<(), Fail> {
         &mut output,
         &mut faults,
         nothing(rt.alloc())?,
+        no_files,
     );
     assert_eq!(rt; status, 2);
     assert_eq!(rt; faults.as_slice(), USAGE);
@@ -169,6 +172,7 @@ fn refused_builds_print_their_reason(rt: HostRuntime) -> Result<(), Fail> {
                 &mut output,
                 &mut faults,
                 nothing(rt.alloc())?,
+                no_files,
             );
             assert_eq!(rt; status, 1);
             assert_eq!(rt; input.calls(), 0);
@@ -213,6 +217,7 @@ fn lines_that_are_not_text_are_counted(rt: HostRuntime) -> Result<(), Fail> {
             &mut output,
             &mut faults,
             nothing(rt.alloc())?,
+            no_files,
         );
         assert_eq!(rt; status, want_status);
         assert_eq!(rt; output.into_inner().as_slice(), want);
@@ -259,6 +264,7 @@ fn captures_are_written_with_tabs(rt: HostRuntime) -> Result<(), Fail> {
             &mut output,
             &mut faults,
             nothing(rt.alloc())?,
+            no_files,
         );
         assert_eq!(rt; status, want_status);
         assert_eq!(rt; output.into_inner().as_slice(), want);
@@ -285,6 +291,7 @@ fn a_failed_read_is_told_after_the_lines_before(rt: HostRuntime) -> Result<(), F
             &mut output,
             &mut faults,
             nothing(rt.alloc())?,
+            no_files,
         );
         assert_eq!(rt; status, 1);
         assert_eq!(rt; output.into_inner().as_slice(), want);
@@ -308,6 +315,7 @@ fn a_failed_write_is_told(rt: HostRuntime) -> Result<(), Fail> {
             &mut output,
             &mut faults,
             nothing(rt.alloc())?,
+            no_files,
         );
         assert_eq!(rt; status, 1);
         assert_eq!(rt; output.into_inner().taken.as_slice(), want);
@@ -335,6 +343,7 @@ fn untold_faults_change_nothing_else(rt: HostRuntime) -> Result<(), Fail> {
             &mut output,
             &mut faults,
             nothing(rt.alloc())?,
+            no_files,
         );
         assert_eq!(rt; status, want_status);
         assert_eq!(rt; output.into_inner().as_slice(), want);
@@ -379,6 +388,7 @@ fn a_query_writes_what_is_known(rt: HostRuntime) -> Result<(), Fail> {
             &mut output,
             &mut faults,
             nothing(rt.alloc())?,
+            no_files,
         );
         assert_eq!(rt; status, 0);
         assert_eq!(rt; input.calls(), 0);
@@ -401,6 +411,7 @@ fn a_failed_write_of_a_query_is_told(rt: HostRuntime) -> Result<(), Fail> {
         &mut output,
         &mut faults,
         nothing(rt.alloc())?,
+        no_files,
     );
     assert_eq!(rt; status, 1);
     assert_eq!(rt; output.into_inner().taken.as_slice(), b"depth 1".as_slice());

@@ -7,6 +7,8 @@ mod commands;
 #[cfg(test)]
 mod escapes;
 #[cfg(test)]
+mod files;
+#[cfg(test)]
 mod folds;
 #[cfg(test)]
 mod ignores;

@@ -1,5 +1,6 @@
 //! What the command `walk` writes and tells.
 
+use crate::files::{held, no_files};
 use crate::streams::Narrow;
 use std::alloc::{AllocError, Global};
 use std::fs;
@@ -11,7 +12,7 @@ use wax_commands::run_globs;
 const USAGE: &[u8] = b"usage: globs match EXPR
        globs captures EXPR
        globs query EXPR
-       globs walk START EXPR [not EXPR].. [min N] [max N]
+       globs walk START EXPR [not EXPR].. [min N] [max N] [ignore FILE]
 ";
 
 fn words_of(alloc: Global, texts: &[&str]) -> Result<Vec<Option<String>>, AllocError> {
@@ -78,7 +79,15 @@ fn run<D: Directory>(alloc: Global, texts: &[&str], directory: D) -> Result<Ran,
     let mut input = Counted::new(b"a\n".as_slice());
     let mut output = Counted::new(Vec::new(alloc));
     let mut told = Vec::new(alloc);
-    let status = run_globs(alloc, &words, &mut input, &mut output, &mut told, directory);
+    let status = run_globs(
+        alloc,
+        &words,
+        &mut input,
+        &mut output,
+        &mut told,
+        directory,
+        |file| { held(alloc, file) },
+    );
     if input.calls() != 0 {
         return Err(Fail::from("the input was read"));
     }
@@ -91,7 +100,7 @@ fn run<D: Directory>(alloc: Global, texts: &[&str], directory: D) -> Result<Ran,
 
 #[test]
 fn candidates_are_written(rt: HostRuntime) -> Result<(), Fail> {
-    let cases: [(&[&str], &[u8]); 13] = [
+    let cases: [(&[&str], &[u8]); 19] = [
         (
             &["", "**/*.rs"],
             b"src/lib.rs\nsrc/a/mod.rs\ntarget/lib.rs\n",
@@ -132,6 +141,24 @@ fn candidates_are_written(rt: HostRuntime) -> Result<(), Fail> {
             &["", "**/lib.*", "min", "2", "not", "target/*", "max", "2"],
             b"src/lib.rs\n",
         ),
+        (
+            &["", "**/*.rs", "ignore", "empty"],
+            b"src/lib.rs\nsrc/a/mod.rs\ntarget/lib.rs\n",
+        ),
+        (
+            &["", "**/*.rs", "ignore", "targets"],
+            b"src/lib.rs\nsrc/a/mod.rs\n",
+        ),
+        (
+            &["", "**", "not", "target/**", "ignore", "notes"],
+            b"\nsrc\nsrc/lib.rs\nsrc/a/mod.rs\n",
+        ),
+        (
+            &["", "**", "ignore", "notes", "min", "2", "not", "target/**"],
+            b"src/lib.rs\nsrc/a/mod.rs\n",
+        ),
+        (&["src", "**", "max", "1", "ignore", "notes"], b"\nlib.rs\n"),
+        (&["", "target/*", "ignore", "targets"], b""),
     ];
     for (texts, want) in cases {
         let ran = run(rt.alloc(), texts, project(rt.alloc())?)?;
@@ -153,9 +180,12 @@ fn a_line_feed_is_written_as_it_is(rt: HostRuntime) -> Result<(), Fail> {
 
 #[test]
 fn wrong_words_of_walks_give_the_usage_text(rt: HostRuntime) -> Result<(), Fail> {
-    let cases: [&[&str]; 20] = [
+    let cases: [&[&str]; 23] = [
         &[],
         &[""],
+        &["", "**", "ignore"],
+        &["", "**", "Ignore", "empty"],
+        &["", "**", "ignore", "empty", "not", "a", "ignore", "empty"],
         &["", "**", "not"],
         &["", "**", "a"],
         &["", "**", "a", "b"],
@@ -186,7 +216,9 @@ fn wrong_words_of_walks_give_the_usage_text(rt: HostRuntime) -> Result<(), Fail>
 
 #[test]
 fn a_word_of_a_walk_that_is_not_text_is_wrong(rt: HostRuntime) -> Result<(), Fail> {
-    let all: [&str; 8] = ["", "**", "not", "a", "min", "1", "max", "1"];
+    let all: [&str; 10] = [
+        "", "**", "not", "a", "min", "1", "max", "1", "ignore", "empty",
+    ];
     for k in 0..all.len() {
         let mut words = words_of(rt.alloc(), &all[..k])?;
         words.push(None)?;
@@ -197,7 +229,15 @@ fn a_word_of_a_walk_that_is_not_text_is_wrong(rt: HostRuntime) -> Result<(), Fai
         let mut output = Counted::new(Vec::new(rt.alloc()));
         let mut told = Vec::new(rt.alloc());
         let tree = project(rt.alloc())?;
-        let status = run_globs(rt.alloc(), &words, &mut input, &mut output, &mut told, tree);
+        let status = run_globs(
+            rt.alloc(),
+            &words,
+            &mut input,
+            &mut output,
+            &mut told,
+            tree,
+            no_files,
+        );
         assert_eq!(rt; status, 2);
         assert_eq!(rt; output.calls(), 0);
         assert_eq!(rt; told.as_slice(), USAGE);
@@ -210,7 +250,19 @@ fn the_first_refused_build_is_told(rt: HostRuntime) -> Result<(), Fail> {
     let parse = "globs: failed to parse glob expression\n";
     let slashes = "globs: malformed glob expression: adjacent component boundaries `/` or `**`\n";
     let size = "globs: failed to compile glob: oversized program\n";
-    let cases: [(&[&str], &str); 6] = [
+    let unread = "globs: nowhere: read failed\n";
+    let bytes = "globs: bytes: not text\n";
+    let line =
+        "globs: bad line:3: malformed glob expression: adjacent component boundaries `/` or `**`\n";
+    let memory = "globs: no memory\n";
+    let cases: [(&[&str], &str); 13] = [
+        (&["", "**", "ignore", "nowhere"], unread),
+        (&["", "**", "ignore", "bytes", "not", "{"], bytes),
+        (&["", "**", "min", "1", "ignore", "bad line"], line),
+        (&["", "**", "ignore", "no memory"], memory),
+        (&["", "**", "not", "{", "ignore", "nowhere"], parse),
+        (&["", "**", "ignore", "nowhere", "not", "{"], unread),
+        (&["", "{", "ignore", "nowhere"], parse),
         (&["", "{", "not", "a//b"], parse),
         (&["", "a//b", "not", "{"], slashes),
         (&["", "**", "not", "{"], parse),
@@ -290,7 +342,15 @@ fn lines_go_out_as_the_walk_goes(rt: HostRuntime) -> Result<(), Fail> {
     let mut output = Counted::new(Vec::new(rt.alloc()));
     let mut told = Vec::new(rt.alloc());
     let tree = many(rt.alloc())?;
-    let status = run_globs(rt.alloc(), &words, &mut input, &mut output, &mut told, tree);
+    let status = run_globs(
+        rt.alloc(),
+        &words,
+        &mut input,
+        &mut output,
+        &mut told,
+        tree,
+        no_files,
+    );
     assert_eq!(rt; status, 0);
     assert_eq!(rt; output.calls(), 2);
     let mut want = Vec::new(rt.alloc());
@@ -304,7 +364,15 @@ fn lines_go_out_as_the_walk_goes(rt: HostRuntime) -> Result<(), Fail> {
         let mut output = Counted::new(failing_after(rt.alloc(), room));
         let mut told = Vec::new(rt.alloc());
         let tree = many(rt.alloc())?;
-        let status = run_globs(rt.alloc(), &words, &mut input, &mut output, &mut told, tree);
+        let status = run_globs(
+            rt.alloc(),
+            &words,
+            &mut input,
+            &mut output,
+            &mut told,
+            tree,
+            no_files,
+        );
         assert_eq!(rt; status, 1);
         assert_eq!(rt; told.as_slice(), b"globs: write failed\n".as_slice());
         let taken = output.into_inner().taken;
@@ -343,6 +411,7 @@ fn untold_errors_of_walks_change_nothing_else(rt: HostRuntime) -> Result<(), Fai
             &mut output,
             &mut faults,
             tree,
+            no_files,
         );
         assert_eq!(rt; status, want);
         let written = output.into_inner();

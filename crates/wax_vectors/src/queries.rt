@@ -17,7 +17,15 @@ pub fn query_row(alloc: Global, expression: &str) -> Result<String, AllocError> 
     let Ok(nothing) = Tree::new(alloc, Node::File, Node::File) else {
         return Err(AllocError);
     };
-    let status = run_globs(alloc, &words, &mut input, &mut output, &mut faults, nothing);
+    let status = run_globs(
+        alloc,
+        &words,
+        &mut input,
+        &mut output,
+        &mut faults,
+        nothing,
+        no_files,
+    );
     if status != 0 {
         return format!(in alloc; "{expression}\tnot built");
     }

@@ -29,7 +29,7 @@ use Rattle.wax_wanted.specs.Candidates.{base, text_at}
 use Rattle.wax_wanted.specs.inner.Descents.{At, child_spot}
 use Rattle.wax_wanted.specs.Premises.{BoundsNames, CanWalk, IsPlainShown, IsWellNamed}
 use Rattle.wax_wanted.specs.Walked.{path_from, MayList, way_spot, plain_walk, glob_walk, wanted_entries}
-use Rattle.wax_wanted.specs.Wanted.{Wanted, none_means, is_wanted, is_kept_entry, stacked, rules_of}
+use Rattle.wax_wanted.specs.Wanted.{Wanted, none_leaves_out, is_wanted, is_kept_entry, stacked, rules_of}
 
 chars_same : (x y : List ℕ) → IsUtf8 x → IsUtf8 y → chars x ≡ chars y → x ≡ y
 chars_same x y u v e = sym (encodes-chars x u) ∙ ap encode_utf8_all e ∙ encodes-chars y v
@@ -57,7 +57,7 @@ module _ {A : Type 0} (w : Wanted A) where
       → is_wanted w (plain_entry scope at kind) ≡ false
   unmeant scope at kind names a n =
       let s = chars at.candidate in
-      ap (λ b. b && none_means w.nots s)
+      ap (λ b. b && none_leaves_out w.filters s)
       (untrue (means_test w.glob false false s) (λ m. n (subst (λ v. Means w.glob false false v)
       (ap chars a.candidate_is ∙ chars_joined w.rooted names a.are_plain)
       ((means_tested w.glob false false s).0 m))))

@@ -2,7 +2,9 @@ pub mod Adjacent
 pub mod Components
 pub mod Descending
 pub mod Empty
+pub mod Filters
 pub mod Headline
+pub mod Ignored
 pub mod Ignores
 pub mod Leading
 pub mod Listing

@@ -4,13 +4,11 @@ use Rattle.std.proofs.Common.{refl, sym, ap, subst, ◌∙◌, inl, inr, arith, 
 use Rattle.std.specs.Prelude.{nat_lt, ⊤, All}
 use Rattle.std.proofs.lemmas.Bool.{ltb-true}
 use Rattle.std.proofs.lemmas.List.Elements.{All-append, All-cons, All-nil, All-weaker}
-use Rattle.wax_alternatives.specs.Alternatives.{alternatives}
 use Rattle.wax_directory.specs.declared.directory.FileType.{FileType}
 use Rattle.wax_directory.specs.declared.directory.FileType.TheVariants.{Folder}
 use Rattle.wax_directory.specs.Shown.{Items, end, leaf, folder, sealed, misnamed, unread, not_text, Shown}
 use Rattle.wax_directory.specs.Shown.{a_leaf, a_folder, a_sealed, missing, failing, leaf_kind, join, IsPlain}
 use Rattle.wax_token.specs.Decided.{means_test}
-use Rattle.wax_token.specs.Syntax.{Tree}
 use Rattle.wax_tree.specs.Begins.{Way, scope_in}
 use Rattle.wax_tree.specs.declared.steps.Range.{Range}
 use Rattle.wax_tree.specs.Plain.{Scope, Spot, one_deeper, plain_entry, items_forest, plain_at}
@@ -19,16 +17,16 @@ use Rattle.wax_walk.specs.Forest.{Forest, nothing, item, lists, listings, follow
 use Rattle.wax_walk.specs.Given.{Facts, Mark, kept, alone, with_tree, Given, entry, fault, combined_mark}
 use Rattle.wax_walk.specs.Given.{is_cut}
 use Rattle.wax_walk.specs.Given.{changed_by, cut_by}
-use Rattle.wax_wanted.proofs.Descending.{not_descends}
+use Rattle.wax_wanted.proofs.Filters.{filter_descends, below_said}
 use Rattle.wax_wanted.proofs.Names.{at_join, at_sees, names_chars}
-use Rattle.wax_wanted.proofs.Tests.{lead_tested, covers_tested}
+use Rattle.wax_wanted.proofs.Tests.{lead_tested}
 use Rattle.wax_wanted.specs.Candidates.{AreNames, candidate_at, text_at}
 use Rattle.wax_wanted.specs.inner.Descents.{said_of, At, child_spot}
 use Rattle.wax_wanted.specs.Leading.{leading_of, lead_test}
-use Rattle.wax_wanted.specs.Marks.{led_mark, covered_mark, glob_mark, not_mark}
+use Rattle.wax_wanted.specs.Marks.{led_mark, glob_mark}
 use Rattle.wax_wanted.specs.Premises.{ArePlainItems, IsPlainShown}
 use Rattle.wax_wanted.specs.Walked.{path_from, AreUncovered, MayList}
-use Rattle.wax_wanted.specs.Wanted.{Wanted, stacked, not_rules, rules_of}
+use Rattle.wax_wanted.specs.Wanted.{Filter, Wanted, stacked, filter_mark, filter_rules, rules_of}
 
 -- no rule leaves it out with what lies below it
 abbrev NoneLeaves : List (Facts → Mark) → Facts → Type 0
@@ -263,20 +261,19 @@ module _ (rooted : Bool) (scope : Scope) (start : List ℕ) (prefix : List (List
   is_led true m n = refl
   is_led false m n = absurd (n refl)
 
-  none_covers : {A : Type 0} (nots : List (Tree A)) (f : Facts) (path : List ℕ) (names : List (List ℕ))
-      → At rooted (spot_of f path) names → NoneLeaves (not_rules nots) f
-      → AreUncovered rooted nots (map chars names)
+  none_covers : {A : Type 0} (filters : List (Filter A)) (f : Facts) (path : List ℕ) (names : List (List ℕ))
+      → At rooted (spot_of f path) names → NoneLeaves (filter_rules filters) f
+      → AreUncovered rooted filters (map chars names)
   none_covers [] f path names a h = tt
-  none_covers (t ∷ nots) f path names a h = (
+  none_covers (x ∷ filters) f path names a h = (
     λ front back e c.
         let n = names_chars names a.are_plain in
-        let k = candidate_at rooted front in
-        let w : said_of rooted (not_mark t) front ≡ with_tree =
-        ap (λ b. covered_mark b (means_test t false false k.text)) ((covers_tested (alternatives t) k).1 c) in
-        h.0 (ap (not_mark t) (at_sees rooted (spot_of f path) names a)
-        ∙ ap (said_of rooted (not_mark t)) (sym e)
-        ∙ not_descends rooted t front back (subst AreNames (sym e) n) w),
-    none_covers nots f path names a h.1,
+        let w : said_of rooted (filter_mark x) front ≡ with_tree =
+        below_said x (candidate_at rooted front) c in
+        h.0 (ap (filter_mark x) (at_sees rooted (spot_of f path) names a)
+        ∙ ap (said_of rooted (filter_mark x)) (sym e)
+        ∙ filter_descends rooted x front back (subst AreNames (sym e) n) w),
+    none_covers filters f path names a h.1,
   )
 
 -- the walk from the end of a way on, in a range
@@ -321,7 +318,7 @@ module _ {A : Type 0} (w : Wanted A) (range : Range) (way : Way) where
             (λ e. n.0 (ap (glob_mark w.rooted w.glob) (at_sees w.rooted at (way.names ++ s.0.names) s.0.place)
             ∙ e)));
         uncovered = λ h.
-            none_covers w.rooted scope way_end way.names w.nots f path (way.names ++ s.0.names) s.0.place n.1;
+            none_covers w.rooted scope way_end way.names w.filters f path (way.names ++ s.0.names) s.0.place n.1;
       }
 
   -- each folder that is listed may be

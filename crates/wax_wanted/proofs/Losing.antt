@@ -19,17 +19,17 @@ use Rattle.wax_walk.proofs.Filtering.{filtered_append}
 use Rattle.wax_walk.specs.Forest.{Forest, nothing, item, lists, listings, followed_by, filtered}
 use Rattle.wax_walk.specs.Given.{Facts, Mark, with_tree, Given, fault, changed_by, cut_by}
 use Rattle.wax_wanted.proofs.Descending.{covered}
-use Rattle.wax_wanted.proofs.Ignores.{below_tested}
+use Rattle.wax_wanted.proofs.Ignored.{below_tested}
 use Rattle.wax_wanted.proofs.Listing.{path_last}
 use Rattle.wax_wanted.proofs.Names.{at_join, at_sees, seen_at}
 use Rattle.wax_wanted.proofs.Stacking.{cut_left}
 use Rattle.wax_wanted.specs.Candidates.{candidate_at}
-use Rattle.wax_wanted.specs.Ignored.{Line, is_ignored, IgnoresBelow, below_test, ignore_mark, ignore_rules}
-use Rattle.wax_wanted.specs.Ignored.{IsIgnoredBelow}
+use Rattle.wax_wanted.specs.Ignored.{Line, is_ignored, IgnoresBelow, below_test, ignore_mark}
 use Rattle.wax_wanted.specs.inner.Descents.{At, child_spot}
 use Rattle.wax_wanted.specs.Marks.{of_candidate}
 use Rattle.wax_wanted.specs.Premises.{ArePlainItems, IsPlainShown}
 use Rattle.wax_wanted.specs.Walked.{path_from}
+use Rattle.wax_wanted.specs.Unignored.{ignore_rules, IsIgnoredBelow}
 use Rattle.wax_wanted.specs.Wanted.{stacked}
 
 -- ---- a filter lists the folders that it doesn't lose

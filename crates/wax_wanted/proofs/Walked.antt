@@ -1,5 +1,5 @@
 -- What a glob's walk keeps is what is wanted.
-use Rattle.std.proofs.Common.{◌≡◌, ℕ, Bool, true, false, ◌&&◌, not, cond, List, [], ◌∷◌, ◌++◌, map, refl}
+use Rattle.std.proofs.Common.{◌≡◌, ℕ, Bool, true, false, ◌&&◌, cond, List, [], ◌∷◌, ◌++◌, map, refl}
 use Rattle.std.proofs.Common.{sym, ap}
 use Rattle.std.proofs.Common.{◌∙◌, chars}
 use Rattle.std.specs.Prelude.{filter, nat_lt, ⊤}
@@ -16,17 +16,18 @@ use Rattle.wax_tree.specs.Plain.{plain_at}
 use Rattle.wax_walk.specs.declared.error.FaultKind.{FaultKind}
 use Rattle.wax_walk.specs.Forest.{Forest, nothing, item, lists, preorder, followed_by}
 use Rattle.wax_walk.specs.Given.{Facts, Given, fault}
-use Rattle.wax_wanted.proofs.Descending.{glob_descends, not_descends, glob_keeps, not_keeps}
+use Rattle.wax_wanted.proofs.Descending.{glob_descends, glob_keeps}
+use Rattle.wax_wanted.proofs.Filters.{filter_descends, filters_keep}
 use Rattle.wax_wanted.proofs.Names.{at_join, at_sees, names_chars, seen_at}
 use Rattle.wax_wanted.proofs.Passing.{passes_at}
 use Rattle.wax_wanted.proofs.Stacking.{stacked_entries}
-use Rattle.wax_wanted.specs.Candidates.{Candidate, candidate_of}
+use Rattle.wax_wanted.specs.Candidates.{Candidate}
 use Rattle.wax_wanted.specs.inner.Descents.{At, child_spot}
 use Rattle.wax_wanted.specs.inner.Stacks.{keeps, all_keep, is_left, AllPassDown}
-use Rattle.wax_wanted.specs.Marks.{glob_mark, not_mark}
+use Rattle.wax_wanted.specs.Marks.{glob_mark}
 use Rattle.wax_wanted.specs.Premises.{ArePlainItems, IsPlainShown}
-use Rattle.wax_wanted.specs.Wanted.{Wanted, none_means, is_wanted, is_kept_entry, stacked, not_rules}
-use Rattle.wax_wanted.specs.Wanted.{rules_of}
+use Rattle.wax_wanted.specs.Wanted.{Filter, Wanted, is_wanted, is_kept_entry, stacked, filter_mark}
+use Rattle.wax_wanted.specs.Wanted.{filter_rules, rules_of}
 
 -- ---- two tests that agree on each item
 
@@ -127,13 +128,6 @@ module _ (p q : Given → Bool) where
 
 -- ---- what the filters keep
 
-nots_keep : {A : Type 0} (nots : List (Tree A)) (f : Facts)
-    → all_keep (not_rules nots) f ≡ none_means nots (chars f.candidate)
-nots_keep [] f = refl
-nots_keep (t ∷ nots) f =
-    ap (λ b. b && all_keep (not_rules nots) f) (not_keeps t (candidate_of f))
-    ∙ ap (λ b. not (means_test t false false (chars f.candidate)) && b) (nots_keep nots f)
-
 glob_keep : {A : Type 0} (rooted : Bool) (t : Tree A) (at : Spot) (names : List (List ℕ))
     → LiteralsHaveNoSlash t
     → At rooted at names
@@ -145,12 +139,12 @@ glob_keep rooted t at names p h =
     ∙ sym (ap (λ (c : Candidate). means_test t false false c.text) e)
 
 module _ {A : Type 0} (w : Wanted A) (scope : Scope) where
-  pass_nots : (at : Spot) (names : List (List ℕ)) (s : Shown) → At w.rooted at names → IsPlainShown s
-      → (nots : List (Tree A)) → AllPassDown (not_rules nots) (plain_at scope at s nothing)
-  pass_nots at names s h x [] = tt
-  pass_nots at names s h x (t ∷ nots) = (
-    passes_at w.rooted (not_mark t) (not_descends w.rooted t) scope at names s h x,
-    pass_nots at names s h x nots,
+  pass_filters : (at : Spot) (names : List (List ℕ)) (s : Shown) → At w.rooted at names → IsPlainShown s
+      → (filters : List (Filter A)) → AllPassDown (filter_rules filters) (plain_at scope at s nothing)
+  pass_filters at names s h x [] = tt
+  pass_filters at names s h x (y ∷ filters) = (
+    passes_at w.rooted (filter_mark y) (filter_descends w.rooted y) scope at names s h x,
+    pass_filters at names s h x filters,
   )
 
   -- the entries that are kept are those of the whole walk from there that are wanted, in order
@@ -161,7 +155,7 @@ module _ {A : Type 0} (w : Wanted A) (scope : Scope) where
   walk_wanted at names s p h x =
       stacked_entries (rules_of w) (plain_at scope at s nothing) (
         passes_at w.rooted (glob_mark w.rooted w.glob) (glob_descends w.rooted w.glob) scope at names s h x,
-        pass_nots at names s h x w.nots,
+        pass_filters at names s h x w.filters,
       )
       ∙ same_filter (is_left (rules_of w)) (is_wanted w) (plain_at scope at s nothing)
       (agree_at (is_left (rules_of w)) (is_wanted w) w.rooted scope (λ ns. ⊤) (λ ns x g. tt)
@@ -173,6 +167,6 @@ module _ {A : Type 0} (w : Wanted A) (scope : Scope) where
         depth = c.depth;
         kind = k;
       } in
-      ap (λ b. b && all_keep (not_rules w.nots) f) (glob_keep w.rooted w.glob c ns p a)
-      ∙ ap (λ b. means_test w.glob false false (chars c.candidate) && b) (nots_keep w.nots f))
+      ap (λ b. b && all_keep (filter_rules w.filters) f) (glob_keep w.rooted w.glob c ns p a)
+      ∙ ap (λ b. means_test w.glob false false (chars c.candidate) && b) (filters_keep w.filters f))
       (λ k p d. refl) at names s h x tt)

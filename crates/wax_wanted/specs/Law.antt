@@ -11,7 +11,7 @@ use Rattle.wax_wanted.specs.Walked.{wanted_entries, glob_walk, MayList}
 use Rattle.wax_wanted.specs.Wanted.{Wanted, is_kept_entry}
 
 -- the entries that are kept are those of the whole walk that are in the range asked for, that the glob means
--- and that no pattern means that is left out, in order
+-- and that no filter leaves out, in order
 abbrev pub GivesWanted : Type 0
 GivesWanted = (w : Wanted Span) (asked walked : Range) (way : Way) (s : Shown)
     → CanWalk w asked walked way → IsWellNamed s → length way.names ≤ walked.max

@@ -2,9 +2,10 @@ pub mod Candidates
 pub mod Leading
 pub mod Covers
 pub mod Marks
+pub mod Ignored
 pub mod Wanted
 pub mod Walked
 pub mod Premises
 pub mod Law
-pub mod Ignored
+pub mod Unignored
 pub mod inner

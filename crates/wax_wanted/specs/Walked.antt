@@ -3,7 +3,6 @@ use Rattle.std.specs.Prelude.{◌≡◌, ℕ, ◌<◌, ◌≤◌, ◌++◌, ◌&
 use Rattle.std.specs.Prelude.{chars}
 use Rattle.wax_alternatives.specs.Alternatives.{alternatives}
 use Rattle.wax_directory.specs.Shown.{Shown, join}
-use Rattle.wax_token.specs.Syntax.{Tree}
 use Rattle.wax_tree.specs.Begins.{Way, scope_in}
 use Rattle.wax_tree.specs.declared.steps.Range.{Range}
 use Rattle.wax_tree.specs.Plain.{Spot, plain_at}
@@ -11,10 +10,11 @@ use Rattle.wax_tree.specs.Prefix.{ArePlain, walk_from}
 use Rattle.wax_tree.specs.Whole.{is_in, whole_at}
 use Rattle.wax_walk.specs.Forest.{Forest, nothing}
 use Rattle.wax_walk.specs.Given.{Given}
-use Rattle.wax_wanted.specs.Candidates.{candidate_at}
+use Rattle.wax_wanted.specs.Candidates.{Candidate, candidate_at}
 use Rattle.wax_wanted.specs.Covers.{CoversSome}
+use Rattle.wax_wanted.specs.Ignored.{IgnoresBelow}
 use Rattle.wax_wanted.specs.Leading.{leading_of, Lead}
-use Rattle.wax_wanted.specs.Wanted.{Wanted, is_wanted, stacked, rules_of}
+use Rattle.wax_wanted.specs.Wanted.{Filter, not_meant, not_ignored, Wanted, is_wanted, stacked, rules_of}
 
 -- the spot where a way begins
 abbrev pub way_spot : Way → Spot
@@ -44,20 +44,25 @@ abbrev pub path_from : List ℕ → List (List ℕ) → List ℕ
 path_from path [] = path
 path_from path (x ∷ names) = path_from (join path x) names
 
--- no alternative covers these names or the first of them
-abbrev pub IsUncovered : {A : Type 0} → Bool → List (Tree A) → List (List ℕ) → Type 0
-IsUncovered rooted ts names = (front back : List (List ℕ)) → front ++ back ≡ names
-    → ¬ (CoversSome ts (candidate_at rooted front))
+-- the filter leaves out the candidate with all that can lie below it: an alternative of the pattern covers it,
+-- or a line that ignores does and no line that takes back stands after that
+abbrev pub LeavesOutBelow : {A : Type 0} → Filter A → Candidate → Type 0
+LeavesOutBelow (not_meant t) c = CoversSome (alternatives t) c
+LeavesOutBelow (not_ignored lines) c = IgnoresBelow lines c
 
--- no pattern's alternatives do
-abbrev pub AreUncovered : {A : Type 0} → Bool → List (Tree A) → List (List ℕ) → Type 0
+-- it doesn't do so with these names or the first of them
+abbrev pub IsUncovered : {A : Type 0} → Bool → Filter A → List (List ℕ) → Type 0
+IsUncovered rooted x names = (front back : List (List ℕ)) → front ++ back ≡ names
+    → ¬ (LeavesOutBelow x (candidate_at rooted front))
+
+-- no filter does
+abbrev pub AreUncovered : {A : Type 0} → Bool → List (Filter A) → List (List ℕ) → Type 0
 AreUncovered rooted [] names = ⊤
-AreUncovered rooted (t ∷ nots) names = IsUncovered rooted (alternatives t) names
-    × AreUncovered rooted nots names
+AreUncovered rooted (x ∷ filters) names = IsUncovered rooted x names × AreUncovered rooted filters names
 
 -- The folder is at or below the end of the way, above the greatest depth; and where it isn't above the least,
--- each of its names is meant by the leading component at its place, and no pattern that is left out covers it
--- or a folder that it lies in.
+-- each of its names is meant by the leading component at its place, and no filter leaves it out, or a folder
+-- that it lies in, with all that lies below.
 pub record MayList {A : Type 0} (w : Wanted A) (range : Range) (way : Way) (listed : List ℕ) : Type 0 where
   pub names : List (List ℕ)
   pub path_is : listed ≡ path_from (path_from way.path way.names) names
@@ -66,4 +71,4 @@ pub record MayList {A : Type 0} (w : Wanted A) (range : Range) (way : Way) (list
   pub are_led : range.min ≤ length (way.names ++ names)
       → Lead (leading_of w.rooted w.glob) (map chars (way.names ++ names))
   pub uncovered : range.min ≤ length (way.names ++ names)
-      → AreUncovered w.rooted w.nots (map chars (way.names ++ names))
+      → AreUncovered w.rooted w.filters (map chars (way.names ++ names))

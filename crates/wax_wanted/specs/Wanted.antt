@@ -1,27 +1,37 @@
--- The entries that a glob means and no pattern that is left out means.
+-- The entries that a glob means and no filter leaves out.
 use Rattle.std.specs.Prelude.{ℕ, Bool, true, false, ◌&&◌, not, List, [], ◌∷◌, chars}
 use Rattle.wax_token.specs.Decided.{means_test}
 use Rattle.wax_token.specs.Syntax.{Tree}
 use Rattle.wax_walk.specs.Forest.{Forest, filtered}
 use Rattle.wax_walk.specs.Given.{Facts, Mark, kept, alone, with_tree, Given, entry, fault, no_memory}
 use Rattle.wax_walk.specs.Given.{changed_by, cut_by}
+use Rattle.wax_wanted.specs.Candidates.{Candidate}
+use Rattle.wax_wanted.specs.Ignored.{Line, is_ignored, ignore_mark}
 use Rattle.wax_wanted.specs.Marks.{glob_mark, not_mark, of_candidate}
 
--- what is wanted of a walk, from the root or not: what the glob means, but not what a pattern means that is
--- left out
+-- a filter of a walk: it leaves out what a pattern means, or what a list of lines ignores
+pub data Filter (A : Type 0) : Type 0 where
+  not_meant : Tree A → Filter A
+  not_ignored : List (Line A) → Filter A
+
+-- what is wanted of a walk, from the root or not: what the glob means and no filter leaves out
 pub record Wanted (A : Type 0) : Type 0 where
   pub rooted : Bool
   pub glob : Tree A
-  pub nots : List (Tree A)
+  pub filters : List (Filter A)
 
--- none of them means the text
-abbrev pub none_means : {A : Type 0} → List (Tree A) → List ℕ → Bool
-none_means [] s = true
-none_means (t ∷ nots) s = not (means_test t false false s) && none_means nots s
+abbrev pub leaves_out : {A : Type 0} → Filter A → List ℕ → Bool
+leaves_out (not_meant t) s = means_test t false false s
+leaves_out (not_ignored lines) s = is_ignored lines s
+
+-- none of them leaves the text out
+abbrev pub none_leaves_out : {A : Type 0} → List (Filter A) → List ℕ → Bool
+none_leaves_out [] s = true
+none_leaves_out (x ∷ filters) s = not (leaves_out x s) && none_leaves_out filters s
 
 abbrev pub is_wanted : {A : Type 0} → Wanted A → Given → Bool
-is_wanted w (entry kept f) = means_test w.glob false false (chars f.candidate) && none_means w.nots
-    (chars f.candidate)
+is_wanted w (entry kept f) =
+    means_test w.glob false false (chars f.candidate) && none_leaves_out w.filters (chars f.candidate)
 is_wanted w (entry alone f) = false
 is_wanted w (entry with_tree f) = false
 is_wanted w (fault kind path depth) = false
@@ -42,10 +52,15 @@ abbrev pub stacked : List (Facts → Mark) → Forest Given → Forest Given
 stacked [] f = f
 stacked (rule ∷ rules) f = stacked rules (filtered (changed_by rule) (cut_by rule) f)
 
-abbrev pub not_rules : {A : Type 0} → List (Tree A) → List (Facts → Mark)
-not_rules [] = []
-not_rules (t ∷ nots) = of_candidate (not_mark t) ∷ not_rules nots
+-- what a filter says of a candidate
+abbrev pub filter_mark : {A : Type 0} → Filter A → Candidate → Mark
+filter_mark (not_meant t) c = not_mark t c
+filter_mark (not_ignored lines) c = ignore_mark lines c
 
--- the glob's walk first, and each pattern that is left out after it
+abbrev pub filter_rules : {A : Type 0} → List (Filter A) → List (Facts → Mark)
+filter_rules [] = []
+filter_rules (x ∷ filters) = of_candidate (filter_mark x) ∷ filter_rules filters
+
+-- the glob's walk first, and each filter after it
 abbrev pub rules_of : {A : Type 0} → Wanted A → List (Facts → Mark)
-rules_of w = of_candidate (glob_mark w.rooted w.glob) ∷ not_rules w.nots
+rules_of w = of_candidate (glob_mark w.rooted w.glob) ∷ filter_rules w.filters

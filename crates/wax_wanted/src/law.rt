@@ -1,7 +1,7 @@
 //! The laws of walks that globs filter, as contracts.
 
-ghost use Rattle.wax_wanted.specs.Ignored.{GivesUnignored, LosesIgnored};
 ghost use Rattle.wax_wanted.specs.Law.{GivesWanted, ListsFew, WantsNothing};
+ghost use Rattle.wax_wanted.specs.Unignored.{GivesUnignored, LosesIgnored};
 
 /// A glob's walk keeps exactly the entries of the plain walk that are wanted, in order; it lists only
 /// folders that may hold some; and where nothing is wanted, it may give nothing and ask nothing.

@@ -21,7 +21,7 @@ use wax_collect::collect_less;
 use wax_directory::directory::Directory;
 use wax_filter::filter::SeparatingFilter;
 use wax_glob_walk::{GlobEntry, walk_of};
-use wax_leading::{Component, Exclusion, Way, leading, way_of};
+use wax_leading::{Component, Way, leading, way_of};
 use wax_query::diagnostics::NoMemory;
 use wax_tree::{Range, WalkBehavior, WalkTree};
 use wax_walk::{Entry, FileIterator, Rule, TreeEntry, WalkError};
@@ -174,39 +174,43 @@ fn walk_in<'g, 't, D: Directory>(
 
 impl<'t> Glob<'t> {
     ghost use Rattle.std.specs.Prelude.{All};
-    ghost use Rattle.wax_collect.specs.Trips.{AreNots, KeepsWanted};
+    ghost use Rattle.wax_collect.specs.Trips.{AreRulesOf, KeepsWanted};
     ghost use Rattle.wax_directory.specs.Shown.{Shown};
     ghost use Rattle.wax_token.specs.Reads.{Span};
-    ghost use Rattle.wax_token.specs.Syntax.{Tree};
     ghost use Rattle.wax_tree.specs.Prefix.{ArePlain};
     ghost use Rattle.wax_walk.specs.Entries.{given_outcome};
     ghost use Rattle.wax_walk.specs.Known.{KnownOutcome};
+    ghost use Rattle.wax_wanted.specs.Wanted.{Filter};
     ghost use Rattle.wax.specs.GlobWalks.{Beginning, trip_of};
 
-    /// The items that are kept of the walk of the glob less what patterns mean, in order, errors among them,
-    /// and the directory: the entries are those of the whole walk, in range, that the glob means and that no
-    /// pattern means. What was captured of each is what the glob captures of its candidate. Where memory is
-    /// refused for the list itself, nothing is answered.
-    pub fn collect_less<D: Directory>(
+    /// The items that are kept of the walk of the glob less what these rules leave out, in order, errors
+    /// among them, and the directory. Where the rules are those of patterns and of ignore lists, in whatever
+    /// order, the entries are those of the whole walk, in range, that the glob means, that no pattern means
+    /// and that no list ignores. What was captured of each is what the glob captures of its candidate. Where
+    /// memory is refused for the list itself, nothing is answered.
+    pub fn collect_less<D, R>(
         &self,
         alloc: Global,
         directory: D,
         start: &str,
         behavior: WalkBehavior,
-        nots: Vec<Exclusion>,
+        rules: Vec<R>,
     ) -> Result<(Vec<Result<GlobEntry, WalkError>>, D), NoMemory>
+    where
+        D: Directory,
+        R: Rule,
         ensures matched { IfOk result
             (λ r. All (KnownOutcome (IsMatchedEntry (IsMeant self.now) (HasCaptures self.now))) r.0.items) }
         ensures wanted { IfOk result (λ r. (depth : Bounds) × Depth self.now.tree depth
-            × ((b : Beginning self.now.tree) (ts : List (Tree Span)) (s : Shown) (listed : List (List ℕ))
-            → AreNots ts (map ⟦<Exclusion as Rule>⟧.rule nots.items) → ArePlain b.names
+            × ((b : Beginning self.now.tree) (filters : List (Filter Span)) (s : Shown)
+            (listed : List (List ℕ)) → AreRulesOf filters (map R.rule rules.items) → ArePlain b.names
             → D.law.shows directory (way_from start.now b.rooted b.names).path s
             → D.law.tells directory listed
             → KeepsWanted (D.law.tells r.1)
-            (trip_of start.now (range_of behavior) depth b ts) s listed
+            (trip_of start.now (range_of behavior) depth b filters) s listed
             (map (given_outcome ⟦<GlobEntry as Entry>⟧.facts ⟦<TreeEntry as Entry>⟧.facts) r.0.items))) }
     {
         let walk = walk_in(alloc, self, directory, start, behavior);
-        collect_less(alloc, walk, nots)
+        collect_less(alloc, walk, rules)
     }
 }

@@ -2,15 +2,15 @@
 use Rattle.std.specs.Prelude.{◌≡◌, ℕ, Bool, List, ◌++◌, Option}
 use Rattle.std.specs.Io.KnownBytes.{Appends}
 use Rattle.std.specs.List.{list_any}
-use Rattle.wax_collect.specs.Trips.{AreNots, ComesWanted, KeepsWanted, MayGo, Trip, trip_less, trip_walk}
+use Rattle.wax_collect.specs.Trips.{AreRulesOf, ComesWanted, KeepsWanted, MayGo, Trip, trip_less, trip_walk}
 use Rattle.wax_directory.specs.Law.{Law}
 use Rattle.wax_directory.specs.Shown.{Shown}
 use Rattle.wax_token.specs.Reads.{Span}
-use Rattle.wax_token.specs.Syntax.{Tree}
 use Rattle.wax_walk.specs.Collected.{Took}
 use Rattle.wax_walk.specs.Forest.{Pending, all_pending, preorder}
 use Rattle.wax_walk.specs.Given.{Facts, Given, Mark}
 use Rattle.wax_walk.specs.View.{WalkView}
+use Rattle.wax_wanted.specs.Wanted.{Filter}
 use Rattle.wax_commands.specs.Candidates.{candidate_lines, is_error}
 
 -- of what waits and a line, some bytes were written, and the others wait. `held` is what the writer holds,
@@ -34,14 +34,14 @@ WroteSome walk held held' = (bytes : List ℕ) × Appends held held' bytes
     × ((p : Pending Given) → walk.to_come p
     → (unwritten : List ℕ) × (bytes ++ unwritten ≡ candidate_lines (preorder (all_pending p))))
 
--- ---- less what patterns mean
+-- ---- less what filters leave out
 
 module _ {D C : Type 0} (law : Law D C) (walk : WalkView D) (rules : List (Facts → Mark)) where
-  -- what holds of each trip whose walk is seen, less what patterns mean, where the rules are theirs
+  -- what holds of each trip whose walk is seen, less what filters leave out, where the rules are theirs
   abbrev pub OnTrips : (Trip → Shown → List (List ℕ) → Type 0) → Type 0
-  OnTrips P = (d : D) (trip : Trip) (ts : List (Tree Span)) (s : Shown) (listed : List (List ℕ))
-      → ComesWanted law d trip walk → AreNots ts rules → MayGo (trip_less trip ts)
-      → law.shows d trip.way.path s → law.tells d listed → P (trip_less trip ts) s listed
+  OnTrips P = (d : D) (trip : Trip) (filters : List (Filter Span)) (s : Shown) (listed : List (List ℕ))
+      → ComesWanted law d trip walk → AreRulesOf filters rules → MayGo (trip_less trip filters)
+      → law.shows d trip.way.path s → law.tells d listed → P (trip_less trip filters) s listed
 
   -- what is wanted of the walk was taken to its end, and the lines of its items were written
   pub record WroteWanted (held held' : Option (List ℕ)) (has_errors : Bool) : Type 0 where

@@ -1,10 +1,10 @@
 -- What is read of the words of a walk. Only private functions cite this file.
-use Rattle.std.specs.Prelude.{◌≡◌, ◌≤◌, ◌⊎◌, ⊤, ℕ, List, [], ◌∷◌, ◌++◌, length, Option, Some, None}
+use Rattle.std.specs.Prelude.{◌≡◌, ◌≤◌, ◌+◌, ◌⊎◌, ⊤, ℕ, Bool, true, false, List, [], ◌∷◌, ◌++◌, length, Option, Some, None}
 use Rattle.std.specs.Prelude.{String, string_bytes}
 use Rattle.wax_tree.specs.Depths.{greatest, least}
-use Rattle.wax_commands.specs.Commands.{WalkOption, WalkRequest, SayEach, greatest_in, greatests_in}
-use Rattle.wax_commands.specs.Commands.{least_in, leasts_in}
-use Rattle.wax_commands.specs.declared.walk_words.DepthWords.{DepthWords}
+use Rattle.wax_commands.specs.Commands.{WalkOption, WalkRequest, SayEach, count_lists, greatest_in}
+use Rattle.wax_commands.specs.Commands.{greatests_in, least_in, leasts_in}
+use Rattle.wax_commands.specs.declared.walk_words.OptionWords.{OptionWords}
 use Rattle.wax_commands.specs.declared.walk_words.WalkWords.{WalkWords}
 
 -- none or one
@@ -12,19 +12,28 @@ abbrev pub all_in : Option ℕ → List ℕ
 all_in None = []
 all_in (Some n) = n ∷ []
 
+abbrev pub one_if : Bool → ℕ
+one_if true = 1
+one_if false = 0
+
 -- these bounds were said by these options
-pub record AreSaidBy (bounds : DepthWords) (options : List WalkOption) : Type 0 where
+pub record AreSaidBy (bounds : OptionWords) (options : List WalkOption) : Type 0 where
   pub least : leasts_in options ≡ all_in bounds.lower
   pub greatest : greatests_in options ≡ all_in bounds.upper
+  pub lists : count_lists options ≡ one_if bounds.has_list
 
--- one of them is said twice
-abbrev pub IsDoubled : List ℕ → List ℕ → Type 0
-IsDoubled leasts greatests = (2 ≤ length leasts) ⊎ (2 ≤ length greatests)
+-- a bound is said twice, or a list is
+abbrev pub IsDoubled : List ℕ → List ℕ → ℕ → Type 0
+IsDoubled leasts greatests lists = (2 ≤ length leasts) ⊎ (2 ≤ length greatests) ⊎ (2 ≤ lists)
+
+abbrev pub AreDoubled : List WalkOption → Type 0
+AreDoubled options = IsDoubled (leasts_in options) (greatests_in options) (count_lists options)
 
 -- the bounds after one more option
-pub record AreMore (bounds : DepthWords) (o : WalkOption) (more : DepthWords) : Type 0 where
+pub record AreMore (bounds : OptionWords) (o : WalkOption) (more : OptionWords) : Type 0 where
   pub least : all_in more.lower ≡ all_in bounds.lower ++ leasts_in (o ∷ [])
   pub greatest : all_in more.upper ≡ all_in bounds.upper ++ greatests_in (o ∷ [])
+  pub lists : one_if more.has_list ≡ one_if bounds.has_list + count_lists (o ∷ [])
 
 -- a word, and then the rest
 abbrev pub IsFirst : {A : Type 0} → List (Option (String A)) → List ℕ → List (Option (String A)) → Type 0

@@ -1,6 +1,6 @@
 //! What a filter of lines keeps between two chunks.
 ghost use Rattle.std.specs.Prelude.{◌≡◌, ◌≤◌, ◌<◌, ◌⊎◌, ℕ, List, [], ◌∷◌, ◌++◌, length};
-ghost use Rattle.std.specs.Prelude.{IfOk, IfErr, OnOk, OnErr, MatchOption};
+ghost use Rattle.std.specs.Prelude.{IfErr, IfSome, OnOk, OnErr, MatchOption};
 ghost use Rattle.std.specs.Io.KnownBytes.{Appends};
 ghost use Rattle.wax_lines.specs.Counts.{greatest_count};
 ghost use Rattle.wax_lines.specs.Lines.{Gives};
@@ -93,7 +93,82 @@ impl Sieve {
         ensures ok { OnOk result (TakesIn (L.writes line_writer.now) chunk.now self.old self.new) }
         ensures err { OnErr result (TakesInPart (L.writes line_writer.now) chunk.now self.old self.new) }
     {
-        let mut rest = chunk;
+        let Some((end, after)) = split_line(chunk) else {
+            self.carry.extend_from_slice(chunk)?;
+            return Ok(());
+        };
+        self.take_line(alloc, line_writer, end)?;
+        self.take_after(alloc, line_writer, after)
+    }
+
+    // Takes bytes at the beginning of a line: as one text, if what comes before the last line feed is text.
+    fn take_after<L: LineWriter>(
+        &mut self,
+        alloc: Global,
+        line_writer: &L,
+        bytes: &[u8],
+    ) -> Result<(), NoMemory>
+        requires { self.old.carry.items ≡ [] }
+        ensures ok { OnOk result (TakesIn (L.writes line_writer.now) bytes.now self.old self.new) }
+        ensures err { OnErr result (TakesInPart (L.writes line_writer.now) bytes.now self.old self.new) }
+    {
+        let Some((text, open)) = split_text(bytes) else {
+            return self.take_bytes(alloc, line_writer, bytes);
+        };
+        self.take_text(alloc, line_writer, text)?;
+        self.carry.extend_from_slice(open)?;
+        Ok(())
+    }
+
+    // Takes a text and a line feed at the beginning of a line.
+    fn take_text<L: LineWriter>(
+        &mut self,
+        alloc: Global,
+        line_writer: &L,
+        text: &str,
+    ) -> Result<(), NoMemory>
+        requires { self.old.carry.items ≡ [] }
+        ensures ok { OnOk result (TakesIn (L.writes line_writer.now)
+            (text.now ++ 10 ∷ []) self.old self.new) }
+        ensures err { OnErr result (TakesInPart (L.writes line_writer.now)
+            (text.now ++ 10 ∷ []) self.old self.new) }
+    {
+        let mut rest = text;
+        while let Some((line, after)) = split_at_feed(rest) {
+            self.take_text_line(alloc, line_writer, line)?;
+            rest = after;
+        }
+        self.take_text_line(alloc, line_writer, rest)
+    }
+
+    // A line that is text, without its line feed.
+    fn take_text_line<L: LineWriter>(
+        &mut self,
+        alloc: Global,
+        line_writer: &L,
+        line: &str,
+    ) -> Result<(), NoMemory>
+        requires carry { self.old.carry.items ≡ [] }
+        requires line { HasNoFeed line.now }
+        ensures carry { self.new.carry.items ≡ [] }
+        ensures ok { OnOk result (TakesIn (L.writes line_writer.now)
+            (line.now ++ 10 ∷ []) self.old self.new) }
+        ensures err { OnErr result (TakesIn (L.writes line_writer.now) [] self.old self.new) }
+    {
+        line_writer.write_line(alloc, line, &mut self.kept.bytes)
+    }
+
+    // Takes the next bytes of the input line by line, each checked by itself.
+    fn take_bytes<L: LineWriter>(
+        &mut self,
+        alloc: Global,
+        line_writer: &L,
+        bytes: &[u8],
+    ) -> Result<(), NoMemory>
+        ensures ok { OnOk result (TakesIn (L.writes line_writer.now) bytes.now self.old self.new) }
+        ensures err { OnErr result (TakesInPart (L.writes line_writer.now) bytes.now self.old self.new) }
+    {
+        let mut rest = bytes;
         while let Some((line, after)) = split_line(rest) {
             self.take_line(alloc, line_writer, line)?;
             rest = after;
@@ -110,6 +185,7 @@ impl Sieve {
         end: &[u8],
     ) -> Result<(), NoMemory>
         requires { HasNoFeed end.now }
+        ensures carry { OnOk result (self.new.carry.items ≡ []) }
         ensures ok { OnOk result (TakesIn (L.writes line_writer.now) (end.now ++ 10 ∷ []) self.old self.new) }
         ensures err { OnErr result (TakesInPart (L.writes line_writer.now) end.now self.old self.new) }
     {
@@ -164,4 +240,22 @@ fn split_line(bytes: &[u8]) -> Option<(&[u8], &[u8])>
 {
     let at = bytes.iter().position(|b| *b == b'\n')?;
     Some((&bytes[..at], &bytes[at + 1..]))
+}
+
+// The text before the first line feed, and that after it.
+fn split_at_feed(text: &str) -> Option<(&str, &str)>
+    ensures { MatchOption result (HasNoFeed text.now) (λ parts.
+        (text.now ≡ parts.0.now ++ 10 ∷ parts.1.now) × HasNoFeed parts.0.now) }
+{
+    text.split_once('\n')
+}
+
+// What comes before the last line feed, where that is text, and the bytes after it.
+fn split_text(bytes: &[u8]) -> Option<(&str, &[u8])>
+    ensures { IfSome result (λ parts.
+        (bytes.now ≡ parts.0.now ++ 10 ∷ parts.1.now) × HasNoFeed parts.1.now) }
+{
+    let at = bytes.iter().rposition(|b| *b == b'\n')?;
+    let text = str::from_utf8(&bytes[..at]).ok()?;
+    Some((text, &bytes[at + 1..]))
 }

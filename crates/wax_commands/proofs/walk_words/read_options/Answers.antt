@@ -1,13 +1,13 @@
 use Rattle.std.proofs.Common.{sym, subst, List, ◌++◌, rules, ◌≡◌, [], ◌∷◌}
 use Rattle.std.proofs.lemmas.List.{append-nil}
-use Rattle.wax_commands.specs.Commands.{SayEach, WalkOption, leasts_in, greatests_in}
-use Rattle.wax_commands.specs.inner.WalkWords.{IsDoubled}
+use Rattle.wax_commands.specs.Commands.{SayEach, WalkOption}
+use Rattle.wax_commands.specs.inner.WalkWords.{AreDoubled}
 use Rattle.wax_commands.proofs.OptionWords.{begins_more, doubled_by, none_holds, said_more}
 use Rattle.wax_commands.proofs.walk_words.read_options.Goals as goal
 
 pub returns-in_err-bounds-clause-none : goal.returns-in_err-bounds-clause-none
 returns-in_err-bounds-clause-none c =
-    let twice : (options : List WalkOption) → SayEach c.args.words.now options → IsDoubled (leasts_in options) (greatests_in options) = λ options h.
+    let twice : (options : List WalkOption) → SayEach c.args.words.now options → AreDoubled options = λ options h.
     doubled_by c.args.words.now c.loop-name.rest.now _ _ _ _ c.loop-name.invariant.0 c.loop-name.invariant.1 c.loop-name.invariant.2 c.in-Some.ensures.some c.in_err-bounds.ensures.none options h in
     none_holds _ twice
 

@@ -1,7 +1,7 @@
 use Rattle.std.proofs.Common.{refl, sym, ap, rules, ◌≡◌, ◌∙◌}
 use Rattle.std.specs.Prelude.{codes, unwrap_or, slice_get}
 use Rattle.wax_commands.specs.Commands.{AsksWalk, WalkRequest}
-use Rattle.wax_commands.proofs.OptionWords.{bounds_so, said_bounds, doubled, first_in, none_holds, same_options, says_walk}
+use Rattle.wax_commands.proofs.OptionWords.{bounds_so, said_bounds, said_lists, doubled, first_in, none_holds, same_options, says_walk}
 use Rattle.wax_commands.proofs.walk_words.read_walk.Goals as goal
 
 pub returns-then-ne-clause-none : goal.returns-then-ne-clause-none
@@ -14,7 +14,7 @@ pub returns-in_err-read_options-clause-none : goal.returns-in_err-read_options-c
 returns-in_err-read_options-clause-none c =
     let nothing : (asked : WalkRequest) → AsksWalk c.args.words.now asked → ⊥ = λ asked h.
     let said = (says_walk _ _ _ _ asked _ _ _ c.in_ok-command.ensures.some c.in_ok-start.ensures.some c.in_ok-expression.ensures.some).0 h.says in
-    doubled _ _ (c.in_err-read_options.ensures.none asked.options said.3) h.bounds in
+    doubled _ _ _ (c.in_err-read_options.ensures.none asked.options said.3) h.bounds h.lists in
     none_holds _ nothing
 
 pub returns-in_err-depth-clause-none : goal.returns-in_err-depth-clause-none
@@ -37,6 +37,7 @@ returns-clause-some c =
       record {
         says = (says_walk _ _ _ _ asked _ _ _ c.in_ok-command.ensures.some c.in_ok-start.ensures.some c.in_ok-expression.ensures.some).1 (walk, refl, refl, read.1);
         bounds = said_bounds _ read.0 read.2 depth.0;
+        lists = said_lists _ read.0 read.2;
       },
       record {
         start = refl;

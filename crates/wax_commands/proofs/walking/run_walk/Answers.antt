@@ -1,35 +1,39 @@
 use Rattle.std.proofs.Common.{◌≡◌, subst}
+use Rattle.std.specs.Fn.{FnReturnsAt}
 use Rattle.wax_tree.specs.Depths.{at_depth}
 use Rattle.wax_commands.specs.inner.Candidates.{WroteWanted}
-use Rattle.wax_commands.proofs.Going.{ends_done, ends_faulty, ends_stopped}
+use Rattle.wax_commands.proofs.Going.{ends_done, ends_faulty, ends_stopped, ground}
 use Rattle.wax_commands.proofs.walking.run_walk.Goals as goal
 
 pub returns-in-Ok-true-clause-ends : goal.returns-in-Ok-true-clause-ends
 returns-in-Ok-true-clause-ends g c asked read =
     let law = g.D.Directory.law in
+    let over = ground law c.args.directory (FnReturnsAt g.B.Fn c.args.read.now) in
     let held = g.W.Write.contents c.args.output.now.inner in
     let held' = g.W.Write.contents c.write_wanted.new.output.inner in
     let walk = c.walk_with_behavior-entries.ensures.begins in
     let is : walk.0 ≡ at_depth c.args.walk.depth = walk.1 in
-    ends_faulty law c.args.directory c.args.walk asked c.in-Some.glob _ read c.in-Some.ensures.some c.in-Some-built_exclusions.ensures.some walk.0 is _ walk.2 held held'
+    ends_faulty over c.args.walk asked read c.in-Some.glob c.in-Some.ensures.some _ c.in-Some-built_filters.ensures.some walk.0 is _ walk.2 held held'
     (subst (WroteWanted law _ _ held held') c.in-Ok-true.field-0-test c.in-Ok-true.ensures.done)
 
 pub returns-in-Ok-false-clause-ends : goal.returns-in-Ok-false-clause-ends
 returns-in-Ok-false-clause-ends g c asked read =
     let law = g.D.Directory.law in
+    let over = ground law c.args.directory (FnReturnsAt g.B.Fn c.args.read.now) in
     let held = g.W.Write.contents c.args.output.now.inner in
     let held' = g.W.Write.contents c.write_wanted.new.output.inner in
     let walk = c.walk_with_behavior-entries.ensures.begins in
     let is : walk.0 ≡ at_depth c.args.walk.depth = walk.1 in
-    ends_done law c.args.directory c.args.walk asked c.in-Some.glob _ read c.in-Some.ensures.some c.in-Some-built_exclusions.ensures.some walk.0 is _ walk.2 held held'
+    ends_done over c.args.walk asked read c.in-Some.glob c.in-Some.ensures.some _ c.in-Some-built_filters.ensures.some walk.0 is _ walk.2 held held'
     (subst (WroteWanted law _ _ held held') c.in-Ok-false.field-0-test c.in-Ok-false.ensures.done)
 
 pub returns-clause-ends : goal.returns-clause-ends
 returns-clause-ends g c asked read =
     let law = g.D.Directory.law in
+    let over = ground law c.args.directory (FnReturnsAt g.B.Fn c.args.read.now) in
     let held = g.W.Write.contents c.args.output.now.inner in
     let held' = g.W.Write.contents c.write_wanted.new.output.inner in
     let walk = c.walk_with_behavior-entries.ensures.begins in
     let is : walk.0 ≡ at_depth c.args.walk.depth = walk.1 in
-    ends_stopped law c.args.directory c.args.walk asked c.in-Some.glob _ read c.in-Some.ensures.some c.in-Some-built_exclusions.ensures.some walk.0 is _ walk.2 held held'
+    ends_stopped over c.args.walk asked read c.in-Some.glob c.in-Some.ensures.some _ c.in-Some-built_filters.ensures.some walk.0 is _ walk.2 held held'
     c.in-Err.ensures.stopped

@@ -1,18 +1,22 @@
-use Rattle.std.proofs.Common.{◌≡◌, ◌≤◌, ◌+◌, ◌*◌, length, drop, min, IfSome}
+use Rattle.std.proofs.Common.{◌≡◌, ◌≤◌, ◌+◌, ◌*◌, ℕ, length, min, IfSome, IsUtf8}
 use Rattle.std.specs.Str.{chars}
+use Rattle.std.specs.Str.Iter.{chars_rest}
 use Rattle.wax_program.specs.Meter.{most_ticks}
 use Rattle.wax_program.specs.Steady.{IsKnown}
 use Rattle.wax_program.specs.Threads.{IsEmpty, Stays}
 use Rattle.wax_program.proofs.matching.run_over.Given as goal
 
+-- m characters were followed
 abbrev pub invariant-loop-c : goal.invariant-loop-c
-invariant-loop-c g l = record {
+invariant-loop-c g l = (m : ℕ) × record {
+  utf8 : IsUtf8 (chars_rest l.left);
+  whole : m + length (chars (chars_rest l.left)) ≡ length (chars l.text);
   size : (g.R.Rows.position l.rows).size ≡ length l.program.0;
   read : IsEmpty (g.R.Rows.position l.rows).read;
   next : IsEmpty (g.R.Rows.position l.rows).next;
-  stays : Stays l.program.0 (chars l.text) (drop (length l.yielded) (chars l.text)) (g.R.Rows.position l.rows).pending;
-  above : l.meter ≤ l.fn.meter + l.program.1 * length l.yielded;
-  below : min (l.fn.meter + length l.yielded) most_ticks ≤ l.meter;
+  stays : Stays l.program.0 (chars l.text) (chars (chars_rest l.left)) (g.R.Rows.position l.rows).pending;
+  above : l.meter ≤ l.fn.meter + l.program.1 * m;
+  below : min (l.fn.meter + m) most_ticks ≤ l.meter;
   steady : l.fn.meter ≤ l.meter;
   known : IfSome l.steady (IsKnown l.program.0);
 }

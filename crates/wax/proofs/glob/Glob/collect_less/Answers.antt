@@ -23,9 +23,9 @@ returns-clause-wanted g c =
     (λ r k. (
       h.depth,
       h.depth_is,
-      λ b ts s listed nots plain shows told.
-          k d (trip_of start asked h.depth b []) ts s listed
-          (comes_glob c.args.self.now.tree law d start asked _ h b plain) nots
-          (goes (h.can b ts plain)) shows told,
+      λ b filters s listed are plain shows told.
+          k d (trip_of start asked h.depth b []) filters s listed
+          (comes_glob c.args.self.now.tree law d start asked _ h b plain) are
+          (goes (h.can b filters plain)) shows told,
     ))
     c.collect_less.result c.collect_less.ensures.wanted

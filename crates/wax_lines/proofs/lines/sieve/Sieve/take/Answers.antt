@@ -1,24 +1,27 @@
 use Rattle.std.proofs.Common.{[], ◌∷◌, ◌++◌, ap, ◌∙◌, append_assoc}
+use Rattle.std.proofs.lemmas.Result.{on_err_weaker}
 use Rattle.wax_lines.proofs.Sifting.{TakesIn-then, on_err}
 use Rattle.wax_lines.proofs.lines.sieve.Sieve.take.Goals as goal
 
 pub returns-in_err-take_line-clause-err : goal.returns-in_err-take_line-clause-err
 returns-in_err-take_line-clause-err g c =
-    let (front, splits, taken) = c.loop-line.invariant in
     let (part, rest, parts, more) = c.in_err-take_line.ensures.err in
     let (cut, _) = c.in-Some.ensures in
-    on_err c.from_residual.result (
-      front ++ part,
+    on_err c.from_residual-in_err-take_line.result (
+      part,
       rest ++ 10 ∷ c.in-Some.after.now,
-      splits ∙ ap (λ z. front ++ z) (cut ∙ ap (λ z. z ++ 10 ∷ c.in-Some.after.now) parts) ∙ simp append_assoc,
-      TakesIn-then (g.L.LineWriter.writes c.args.line_writer.now) c.args.self.now c.loop-line.self c.take_line.new.self front part taken more,
+      cut ∙ ap (λ z. z ++ 10 ∷ c.in-Some.after.now) parts ∙ append_assoc part rest (10 ∷ c.in-Some.after.now),
+      more,
     )
 
-pub loop-line-preserved : goal.loop-line-preserved
-loop-line-preserved g c =
-    let (front, splits, taken) = c.loop-line.invariant in
-    let (cut, _) = c.in-Some.ensures in (
-      front ++ (c.in-Some.line.now ++ 10 ∷ []),
-      splits ∙ ap (λ z. front ++ z) cut ∙ simp append_assoc,
-      TakesIn-then (g.L.LineWriter.writes c.args.line_writer.now) c.args.self.now c.loop-line.self c.take_line.new.self front (c.in-Some.line.now ++ 10 ∷ []) taken c.in_ok-take_line.ensures.ok,
-    )
+pub returns-clause-err : goal.returns-clause-err
+returns-clause-err g c =
+    let (cut, _) = c.in-Some.ensures in
+    let end = c.in-Some.end.now in
+    on_err_weaker c.take_after.result (λ (part, rest, parts, more). (
+      (end ++ 10 ∷ []) ++ part,
+      rest,
+      cut ∙ ap (λ z. end ++ 10 ∷ z) parts ∙ simp append_assoc,
+      TakesIn-then (g.L.LineWriter.writes c.args.line_writer.now) c.args.self.now c.take_line.new.self c.take_after.new.self
+          (end ++ 10 ∷ []) part c.in_ok-take_line.ensures.ok more,
+    )) c.take_after.ensures.err

@@ -1,0 +1,61 @@
+//! Filters of walks: patterns and ignore lists.
+ghost use Rattle.std.specs.Prelude.{◌≡◌, List, MatchResult};
+ghost use Rattle.wax_collect.specs.Trips.{IsRuleOf};
+ghost use Rattle.wax_token.specs.Reads.{Span};
+ghost use Rattle.wax_wanted.specs.Ignored.{Line};
+ghost use Rattle.wax_wanted.specs.Wanted.{not_ignored};
+ghost use Rattle.wax.specs.Exclusions.{IsNotRule, NoExclusion};
+ghost use Rattle.wax.specs.Ignoring.{Holds};
+
+use crate::build_error::BuildError;
+use crate::exclusions::exclusion_of;
+use crate::ignoring::IgnoreList;
+use crate::pattern::Pattern;
+use std::alloc::Global;
+use wax_leading::Exclusion;
+use wax_query::diagnostics::NoMemory;
+use wax_walk::{Entry, EntryResidue, Rule};
+
+/// What is left out of a walk: what a pattern means, or what an ignore list ignores.
+#[derive(Drop)]
+pub enum WalkFilter {
+    Not(Exclusion),
+    Ignore(IgnoreList),
+}
+
+impl WalkFilter {
+    /// Leaves out what the pattern means. Refused as `exclusion_of` refuses it.
+    pub fn not<P: Pattern>(alloc: Global, pattern: P) -> Result<WalkFilter, BuildError>
+        ensures { MatchResult result
+            (λ filter. IsNotRule (P.spells pattern) (⟦<WalkFilter as Rule>⟧.rule filter))
+            (NoExclusion (P.spells pattern) (P.refuses pattern)) }
+    {
+        let exclusion = exclusion_of(alloc, pattern)?;
+        Ok(WalkFilter::Not(exclusion))
+    }
+
+    /// Leaves out what the list ignores.
+    pub fn ignore(list: IgnoreList) -> WalkFilter
+        ensures { (lines : List (Line Span)) → Holds list lines
+            → IsRuleOf (not_ignored lines) (⟦<WalkFilter as Rule>⟧.rule result) }
+    {
+        WalkFilter::Ignore(list)
+    }
+}
+
+impl Rule for WalkFilter {
+    ghost use Rattle.wax.specs.Exclusions.{rule_by};
+
+    ghost rule = { rule_by ⟦<Exclusion as Rule>⟧.rule ⟦<IgnoreList as Rule>⟧.rule };
+
+    fn residue<E: Entry>(
+        &self,
+        alloc: Global,
+        entry: &E,
+    ) -> Result<Option<EntryResidue>, NoMemory> {
+        match self {
+            WalkFilter::Not(exclusion) => exclusion.residue(alloc, entry),
+            WalkFilter::Ignore(list) => list.residue(alloc, entry),
+        }
+    }
+}

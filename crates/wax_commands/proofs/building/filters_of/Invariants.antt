@@ -1,0 +1,17 @@
+use Rattle.std.proofs.Common.{List, length, map}
+use Rattle.std.specs.Fn.{FnReturnsAt}
+use Rattle.wax.specs.Exclusions.{rule_by}
+use Rattle.wax_ignore.specs.inner.Listed.{listed_mark}
+use Rattle.wax_leading.specs.Excluded.{excluded_mark}
+use Rattle.wax_commands.specs.Commands.{SayEach, WalkOption}
+use Rattle.wax_commands.proofs.Leaving.{SoFar}
+use Rattle.wax_commands.proofs.building.filters_of.Given as goal
+
+abbrev pub invariant-loop-name : goal.invariant-loop-name
+invariant-loop-name g l =
+    (asked : List WalkOption) → SayEach l.options asked
+    → SoFar (FnReturnsAt g.B.Fn l.read) l.rest asked
+    (map (rule_by (λ e f. excluded_mark e f) (λ list f. listed_mark list.rule.lines.items f)) l.filters.items)
+
+abbrev pub decreases-loop-name : goal.decreases-loop-name
+decreases-loop-name g l = length l.rest

@@ -1,0 +1,28 @@
+-- Ignore lists in files.
+use Rattle.std.specs.Prelude.{ℕ, List, Result, Ok, Err, Vec}
+use Rattle.std.specs.List.{AllZip}
+use Rattle.std.specs.Str.{IsUtf8}
+use Rattle.wax.specs.Ignoring.{IsNoList, IsReadAs}
+use Rattle.wax.specs.declared.ignoring.IgnoreError.{IgnoreError}
+use Rattle.wax_ignore.specs.Lines.{written_lines}
+use Rattle.wax_token.specs.Reads.{Span}
+use Rattle.wax_wanted.specs.Ignored.{Line}
+use Rattle.wax_commands.specs.declared.files.FileFault.{FileFault}
+
+-- what may be answered of a file, by its name
+abbrev pub Answers : Type 0 → Type 1
+Answers Z = List ℕ → Result (Vec ℕ Z) FileFault → Type 0
+
+module _ {Z : Type 0} (answers : Answers Z) where
+  -- the file holds a text, of which these are the lines that aren't skipped
+  abbrev pub IsListIn : List ℕ → List (Line Span) → Type 0
+  IsListIn file lines = (bytes : Vec ℕ Z) × answers file (Ok bytes) × IsUtf8 bytes.items
+      × AllZip IsReadAs (written_lines bytes.items) lines
+
+  -- the file can't be read, or holds no text, or the text is no list; or memory was refused
+  pub data IsUnlisted (file : List ℕ) : Type 0 where
+    unread : (fault : FileFault) → answers file (Err fault) → IsUnlisted file
+    no_text : (bytes : Vec ℕ Z) → answers file (Ok bytes) → ¬ (IsUtf8 bytes.items) → IsUnlisted file
+    no_list : (bytes : Vec ℕ Z) (error : IgnoreError) → answers file (Ok bytes)
+        → IsNoList bytes.items error → IsUnlisted file
+    lacks_memory : IsUnlisted file

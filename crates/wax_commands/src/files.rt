@@ -1,0 +1,48 @@
+//! Files that hold ignore lists.
+ghost use Rattle.std.specs.Fn.{FnReturnsAt};
+ghost use Rattle.std.specs.Prelude.{IfOk, List, OnErr};
+ghost use Rattle.wax.specs.Ignoring.{Holds};
+ghost use Rattle.wax_token.specs.Reads.{Span};
+ghost use Rattle.wax_wanted.specs.Ignored.{Line};
+ghost use Rattle.wax_commands.specs.Files.{IsListIn, IsUnlisted};
+
+use crate::building::FilterFault;
+use std::alloc::Global;
+use wax::walk::{IgnoreError, IgnoreList};
+
+/// Why the bytes of a file aren't given.
+#[derive(Clone, Copy, Debug)]
+pub enum FileFault {
+    /// The file can't be read (18).
+    ReadFailed,
+    /// Memory was asked for and refused (10).
+    Memory,
+}
+
+/// The ignore list that the file holds.
+pub fn list_in<'w, B>(alloc: Global, file: &'w str, read: &B) -> Result<IgnoreList, FilterFault<'w>>
+where
+    B: Fn(&str) -> Result<Vec<u8>, FileFault>,
+    requires { B.IsAlwaysCallable read.now }
+    ensures ok { IfOk result (λ list. (lines : List (Line Span))
+        × IsListIn (FnReturnsAt B.Fn read.now) file.now lines × Holds list lines) }
+    ensures err { OnErr result (IsUnlisted (FnReturnsAt B.Fn read.now) file.now) }
+{
+    let bytes = match read(file) {
+        Ok(bytes) => bytes,
+        Err(FileFault::ReadFailed) => return Err(FilterFault::ReadFailed(file)),
+        Err(FileFault::Memory) => return Err(FilterFault::Memory),
+    };
+    let Ok(text) = str::from_utf8(&bytes) else {
+        return Err(FilterFault::NotText(file));
+    };
+    match IgnoreList::parse(alloc, text) {
+        Ok(list) => Ok(list),
+        Err(IgnoreError::BadLine { line, error }) => Err(FilterFault::BadLine {
+            file,
+            line,
+            error,
+        }),
+        Err(IgnoreError::Memory) => Err(FilterFault::Memory),
+    }
+}
