@@ -14,8 +14,8 @@ use std::alloc::Global;
 use wax_query::diagnostics::NoMemory;
 
 /// Whether the program accepts the text. It reads at most `program.len()` instructions a character and
-/// as many at the end, each of which the meter counts, and stops once no text with this beginning is
-/// accepted. Three bits an instruction are its only memory, taken at the start; a program of fewer than
+/// as many at the end, each of which the meter counts, and stops once the rest of the text changes
+/// nothing. Three bits an instruction are its only memory, taken at the start; a program of fewer than
 /// 64 instructions takes none. Where memory is refused, so is the call (refusal 10).
 pub fn run(
     alloc: Global,
