@@ -1,5 +1,6 @@
 # make globs: proves and builds the program, and leaves it as ./globs; some 25 minutes on 4 processors the first time
-# make test:  proves everything from nothing and runs all tests; docs/GATE.md says how long that takes
+# make test:  proves everything from nothing and runs all tests, then the programs with memory refused and on
+#             hostile input; docs/GATE.md says how long that takes
 # make bench: times matches and ./globs beside grep, and walks beside find, on this machine (docs/BENCH.md)
 
 .PHONY: globs test bench
@@ -12,9 +13,11 @@ globs:
 	cp crates/globs/out/globs globs
 
 test:
-	rt ci
 	tests/documents
 	tests/names
+	rt ci
+	tests/memory
+	tests/hostile
 
 bench: globs
 	cd crates/wax_bench && rt run </dev/null
