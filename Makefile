@@ -1,7 +1,7 @@
 # make globs: proves and builds the program, and leaves it as ./globs; some 25 minutes on 4 processors the first time
 # make test:  proves everything from nothing and runs all tests, then the programs with memory refused and on
 #             hostile input; docs/GATE.md says how long that takes
-# make bench: times matches and ./globs beside grep, and walks beside find, on this machine (docs/BENCH.md)
+# make bench: counts instructions of matches, and times them beside grep and walks beside find (docs/BENCH.md)
 
 .PHONY: globs test bench
 
@@ -21,5 +21,6 @@ test:
 
 bench: globs
 	cd crates/wax_bench && rt run </dev/null
+	bench/instructions
 	bench/run
 	bench/walk
