@@ -47,11 +47,9 @@ struct Line<'t> {
     glob: Glob<'t>,
 }
 
-/// What of a candidate is wanted: what the glob means, but not what others mean or the last line ignores that
-/// means it.
+/// What is left out of a walk: what globs mean, and what the last line ignores that means it.
 #[derive(Drop)]
-struct Meanings<'t> {
-    glob: &'t Glob<'t>,
+struct LeftOut<'t> {
     nots: Vec<Glob<'t>>,
     lines: Vec<Line<'t>>,
 }
@@ -184,23 +182,28 @@ fn is_ignored(
     Ok(false)
 }
 
-fn is_wanted(alloc: Global, meanings: &Meanings<'_>, candidate: &str) -> Result<bool, NoMemory> {
+/// Whether the glob means the candidate, and it isn't left out.
+fn is_wanted(
+    alloc: Global,
+    glob: &Glob<'_>,
+    left_out: &LeftOut<'_>,
+    candidate: &str,
+) -> Result<bool, NoMemory> {
     let path = CandidatePath::from(candidate);
-    for not in &meanings.nots {
+    for not in &left_out.nots {
         if not.is_match(alloc, &path)? {
             return Ok(false);
         }
     }
-    if is_ignored(alloc, meanings.lines.as_slice(), &path)? {
+    if is_ignored(alloc, left_out.lines.as_slice(), &path)? {
         return Ok(false);
     }
-    meanings.glob.is_match(alloc, &path)
+    glob.is_match(alloc, &path)
 }
 
 /// What is wanted of the whole walk.
 fn wanted(alloc: Global, drawn: &Drawn, glob: &Glob<'_>) -> io::Result<Walked> {
-    let meanings = Meanings {
-        glob,
+    let left_out = LeftOut {
         nots: globs_of(alloc, drawn.nots.as_slice())?,
         lines: lines_of(alloc, drawn.list.as_str())?,
     };
@@ -224,7 +227,7 @@ fn wanted(alloc: Global, drawn: &Drawn, glob: &Glob<'_>) -> io::Result<Walked> {
         } else {
             entry.root_relative_paths().1
         };
-        match is_wanted(alloc, &meanings, candidate) {
+        match is_wanted(alloc, glob, &left_out, candidate) {
             Ok(true) => add(&mut candidates, candidate)?,
             Ok(false) => continue,
             Err(_) => return Err(not_made()),

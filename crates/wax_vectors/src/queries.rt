@@ -3,7 +3,7 @@
 use std::alloc::{AllocError, Global};
 use wax::Counted;
 use wax::walk::{Node, Tree};
-use wax_commands::run_globs;
+use wax_commands::{FileFault, run_globs};
 
 /// The expression, and each line that is written of its glob: depth, text, root, exhaustiveness, prefix, rest,
 /// how many tokens capture, and warnings.
@@ -36,4 +36,8 @@ pub fn query_row(alloc: Global, expression: &str) -> Result<String, AllocError> 
         row.push_str(line)?;
     }
     Ok(row)
+}
+
+fn no_files(_: &str) -> Result<Vec<u8>, FileFault> {
+    Err(FileFault::ReadFailed)
 }
