@@ -11,7 +11,7 @@ use Rattle.wax_ignore.specs.declared.rules.IgnoreLine.{IgnoreLine}
 use Rattle.wax_ignore.specs.declared.rules.IgnoreRule.{IgnoreRule}
 use Rattle.wax_ignore.specs.inner.Listed.{listed_mark}
 use Rattle.wax_token.specs.Reads.{Span}
-use Rattle.wax_tree.specs.Begins.{Begins, range_of}
+use Rattle.wax_tree.specs.Begins.{Begins, behavior_range}
 use Rattle.wax_tree.specs.declared.behavior.WalkBehavior.{WalkBehavior}
 use Rattle.wax_walk.specs.Ruled.{ruled_view}
 use Rattle.wax_walk.specs.View.{IsSeenAs, WalkView}
@@ -90,5 +90,5 @@ pub seen_ignoring : {D : Type 0} (inner outer : WalkView D) (rule : IgnoreRule) 
 seen_ignoring inner outer rule lines held seen = subst (λ r. IsSeenAs (ruled_view inner r false) outer) (says_lines rule lines held) seen
 
 pub begins_so : {D C : Type 0} (law : Law D C) (d : D) (start : List ℕ) (b behavior : WalkBehavior) (view : WalkView D) → b ≡ behavior →
-    Begins law d start (range_of b) view → Begins law d start (range_of behavior) view
-begins_so law d start b behavior view same begins = subst (λ z. Begins law d start (range_of z) view) same begins
+    Begins law d start (behavior_range b) view → Begins law d start (behavior_range behavior) view
+begins_so law d start b behavior view same begins = subst (λ z. Begins law d start (behavior_range z) view) same begins

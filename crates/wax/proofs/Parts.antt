@@ -13,7 +13,7 @@ use Rattle.wax_facts.specs.Prefix.{Cut, Prefix, or_nothing, taken}
 use Rattle.wax_facts.specs.Rest.{left}
 use Rattle.wax_facts.proofs.BuiltOrderly.{built_orderly}
 use Rattle.wax_facts.proofs.Seams.{prefix_seam}
-use Rattle.wax_partition.specs.Partition.{IsPartition, rest_glob, spelled}
+use Rattle.wax_partition.specs.Partition.{IsPartition, rest_glob, spelled_rest}
 use Rattle.wax_partition.proofs.RestKnown.{parts_branch, parts_fits, parts_orderly, parts_rest, parts_split, parts_whole}
 use Rattle.wax.specs.GlobView.{IsKept, empty_tree}
 use Rattle.wax.specs.Partition.{HasParts, IsRest, MeansAlone, as_glob}
@@ -50,20 +50,20 @@ empty_rest e p o k =
 
 -- ---- both parts
 module _ (e : List ℕ) (t : Tree Span) (p : List ℕ) (kept : IsKept t) where
-  orderly : (u : Tokenized Span) → IsPartition e t p (spelled (Some u)) → Orderly t
+  orderly : (u : Tokenized Span) → IsPartition e t p (spelled_rest (Some u)) → Orderly t
   orderly u k = elim kept [ inl o ↦ o | inr q ↦ absurd (none_left q) ]
     where
       none_left : t ≡ empty_tree → ⊥
-      none_left q = let f : spelled (Some u) ≡ None = empty_rest e p (spelled (Some u)) (subst (λ z. IsPartition e z p (spelled (Some u))) q k) in cc
+      none_left q = let f : spelled_rest (Some u) ≡ None = empty_rest e p (spelled_rest (Some u)) (subst (λ z. IsPartition e z p (spelled_rest (Some u))) q k) in cc
 
-  pub rest_kept : (u : Tokenized Span) → IsPartition e t p (spelled (Some u)) → IsKept u.token
+  pub rest_kept : (u : Tokenized Span) → IsPartition e t p (spelled_rest (Some u)) → IsKept u.token
   rest_kept u k = inl (parts_orderly e t p (Some u) k (orderly u k))
 
-  pub rest_fits : (u : Tokenized Span) → IsPartition e t p (spelled (Some u)) → program_length u.token ≤ program_length t
+  pub rest_fits : (u : Tokenized Span) → IsPartition e t p (spelled_rest (Some u)) → program_length u.token ≤ program_length t
   rest_fits u k = parts_fits e t p (Some u) k (flat t kept)
 
-  rest_tells : (o : Option (Tokenized Span)) → IsPartition e t p (spelled o) →
-      MatchOption (as_glob (spelled o)) (MeansAlone (record { expression = e; tree = t }) p) (IsRest (record { expression = e; tree = t }) p)
+  rest_tells : (o : Option (Tokenized Span)) → IsPartition e t p (spelled_rest o) →
+      MatchOption (as_glob (spelled_rest o)) (MeansAlone (record { expression = e; tree = t }) p) (IsRest (record { expression = e; tree = t }) p)
   rest_tells None k = parts_whole e t p None k (full t kept) (flat t kept)
   rest_tells (Some u) k = record {
     after = parts_rest e t p (Some u) k (orderly u k);
@@ -72,7 +72,7 @@ module _ (e : List ℕ) (t : Tree Span) (p : List ℕ) (kept : IsKept t) where
     costs = rest_fits u k;
   }
 
-  pub has_parts : (o : Option (Tokenized Span)) → IsPartition e t p (spelled o) → HasParts (record { expression = e; tree = t }) p (as_glob (spelled o))
+  pub has_parts : (o : Option (Tokenized Span)) → IsPartition e t p (spelled_rest o) → HasParts (record { expression = e; tree = t }) p (as_glob (spelled_rest o))
   has_parts o k = record {
     taken = k.0;
     prefix = k.1;

@@ -5,7 +5,7 @@ use Rattle.wax_query.specs.declared.diagnostics.Refusal.{Refusal}
 use Rattle.wax_query.specs.declared.diagnostics.Refusal.TheVariants as refusal
 use Rattle.wax_parse.specs.declared.parse.ParseError.{ParseError}
 use Rattle.wax_parse.specs.Accepted.{IsPlace}
-use Rattle.wax_rule.specs.FirstBreak.{ErrorView, IsFirst}
+use Rattle.wax_rule.specs.FirstBreak.{ErrorView, TellsFirst}
 use Rattle.wax_rule.specs.Rules.{broken}
 use Rattle.wax_token.specs.Cost.{program_length}
 use Rattle.wax_token.specs.Reads.{Reads, Span}
@@ -51,7 +51,7 @@ abbrev pub MatchGlob : List ℕ → Result GlobView BuildError → Type 0
 MatchGlob e (Ok g) = IsGlob e g
 MatchGlob e (Err (Parse place)) = ((t : Tree Span) → Reads e t → ⊥) × IsPlace e place
 MatchGlob e (Err (Rule error)) =
-    (t : Tree Span) × Reads e t × IsFirst (broken t) error × (error.expression ≡ e)
+    (t : Tree Span) × Reads e t × TellsFirst (broken t) error × (error.expression ≡ e)
 MatchGlob e (Err (Compile _)) = IsOversized e
 MatchGlob e (Err Memory) = Unit {0}
 

@@ -5,7 +5,7 @@ use Rattle.wax_capture.specs.Captures.{Captured}
 use Rattle.wax_capture.specs.Pieces.{ArePieces}
 use Rattle.wax_capture.specs.declared.piece.Piece.{Piece}
 use Rattle.wax_facts.specs.Orderly.{Orderly}
-use Rattle.wax_prefilter.specs.Facts.{PrefilterView, Passes}
+use Rattle.wax_prefilter.specs.Facts.{PrefilterView, PassesFacts}
 use Rattle.wax_program.specs.Machine.{Accepts}
 use Rattle.wax_program.specs.declared.instruction.Instruction.{Instruction}
 use Rattle.wax_token.specs.Cost.{program_length}
@@ -40,7 +40,7 @@ pub record IsCompiled (t : Tree Span) (program : List Instruction × ℕ) (prefi
   pub accepts : (text : List ℕ) → Accepts program.0 0 text ↔ Means t false false text
   pub len : program.1 ≡ program_length t
   pub fits : program_length t ≤ 1048576
-  pub passes : (text : List ℕ) → Means t false false text → Passes prefilter text
+  pub passes : (text : List ℕ) → Means t false false text → PassesFacts prefilter text
   pub split : ArePieces (members t) false false pieces
   pub kept : IsKept t
 

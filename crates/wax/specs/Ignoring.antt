@@ -28,8 +28,8 @@ IsUnread written =
     NoExclusion (Spells (chars written.expression)) (Refuses (chars written.expression))
 
 -- the list holds exactly these lines
-abbrev pub Holds : IgnoreList → List (Line Span) → Type 0
-Holds list lines = HasLines list.rule lines
+abbrev pub HoldsLines : IgnoreList → List (Line Span) → Type 0
+HoldsLines list lines = HasLines list.rule lines
 
 -- what is held are the lines that are written so, in order
 abbrev pub AreReadAs : List Written → List IgnoreLine → Type 0
@@ -39,7 +39,7 @@ AreReadAs written held =
 -- the list of this text: it holds exactly the lines that aren't skipped, in order
 abbrev pub IsListOf : List ℕ → IgnoreList → Type 0
 IsListOf text list =
-    (lines : List (Line Span)) × AllZip IsReadAs (written_lines text) lines × Holds list lines
+    (lines : List (Line Span)) × AllZip IsReadAs (written_lines text) lines × HoldsLines list lines
 
 -- The first line that isn't read has this number, and this is why.
 pub record IsFirstUnread (text : List ℕ) (number : ℕ) (error : BuildError) : Type 0 where

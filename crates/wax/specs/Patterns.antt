@@ -2,7 +2,7 @@
 use Rattle.std.specs.Prelude.{◌≡◌, ◌↔◌, ◌<◌, ◌≤◌, ◌++◌, ◌∷◌, ◌⊎◌, ℕ, List, [], Result, Ok, Err}
 use Rattle.std.specs.List.{AllZip}
 use Rattle.wax_parse.specs.Accepted.{IsPlace}
-use Rattle.wax_rule.specs.FirstBreak.{IsFirst}
+use Rattle.wax_rule.specs.FirstBreak.{TellsFirst}
 use Rattle.wax_rule.specs.Rules.{broken}
 use Rattle.wax_token.specs.Cost.{program_length}
 use Rattle.wax_token.specs.Reads.{Reads, Span}
@@ -21,7 +21,7 @@ Spells e t = Reads e t × (broken t ≡ [])
 -- why it spells none; nothing is said where memory was refused
 abbrev pub Refuses : List ℕ → BuildError → Type 0
 Refuses e (Parse place) = ((t : Tree Span) → Reads e t → ⊥) × IsPlace e place
-Refuses e (Rule error) = (t : Tree Span) × Reads e t × IsFirst (broken t) error × (error.expression ≡ e)
+Refuses e (Rule error) = (t : Tree Span) × Reads e t × TellsFirst (broken t) error × (error.expression ≡ e)
 Refuses e (Compile _) = ⊥
 Refuses e Memory = Unit {0}
 

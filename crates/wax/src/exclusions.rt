@@ -6,7 +6,7 @@ ghost use Rattle.wax_walk.specs.Ruled.{ruled_view};
 ghost use Rattle.wax_walk.specs.View.{IsSeenAs};
 ghost use Rattle.wax_wanted.specs.Ignored.{Line};
 ghost use Rattle.wax.specs.Exclusions.{IsLeftOut, IsWalkWithout, NoExclusion};
-ghost use Rattle.wax.specs.Ignoring.{Holds, IsWalkIgnoring};
+ghost use Rattle.wax.specs.Ignoring.{HoldsLines, IsWalkIgnoring};
 
 use crate::build_error::BuildError;
 use crate::ignoring::IgnoreList;
@@ -63,7 +63,7 @@ where
 /// The walk less what the list ignores: with all that lies below it, which is cancelled, where an alternative
 /// of a line that ignores covers it and no line that takes back stands after that line; else alone.
 pub fn without_ignored<I: FileIterator>(alloc: Global, walk: I, list: IgnoreList) -> Ignore<I>
-    ensures view { (lines : List (Line Span)) → Holds list lines
+    ensures view { (lines : List (Line Span)) → HoldsLines list lines
         → IsWalkIgnoring lines (I.view walk) (⟦<Ignore<I> as FileIterator>⟧.view result) }
     ensures ends { ⟦<Ignore<I> as SeparatingFilter>⟧.left result ≡ I.left walk }
     ensures feeds { I.can_feed walk → ⟦<Ignore<I> as SeparatingFilter>⟧.can_feed result }
@@ -94,7 +94,7 @@ pub trait FileIteratorExt: FileIterator {
     final fn ignore(self, alloc: Global, list: IgnoreList) -> Ignore<Self>
     where
         Self: Sized,
-        ensures view { (lines : List (Line Span)) → Holds list lines
+        ensures view { (lines : List (Line Span)) → HoldsLines list lines
             → IsWalkIgnoring lines (Self.view self) (⟦<Ignore<Self> as FileIterator>⟧.view result) }
         ensures ends { ⟦<Ignore<Self> as SeparatingFilter>⟧.left result ≡ Self.left self }
         ensures feeds { Self.can_feed self → ⟦<Ignore<Self> as SeparatingFilter>⟧.can_feed result }

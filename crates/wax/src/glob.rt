@@ -7,13 +7,13 @@ ghost use Rattle.wax_depth.specs.Depth.{Depth};
 ghost use Rattle.wax_facts.specs.Exhaustive.{exhaustive};
 ghost use Rattle.wax_facts.specs.InvariantText.{Text, Variant};
 ghost use Rattle.wax_facts.specs.Root.{root};
-ghost use Rattle.wax_query.specs.Components.{Bare, BeginsWithSlash, components};
+ghost use Rattle.wax_query.specs.Components.{Bare, BeginsWithSlash, components_in};
 ghost use Rattle.wax_query.specs.Ranges.{AtMost, bounds};
 ghost use Rattle.wax_query.specs.Variances.{text_of};
 ghost use Rattle.wax_query.specs.declared.query.when.When.TheVariants.{Always};
 ghost use Rattle.wax_token.specs.Cost.{program_length};
 ghost use Rattle.wax_token.specs.Decided.{means_test, means_tested};
-ghost use Rattle.wax_partition.specs.Partition.{spelled};
+ghost use Rattle.wax_partition.specs.Partition.{spelled_rest};
 ghost use Rattle.wax_query.specs.Outcome.{MatchBuild};
 ghost use Rattle.wax.specs.GlobView.{HasCaptures, IsKept, IsMeant};
 ghost use Rattle.wax.specs.Partition.{as_glob};
@@ -179,7 +179,7 @@ fn compiled<'t>(
     tokenized: Tokenized<'t, ExpressionMetadata>,
 ) -> Result<Glob<'t>, Refusal<CompileError>>
     requires { IsKept tokenized.token }
-    ensures glob { IfOk result (λ g. Some g ≡ as_glob (spelled (Some tokenized.entry))) }
+    ensures glob { IfOk result (λ g. Some g ≡ as_glob (spelled_rest (Some tokenized.entry))) }
     ensures fits { MatchBuild result (λ g. program_length g.tree ≤ 1048576)
         (λ _. 1048576 < program_length tokenized.entry.token) }
 {
@@ -244,8 +244,8 @@ impl Program for Glob<'_> {
     /// count as one character. It takes no memory, and time in proportion to the tree.
     fn depth(&self) -> DepthVariance
         ensures depth { Depth self.now.tree (bounds result) }
-        ensures least { (s : List ℕ) → IsMeant self.now s → Bare s → (bounds result).0 ≤ components s }
-        ensures greatest { (s : List ℕ) → IsMeant self.now s → AtMost (components s) (bounds result).1 }
+        ensures least { (s : List ℕ) → IsMeant self.now s → Bare s → (bounds result).0 ≤ components_in s }
+        ensures greatest { (s : List ℕ) → IsMeant self.now s → AtMost (components_in s) (bounds result).1 }
     {
         depth(&self.tokenized.token)
     }

@@ -5,10 +5,10 @@ ghost use Rattle.wax_ignore.specs.Held.{line_of};
 ghost use Rattle.wax_ignore.specs.Kept.{KeepsUnignored};
 ghost use Rattle.wax_ignore.specs.Lines.{written_of};
 ghost use Rattle.wax_token.specs.Reads.{Span};
-ghost use Rattle.wax_tree.specs.Begins.{range_of};
+ghost use Rattle.wax_tree.specs.Begins.{behavior_range};
 ghost use Rattle.wax_walk.specs.Entries.{given_outcome};
 ghost use Rattle.wax_wanted.specs.Ignored.{Line, is_ignored};
-ghost use Rattle.wax.specs.Ignoring.{Holds, IsListOf, IsNoList, IsReadAs, IsUnread};
+ghost use Rattle.wax.specs.Ignoring.{HoldsLines, IsListOf, IsNoList, IsReadAs, IsUnread};
 ghost use Rattle.wax.specs.Ignoring.{refusal_number, refused_at};
 
 use crate::build_error::BuildError;
@@ -87,7 +87,7 @@ impl IgnoreList {
     /// Whether the last line that means the path ignores; false where none means it. Refused with 10 where
     /// memory is.
     pub fn is_ignored(&self, alloc: Global, path: &CandidatePath<'_>) -> Result<bool, NoMemory>
-        ensures { IfOk result (λ answer. (lines : List (Line Span)) → Holds self.now lines
+        ensures { IfOk result (λ answer. (lines : List (Line Span)) → HoldsLines self.now lines
             → answer ≡ is_ignored lines path.now) }
     {
         self.rule.is_ignored(alloc, path)
@@ -105,9 +105,9 @@ impl IgnoreList {
         behavior: WalkBehavior,
     ) -> Result<(Vec<Result<TreeEntry, WalkError>>, D), NoMemory>
         ensures { IfOk result (λ r. (lines : List (Line Span)) (s : Shown) (listed : List (List ℕ))
-            → Holds self lines → D.law.shows directory start.now s → D.law.tells directory listed
+            → HoldsLines self lines → D.law.shows directory start.now s → D.law.tells directory listed
             → KeepsUnignored (D.law.tells r.1)
-            (record { lines = lines; range = range_of behavior; start = start.now }) s listed
+            (record { lines = lines; range = behavior_range behavior; start = start.now }) s listed
             (map (given_outcome ⟦<TreeEntry as Entry>⟧.facts ⟦<TreeEntry as Entry>⟧.facts) r.0.items)) }
     {
         let walk = start.walk_with_behavior(alloc, directory, behavior);

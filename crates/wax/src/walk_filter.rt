@@ -5,7 +5,7 @@ ghost use Rattle.wax_token.specs.Reads.{Span};
 ghost use Rattle.wax_wanted.specs.Ignored.{Line};
 ghost use Rattle.wax_wanted.specs.Wanted.{not_ignored};
 ghost use Rattle.wax.specs.Exclusions.{IsNotRule, NoExclusion};
-ghost use Rattle.wax.specs.Ignoring.{Holds};
+ghost use Rattle.wax.specs.Ignoring.{HoldsLines};
 
 use crate::build_error::BuildError;
 use crate::exclusions::exclusion_of;
@@ -36,7 +36,7 @@ impl WalkFilter {
 
     /// Leaves out what the list ignores.
     pub fn ignore(list: IgnoreList) -> WalkFilter
-        ensures { (lines : List (Line Span)) → Holds list lines
+        ensures { (lines : List (Line Span)) → HoldsLines list lines
             → IsRuleOf (not_ignored lines) (⟦<WalkFilter as Rule>⟧.rule result) }
     {
         WalkFilter::Ignore(list)

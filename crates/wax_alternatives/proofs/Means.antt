@@ -2,7 +2,8 @@
 use Rattle.std.proofs.Common.{◌≡◌, ℕ, ◌≤◌, ◌==◌, ◌⊎◌, Bool, true, false, List, [], ◌∷◌, ◌++◌}
 use Rattle.std.proofs.Common.{Option, Some, None, if◌then◌else◌, refl, sym, subst, inl, inr, arith, eqb-true}
 use Rattle.std.proofs.lemmas.Bool.{and_parts}
-use Rattle.wax_token.specs.Meaning.{AtMost, Copies, Means, MeansSome}
+use Rattle.wax_query.specs.Ranges.{AtMost}
+use Rattle.wax_token.specs.Meaning.{Copies, Means, MeansSome}
 use Rattle.wax_token.specs.Syntax.{Tree, leaf, alternation, concatenation, repetition, Trees, none, more}
 use Rattle.wax_token.specs.Words.{trees}
 use Rattle.wax_alternatives.specs.Alternatives.{MeansOneOf, alternatives, beside, is_exactly_one, joined}

@@ -5,9 +5,10 @@ use Rattle.std.proofs.lemmas.Bool.{cases_eq, cases_lt}
 use Rattle.std.proofs.lemmas.List.{drop_all, get_or_past}
 use Rattle.std.proofs.Math.Seq.{take-suc}
 use Rattle.wax_program.specs.declared.instruction.Test.{Test}
-use Rattle.wax_program.specs.Machine.{Passes}
-use Rattle.wax_program.specs.Threads.{Has}
-use Rattle.wax_token.specs.Meaning.{Begins, Ends, HasNoSlash, TreeMeans}
+use Rattle.wax_program.specs.Machine.{PassesTest}
+use Rattle.wax_program.specs.Threads.{HoldsPlace}
+use Rattle.wax_query.specs.Components.{BeginsWithSlash, EndsWithSlash}
+use Rattle.wax_token.specs.Meaning.{HasNoSlash, TreeMeans}
 use Rattle.wax_capture.specs.Pieces.{IsLetter, SpelledBy}
 use Rattle.wax_capture.specs.inner.Names.{name_end, least_of, marks_of, name_len}
 use Rattle.wax_capture.specs.inner.Spans.{AreLengths, IsMarked}
@@ -17,7 +18,7 @@ use Rattle.wax_capture.specs.declared.span.Span.{Span}
 abbrev pub between : ℕ → ℕ → Span
 between low end = record { low = low; end = end; marks = All }
 
-pub has_within : (flags : List Bool) (n : ℕ) → Has flags n → n < length flags
+pub has_within : (flags : List Bool) (n : ℕ) → HoldsPlace flags n → n < length flags
 has_within flags n h = elim (cases_lt n (length flags)) [
   | inl lt ↦ lt
   | inr past ↦ absurd (true≢false (sym h ∙ get_or_past flags n false past))
@@ -38,7 +39,7 @@ one_length Takes s m here only n le = (
 
 -- ---- one character
 abbrev pub OneOf : Test → List ℕ → Type 0
-OneOf t x = (c : ℕ) × (x ≡ c ∷ []) × Passes t c
+OneOf t x = (c : ℕ) × (x ≡ c ∷ []) × PassesTest t c
 
 one_only : (t : Test) (s : List ℕ) (n : ℕ) → n ≤ length s → OneOf t (take n s) → n ≡ 1
 one_only t s n le h = let e : length (take n s) ≡ 1 = ap length h.1 in omega (arith, e, length-take n s, le)
@@ -61,14 +62,14 @@ module _ (t : Test) (text : List ℕ) (at c : ℕ) (lt : at < length text) (is :
   first : take 1 (drop at text) ≡ c ∷ []
   first = ap (take 1) (from_place text at c lt is)
 
-  pub one_yes : Passes t c → AreLengths (OneOf t) (drop at text) (between 1 2)
+  pub one_yes : PassesTest t c → AreLengths (OneOf t) (drop at text) (between 1 2)
   one_yes h = one_length (OneOf t) (drop at text) 1 (c, first, h) (λ n le g. one_only t (drop at text) n le g)
 
-  pub one_no : (Passes t c → ⊥) → AreLengths (OneOf t) (drop at text) (between 0 0)
+  pub one_no : (PassesTest t c → ⊥) → AreLengths (OneOf t) (drop at text) (between 0 0)
   one_no h = no_length (OneOf t) (drop at text) (λ n le g.
       let one : n ≡ 1 = one_only t (drop at text) n le g in
       let same : g.0 ≡ c = one_char (sym g.1 ∙ ap (λ k. take k (drop at text)) one ∙ first) in
-      h (subst (Passes t) same g.2))
+      h (subst (PassesTest t) same g.2))
 
 -- ---- letters
 pub spelled_length : (f : Bool) (ls x : List ℕ) → SpelledBy f ls x → length x ≡ length ls
@@ -152,7 +153,7 @@ name_lengths s m e n le = (
 taken_none : (s : List ℕ) (n : ℕ) → n ≤ length s → take n s ≡ [] → n ≡ 0
 taken_none s n le e = let f : length (take n s) ≡ 0 = ap length e in omega (arith, f, length-take n s, le)
 
-taken_slash : (s : List ℕ) (n : ℕ) → n ≤ length s → take n s ≡ 47 ∷ [] → (n ≡ 1) × Begins s
+taken_slash : (s : List ℕ) (n : ℕ) → n ≤ length s → take n s ≡ 47 ∷ [] → (n ≡ 1) × BeginsWithSlash s
 taken_slash [] n le e = absurd (omega (arith, ap length e, length-take {A = ℕ} n [], le))
 taken_slash (c ∷ s) zero le e = absurd (nothing refl e)
   where
@@ -168,7 +169,7 @@ taken_slash (c ∷ s) (suc n) le e =
 abbrev pub SlashOrNone : List ℕ → Type 0
 SlashOrNone x = (x ≡ []) ⊎ (x ≡ 47 ∷ [])
 
-pub slash_yes : (s : List ℕ) → Begins s → AreLengths SlashOrNone s (between 0 2)
+pub slash_yes : (s : List ℕ) → BeginsWithSlash s → AreLengths SlashOrNone s (between 0 2)
 slash_yes s b n le = (
   (λ h. elim h [
     | inl e ↦ (let m : n ≡ 0 = taken_none s n le e in (omega arith, omega (arith, m), tt))
@@ -182,7 +183,7 @@ slash_yes s b n le = (
     back (suc zero) lt = inr (ap (take 1) b.1)
     back (suc (suc n)) lt = absurd (omega (arith, lt))
 
-pub slash_no : (s : List ℕ) → (Begins s → ⊥) → AreLengths SlashOrNone s (between 0 1)
+pub slash_no : (s : List ℕ) → (BeginsWithSlash s → ⊥) → AreLengths SlashOrNone s (between 0 1)
 slash_no s fails n le = (
   (λ h. elim h [
     | inl e ↦ (let m : n ≡ 0 = taken_none s n le e in (omega arith, omega (arith, m), tt))
@@ -192,7 +193,7 @@ slash_no s fails n le = (
 )
 
 -- ---- tree wildcards
-begins_taken : (s : List ℕ) (n : ℕ) → n ≤ length s → Begins (take n s) → (1 ≤ n) × Begins s
+begins_taken : (s : List ℕ) (n : ℕ) → n ≤ length s → BeginsWithSlash (take n s) → (1 ≤ n) × BeginsWithSlash s
 begins_taken s zero le h = absurd (nothing h.1)
   where
     nothing : {t : List ℕ} → [] ≡ 47 ∷ t → ⊥
@@ -203,7 +204,7 @@ begins_taken (c ∷ s) (suc n) le h = (omega arith, (s, ap (λ d. d ∷ s) (head
     head_same : {x t : List ℕ} → c ∷ x ≡ 47 ∷ t → c ≡ 47
     head_same e = cc
 
-taken_begins : (s : List ℕ) (n : ℕ) → 1 ≤ n → Begins s → Begins (take n s)
+taken_begins : (s : List ℕ) (n : ℕ) → 1 ≤ n → BeginsWithSlash s → BeginsWithSlash (take n s)
 taken_begins s zero le b = absurd (omega (arith, le))
 taken_begins s (suc n) le b = (take n b.0, ap (take (suc n)) b.1)
 
@@ -211,7 +212,7 @@ taken_begins s (suc n) le b = (take n b.0, ap (take (suc n)) b.1)
 last_is : (s : List ℕ) (n : ℕ) → suc n ≤ length s → take (suc n) s ≡ take n s ++ get_or s n 0 ∷ []
 last_is s n le = take-suc s n 0 (omega (arith, le))
 
-ends_taken : (s : List ℕ) (n : ℕ) → n ≤ length s → Ends (take n s) → (1 ≤ n) × IsMarked AfterSlash s n
+ends_taken : (s : List ℕ) (n : ℕ) → n ≤ length s → EndsWithSlash (take n s) → (1 ≤ n) × IsMarked AfterSlash s n
 ends_taken s zero le h = absurd (nothing h.0 h.1)
   where
     nothing : (t : List ℕ) → [] ≡ t ++ 47 ∷ [] → ⊥
@@ -227,7 +228,7 @@ ends_taken s (suc n) le h = (omega arith, last_same (take n s) h.0 (get_or s n 0
     last_same (d ∷ f ∷ x) [] c e = absurd (cc)
     last_same (d ∷ x) (f ∷ t) c e = last_same x t c (ap (drop 1) e)
 
-taken_ends : (s : List ℕ) (n : ℕ) → n ≤ length s → 1 ≤ n → IsMarked AfterSlash s n → Ends (take n s)
+taken_ends : (s : List ℕ) (n : ℕ) → n ≤ length s → 1 ≤ n → IsMarked AfterSlash s n → EndsWithSlash (take n s)
 taken_ends s zero le some h = absurd (omega (arith, some))
 taken_ends s (suc n) le some h = (take n s, last_is s n le ∙ ap (λ c. take n s ++ c ∷ []) h)
 
@@ -239,15 +240,15 @@ marked_none s (suc n) e = absurd (omega (arith, e))
 abbrev tree_span : Bool → Bool → Bool → Bool → ℕ → Span
 tree_span before after rooted begins rest = record { low = least_of before after rooted; end = name_end (before || rooted) begins rest; marks = marks_of after }
 
-module _ (s : List ℕ) (b : Bool) (is : IsTrue b ↔ Begins s) where
+module _ (s : List ℕ) (b : Bool) (is : IsTrue b ↔ BeginsWithSlash s) where
   -- a `/` comes first
-  bound_to : (n : ℕ) → n ≤ length s → Begins (take n s) → (1 ≤ n) × (n < name_end true b (length s))
+  bound_to : (n : ℕ) → n ≤ length s → BeginsWithSlash (take n s) → (1 ≤ n) × (n < name_end true b (length s))
   bound_to n le h =
       let r = begins_taken s n le h in
       let e : name_end true b (length s) ≡ length s + 1 = ap (λ z. name_end true z (length s)) (is.1 r.1) in
       (r.0, omega (arith, e, le))
 
-  bound_from : (n : ℕ) → 1 ≤ n → n < name_end true b (length s) → Begins (take n s)
+  bound_from : (n : ℕ) → 1 ≤ n → n < name_end true b (length s) → BeginsWithSlash (take n s)
   bound_from n some lt = elim (either b) [
     | inl so ↦ taken_begins s n some (is.0 so)
     | inr fails ↦ (let e : name_end true b (length s) ≡ 1 = ap (λ z. name_end true z (length s)) fails in absurd (past e))

@@ -4,7 +4,7 @@ use Rattle.std.proofs.lemmas.List.{take-append-drop, drop_all, take_all}
 use Rattle.std.proofs.Math.Seq.{take-append_seam, drop-append_seam}
 use Rattle.wax_token.specs.Meaning.{LeafMeans, Means, MeansSome, MeansEach}
 use Rattle.wax_token.specs.Syntax.{Leaf, literal, class, separator, one, zero_or_more, tree, Tree, leaf, alternation, concatenation, repetition, Trees, none, more}
-use Rattle.wax_capture.specs.Captures.{Captured, First, Fits, IsChosen, LeafWay, MeansBranch, Prefers, Way, has_more}
+use Rattle.wax_capture.specs.Captures.{Captured, First, FitsPiece, IsChosen, LeafWay, MeansBranch, Prefers, MeansByWay, has_more}
 use Rattle.wax_capture.specs.Pieces.{ArePieces, IsPiece}
 use Rattle.wax_capture.specs.inner.Splits.{CapturedBy, FitsBy, IsChosenBy, Splits}
 use Rattle.std.specs.Global.{Vec}
@@ -45,13 +45,13 @@ leaf_way separator before after x h = (0, h)
 leaf_way one before after x h = (0, h)
 leaf_way (zero_or_more e) before after x h = (0, h)
 
-pub way_meant : {A : Type 0} (t : Tree A) (k : ℕ) (before after : Bool) (x : List ℕ) → Way t k before after x → Means t before after x
+pub way_meant : {A : Type 0} (t : Tree A) (k : ℕ) (before after : Bool) (x : List ℕ) → MeansByWay t k before after x → Means t before after x
 way_meant (leaf a l) k before after x h = leaf_meant l k before after x h
 way_meant (alternation a ts) k before after x h = branch_meant ts k before after x h
 way_meant (concatenation a ts) k before after x h = first_meant k h
 way_meant (repetition a t low high) k before after x h = first_meant k h
 
-pub some_way : {A : Type 0} (t : Tree A) (before after : Bool) (x : List ℕ) → Means t before after x → (k : ℕ) × Way t k before after x
+pub some_way : {A : Type 0} (t : Tree A) (before after : Bool) (x : List ℕ) → Means t before after x → (k : ℕ) × MeansByWay t k before after x
 some_way (leaf a l) before after x h = leaf_way l before after x h
 some_way (alternation a ts) before after x h = some_branch ts before after x h
 some_way (concatenation a ts) before after x h = (0, h)
@@ -91,7 +91,7 @@ mutual
   means_splits (more t ts) before after [] are s h = absurd are
   means_splits (more t ts) before after (p ∷ ps) are s h =
       let r : (n : ℕ) × (n ≤ length s) × Means t before (after || has_more ts) (take n s) × MeansEach ts true after (drop n s) = each_split t ts before after s h in
-      let w : (k : ℕ) × Way t k before (after || has_more ts) (take r.0 s) = some_way t before (after || has_more ts) (take r.0 s) r.2 in
+      let w : (k : ℕ) × MeansByWay t k before (after || has_more ts) (take r.0 s) = some_way t before (after || has_more ts) (take r.0 s) r.2 in
       (w.0, r.0, r.1, (are.0.ways w.0 (take r.0 s)).0 w.1, means_splits ts true after ps are.1 (drop r.0 s) r.3)
 
   pub splits_means : {A : Type 0} (ts : Trees A) (before after : Bool) (ps : List Piece) → ArePieces ts before after ps → (s : List ℕ) → Splits ps s → MeansEach ts before after s
@@ -102,10 +102,10 @@ mutual
       each_join t ts before after s h.1 h.2 (way_meant t h.0 before (after || has_more ts) (take h.1 s) ((are.0.ways h.0 (take h.1 s)).1 h.3)) (splits_means ts true after ps are.1 (drop h.1 s) h.4)
 
 module _ {A : Type 0} (t : Tree A) (ts : Trees A) (before after : Bool) (p : Piece) (ps : List Piece) (is : IsPiece t before (after || has_more ts) p) (are : ArePieces ts true after ps) (s : List ℕ) where
-  fits_by : (k n : ℕ) → Fits t ts before after s (k, n) → FitsBy p ps s k n
+  fits_by : (k n : ℕ) → FitsPiece t ts before after s (k, n) → FitsBy p ps s k n
   fits_by k n f = (f.0, (is.ways k (take n s)).0 f.1, means_splits ts true after ps are (drop n s) f.2)
 
-  by_fits : (k n : ℕ) → FitsBy p ps s k n → Fits t ts before after s (k, n)
+  by_fits : (k n : ℕ) → FitsBy p ps s k n → FitsPiece t ts before after s (k, n)
   by_fits k n f = (f.0, (is.ways k (take n s)).1 f.1, splits_means ts true after ps are (drop n s) f.2)
 
   pub is_chosen : (n : ℕ) → IsChosenBy p ps s n → IsChosen t ts before after s n

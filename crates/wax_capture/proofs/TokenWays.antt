@@ -11,7 +11,7 @@ use Rattle.wax_token.specs.Cost.{cost, costs}
 use Rattle.wax_token.specs.Meaning.{Means, MeansEach, SameFold, SameText, TreeMeans}
 use Rattle.wax_token.specs.Syntax.{literal, class, separator, one, zero_or_more, tree, Tree, leaf, alternation, concatenation, repetition, none, more}
 use Rattle.wax_token.specs.Words.{trees}
-use Rattle.wax_capture.specs.Captures.{First, LeafWay, Way, tree_capture}
+use Rattle.wax_capture.specs.Captures.{First, LeafWay, MeansByWay, tree_capture}
 use Rattle.wax_capture.specs.inner.Ways.{IsTreeToken, is_single}
 use Rattle.wax_capture.specs.Pieces.{SpelledBy, TakenBy, WayIn}
 use Rattle.wax_capture.specs.declared.form.Form.{Form}
@@ -78,7 +78,7 @@ tree_two_ways rooted before after p q f g zero x = (
 tree_two_ways rooted before after p q f g (suc k) x = first_way q (TreeMeans before after rooted) g k x
 
 pub tree_token_ways : {A : Type 0} (t : Tree A) (rooted before after : Bool) (forms : List Form) → IsTreeToken t rooted → ((k : ℕ) (x : List ℕ) → LeafWay (tree rooted) k before after x ↔ WayIn forms k x) →
-    (k : ℕ) (x : List ℕ) → Way t k before after x ↔ WayIn forms k x
+    (k : ℕ) (x : List ℕ) → MeansByWay t k before after x ↔ WayIn forms k x
 tree_token_ways (leaf a (tree r)) rooted before after forms is f k x = subst (λ z. LeafWay (tree z) k before after x ↔ WayIn forms k x) (sym is) (f k x)
 tree_token_ways (leaf a (literal i t)) rooted before after forms is f k x = absurd is
 tree_token_ways (leaf a (class n xs)) rooted before after forms is f k x = absurd is
@@ -93,7 +93,7 @@ same_first : (M : Type 0) (k : ℕ) → First M k ↔ First M k
 same_first M k = ((λ h. h), (λ h. h))
 
 -- a token of one way
-pub single_way : {A : Type 0} (t : Tree A) → is_single t ≡ true → (k : ℕ) (before after : Bool) (x : List ℕ) → Way t k before after x ↔ First (Means t before after x) k
+pub single_way : {A : Type 0} (t : Tree A) → is_single t ≡ true → (k : ℕ) (before after : Bool) (x : List ℕ) → MeansByWay t k before after x ↔ First (Means t before after x) k
 single_way (leaf a (tree r)) e k before after x = absurd (true≢false (sym e))
 single_way (leaf a (literal i t)) e k before after x = same_first _ k
 single_way (leaf a (class n xs)) e k before after x = same_first _ k

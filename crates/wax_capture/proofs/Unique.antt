@@ -1,7 +1,7 @@
 -- There is one chosen split.
 use Rattle.std.proofs.Common.{◌≡◌, ℕ, ◌++◌, Bool, true, false, List, take, drop, sym, ◌∙◌, ap, subst, arith}
 use Rattle.wax_token.specs.Syntax.{Tree, Trees, none, more}
-use Rattle.wax_capture.specs.Captures.{Captured, Fits, IsChosen, Prefers, is_lazy, token_captures}
+use Rattle.wax_capture.specs.Captures.{Captured, FitsPiece, IsChosen, Prefers, is_lazy, token_captures}
 
 same_best : (lazy : Bool) (n m : ℕ) → Prefers lazy n m → Prefers lazy m n → n ≡ m
 same_best true n m h g = omega (arith, h, g)
@@ -10,7 +10,7 @@ same_best false n m h g = omega (arith, h, g)
 pub chosen_unique : {A : Type 0} (t : Tree A) (ts : Trees A) (before after : Bool) (s : List ℕ) (n m : ℕ) → IsChosen t ts before after s n → IsChosen t ts before after s m → n ≡ m
 chosen_unique t ts before after s n m c d =
     let w : c.way ≡ d.way = omega (arith, c.first d.way m d.fits, d.first c.way n c.fits) in
-    same_best (is_lazy t) n m (c.best m (subst (λ k. Fits t ts before after s (k, m)) (sym w) d.fits)) (d.best n (subst (λ k. Fits t ts before after s (k, n)) w c.fits))
+    same_best (is_lazy t) n m (c.best m (subst (λ k. FitsPiece t ts before after s (k, m)) (sym w) d.fits)) (d.best n (subst (λ k. FitsPiece t ts before after s (k, n)) w c.fits))
 
 pub captured_unique : {A : Type 0} (ts : Trees A) (before after : Bool) (s : List ℕ) (cs ds : List (List ℕ)) → Captured ts before after s cs → Captured ts before after s ds → cs ≡ ds
 captured_unique none before after s cs ds h g = h.1 ∙ sym g.1

@@ -57,11 +57,11 @@ LeafWay (zero_or_more e) k before after x = First (LeafMeans (zero_or_more e) be
 
 -- The ways of a token to mean a piece, each better than those after it: the branches of an alternation; of
 -- a tree wildcard first those pieces of which nothing is captured, then all; one way of any other token.
-abbrev pub Way : {A : Type 0} → Tree A → ℕ → Bool → Bool → List ℕ → Type 0
-Way (leaf a l) k before after x = LeafWay l k before after x
-Way (alternation a ts) k before after x = MeansBranch ts k before after x
-Way (concatenation a ts) k before after x = First (MeansEach ts before after x) k
-Way (repetition a t low high) k before after x = First (Means (repetition a t low high) before after x) k
+abbrev pub MeansByWay : {A : Type 0} → Tree A → ℕ → Bool → Bool → List ℕ → Type 0
+MeansByWay (leaf a l) k before after x = LeafWay l k before after x
+MeansByWay (alternation a ts) k before after x = MeansBranch ts k before after x
+MeansByWay (concatenation a ts) k before after x = First (MeansEach ts before after x) k
+MeansByWay (repetition a t low high) k before after x = First (Means (repetition a t low high) before after x) k
 
 abbrev pub is_lazy_leaf : Leaf → Bool
 is_lazy_leaf (zero_or_more Lazy) = true
@@ -89,17 +89,17 @@ has_more none = false
 has_more (more t ts) = true
 
 -- the first n characters can be the piece of the token t, by its k-th way, as the others mean the rest
-abbrev pub Fits : {A : Type 0} → Tree A → Trees A → Bool → Bool → List ℕ → ℕ × ℕ → Type 0
-Fits t ts before after s (k, n) =
-    (n ≤ length s) × Way t k before (after || has_more ts) (take n s) × MeansEach ts true after (drop n s)
+abbrev pub FitsPiece : {A : Type 0} → Tree A → Trees A → Bool → Bool → List ℕ → ℕ × ℕ → Type 0
+FitsPiece t ts before after s (k, n) =
+    (n ≤ length s) × MeansByWay t k before (after || has_more ts) (take n s) × MeansEach ts true after (drop n s)
 
 -- of all lengths that fit, n is the one by the best way, and by that way the longest or the shortest
 pub record IsChosen {A : Type 0} (t : Tree A) (ts : Trees A) (before after : Bool) (s : List ℕ) (n : ℕ) :
     Type 0 where
   pub way : ℕ
-  pub fits : Fits t ts before after s (way, n)
-  pub first : (k m : ℕ) → Fits t ts before after s (k, m) → way ≤ k
-  pub best : (m : ℕ) → Fits t ts before after s (way, m) → Prefers (is_lazy t) n m
+  pub fits : FitsPiece t ts before after s (way, n)
+  pub first : (k m : ℕ) → FitsPiece t ts before after s (k, m) → way ≤ k
+  pub best : (m : ℕ) → FitsPiece t ts before after s (way, m) → Prefers (is_lazy t) n m
 
 -- the captures of the tokens, whose pieces are chosen from left to right
 abbrev pub Captured : {A : Type 0} → Trees A → Bool → Bool → List ℕ → List (List ℕ) → Type 0

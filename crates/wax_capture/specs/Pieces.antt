@@ -2,12 +2,12 @@
 use Rattle.std.specs.Prelude.{◌≡◌, ◌↔◌, ◌⊎◌, ℕ, ◌+◌, ◌-◌, ◌≤◌, max, Bool, true, false, ◌||◌, List, [], ◌∷◌, ⊤}
 use Rattle.std.specs.Prelude.{length, drop, Some, slice_get}
 use Rattle.unicode.specs.CaseFolding.{simple_fold}
-use Rattle.wax_program.specs.Machine.{Accepts, Passes}
+use Rattle.wax_program.specs.Machine.{Accepts, PassesTest}
 use Rattle.wax_program.specs.declared.instruction.Instruction.{Instruction}
 use Rattle.wax_token.specs.Cost.{cost}
 use Rattle.wax_token.specs.Meaning.{HasNoSlash, TreeMeans}
 use Rattle.wax_token.specs.Syntax.{Tree, Trees, none, more}
-use Rattle.wax_capture.specs.Captures.{Way, has_more, is_lazy, token_captures, tree_capture}
+use Rattle.wax_capture.specs.Captures.{MeansByWay, has_more, is_lazy, token_captures, tree_capture}
 use Rattle.wax_capture.specs.declared.form.Form.{Form}
 use Rattle.wax_capture.specs.declared.form.Form.TheVariants as form
 use Rattle.wax_capture.specs.declared.piece.Capture.{Capture}
@@ -31,7 +31,7 @@ SpelledBy folded (letter ∷ letters) (c ∷ x) = IsLetter folded letter c × Sp
 
 -- the form takes the text
 abbrev pub TakenBy : Form → List ℕ → Type 0
-TakenBy (form.One test) x = (c : ℕ) × (x ≡ c ∷ []) × Passes test c
+TakenBy (form.One test) x = (c : ℕ) × (x ≡ c ∷ []) × PassesTest test c
 TakenBy (form.Text letters folded) x = SpelledBy folded letters.items x
 TakenBy form.Name x = HasNoSlash x
 TakenBy form.SlashOrNothing x = (x ≡ []) ⊎ (x ≡ 47 ∷ [])
@@ -75,7 +75,7 @@ size_of (form ∷ forms) = form_size form + size_of forms
 
 -- the piece of a token: the same ways, the same choice, the same capture, and a size within the cost
 pub record IsPiece {A : Type 0} (t : Tree A) (before after : Bool) (p : Piece) : Type 0 where
-  pub ways : (k : ℕ) (x : List ℕ) → Way t k before after x ↔ WayOf p k x
+  pub ways : (k : ℕ) (x : List ℕ) → MeansByWay t k before after x ↔ WayOf p k x
   pub lazy : p.is_lazy ≡ is_lazy t
   pub captures : (x : List ℕ) → captured_by p.capture x ≡ token_captures t before x
   pub few : size_of (forms_of p.ways) ≤ cost t

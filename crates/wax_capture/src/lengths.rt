@@ -1,7 +1,8 @@
 //! The lengths of the parts that a form takes from a place on.
 ghost use Rattle.std.specs.Prelude.{◌≡◌, ◌⊎◌, ◌||◌, ◌+◌, ◌*◌, ◌<◌, ◌≤◌, ◌↔◌, ◌∷◌, [], ℕ, IfOk, IsTrue, length, take, drop};
-ghost use Rattle.wax_program.specs.Machine.{Accepts, Passes};
-ghost use Rattle.wax_token.specs.Meaning.{Begins, HasNoSlash, TreeMeans};
+ghost use Rattle.wax_program.specs.Machine.{Accepts, PassesTest};
+ghost use Rattle.wax_query.specs.Components.{BeginsWithSlash};
+ghost use Rattle.wax_token.specs.Meaning.{HasNoSlash, TreeMeans};
 ghost use Rattle.wax_capture.specs.Pieces.{IsLetter, SpelledBy, form_size, program_size};
 ghost use Rattle.wax_capture.specs.inner.Names.{name_end, least_of, marks_of, name_len};
 ghost use Rattle.wax_capture.specs.inner.Spans.{AreLengths, HasLengths, looks};
@@ -16,7 +17,7 @@ use wax_program::instruction::{Test, folds_to};
 /// Of one character that passes the test.
 fn of_one(test: &Test, text: &[char], at: usize, visits: &mut Visits) -> Span
     requires { at ≤ length text.now }
-    ensures lengths { AreLengths (λ x. (c : ℕ) × (x ≡ c ∷ []) × Passes test.now c) (drop at text.now) result }
+    ensures lengths { AreLengths (λ x. (c : ℕ) × (x ≡ c ∷ []) × PassesTest test.now c) (drop at text.now) result }
     ensures end { at + result.end ≤ length text.now + 1 }
     ensures looked { visits.new + looks result ≤ visits.old + (length text.now + 1) }
     ensures steady { visits.old ≤ visits.new }
@@ -113,7 +114,7 @@ fn of_name(text: &[char], at: usize, visits: &mut Visits) -> Span
 
 fn begins_with_slash(text: &[char], at: usize) -> bool
     requires { at ≤ length text.now }
-    ensures { IsTrue result ↔ Begins (drop at text.now) }
+    ensures { IsTrue result ↔ BeginsWithSlash (drop at text.now) }
 {
     at < text.len() && text[at] == '/'
 }

@@ -1,7 +1,7 @@
 //! Lengths of the parts of a text that a form takes from a place on, from which the best are picked.
 ghost use Rattle.std.specs.Prelude.{◌≡◌, ◌+◌, ◌-◌, ◌<◌, ◌≤◌, ◌↔◌, ℕ, IsTrue, IfSome, MatchOption, length, drop};
 ghost use Rattle.std.specs.Prelude.{true, false};
-ghost use Rattle.wax_program.specs.Threads.{Has};
+ghost use Rattle.wax_program.specs.Threads.{HoldsPlace};
 ghost use Rattle.wax_capture.specs.inner.Spans.{InSpan, IsMarked, IsNarrowed, IsPicked, looks, looks_of};
 
 use crate::visits::Visits;
@@ -50,7 +50,7 @@ fn is_after_slash(text: &[char], at: usize, n: usize) -> bool
 
 /// Whether the length is flagged.
 fn is_flagged(flags: &[bool], n: usize) -> bool
-    ensures { IsTrue result ↔ Has flags.now n }
+    ensures { IsTrue result ↔ HoldsPlace flags.now n }
 {
     if n >= flags.len() {
         return false;

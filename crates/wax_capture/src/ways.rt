@@ -6,7 +6,7 @@ ghost use Rattle.wax_token.specs.Cost.{branches_cost, cost};
 ghost use Rattle.wax_token.specs.Meaning.{Means};
 ghost use Rattle.wax_token.specs.Syntax.{Tree, tree};
 ghost use Rattle.wax_token.specs.Words.{trees};
-ghost use Rattle.wax_capture.specs.Captures.{LeafWay, MeansBranch, Way};
+ghost use Rattle.wax_capture.specs.Captures.{LeafWay, MeansBranch, MeansByWay};
 ghost use Rattle.wax_capture.specs.Pieces.{TakenBy, WayIn, form_size, forms_of, size_of};
 ghost use Rattle.wax_capture.specs.inner.Ways.{IsAt, is_single};
 
@@ -86,7 +86,7 @@ fn one_way<'t, A>(
     requires { index < length tokens.now }
     ensures ways { IfOk result (λ ways. (t : Tree A)
         → IsAt tokens.now index t → is_single t ≡ true
-        → (k : ℕ) (x : List ℕ) → Way t k before after x ↔ WayIn (forms_of ways) k x) }
+        → (k : ℕ) (x : List ℕ) → MeansByWay t k before after x ↔ WayIn (forms_of ways) k x) }
     ensures few { MatchBuild result
         (λ ways. (t : Tree A) → IsAt tokens.now index t → size_of (forms_of ways) ≤ cost t)
         (λ _. (t : Tree A) → IsAt tokens.now index t → 1048576 < cost t + 1) }
@@ -124,7 +124,7 @@ pub fn ways_of<'t, A>(
 ) -> Result<Ways, Refusal<CompileError>>
     requires { index < length tokens.now }
     ensures ways { IfOk result (λ ways. (t : Tree A) → IsAt tokens.now index t
-        → (k : ℕ) (x : List ℕ) → Way t k before after x ↔ WayIn (forms_of ways) k x) }
+        → (k : ℕ) (x : List ℕ) → MeansByWay t k before after x ↔ WayIn (forms_of ways) k x) }
     ensures few { MatchBuild result
         (λ ways. (t : Tree A) → IsAt tokens.now index t → size_of (forms_of ways) ≤ cost t)
         (λ _. (t : Tree A) → IsAt tokens.now index t → 1048576 < cost t + 1) }

@@ -10,7 +10,7 @@ use Rattle.wax_token.specs.Syntax.{Tree}
 use Rattle.wax_walk.specs.Given.{Facts, Mark}
 use Rattle.wax_wanted.specs.Ignored.{Line}
 use Rattle.wax_wanted.specs.Wanted.{Filter, not_ignored, not_meant}
-use Rattle.wax_commands.specs.Commands.{WalkOption, without, ignoring, at_least, at_most, Says}
+use Rattle.wax_commands.specs.Commands.{WalkOption, without, ignoring, at_least, at_most, IsOption}
 use Rattle.wax_commands.specs.Files.{FileAnswers, IsListIn}
 use Rattle.wax_commands.specs.Walked.{AreAskedBy, IsNotOf}
 use Rattle.wax_commands.proofs.OptionWords.{same_option}
@@ -40,7 +40,7 @@ module _ {Z : Type 0} (answers : FileAnswers Z) (name word : List ℕ) (P : List
   abbrev Adds : WalkOption → Type 0
   Adds o = (xs : List (Filter Span)) × (rules : List (Facts → Mark)) × AreAskedBy answers o xs × AreRulesOf xs rules × P rules
 
-  pub none_asked : (name ≡ codes "not" → ⊥) → (name ≡ codes "ignore" → ⊥) → P [] → (o : WalkOption) → Says name word o → Adds o
+  pub none_asked : (name ≡ codes "not" → ⊥) → (name ≡ codes "ignore" → ⊥) → P [] → (o : WalkOption) → IsOption name word o → Adds o
   none_asked n i p (without e) s = absurd (n s.0)
   none_asked n i p (ignoring file) s = absurd (i s.0)
   none_asked n i p (at_least m) s = ([], [], tt, tt, p)
@@ -48,11 +48,11 @@ module _ {Z : Type 0} (answers : FileAnswers Z) (name word : List ℕ) (P : List
 
   module _ {A E : Type 0} (r : Result A E) where
     pub pattern_asked : name ≡ codes "not" → OnOk r ((t : Tree Span) × (rules : List (Facts → Mark)) × IsNotOf word t × AreRulesOf (not_meant t ∷ []) rules × P rules)
-        → OnOk r ((o : WalkOption) → Says name word o → Adds o)
+        → OnOk r ((o : WalkOption) → IsOption name word o → Adds o)
     pattern_asked e added = map_on_ok (λ h o s.
         subst Adds (sym (same_option name word o (without word) s (e, refl))) (not_meant h.0 ∷ [], h.1, h.2, h.3, h.4)) r added
 
     pub list_asked : name ≡ codes "ignore" → OnOk r ((lines : List (Line Span)) × (rules : List (Facts → Mark)) × IsListIn answers word lines × AreRulesOf (not_ignored lines ∷ []) rules × P rules)
-        → OnOk r ((o : WalkOption) → Says name word o → Adds o)
+        → OnOk r ((o : WalkOption) → IsOption name word o → Adds o)
     list_asked e added = map_on_ok (λ h o s.
         subst Adds (sym (same_option name word o (ignoring word) s (e, refl))) (not_ignored h.0 ∷ [], h.1, h.2, h.3, h.4)) r added

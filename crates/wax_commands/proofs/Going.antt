@@ -7,8 +7,8 @@ use Rattle.wax_collect.specs.Trips.{AreRulesOf, KeepsWanted, Trip, goes, trip_wa
 use Rattle.wax_directory.specs.Law.{Law}
 use Rattle.wax_directory.specs.Shown.{Shown}
 use Rattle.wax_token.specs.Reads.{Span}
-use Rattle.wax_tree.specs.Begins.{or_greatest, range_of}
-use Rattle.wax_tree.specs.Depths.{at_depth}
+use Rattle.wax_tree.specs.Begins.{or_greatest, behavior_range}
+use Rattle.wax_tree.specs.Depths.{behavior_at}
 use Rattle.wax_tree.specs.declared.behavior.WalkBehavior.{WalkBehavior}
 use Rattle.wax_walk.specs.Given.{Facts, Mark}
 use Rattle.wax_walk.specs.View.{WalkView}
@@ -40,16 +40,16 @@ module _ {D C : Type 0} (law : Law D C) (d : D) (asked : WalkRequest) (globs : W
   )
 
   -- the walk begins where it was asked to
-  pub begins_so : (start : List ℕ) (b : WalkBehavior) → start ≡ asked.start → range_of b ≡ range_in asked.options
-      → BeginsGlob globs.glob.tree law d start (range_of b) view → BeginsGlob globs.glob.tree law d asked.start (range_in asked.options) view
+  pub begins_so : (start : List ℕ) (b : WalkBehavior) → start ≡ asked.start → behavior_range b ≡ range_in asked.options
+      → BeginsGlob globs.glob.tree law d start (behavior_range b) view → BeginsGlob globs.glob.tree law d asked.start (range_in asked.options) view
   begins_so start b e f h =
-      subst (λ r. BeginsGlob globs.glob.tree law d asked.start r view) f (subst (λ v. BeginsGlob globs.glob.tree law d v (range_of b) view) e h)
+      subst (λ r. BeginsGlob globs.glob.tree law d asked.start r view) f (subst (λ v. BeginsGlob globs.glob.tree law d v (behavior_range b) view) e h)
 
 -- ---- from what was read on
 
-range_read : (walk : WalkWords) (asked : WalkRequest) (b : WalkBehavior) → IsRead walk asked → b ≡ at_depth walk.depth → range_of b ≡ range_in asked.options
+range_read : (walk : WalkWords) (asked : WalkRequest) (b : WalkBehavior) → IsRead walk asked → b ≡ behavior_at walk.depth → behavior_range b ≡ range_in asked.options
 range_read walk asked b read e =
-    ap range_of e ∙ (λ i. record { min = read.lower i; max = or_greatest (read.upper i); budget = 2 ^ 32 - 1 })
+    ap behavior_range e ∙ (λ i. record { min = read.lower i; max = or_greatest (read.upper i); budget = 2 ^ 32 - 1 })
 
 abbrev pub ground : {D C Z : Type 0} → Law D C → D → FileAnswers Z → Ground D C Z
 ground law d answers = record { law = law; directory = d; answers = answers }
@@ -71,8 +71,8 @@ module _ {D C Z : Type 0} (over : Ground D C Z) (walk : WalkWords) (asked : Walk
     pub ends_no_filter : (held : Option (List ℕ)) → ((os : List WalkOption) → SayEach walk.options.now os → HasRefused over.answers os) → WalkEnds over asked held held 1
     ends_no_filter held h = refused (no_filter g glob_asked (h asked.options read.options)) refl refl
 
-    module _ (rules : List (Facts → Mark)) (left : AreLeftOut rules) (b : WalkBehavior) (is : b ≡ at_depth walk.depth) (view : WalkView D)
-        (begins : BeginsGlob g.tree over.law over.directory walk.start.now (range_of b) view) (held held' : Option (List ℕ)) where
+    module _ (rules : List (Facts → Mark)) (left : AreLeftOut rules) (b : WalkBehavior) (is : b ≡ behavior_at walk.depth) (view : WalkView D)
+        (begins : BeginsGlob g.tree over.law over.directory walk.start.now (behavior_range b) view) (held held' : Option (List ℕ)) where
       abbrev built : (xs : List (Filter Span)) × AreAskedByAll over.answers asked.options xs × AreRulesOf xs rules
       built = left asked.options read.options
 

@@ -6,7 +6,7 @@ use Rattle.wax_collect.specs.Trips.{AreRulesOf}
 use Rattle.wax_token.specs.Reads.{Span}
 use Rattle.wax_walk.specs.Given.{Facts, Mark}
 use Rattle.wax_wanted.specs.Wanted.{Filter}
-use Rattle.wax_commands.specs.Commands.{WalkOption, Says, SayEach}
+use Rattle.wax_commands.specs.Commands.{WalkOption, IsOption, SayEach}
 use Rattle.wax_commands.specs.Files.{FileAnswers}
 use Rattle.wax_commands.specs.Walked.{AreAskedBy, AreAskedByAll, HasRefused, IsRefusedOption}
 use Rattle.wax_commands.specs.inner.WalkWords.{HasNoNext, IsNext}
@@ -56,11 +56,11 @@ module _ {Z : Type 0} (answers : FileAnswers Z) where
 
   module _ {A : Type 0} (now : List (Option (String A))) (name word : List ℕ) (rest : List (Option (String A))) (asked : List WalkOption) (rules : List (Facts → Mark))
       (h : SoFar now asked rules) (n : IsNext now name word rest) where
-    abbrev taken : (o : WalkOption) × (vs : List WalkOption) × Says name word o × SayEach rest vs × (h.left ≡ o ∷ vs)
+    abbrev taken : (o : WalkOption) × (vs : List WalkOption) × IsOption name word o × SayEach rest vs × (h.left ≡ o ∷ vs)
     taken = next_says now name word rest h.left n h.says
 
     -- what one more option asks for
-    pub so_far_more : (more : List (Facts → Mark)) → ((o : WalkOption) → Says name word o → (xs : List (Filter Span)) × (others : List (Facts → Mark))
+    pub so_far_more : (more : List (Facts → Mark)) → ((o : WalkOption) → IsOption name word o → (xs : List (Filter Span)) × (others : List (Facts → Mark))
         × AreAskedBy answers o xs × AreRulesOf xs others × (more ≡ rules ++ others)) → SoFar rest asked more
     so_far_more more adds =
         let added = adds taken.0 taken.2 in
@@ -75,7 +75,7 @@ module _ {Z : Type 0} (answers : FileAnswers Z) where
         }
 
     -- the first that is refused
-    pub so_far_refused : ((o : WalkOption) → Says name word o → IsRefusedOption answers o) → HasRefused answers asked
+    pub so_far_refused : ((o : WalkOption) → IsOption name word o → IsRefusedOption answers o) → HasRefused answers asked
     so_far_refused refused = record {
       before = h.front;
       filters = h.filters;

@@ -16,7 +16,7 @@ use Rattle.wax_walk.specs.Given.{Given, kept, alone, with_tree, entry, fault, no
 use Rattle.wax_walk.specs.View.{WalkView, FeedStep}
 use Rattle.wax_walk.proofs.Collecting.{GaveSoFar, goes_on, lacked_memory, was_over_budget, Taking, taking_none, taking_more, taking_end}
 use Rattle.wax_commands.specs.Candidates.{candidate_line, candidate_lines, is_error}
-use Rattle.wax_commands.specs.inner.Candidates.{Moves, WroteAll, WroteSome}
+use Rattle.wax_commands.specs.inner.Candidates.{MovesBytes, WroteAll, WroteSome}
 
 lines_more : (xs : List Given) (x : Given) → candidate_lines (xs ++ x ∷ []) ≡ candidate_lines xs ++ candidate_line x
 lines_more xs x = flat_map-append candidate_line xs (x ∷ []) ∙ ap (λ v. candidate_lines xs ++ v) (append-nil (candidate_line x))
@@ -43,7 +43,7 @@ module _ {D C : Type 0} (law : Law D C) (walk : WalkView D) where
   pub record Writing (now : WalkView D) (most less : ℕ) (held held' : Option (List ℕ)) (waiting : List ℕ) (has_errors : Bool) : Type 0 where
     pub given : List Given
     pub taking : Taking law walk now most less given
-    pub moves : Moves held held' [] waiting (candidate_lines given)
+    pub moves : MovesBytes held held' [] waiting (candidate_lines given)
     pub errors : has_errors ≡ list_any is_error given
 
   pub writing_none : (most : ℕ) (held : Option (List ℕ)) → Writing walk most most held held [] false
@@ -54,8 +54,8 @@ module _ {D C : Type 0} (law : Law D C) (walk : WalkView D) where
     errors = refl;
   }
 
-  moves_more : (held mid held' : Option (List ℕ)) (waiting waiting' front line : List ℕ) → Moves held mid [] waiting front → Moves mid held' waiting waiting' line
-      → Moves held held' [] waiting' (front ++ line)
+  moves_more : (held mid held' : Option (List ℕ)) (waiting waiting' front line : List ℕ) → MovesBytes held mid [] waiting front → MovesBytes mid held' waiting waiting' line
+      → MovesBytes held held' [] waiting' (front ++ line)
   moves_more held mid held' waiting waiting' front line m n = (
     m.0 ++ n.0,
     Appends-trans _ _ _ _ _ m.1 n.1,
@@ -64,12 +64,12 @@ module _ {D C : Type 0} (law : Law D C) (walk : WalkView D) where
 
   -- one more item
   pub writing_more : (mid now : WalkView D) (most less fewer : ℕ) (held middle held' : Option (List ℕ)) (waiting waiting' : List ℕ) (had has : Bool) (x : Given)
-      → Writing mid most less held middle waiting had → FeedStep law mid (Some x) now → fewer < less → Moves middle held' waiting waiting' (candidate_line x)
+      → Writing mid most less held middle waiting had → FeedStep law mid (Some x) now → fewer < less → MovesBytes middle held' waiting waiting' (candidate_line x)
       → has ≡ (had || is_error x) → Writing now most fewer held held' waiting' has
   writing_more mid now most less fewer held middle held' waiting waiting' had has x w f l m e = record {
     given = w.given ++ x ∷ [];
     taking = taking_more law walk mid now most less fewer w.given x w.taking f l;
-    moves = subst (Moves held held' [] waiting') (sym (lines_more w.given x)) (moves_more held middle held' waiting waiting' (candidate_lines w.given) (candidate_line x) w.moves m);
+    moves = subst (MovesBytes held held' [] waiting') (sym (lines_more w.given x)) (moves_more held middle held' waiting waiting' (candidate_lines w.given) (candidate_line x) w.moves m);
     errors = e ∙ (ap (λ v. v || is_error x) w.errors ∙ (or_none (list_any is_error w.given) (is_error x) ∙ sym (list_any-append is_error w.given (x ∷ []))));
   } where
     or_none : (a b : Bool) → (a || b) ≡ (a || (b || false))

@@ -1,9 +1,9 @@
 -- The words of walks.
 use Rattle.std.proofs.Common.{◌≡◌, ℕ, ◌+◌, ◌≤◌, Bool, true, false, List, [], ◌∷◌, ◌++◌, length, length-append, get_or, Option, Some, None, inl, inr, refl, sym, ap, subst, ◌∙◌, append_assoc, arith}
 use Rattle.std.specs.Prelude.{◌↔◌, IfNone, String, string_bytes, codes, slice_get}
-use Rattle.wax_commands.specs.Commands.{WalkOption, without, ignoring, at_least, at_most, Says, SayEach, leasts_in, greatests_in, count_lists}
+use Rattle.wax_commands.specs.Commands.{WalkOption, without, ignoring, at_least, at_most, IsOption, SayEach, leasts_in, greatests_in, count_lists}
 use Rattle.wax_commands.specs.Commands.{AreBounds, SaysWalk, AsksWalk, WalkRequest}
-use Rattle.wax_commands.specs.inner.WalkWords.{AreDoubled, AreMore, AreSaidBy, all_in, one_if, IsFirst, IsNext, IsDoubled}
+use Rattle.wax_commands.specs.inner.WalkWords.{AreDoubled, AreMore, AreSaidBy, all_in, one_if, IsFirstWord, IsNext, IsDoubled}
 use Rattle.wax_commands.specs.declared.walk_words.OptionWords.{OptionWords}
 
 -- ---- an option is known by its words
@@ -11,7 +11,7 @@ use Rattle.wax_commands.specs.declared.walk_words.OptionWords.{OptionWords}
 letter : {x y : List ℕ} (k : ℕ) → x ≡ y → get_or x k 0 ≡ get_or y k 0
 letter k e = ap (λ v. get_or v k 0) e
 
-pub same_option : (name word : List ℕ) (o u : WalkOption) → Says name word o → Says name word u → o ≡ u
+pub same_option : (name word : List ℕ) (o u : WalkOption) → IsOption name word o → IsOption name word u → o ≡ u
 same_option name word (without e) (without f) h k = ap without (h.1 ∙ sym k.1)
 same_option name word (without e) (ignoring f) h k = let d : 110 ≡ 105 = letter 0 (sym h.0 ∙ k.0) in absurd (omega (arith, d))
 same_option name word (without e) (at_least n) h k = let d : 110 ≡ 109 = letter 0 (sym h.0 ∙ k.0) in absurd (omega (arith, d))
@@ -29,8 +29,8 @@ same_option name word (at_most m) (ignoring f) h k = let d : 109 ≡ 105 = lette
 same_option name word (at_most m) (at_least n) h k = let d : 97 ≡ 105 = letter 1 (sym h.0 ∙ k.0) in absurd (omega (arith, d))
 same_option name word (at_most m) (at_most n) h k = ap at_most (h.1.1 ∙ sym k.1.1)
 
-said_so : (a b c d : List ℕ) (o : WalkOption) → a ≡ b → c ≡ d → Says a c o → Says b d o
-said_so a b c d o e f h = subst (λ v. Says v d o) e (subst (λ v. Says a v o) f h)
+said_so : (a b c d : List ℕ) (o : WalkOption) → a ≡ b → c ≡ d → IsOption a c o → IsOption b d o
+said_so a b c d o e f h = subst (λ v. IsOption v d o) e (subst (λ v. IsOption a v o) f h)
 
 pub same_options : {A : Type 0} (words : List (Option (String A))) (os us : List WalkOption) → SayEach words os → SayEach words us → os ≡ us
 same_options [] [] [] h k = refl
@@ -93,7 +93,7 @@ pub begins_none : {A : Type 0} (words : List (Option (String A))) → Begins wor
 begins_none words = record { whole = λ os h. h; parts = λ os h. (os, h, refl) }
 
 begins_parts : {A : Type 0} (words : List (Option (String A))) (name word : List ℕ) (rest : List (Option (String A))) (done us : List WalkOption) (o : WalkOption)
-    → IsNext words name word rest → Says name word o → SayEach words us
+    → IsNext words name word rest → IsOption name word o → SayEach words us
     → (vs : List WalkOption) × SayEach rest vs × (done ++ us ≡ (done ++ o ∷ []) ++ vs)
 begins_parts [] name word rest done us o n h k = absurd n
 begins_parts (None ∷ words) name word rest done us o n h k = absurd n
@@ -105,7 +105,7 @@ begins_parts (Some x ∷ Some y ∷ words) name word rest done (u ∷ us) o n h 
     (us, subst (λ ws. SayEach ws us) (sym n.2) k.1, ap (λ v. done ++ v ∷ us) same ∙ sym (append_assoc done (o ∷ []) us))
 
 next_whole : {A : Type 0} (words : List (Option (String A))) (name word : List ℕ) (rest : List (Option (String A))) (os : List WalkOption) (o : WalkOption)
-    → IsNext words name word rest → Says name word o → SayEach rest os → SayEach words (o ∷ os)
+    → IsNext words name word rest → IsOption name word o → SayEach rest os → SayEach words (o ∷ os)
 next_whole [] name word rest os o n h k = absurd n
 next_whole (None ∷ words) name word rest os o n h k = absurd n
 next_whole (Some x ∷ []) name word rest os o n h k = absurd n
@@ -113,7 +113,7 @@ next_whole (Some x ∷ None ∷ words) name word rest os o n h k = absurd n
 next_whole (Some x ∷ Some y ∷ words) name word rest os o n h k = (said_so _ _ _ _ o (sym n.0) (sym n.1) h, subst (λ ws. SayEach ws os) n.2 k)
 
 pub begins_more : {A : Type 0} (words : List (Option (String A))) (name word : List ℕ) (now rest : List (Option (String A))) (done : List WalkOption) (o : WalkOption)
-    → Begins words now done → IsNext now name word rest → Says name word o → Begins words rest (done ++ o ∷ [])
+    → Begins words now done → IsNext now name word rest → IsOption name word o → Begins words rest (done ++ o ∷ [])
 begins_more words name word now rest done o h n k = record {
   whole = λ os l. subst (SayEach words) (sym (append_assoc done (o ∷ []) os)) (h.whole (o ∷ os) (next_whole now name word rest os o n k l));
   parts = λ os l.
@@ -124,7 +124,7 @@ begins_more words name word now rest done o h n k = record {
 
 -- the next two words say the first option that is left
 pub next_says : {A : Type 0} (words : List (Option (String A))) (name word : List ℕ) (rest : List (Option (String A))) (us : List WalkOption)
-    → IsNext words name word rest → SayEach words us → (o : WalkOption) × (vs : List WalkOption) × Says name word o × SayEach rest vs × (us ≡ o ∷ vs)
+    → IsNext words name word rest → SayEach words us → (o : WalkOption) × (vs : List WalkOption) × IsOption name word o × SayEach rest vs × (us ≡ o ∷ vs)
 next_says [] name word rest us n k = absurd n
 next_says (None ∷ words) name word rest us n k = absurd n
 next_says (Some x ∷ []) name word rest us n k = absurd n
@@ -147,24 +147,24 @@ module _ {A : Type 0} (options : List (Option (String A))) (command start expres
       → SaysWalk (Some x ∷ Some y ∷ Some z ∷ others) asked → AreSaid
   all_said x y z others f g h e k = (sym f ∙ k.0, k.1 ∙ g, k.2 ∙ h, subst (λ us. SayEach us asked.options) (sym e) k.3)
 
-  third : (x y : String A) (rest : List (Option (String A))) → string_bytes x ≡ command → string_bytes y ≡ start → IsFirst rest expression options
+  third : (x y : String A) (rest : List (Option (String A))) → string_bytes x ≡ command → string_bytes y ≡ start → IsFirstWord rest expression options
       → SaysWalk (Some x ∷ Some y ∷ rest) asked ↔ AreSaid
   third x y [] f g h = absurd h
   third x y (None ∷ rest) f g h = absurd h
   third x y (Some z ∷ rest) f g h = (all_said x y z rest f g h.0 h.1, said_all x y z rest f g h.0 h.1)
 
-  second : (x : String A) (after rest : List (Option (String A))) → string_bytes x ≡ command → IsFirst after start rest → IsFirst rest expression options
+  second : (x : String A) (after rest : List (Option (String A))) → string_bytes x ≡ command → IsFirstWord after start rest → IsFirstWord rest expression options
       → SaysWalk (Some x ∷ after) asked ↔ AreSaid
   second x [] rest f g h = absurd g
   second x (None ∷ after) rest f g h = absurd g
-  second x (Some y ∷ after) rest f g h = third x y after f g.0 (subst (λ ws. IsFirst ws expression options) g.1 h)
+  second x (Some y ∷ after) rest f g h = third x y after f g.0 (subst (λ ws. IsFirstWord ws expression options) g.1 h)
 
   -- a walk is said by its first three words and its options
-  pub says_walk : (words after rest : List (Option (String A))) → IsFirst words command after → IsFirst after start rest → IsFirst rest expression options
+  pub says_walk : (words after rest : List (Option (String A))) → IsFirstWord words command after → IsFirstWord after start rest → IsFirstWord rest expression options
       → SaysWalk words asked ↔ AreSaid
   says_walk [] after rest f g h = absurd f
   says_walk (None ∷ words) after rest f g h = absurd f
-  says_walk (Some x ∷ words) after rest f g h = second x words rest f.0 (subst (λ ws. IsFirst ws start rest) f.1 g) h
+  says_walk (Some x ∷ words) after rest f g h = second x words rest f.0 (subst (λ ws. IsFirstWord ws start rest) f.1 g) h
 
 -- what holds where there is nothing
 pub none_holds : {B : Type 0} {P : Type 0} (r : Option B) → P → IfNone r P
@@ -218,7 +218,7 @@ said_more bounds more front o h m = record {
 -- an option that can't be added is said twice
 pub doubled_by : {A : Type 0} (words now : List (Option (String A))) (name word : List ℕ) (rest : List (Option (String A))) (bounds : OptionWords) (front : List WalkOption)
     → Begins words now front → AreSaidBy bounds front → IsNext now name word rest
-    → ((o : WalkOption) → Says name word o → IsDoubled (all_in bounds.lower ++ leasts_in (o ∷ [])) (all_in bounds.upper ++ greatests_in (o ∷ [])) (one_if bounds.has_list + count_lists (o ∷ [])))
+    → ((o : WalkOption) → IsOption name word o → IsDoubled (all_in bounds.lower ++ leasts_in (o ∷ [])) (all_in bounds.upper ++ greatests_in (o ∷ [])) (one_if bounds.has_list + count_lists (o ∷ [])))
     → (options : List WalkOption) → SayEach words options → AreDoubled options
 doubled_by words now name word rest bounds front b s n twice options h =
     let parts = b.parts options h in

@@ -36,17 +36,17 @@ abbrev pub IsNumber : List ℕ → ℕ → Type 0
 IsNumber word n = IsNumeral 10 word × (n ≡ digits_value 10 word) × (n < 2 ^ 64)
 
 -- a name and a word say an option
-abbrev pub Says : List ℕ → List ℕ → WalkOption → Type 0
-Says name word (without e) = (name ≡ codes "not") × (e ≡ word)
-Says name word (ignoring file) = (name ≡ codes "ignore") × (file ≡ word)
-Says name word (at_least n) = (name ≡ codes "min") × IsNumber word n
-Says name word (at_most n) = (name ≡ codes "max") × IsNumber word n
+abbrev pub IsOption : List ℕ → List ℕ → WalkOption → Type 0
+IsOption name word (without e) = (name ≡ codes "not") × (e ≡ word)
+IsOption name word (ignoring file) = (name ≡ codes "ignore") × (file ≡ word)
+IsOption name word (at_least n) = (name ≡ codes "min") × IsNumber word n
+IsOption name word (at_most n) = (name ≡ codes "max") × IsNumber word n
 
 -- the words say these options, two words each
 abbrev pub SayEach : {A : Type 0} → List (Option (String A)) → List WalkOption → Type 0
 SayEach [] [] = ⊤
 SayEach (Some name ∷ Some word ∷ words) (o ∷ options) =
-    Says (string_bytes name) (string_bytes word) o × SayEach words options
+    IsOption (string_bytes name) (string_bytes word) o × SayEach words options
 SayEach _ _ = ⊥
 
 -- how many of them name an ignore list

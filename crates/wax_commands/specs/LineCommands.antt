@@ -12,8 +12,8 @@ pub record LineCommand : Type 1 where
   pub writes : GlobView → List ℕ → List ℕ → Type 0
 
 -- each line that the glob means
-abbrev pub match_of : List ℕ → LineCommand
-match_of e = record { expression = e; writes = λ g. WritesMeant (IsMeant g) }
+abbrev pub match_command : List ℕ → LineCommand
+match_command e = record { expression = e; writes = λ g. WritesMeant (IsMeant g) }
 
 -- each line that the glob means, with what it captures of it
 abbrev pub captures_of : List ℕ → LineCommand

@@ -107,8 +107,8 @@ module _ {D C : Type 0} (law : Law D C) (d : D) (asked : WalkRequest) (globs : W
       → P (trip_of asked.start (range_in asked.options) depth b globs.filters) s listed)
 
   -- these items were kept of the walk, to its end
-  abbrev pub KeepsAll : List Given → Type 0
-  KeepsAll items =
+  abbrev pub KeepsAllWanted : List Given → Type 0
+  KeepsAllWanted items =
       (d' : D) × OnWalk (λ trip s listed. KeepsWanted (law.tells d') trip s listed items)
 
   -- these bytes are a beginning of the lines of all that is kept of the walk
@@ -121,11 +121,11 @@ pub data WalkEnds {D C Z : Type 0} (over : Ground D C Z) (asked : WalkRequest) (
     (status : ℕ) : Type 0 where
   -- the candidates of all that is kept were written, and no item was an error
   done : (globs : WalkGlobs) (items : List Given) → AreBuilt over.answers asked globs
-      → KeepsAll over.law over.directory asked globs items → Appends held held' (candidate_lines items)
+      → KeepsAllWanted over.law over.directory asked globs items → Appends held held' (candidate_lines items)
       → list_any is_error items ≡ false → status ≡ 0 → WalkEnds over asked held held' status
   -- the same, but some item was an error
   faulty : (globs : WalkGlobs) (items : List Given) → AreBuilt over.answers asked globs
-      → KeepsAll over.law over.directory asked globs items → Appends held held' (candidate_lines items)
+      → KeepsAllWanted over.law over.directory asked globs items → Appends held held' (candidate_lines items)
       → list_any is_error items ≡ true → status ≡ 3 → WalkEnds over asked held held' status
   -- a beginning of the lines was written
   stopped : (globs : WalkGlobs) (bytes : List ℕ) → AreBuilt over.answers asked globs

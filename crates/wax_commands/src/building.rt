@@ -11,7 +11,7 @@ ghost use Rattle.wax_token.specs.Syntax.{Tree};
 ghost use Rattle.wax_walk.specs.Given.{Facts, Mark};
 ghost use Rattle.wax_wanted.specs.Ignored.{Line};
 ghost use Rattle.wax_wanted.specs.Wanted.{Filter, not_ignored, not_meant};
-ghost use Rattle.wax_commands.specs.Commands.{SayEach, Says, WalkOption};
+ghost use Rattle.wax_commands.specs.Commands.{SayEach, IsOption, WalkOption};
 ghost use Rattle.wax_commands.specs.Files.{IsListIn, IsUnlisted};
 ghost use Rattle.wax_commands.specs.Refused.{IsRefused};
 ghost use Rattle.wax_commands.specs.Walked.{AreAskedBy, AreAskedByAll, HasRefused, IsNotOf};
@@ -127,12 +127,12 @@ fn add_filter<'w, B>(
 where
     B: Fn(&str) -> Result<Vec<u8>, FileFault>,
     requires { B.IsAlwaysCallable read.now }
-    ensures ok { OnOk result ((o : WalkOption) → Says name.now word.now o
+    ensures ok { OnOk result ((o : WalkOption) → IsOption name.now word.now o
         → (xs : List (Filter Span)) × (rules : List (Facts → Mark))
         × AreAskedBy (FnReturnsAt B.Fn read.now) o xs × AreRulesOf xs rules
         × (map ⟦<WalkFilter as Rule>⟧.rule filters.new.items
         ≡ map ⟦<WalkFilter as Rule>⟧.rule filters.old.items ++ rules)) }
-    ensures err { OnErr result ((o : WalkOption) → Says name.now word.now o
+    ensures err { OnErr result ((o : WalkOption) → IsOption name.now word.now o
         → IsRefusedOption (FnReturnsAt B.Fn read.now) o) }
 {
     if name == "not" {

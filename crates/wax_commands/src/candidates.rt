@@ -1,7 +1,7 @@
 //! The candidates of a walk, as lines.
 ghost use Rattle.std.specs.Prelude.{◌≡◌, ◌∷◌, ◌++◌, [], IfOk, IfErr, OnOk, OnErr, false, map};
 ghost use Rattle.std.specs.Iterator.{IsFinite};
-ghost use Rattle.wax_commands.specs.inner.Candidates.{Moves, WroteAll, WroteFirst, WroteSome, WroteWanted};
+ghost use Rattle.wax_commands.specs.inner.Candidates.{MovesBytes, WroteAll, WroteFirst, WroteSome, WroteWanted};
 ghost use Rattle.wax_commands.specs.Candidates.{candidate_line, is_error};
 ghost use Rattle.wax_lines.specs.Written.{WritesPart};
 ghost use Rattle.wax_walk.specs.Entries.{given_of};
@@ -115,7 +115,7 @@ where
     S: Feed<Filtrate = Result<T, WalkError>, Residue = TreeResidue<R>>,
     W: Write,
     F: Write,
-    ensures ok { OnOk result (Moves (W.contents output.old.inner) (W.contents output.new.inner)
+    ensures ok { OnOk result (MovesBytes (W.contents output.old.inner) (W.contents output.new.inner)
         lines.old.items lines.new.items (candidate_line (given_of T.facts R.facts separation))) }
     ensures error { IfOk result (λ was. was ≡ is_error (given_of T.facts R.facts separation)) }
     ensures err { OnErr result (WritesPart (W.contents output.old.inner) (W.contents output.new.inner)
@@ -143,7 +143,7 @@ fn write_candidate<E: Entry, W: Write>(
     lines: &mut Vec<u8>,
     output: &mut Counted<W>,
 ) -> Result<(), LinesError>
-    ensures ok { OnOk result (Moves (W.contents output.old.inner) (W.contents output.new.inner)
+    ensures ok { OnOk result (MovesBytes (W.contents output.old.inner) (W.contents output.new.inner)
         lines.old.items lines.new.items ((E.facts entry.now).candidate ++ 10 ∷ [])) }
     ensures err { OnErr result (WritesPart (W.contents output.old.inner) (W.contents output.new.inner)
         (lines.old.items ++ ((E.facts entry.now).candidate ++ 10 ∷ []))) }

@@ -1,7 +1,7 @@
 //! Files that hold ignore lists.
 ghost use Rattle.std.specs.Fn.{FnReturnsAt};
 ghost use Rattle.std.specs.Prelude.{IfOk, List, OnErr};
-ghost use Rattle.wax.specs.Ignoring.{Holds};
+ghost use Rattle.wax.specs.Ignoring.{HoldsLines};
 ghost use Rattle.wax_token.specs.Reads.{Span};
 ghost use Rattle.wax_wanted.specs.Ignored.{Line};
 ghost use Rattle.wax_commands.specs.Files.{IsListIn, IsUnlisted};
@@ -25,7 +25,7 @@ where
     B: Fn(&str) -> Result<Vec<u8>, FileFault>,
     requires { B.IsAlwaysCallable read.now }
     ensures ok { IfOk result (λ list. (lines : List (Line Span))
-        × IsListIn (FnReturnsAt B.Fn read.now) file.now lines × Holds list lines) }
+        × IsListIn (FnReturnsAt B.Fn read.now) file.now lines × HoldsLines list lines) }
     ensures err { OnErr result (IsUnlisted (FnReturnsAt B.Fn read.now) file.now) }
 {
     let bytes = match read(file) {

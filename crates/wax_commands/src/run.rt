@@ -4,7 +4,7 @@ ghost use Rattle.std.specs.Prelude.{◌≡◌, ℕ, List, IfOk, IfErr, IfSome, I
 ghost use Rattle.wax_lines.specs.Lines.{Filtered, Stopped};
 ghost use Rattle.wax_commands.specs.Commands.{Asks, AsksMatch, AsksCaptures, AsksQuery, AsksWalk};
 ghost use Rattle.wax_commands.specs.Commands.{HasNoCommand, WalkRequest};
-ghost use Rattle.wax_commands.specs.LineCommands.{LinesEnd, captures_of, match_of};
+ghost use Rattle.wax_commands.specs.LineCommands.{LinesEnd, captures_of, match_command};
 ghost use Rattle.wax_commands.specs.Queried.{QueryEnds, Writes};
 ghost use Rattle.wax_commands.specs.Walked.{WalkEnds};
 ghost use Rattle.wax_commands.specs.inner.Outputs.{command_of, writes_of};
@@ -65,7 +65,7 @@ where
     requires { B.IsAlwaysCallable read }
     ensures wrong_words { HasNoCommand words.now
         → (result ≡ 2) × (input.new ≡ input.old) × (output.new ≡ output.old) }
-    ensures matches { (e : List ℕ) → AsksMatch words.now e → LinesEnd (match_of e)
+    ensures matches { (e : List ℕ) → AsksMatch words.now e → LinesEnd (match_command e)
         (R.remaining input.old.inner) (R.remaining input.new.inner)
         (W.contents output.old.inner) (W.contents output.new.inner) result }
     ensures captures { (e : List ℕ) → AsksCaptures words.now e → LinesEnd (captures_of e)

@@ -1,12 +1,12 @@
 //! The words of a walk.
 ghost use Rattle.std.specs.Prelude.{◌≡◌, ◌≤◌, ◌+◌, ◌++◌, ◌∷◌, [], ℕ, List, length, unwrap_or};
 ghost use Rattle.std.specs.Prelude.{IfSome, IfNone, MatchOption};
-ghost use Rattle.wax_commands.specs.Commands.{AreBounds, AsksWalk, IsNumber, SayEach, Says, WalkOption};
+ghost use Rattle.wax_commands.specs.Commands.{AreBounds, AsksWalk, IsNumber, SayEach, IsOption, WalkOption};
 ghost use Rattle.wax_commands.specs.Commands.{WalkRequest};
 ghost use Rattle.wax_commands.specs.Commands.{count_lists, greatests_in, leasts_in};
 ghost use Rattle.wax_tree.specs.Depths.{greatest, least};
 ghost use Rattle.wax_commands.specs.inner.WalkWords.{AreDoubled, AreMore, AreSaidBy, HasNoFirst};
-ghost use Rattle.wax_commands.specs.inner.WalkWords.{HasNoNext, IsDoubled, IsFirst, IsNext, IsRead};
+ghost use Rattle.wax_commands.specs.inner.WalkWords.{HasNoNext, IsDoubled, IsFirstWord, IsNext, IsRead};
 ghost use Rattle.wax_commands.specs.inner.WalkWords.{all_in, one_if};
 
 use wax_tree::{DepthBehavior, DepthMax, DepthMin, DepthMinMax};
@@ -102,7 +102,7 @@ pub fn next_option<'w>(
 
 // The first word, if it is text, and the others.
 fn first_word<'w>(words: &'w [Option<String>]) -> Option<(&'w str, &'w [Option<String>])>
-    ensures some { IfSome result (λ r. IsFirst words.now r.0.now r.1.now) }
+    ensures some { IfSome result (λ r. IsFirstWord words.now r.0.now r.1.now) }
     ensures none { IfNone result (HasNoFirst words.now) }
 {
     let (word, rest) = words.split_first()?;
@@ -114,9 +114,9 @@ fn first_word<'w>(words: &'w [Option<String>]) -> Option<(&'w str, &'w [Option<S
 
 // The same with one more option.
 fn with_option(bounds: OptionWords, name: &str, word: &str) -> Option<OptionWords>
-    ensures some { IfSome result (λ more. (o : WalkOption) × Says name.now word.now o
+    ensures some { IfSome result (λ more. (o : WalkOption) × IsOption name.now word.now o
         × AreMore bounds o more) }
-    ensures none { IfNone result ((o : WalkOption) → Says name.now word.now o → IsDoubled
+    ensures none { IfNone result ((o : WalkOption) → IsOption name.now word.now o → IsDoubled
         (all_in bounds.lower ++ leasts_in (o ∷ [])) (all_in bounds.upper ++ greatests_in (o ∷ []))
         (one_if bounds.has_list + count_lists (o ∷ []))) }
 {

@@ -5,7 +5,8 @@ use Rattle.std.proofs.Common.{zero}
 use Rattle.std.proofs.lemmas.Bool.{and_from}
 use Rattle.wax_token.proofs.Copies.{Many, ManyWithin, OneThen, Repeats, TwoMore, many_add, many_split}
 use Rattle.wax_token.proofs.Copies.{open_from, open_to, two_more_from, two_more_to}
-use Rattle.wax_token.specs.Meaning.{AtMost, Copies}
+use Rattle.wax_query.specs.Ranges.{AtMost}
+use Rattle.wax_token.specs.Meaning.{Copies}
 use Rattle.wax_depth.specs.declared.profile.Profile.{Profile}
 use Rattle.wax_depth.specs.inner.Profiles.{concatenated, empty_text, no_text, only, power, power_range, union}
 use Rattle.wax_depth.specs.inner.TreeProfiles.{admits, admits_two, less_two, repeated_profile, two_or_more}

@@ -1,8 +1,8 @@
 -- The profile of a tree wildcard.
 use Rattle.std.proofs.Common.{if◌then◌else◌, ◌&&◌, ◌++◌, ◌==◌, ◌∙◌, ◌∷◌, ◌≡◌, ◌≤◌, ◌⊎◌, Bool, List, ℕ, [], ap}
 use Rattle.std.proofs.Common.{arith, false, inl, inr, refl, suc, sym, true, zero}
-use Rattle.wax_query.specs.Components.{slash, slashes}
-use Rattle.wax_token.specs.Meaning.{Begins, Ends, TreeMeans}
+use Rattle.wax_query.specs.Components.{slash, slashes, BeginsWithSlash, EndsWithSlash}
+use Rattle.wax_token.specs.Meaning.{TreeMeans}
 use Rattle.wax_depth.specs.inner.Intervals.{kept}
 use Rattle.wax_depth.specs.inner.Profiles.{profile}
 use Rattle.wax_depth.specs.inner.Shapes.{Shape, empty, ended, joined_shape, shape}
@@ -77,7 +77,7 @@ exact_kept allows P to from = by_shape (λ a. kept (allows a) (every_text a)) P 
     ] refl
 
 -- ---- the ends of a text
-begins_to : (s : List ℕ) (x y : Bool) → Begins s → shape s ≡ ended x y → x ≡ true
+begins_to : (s : List ℕ) (x y : Bool) → BeginsWithSlash s → shape s ≡ ended x y → x ≡ true
 begins_to [] x y b e = absurd (let f : ⊥ = cc in f)
 begins_to (c ∷ []) x y b e = let k : c ≡ 47 = cc in let j : (c == 47) ≡ true = ap (λ d. d == 47) k in cc
 begins_to (c ∷ d ∷ s) x y b e =
@@ -87,7 +87,7 @@ begins_to (c ∷ d ∷ s) x y b e =
     let f : ended (c == 47) r.1 ≡ ended x y = sym (ap (λ z. joined_shape (ended (c == 47) (c == 47)) z) r.2) ∙ e in
     let g : (c == 47) ≡ x = cc in sym g ∙ j
 
-begins_from : (s : List ℕ) (y : Bool) → shape s ≡ ended true y → Begins s
+begins_from : (s : List ℕ) (y : Bool) → shape s ≡ ended true y → BeginsWithSlash s
 begins_from [] y e = absurd (let f : ⊥ = cc in f)
 begins_from (c ∷ []) y e = let k : (c == 47) ≡ true = cc in ([], ap (λ d. d ∷ []) (is_slash c k))
 begins_from (c ∷ d ∷ s) y e =
@@ -96,24 +96,24 @@ begins_from (c ∷ d ∷ s) y e =
     let k : (c == 47) ≡ true = cc in
     (d ∷ s, ap (λ b. b ∷ d ∷ s) (is_slash c k))
 
-ends_to : (s : List ℕ) (x y : Bool) → Ends s → shape s ≡ ended x y → y ≡ true
+ends_to : (s : List ℕ) (x y : Bool) → EndsWithSlash s → shape s ≡ ended x y → y ≡ true
 ends_to s x y b e = last (shape b.0) (sym (ap shape b.1 ∙ shape_append b.0 (47 ∷ [])) ∙ e)
   where
     last : (a : Shape) → joined_shape a (ended true true) ≡ ended x y → y ≡ true
     last empty e = cc
     last (ended z w) e = cc
 
-ends_from : (s : List ℕ) (x : Bool) → shape s ≡ ended x true → Ends s
+ends_from : (s : List ℕ) (x : Bool) → shape s ≡ ended x true → EndsWithSlash s
 ends_from [] x e = absurd (let f : ⊥ = cc in f)
 ends_from (c ∷ []) x e = let k : (c == 47) ≡ true = cc in ([], ap (λ d. d ∷ []) (is_slash c k))
 ends_from (c ∷ d ∷ s) x e =
     let r : (x : Bool) × (y : Bool) × (shape (d ∷ s) ≡ ended x y) = shape_of_some d s in
     let f : ended (c == 47) r.1 ≡ ended x true = sym (ap (λ z. joined_shape (ended (c == 47) (c == 47)) z) r.2) ∙ e in
     let k : r.1 ≡ true = cc in
-    let g : Ends (d ∷ s) = ends_from (d ∷ s) r.0 (r.2 ∙ ap (λ z. ended r.0 z) k) in
+    let g : EndsWithSlash (d ∷ s) = ends_from (d ∷ s) r.0 (r.2 ∙ ap (λ z. ended r.0 z) k) in
     (c ∷ g.0, ap (λ z. c ∷ z) g.1)
 
-nothing_begins : {C : Type 0} → Begins [] → C
+nothing_begins : {C : Type 0} → BeginsWithSlash [] → C
 nothing_begins h = absurd (nil h.0 h.1)
   where
     nil : (t : List ℕ) → [] ≡ 47 ∷ t → ⊥
@@ -136,22 +136,22 @@ module _ (c : ℕ) (s : List ℕ) where
   ended_from : (allows : Shape → Bool) → Taken allows → allows (ended k.0 k.1) ≡ true
   ended_from allows e = sym (ap allows k.2) ∙ e
 
-  begins_is : Begins (c ∷ s) → k.0 ≡ true
+  begins_is : BeginsWithSlash (c ∷ s) → k.0 ≡ true
   begins_is b = begins_to (c ∷ s) k.0 k.1 b k.2
 
-  is_begun : k.0 ≡ true → Begins (c ∷ s)
+  is_begun : k.0 ≡ true → BeginsWithSlash (c ∷ s)
   is_begun e = begins_from (c ∷ s) k.1 (k.2 ∙ ap (λ z. ended z k.1) e)
 
-  ends_is : Ends (c ∷ s) → k.1 ≡ true
+  ends_is : EndsWithSlash (c ∷ s) → k.1 ≡ true
   ends_is b = ends_to (c ∷ s) k.0 k.1 b k.2
 
-  is_ended : k.1 ≡ true → Ends (c ∷ s)
+  is_ended : k.1 ≡ true → EndsWithSlash (c ∷ s)
   is_ended e = ends_from (c ∷ s) k.0 (k.2 ∙ ap (λ z. ended k.0 z) e)
 
-  conjunction : Begins (c ∷ s) × Ends (c ∷ s) → (k.0 && k.1) ≡ true
+  conjunction : BeginsWithSlash (c ∷ s) × EndsWithSlash (c ∷ s) → (k.0 && k.1) ≡ true
   conjunction h = ap (λ z. z && k.1) (begins_is h.0) ∙ ends_is h.1
 
-  parts : (k.0 && k.1) ≡ true → Begins (c ∷ s) × Ends (c ∷ s)
+  parts : (k.0 && k.1) ≡ true → BeginsWithSlash (c ∷ s) × EndsWithSlash (c ∷ s)
   parts e = let p : (k.0 ≡ true) × (k.1 ≡ true) = both_true k.0 k.1 e in (is_begun p.0, is_ended p.1)
 
 pub tree_to : (before after rooted : Bool) (s : List ℕ) → TreeMeans before after rooted s → tree_allows before after rooted (shape s) ≡ true

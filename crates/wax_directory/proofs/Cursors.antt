@@ -10,7 +10,7 @@ use Rattle.wax_directory.specs.declared.tree.TreeItem.{TreeItem}
 use Rattle.wax_directory.specs.declared.tree.Node.TheOpen.{Node-F, TreeItem-F}
 use Rattle.wax_directory.specs.declared.tree.Node.TheOpen as O
 use Rattle.wax_directory.specs.declared.tree.Node.TheViews.{out-Node, out-TreeItem}
-use Rattle.wax_directory.specs.Shown.{Items, end, misnamed, Shown, Listed, named, first_of, rest_of}
+use Rattle.wax_directory.specs.Shown.{Items, end, misnamed, Shown, Listed, named, first_item, rest_of}
 use Rattle.wax_directory.specs.Names.{is_plain}
 use Rattle.wax_directory.specs.Nodes.{kind_of, with_plain, with_entry, shown_of, item_shown, items_shown}
 use Rattle.wax_directory.specs.Nodes.{listed_layer, listed_item}
@@ -18,7 +18,7 @@ use Rattle.wax_directory.specs.TreeLaw.{layer_shown, shown_layer, item_layer_sho
 
 -- the first of some items, and those after it
 abbrev pub Begins : Items → Listed → Items → Type 0
-Begins l x rest = (first_of l ≡ Some x) × (rest_of l ≡ rest)
+Begins l x rest = (first_item l ≡ Some x) × (rest_of l ≡ rest)
 
 begins_plain : (name : List ℕ) (k : Node-F Node TreeItem) (rest : Items)
     → Begins (with_plain name (layer_shown k) rest) (named name (kind_of (layer_shown k))) rest
@@ -71,11 +71,11 @@ given_at items k x (Some i) e h = let P : Listed → Type 0 = λ y. Begins (item
 -- where an item is given, it is the first, and the others are left
 pub given : (items : List TreeItem) (k : ℕ) (x : Listed) (l : Items) → l ≡ items_shown (drop k items)
     → Some x ≡ option_map listed_item (slice_get items k)
-    → (Some x ≡ first_of l) × (rest_of l ≡ items_shown (drop (k + 1) items))
+    → (Some x ≡ first_item l) × (rest_of l ≡ items_shown (drop (k + 1) items))
 given items k x l is h =
     let b : Begins (items_shown (drop k items)) x (items_shown (drop (k + 1) items)) =
     given_at items k x (slice_get items k) refl h in
-    (sym (ap first_of is ∙ b.0), ap rest_of is ∙ b.1)
+    (sym (ap first_item is ∙ b.0), ap rest_of is ∙ b.1)
 
 ended_at : (items : List TreeItem) (k : ℕ) (o : Option TreeItem) → slice_get items k ≡ o
     → None ≡ option_map listed_item o → items_shown (drop k items) ≡ end
@@ -87,10 +87,10 @@ ended_at (i ∷ items) (suc k) None e h = ended_at items k None e h
 -- where nothing is given, nothing is left
 pub ended : (items : List TreeItem) (k : ℕ) (l : Items) → l ≡ items_shown (drop k items)
     → None ≡ option_map listed_item (slice_get items k)
-    → (None ≡ first_of l) × (rest_of l ≡ items_shown (drop k items))
+    → (None ≡ first_item l) × (rest_of l ≡ items_shown (drop k items))
 ended items k l is h =
     let e : items_shown (drop k items) ≡ end = ended_at items k (slice_get items k) refl h in
-    (sym (ap first_of (is ∙ e)), ap rest_of (is ∙ e) ∙ sym e)
+    (sym (ap first_item (is ∙ e)), ap rest_of (is ∙ e) ∙ sym e)
 
 pub none_of : {A : Type 0} (o : Option A) → ((x : A) → o ≡ Some x → ⊥) → o ≡ None
 none_of None h = refl

@@ -17,7 +17,7 @@ use Rattle.wax_directory.specs.declared.tree.Node.TheViews as V
 use Rattle.wax_directory.specs.declared.tree.Node.TheViews.{out-Node, out-TreeItem, roll-Node, roll-TreeItem}
 use Rattle.wax_directory.specs.declared.tree.Node.TheViews.{roll-out-Node, roll-out-TreeItem, the_lemmas}
 use Rattle.wax_directory.specs.Names.{are_distinct}
-use Rattle.wax_directory.specs.Nodes.{entry_layer, entry_of, held_layer, held, held_of, child_of, child_at}
+use Rattle.wax_directory.specs.Nodes.{node_layer, entry_node, held_layer, held, held_of, child_of, child_at}
 use Rattle.wax_directory.specs.Nodes.{and_below, node_at, name_before, names_of, HasDistinctNames}
 use Rattle.wax_directory.specs.Nodes.{HasDuplicateName, Reached, to_node, named_before, named_in, below_layer}
 use Rattle.wax_directory.specs.Nodes.{onward, reached}
@@ -35,20 +35,20 @@ out_folder items = search (rules, the_lemmas)
 -- ---- a name among items
 
 here_layer : (x : List ℕ) (later : Reached) (k : TreeItem-F Node TreeItem) → layer_has_name x k ≡ true
-    → named_before x k later ≡ to_reached (entry_layer k)
+    → named_before x k later ≡ to_reached (node_layer k)
 here_layer x later (O.Entry name n) h = cond-true (bytes_eq (string_bytes name) x) (to_node n) later h
 here_layer x later O.Failed h = absurd (false≢true h)
 here_layer x later O.NotText h = absurd (false≢true h)
 
 pub named_here : (x : List ℕ) (items : List TreeItem) (k : ℕ) (i : TreeItem) → k < length items
     → i ≡ get_or items k i → named_in x (drop k items) ≡ named_in x items → has_name x i ≡ true
-    → named_in x items ≡ to_reached (entry_of (slice_get items k))
+    → named_in x items ≡ to_reached (entry_node (slice_get items k))
 named_here x items k i lt is same h =
     let found : slice_get items k ≡ Some i = slice_get-get_or items k i lt ∙ ap Some (sym is) in
     let begins : drop k items ≡ i ∷ drop (k + 1) items = drop_more items k i lt ∙ ap
     (λ j. j ∷ drop (k + 1) items) (sym is) in
     sym same ∙ ap (named_in x) begins ∙ here_layer x (named_in x (drop (k + 1) items)) (out-TreeItem i) h ∙ ap
-    (λ o. to_reached (entry_of o)) (sym found)
+    (λ o. to_reached (entry_node o)) (sym found)
 
 -- ---- a step of a look-up
 
@@ -131,13 +131,13 @@ below_distinct items all places (Some n) d h = d n refl places items h
 
 pub folder_distinct : (n : Node) (all : List TreeItem) → held n ≡ Some all
     → are_distinct (names_of all) ≡ true
-    → ((place : ℕ) (m : Node) → entry_of (slice_get all place) ≡ Some m → HasDistinctNames m)
+    → ((place : ℕ) (m : Node) → entry_node (slice_get all place) ≡ Some m → HasDistinctNames m)
     → HasDistinctNames n
 folder_distinct n all e own d [] items h = let same : all ≡ items = ap (some_items all) (sym e ∙ h) in subst
     (λ l. are_distinct (names_of l) ≡ true) same own
 folder_distinct n all e own d (place ∷ places) items h =
-    let child : child_at place n ≡ entry_of (slice_get all place) = ap (λ o. child_of o place) e in
-    below_distinct items all places (entry_of (slice_get all place)) (d place)
+    let child : child_at place n ≡ entry_node (slice_get all place) = ap (λ o. child_of o place) e in
+    below_distinct items all places (entry_node (slice_get all place)) (d place)
     (ap (λ o. held_of (and_below (node_at places) o)) (sym child) ∙ h)
 
 pub own_duplicate : (n : Node) (all : List TreeItem) → held n ≡ Some all → are_distinct (names_of all) ≡ false
@@ -145,15 +145,15 @@ pub own_duplicate : (n : Node) (all : List TreeItem) → held n ≡ Some all →
 own_duplicate n all e h = ([], all, e, h)
 
 pub below_duplicate : (n m : Node) (all : List TreeItem) (place : ℕ) → held n ≡ Some all
-    → entry_of (slice_get all place) ≡ Some m → HasDuplicateName m → HasDuplicateName n
+    → entry_node (slice_get all place) ≡ Some m → HasDuplicateName m → HasDuplicateName n
 below_duplicate n m all place e is d =
     let child : child_at place n ≡ Some m = ap (λ o. child_of o place) e ∙ is in
     (place ∷ d.0, d.1, ap (λ o. held_of (and_below (node_at d.0) o)) child ∙ d.2, d.3)
 
 pub entry_at : (items : List TreeItem) (k : ℕ) (i : TreeItem) (name : _) (n : Node) → k < length items
-    → i ≡ get_or items k i → i ≡ Entry name n → entry_of (slice_get items k) ≡ Some n
-entry_at items k i name n lt is e = ap entry_of (slice_get-get_or items k i lt ∙ ap Some (sym is)) ∙ ap
-    entry_layer (ap out-TreeItem e ∙ out_entry name n)
+    → i ≡ get_or items k i → i ≡ Entry name n → entry_node (slice_get items k) ≡ Some n
+entry_at items k i name n lt is e = ap entry_node (slice_get-get_or items k i lt ∙ ap Some (sym is)) ∙ ap
+    node_layer (ap out-TreeItem e ∙ out_entry name n)
 
 pub folder_held : (n : Node) (items : _) → n ≡ V.Folder items → held n ≡ Some items.items
 folder_held n items e = ap held_layer (ap out-Node e ∙ out_folder items)
@@ -175,7 +175,7 @@ no_name_layer i O.Failed is h names = refl
 no_name_layer i O.NotText is h names = refl
 
 no_entry_layer : (i : TreeItem) (k : TreeItem-F Node TreeItem) → out-TreeItem i ≡ k
-    → ((name : _) (n : Node) → i ≡ Entry name n → ⊥) → entry_layer k ≡ None
+    → ((name : _) (n : Node) → i ≡ Entry name n → ⊥) → node_layer k ≡ None
 no_entry_layer i (O.Entry name n) is h = absurd (h name n (entry_again i name n is))
 no_entry_layer i O.Failed is h = refl
 no_entry_layer i O.NotText is h = refl
@@ -196,16 +196,16 @@ names_other items k i lt is h = names_more items k i lt is ∙ ap (λ l. names_o
     (no_name_layer i (out-TreeItem i) refl h []) ∙ append-nil (names_of (take k items))
 
 pub no_entry_at : (items : List TreeItem) (k : ℕ) (i : TreeItem) → k < length items → i ≡ get_or items k i
-    → ((name : _) (n : Node) → i ≡ Entry name n → ⊥) → entry_of (slice_get items k) ≡ None
-no_entry_at items k i lt is h = ap entry_of (slice_get-get_or items k i lt ∙ ap Some (sym is)) ∙
+    → ((name : _) (n : Node) → i ≡ Entry name n → ⊥) → entry_node (slice_get items k) ≡ None
+no_entry_at items k i lt is h = ap entry_node (slice_get-get_or items k i lt ∙ ap Some (sym is)) ∙
     no_entry_layer i (out-TreeItem i) refl h
 
 within_at : (items : List TreeItem) (k : ℕ) (m : Node) (o : Option TreeItem) → slice_get items k ≡ o
-    → entry_of o ≡ Some m → k < length items
+    → entry_node o ≡ Some m → k < length items
 within_at items k m None e h = absurd (cc)
 within_at items k m (Some i) e h = slice_get_within items k i e
 
-pub entry_within : (items : List TreeItem) (k : ℕ) (m : Node) → entry_of (slice_get items k) ≡ Some m
+pub entry_within : (items : List TreeItem) (k : ℕ) (m : Node) → entry_node (slice_get items k) ≡ Some m
     → k < length items
 entry_within items k m h = within_at items k m (slice_get items k) refl h
 

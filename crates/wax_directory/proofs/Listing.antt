@@ -12,7 +12,7 @@ use Rattle.wax_directory.specs.Counting.{Counts, plus, item_counts, items_counts
 use Rattle.wax_directory.specs.Law.{Law, ShowsSame, HoldsLast}
 use Rattle.wax_directory.proofs.Counts.{plus_assoc, plus_none}
 use Rattle.wax_directory.specs.Shown.{Items, end, leaf, folder, sealed, misnamed, unread, not_text, Shown}
-use Rattle.wax_directory.specs.Shown.{a_leaf, a_folder, a_sealed, missing, failing, Listed, listing, first_of}
+use Rattle.wax_directory.specs.Shown.{a_leaf, a_folder, a_sealed, missing, failing, Listed, listing, first_item}
 use Rattle.wax_directory.specs.Shown.{rest_of}
 
 -- ---- counts
@@ -43,7 +43,7 @@ counts_sum n k a b c h i = record {
 
 -- ---- the first item and those after it
 
-first_rest : (l : Items) (x : Listed) → Some x ≡ first_of l → listing l ≡ x ∷ listing (rest_of l)
+first_rest : (l : Items) (x : Listed) → Some x ≡ first_item l → listing l ≡ x ∷ listing (rest_of l)
 first_rest end x e = absurd (cc)
 first_rest (leaf y link rest) x e = cc
 first_rest (folder y inner rest) x e = cc
@@ -52,7 +52,7 @@ first_rest (misnamed y kind rest) x e = cc
 first_rest (unread rest) x e = cc
 first_rest (not_text rest) x e = cc
 
-no_first : (l : Items) → None ≡ first_of l → listing l ≡ []
+no_first : (l : Items) → None ≡ first_item l → listing l ≡ []
 no_first end e = refl
 no_first (leaf y link rest) e = absurd (cc)
 no_first (folder y inner rest) e = absurd (cc)
@@ -78,7 +78,7 @@ module _ {C : Type 0} (old new : C → Items → Type 0) (cursor next : C) (item
   coming_more : (s : Shown) (x : ListItem) → ((l : Items) → old cursor l → NextIs new l (Ok (Some x)) next)
       → Coming (old cursor) s items → Coming (new next) s (items ++ x ∷ [])
   coming_more (a_folder l) x step h =
-      let n : (Some (listed_of x) ≡ first_of h.0) × new next (rest_of h.0) = step h.0 h.1 in (
+      let n : (Some (listed_of x) ≡ first_item h.0) × new next (rest_of h.0) = step h.0 h.1 in (
         rest_of h.0,
         n.1,
         ap (λ xs. xs ++ listing (rest_of h.0)) (map-append listed_of items (x ∷ [])) ∙ append_assoc
@@ -90,7 +90,7 @@ module _ {C : Type 0} (old new : C → Items → Type 0) (cursor next : C) (item
   coming_more missing x step h = elim h [ ]
   coming_more failing x step h = elim h [ ]
 
-rest_still : (l : Items) → None ≡ first_of l → listing (rest_of l) ≡ listing l
+rest_still : (l : Items) → None ≡ first_item l → listing (rest_of l) ≡ listing l
 rest_still end e = refl
 rest_still (leaf y link rest) e = absurd (cc)
 rest_still (folder y inner rest) e = absurd (cc)

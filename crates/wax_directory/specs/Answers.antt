@@ -9,7 +9,7 @@ use Rattle.wax_directory.specs.declared.directory.ListItem.TheVariants as I
 use Rattle.wax_directory.specs.declared.directory.DirectoryFault.{DirectoryFault}
 use Rattle.wax_directory.specs.declared.directory.DirectoryFault.TheVariants.{Failed, Memory}
 use Rattle.wax_directory.specs.Shown.{Items, Shown, a_leaf, a_folder, a_sealed, missing, failing, Listed}
-use Rattle.wax_directory.specs.Shown.{named, no_item, no_name, leaf_kind, first_of, rest_of, listing}
+use Rattle.wax_directory.specs.Shown.{named, no_item, no_name, leaf_kind, first_item, rest_of, listing}
 
 abbrev pub listed_of : ListItem → Listed
 listed_of (I.Name x kind) = named (string_bytes x) kind
@@ -36,7 +36,7 @@ Opens holds s r = r ≡ Err Failed
 -- the answer where these items are to come, and then the others; all of them, where memory was refused
 abbrev pub NextIs : {C : Type 0} → (C → Items → Type 0) → Items → Result (Option ListItem) NoMemory → C
     → Type 0
-NextIs holds l (Ok answer) cursor = (option_map listed_of answer ≡ first_of l) × holds cursor (rest_of l)
+NextIs holds l (Ok answer) cursor = (option_map listed_of answer ≡ first_item l) × holds cursor (rest_of l)
 NextIs holds l (Err e) cursor = holds cursor l
 
 -- the answer where so many items of this are asked for, unless memory was refused: the first ones of a

@@ -67,13 +67,13 @@ abbrev pub listed_item : TreeItem → Listed
 listed_item i = listed_layer (out-TreeItem i)
 
 -- the node of an entry
-abbrev pub entry_layer : TreeItem-F Node TreeItem → Option Node
-entry_layer (O.Entry name node) = Some node
-entry_layer i = None
+abbrev pub node_layer : TreeItem-F Node TreeItem → Option Node
+node_layer (O.Entry name node) = Some node
+node_layer i = None
 
-abbrev pub entry_of : Option TreeItem → Option Node
-entry_of None = None
-entry_of (Some i) = entry_layer (out-TreeItem i)
+abbrev pub entry_node : Option TreeItem → Option Node
+entry_node None = None
+entry_node (Some i) = node_layer (out-TreeItem i)
 
 -- the items of a folder
 abbrev pub held_layer : Node-F Node TreeItem → Option (List TreeItem)
@@ -89,7 +89,7 @@ held_of (Some n) = held n
 
 abbrev pub child_of : Option (List TreeItem) → ℕ → Option Node
 child_of None place = None
-child_of (Some items) place = entry_of (slice_get items place)
+child_of (Some items) place = entry_node (slice_get items place)
 
 -- what stands at the place of an item
 abbrev pub child_at : ℕ → Node → Option Node

@@ -9,7 +9,7 @@ use Rattle.wax_directory.specs.declared.tree.TreeItem.{TreeItem}
 use Rattle.wax_directory.specs.declared.tree.Node.TheOpen.{TreeItem-F}
 use Rattle.wax_directory.specs.declared.tree.Node.TheOpen as O
 use Rattle.wax_directory.specs.declared.tree.Node.TheViews.{out-TreeItem}
-use Rattle.wax_directory.specs.Nodes.{node_at, child_at, entry_of, Reached, to_node, to_nothing, to_sealed}
+use Rattle.wax_directory.specs.Nodes.{node_at, child_at, entry_node, Reached, to_node, to_nothing, to_sealed}
 
 abbrev pub layer_has_name : List ℕ → TreeItem-F Node TreeItem → Bool
 layer_has_name x (O.Entry name node) = bytes_eq (string_bytes name) x
@@ -24,7 +24,7 @@ to_reached None = to_nothing
 
 -- what is reached by a place among items
 abbrev pub reached_place : List TreeItem → Option ℕ → Reached
-reached_place items (Some place) = to_reached (entry_of (slice_get items place))
+reached_place items (Some place) = to_reached (entry_node (slice_get items place))
 reached_place items None = to_nothing
 
 -- what is reached by this answer of one step

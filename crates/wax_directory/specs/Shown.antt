@@ -107,14 +107,14 @@ abbrev pub leaf_kind : Bool → FileType
 leaf_kind true = Link
 leaf_kind false = File
 
-abbrev pub first_of : Items → Option Listed
-first_of end = None
-first_of (leaf x link rest) = Some (named x (leaf_kind link))
-first_of (folder x inner rest) = Some (named x Folder)
-first_of (sealed x rest) = Some (named x Folder)
-first_of (misnamed x kind rest) = Some (named x kind)
-first_of (unread rest) = Some no_item
-first_of (not_text rest) = Some no_name
+abbrev pub first_item : Items → Option Listed
+first_item end = None
+first_item (leaf x link rest) = Some (named x (leaf_kind link))
+first_item (folder x inner rest) = Some (named x Folder)
+first_item (sealed x rest) = Some (named x Folder)
+first_item (misnamed x kind rest) = Some (named x kind)
+first_item (unread rest) = Some no_item
+first_item (not_text rest) = Some no_name
 
 abbrev pub rest_of : Items → Items
 rest_of end = end

@@ -6,7 +6,7 @@ use Rattle.wax_directory.specs.Answers.{Opens}
 use Rattle.wax_directory.specs.declared.tree.Node.{Node}
 use Rattle.wax_directory.specs.declared.tree.TreeCursor.{TreeCursor}
 use Rattle.wax_directory.specs.Shown.{Items, Shown, a_leaf, a_folder, a_sealed, missing, failing}
-use Rattle.wax_directory.specs.Trees.{Has, HaveEach}
+use Rattle.wax_directory.specs.Trees.{HasItems, HaveEach}
 
 module _ (working root : Node) where
   none_more : (l : Items) (ls : List Items) → HaveEach working root [] (ls ++ l ∷ []) → ⊥
@@ -20,7 +20,7 @@ module _ (working root : Node) where
 
   pub last_parts : (cursors : List TreeCursor) (ls : List Items) (cursor : TreeCursor) (l : Items)
       → HaveEach working root (cursors ++ cursor ∷ []) (ls ++ l ∷ [])
-      → HaveEach working root cursors ls × Has working root cursor l
+      → HaveEach working root cursors ls × HasItems working root cursor l
   last_parts [] [] cursor l h = (tt, h.0)
   last_parts [] (m ∷ ls) cursor l h = absurd (none_more l ls h.1)
   last_parts (other ∷ cursors) [] cursor l h = absurd (none_has cursor cursors h.1)
@@ -32,7 +32,7 @@ module _ (working root : Node) where
   last_dropped cursors ls cursor l h = (last_parts cursors ls cursor l h).0
 
   pub one_more : (cursors : List TreeCursor) (ls : List Items) (cursor : TreeCursor) (l : Items)
-      → HaveEach working root cursors ls → Has working root cursor l
+      → HaveEach working root cursors ls → HasItems working root cursor l
       → HaveEach working root (cursors ++ cursor ∷ []) (ls ++ l ∷ [])
   one_more [] [] cursor l h here = (here, tt)
   one_more [] (m ∷ ls) cursor l h here = absurd h
@@ -41,13 +41,13 @@ module _ (working root : Node) where
 
   -- a folder that is opened is one more
   pub opens_last : (cursors : List TreeCursor) (ls : List Items) → HaveEach working root cursors ls
-      → (at s : Shown) → at ≡ s → (r : Result TreeCursor DirectoryFault) → Opens (Has working root) at r
+      → (at s : Shown) → at ≡ s → (r : Result TreeCursor DirectoryFault) → Opens (HasItems working root) at r
       → Opens (λ cursor l. HaveEach working root (cursors ++ cursor ∷ []) (ls ++ l ∷ [])) s r
   opens_last cursors ls held at s is r o =
       let O : Shown → Type 0 =
       λ v. Opens (λ cursor l. HaveEach working root (cursors ++ cursor ∷ []) (ls ++ l ∷ [])) v r in
       subst O is (go at r o) where
-        go : (at : Shown) (r : Result TreeCursor DirectoryFault) → Opens (Has working root) at r
+        go : (at : Shown) (r : Result TreeCursor DirectoryFault) → Opens (HasItems working root) at r
             → Opens (λ cursor l. HaveEach working root (cursors ++ cursor ∷ []) (ls ++ l ∷ [])) at r
         go at (Err Memory) o = tt
         go (a_folder l) (Ok cursor) o = one_more cursors ls cursor l held o

@@ -26,7 +26,7 @@ use Rattle.wax_directory.specs.Shown.{ShowsIn, child_in, child_shown, IsNew, Are
 use Rattle.wax_directory.specs.Names.{is_entry_name, is_plain, is_some_name, names_in_path, is_rooted}
 use Rattle.wax_directory.specs.Names.{are_distinct}
 use Rattle.wax_directory.specs.Nodes.{kind_of, with_plain, with_entry, item_step, node_step, shown_of}
-use Rattle.wax_directory.specs.Nodes.{item_shown, items_shown, entry_layer, entry_of, held_layer, held}
+use Rattle.wax_directory.specs.Nodes.{item_shown, items_shown, node_layer, entry_node, held_layer, held}
 use Rattle.wax_directory.specs.Nodes.{held_of, child_of, child_at, and_below, node_at, name_before, names_of}
 use Rattle.wax_directory.specs.Nodes.{HasDistinctNames, Reached, to_node, to_nothing, to_sealed, named_before}
 use Rattle.wax_directory.specs.Nodes.{named_in, below_layer, onward, reached, shown_reached}
@@ -66,7 +66,7 @@ to_node_same a b e = ap (node_or a) e
 
 -- an entry of this name has a place
 abbrev pub IsPlaced : List TreeItem → Node → Type 0
-IsPlaced items m = (place : ℕ) × (entry_of (slice_get items place) ≡ Some m)
+IsPlaced items m = (place : ℕ) × (entry_node (slice_get items place) ≡ Some m)
 
 one_later : (i : TreeItem) (items : List TreeItem) (m : Node) → IsPlaced items m → IsPlaced (i ∷ items) m
 one_later i items m p = (suc p.0, p.1)
@@ -76,7 +76,7 @@ placed_layer : (x : List ℕ) (i : TreeItem) (items : List TreeItem) (m : Node) 
     → named_before x k (named_in x items) ≡ to_node m → IsPlaced (i ∷ items) m
 placed_layer x i items m (O.Entry name node) is later e = elim (bytes_eq (string_bytes name) x) as
     (λ b. cond b (to_node node) (named_in x items) ≡ to_node m → IsPlaced (i ∷ items) m) [
-      | true ↦ λ h. (0, ap entry_layer is ∙ ap Some (to_node_same node m h))
+      | true ↦ λ h. (0, ap node_layer is ∙ ap Some (to_node_same node m h))
       | false ↦ λ h. one_later i items m (later h)
     ] e
 placed_layer x i items m O.Failed is later e = one_later i items m (later e)
@@ -636,13 +636,13 @@ AllBelow [] = Unit {0}
 AllBelow (i ∷ items) = BelowItem (out-TreeItem i) × AllBelow items
 
 first_below : (i : TreeItem) (k : TreeItem-F Node TreeItem) → out-TreeItem i ≡ k
-    → ((m : Node) → entry_layer (out-TreeItem i) ≡ Some m → HasDistinctNames m) → BelowItem k
-first_below i (O.Entry name n) is f = f n (ap entry_layer is)
+    → ((m : Node) → node_layer (out-TreeItem i) ≡ Some m → HasDistinctNames m) → BelowItem k
+first_below i (O.Entry name n) is f = f n (ap node_layer is)
 first_below i O.Failed is f = tt
 first_below i O.NotText is f = tt
 
 all_below : (items : List TreeItem)
-    → ((place : ℕ) (m : Node) → entry_of (slice_get items place) ≡ Some m → HasDistinctNames m)
+    → ((place : ℕ) (m : Node) → entry_node (slice_get items place) ≡ Some m → HasDistinctNames m)
     → AllBelow items
 all_below [] f = tt
 all_below (i ∷ items) f =

@@ -31,8 +31,8 @@ held_by working root cursor =
     held_of (node_at cursor.places.items (if cursor.is_rooted then root else working))
 
 -- a cursor has the items from its place on
-abbrev pub Has : Node → Node → TreeCursor → Items → Type 0
-Has working root cursor l = (items : List TreeItem) × (held_by working root cursor ≡ Some items) ×
+abbrev pub HasItems : Node → Node → TreeCursor → Items → Type 0
+HasItems working root cursor l = (items : List TreeItem) × (held_by working root cursor ≡ Some items) ×
     (l ≡ items_shown (drop cursor.next items))
 
 -- these cursors have these items, one for one
@@ -40,7 +40,7 @@ abbrev pub HaveEach : Node → Node → List TreeCursor → List Items → Type 
 HaveEach working root [] [] = Unit {0}
 HaveEach working root [] (l ∷ ls) = ⊥
 HaveEach working root (cursor ∷ cursors) [] = ⊥
-HaveEach working root (cursor ∷ cursors) (l ∷ ls) = Has working root cursor l × HaveEach working root cursors
+HaveEach working root (cursor ∷ cursors) (l ∷ ls) = HasItems working root cursor l × HaveEach working root cursors
     ls
 
 abbrev pub item_among : ℕ → Option (List TreeItem) → Option TreeItem

@@ -6,12 +6,12 @@ ghost use Rattle.wax_directory.specs.declared.directory.DirectoryFault.TheVarian
 ghost use Rattle.wax_directory.specs.declared.tree.Node.TheViews.{out-Node};
 ghost use Rattle.wax_directory.specs.Answers.{listed_of, KindIs, Opens};
 ghost use Rattle.wax_directory.specs.Names.{names_in_path, is_rooted, are_distinct};
-ghost use Rattle.wax_directory.specs.Nodes.{node_at, child_at, held, entry_of, shown_of, listed_item};
+ghost use Rattle.wax_directory.specs.Nodes.{node_at, child_at, held, entry_node, shown_of, listed_item};
 ghost use Rattle.wax_directory.specs.Nodes.{names_of, HasDistinctNames, HasDuplicateName, named_in};
 ghost use Rattle.wax_directory.specs.Nodes.{below_layer, reached};
 ghost use Rattle.wax_query.specs.declared.diagnostics.Refusal.TheVariants.{Refused, Memory};
 ghost use Rattle.wax_directory.specs.Counting.{no_counts};
-ghost use Rattle.wax_directory.specs.Trees.{tree_law, Has, tree_start, reached_in, shown_in, item_at};
+ghost use Rattle.wax_directory.specs.Trees.{tree_law, HasItems, tree_start, reached_in, shown_in, item_at};
 ghost use Rattle.wax_directory.specs.Places.{has_name, reached_place, reached_at, Locates};
 
 use crate::directory::{Directory, DirectoryFault, FileType, ListItem};
@@ -180,7 +180,7 @@ impl TreeItem {
     }
 
     fn node(&self) -> Option<&Node>
-        ensures { option_map (λ n. n.now) result ≡ entry_of (Some self.now) }
+        ensures { option_map (λ n. n.now) result ≡ entry_node (Some self.now) }
     {
         match self {
             TreeItem::Entry(_, node) => Some(node),
@@ -272,7 +272,7 @@ impl Tree {
 
     // a cursor before the first item of the folder at a path
     fn begin(&self, alloc: Global, path: &str) -> Result<TreeCursor, DirectoryFault>
-        ensures { Opens (Has self.now.working self.now.root)
+        ensures { Opens (HasItems self.now.working self.now.root)
             (shown_in self.now.working self.now.root path.now) result }
     {
         let Some(places) = self.find(alloc, path)? else {

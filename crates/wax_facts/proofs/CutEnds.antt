@@ -1,7 +1,7 @@
 -- Where the cut falls.
 use Rattle.std.proofs.Common.{Bool, List, None, Option, Some, [], false, inl, inr, refl, subst, sym, true, ℕ}
 use Rattle.std.proofs.Common.{◌∙◌, ◌≡◌}
-use Rattle.wax_token.specs.Meaning.{Ends}
+use Rattle.wax_query.specs.Components.{EndsWithSlash}
 use Rattle.wax_token.specs.Syntax.{Tree, Trees, alternation, class, concatenation, leaf, literal, more, none}
 use Rattle.wax_token.specs.Syntax.{one, repetition, separator, tree, zero_or_more}
 use Rattle.wax_facts.specs.InvariantText.{Text}
@@ -14,9 +14,9 @@ use Rattle.wax_facts.proofs.Truths.{true_false}
 
 abbrev pub EndsAt : {A : Type 0} → Trees A → Option (ℕ × List ℕ) → Type 0
 EndsAt ts None = Unit {0}
-EndsAt ts (Some cut) = IsSome (after cut.0 ts) → begins_with_tree (after cut.0 ts) ≡ false → Ends cut.1
+EndsAt ts (Some cut) = IsSome (after cut.0 ts) → begins_with_tree (after cut.0 ts) ≡ false → EndsWithSlash cut.1
 
-separator_text : {A : Type 0} (t : Tree A) (x : List ℕ) → is_separator t ≡ true → Text t x → Ends x
+separator_text : {A : Type 0} (t : Tree A) (x : List ℕ) → is_separator t ≡ true → Text t x → EndsWithSlash x
 separator_text (leaf a (literal i t)) x e h = true_false (sym e)
 separator_text (leaf a (class n xs)) x e h = true_false (sym e)
 separator_text (leaf a separator) x e h = ([], h)

@@ -4,7 +4,7 @@ use Rattle.std.proofs.Common.{refl, sym, ◌∙◌, ap, subst, arith, rules, len
 use Rattle.wax_token.specs.Syntax.{tree_size, trees_size, Tree, leaf, alternation, concatenation, repetition, Trees, none, more}
 use Rattle.wax_token.specs.Words.{members, trees}
 use Rattle.wax_facts.specs.Prefix.{opened}
-use Rattle.wax_facts.specs.Rest.{after, begins_with_tree, entered, or_here, inner, inner_last, owner}
+use Rattle.wax_facts.specs.Rest.{after, begins_with_tree, entered, or_here, inner_cut, inner_last, owner}
 use Rattle.wax_facts.specs.Orderly.{Flat, FlatEach, is_token}
 use Rattle.wax_facts.specs.inner.Bodies.{open_body, last_body, entered_body, inside}
 use Rattle.wax_facts.proofs.Truths.{false_true}
@@ -91,7 +91,7 @@ enter zero b = by (begins_with_tree (opened b)) refl
     by false e = refl
 enter (suc n) b = let e : nat_lt 0 (suc n) ≡ true = search rules in ap inner_of (sym (entered_yes (suc n) b (ap (λ z. z || begins_with_tree (opened b)) e)))
 
-token_inner : {A : Type 0} (t : Tree A) → is_token t ≡ true → (n : ℕ) → inner t n ≡ inner_of (entered_body n (open_body t))
+token_inner : {A : Type 0} (t : Tree A) → is_token t ≡ true → (n : ℕ) → inner_cut t n ≡ inner_of (entered_body n (open_body t))
 token_inner (leaf a l) w n = refl
 token_inner (alternation a none) w n = refl
 token_inner (alternation a (more t none)) w n = enter n t
@@ -110,7 +110,7 @@ last_inner (more t none) w n = token_inner t w.0 n
 last_inner (more t (more u us)) w zero = refl
 last_inner (more t (more u us)) w (suc n) = last_inner (more u us) w.2 n
 
-flat_inner : {A : Type 0} (t : Tree A) → Flat t → (n : ℕ) → inner t n ≡ inner_of (inside (members t) n)
+flat_inner : {A : Type 0} (t : Tree A) → Flat t → (n : ℕ) → inner_cut t n ≡ inner_of (inside (members t) n)
 flat_inner (leaf a l) w n = token_inner (leaf a l) refl n
 flat_inner (alternation a ts) w n = token_inner (alternation a ts) refl n
 flat_inner (concatenation a ts) w n = last_inner ts w n

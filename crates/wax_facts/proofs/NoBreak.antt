@@ -5,7 +5,7 @@ use Rattle.wax_token.specs.Reads.{Span}
 use Rattle.wax_token.specs.Syntax.{Tree, Trees, alternation, concatenation, leaf, more, none, repetition}
 use Rattle.wax_rule.specs.Rules.{adjacent_boundaries, alternative_breaks, boundary_breaks, bounds_breaks}
 use Rattle.wax_rule.specs.Rules.{branch_breaks, broken, size_breaks}
-use Rattle.wax_rule.specs.Situated.{Situated, beside, branch_levels, breadth_first, end_side, levels}
+use Rattle.wax_rule.specs.Situated.{Situated, beside, branch_levels, breadth_first, end_side, situated_levels}
 use Rattle.wax_rule.specs.Situated.{member_levels, right_of}
 use Rattle.wax_facts.proofs.Lists.{nil_left, nil_right}
 
@@ -78,7 +78,7 @@ abbrev mutual
   LawfulEach c (more t ts) = Lawful (before_these c ts) t × LawfulEach (after_this c t) ts
 
 mutual
-  lawful : (c : Situated) (t : Tree Span) → EachLevel Kept (levels c.left c.right t) → Lawful c t
+  lawful : (c : Situated) (t : Tree Span) → EachLevel Kept (situated_levels c.left c.right t) → Lawful c t
   lawful c (leaf a x) h = tt
   lawful c (alternation a ts) h = (h.0.0.2, lawful_some c ts h.1)
   lawful c (concatenation a ts) h = (h.0.0.0, lawful_each c ts h.1)
@@ -87,18 +87,18 @@ mutual
   lawful_some : (c : Situated) (ts : Trees Span) → EachLevel Kept (branch_levels c.left c.right ts) → LawfulSome c ts
   lawful_some c none h = tt
   lawful_some c (more t ts) h =
-      let k : EachLevel Kept (levels c.left c.right t) × EachLevel Kept (branch_levels c.left c.right ts) = beside_parts Kept (levels c.left c.right t) (branch_levels c.left c.right ts) h in
+      let k : EachLevel Kept (situated_levels c.left c.right t) × EachLevel Kept (branch_levels c.left c.right ts) = beside_parts Kept (situated_levels c.left c.right t) (branch_levels c.left c.right ts) h in
       (lawful c t k.0, lawful_some c ts k.1)
 
   lawful_each : (c : Situated) (ts : Trees Span) → EachLevel Kept (member_levels c.left c.right ts) → LawfulEach c ts
   lawful_each c none h = tt
   lawful_each c (more t ts) h =
-      let k : EachLevel Kept (levels c.left (right_of ts c.right) t) × EachLevel Kept (member_levels (Some (end_side t)) c.right ts) =
-      beside_parts Kept (levels c.left (right_of ts c.right) t) (member_levels (Some (end_side t)) c.right ts) h in
+      let k : EachLevel Kept (situated_levels c.left (right_of ts c.right) t) × EachLevel Kept (member_levels (Some (end_side t)) c.right ts) =
+      beside_parts Kept (situated_levels c.left (right_of ts c.right) t) (member_levels (Some (end_side t)) c.right ts) h in
       (lawful (before_these c ts) t k.0, lawful_each (after_this c t) ts k.1)
 
 abbrev pub top : Tree Span → Situated
 top t = record { token = t; left = None; right = None }
 
 pub broken_lawful : (t : Tree Span) → broken t ≡ [] → Lawful (top t) t
-broken_lawful t e = lawful (top t) t (level_parts Kept (levels None None t) (kept_each (breadth_first t) e))
+broken_lawful t e = lawful (top t) t (level_parts Kept (situated_levels None None t) (kept_each (breadth_first t) e))

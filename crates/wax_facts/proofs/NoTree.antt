@@ -2,7 +2,7 @@
 use Rattle.std.proofs.Common.{ap, false, refl, true, ◌≡◌}
 use Rattle.wax_token.specs.Syntax.{Leaf, Tree, Trees, alternation, class, concatenation, leaf, literal, more}
 use Rattle.wax_token.specs.Syntax.{none, one, repetition, separator, tree, zero_or_more}
-use Rattle.wax_rule.specs.Situated.{first_starts_in, some_starts_in, starts_in}
+use Rattle.wax_rule.specs.Situated.{first_starts_in, some_starts_in, starts_with_leaf}
 use Rattle.wax_token.specs.Kinds.{is_boundary_leaf}
 use Rattle.wax_facts.specs.Orderly.{IsSome}
 use Rattle.wax_facts.specs.Rest.{begins_with_tree}
@@ -19,7 +19,7 @@ leaf_no_tree a (zero_or_more v) e = refl
 leaf_no_tree a (tree rooted) e = true_false e
 
 mutual
-  no_tree : {A : Type 0} (t : Tree A) → starts_in is_boundary_leaf t ≡ false → starts_with_tree t ≡ false
+  no_tree : {A : Type 0} (t : Tree A) → starts_with_leaf is_boundary_leaf t ≡ false → starts_with_tree t ≡ false
   no_tree (leaf a l) e = leaf_no_tree a l e
   no_tree (alternation a ts) e = some_no_tree ts e
   no_tree (concatenation a ts) e = first_no_tree ts e
@@ -28,7 +28,7 @@ mutual
   some_no_tree : {A : Type 0} (ts : Trees A) → some_starts_in is_boundary_leaf ts ≡ false → some_starts_with_tree ts ≡ false
   some_no_tree none e = refl
   some_no_tree (more t ts) e = false_or (starts_with_tree t) (some_starts_with_tree ts)
-      (no_tree t (or_left (starts_in is_boundary_leaf t) (some_starts_in is_boundary_leaf ts) e)) (some_no_tree ts (or_right (starts_in is_boundary_leaf t) (some_starts_in is_boundary_leaf ts) e))
+      (no_tree t (or_left (starts_with_leaf is_boundary_leaf t) (some_starts_in is_boundary_leaf ts) e)) (some_no_tree ts (or_right (starts_with_leaf is_boundary_leaf t) (some_starts_in is_boundary_leaf ts) e))
 
   pub first_no_tree : {A : Type 0} (ts : Trees A) → first_starts_in is_boundary_leaf ts ≡ false → first_starts_with_tree ts ≡ false
   first_no_tree none e = refl

@@ -1,7 +1,7 @@
 -- What the rules keep of a glob they keep of its opened list.
 use Rattle.std.proofs.Common.{Bool, None, Some, false, refl, suc, true, zero, ◌||◌, ◌∙◌, ◌≡◌}
 use Rattle.wax_token.specs.Syntax.{Tree, Trees, alternation, concatenation, leaf, more, none, repetition}
-use Rattle.wax_rule.specs.Situated.{first_starts_in, starts_in}
+use Rattle.wax_rule.specs.Situated.{first_starts_in, starts_with_leaf}
 use Rattle.wax_token.specs.Kinds.{is_boundary_leaf}
 use Rattle.wax_facts.specs.Orderly.{Apart, ApartEach, Worded, WordedEach}
 use Rattle.wax_facts.specs.Prefix.{opened, opened_last}
@@ -30,10 +30,10 @@ or_nil b true e = e
 or_nil b false e = e
 
 mutual
-  opened_first : {A : Type 0} (t : Tree A) → first_starts_in is_boundary_leaf (opened t) ≡ starts_in is_boundary_leaf t
+  opened_first : {A : Type 0} (t : Tree A) → first_starts_in is_boundary_leaf (opened t) ≡ starts_with_leaf is_boundary_leaf t
   opened_first (leaf a l) = refl
   opened_first (alternation a none) = refl
-  opened_first (alternation a (more t none)) = or_nil (first_starts_in is_boundary_leaf (opened t)) (starts_in is_boundary_leaf t) (opened_first t)
+  opened_first (alternation a (more t none)) = or_nil (first_starts_in is_boundary_leaf (opened t)) (starts_with_leaf is_boundary_leaf t) (opened_first t)
   opened_first (alternation a (more t (more u us))) = refl
   opened_first (concatenation a ts) = last_first ts
   opened_first (repetition a t zero high) = refl

@@ -1,7 +1,8 @@
 -- What the opened list means after the prefix.
 use Rattle.std.proofs.Common.{Bool, List, None, Option, Some, [], ap, arith, false, inl, inr, refl, subst}
 use Rattle.std.proofs.Common.{suc, sym, true, zero, ℕ, ◌↔◌, ◌∙◌, ◌∷◌, ◌≡◌, ◌≢◌, ◌≤◌}
-use Rattle.wax_token.specs.Meaning.{Ends, Means, MeansEach}
+use Rattle.wax_query.specs.Components.{EndsWithSlash}
+use Rattle.wax_token.specs.Meaning.{Means, MeansEach}
 use Rattle.wax_token.specs.Syntax.{Tree, Trees, alternation, class, concatenation, leaf, literal, more, none}
 use Rattle.wax_token.specs.Syntax.{one, repetition, separator, tree, zero_or_more}
 use Rattle.wax_facts.specs.Joined.{begins_with_leaf, path}
@@ -39,7 +40,7 @@ module _ {A : Type 0} (ts : Trees A) (full : FullEach ts) where
   )
 
   -- the cut falls after a `/`
-  rest_after_slash : (n : ℕ) (p r : List ℕ) → 1 ≤ n → FrontText n ts p → IsSome (after n ts) → first_starts_with_tree (after n ts) ≡ false → Ends p → Rest n p r
+  rest_after_slash : (n : ℕ) (p r : List ℕ) → 1 ≤ n → FrontText n ts p → IsSome (after n ts) → first_starts_with_tree (after n ts) ≡ false → EndsWithSlash p → Rest n p r
   rest_after_slash n p r le h some e ends = (
     (λ m. subst (MeansEach ts false false) (sym (path_ends p r ends))
         (take_from n ts p full h some false false r (each_moved (after n ts) e false (later false n) false r (subst (λ z. MeansEach z false false r) g m)))),
@@ -51,7 +52,7 @@ module _ {A : Type 0} (ts : Trees A) (full : FullEach ts) where
       g = unrooted_plain (after n ts) (no_tree (after n ts) e)
 
   -- the cut falls at a `**`
-  rest_at_tree : (n : ℕ) (p r : List ℕ) (a : A) (rooted : Bool) (vs : Trees A) → 1 ≤ n → FrontText n ts p → after n ts ≡ more (leaf a (tree rooted)) vs → p ≢ [] → (Ends p → ⊥) → Rest n p r
+  rest_at_tree : (n : ℕ) (p r : List ℕ) (a : A) (rooted : Bool) (vs : Trees A) → 1 ≤ n → FrontText n ts p → after n ts ≡ more (leaf a (tree rooted)) vs → p ≢ [] → (EndsWithSlash p → ⊥) → Rest n p r
   rest_at_tree zero p r a rooted vs le h e some bare = absurd (omega (arith, le))
   rest_at_tree (suc n) p r a rooted vs le h e some bare = (
     (λ m. subst (MeansEach ts false false) (sym (path_bare p r some bare))
@@ -87,10 +88,10 @@ module _ {A : Type 0} (ts : Trees A) (full : FullEach ts) (first : IsRooted ts �
       at_first (more (concatenation a vs) us) f h = true_false (sym f)
       at_first (more (repetition a t low high) us) f h = true_false (sym f)
 
-  some_list : (n : ℕ) (p r : List ℕ) → (IsRooted ts → ⊥) → FrontText n ts p → (begins_with_tree (after n ts) ≡ false → Ends p) → IsSome (after n ts) → IsFree ts n p → Rest ts full n p r
+  some_list : (n : ℕ) (p r : List ℕ) → (IsRooted ts → ⊥) → FrontText n ts p → (begins_with_tree (after n ts) ≡ false → EndsWithSlash p) → IsSome (after n ts) → IsFree ts n p → Rest ts full n p r
   some_list zero p r h text ends some free = rest_whole ts full p r text (unrooted_first ts h)
   some_list (suc n) p r h text ends some free = elim (begins_with_tree (after (suc n) ts)) as (λ b. begins_with_tree (after (suc n) ts) ≡ b → Rest ts full (suc n) p r) [
-    | true ↦ λ e. (let k : (p ≢ []) × (Ends p → ⊥) = free.at_tree (omega arith) e in
+    | true ↦ λ e. (let k : (p ≢ []) × (EndsWithSlash p → ⊥) = free.at_tree (omega arith) e in
         let v : BeginsWithTree (after (suc n) ts) = begins_so (after (suc n) ts) e in
         rest_at_tree ts full (suc n) p r v.0 v.1 v.2 (omega arith) text v.3 k.0 k.1)
     | false ↦ λ e. rest_after_slash ts full (suc n) p r (omega arith) text some (free.after_slash (omega arith) e) (ends e)
@@ -101,7 +102,7 @@ module _ {A : Type 0} (ts : Trees A) (full : FullEach ts) (first : IsRooted ts �
   cut_list (Some cut) n p r h c e g some free =
       let t : FrontText n ts p = subst (λ z. FrontText z ts p) (sym e) (subst (FrontText cut.0 ts) (sym g) (cut_text ts (Some cut) c)) in
       let s : IsSome (after cut.0 ts) = subst (λ z. IsSome (after z ts)) e some in
-      some_list n p r h t (λ k. subst Ends (sym g) (ends_at ts (Some cut) c s (ap (λ z. begins_with_tree (after z ts)) (sym e) ∙ k))) some free
+      some_list n p r h t (λ k. subst EndsWithSlash (sym g) (ends_at ts (Some cut) c s (ap (λ z. begins_with_tree (after z ts)) (sym e) ∙ k))) some free
 
   pub rest_list : (n : ℕ) (p r : List ℕ) → PrefixOf ts n p → IsSome (after n ts) → IsFree ts n p → Rest ts full n p r
   rest_list n p r (inl h) some free = rooted_list n p r h.0 h.1 h.2

@@ -5,7 +5,7 @@ use Rattle.wax_token.specs.Syntax.{Tree, Trees, alternation, concatenation, leaf
 use Rattle.wax_token.specs.Words.{members}
 use Rattle.wax_facts.specs.Orderly.{Flat, FlatEach, is_token}
 use Rattle.wax_facts.specs.Prefix.{opened, opened_last}
-use Rattle.wax_facts.specs.Rest.{after, begins_with_tree, entered, inner, inner_last, or_here}
+use Rattle.wax_facts.specs.Rest.{after, begins_with_tree, entered, inner_cut, inner_last, or_here}
 use Rattle.wax_facts.proofs.Owners.{after_none}
 use Rattle.wax_facts.proofs.Truths.{false_true}
 
@@ -33,18 +33,18 @@ settle zero true o t u e g h = h
 settle (suc n) b o t u e g h = h
 
 mutual
-  pub inner_settles : {A : Type 0} (t : Tree A) → Flat t → (n : ℕ) → Settles (inner t n) (after n (members t))
+  pub inner_settles : {A : Type 0} (t : Tree A) → Flat t → (n : ℕ) → Settles (inner_cut t n) (after n (members t))
   inner_settles (leaf a l) w n = more_tells n (leaf a l) refl
   inner_settles (alternation a none) w n = more_tells n (alternation a none) refl
   inner_settles (alternation a (more t none)) w n =
-      settle n (begins_with_tree (opened t)) (or_here (t, n) (inner t n)) (alternation a (more t none)) t refl refl (settled (inner t n) t n (inner_settles t w.0 n))
+      settle n (begins_with_tree (opened t)) (or_here (t, n) (inner_cut t n)) (alternation a (more t none)) t refl refl (settled (inner_cut t n) t n (inner_settles t w.0 n))
   inner_settles (alternation a (more t (more u us))) w n = more_tells n (alternation a (more t (more u us))) refl
   inner_settles (concatenation a ts) w n = last_settles ts w n
   inner_settles (repetition a t zero high) w n = more_tells n (repetition a t zero high) refl
   inner_settles (repetition a t (suc zero) None) w n = more_tells n (repetition a t 1 None) refl
   inner_settles (repetition a t (suc zero) (Some zero)) w n = more_tells n (repetition a t 1 (Some 0)) refl
   inner_settles (repetition a t (suc zero) (Some (suc zero))) w n =
-      settle n (begins_with_tree (opened t)) (or_here (t, n) (inner t n)) (repetition a t 1 (Some 1)) t refl refl (settled (inner t n) t n (inner_settles t w n))
+      settle n (begins_with_tree (opened t)) (or_here (t, n) (inner_cut t n)) (repetition a t 1 (Some 1)) t refl refl (settled (inner_cut t n) t n (inner_settles t w n))
   inner_settles (repetition a t (suc zero) (Some (suc (suc m)))) w n = more_tells n (repetition a t 1 (Some (suc (suc m)))) refl
   inner_settles (repetition a t (suc (suc low)) high) w n = more_tells n (repetition a t (suc (suc low)) high) refl
 
@@ -54,7 +54,7 @@ mutual
   last_settles (more t (more u us)) w zero = λ h. h
   last_settles (more t (more u us)) w (suc n) = last_settles (more u us) w.2 n
 
-  alone_settles : {A : Type 0} (t : Tree A) → is_token t ≡ true → (n : ℕ) → Settles (inner t n) (after n (members t)) → Settles (inner t n) (after n (more t none))
+  alone_settles : {A : Type 0} (t : Tree A) → is_token t ≡ true → (n : ℕ) → Settles (inner_cut t n) (after n (members t)) → Settles (inner_cut t n) (after n (more t none))
   alone_settles (leaf a l) e n h = h
   alone_settles (alternation a ts) e n h = h
   alone_settles (concatenation a ts) e n h = absurd (let f : ⊥ = cc in f)

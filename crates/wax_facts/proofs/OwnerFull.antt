@@ -4,7 +4,7 @@ use Rattle.wax_token.specs.Syntax.{Tree, Trees, alternation, concatenation, leaf
 use Rattle.wax_token.specs.Words.{members}
 use Rattle.wax_facts.specs.Orderly.{Full, FullEach}
 use Rattle.wax_facts.specs.Prefix.{opened}
-use Rattle.wax_facts.specs.Rest.{after, begins_with_tree, entered, inner, inner_last, or_here}
+use Rattle.wax_facts.specs.Rest.{after, begins_with_tree, entered, inner_cut, inner_last, or_here}
 
 pub members_full : {A : Type 0} (t : Tree A) → Full t → FullEach (members t)
 members_full (leaf a l) w = (tt, tt)
@@ -31,16 +31,16 @@ full_entered zero true o w = w
 full_entered (suc n) b o w = w
 
 mutual
-  pub inner_full : {A : Type 0} (t : Tree A) → Full t → (n : ℕ) → FullOwner (inner t n)
+  pub inner_full : {A : Type 0} (t : Tree A) → Full t → (n : ℕ) → FullOwner (inner_cut t n)
   inner_full (leaf a l) w n = tt
   inner_full (alternation a none) w n = tt
-  inner_full (alternation a (more t none)) w n = full_entered n (begins_with_tree (opened t)) (or_here (t, n) (inner t n)) (full_here (inner t n) t n w.1.0 (inner_full t w.1.0 n))
+  inner_full (alternation a (more t none)) w n = full_entered n (begins_with_tree (opened t)) (or_here (t, n) (inner_cut t n)) (full_here (inner_cut t n) t n w.1.0 (inner_full t w.1.0 n))
   inner_full (alternation a (more t (more u us))) w n = tt
   inner_full (concatenation a ts) w n = last_full ts w.1 n
   inner_full (repetition a t zero high) w n = tt
   inner_full (repetition a t (suc zero) None) w n = tt
   inner_full (repetition a t (suc zero) (Some zero)) w n = tt
-  inner_full (repetition a t (suc zero) (Some (suc zero))) w n = full_entered n (begins_with_tree (opened t)) (or_here (t, n) (inner t n)) (full_here (inner t n) t n w (inner_full t w n))
+  inner_full (repetition a t (suc zero) (Some (suc zero))) w n = full_entered n (begins_with_tree (opened t)) (or_here (t, n) (inner_cut t n)) (full_here (inner_cut t n) t n w (inner_full t w n))
   inner_full (repetition a t (suc zero) (Some (suc (suc m)))) w n = tt
   inner_full (repetition a t (suc (suc low)) high) w n = tt
 

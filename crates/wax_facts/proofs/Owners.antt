@@ -4,7 +4,7 @@ use Rattle.wax_token.specs.Syntax.{Tree, Trees, alternation, concatenation, leaf
 use Rattle.wax_token.specs.Words.{members}
 use Rattle.wax_facts.specs.Orderly.{Flat, FlatEach, is_token}
 use Rattle.wax_facts.specs.Prefix.{opened, opened_last}
-use Rattle.wax_facts.specs.Rest.{after, begins_with_tree, entered, inner, inner_last, or_here, owner}
+use Rattle.wax_facts.specs.Rest.{after, begins_with_tree, entered, inner_cut, inner_last, or_here, owner}
 
 pub after_none : {A : Type 0} (n : ℕ) (ts : Trees A) → ts ≡ none → after n ts ≡ none
 after_none zero ts e = e
@@ -33,18 +33,18 @@ enter zero true o t u e h = h
 enter (suc n) b o t u e h = h
 
 mutual
-  pub inner_owns : {A : Type 0} (t : Tree A) → Flat t → (n : ℕ) → Owns (inner t n) (after n (opened t)) (after n (members t))
+  pub inner_owns : {A : Type 0} (t : Tree A) → Flat t → (n : ℕ) → Owns (inner_cut t n) (after n (opened t)) (after n (members t))
   inner_owns (leaf a l) w n = after_more n (leaf a l) refl
   inner_owns (alternation a none) w n = after_more n (alternation a none) refl
   inner_owns (alternation a (more t none)) w n =
-      enter n (begins_with_tree (opened t)) (or_here (t, n) (inner t n)) (alternation a (more t none)) t refl (owned (inner t n) t n (after n (opened t)) (inner_owns t w.0 n))
+      enter n (begins_with_tree (opened t)) (or_here (t, n) (inner_cut t n)) (alternation a (more t none)) t refl (owned (inner_cut t n) t n (after n (opened t)) (inner_owns t w.0 n))
   inner_owns (alternation a (more t (more u us))) w n = after_more n (alternation a (more t (more u us))) refl
   inner_owns (concatenation a ts) w n = last_owns ts w n
   inner_owns (repetition a t zero high) w n = after_more n (repetition a t zero high) refl
   inner_owns (repetition a t (suc zero) None) w n = after_more n (repetition a t 1 None) refl
   inner_owns (repetition a t (suc zero) (Some zero)) w n = after_more n (repetition a t 1 (Some 0)) refl
   inner_owns (repetition a t (suc zero) (Some (suc zero))) w n =
-      enter n (begins_with_tree (opened t)) (or_here (t, n) (inner t n)) (repetition a t 1 (Some 1)) t refl (owned (inner t n) t n (after n (opened t)) (inner_owns t w n))
+      enter n (begins_with_tree (opened t)) (or_here (t, n) (inner_cut t n)) (repetition a t 1 (Some 1)) t refl (owned (inner_cut t n) t n (after n (opened t)) (inner_owns t w n))
   inner_owns (repetition a t (suc zero) (Some (suc (suc m)))) w n = after_more n (repetition a t 1 (Some (suc (suc m)))) refl
   inner_owns (repetition a t (suc (suc low)) high) w n = after_more n (repetition a t (suc (suc low)) high) refl
 
@@ -54,11 +54,11 @@ mutual
   last_owns (more t (more u us)) w zero = refl
   last_owns (more t (more u us)) w (suc n) = last_owns (more u us) w.2 n
 
-  alone : {A : Type 0} (t : Tree A) → is_token t ≡ true → (n : ℕ) → Owns (inner t n) (after n (opened t)) (after n (members t)) → Owns (inner t n) (after n (opened t)) (after n (more t none))
+  alone : {A : Type 0} (t : Tree A) → is_token t ≡ true → (n : ℕ) → Owns (inner_cut t n) (after n (opened t)) (after n (members t)) → Owns (inner_cut t n) (after n (opened t)) (after n (more t none))
   alone (leaf a l) e n h = h
   alone (alternation a ts) e n h = h
   alone (concatenation a ts) e n h = absurd (let f : ⊥ = cc in f)
   alone (repetition a t low high) e n h = h
 
 pub owner_opened : {A : Type 0} (t : Tree A) → Flat t → (n : ℕ) → after n (opened t) ≡ opened_last (after (owner t n).1 (members (owner t n).0))
-owner_opened t w n = owned (inner t n) t n (after n (opened t)) (inner_owns t w n)
+owner_opened t w n = owned (inner_cut t n) t n (after n (opened t)) (inner_owns t w n)

@@ -8,7 +8,7 @@ use Rattle.wax_facts.specs.Joined.{begins_with_leaf, path}
 use Rattle.wax_facts.specs.Orderly.{Flat, Full, FullEach, IsSome, Orderly}
 use Rattle.wax_facts.specs.Partition.{BeginsPlainly, IsPartition, IsSplit, MeansAfter, SplitsAll, glob_up_to}
 use Rattle.wax_facts.specs.Prefix.{IsRooted, opened}
-use Rattle.wax_facts.specs.Rest.{after, inner, owner, rest, unrooted}
+use Rattle.wax_facts.specs.Rest.{after, inner_cut, owner, rest, unrooted}
 use Rattle.wax_facts.proofs.BranchRest.{branch_rest}
 use Rattle.wax_facts.proofs.OpenedMeans.{last_some}
 use Rattle.wax_facts.proofs.OwnerFull.{after_full, full_here, inner_full, members_full}
@@ -26,7 +26,7 @@ some_unrooted (more t ts) s = tt
 left_some : (t : Tree Span) (n : ℕ) → Full t → Flat t → IsSome (rest t n) → IsSome (after n (opened t))
 left_some t n full flat some =
     let xs : Trees Span = after (owner t n).1 (members (owner t n).0) in
-    let w : FullEach xs = after_full (owner t n).1 (members (owner t n).0) (members_full (owner t n).0 (full_here (inner t n) t n full (inner_full t full n))) in
+    let w : FullEach xs = after_full (owner t n).1 (members (owner t n).0) (members_full (owner t n).0 (full_here (inner_cut t n) t n full (inner_full t full n))) in
     subst IsSome (sym (owner_opened t flat n)) (last_some xs (some_unrooted xs some) w)
 
 none_left : (t : Tree Span) (n : ℕ) → Flat t → rest t n ≡ none → IsSome (after n (opened t)) → ⊥

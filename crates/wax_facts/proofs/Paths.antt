@@ -1,10 +1,10 @@
 -- Two parts of a path.
 use Rattle.std.proofs.Common.{List, [], ap, false, if◌then◌else◌, refl, rules, true, ℕ, ◌++◌, ◌==◌, ◌∷◌, ◌≡◌}
 use Rattle.std.proofs.Common.{◌≢◌}
-use Rattle.wax_token.specs.Meaning.{Ends}
+use Rattle.wax_query.specs.Components.{EndsWithSlash}
 use Rattle.wax_facts.specs.Joined.{path}
 
-pub path_ends : (p r : List ℕ) → Ends p → path p r ≡ p ++ r
+pub path_ends : (p r : List ℕ) → EndsWithSlash p → path p r ≡ p ++ r
 path_ends [] r h = absurd (nil h.0 h.1)
   where
     nil : (t : List ℕ) → [] ≡ t ++ 47 ∷ [] → ⊥
@@ -18,14 +18,14 @@ path_ends (c ∷ []) r h = ap (λ b. if b then c ∷ r else c ∷ 47 ∷ r) (is_
     is_slash (d ∷ k ∷ t) e = absurd (let f : ⊥ = cc in f)
 path_ends (c ∷ d ∷ p) r h = ap (λ z. c ∷ z) (path_ends (d ∷ p) r (tail h.0 h.1))
   where
-    tail : (t : List ℕ) → c ∷ d ∷ p ≡ t ++ 47 ∷ [] → Ends (d ∷ p)
+    tail : (t : List ℕ) → c ∷ d ∷ p ≡ t ++ 47 ∷ [] → EndsWithSlash (d ∷ p)
     tail [] e = absurd (let f : ⊥ = cc in f)
     tail (k ∷ t) e = (t, (let f : d ∷ p ≡ t ++ 47 ∷ [] = cc in f))
 
 is_47 : (c : ℕ) → (c == 47) ≡ true → c ≡ 47
 is_47 c e = search rules
 
-pub path_bare : (p r : List ℕ) → p ≢ [] → (Ends p → ⊥) → path p r ≡ p ++ 47 ∷ r
+pub path_bare : (p r : List ℕ) → p ≢ [] → (EndsWithSlash p → ⊥) → path p r ≡ p ++ 47 ∷ r
 path_bare [] r some h = absurd (some refl)
 path_bare (c ∷ []) r some h = elim (c == 47) as (λ b. (c == 47) ≡ b → (if b then c ∷ r else c ∷ 47 ∷ r) ≡ c ∷ 47 ∷ r) [
   | true ↦ λ e. absurd (h ([], ap (λ z. z ∷ []) (is_47 c e)))

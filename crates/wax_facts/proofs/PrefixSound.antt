@@ -1,7 +1,8 @@
 -- Each text that is meant begins with the prefix.
 use Rattle.std.proofs.Common.{Bool, List, None, Option, Some, [], ap, append-nil, append_assoc, false, inl}
 use Rattle.std.proofs.Common.{inr, refl, subst, suc, sym, true, zero, ℕ, ◌++◌, ◌∙◌, ◌∷◌, ◌≡◌}
-use Rattle.wax_token.specs.Meaning.{Begins, Means, MeansEach}
+use Rattle.wax_query.specs.Components.{BeginsWithSlash}
+use Rattle.wax_token.specs.Meaning.{Means, MeansEach}
 use Rattle.wax_token.specs.Syntax.{Tree, Trees, alternation, concatenation, leaf, more, none, repetition}
 use Rattle.wax_facts.specs.Prefix.{Cut, IsRooted, Prefix, opened, opened_last, or_nothing}
 use Rattle.wax_token.specs.Kinds.{is_separator}
@@ -57,7 +58,7 @@ cut_front (more t ts) cut (inr (inr c)) before s h =
 rooted_front : {A : Type 0} (ts : Trees A) (s : List ℕ) → IsRooted ts → Loosely ts false s → Front (47 ∷ []) s
 rooted_front none s r h = absurd r
 rooted_front (more t ts) s r h =
-    let b : Begins h.0 = root_sound t r.0 h.3.0 h.0 h.3.1 in
+    let b : BeginsWithSlash h.0 = root_sound t r.0 h.3.0 h.0 h.3.1 in
     (b.0 ++ h.1, h.2 ∙ ap (λ z. z ++ h.1) b.1)
 
 pub prefix_sound : {A : Type 0} (t : Tree A) (n : ℕ) (p s : List ℕ) → Prefix t n p → Means t false false s → Front p s

@@ -5,7 +5,7 @@ use Rattle.wax_token.specs.Syntax.{one, repetition, separator, tree, zero_or_mor
 use Rattle.wax_token.specs.Words.{members}
 use Rattle.wax_facts.specs.Orderly.{IsSome, Orderly, OrderlyEach}
 use Rattle.wax_facts.specs.Prefix.{opened}
-use Rattle.wax_facts.specs.Rest.{after, begins_with_tree, entered, inner, inner_last, or_here, owner, rest}
+use Rattle.wax_facts.specs.Rest.{after, begins_with_tree, entered, inner_cut, inner_last, or_here, owner, rest}
 use Rattle.wax_facts.specs.Rest.{unrooted}
 use Rattle.wax_facts.proofs.Owners.{owner_opened}
 use Rattle.wax_facts.proofs.WrittenRest.{not_none}
@@ -27,17 +27,17 @@ only_branch : {A : Type 0} (a : A) (t : Tree A) → Orderly (alternation a (more
 only_branch a t o = (o.0.1.0, o.1.0, o.2.0, o.3.0)
 
 mutual
-  inner_orderly : {A : Type 0} (t : Tree A) → Orderly t → (n : ℕ) → OrderlyOwner (inner t n)
+  inner_orderly : {A : Type 0} (t : Tree A) → Orderly t → (n : ℕ) → OrderlyOwner (inner_cut t n)
   inner_orderly (leaf a l) o n = tt
   inner_orderly (alternation a none) o n = tt
-  inner_orderly (alternation a (more t none)) o n = into n (begins_with_tree (opened t)) (or_here (t, n) (inner t n)) (here (inner t n) t n (only_branch a t o) (inner_orderly t (only_branch a t o) n))
+  inner_orderly (alternation a (more t none)) o n = into n (begins_with_tree (opened t)) (or_here (t, n) (inner_cut t n)) (here (inner_cut t n) t n (only_branch a t o) (inner_orderly t (only_branch a t o) n))
   inner_orderly (alternation a (more t (more u us))) o n = tt
   inner_orderly (concatenation a ts) o n = last_orderly ts (o.0.1, o.1, o.2, o.3) n
   inner_orderly (repetition a t zero high) o n = tt
   inner_orderly (repetition a t (suc zero) None) o n = tt
   inner_orderly (repetition a t (suc zero) (Some zero)) o n = tt
   inner_orderly (repetition a t (suc zero) (Some (suc zero))) o n =
-      into n (begins_with_tree (opened t)) (or_here (t, n) (inner t n)) (here (inner t n) t n (o.0, o.1, o.2, o.3.1) (inner_orderly t (o.0, o.1, o.2, o.3.1) n))
+      into n (begins_with_tree (opened t)) (or_here (t, n) (inner_cut t n)) (here (inner_cut t n) t n (o.0, o.1, o.2, o.3.1) (inner_orderly t (o.0, o.1, o.2, o.3.1) n))
   inner_orderly (repetition a t (suc zero) (Some (suc (suc m)))) o n = tt
   inner_orderly (repetition a t (suc (suc low)) high) o n = tt
 
@@ -86,6 +86,6 @@ unrooted_some (more (repetition a t low high) ts) s = tt
 pub rest_orderly : {A : Type 0} (a : A) (t : Tree A) (n : ℕ) → Orderly t → IsSome (after n (opened t)) → Orderly (concatenation a (rest t n))
 rest_orderly {A = A} a t n o some =
     let ts : Trees A = after (owner t n).1 (members (owner t n).0) in
-    let k : OrderlyEach (rest t n) = unrooted_orderly ts (after_orderly (owner t n).1 (members (owner t n).0) (members_orderly (owner t n).0 (here (inner t n) t n o (inner_orderly t o n)))) in
+    let k : OrderlyEach (rest t n) = unrooted_orderly ts (after_orderly (owner t n).1 (members (owner t n).0) (members_orderly (owner t n).0 (here (inner_cut t n) t n o (inner_orderly t o n)))) in
     let is : IsSome (rest t n) = unrooted_some ts (not_none ts (subst IsSome (owner_opened t o.1 n) some)) in
     ((is, k.0), k.1, k.2, k.3)

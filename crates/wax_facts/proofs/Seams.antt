@@ -1,7 +1,8 @@
 -- Beside the prefix stands a `/`.
 use Rattle.std.proofs.Common.{Bool, List, None, Option, Some, [], ap, append-nil, false, inl, inr, refl}
 use Rattle.std.proofs.Common.{subst, suc, sym, true, zero, ℕ, ◌++◌, ◌∙◌, ◌≡◌, ◌⊎◌}
-use Rattle.wax_token.specs.Meaning.{Begins, Ends, Means, MeansEach}
+use Rattle.wax_query.specs.Components.{BeginsWithSlash, EndsWithSlash}
+use Rattle.wax_token.specs.Meaning.{Means, MeansEach}
 use Rattle.wax_token.specs.Syntax.{Tree, Trees, leaf, more, none, tree}
 use Rattle.wax_facts.specs.Joined.{IsSeam}
 use Rattle.wax_facts.specs.Orderly.{Full, IsSome}
@@ -29,7 +30,7 @@ front_all (suc (suc n)) (more t none) p h past b f s m = absurd h.4
 front_all (suc n) (more t (more u us)) p h past b f s m =
     m.2 ∙ ap (λ z. z ++ m.1) (text_sound t h.0 h.3 b true m.0 m.3) ∙ ap (λ z. h.0 ++ z) (front_all n (more u us) h.1 h.4 past true f m.1 m.4) ∙ sym h.2
 
-tree_seam : {A : Type 0} (a : A) (rooted : Bool) (vs : Trees A) (q : List ℕ) → MeansEach (more (leaf a (tree rooted)) vs) true false q → (q ≡ []) ⊎ Begins q
+tree_seam : {A : Type 0} (a : A) (rooted : Bool) (vs : Trees A) (q : List ℕ) → MeansEach (more (leaf a (tree rooted)) vs) true false q → (q ≡ []) ⊎ BeginsWithSlash q
 tree_seam a rooted none q m = m
 tree_seam a rooted (more u us) q m = inr (m.3.0.0 ++ m.1, m.2 ∙ ap (λ z. z ++ m.1) m.3.0.1)
 
@@ -38,7 +39,7 @@ some_or none = inr (λ h. h)
 some_or (more t ts) = inl tt
 
 module _ {A : Type 0} (ts : Trees A) (p q : List ℕ) (m : MeansEach ts false false (p ++ q)) where
-  front_seam : (n : ℕ) → FrontText n ts p → (IsSome (after n ts) → begins_with_tree (after n ts) ≡ false → Ends p) → IsSeam p q
+  front_seam : (n : ℕ) → FrontText n ts p → (IsSome (after n ts) → begins_with_tree (after n ts) ≡ false → EndsWithSlash p) → IsSeam p q
   front_seam zero h ends = inl (inl h)
   front_seam (suc n) h ends = elim (some_or (after (suc n) ts)) [
     | inr past ↦ inr (inl (same_nil p q (front_all (suc n) ts p h past false false (p ++ q) m)))
@@ -52,7 +53,7 @@ module _ {A : Type 0} (ts : Trees A) (p q : List ℕ) (m : MeansEach ts false fa
   cut_seam : (cut : Option (ℕ × List ℕ)) → Cut ts cut → p ≡ (or_nothing cut).1 → IsSeam p q
   cut_seam None c e = inl (inl e)
   cut_seam (Some cut) c e =
-      front_seam cut.0 (subst (FrontText cut.0 ts) (sym e) (cut_text ts (Some cut) c)) (λ some b. subst Ends (sym e) (ends_at ts (Some cut) c some b))
+      front_seam cut.0 (subst (FrontText cut.0 ts) (sym e) (cut_text ts (Some cut) c)) (λ some b. subst EndsWithSlash (sym e) (ends_at ts (Some cut) c some b))
 
   list_seam : (n : ℕ) → PrefixOf ts n p → IsSeam p q
   list_seam n (inl h) = inl (inr ([], h.2))

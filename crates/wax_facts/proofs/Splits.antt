@@ -1,7 +1,8 @@
 -- Each text of a glob is the prefix, or the prefix and then a text of the rest.
 use Rattle.std.proofs.Common.{Bool, List, [], ap, append-nil, false, inl, inr, refl, rules, subst, sym, true}
 use Rattle.std.proofs.Common.{ℕ, ◌++◌, ◌==◌, ◌↔◌, ◌∙◌, ◌∷◌, ◌≡◌, ◌≢◌, ◌⊎◌}
-use Rattle.wax_token.specs.Meaning.{Ends, Means, MeansEach}
+use Rattle.wax_query.specs.Components.{EndsWithSlash}
+use Rattle.wax_token.specs.Meaning.{Means, MeansEach}
 use Rattle.wax_token.specs.Syntax.{Tree}
 use Rattle.wax_facts.specs.Joined.{IsSeam, begins_with_leaf, path}
 use Rattle.wax_facts.specs.Orderly.{Full, IsSome, Orderly}
@@ -13,7 +14,7 @@ use Rattle.wax_facts.proofs.Seams.{Seam, prefix_seam}
 use Rattle.wax_facts.proofs.WrittenRest.{rest_means}
 
 abbrev Kind : List ℕ → Type 0
-Kind p = ((p ≡ []) ⊎ Ends p) ⊎ ((p ≢ []) × (Ends p → ⊥))
+Kind p = ((p ≡ []) ⊎ EndsWithSlash p) ⊎ ((p ≢ []) × (EndsWithSlash p → ⊥))
 
 kind_of : (p : List ℕ) → Kind p
 kind_of [] = inl (inl refl)
@@ -29,7 +30,7 @@ kind_of (c ∷ []) = one_kind (c == 47) refl
     one_kind false e = inr ((λ f. cc), λ h. (let f : (c == 47) ≡ true = ap (λ z. z == 47) (last h.0 h.1) in absurd (let g : ⊥ = cc in g)))
 kind_of (c ∷ d ∷ p) = longer (kind_of (d ∷ p))
   where
-    tail : (t : List ℕ) → c ∷ d ∷ p ≡ t ++ 47 ∷ [] → Ends (d ∷ p)
+    tail : (t : List ℕ) → c ∷ d ∷ p ≡ t ++ 47 ∷ [] → EndsWithSlash (d ∷ p)
     tail [] e = absurd (let f : ⊥ = cc in f)
     tail (k ∷ t) e = (t, (let f : d ∷ p ≡ t ++ 47 ∷ [] = cc in f))
 

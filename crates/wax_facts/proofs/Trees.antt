@@ -1,6 +1,7 @@
 -- Lists that begin with `**`, and how it loses its `/`.
 use Rattle.std.proofs.Common.{Bool, List, ap, false, inr, refl, subst, sym, true, ℕ, ◌++◌, ◌∙◌, ◌∷◌, ◌≡◌}
-use Rattle.wax_token.specs.Meaning.{Begins, Ends, MeansEach, TreeMeans}
+use Rattle.wax_query.specs.Components.{BeginsWithSlash, EndsWithSlash}
+use Rattle.wax_token.specs.Meaning.{MeansEach, TreeMeans}
 use Rattle.wax_token.specs.Syntax.{Trees, alternation, class, concatenation, leaf, literal, more, none, one}
 use Rattle.wax_token.specs.Syntax.{repetition, separator, tree, zero_or_more}
 use Rattle.wax_facts.specs.Prefix.{IsRooted}
@@ -19,12 +20,12 @@ last_tree_from true rooted r h = inr (r, refl)
 last_tree_from false true r h = (r, refl)
 last_tree_from false false r h = absurd h
 
-tree_to : (b rooted : Bool) (x : List ℕ) → Roots b rooted → TreeMeans b true rooted x → Begins x × Ends x
+tree_to : (b rooted : Bool) (x : List ℕ) → Roots b rooted → TreeMeans b true rooted x → BeginsWithSlash x × EndsWithSlash x
 tree_to true rooted x h m = m
 tree_to false true x h m = m
 tree_to false false x h m = absurd h
 
-tree_from : (b rooted : Bool) (x : List ℕ) → Roots b rooted → Begins x × Ends x → TreeMeans b true rooted x
+tree_from : (b rooted : Bool) (x : List ℕ) → Roots b rooted → BeginsWithSlash x × EndsWithSlash x → TreeMeans b true rooted x
 tree_from true rooted x h m = m
 tree_from false true x h m = m
 tree_from false false x h m = absurd h
@@ -34,10 +35,10 @@ pub unrooted_to : {A : Type 0} (a : A) (rooted : Bool) (vs : Trees A) (b f : Boo
 unrooted_to a rooted none b false r e h m = tt
 unrooted_to a rooted none b true r e h m = absurd (let g : ⊥ = cc in g)
 unrooted_to a rooted (more u us) b f r e h m =
-    let k : Begins m.0 × Ends m.0 = tree_to b rooted m.0 h m.3 in
+    let k : BeginsWithSlash m.0 × EndsWithSlash m.0 = tree_to b rooted m.0 h m.3 in
     let x : List ℕ = k.0.0 in
     let g : r ≡ x ++ m.1 = tail (m.2 ∙ ap (λ z. z ++ m.1) k.0.1) in
-    (x, m.1, g, ends_cons x (subst Ends k.0.1 k.1), m.4)
+    (x, m.1, g, ends_cons x (subst EndsWithSlash k.0.1 k.1), m.4)
   where
     tail : {s t : List ℕ} → 47 ∷ s ≡ 47 ∷ t → s ≡ t
     tail e = cc

@@ -6,7 +6,7 @@ use Rattle.wax_token.specs.Words.{members}
 use Rattle.wax_facts.specs.Joined.{begins_with_leaf, path}
 use Rattle.wax_facts.specs.Orderly.{Flat, Full, FullEach, IsSome}
 use Rattle.wax_facts.specs.Prefix.{IsRooted, Prefix, opened, opened_last}
-use Rattle.wax_facts.specs.Rest.{after, begins_with_tree, inner, owner, rest, unrooted}
+use Rattle.wax_facts.specs.Rest.{after, begins_with_tree, inner_cut, owner, rest, unrooted}
 use Rattle.wax_facts.specs.inner.Cuts.{IsFree}
 use Rattle.wax_facts.proofs.OpenedMeans.{last_from, last_to}
 use Rattle.wax_facts.proofs.OpenedRest.{rest_exact}
@@ -52,8 +52,8 @@ pub rest_same : {A : Type 0} (t : Tree A) (n : ℕ) (r : List ℕ) → Full t �
 rest_same {A = A} t n r full flat some =
     let xs : Trees A = after (owner t n).1 (members (owner t n).0) in
     let e : after n (opened t) ≡ opened_last xs = owner_opened t flat n in
-    let w : FullEach xs = after_full (owner t n).1 (members (owner t n).0) (members_full (owner t n).0 (full_here (inner t n) t n full (inner_full t full n))) in
-    let k : Same xs r = same_rest xs r (not_none xs (subst IsSome e some)) w (settled (inner t n) t n (inner_settles t flat n)) in (
+    let w : FullEach xs = after_full (owner t n).1 (members (owner t n).0) (members_full (owner t n).0 (full_here (inner_cut t n) t n full (inner_full t full n))) in
+    let k : Same xs r = same_rest xs r (not_none xs (subst IsSome e some)) w (settled (inner_cut t n) t n (inner_settles t flat n)) in (
       (λ m. subst (λ z. MeansEach (unrooted z) false false r) (sym e) (k.0 m)),
       λ m. k.1 (subst (λ z. MeansEach (unrooted z) false false r) e m),
     )

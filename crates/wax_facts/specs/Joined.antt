@@ -1,7 +1,7 @@
 -- How the texts of a prefix and of a rest are joined.
 use Rattle.std.specs.Prelude.{◌≡◌, ℕ, Bool, true, false, ◌⊎◌, List, [], ◌∷◌, ◌++◌, ◌==◌, if◌then◌else◌}
 use Rattle.wax_token.specs.Syntax.{leaf, alternation, concatenation, repetition, Trees, none, more}
-use Rattle.wax_token.specs.Meaning.{Begins, Ends}
+use Rattle.wax_query.specs.Components.{BeginsWithSlash, EndsWithSlash}
 
 -- the text begins with the prefix
 abbrev pub Front : List ℕ → List ℕ → Type 0
@@ -15,7 +15,7 @@ path (c ∷ d ∷ p) r = c ∷ path (d ∷ p) r
 
 -- beside the border stands a `/`, unless one side is empty
 abbrev pub IsSeam : List ℕ → List ℕ → Type 0
-IsSeam p q = ((p ≡ []) ⊎ Ends p) ⊎ ((q ≡ []) ⊎ Begins q)
+IsSeam p q = ((p ≡ []) ⊎ EndsWithSlash p) ⊎ ((q ≡ []) ⊎ BeginsWithSlash q)
 
 -- the first token is no branch
 abbrev pub begins_with_leaf : {A : Type 0} → Trees A → Bool

@@ -18,33 +18,33 @@ entered (suc n) b here = Some here
 
 abbrev pub or_here : {A : Type 0} → Tree A × ℕ → Option (Tree A × ℕ) → Tree A × ℕ
 or_here here None = here
-or_here here (Some inner) = inner
+or_here here (Some inner_cut) = inner_cut
 
 -- the deepest sub-glob that is entered, and how many of its own tokens are taken
 abbrev mutual
-  pub inner : {A : Type 0} → Tree A → ℕ → Option (Tree A × ℕ)
-  inner (leaf a l) n = None
-  inner (alternation a none) n = None
-  inner (alternation a (more t none)) n = entered n (begins_with_tree (opened t)) (or_here (t, n) (inner t n))
-  inner (alternation a (more t (more u us))) n = None
-  inner (concatenation a ts) n = inner_last ts n
-  inner (repetition a t zero high) n = None
-  inner (repetition a t (suc zero) None) n = None
-  inner (repetition a t (suc zero) (Some zero)) n = None
-  inner (repetition a t (suc zero) (Some (suc zero))) n =
-      entered n (begins_with_tree (opened t)) (or_here (t, n) (inner t n))
-  inner (repetition a t (suc zero) (Some (suc (suc m)))) n = None
-  inner (repetition a t (suc (suc low)) high) n = None
+  pub inner_cut : {A : Type 0} → Tree A → ℕ → Option (Tree A × ℕ)
+  inner_cut (leaf a l) n = None
+  inner_cut (alternation a none) n = None
+  inner_cut (alternation a (more t none)) n = entered n (begins_with_tree (opened t)) (or_here (t, n) (inner_cut t n))
+  inner_cut (alternation a (more t (more u us))) n = None
+  inner_cut (concatenation a ts) n = inner_last ts n
+  inner_cut (repetition a t zero high) n = None
+  inner_cut (repetition a t (suc zero) None) n = None
+  inner_cut (repetition a t (suc zero) (Some zero)) n = None
+  inner_cut (repetition a t (suc zero) (Some (suc zero))) n =
+      entered n (begins_with_tree (opened t)) (or_here (t, n) (inner_cut t n))
+  inner_cut (repetition a t (suc zero) (Some (suc (suc m)))) n = None
+  inner_cut (repetition a t (suc (suc low)) high) n = None
 
   pub inner_last : {A : Type 0} → Trees A → ℕ → Option (Tree A × ℕ)
   inner_last none n = None
-  inner_last (more t none) n = inner t n
+  inner_last (more t none) n = inner_cut t n
   inner_last (more t (more u us)) zero = None
   inner_last (more t (more u us)) (suc n) = inner_last (more u us) n
 
 -- the glob or sub-glob to which the rest belongs, where n tokens of the opened list are taken
 abbrev pub owner : {A : Type 0} → Tree A → ℕ → Tree A × ℕ
-owner t n = or_here (t, n) (inner t n)
+owner t n = or_here (t, n) (inner_cut t n)
 
 abbrev pub after : {A : Type 0} → ℕ → Trees A → Trees A
 after zero ts = ts

@@ -3,7 +3,7 @@ ghost use Rattle.std.specs.Prelude.{◌≡◌, ◌∷◌, ◌++◌, ℕ, IfOk, I
 ghost use Rattle.std.specs.Prelude.{chars, string_bytes};
 ghost use Rattle.wax_query.specs.declared.query.when.When.{When};
 ghost use Rattle.wax_query.specs.declared.query.when.When.TheVariants.{Always};
-ghost use Rattle.wax_token.specs.Meaning.{Begins};
+ghost use Rattle.wax_query.specs.Components.{BeginsWithSlash};
 ghost use Rattle.wax_facts.specs.InvariantText.{NoText};
 ghost use Rattle.wax_facts.specs.Joined.{Front};
 
@@ -36,7 +36,7 @@ pub trait TokenFacts {
     /// Whether each text that it means begins with `/`.
     fn has_root(&self) -> When
         ensures value { result ≡ root_is self.now }
-        ensures always { result ≡ Always → (s : List ℕ) → meant self.now s → Begins s };
+        ensures always { result ≡ Always → (s : List ℕ) → meant self.now s → BeginsWithSlash s };
 
     /// Whether it means whatever lies below a path that it means.
     fn is_exhaustive(&self) -> When

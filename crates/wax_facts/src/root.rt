@@ -1,6 +1,7 @@
 //! Whether the texts that a token means begin with `/`.
 ghost use Rattle.std.specs.Prelude.{◌≡◌, ◌++◌, ◌∷◌, List, ℕ, false};
-ghost use Rattle.wax_token.specs.Meaning.{Begins, Means};
+ghost use Rattle.wax_query.specs.Components.{BeginsWithSlash};
+ghost use Rattle.wax_token.specs.Meaning.{Means};
 ghost use Rattle.wax_token.specs.View.{leaf_of};
 ghost use Rattle.wax_token.specs.Words.{trees};
 ghost use Rattle.wax_facts.specs.Root.{leaf_root, root, root_some, root_first};
@@ -26,7 +27,7 @@ fn leaf_root(leaf: &LeafKind<'_>) -> When
 /// Whether each text that the token means begins with `/`.
 pub fn has_root<'t, A>(token: &Token<'t, A>) -> When
     ensures value { result ≡ root token.now }
-    ensures always { result ≡ Always → (s : List ℕ) → Means token.now false false s → Begins s }
+    ensures always { result ≡ Always → (s : List ℕ) → Means token.now false false s → BeginsWithSlash s }
 {
     find_root(token)
 }

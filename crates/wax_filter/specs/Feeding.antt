@@ -10,10 +10,10 @@ use Rattle.wax_filter.specs.declared.filter.tree_residue.TreeResidue.{TreeResidu
 use Rattle.wax_filter.specs.Separating.{SeparatesBy, CancelsBy}
 
 -- these items are left out, one after another, from the first state to the last
-abbrev pub Passes : {S G F R : Type 0} → (S → Option (Separation G F R) → S → Type 0) → S
+abbrev pub PassesOver : {S G F R : Type 0} → (S → Option (Separation G F R) → S → Type 0) → S
     → List (Product ResidueKind R) → S → Type 0
-Passes {S = S} feeds s [] t = s ≡ t
-Passes {S = S} feeds s (x ∷ xs) t = (u : S) × feeds s (Some (Residue x)) u × Passes feeds u xs t
+PassesOver {S = S} feeds s [] t = s ≡ t
+PassesOver {S = S} feeds s (x ∷ xs) t = (u : S) × feeds s (Some (Residue x)) u × PassesOver feeds u xs t
 
 -- the item that is kept, or none at the end
 abbrev pub Keeps : {G F R : Type 0} → Option (Separation G F R) → Option F → Type 0
@@ -25,7 +25,7 @@ Keeps (Some (Residue x)) r = ⊥
 abbrev pub NextFiltrate : {S G F R : Type 0} → (S → Option (Separation G F R) → S → Type 0) → S → Option F
     → S → Type 0
 NextFiltrate {S = S} {G = G} {F = F} {R = R} feeds s r t = (xs : List (Product ResidueKind R)) × (u : S)
-    × (o : Option (Separation G F R)) × Passes feeds s xs u × feeds u o t × Keeps o r
+    × (o : Option (Separation G F R)) × PassesOver feeds s xs u × feeds u o t × Keeps o r
 
 -- a layer's answer for the answer of the walk below it; a layer is a walk and a closure
 abbrev pub Turns : {L A B : Type 0} → (L → A → B → L → Type 0) → L → Option A → Option B → L → Type 0

@@ -85,9 +85,9 @@ Answers {B = B} says (Some x) r = (y : B) × says x y × (r ≡ Some y)
 Answers {B = B} says None r = r ≡ None
 
 -- what is said of an entry, if there is one
-abbrev pub Says : {A B : Type 0} → (A → Option B → Type 0) → Option A → Option B → Type 0
-Says says (Some x) r = says x r
-Says says None r = r ≡ None
+abbrev pub SaysOf : {A B : Type 0} → (A → Option B → Type 0) → Option A → Option B → Type 0
+SaysOf says (Some x) r = says x r
+SaysOf says None r = r ≡ None
 
 -- the item is separated as was said
 abbrev pub SeparatesBy : {S F R : Type 0} → (F → R → Type 0) → Option (TreeResidue (Unit {0}))

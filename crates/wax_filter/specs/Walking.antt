@@ -5,6 +5,6 @@ use Rattle.wax_filter.specs.declared.filter.separation.Separation.TheVariants.{F
 use Rattle.wax_filter.specs.declared.filter.tree_residue.TreeResidue.{TreeResidue}
 use Rattle.wax_filter.specs.Leaving.{residue_item}
 
-abbrev pub entry_of : {S A : Type 0} → Separation S A (TreeResidue A) → A
-entry_of (Filtrate x) = x.inner
-entry_of (Residue x) = residue_item x.inner
+abbrev pub separated_entry : {S A : Type 0} → Separation S A (TreeResidue A) → A
+separated_entry (Filtrate x) = x.inner
+separated_entry (Residue x) = residue_item x.inner

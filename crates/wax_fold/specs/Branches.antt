@@ -26,11 +26,11 @@ abbrev pub picked : {X : Type 0} → List ℕ → List X → List X
 picked places xs = flat_map (λ n. take 1 (drop n xs)) places
 
 -- the first and the last alone, where there is one
-abbrev pub first_of : {X : Type 0} → List X → List X
-first_of xs = picked (0 ∷ []) xs
+abbrev pub first_picked : {X : Type 0} → List X → List X
+first_picked xs = picked (0 ∷ []) xs
 
-abbrev pub last_of : {X : Type 0} → List X → List X
-last_of xs = picked ((length xs - 1) ∷ []) xs
+abbrev pub last_picked : {X : Type 0} → List X → List X
+last_picked xs = picked ((length xs - 1) ∷ []) xs
 
 -- so many to so many copies of the first of these tokens, if there is one
 abbrev pub repeated : {A : Type 0} → ℕ → Option ℕ → List (Tree A) → A → Option (Tree A)

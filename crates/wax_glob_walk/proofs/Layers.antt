@@ -5,7 +5,7 @@ use Rattle.wax_walk.specs.Forest.{filtered_pending}
 use Rattle.wax_walk.specs.Given.{Facts, Mark, with_tree, kept, combined_mark, changed_by, cut_by}
 use Rattle.wax_walk.specs.Ruled.{ruled_view}
 use Rattle.wax_walk.specs.View.{WalkView, IsSeenAs}
-use Rattle.wax_glob_walk.specs.Programs.{lead_to, led_mark, means_mark, leading_mark}
+use Rattle.wax_glob_walk.specs.Programs.{lead_to, led_by_programs, means_mark, leading_mark}
 use Rattle.wax_glob_walk.proofs.Combining.{one_of, pending_twice}
 
 pub seen_twice : {D : Type 0} (v u : WalkView D) (first second one : Facts → Mark)
@@ -35,5 +35,5 @@ led_then false m = refl
 
 -- what the components and then the program say
 pub leading_is : {C P : Type 0} (tests : C → List ℕ → Bool) (cs : List C) (decides : P → List ℕ → Bool) (p : P)
-    (f : Facts) → one_of (led_mark tests cs) (means_mark decides p) f ≡ leading_mark tests cs decides p f
+    (f : Facts) → one_of (led_by_programs tests cs) (means_mark decides p) f ≡ leading_mark tests cs decides p f
 leading_is tests cs decides p f = led_then (lead_to tests cs f) (means_mark decides p f)

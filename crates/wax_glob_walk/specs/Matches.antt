@@ -12,18 +12,18 @@ use Rattle.wax_walk.specs.Given.{Facts}
 use Rattle.wax_glob_walk.specs.declared.entry.GlobEntry.{GlobEntry}
 
 -- the entry as one of a plain walk, and what was captured of it
-abbrev pub entry_of : GlobEntry → TreeEntry
-entry_of e = e.entry
+abbrev pub tree_entry : GlobEntry → TreeEntry
+tree_entry e = e.entry
 
 abbrev pub match_of : GlobEntry → MatchedView
 match_of e = e.matched
 
 abbrev pub glob_facts : GlobEntry → Facts
-glob_facts e = facts_of (entry_of e)
+glob_facts e = facts_of (tree_entry e)
 
 -- the entry of an item, if it isn't an error
 abbrev pub shown_outcome : Result GlobEntry WalkError → Option TreeEntry
-shown_outcome (Ok e) = Some (entry_of e)
+shown_outcome (Ok e) = Some (tree_entry e)
 shown_outcome (Err e) = None
 
 abbrev pub shown_entry : {S : Type 0} → Separation S (Result GlobEntry WalkError) (TreeResidue TreeEntry)

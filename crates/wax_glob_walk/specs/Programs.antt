@@ -16,8 +16,8 @@ abbrev pub lead_to : {C : Type 0} → (C → List ℕ → Bool) → List C → F
 lead_to decides cs f = leads decides cs (map chars (names_in_path f.candidate))
 
 -- an entry one of whose names isn't meant by its component is left out with what lies below it
-abbrev pub led_mark : {C : Type 0} → (C → List ℕ → Bool) → List C → Facts → Mark
-led_mark decides cs f = if lead_to decides cs f then kept else with_tree
+abbrev pub led_by_programs : {C : Type 0} → (C → List ℕ → Bool) → List C → Facts → Mark
+led_by_programs decides cs f = if lead_to decides cs f then kept else with_tree
 
 -- an entry that isn't meant is left out alone
 abbrev pub means_mark : {P : Type 0} → (P → List ℕ → Bool) → P → Facts → Mark

@@ -1,7 +1,7 @@
 //! Entries that a glob means.
 
 ghost use Rattle.std.specs.Prelude.{◌≡◌, chars};
-ghost use Rattle.wax_glob_walk.specs.Matches.{entry_of, match_of};
+ghost use Rattle.wax_glob_walk.specs.Matches.{tree_entry, match_of};
 ghost use Rattle.wax_walk.specs.Entries.{facts_of};
 
 use wax_candidate::{CandidatePath, MatchedText};
@@ -18,7 +18,7 @@ pub struct GlobEntry {
 impl GlobEntry {
     /// An entry with what was captured of its candidate.
     pub(crate) fn new(entry: TreeEntry, matched: MatchedText<'static>) -> Self
-        ensures entry { entry_of result ≡ entry }
+        ensures entry { tree_entry result ≡ entry }
         ensures matched { match_of result ≡ matched.entry }
     {
         GlobEntry { entry, matched }
@@ -41,7 +41,7 @@ impl GlobEntry {
 }
 
 impl Entry for GlobEntry {
-    ghost facts = { λ e. facts_of (entry_of e) };
+    ghost facts = { λ e. facts_of (tree_entry e) };
 
     fn as_tree_entry(&self) -> &TreeEntry {
         &self.entry
@@ -69,7 +69,7 @@ impl Entry for GlobEntry {
 }
 
 impl From<GlobEntry> for TreeEntry {
-    ghost from_gives = { λ entry tree. tree ≡ entry_of entry };
+    ghost from_gives = { λ entry tree. tree ≡ tree_entry entry };
 
     fn from(entry: GlobEntry) -> TreeEntry {
         entry.entry

@@ -2,7 +2,7 @@
 
 ghost use Rattle.std.specs.Prelude.{◌≡◌, ◌∷◌, [], ℕ, Bool, List, IfOk, MatchOption, chars, map};
 ghost use Rattle.wax_directory.specs.Names.{names_in_path};
-ghost use Rattle.wax_glob_walk.specs.Programs.{leads, led_mark};
+ghost use Rattle.wax_glob_walk.specs.Programs.{leads, led_by_programs};
 
 use std::alloc::Global;
 use wax_query::diagnostics::NoMemory;
@@ -72,7 +72,7 @@ impl<C: NameTest> Leading<C> {
 }
 
 impl<C: NameTest> Rule for Leading<C> {
-    ghost rule = { λ s f. led_mark C.decides s.components.items f };
+    ghost rule = { λ s f. led_by_programs C.decides s.components.items f };
 
     fn residue<E: Entry>(
         &self,

@@ -7,8 +7,8 @@ use Rattle.wax_facts.specs.Joined.{IsSeam}
 use Rattle.wax_facts.specs.Orderly.{Full}
 use Rattle.wax_facts.specs.Prefix.{Prefix}
 use Rattle.wax_facts.proofs.Seams.{Seam, prefix_seam}
-use Rattle.wax_query.specs.Components.{components, last_slash, slash, slashes}
-use Rattle.wax_token.specs.Meaning.{Begins, Ends, HasNoSlash, Means}
+use Rattle.wax_query.specs.Components.{components_in, last_slash, slash, slashes, BeginsWithSlash, EndsWithSlash}
+use Rattle.wax_token.specs.Meaning.{HasNoSlash, Means}
 use Rattle.wax_token.specs.Syntax.{Tree}
 use Rattle.wax_tree.specs.Prefix.{ArePlain}
 use Rattle.wax_wanted.specs.Candidates.{AreNames, base, joined_names, slashed, text_at}
@@ -21,7 +21,7 @@ use Rattle.wax_leading.proofs.Texts.{chars_ended, empty_bytes, empty_chars}
 -- ---- names that begin with others
 
 abbrev IsEnd : List ℕ → Type 0
-IsEnd r = (r ≡ []) ⊎ Begins r
+IsEnd r = (r ≡ []) ⊎ BeginsWithSlash r
 
 end_slashed : (names : List (List ℕ)) (r : List ℕ) → IsEnd r → IsEnd (slashed names ++ r)
 end_slashed [] r h = h
@@ -100,7 +100,7 @@ last_of rooted [] names h = absurd (h.0 refl)
 last_of false (c ∷ n) names h = last_name c n names h
 last_of true (c ∷ n) names h = last_name c n names h
 
-components_of : (rooted : Bool) (names : List (List ℕ)) → AreNames names → components (text_at rooted names) ≡ length names
+components_of : (rooted : Bool) (names : List (List ℕ)) → AreNames names → components_in (text_at rooted names) ≡ length names
 components_of false [] h = refl
 components_of true [] h = omega arith
 components_of rooted ([] ∷ names) h = absurd (h.0 refl)
@@ -110,7 +110,7 @@ components_of true ((c ∷ n) ∷ names) h =
     omega (arith, slashes_in ((c ∷ n) ∷ names) h, last_name c n names h)
 
 -- the greatest number of components bounds the names
-pub bounds_names : {A : Type 0} (t : Tree A) (upper : ℕ) → ((s : List ℕ) → Means t false false s → components s ≤ upper) → (rooted : Bool) → BoundsNames rooted t upper
+pub bounds_names : {A : Type 0} (t : Tree A) (upper : ℕ) → ((s : List ℕ) → Means t false false s → components_in s ≤ upper) → (rooted : Bool) → BoundsNames rooted t upper
 bounds_names t upper h rooted names k m = subst (λ n. n ≤ upper) (components_of rooted names k) (h (text_at rooted names) m)
 
 -- ---- from the prefix to its names
@@ -119,7 +119,7 @@ unbased : (rooted : Bool) (x y : List ℕ) → base rooted ++ x ≡ base rooted 
 unbased false x y e = e
 unbased true x y e = cc
 
-not_open : (rooted : Bool) (n : List ℕ) (names : List (List ℕ)) → AreNames (n ∷ names) → ¬ ((text_at rooted (n ∷ names) ≡ []) ⊎ Ends (text_at rooted (n ∷ names)))
+not_open : (rooted : Bool) (n : List ℕ) (names : List (List ℕ)) → AreNames (n ∷ names) → ¬ ((text_at rooted (n ∷ names) ≡ []) ⊎ EndsWithSlash (text_at rooted (n ∷ names)))
 not_open rooted n names h (inr e) =
     let l : last_slash (text_at rooted (n ∷ names)) ≡ 1 = ap last_slash e.1 ∙ last_ends e.0 in omega (arith, l, last_of rooted n names h)
 not_open rooted [] names h (inl e) = h.0 refl

@@ -8,7 +8,7 @@ use Rattle.std.proofs.lemmas.List.Sums.{fails_before_first, passes_at_first, spl
 use Rattle.std.specs.List.{position_or_len, before_first, after_first}
 use Rattle.std.proofs.lemmas.List.Elements.{All-head, All-tail}
 use Rattle.wax_lines.specs.Lines.{onto_lines, lines, onto_whole, whole_lines, Gives, Filters}
-use Rattle.wax_lines.specs.inner.Sifted.{HasNoFeed, joined}
+use Rattle.wax_lines.specs.inner.Sifted.{HasNoFeed, lines_text}
 
 is_no_feed : (b : ℕ) → b ≢ 10 → (b == 10) ≡ false
 is_no_feed b h = elim (eqb_tells b 10) [ inl e ↦ absurd (h e.1) | inr e ↦ e.0 ]
@@ -41,21 +41,21 @@ whole_lines_open (b ∷ bs) h =
     whole_lines-more b bs (All-head (λ x. x ≢ 10) b bs h) ∙ ap (onto_whole b) (whole_lines_open bs (All-tail (λ x. x ≢ 10) b bs h))
 
 -- whole lines come first
-pub lines_joined : (whole : List (List ℕ)) (tail : List ℕ) → All HasNoFeed whole → lines (joined whole ++ tail) ≡ whole ++ lines tail
+pub lines_joined : (whole : List (List ℕ)) (tail : List ℕ) → All HasNoFeed whole → lines (lines_text whole ++ tail) ≡ whole ++ lines tail
 lines_joined [] tail h = refl
 lines_joined (line ∷ rest) tail h =
-    ap lines (append_assoc line (10 ∷ joined rest) tail) ∙ lines_line line (joined rest ++ tail) (All-head HasNoFeed line rest h)
+    ap lines (append_assoc line (10 ∷ lines_text rest) tail) ∙ lines_line line (lines_text rest ++ tail) (All-head HasNoFeed line rest h)
     ∙ ap (λ z. line ∷ z) (lines_joined rest tail (All-tail HasNoFeed line rest h))
 
-pub whole_lines_joined : (whole : List (List ℕ)) (tail : List ℕ) → All HasNoFeed whole → HasNoFeed tail → whole_lines (joined whole ++ tail) ≡ whole
+pub whole_lines_joined : (whole : List (List ℕ)) (tail : List ℕ) → All HasNoFeed whole → HasNoFeed tail → whole_lines (lines_text whole ++ tail) ≡ whole
 whole_lines_joined [] tail h k = whole_lines_open tail k
 whole_lines_joined (line ∷ rest) tail h k =
-    ap whole_lines (append_assoc line (10 ∷ joined rest) tail) ∙ whole_lines_line line (joined rest ++ tail) (All-head HasNoFeed line rest h)
+    ap whole_lines (append_assoc line (10 ∷ lines_text rest) tail) ∙ whole_lines_line line (lines_text rest ++ tail) (All-head HasNoFeed line rest h)
     ∙ ap (λ z. line ∷ z) (whole_lines_joined rest tail (All-tail HasNoFeed line rest h) k)
 
-pub joined-append : (whole : List (List ℕ)) (line : List ℕ) → joined (whole ++ line ∷ []) ≡ joined whole ++ (line ++ 10 ∷ [])
-joined-append [] line = refl
-joined-append (first ∷ rest) line = ap (λ z. first ++ 10 ∷ z) (joined-append rest line) ∙ sym (append_assoc first (10 ∷ joined rest) (line ++ 10 ∷ []))
+pub lines_text-append : (whole : List (List ℕ)) (line : List ℕ) → lines_text (whole ++ line ∷ []) ≡ lines_text whole ++ (line ++ 10 ∷ [])
+lines_text-append [] line = refl
+lines_text-append (first ∷ rest) line = ap (λ z. first ++ 10 ∷ z) (lines_text-append rest line) ∙ sym (append_assoc first (10 ∷ lines_text rest) (line ++ 10 ∷ []))
 
 -- one more line
 pub Filters-more : (Writes : List ℕ → List ℕ → Type 0) (whole : List (List ℕ)) (line out more : List ℕ) (bad m : ℕ)

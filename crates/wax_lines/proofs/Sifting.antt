@@ -4,10 +4,10 @@ use Rattle.std.proofs.lemmas.List.Elements.{All-nil, All-append, All-cons}
 use Rattle.std.proofs.lemmas.List.{nil_from_length}
 use Rattle.std.specs.Io.Iter.{u64_saturate}
 use Rattle.wax_lines.specs.Lines.{lines, whole_lines, Gives, text, Filters}
-use Rattle.wax_lines.specs.inner.Sifted.{HasNoFeed, CountsMore, joined, Sifted}
+use Rattle.wax_lines.specs.inner.Sifted.{HasNoFeed, CountsMore, lines_text, Sifted}
 use Rattle.wax_lines.specs.declared.lines.sieve.Sieve.{Sieve}
 use Rattle.wax_lines.specs.inner.Progress.{TakesIn, TakesLast}
-use Rattle.wax_lines.proofs.Cuts.{lines_joined, lines_open, whole_lines_joined, joined-append, Filters-more}
+use Rattle.wax_lines.proofs.Cuts.{lines_joined, lines_open, whole_lines_joined, lines_text-append, Filters-more}
 
 module _ (Writes : List ℕ → List ℕ → Type 0) (taken written carry waiting : List ℕ) (counted : ℕ) (h : Sifted Writes taken written carry waiting counted) where
   -- more of a line
@@ -15,7 +15,7 @@ module _ (Writes : List ℕ → List ℕ → Type 0) (taken written carry waitin
   sifted_more more k = record {
     whole = h.whole;
     bad = h.bad;
-    splits = ap (λ z. z ++ more) h.splits ∙ append_assoc (joined h.whole) carry more;
+    splits = ap (λ z. z ++ more) h.splits ∙ append_assoc (lines_text h.whole) carry more;
     are_lines = h.are_lines;
     is_open = All-append (λ b. b ≢ 10) carry more h.is_open k;
     filters = h.filters;
@@ -28,7 +28,7 @@ module _ (Writes : List ℕ → List ℕ → Type 0) (taken written carry waitin
   sifted_line end out m counted' k g more = record {
     whole = h.whole ++ (carry ++ end) ∷ [];
     bad = h.bad + m;
-    splits = ap (λ z. z ++ (end ++ 10 ∷ [])) h.splits ∙ rw joined-append (simp (append_assoc, append-nil));
+    splits = ap (λ z. z ++ (end ++ 10 ∷ [])) h.splits ∙ rw lines_text-append (simp (append_assoc, append-nil));
     are_lines = All-append HasNoFeed h.whole ((carry ++ end) ∷ []) h.are_lines
         (All-cons HasNoFeed (carry ++ end) [] (All-append (λ b. b ≢ 10) carry end h.is_open k) (All-nil HasNoFeed));
     is_open = All-nil (λ b. b ≢ 10);
@@ -103,7 +103,7 @@ module _ (Writes : List ℕ → List ℕ → Type 0) where
   TakesLast-none old new e f g taken written h = record {
     bad = h.bad;
     filters = rw f (subst (λ z. Filters Writes z (written ++ old.kept.bytes.items) h.bad)
-        (sym (ap lines h.splits ∙ ap (λ z. lines (joined h.whole ++ z)) e ∙ lines_joined h.whole [] h.are_lines ∙ append-nil h.whole)) h.filters);
+        (sym (ap lines h.splits ∙ ap (λ z. lines (lines_text h.whole ++ z)) e ∙ lines_joined h.whole [] h.are_lines ∙ append-nil h.whole)) h.filters);
     counts = g ∙ h.counts;
   }
 

@@ -5,15 +5,17 @@ use Rattle.wax_program.specs.declared.instruction.Instruction.{Instruction}
 use Rattle.wax_program.specs.declared.instruction.Instruction.TheVariants.{Repeat, Components}
 use Rattle.unicode.specs.CaseFolding.{simple_fold}
 use Rattle.wax_token.specs.Syntax.{Leaf, literal, class, separator, one, zero_or_more, tree, Tree, leaf, alternation, concatenation, repetition, Trees, none, more}
-use Rattle.wax_token.specs.Meaning.{Begins, Ends, TreeMeans, HasNoSlash, SameFold, SameText, LeafMeans, Copies, AtMost, Means, MeansSome, MeansEach}
+use Rattle.wax_query.specs.Ranges.{AtMost}
+use Rattle.wax_query.specs.Components.{BeginsWithSlash, EndsWithSlash}
+use Rattle.wax_token.specs.Meaning.{TreeMeans, HasNoSlash, SameFold, SameText, LeafMeans, Copies, Means, MeansSome, MeansEach}
 use Rattle.wax_token.specs.Cost.{holds_tree}
-use Rattle.wax_match.specs.Code.{slash, never, skip, choose, literal_code, wildcard_code, leaf_code, copies_code, up_to_code, counted_code, many_code, copied_code, tree_code, branches_code, sequence_code}
+use Rattle.wax_match.specs.Code.{slash_code, never, skip, choose, literal_code, wildcard_code, leaf_instructions, copies_code, up_to_code, counted_code, many_code, copied_code, instructions_of, branches_code, sequence_code}
 use Rattle.wax_match.proofs.Fragments.{Spells, OneOf, spells_empty, spells_test, spells_repeat, spells_components, spells_append, spells_same, spells_loop, spells_skip, spells_choose}
 use Rattle.wax_token.proofs.Copies.{Many, ManyWithin, OneThen, Repeats, TwoMore, open_from, open_to}
 use Rattle.wax_token.proofs.Copies.{many_add, many_split, same_from, same_to, two_more_from, two_more_to}
 use Rattle.wax_token.proofs.Moved.{means_moved}
 
-pub spells_slash : Spells slash (λ s. s ≡ 47 ∷ [])
+pub spells_slash : Spells slash_code (λ s. s ≡ 47 ∷ [])
 spells_slash = spells_same (λ s h. h.1 ∙ ap (λ c. c ∷ []) h.2) (λ s h. (47, h, refl)) (spells_test (Char 47))
 
 pub spells_never : Spells never (λ s. ⊥)
@@ -25,18 +27,18 @@ spells_any = spells_repeat Any (λ s. Unit {0}) tt (λ c s h k. tt) (λ c s h. (
 pub spells_star : Spells (Repeat NotSlash ∷ []) HasNoSlash
 spells_star = spells_repeat NotSlash HasNoSlash tt (λ c s h k. (h, k)) (λ c s h. h)
 
-slash_then_any : Spells (slash ++ Repeat Any ∷ []) Begins
+slash_then_any : Spells (slash_code ++ Repeat Any ∷ []) BeginsWithSlash
 slash_then_any = spells_same (λ s h. (h.1, h.2 ∙ ap (λ z. z ++ h.1) h.3)) (λ s h. (47 ∷ [], h.0, h.1, refl, tt)) (spells_append spells_slash spells_any)
 
-both_from : (s x y : List ℕ) → s ≡ x ++ y → x ≡ 47 ∷ [] → (y ≡ []) ⊎ Ends y → Begins s × Ends s
+both_from : (s x y : List ℕ) → s ≡ x ++ y → x ≡ 47 ∷ [] → (y ≡ []) ⊎ EndsWithSlash y → BeginsWithSlash s × EndsWithSlash s
 both_from s x y e f (inl h) = let g : s ≡ 47 ∷ [] = cc in (([], g), ([], g))
 both_from s x y e f (inr h) = ((h.0 ++ 47 ∷ [], e ∙ ap (λ z. z ++ y) f ∙ ap (λ z. 47 ∷ z) h.1), (47 ∷ h.0, e ∙ ap (λ z. z ++ y) f ∙ ap (λ z. 47 ∷ z) h.1))
 
-both_to : (s t u : List ℕ) → s ≡ 47 ∷ t → s ≡ u ++ 47 ∷ [] → OneThen (λ s. s ≡ 47 ∷ []) (λ s. (s ≡ []) ⊎ Ends s) s
+both_to : (s t u : List ℕ) → s ≡ 47 ∷ t → s ≡ u ++ 47 ∷ [] → OneThen (λ s. s ≡ 47 ∷ []) (λ s. (s ≡ []) ⊎ EndsWithSlash s) s
 both_to s t [] e f = (47 ∷ [], t, e, refl, inl (let g : t ≡ [] = cc in g))
 both_to s t (c ∷ u) e f = (47 ∷ [], t, e, refl, inr (u, (let g : t ≡ u ++ 47 ∷ [] = cc in g)))
 
-spells_both : Spells (slash ++ skip (Components ∷ [])) (λ s. Begins s × Ends s)
+spells_both : Spells (slash_code ++ skip (Components ∷ [])) (λ s. BeginsWithSlash s × EndsWithSlash s)
 spells_both = spells_same (λ s h. both_from s h.0 h.1 h.2 h.3 h.4) (λ s h. both_to s h.0.0 h.1.0 h.0.1 h.1.1) (spells_append spells_slash (spells_skip spells_components))
 
 pub spells_wildcard : (before after rooted : Bool) → Spells (wildcard_code before after rooted) (TreeMeans before after rooted)
@@ -79,7 +81,7 @@ spells_literal b [] = spells_same (nil-SameText b) (SameText-nil b) spells_empty
 spells_literal false (c ∷ t) = spells_same (plain_put c t) (plain_take c t) (spells_append (spells_test (Char c)) (spells_literal false t))
 spells_literal true (c ∷ t) = spells_same (folded_put c t) (folded_take c t) (spells_append (spells_test (Folded (simple_fold c))) (spells_literal true t))
 
-pub spells_leaf : (l : Leaf) (before after : Bool) → Spells (leaf_code l before after) (LeafMeans l before after)
+pub spells_leaf : (l : Leaf) (before after : Bool) → Spells (leaf_instructions l before after) (LeafMeans l before after)
 spells_leaf (literal b t) before after = spells_literal b t
 spells_leaf (class negated xs) before after = spells_test (Class (negated, xs))
 spells_leaf separator before after = spells_slash
@@ -236,12 +238,12 @@ module _ (Body : Bool → Bool → List ℕ → Type 0) where
 
 -- ---- the main theorem
 mutual
-  pub compiled : {A : Type 0} (t : Tree A) (before after : Bool) → Spells (tree_code t before after) (Means t before after)
+  pub compiled : {A : Type 0} (t : Tree A) (before after : Bool) → Spells (instructions_of t before after) (Means t before after)
   compiled (leaf a l) before after = spells_leaf l before after
   compiled (alternation a ts) before after = compiled_branches ts before after
   compiled (concatenation a ts) before after = compiled_sequence ts before after
   compiled (repetition a t low high) before after =
-      elim (holds_tree t) as (λ h. holds_tree t ≡ h → Spells (if h then copied_code low high (tree_code t) before after else counted_code low high (tree_code t before after)) (Repeats (Means t) low high before after)) [
+      elim (holds_tree t) as (λ h. holds_tree t ≡ h → Spells (if h then copied_code low high (instructions_of t) before after else counted_code low high (instructions_of t before after)) (Repeats (Means t) low high before after)) [
         | true ↦ λ e. spells_copied (Means t) (λ b f. compiled t b f) before after low high
         | false ↦ λ e. spells_same (λ s h. (h.0, h.1, h.2, same_from (Means t) (means_moved t e) h.0 before after s h.3))
             (λ s h. (h.0, h.1, h.2, same_to (Means t) (means_moved t e) h.0 before after s h.3)) (spells_counted (compiled t before after) low high)

@@ -5,10 +5,10 @@ use Rattle.wax_token.proofs.Copies.{AnyNumber, Many, OneThen}
 use Rattle.wax_program.specs.declared.instruction.Test.{Test}
 use Rattle.wax_program.specs.declared.instruction.Instruction.{Instruction}
 use Rattle.wax_program.specs.declared.instruction.Instruction.TheVariants.{Check, Repeat, Components, Fork, Jump, Back}
-use Rattle.wax_program.specs.Machine.{Passes, Moves, AcceptsIn, Accepts}
+use Rattle.wax_program.specs.Machine.{PassesTest, Moves, AcceptsIn, Accepts}
 use Rattle.wax_program.proofs.Steps.{after_test, after_fork, after_jump, after_back, after_last, after_one, after_any, after_slash}
 use Rattle.wax_match.specs.Code.{loop, skip, choose}
-use Rattle.wax_token.specs.Meaning.{Ends}
+use Rattle.wax_query.specs.Components.{EndsWithSlash}
 
 -- these instructions stand in the code from a place on
 abbrev pub Stands : List Instruction → ℕ → List Instruction → Type 0
@@ -59,14 +59,14 @@ spells_empty = record {
 }
 
 abbrev pub OneOf : Test → List ℕ → Type 0
-OneOf t s = (c : ℕ) × (s ≡ c ∷ []) × Passes t c
+OneOf t s = (c : ℕ) × (s ≡ c ∷ []) × PassesTest t c
 
 test_sound : (t : Test) (code : List Instruction) (at end n : ℕ) (s : List ℕ) → slice_get code at ≡ Some (Check t) → end ≡ at + 1 → AcceptsIn code n at s →
     Through (OneOf t) code end n s
 test_sound t code at end zero s st e h = absurd h
 test_sound t code at end (suc n) [] st e h = absurd (at_instruction code at n (Check t) [] st h)
 test_sound t code at end (suc n) (c ∷ s) st e h =
-    let r : Passes t c × AcceptsIn code n (at + 1) s = at_instruction code at n (Check t) (c ∷ s) st h in
+    let r : PassesTest t c × AcceptsIn code n (at + 1) s = at_instruction code at n (Check t) (c ∷ s) st h in
     record { front = c ∷ []; back = s; left = n; splits = refl; meant = (c, refl, r.0); fewer = omega arith; on = moved code (at + 1) end n s (sym e) r.1 }
 
 pub spells_test : (t : Test) → Spells (Check t ∷ []) (OneOf t)
@@ -77,7 +77,7 @@ spells_test t = record {
 }
 
 -- a repeated test: W holds of no character, and of one that passes before a text of which it holds
-module _ (t : Test) (W : List ℕ → Type 0) (nil : W []) (put : (c : ℕ) (s : List ℕ) → Passes t c → W s → W (c ∷ s)) (take : (c : ℕ) (s : List ℕ) → W (c ∷ s) → Passes t c × W s) where
+module _ (t : Test) (W : List ℕ → Type 0) (nil : W []) (put : (c : ℕ) (s : List ℕ) → PassesTest t c → W s → W (c ∷ s)) (take : (c : ℕ) (s : List ℕ) → W (c ∷ s) → PassesTest t c × W s) where
   module _ (code : List Instruction) (at end : ℕ) (st : slice_get code at ≡ Some (Repeat t)) (e : end ≡ at + 1) where
     repeat_sound : (n : ℕ) (s : List ℕ) → AcceptsIn code n at s → Through W code end n s
     repeat_sound zero s h = absurd h
@@ -93,7 +93,7 @@ module _ (t : Test) (W : List ℕ → Type 0) (nil : W []) (put : (c : ℕ) (s :
     repeat_complete : (x y : List ℕ) → W x → Accepts code end y → Accepts code at (x ++ y)
     repeat_complete [] y p h = after_last t code at y st (moved_to code end (at + 1) y e h)
     repeat_complete (c ∷ x) y p h =
-        let q : Passes t c × W x = take c x p in
+        let q : PassesTest t c × W x = take c x p in
         after_one t code at c (x ++ y) st q.0 (repeat_complete x y q.1 h)
 
   pub spells_repeat : Spells (Repeat t ∷ []) W
@@ -103,11 +103,11 @@ module _ (t : Test) (W : List ℕ → Type 0) (nil : W []) (put : (c : ℕ) (s :
   }
 
 module _ (code : List Instruction) (at end : ℕ) (st : slice_get code at ≡ Some Components) (e : end ≡ at + 1) where
-  components_sound : (n : ℕ) (s : List ℕ) → AcceptsIn code n at s → Through Ends code end n s
+  components_sound : (n : ℕ) (s : List ℕ) → AcceptsIn code n at s → Through EndsWithSlash code end n s
   components_sound zero s h = absurd h
   components_sound (suc n) [] h = absurd (at_instruction code at n Components [] st h)
   components_sound (suc n) (c ∷ s) h = elim (at_instruction code at n Components (c ∷ s) st h) [
-    | inl g ↦ (let r : Through Ends code end n s = components_sound n s g in
+    | inl g ↦ (let r : Through EndsWithSlash code end n s = components_sound n s g in
         record { front = c ∷ r.front; back = r.back; left = r.left; splits = ap (λ z. c ∷ z) r.splits; meant = (c ∷ r.meant.0, ap (λ z. c ∷ z) r.meant.1); fewer = omega (arith, r.fewer); on = r.on })
     | inr g ↦ record { front = c ∷ []; back = s; left = n; splits = refl; meant = ([], ap (λ z. z ∷ []) g.0); fewer = omega arith; on = moved code (at + 1) end n s (sym e) g.1 }
   ]
@@ -116,7 +116,7 @@ module _ (code : List Instruction) (at end : ℕ) (st : slice_get code at ≡ So
   components_complete [] y h = after_slash code at 47 y st refl (moved_to code end (at + 1) y e h)
   components_complete (c ∷ x) y h = after_any code at c ((x ++ 47 ∷ []) ++ y) st (components_complete x y h)
 
-pub spells_components : Spells (Components ∷ []) Ends
+pub spells_components : Spells (Components ∷ []) EndsWithSlash
 spells_components = record {
   sound = λ code at end n s st e h. components_sound code at end st.0 e n s h;
   complete = λ code at end x y st e p h. subst (λ z. Accepts code at (z ++ y)) (sym p.1) (components_complete code at end st.0 e p.0 y h);

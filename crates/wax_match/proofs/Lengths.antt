@@ -4,7 +4,7 @@ use Rattle.wax_program.specs.declared.instruction.Instruction.{Instruction}
 use Rattle.wax_program.specs.declared.instruction.Instruction.TheVariants.{Jump, Back}
 use Rattle.wax_token.specs.Syntax.{Leaf, literal, class, separator, one, zero_or_more, tree, Tree, leaf, alternation, concatenation, repetition, Trees, none, more}
 use Rattle.wax_token.specs.Cost.{leaf_cost, holds_tree, copies_of, cost, costs, branches_cost}
-use Rattle.wax_match.specs.Code.{never, loop, choose, literal_code, wildcard_code, leaf_code, copies_code, up_to_code, counted_code, many_code, copied_code, tree_code, branches_code, sequence_code}
+use Rattle.wax_match.specs.Code.{never, loop, choose, literal_code, wildcard_code, leaf_instructions, copies_code, up_to_code, counted_code, many_code, copied_code, instructions_of, branches_code, sequence_code}
 use Rattle.wax_match.proofs.Compiled.{le_from}
 
 length-literal : (b : Bool) (t : List ℕ) → length (literal_code b t) ≤ length t
@@ -20,7 +20,7 @@ length-wildcard false true true = omega arith
 length-wildcard true true rooted = omega arith
 length-wildcard true false rooted = omega arith
 
-length-leaf : (l : Leaf) (before after : Bool) → length (leaf_code l before after) ≤ leaf_cost l
+length-leaf : (l : Leaf) (before after : Bool) → length (leaf_instructions l before after) ≤ leaf_cost l
 length-leaf (literal b t) before after = length-literal b t
 length-leaf (class negated xs) before after = omega arith
 length-leaf separator before after = omega arith
@@ -89,23 +89,23 @@ module _ (body : Bool → Bool → List Instruction) (c : ℕ) (le : (b f : Bool
       let g : (suc (suc low) + 1 + 3) * (c + 2) ≡ (low + 1 + 0) * (c + 2) + 5 * c + 10 = omega arith in omega (arith, length-many low None, g)
 
 mutual
-  pub length-tree : {A : Type 0} (t : Tree A) (before after : Bool) → length (tree_code t before after) ≤ cost t
+  pub length-tree : {A : Type 0} (t : Tree A) (before after : Bool) → length (instructions_of t before after) ≤ cost t
   length-tree (leaf a l) before after = length-leaf l before after
   length-tree (alternation a ts) before after = length-branches ts before after
   length-tree (concatenation a ts) before after = length-sequence ts before after
   length-tree (repetition a t low high) before after =
-      elim (holds_tree t) as (λ h. length (if h then copied_code low high (tree_code t) before after else counted_code low high (tree_code t before after)) ≤ copies_of low high h * (cost t + 2) + 2) [
-        | true ↦ length-copied (tree_code t) (cost t) (length-tree t) before after low high
-        | false ↦ length-counted (tree_code t before after) (cost t) (length-tree t before after) low high
+      elim (holds_tree t) as (λ h. length (if h then copied_code low high (instructions_of t) before after else counted_code low high (instructions_of t before after)) ≤ copies_of low high h * (cost t + 2) + 2) [
+        | true ↦ length-copied (instructions_of t) (cost t) (length-tree t) before after low high
+        | false ↦ length-counted (instructions_of t before after) (cost t) (length-tree t before after) low high
       ]
 
   length-branches : {A : Type 0} (ts : Trees A) (before after : Bool) → length (branches_code ts before after) ≤ 1 + branches_cost ts
   length-branches none before after = omega arith
   length-branches (more t ts) before after =
-      omega (arith, length-tree t before after, length-branches ts before after, length-append (tree_code t before after) (Jump (length (branches_code ts before after)) ∷ branches_code ts before after))
+      omega (arith, length-tree t before after, length-branches ts before after, length-append (instructions_of t before after) (Jump (length (branches_code ts before after)) ∷ branches_code ts before after))
 
   pub length-sequence : {A : Type 0} (ts : Trees A) (before after : Bool) → length (sequence_code ts before after) ≤ costs ts
   length-sequence none before after = omega arith
   length-sequence (more t none) before after = omega (arith, length-tree t before after)
   length-sequence (more t (more u us)) before after =
-      omega (arith, length-tree t before true, length-sequence (more u us) true after, length-append (tree_code t before true) (sequence_code (more u us) true after))
+      omega (arith, length-tree t before true, length-sequence (more u us) true after, length-append (instructions_of t before true) (sequence_code (more u us) true after))

@@ -9,8 +9,8 @@ use Rattle.wax_token.specs.Syntax.{Leaf, literal, class, separator, one, zero_or
 use Rattle.wax_token.specs.Cost.{holds_tree}
 
 -- the character `/`
-abbrev pub slash : List Instruction
-slash = Check (Char 47) ∷ []
+abbrev pub slash_code : List Instruction
+slash_code = Check (Char 47) ∷ []
 
 -- nothing
 abbrev pub never : List Instruction
@@ -37,20 +37,20 @@ literal_code true (c ∷ t) = Check (Folded (simple_fold c)) ∷ literal_code tr
 -- a tree wildcard: whether something is before it, whether something is after it, whether it is rooted
 abbrev pub wildcard_code : Bool → Bool → Bool → List Instruction
 wildcard_code false false false = Repeat Any ∷ []
-wildcard_code false false true = slash ++ Repeat Any ∷ []
+wildcard_code false false true = slash_code ++ Repeat Any ∷ []
 wildcard_code false true false = skip (Components ∷ [])
-wildcard_code false true true = slash ++ skip (Components ∷ [])
-wildcard_code true true rooted = slash ++ skip (Components ∷ [])
-wildcard_code true false rooted = skip (slash ++ Repeat Any ∷ [])
+wildcard_code false true true = slash_code ++ skip (Components ∷ [])
+wildcard_code true true rooted = slash_code ++ skip (Components ∷ [])
+wildcard_code true false rooted = skip (slash_code ++ Repeat Any ∷ [])
 
 -- a leaf
-abbrev pub leaf_code : Leaf → Bool → Bool → List Instruction
-leaf_code (literal insensitive t) before after = literal_code insensitive t
-leaf_code (class negated xs) before after = Check (Class (negated, xs)) ∷ []
-leaf_code separator before after = slash
-leaf_code one before after = Check NotSlash ∷ []
-leaf_code (zero_or_more _) before after = Repeat NotSlash ∷ []
-leaf_code (tree rooted) before after = wildcard_code before after rooted
+abbrev pub leaf_instructions : Leaf → Bool → Bool → List Instruction
+leaf_instructions (literal insensitive t) before after = literal_code insensitive t
+leaf_instructions (class negated xs) before after = Check (Class (negated, xs)) ∷ []
+leaf_instructions separator before after = slash_code
+leaf_instructions one before after = Check NotSlash ∷ []
+leaf_instructions (zero_or_more _) before after = Repeat NotSlash ∷ []
+leaf_instructions (tree rooted) before after = wildcard_code before after rooted
 
 -- n times a
 abbrev pub copies_code : ℕ → List Instruction → List Instruction
@@ -95,26 +95,26 @@ copied_code (suc (suc low)) None body before after = many_code low None body bef
 
 -- a tree; its branches, each before the others; trees one after another
 abbrev mutual
-  pub tree_code : {A : Type 0} → Tree A → Bool → Bool → List Instruction
-  tree_code (leaf a l) before after = leaf_code l before after
-  tree_code (alternation a ts) before after = branches_code ts before after
-  tree_code (concatenation a ts) before after = sequence_code ts before after
-  tree_code (repetition a t low high) before after =
-      if holds_tree t then copied_code low high (tree_code t) before after
-      else counted_code low high (tree_code t before after)
+  pub instructions_of : {A : Type 0} → Tree A → Bool → Bool → List Instruction
+  instructions_of (leaf a l) before after = leaf_instructions l before after
+  instructions_of (alternation a ts) before after = branches_code ts before after
+  instructions_of (concatenation a ts) before after = sequence_code ts before after
+  instructions_of (repetition a t low high) before after =
+      if holds_tree t then copied_code low high (instructions_of t) before after
+      else counted_code low high (instructions_of t before after)
 
   pub branches_code : {A : Type 0} → Trees A → Bool → Bool → List Instruction
   branches_code none before after = never
-  branches_code (more t ts) before after = choose (tree_code t before after) (branches_code ts before after)
+  branches_code (more t ts) before after = choose (instructions_of t before after) (branches_code ts before after)
 
   pub sequence_code : {A : Type 0} → Trees A → Bool → Bool → List Instruction
   sequence_code none before after = []
-  sequence_code (more t none) before after = tree_code t before after
+  sequence_code (more t none) before after = instructions_of t before after
   sequence_code (more t (more u us)) before after =
-      tree_code t before true ++ sequence_code (more u us) true after
+      instructions_of t before true ++ sequence_code (more u us) true after
 
 -- a repetition of the tree
 abbrev pub repeated_code : {A : Type 0} → ℕ → Option ℕ → Tree A → Bool → Bool → List Instruction
 repeated_code low high t before after =
-    if holds_tree t then copied_code low high (tree_code t) before after
-    else counted_code low high (tree_code t before after)
+    if holds_tree t then copied_code low high (instructions_of t) before after
+    else counted_code low high (instructions_of t before after)

@@ -4,7 +4,7 @@ use Rattle.std.specs.Char.{is_ascii_digit}
 use Rattle.std.specs.List.{list_all}
 use Rattle.std.proofs.lemmas.Bool.Decides.{eqb_tells}
 use borrow.Author.Tests.{ltb-true, lt-ltb}
-use Rattle.wax_token.specs.Reads.{decimal_from, IsNumber, Bounds, any_number, at_least_one, exactly, at_least, between}
+use Rattle.wax_token.specs.Reads.{decimal_from, IsNumber, ReadsBounds, any_number, at_least_one, exactly, at_least, between}
 use Rattle.wax_parse.specs.Parser.{strip, digit_step, next_number, digits_run, digits_after, number_run, with_value, with_lower, upper_end, upper_or, read_upper, upper_after, lower_after, read_numbers, numbers_or, bounds_after, read_bounds}
 use Rattle.wax_parse.specs.Reading.{Beyond}
 use Rattle.wax_parse.proofs.Runs.{none_some}
@@ -157,7 +157,7 @@ number_complete (d ∷ ds) s n stop h =
 
 -- ---- bounds
 abbrev AreBounds : List ℕ → (ℕ × Option ℕ) × List ℕ → Type 0
-AreBounds x r = (cs : List ℕ) × Bounds cs r.0.0 r.0.1 × (x ≡ (cs ++ codes ">") ++ r.1)
+AreBounds x r = (cs : List ℕ) × ReadsBounds cs r.0.0 r.0.1 × (x ≡ (cs ++ codes ">") ++ r.1)
 
 abbrev BoundsIf : List ℕ → Option ((ℕ × Option ℕ) × List ℕ) → Type 0
 BoundsIf x None = Unit {0}
@@ -237,7 +237,7 @@ numbers_after : (ds s : List ℕ) (n : ℕ) → digit_step s ≡ None → IsNumb
 numbers_after ds s n stop h =
     ap (numbers_or (ds ++ s)) (digit_head ds s n 62 h refl) ∙ ap lower_after (number_complete ds s n stop h)
 
-pub bounds_complete : (cs : List ℕ) (low : ℕ) (high : Option ℕ) (s : List ℕ) → Bounds cs low high → read_bounds ((cs ++ codes ">") ++ s) ≡ Some ((low, high), s)
+pub bounds_complete : (cs : List ℕ) (low : ℕ) (high : Option ℕ) (s : List ℕ) → ReadsBounds cs low high → read_bounds ((cs ++ codes ">") ++ s) ≡ Some ((low, high), s)
 bounds_complete cs low high s (any_number e f g) = rw (e, f, g) refl
 bounds_complete cs low high s (at_least_one e f g) = rw (e, f, g) refl
 bounds_complete cs low high s (exactly ds e h g) =

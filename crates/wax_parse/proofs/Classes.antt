@@ -3,7 +3,7 @@ use Rattle.std.proofs.Common.{true≢false, ◌≡◌, ℕ, zero, suc, ◌<◌, 
 use Rattle.std.proofs.lemmas.Bool.Decides.{eqb_tells}
 use Rattle.wax_token.specs.declared.token.Archetype.{Archetype}
 use Rattle.wax_token.specs.declared.token.Archetype.TheVariants.{Character, Range}
-use Rattle.wax_token.specs.Reads.{is_one_of, starts_in, class_escapable, spelled, archetype_text, archetypes_text, IsPlainArchetype, AllPlain}
+use Rattle.wax_token.specs.Reads.{is_one_of, starts_with_one_of, class_escapable, spelled, archetype_text, archetypes_text, IsPlainArchetype, AllPlain}
 use Rattle.wax_parse.specs.Parser.{strip, escaped_step, class_step, range_to, archetype_of, archetype_after, archetype_step, put_some, go_on, class_run}
 use Rattle.wax_parse.proofs.Runs.{none_some, or_false}
 
@@ -59,11 +59,11 @@ class_step_sound (c ∷ s) = elim (92 == c) as (λ b. (92 == c) ≡ b → GoodCh
 ] refl
 
 -- ---- an archetype
-character_only : (c : ℕ) (q : List ℕ) → starts_in (45 ∷ []) q ≡ false → archetype_of c q ≡ Some (Character c, q)
+character_only : (c : ℕ) (q : List ℕ) → starts_with_one_of (45 ∷ []) q ≡ false → archetype_of c q ≡ Some (Character c, q)
 character_only c [] e = refl
 character_only c (d ∷ q) e = ap (λ b. if b then range_to c (class_step q) else Some (Character c, d ∷ q)) (or_false (45 == d) false e).0
 
-pub archetype_complete : (a : Archetype) (q : List ℕ) → IsPlainArchetype a → starts_in (45 ∷ []) q ≡ false → archetype_step (archetype_text a ++ q) ≡ Some (a, q)
+pub archetype_complete : (a : Archetype) (q : List ℕ) → IsPlainArchetype a → starts_with_one_of (45 ∷ []) q ≡ false → archetype_step (archetype_text a ++ q) ≡ Some (a, q)
 archetype_complete (Character c) q h e = ap archetype_after (class_step_complete c q h) ∙ character_only c q e
 archetype_complete (Range c d) q h e =
     ap archetype_step (append_assoc (spelled class_escapable c ++ codes "-") (spelled class_escapable d) q ∙ append_assoc (spelled class_escapable c) (codes "-") (spelled class_escapable d ++ q))
@@ -96,16 +96,16 @@ archetype_sound p = elim (class_step p) as (λ o. GoodCharacter p o → GoodArch
 ] (class_step_sound p)
 
 -- ---- all archetypes, up to the bracket
-spelled_starts : (k c : ℕ) (q : List ℕ) → is_one_of class_escapable k ≡ true → (k == 92) ≡ false → starts_in (k ∷ []) (spelled class_escapable c ++ q) ≡ false
-spelled_starts k c q into other = elim (is_one_of class_escapable c) as (λ b. is_one_of class_escapable c ≡ b → starts_in (k ∷ []) (as_spelled c b ++ q) ≡ false) [
+spelled_starts : (k c : ℕ) (q : List ℕ) → is_one_of class_escapable k ≡ true → (k == 92) ≡ false → starts_with_one_of (k ∷ []) (spelled class_escapable c ++ q) ≡ false
+spelled_starts k c q into other = elim (is_one_of class_escapable c) as (λ b. is_one_of class_escapable c ≡ b → starts_with_one_of (k ∷ []) (as_spelled c b ++ q) ≡ false) [
   | true ↦ λ e. ap (λ b. b || false) other
   | false ↦ λ e. ap (λ b. b || false) (not_member class_escapable k c into e)
 ] refl
 
-archetype_starts : (k : ℕ) (a : Archetype) (q : List ℕ) → is_one_of class_escapable k ≡ true → (k == 92) ≡ false → starts_in (k ∷ []) (archetype_text a ++ q) ≡ false
+archetype_starts : (k : ℕ) (a : Archetype) (q : List ℕ) → is_one_of class_escapable k ≡ true → (k == 92) ≡ false → starts_with_one_of (k ∷ []) (archetype_text a ++ q) ≡ false
 archetype_starts k (Character c) q into other = spelled_starts k c q into other
 archetype_starts k (Range c d) q into other =
-    ap (starts_in (k ∷ [])) (append_assoc (spelled class_escapable c ++ codes "-") (spelled class_escapable d) q ∙ append_assoc (spelled class_escapable c) (codes "-") (spelled class_escapable d ++ q))
+    ap (starts_with_one_of (k ∷ [])) (append_assoc (spelled class_escapable c ++ codes "-") (spelled class_escapable d) q ∙ append_assoc (spelled class_escapable c) (codes "-") (spelled class_escapable d ++ q))
     ∙ spelled_starts k c (45 ∷ (spelled class_escapable d ++ q)) into other
 
 -- archetypes and the bracket that closes them
@@ -115,15 +115,15 @@ closing xs q = archetypes_text xs ++ 93 ∷ q
 closing-cons : (a : Archetype) (xs : List Archetype) (q : List ℕ) → closing (a ∷ xs) q ≡ archetype_text a ++ closing xs q
 closing-cons a xs q = append_assoc (archetype_text a) (archetypes_text xs) (93 ∷ q)
 
-no_dash : (xs : List Archetype) (q : List ℕ) → starts_in (45 ∷ []) (closing xs q) ≡ false
+no_dash : (xs : List Archetype) (q : List ℕ) → starts_with_one_of (45 ∷ []) (closing xs q) ≡ false
 no_dash [] q = refl
-no_dash (a ∷ xs) q = ap (starts_in (45 ∷ [])) (closing-cons a xs q) ∙ archetype_starts 45 a (closing xs q) refl refl
+no_dash (a ∷ xs) q = ap (starts_with_one_of (45 ∷ [])) (closing-cons a xs q) ∙ archetype_starts 45 a (closing xs q) refl refl
 
-not_closed : (p : List ℕ) → starts_in (93 ∷ []) p ≡ false → strip 93 p ≡ None
+not_closed : (p : List ℕ) → starts_with_one_of (93 ∷ []) p ≡ false → strip 93 p ≡ None
 not_closed [] e = refl
 not_closed (c ∷ s) e = ap (λ b. if b then Some s else None) (or_false (93 == c) false e).0
 
-class_go : (n : ℕ) (p r : List ℕ) (a : Archetype) → starts_in (93 ∷ []) p ≡ false → archetype_step p ≡ Some (a, r) → class_run (suc n) p ≡ put_some a (class_run n r)
+class_go : (n : ℕ) (p r : List ℕ) (a : Archetype) → starts_with_one_of (93 ∷ []) p ≡ false → archetype_step p ≡ Some (a, r) → class_run (suc n) p ≡ put_some a (class_run n r)
 class_go n [] r a e f = absurd (let x : Archetype × List ℕ = (a, r) in none_some x f)
 class_go n (c ∷ s) r a e f = ap (λ b. if b then Some ([], s) else go_on (class_run n) (archetype_step (c ∷ s))) (or_false (93 == c) false e).0 ∙ ap (go_on (class_run n)) f
 

@@ -1,6 +1,6 @@
 -- Flag groups.
 use Rattle.std.proofs.Common.{true≢false, ◌≡◌, ℕ, zero, suc, ◌<◌, ◌≤◌, ◌⊎◌, Bool, true, false, List, [], ◌∷◌, ◌++◌, length, Option, Some, None, if◌then◌else◌, ◌==◌, codes, refl, sym, ◌∙◌, ap, subst, inl, inr, arith, length-append, append_assoc, eqb-true}
-use Rattle.wax_token.specs.Reads.{Place, Past, Flags, no_flags, group, toggles_text, last_toggle, starts_in}
+use Rattle.wax_token.specs.Reads.{Place, Past, Flags, no_flags, group, toggles_text, last_toggle, starts_with_one_of}
 use Rattle.wax_parse.specs.Parser.{at, strip, toggle_off, toggle_step, group_end, dash_end, first_toggle, after_question, after_parenthesis, group_step, flags_on, flags_run, flags_end}
 
 -- ---- the groups that are read are flag groups
@@ -132,14 +132,14 @@ pub flags_reached : (p : Place) → Flags p (flags_end p)
 flags_reached p = run_reached (length p.rest) p
 
 -- a place that flag groups lead to is their end, or the next group begins there
-flags_linear : (q r : Place) → Flags q r → (q ≡ r) ⊎ (starts_in (40 ∷ []) q.rest ≡ true)
+flags_linear : (q r : Place) → Flags q r → (q ≡ r) ⊎ (starts_with_one_of (40 ∷ []) q.rest ≡ true)
 flags_linear q r no_flags = inl refl
-flags_linear q r (group b bs m e f) = inr (ap (starts_in (40 ∷ [])) (e.0 ∙ group_text_end b bs m.rest))
+flags_linear q r (group b bs m e f) = inr (ap (starts_with_one_of (40 ∷ [])) (e.0 ∙ group_text_end b bs m.rest))
 
-pub flags_cases : (p q : Place) → Flags p q → (q ≡ flags_end p) ⊎ (starts_in (40 ∷ []) q.rest ≡ true)
+pub flags_cases : (p q : Place) → Flags p q → (q ≡ flags_end p) ⊎ (starts_with_one_of (40 ∷ []) q.rest ≡ true)
 flags_cases p q h = flags_linear q (flags_end p) (run_passes (length p.rest) p q (omega arith) h)
 
-pub flags_last : (p q : Place) → Flags p q → starts_in (40 ∷ []) q.rest ≡ false → q ≡ flags_end p
+pub flags_last : (p q : Place) → Flags p q → starts_with_one_of (40 ∷ []) q.rest ≡ false → q ≡ flags_end p
 flags_last p q h e = elim (flags_cases p q h) [ inl f ↦ f | inr f ↦ absurd (true≢false (sym f ∙ e)) ]
 
 -- ---- what flag groups take

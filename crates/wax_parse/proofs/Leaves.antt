@@ -5,7 +5,7 @@ use Rattle.wax_token.specs.declared.token.Archetype.{Archetype}
 use Rattle.wax_token.specs.declared.token.Evaluation.{Evaluation}
 use Rattle.wax_token.specs.declared.token.Evaluation.TheVariants.{Eager, Lazy}
 use Rattle.wax_token.specs.Syntax.{Leaf, literal, class, separator, one, zero_or_more, tree}
-use Rattle.wax_token.specs.Reads.{is_one_of, starts_in, escapable, all_spelled, NoLiteralFollows, archetypes_text, class_text, AllPlain, Place, Past, Around, no_flags, NoWildcardFollows, TreeCloses, TreeFollows, ReadsLeaf}
+use Rattle.wax_token.specs.Reads.{is_one_of, starts_with_one_of, escapable, all_spelled, NoLiteralFollows, archetypes_text, class_text, AllPlain, Place, Past, Around, no_flags, NoWildcardFollows, TreeCloses, TreeFollows, ReadsLeaf}
 use Rattle.wax_parse.specs.Parser.{at, flags_end, with_flag, after_star, star_after, put, literal_run, literal_leaf, after_tree, boundary_leaf, zero_or_more_leaf, inner_leaf, first_leaf, read_leaf, class_run, class_leaf, read_class}
 use Rattle.wax_parse.specs.Reading.{IsTaken}
 use Rattle.wax_parse.proofs.Runs.{none_some, or_false}
@@ -116,7 +116,7 @@ module _ (around : Around) where
   not_star : (b : Bool) (c : ℕ) (s : List ℕ) → (42 == c) ≡ false → after_tree around (at b (c ∷ s)) ≡ None
   not_star b c s e = ap (λ z. star_after around b (if z then Some s else None)) e
 
-  one_star : (b : Bool) (s : List ℕ) → starts_in (codes "*$") s ≡ false → after_tree around (at b (42 ∷ s)) ≡ None
+  one_star : (b : Bool) (s : List ℕ) → starts_with_one_of (codes "*$") s ≡ false → after_tree around (at b (42 ∷ s)) ≡ None
   one_star b [] e = refl
   one_star b (c ∷ s) e = ap (λ z. after_star around b (if z then Some s else None)) (or_false (42 == c) (is_one_of (36 ∷ []) c) e).0
 
@@ -124,7 +124,7 @@ module _ (around : Around) where
   good_literal : (first b : Bool) (p t q : List ℕ) → Run p (t, q) → Good first (at b p) (with_flag b (literal_leaf b (t, q)))
   good_literal first b p [] q h = tt
   good_literal first b p (c ∷ t) q h =
-      elim (starts_in (92 ∷ []) q) as (λ z. starts_in (92 ∷ []) q ≡ z → Good first (at b p) (with_flag b (if z then None else Some (literal b (c ∷ t), q)))) [
+      elim (starts_with_one_of (92 ∷ []) q) as (λ z. starts_with_one_of (92 ∷ []) q ≡ z → Good first (at b p) (with_flag b (if z then None else Some (literal b (c ∷ t), q)))) [
         | true ↦ λ e. tt
         | false ↦ λ e. (refl, ((λ z. cons_nil c t z), h.1), (h.0, refl), stop q h.2 e)
       ] refl
@@ -132,7 +132,7 @@ module _ (around : Around) where
       cons_nil : (c : ℕ) (t : List ℕ) → c ∷ t ≡ [] → ⊥
       cons_nil c t z = cc
 
-      stop : (q : List ℕ) → Stops q → starts_in (92 ∷ []) q ≡ false → NoLiteralFollows q
+      stop : (q : List ℕ) → Stops q → starts_with_one_of (92 ∷ []) q ≡ false → NoLiteralFollows q
       stop [] h e = tt
       stop (d ∷ q) h e = let g : (92 == d) ≡ false = (or_false (92 == d) false e).0 in sym (ap (λ z. z || is_one_of (47 ∷ escapable) d) g) ∙ h
 
@@ -153,14 +153,14 @@ module _ (around : Around) where
 
   good_star : (first b : Bool) (s : List ℕ) → Good first (at b (42 ∷ s)) (zero_or_more_leaf Eager (at b s))
   good_star first b s = let p : Place = at b s in
-      elim (starts_in (codes "*$") (flags_end p).rest) as (λ z. starts_in (codes "*$") (flags_end p).rest ≡ z → Good first (at b (42 ∷ s)) (if z then None else Some (zero_or_more Eager, p))) [
+      elim (starts_with_one_of (codes "*$") (flags_end p).rest) as (λ z. starts_with_one_of (codes "*$") (flags_end p).rest ≡ z → Good first (at b (42 ∷ s)) (if z then None else Some (zero_or_more Eager, p))) [
         | true ↦ λ e. tt
         | false ↦ λ e. ((refl, refl), no_wildcard_sound p e)
       ] refl
 
   good_dollar : (first b : Bool) (s : List ℕ) → Good first (at b (36 ∷ s)) (zero_or_more_leaf Lazy (at b s))
   good_dollar first b s = let p : Place = at b s in
-      elim (starts_in (codes "*$") (flags_end p).rest) as (λ z. starts_in (codes "*$") (flags_end p).rest ≡ z → Good first (at b (36 ∷ s)) (if z then None else Some (zero_or_more Lazy, p))) [
+      elim (starts_with_one_of (codes "*$") (flags_end p).rest) as (λ z. starts_with_one_of (codes "*$") (flags_end p).rest ≡ z → Good first (at b (36 ∷ s)) (if z then None else Some (zero_or_more Lazy, p))) [
         | true ↦ λ e. tt
         | false ↦ λ e. ((refl, refl), no_wildcard_sound p e)
       ] refl
@@ -171,21 +171,21 @@ module _ (around : Around) where
   class_opened false xs q = ap (λ z. 91 ∷ z) (append_assoc (archetypes_text xs) (codes "]") q)
 
   good_class_leaf : (first b negated : Bool) (s : List ℕ) (p : List ℕ) (o : Option (List Archetype × List ℕ)) → GoodRun s o →
-      ((xs : List Archetype) (q : List ℕ) → xs ≢ [] → s ≡ closing xs q → (p ≡ class_text negated xs ++ q) × (negated ≡ false → starts_in (codes "!") (archetypes_text xs) ≡ false)) →
+      ((xs : List Archetype) (q : List ℕ) → xs ≢ [] → s ≡ closing xs q → (p ≡ class_text negated xs ++ q) × (negated ≡ false → starts_with_one_of (codes "!") (archetypes_text xs) ≡ false)) →
       Good first (at b p) (with_flag b (class_leaf negated o))
   good_class_leaf first b negated s p None g h = tt
   good_class_leaf first b negated s p (Some ([], q)) g h = tt
   good_class_leaf first b negated s p (Some (a ∷ xs, q)) g h =
-      let some : a ∷ xs ≢ [] = cons_nil a xs in let k : (p ≡ class_text negated (a ∷ xs) ++ q) × (negated ≡ false → starts_in (codes "!") (archetypes_text (a ∷ xs)) ≡ false) = h (a ∷ xs) q some g.0 in
+      let some : a ∷ xs ≢ [] = cons_nil a xs in let k : (p ≡ class_text negated (a ∷ xs) ++ q) × (negated ≡ false → starts_with_one_of (codes "!") (archetypes_text (a ∷ xs)) ≡ false) = h (a ∷ xs) q some g.0 in
       (some, g.1, (k.0, refl), k.1)
     where
       cons_nil : (a : Archetype) (xs : List Archetype) → a ∷ xs ≡ [] → ⊥
       cons_nil a xs z = cc
 
-  no_mark : (xs : List Archetype) (c : ℕ) (s q : List ℕ) → (33 == c) ≡ false → c ∷ s ≡ closing xs q → xs ≢ [] → starts_in (codes "!") (archetypes_text xs) ≡ false
-  no_mark xs c s q e h some = go (archetypes_text xs) (ap (starts_in (codes "!")) (sym h) ∙ ap (λ b. b || false) e)
+  no_mark : (xs : List Archetype) (c : ℕ) (s q : List ℕ) → (33 == c) ≡ false → c ∷ s ≡ closing xs q → xs ≢ [] → starts_with_one_of (codes "!") (archetypes_text xs) ≡ false
+  no_mark xs c s q e h some = go (archetypes_text xs) (ap (starts_with_one_of (codes "!")) (sym h) ∙ ap (λ b. b || false) e)
     where
-      go : (t : List ℕ) → starts_in (codes "!") (t ++ 93 ∷ q) ≡ false → starts_in (codes "!") t ≡ false
+      go : (t : List ℕ) → starts_with_one_of (codes "!") (t ++ 93 ∷ q) ≡ false → starts_with_one_of (codes "!") t ≡ false
       go [] e = refl
       go (d ∷ t) e = e
 
@@ -248,7 +248,7 @@ module _ (around : Around) where
             ∙ other_char b c r (not_member (47 ∷ 92 ∷ []) 47 c refl h.0) (not_member escapable 63 c refl e) (not_member escapable 42 c refl e) (not_member escapable 36 c refl e) (not_member escapable 91 c refl e)
       ] refl
 
-  no_backslash : (q : List ℕ) → NoLiteralFollows q → starts_in (92 ∷ []) q ≡ false
+  no_backslash : (q : List ℕ) → NoLiteralFollows q → starts_with_one_of (92 ∷ []) q ≡ false
   no_backslash [] h = refl
   no_backslash (d ∷ q) h = rw (outside (47 ∷ escapable) 92 d refl h) refl
 
@@ -257,18 +257,18 @@ module _ (around : Around) where
   class_leaf_some negated (a ∷ xs) q h = refl
 
   -- a class that isn't negated doesn't begin with the mark
-  unmarked : (xs : List Archetype) (q : List ℕ) → AllPlain xs → xs ≢ [] → starts_in (codes "!") (archetypes_text xs) ≡ false → read_class (closing xs q) ≡ class_leaf false (class_run (length (closing xs q)) (closing xs q))
+  unmarked : (xs : List Archetype) (q : List ℕ) → AllPlain xs → xs ≢ [] → starts_with_one_of (codes "!") (archetypes_text xs) ≡ false → read_class (closing xs q) ≡ class_leaf false (class_run (length (closing xs q)) (closing xs q))
   unmarked xs q plain some e = go (closing xs q) (mark (archetypes_text xs) e)
     where
-      mark : (t : List ℕ) → starts_in (codes "!") t ≡ false → starts_in (codes "!") (t ++ 93 ∷ q) ≡ false
+      mark : (t : List ℕ) → starts_with_one_of (codes "!") t ≡ false → starts_with_one_of (codes "!") (t ++ 93 ∷ q) ≡ false
       mark [] e = refl
       mark (d ∷ t) e = e
 
-      go : (t : List ℕ) → starts_in (codes "!") t ≡ false → read_class t ≡ class_leaf false (class_run (length t) t)
+      go : (t : List ℕ) → starts_with_one_of (codes "!") t ≡ false → read_class t ≡ class_leaf false (class_run (length t) t)
       go [] e = refl
       go (c ∷ s) e = ap (λ b. if b then class_leaf true (class_run (length s) s) else class_leaf false (class_run (length (c ∷ s)) (c ∷ s))) (or_false (33 == c) false e).0
 
-  class_complete : (first b negated : Bool) (xs : List Archetype) (q : List ℕ) → xs ≢ [] → AllPlain xs → (negated ≡ false → starts_in (codes "!") (archetypes_text xs) ≡ false) →
+  class_complete : (first b negated : Bool) (xs : List Archetype) (q : List ℕ) → xs ≢ [] → AllPlain xs → (negated ≡ false → starts_with_one_of (codes "!") (archetypes_text xs) ≡ false) →
       read_leaf around first (at b (if negated then 91 ∷ 33 ∷ closing xs q else 91 ∷ closing xs q)) ≡ Some (class negated xs, at b q)
   class_complete first b true xs q some plain mark =
       inner_is first (at b (91 ∷ 33 ∷ closing xs q)) (not_star b 91 (33 ∷ closing xs q) refl)
@@ -366,23 +366,23 @@ module _ (around : Around) where
   leaf_takes first l p q e = takes first l p q (subst (Good first p) e (leaf_sound first p))
 
   -- ---- no leaf begins as a flag group does
-  literal_no_flag : (t q : List ℕ) → t ≢ [] → starts_in (40 ∷ []) (all_spelled escapable t ++ q) ≡ false
+  literal_no_flag : (t q : List ℕ) → t ≢ [] → starts_with_one_of (40 ∷ []) (all_spelled escapable t ++ q) ≡ false
   literal_no_flag [] q h = absurd (h refl)
-  literal_no_flag (c ∷ t) q h = elim (is_one_of escapable c) as (λ z. is_one_of escapable c ≡ z → starts_in (40 ∷ []) ((as_spelled c z ++ all_spelled escapable t) ++ q) ≡ false) [
+  literal_no_flag (c ∷ t) q h = elim (is_one_of escapable c) as (λ z. is_one_of escapable c ≡ z → starts_with_one_of (40 ∷ []) ((as_spelled c z ++ all_spelled escapable t) ++ q) ≡ false) [
     | true ↦ λ e. refl
     | false ↦ λ e. ap (λ z. z || false) (not_member escapable 40 c refl e)
   ] refl
 
-  class_no_flag : (negated : Bool) (xs : List Archetype) (q : List ℕ) → starts_in (40 ∷ []) (class_text negated xs ++ q) ≡ false
+  class_no_flag : (negated : Bool) (xs : List Archetype) (q : List ℕ) → starts_with_one_of (40 ∷ []) (class_text negated xs ++ q) ≡ false
   class_no_flag true xs q = refl
   class_no_flag false xs q = refl
 
-  pub leaf_no_flag : (first : Bool) (l : Leaf) (p q : Place) → ReadsLeaf around first l p q → starts_in (40 ∷ []) p.rest ≡ false
-  leaf_no_flag first (literal b t) p q h = ap (starts_in (40 ∷ [])) h.2.0 ∙ literal_no_flag t q.rest h.1.0
-  leaf_no_flag first (class negated xs) p q h = ap (starts_in (40 ∷ [])) h.2.0 ∙ class_no_flag negated xs q.rest
-  leaf_no_flag first separator p q h = ap (starts_in (40 ∷ [])) h.0.0
-  leaf_no_flag first one p q h = ap (starts_in (40 ∷ [])) h.0
-  leaf_no_flag first (zero_or_more Eager) p q h = ap (starts_in (40 ∷ [])) h.0.0
-  leaf_no_flag first (zero_or_more Lazy) p q h = ap (starts_in (40 ∷ [])) h.0.0
-  leaf_no_flag first (tree true) p q h = ap (starts_in (40 ∷ [])) h.1.0
-  leaf_no_flag first (tree false) p q h = ap (starts_in (40 ∷ [])) h.2.0
+  pub leaf_no_flag : (first : Bool) (l : Leaf) (p q : Place) → ReadsLeaf around first l p q → starts_with_one_of (40 ∷ []) p.rest ≡ false
+  leaf_no_flag first (literal b t) p q h = ap (starts_with_one_of (40 ∷ [])) h.2.0 ∙ literal_no_flag t q.rest h.1.0
+  leaf_no_flag first (class negated xs) p q h = ap (starts_with_one_of (40 ∷ [])) h.2.0 ∙ class_no_flag negated xs q.rest
+  leaf_no_flag first separator p q h = ap (starts_with_one_of (40 ∷ [])) h.0.0
+  leaf_no_flag first one p q h = ap (starts_with_one_of (40 ∷ [])) h.0
+  leaf_no_flag first (zero_or_more Eager) p q h = ap (starts_with_one_of (40 ∷ [])) h.0.0
+  leaf_no_flag first (zero_or_more Lazy) p q h = ap (starts_with_one_of (40 ∷ [])) h.0.0
+  leaf_no_flag first (tree true) p q h = ap (starts_with_one_of (40 ∷ [])) h.1.0
+  leaf_no_flag first (tree false) p q h = ap (starts_with_one_of (40 ∷ [])) h.2.0

@@ -2,7 +2,7 @@
 use Rattle.std.proofs.Common.{true≢false, ◌≡◌, ℕ, ◌+◌, ◌-◌, ◌≤◌, Bool, true, false, List, [], ◌∷◌, ◌++◌, Option, Some, None, codes, refl, sym, ◌∙◌, ap, subst, inl, inr, arith, ◌⊎◌, ◌||◌, ◌==◌, if◌then◌else◌}
 use Rattle.std.proofs.lemmas.Bool.Decides.{eqb_tells}
 use Rattle.wax_token.specs.Syntax.{Leaf, Tree, leaf, alternation, concatenation, repetition, Trees}
-use Rattle.wax_token.specs.Reads.{Span, Place, Past, Flags, no_flags, group, Around, whole, in_alternation, in_repetition, starts_in, utf8_len, Bounds, nesting, deepest, IsSpan, ReadsToken, ReadsGlob, ReadsBranches}
+use Rattle.wax_token.specs.Reads.{Span, Place, Past, Flags, no_flags, group, Around, whole, in_alternation, in_repetition, starts_with_one_of, utf8_len, ReadsBounds, nesting, deepest, IsSpan, ReadsToken, ReadsGlob, ReadsBranches}
 use Rattle.wax_parse.specs.Parser.{at, strip, is_end, flags_end, read_leaf, read_bounds}
 use Rattle.wax_parse.specs.Reading.{TokenFrom, GlobFrom, BranchesFrom, Sole, Unreadable}
 use Rattle.wax_parse.proofs.Runs.{none_some}
@@ -42,7 +42,7 @@ bracket_goes_on whole s = refl
 bracket_goes_on in_alternation s = refl
 bracket_goes_on in_repetition s = refl
 
-one_of_two : (a b c : ℕ) (s : List ℕ) → starts_in (a ∷ b ∷ []) (c ∷ s) ≡ true → (a ≡ c) ⊎ (b ≡ c)
+one_of_two : (a b c : ℕ) (s : List ℕ) → starts_with_one_of (a ∷ b ∷ []) (c ∷ s) ≡ true → (a ≡ c) ⊎ (b ≡ c)
 one_of_two a b c s e = elim (eqb_tells a c) [
   | inl h ↦ inl h.1
   | inr h ↦ elim (eqb_tells b c) [
@@ -95,7 +95,7 @@ no_token size around first p (concatenation s ts) q e h = h
 
 -- after its flag groups, where the parser looks at it
 opened : (c : ℕ) (p m : Place) (s : List ℕ) → (c ≡ 40 → ⊥) → Flags p m → m.rest ≡ c ∷ s → m ≡ flags_end p
-opened c p m s other f e = flags_last p m f (ap (starts_in (40 ∷ [])) e ∙ (let k : (40 == c) ≡ false = unequal in ap (λ z. z || false) k))
+opened c p m s other f e = flags_last p m f (ap (starts_with_one_of (40 ∷ [])) e ∙ (let k : (40 == c) ≡ false = unequal in ap (λ z. z || false) k))
   where
     unequal : (40 == c) ≡ false
     unequal = elim (eqb_tells 40 c) [ inl h ↦ absurd (other (sym h.1)) | inr h ↦ h.0 ]
@@ -151,7 +151,7 @@ alternation_token size around first p n (concatenation s ts) r e h = absurd h
 
 abbrev IsRepetition : ℕ → Place → Place → Tree Span → Place → Type 0
 IsRepetition size p n u r = (s : Span) × (t : Tree Span) × (low : ℕ) × (high : Option ℕ) × (u ≡ repetition s t low high)
-    × ((k : Place) × (cs : List ℕ) × ReadsGlob size t in_repetition n k × Bounds cs low high × Past (cs ++ codes ">") k r) × IsSpan size s p r
+    × ((k : Place) × (cs : List ℕ) × ReadsGlob size t in_repetition n k × ReadsBounds cs low high × Past (cs ++ codes ">") k r) × IsSpan size s p r
 
 repetition_token : (size : ℕ) (around : Around) (first : Bool) (p n : Place) (u : Tree Span) (r : Place) → flags_end p ≡ at n.insensitive (60 ∷ n.rest) → ReadsToken size u around first p r → IsRepetition size p n u r
 repetition_token size around first p n (leaf s l) r e h = absurd (no_leaf_opened around first 60 p n l h.0 r (inr refl) e h.1 (leaf_read around first l p h.0 r h.1 h.2))
@@ -214,7 +214,7 @@ pub repetition_sole : (size : ℕ) (around : Around) (depth inner : ℕ) (first 
     utf8_len p.rest ≤ size → utf8_len s ≤ utf8_len p.rest → Sole (GlobFrom size in_repetition inner n) t k → read_bounds k.rest ≡ Some ((low, high), s) →
     Sole (TokenFrom size around depth first p) (repetition (span_between size p (at k.insensitive s)) t low high) (at k.insensitive s)
 repetition_sole size around depth inner first p n k t low high s d e h l g b =
-    let c : (cs : List ℕ) × Bounds cs low high × (k.rest ≡ (cs ++ codes ">") ++ s) = bounds_sound k.rest low high s b in (
+    let c : (cs : List ℕ) × ReadsBounds cs low high × (k.rest ≡ (cs ++ codes ">") ++ s) = bounds_sound k.rest low high s b in (
       ((flags_end p, n, k, c.0, flags_reached p, (ap (λ z. z.rest) e, sym (ap (λ z. z.insensitive) e)), g.0.0, c.1, (c.2, refl), span_is size p (at k.insensitive s) h l), omega (arith, d, g.0.1)),
       λ u r v. (let x : IsRepetition size p n u r = repetition_token size around first p n u r e v.0 in
           let y : 1 + nesting x.1 ≤ depth = subst (λ z. nesting z ≤ depth) x.4 v.1 in

@@ -3,7 +3,7 @@ use Rattle.std.proofs.Common.{true≢false, ◌≡◌, ℕ, zero, suc, ◌<◌, 
 use Rattle.wax_token.specs.declared.token.Archetype.{Archetype}
 use Rattle.wax_token.specs.declared.token.Archetype.TheVariants.{Character}
 use Rattle.wax_token.specs.Syntax.{literal}
-use Rattle.wax_token.specs.Reads.{is_one_of, starts_in, escapable, class_escapable}
+use Rattle.wax_token.specs.Reads.{is_one_of, starts_with_one_of, escapable, class_escapable}
 use Rattle.wax_parse.specs.Parser.{strip, escaped_step, literal_step, put, literal_run, literal_leaf, is_plain_character, is_plain_text, StopsPlain, class_step, range_to, archetype_of, archetype_after, archetype_step, put_some, go_on, class_run, prefixed}
 
 pub none_some : {A : Type 0} (x : A) → None ≡ Some x → ⊥
@@ -121,7 +121,7 @@ run_owned whole t q u v e f g h = ap literal_run e ∙ run_plain t q f ∙ (λ i
 pub leaf_empty : (b : Bool) (t q : List ℕ) → t ≡ [] → literal_leaf b (t, q) ≡ None
 leaf_empty b t q e = ap (λ z. literal_leaf b (z, q)) e
 
-escape_starts : (q s : List ℕ) → strip 92 q ≡ Some s → starts_in (92 ∷ []) q ≡ true
+escape_starts : (q s : List ℕ) → strip 92 q ≡ Some s → starts_with_one_of (92 ∷ []) q ≡ true
 escape_starts [] s e = absurd (none_some s e)
 escape_starts (c ∷ q) s e = elim (92 == c) as (λ b. (if b then Some q else None) ≡ Some s → (b || false) ≡ true) [ true ↦ λ f. refl | false ↦ λ f. absurd (none_some s f) ] e
 
@@ -129,7 +129,7 @@ pub leaf_escape : (b : Bool) (t q s : List ℕ) → strip 92 q ≡ Some s → li
 leaf_escape b [] q s e = refl
 leaf_escape b (c ∷ t) q s e = ap (λ z. if z then None else Some (literal b (c ∷ t), q)) (escape_starts q s e)
 
-no_escape : (q : List ℕ) → strip 92 q ≡ None → starts_in (92 ∷ []) q ≡ false
+no_escape : (q : List ℕ) → strip 92 q ≡ None → starts_with_one_of (92 ∷ []) q ≡ false
 no_escape [] e = refl
 no_escape (c ∷ q) e = elim (92 == c) as (λ b. (if b then Some q else None) ≡ None → (b || false) ≡ false) [ true ↦ λ f. absurd (none_some q (sym f)) | false ↦ λ f. refl ] e
 

@@ -1,23 +1,23 @@
 -- What closes and what follows, where flag groups may stand between.
 use Rattle.std.proofs.Common.{◌≡◌, ℕ, Bool, true, false, List, [], ◌∷◌, Option, Some, None, if◌then◌else◌, ◌==◌, codes, refl, sym, ◌∙◌, ap, subst, inl, inr, eqb-true}
-use Rattle.wax_token.specs.Reads.{Place, Past, Flags, no_flags, group, Around, whole, in_alternation, in_repetition, IsEnd, starts_in, NoWildcardFollows, TreeCloses, TreeFollows}
+use Rattle.wax_token.specs.Reads.{Place, Past, Flags, no_flags, group, Around, whole, in_alternation, in_repetition, IsEnd, starts_with_one_of, NoWildcardFollows, TreeCloses, TreeFollows}
 use Rattle.wax_parse.specs.Parser.{at, strip, flags_end, is_end, after_slash, closed_by_slash, after_stars, after_star, star_after, after_tree}
 use Rattle.wax_parse.proofs.Runs.{none_some}
 use Rattle.wax_parse.proofs.Classes.{outside}
 use Rattle.wax_parse.proofs.Flags.{flags_reached, flags_cases, flags_last}
 
 -- ---- no `*` and no `$`
-pub no_wildcard_sound : (q : Place) → starts_in (codes "*$") (flags_end q).rest ≡ false → NoWildcardFollows q
+pub no_wildcard_sound : (q : Place) → starts_with_one_of (codes "*$") (flags_end q).rest ≡ false → NoWildcardFollows q
 no_wildcard_sound q e = λ m f. elim (flags_cases q m f) [
-  | inl g ↦ subst (λ z. starts_in (codes "*$") z.rest ≡ false) (sym g) e
+  | inl g ↦ subst (λ z. starts_with_one_of (codes "*$") z.rest ≡ false) (sym g) e
   | inr g ↦ parenthesis m.rest g
 ]
   where
-    parenthesis : (t : List ℕ) → starts_in (40 ∷ []) t ≡ true → starts_in (codes "*$") t ≡ false
+    parenthesis : (t : List ℕ) → starts_with_one_of (40 ∷ []) t ≡ true → starts_with_one_of (codes "*$") t ≡ false
     parenthesis [] g = refl
     parenthesis (c ∷ t) g = rw (outside (40 ∷ []) 42 c refl g, outside (40 ∷ []) 36 c refl g) refl
 
-pub no_wildcard_complete : (q : Place) → NoWildcardFollows q → starts_in (codes "*$") (flags_end q).rest ≡ false
+pub no_wildcard_complete : (q : Place) → NoWildcardFollows q → starts_with_one_of (codes "*$") (flags_end q).rest ≡ false
 no_wildcard_complete q h = h (flags_end q) (flags_reached q)
 
 -- ---- what closes a `**`
@@ -85,7 +85,7 @@ goes_on around p m s (group b bs k f g) e = ap (is_end around) f.0 ∙ group_goe
 stars_complete : (around : Around) (n q : Place) → TreeCloses around n q → after_stars around n.insensitive n.rest ≡ Some q
 stars_complete around n q (inl h) =
     ap (λ z. if z then Some n else closed_by_slash (flags_end n)) (goes_on around n h.0 q.rest h.1 h.2.0)
-    ∙ ap closed_by_slash (sym (flags_last n h.0 h.1 (ap (starts_in (40 ∷ [])) h.2.0))) ∙ slash_after h.0 q h.2
+    ∙ ap closed_by_slash (sym (flags_last n h.0 h.1 (ap (starts_with_one_of (40 ∷ [])) h.2.0))) ∙ slash_after h.0 q h.2
 stars_complete around n q (inr h) =
     ap (λ z. if z then Some n else closed_by_slash (flags_end n)) (ap (λ z. is_end around z.rest) h.0 ∙ end_complete around q h.1) ∙ ap (λ z. Some z) h.0
 
@@ -120,4 +120,4 @@ follows_sound around p q h = (flags_end p, h.0, flags_reached p, h.1, h.2)
 
 pub follows_complete : (around : Around) (p q : Place) → TreeFollows around p q → after_tree around (flags_end p) ≡ Some q
 follows_complete around p q h =
-    ap (after_tree around) (sym (flags_last p h.0 h.2 (ap (starts_in (40 ∷ [])) h.3.0))) ∙ tree_complete around h.0 q (h.1, h.3, h.4)
+    ap (after_tree around) (sym (flags_last p h.0 h.2 (ap (starts_with_one_of (40 ∷ [])) h.3.0))) ∙ tree_complete around h.0 q (h.1, h.3, h.4)

@@ -10,7 +10,7 @@ use Rattle.wax_token.specs.Syntax.{Leaf, literal, class, separator, one, zero_or
 use Rattle.wax_parse.specs.declared.parse.flags.Cursor.{Cursor}
 use Rattle.wax_parse.specs.declared.parse.surroundings.Around as code
 use Rattle.wax_parse.specs.declared.parse.surroundings.Around.TheVariants as around
-use Rattle.wax_token.specs.Reads.{Place, Around, whole, in_alternation, in_repetition, is_one_of, starts_in, escapable, class_escapable}
+use Rattle.wax_token.specs.Reads.{Place, Around, whole, in_alternation, in_repetition, is_one_of, starts_with_one_of, escapable, class_escapable}
 
 abbrev pub strip : ℕ → List ℕ → Option (List ℕ)
 strip c [] = None
@@ -59,7 +59,7 @@ literal_run (c ∷ d ∷ s) =
 
 abbrev pub literal_leaf : Bool → List ℕ × List ℕ → Option (Leaf × List ℕ)
 literal_leaf b ([], q) = None
-literal_leaf b (c ∷ t, q) = if starts_in (92 ∷ []) q then None else Some (literal b (c ∷ t), q)
+literal_leaf b (c ∷ t, q) = if starts_with_one_of (92 ∷ []) q then None else Some (literal b (c ∷ t), q)
 
 -- ---- classes
 abbrev pub range_to : ℕ → Option (ℕ × List ℕ) → Option (Archetype × List ℕ)
@@ -176,8 +176,8 @@ around_of around.InRepetition = in_repetition
 abbrev pub is_end : Around → List ℕ → Bool
 is_end whole [] = true
 is_end whole (c ∷ s) = false
-is_end in_alternation s = starts_in (codes ",}") s
-is_end in_repetition s = starts_in (codes ":>") s
+is_end in_alternation s = starts_with_one_of (codes ",}") s
+is_end in_repetition s = starts_with_one_of (codes ":>") s
 
 -- ---- the other leaves
 abbrev pub after_slash : Bool → Option (List ℕ) → Option Place
@@ -209,7 +209,7 @@ boundary_leaf p (Some q) = (tree true, q)
 
 abbrev pub zero_or_more_leaf : Evaluation → Place → Option (Leaf × Place)
 zero_or_more_leaf evaluation p =
-    if starts_in (codes "*$") (flags_end p).rest then None else Some (zero_or_more evaluation, p)
+    if starts_with_one_of (codes "*$") (flags_end p).rest then None else Some (zero_or_more evaluation, p)
 
 -- a leaf before which and after which literals are the same
 abbrev pub with_flag : Bool → Option (Leaf × List ℕ) → Option (Leaf × Place)

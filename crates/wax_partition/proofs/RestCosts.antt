@@ -6,7 +6,7 @@ use Rattle.wax_token.specs.Syntax.{Tree, leaf, alternation, concatenation, repet
 use Rattle.wax_token.specs.Syntax.{literal, class, separator, one, zero_or_more, tree}
 use Rattle.wax_token.specs.Words.{members}
 use Rattle.wax_facts.specs.Prefix.{opened}
-use Rattle.wax_facts.specs.Rest.{after, begins_with_tree, entered, inner, inner_last, left, or_here, owner, rest, unrooted}
+use Rattle.wax_facts.specs.Rest.{after, begins_with_tree, entered, inner_cut, inner_last, left, or_here, owner, rest, unrooted}
 use Rattle.wax_partition.specs.Shifted.{shifted_tree, shifted_each, shifted_rest}
 use Rattle.wax_partition.proofs.RestMeans.{rest_same}
 
@@ -64,12 +64,12 @@ body_costs t most c = elim (holds_tree t) as (λ b. copies_of 1 (Some 1) b * (co
 ] c
 
 mutual
-  inner_costs : (most : ℕ) (t : Tree Span) → cost t ≤ most → (n : ℕ) → CheapOwner most (inner t n)
+  inner_costs : (most : ℕ) (t : Tree Span) → cost t ≤ most → (n : ℕ) → CheapOwner most (inner_cut t n)
   inner_costs most (leaf a l) c n = tt
   inner_costs most (alternation a none) c n = tt
   inner_costs most (alternation a (more t none)) c n =
       let d : cost t ≤ most = omega (arith, c) in
-      into most n (begins_with_tree (opened t)) (or_here (t, n) (inner t n)) (here most (inner t n) t n d (inner_costs most t d n))
+      into most n (begins_with_tree (opened t)) (or_here (t, n) (inner_cut t n)) (here most (inner_cut t n) t n d (inner_costs most t d n))
   inner_costs most (alternation a (more t (more u us))) c n = tt
   inner_costs most (concatenation a ts) c n = last_costs most ts c n
   inner_costs most (repetition a t zero high) c n = tt
@@ -77,7 +77,7 @@ mutual
   inner_costs most (repetition a t (suc zero) (Some zero)) c n = tt
   inner_costs most (repetition a t (suc zero) (Some (suc zero))) c n =
       let d : cost t ≤ most = body_costs t most c in
-      into most n (begins_with_tree (opened t)) (or_here (t, n) (inner t n)) (here most (inner t n) t n d (inner_costs most t d n))
+      into most n (begins_with_tree (opened t)) (or_here (t, n) (inner_cut t n)) (here most (inner_cut t n) t n d (inner_costs most t d n))
   inner_costs most (repetition a t (suc zero) (Some (suc (suc m)))) c n = tt
   inner_costs most (repetition a t (suc (suc low)) high) c n = tt
 
@@ -113,5 +113,5 @@ unrooted_cost (more (repetition a t low high) ts) = refl
 pub left_costs : (t : Tree Span) (n : ℕ) → costs (rest t n) ≤ cost t
 left_costs t n =
     let o : Tree Span × ℕ = owner t n in
-    let c : cost (owner t n).0 ≤ cost t = here (cost t) (inner t n) t n (omega arith) (inner_costs (cost t) t (omega arith) n) in
+    let c : cost (owner t n).0 ≤ cost t = here (cost t) (inner_cut t n) t n (omega arith) (inner_costs (cost t) t (omega arith) n) in
     omega (arith, unrooted_cost (left t n), after_costs (owner t n).1 (members (owner t n).0), members_cost (owner t n).0, c)

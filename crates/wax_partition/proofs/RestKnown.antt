@@ -13,7 +13,7 @@ use Rattle.wax_facts.specs.Prefix.{IsRooted, opened}
 use Rattle.wax_facts.specs.Rest.{left, rest, unrooted}
 use Rattle.wax_facts.proofs.Partitions.{partition_branch, partition_orderly, partition_rest, partition_split, partition_whole}
 use Rattle.wax_facts.proofs.RestOrderly.{unrooted_some}
-use Rattle.wax_partition.specs.Partition.{IsPartition, rest_glob, rest_text, spelled}
+use Rattle.wax_partition.specs.Partition.{IsPartition, rest_glob, rest_text, spelled_rest}
 use Rattle.wax_partition.specs.Shifted.{shifted_rest}
 use Rattle.wax_partition.proofs.RestCosts.{left_costs, rest_costs}
 use Rattle.wax_partition.proofs.RestMeans.{rest_means, rest_orderly}
@@ -55,23 +55,23 @@ glob_costs end most none h = tt
 glob_costs end most (more t ts) h = h
 
 module _ (e : List ℕ) (t : Tree Span) (p : List ℕ) where
-  in_place : (o : Option (Tokenized Span)) → (k : IsPartition e t p (spelled o)) → IsInPlace t p (rest_in_place t k.0)
+  in_place : (o : Option (Tokenized Span)) → (k : IsPartition e t p (spelled_rest o)) → IsInPlace t p (rest_in_place t k.0)
   in_place o k = (k.0, k.1, λ w. refl)
 
-  carried : (P : Tree Span → Type 0) → Carries P → (u : Tokenized Span) → (k : IsPartition e t p (spelled (Some u))) → Flat t →
+  carried : (P : Tree Span → Type 0) → Carries P → (u : Tokenized Span) → (k : IsPartition e t p (spelled_rest (Some u))) → Flat t →
       IfSome (rest_in_place t k.0) P → P u.token
   carried P f u k w h =
       let a : List ℕ × Tree Span = (chars (cow_str_bytes u.expression), u.token) in
       glob_carried P f e (rest_end t k.0) (rest_end t k.0) (left t k.0) a (k.2 w) h
 
-  pub parts_rest : (o : Option (Tokenized Span)) → IsPartition e t p (spelled o) →
+  pub parts_rest : (o : Option (Tokenized Span)) → IsPartition e t p (spelled_rest o) →
       IfSome o (λ u. Orderly t → BeginsPlainly t → MeansAfter t p u.token)
   parts_rest None k = tt
   parts_rest (Some u) k = λ w.
       carried _ (means_carried (λ M. Orderly t → BeginsPlainly t → (s : List ℕ) → M s ↔ Means t false false (path p s))) u k w.1
       (partition_rest t p (rest_in_place t k.0) (in_place (Some u) k)) w
 
-  pub parts_split : (o : Option (Tokenized Span)) → IsPartition e t p (spelled o) →
+  pub parts_split : (o : Option (Tokenized Span)) → IsPartition e t p (spelled_rest o) →
       IfSome o (λ u. Orderly t → BeginsPlainly t → SplitsAll t p u.token)
   parts_split None k = tt
   parts_split (Some u) k = λ w.
@@ -79,26 +79,26 @@ module _ (e : List ℕ) (t : Tree Span) (p : List ℕ) where
       (s ≡ p) ⊎ ((r : List ℕ) × (s ≡ path p r) × M r))) u k w.1
       (partition_split t p (rest_in_place t k.0) (in_place (Some u) k)) w
 
-  pub parts_branch : (o : Option (Tokenized Span)) → IsPartition e t p (spelled o) →
+  pub parts_branch : (o : Option (Tokenized Span)) → IsPartition e t p (spelled_rest o) →
       IfSome o (λ u. Full t → Flat t → IsRooted (opened t) → begins_with_leaf (opened t) ≡ false → (s : List ℕ) → Means u.token false false s ↔ Means t false false s)
   parts_branch None k = tt
   parts_branch (Some u) k = λ w v.
       carried _ (means_carried (λ M. Full t → Flat t → IsRooted (opened t) → begins_with_leaf (opened t) ≡ false → (s : List ℕ) → M s ↔ Means t false false s)) u k v
       (partition_branch t p (rest_in_place t k.0) (in_place (Some u) k)) w v
 
-  pub parts_whole : (o : Option (Tokenized Span)) → IsPartition e t p (spelled o) →
+  pub parts_whole : (o : Option (Tokenized Span)) → IsPartition e t p (spelled_rest o) →
       MatchOption o (Full t → Flat t → (s : List ℕ) → Means t false false s ↔ (s ≡ p)) (λ _. Unit {0})
   parts_whole None k =
       partition_whole t p None (k.0, k.1, λ w. none_carried e (rest_end t k.0) (rest_end t k.0) (left t k.0) (k.2 w))
   parts_whole (Some u) k = tt
 
-  pub parts_orderly : (o : Option (Tokenized Span)) → IsPartition e t p (spelled o) → IfSome o (λ u. Orderly t → Orderly u.token)
+  pub parts_orderly : (o : Option (Tokenized Span)) → IsPartition e t p (spelled_rest o) → IfSome o (λ u. Orderly t → Orderly u.token)
   parts_orderly None k = tt
   parts_orderly (Some u) k = λ w.
       carried (λ v. Orderly t → Orderly v) (λ r s ts h x. orderly_carried r s ts (h x)) u k w.1
       (partition_orderly t p (rest_in_place t k.0) (in_place (Some u) k)) w
 
-  pub parts_fits : (o : Option (Tokenized Span)) → IsPartition e t p (spelled o) →
+  pub parts_fits : (o : Option (Tokenized Span)) → IsPartition e t p (spelled_rest o) →
       IfSome o (λ u. Flat t → program_length u.token ≤ program_length t)
   parts_fits None k = tt
   parts_fits (Some u) k = λ w.

@@ -3,7 +3,7 @@ use Rattle.std.proofs.Common.{◌≡◌, ℕ, Bool, true, false, ◌||◌, refl}
 use Rattle.wax_token.specs.Reads.{Span}
 use Rattle.wax_token.specs.Syntax.{Leaf, Tree, leaf, alternation, concatenation, repetition, Trees, none, more}
 use Rattle.wax_rule.specs.Rules.{are_incompatible}
-use Rattle.wax_rule.specs.Situated.{starts_in, some_starts_in, first_starts_in, ends_in, some_ends_in, last_ends_in}
+use Rattle.wax_rule.specs.Situated.{starts_with_leaf, some_starts_in, first_starts_in, ends_in, some_ends_in, last_ends_in}
 use Rattle.wax_token.specs.Kinds.{is_boundary_leaf}
 use Rattle.wax_facts.specs.Orderly.{Apart, ApartEach, ApartSome, Flat, FlatEach, FlatSome, Full, FullEach, IsSome, Orderly, Worded, WordedEach, is_token}
 use Rattle.wax_partition.specs.Shifted.{shifted_tree, shifted_each}
@@ -57,7 +57,7 @@ module _ (k : ℕ) where
     worded_each (more t ts) = λ i. worded_here t i × worded_each ts i
 
   mutual
-    starts_here : (such : Leaf → Bool) (t : Tree Span) → starts_in such (shifted_tree k t) ≡ starts_in such t
+    starts_here : (such : Leaf → Bool) (t : Tree Span) → starts_with_leaf such (shifted_tree k t) ≡ starts_with_leaf such t
     starts_here such (leaf a l) = refl
     starts_here such (alternation a ts) = starts_some such ts
     starts_here such (concatenation a ts) = starts_first such ts

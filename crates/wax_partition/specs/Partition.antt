@@ -32,6 +32,6 @@ IsPartition e t p rest =
     (n : ℕ) × Prefix t n p × (Flat t → rest ≡ rest_glob e (rest_end t n) (left t n))
 
 -- an expression's characters, and its token
-abbrev pub spelled : Option (Tokenized Span) → Option (List ℕ × Tree Span)
-spelled None = None
-spelled (Some u) = Some (chars (cow_str_bytes u.expression), u.token)
+abbrev pub spelled_rest : Option (Tokenized Span) → Option (List ℕ × Tree Span)
+spelled_rest None = None
+spelled_rest (Some u) = Some (chars (cow_str_bytes u.expression), u.token)

@@ -4,7 +4,7 @@ ghost use Rattle.std.specs.Cow.{cow_str_bytes};
 ghost use Rattle.std.specs.Option.{option_map};
 ghost use Rattle.wax_token.specs.Reads.{Span};
 ghost use Rattle.wax_token.specs.declared.token.Tokenized.{Tokenized};
-ghost use Rattle.wax_partition.specs.Partition.{IsPartition, spelled};
+ghost use Rattle.wax_partition.specs.Partition.{IsPartition, spelled_rest};
 
 use crate::parts::partition;
 use std::alloc::Global;
@@ -22,7 +22,7 @@ pub trait Partitioned: Sized {
     /// the expression and of the tokens' texts.
     fn partition(self, alloc: Global) -> Result<(String, Option<Self>), NoMemory>
         ensures { IfOk result (λ r. IsPartition (chars (cow_str_bytes (whole self).expression))
-            (whole self).token (chars (string_bytes r.0)) (spelled (option_map whole r.1))) };
+            (whole self).token (chars (string_bytes r.0)) (spelled_rest (option_map whole r.1))) };
 }
 
 impl<'t> Partitioned for Tokenized<'t, ExpressionMetadata> {

@@ -9,7 +9,7 @@ ghost use Rattle.wax_facts.specs.Joined.{begins_with_leaf};
 ghost use Rattle.wax_facts.specs.Orderly.{Flat, Full, Orderly};
 ghost use Rattle.wax_facts.specs.Partition.{BeginsPlainly, MeansAfter, SplitsAll};
 ghost use Rattle.wax_facts.specs.Prefix.{IsRooted, opened};
-ghost use Rattle.wax_partition.specs.Partition.{IsPartition, rest_glob, rest_text, spelled};
+ghost use Rattle.wax_partition.specs.Partition.{IsPartition, rest_glob, rest_text, spelled_rest};
 ghost use Rattle.wax_partition.specs.Shifted.{shifted_rest};
 
 use crate::kept::{between, without_slash};
@@ -32,7 +32,7 @@ pub fn partition<'t>(
     tokenized: Tokenized<'t, ExpressionMetadata>,
 ) -> Result<(String, Option<Tokenized<'t, ExpressionMetadata>>), NoMemory>
     ensures parts { IfOk result (λ r. IsPartition (chars (cow_str_bytes tokenized.entry.expression))
-        tokenized.entry.token (chars (string_bytes r.0)) (spelled r.1)) }
+        tokenized.entry.token (chars (string_bytes r.0)) (spelled_rest r.1)) }
     ensures rest { IfOk result (λ r. IfSome r.1 (λ u. Orderly tokenized.entry.token
         → BeginsPlainly tokenized.entry.token
         → MeansAfter tokenized.entry.token (chars (string_bytes r.0)) u.token)) }
@@ -62,7 +62,7 @@ fn parts<'t>(
     token: Token<'t, ExpressionMetadata>,
 ) -> Result<(String, Option<Tokenized<'t, ExpressionMetadata>>), NoMemory>
     ensures { IfOk result (λ r. IsPartition (chars (cow_str_bytes expression.entry)) token.entry
-        (chars (string_bytes r.0)) (spelled r.1)) }
+        (chars (string_bytes r.0)) (spelled_rest r.1)) }
 {
     let (prefix, tokens, end) = split_tokens(alloc, token)?;
     Ok((prefix, cut_out(alloc, expression.as_str(), end, tokens)?))
@@ -76,7 +76,7 @@ fn cut_out<'t>(
     tokens: Vec<Token<'t, ExpressionMetadata>>,
 ) -> Result<Option<Tokenized<'t, ExpressionMetadata>>, NoMemory>
     ensures { IfOk result (λ u.
-        spelled u ≡ rest_glob (chars expression.now) end (trees tokens.entry.items)) }
+        spelled_rest u ≡ rest_glob (chars expression.now) end (trees tokens.entry.items)) }
 {
     let Some(first) = tokens.first() else {
         return Ok(None);

@@ -12,7 +12,8 @@ use Rattle.wax_prefilter.specs.Facts.{StandsAt, HoldsOne}
 use Rattle.wax_prefilter.specs.Known.{CanBeAfter, AllHold, MeantHold}
 use Rattle.wax_prefilter.specs.declared.needle.Place.{Place}
 use Rattle.wax_prefilter.specs.declared.needle.Place.TheVariants.{Beginning, End, Anywhere}
-use Rattle.wax_token.specs.Meaning.{Begins, Means, MeansEach, SameText, TreeMeans}
+use Rattle.wax_query.specs.Components.{BeginsWithSlash}
+use Rattle.wax_token.specs.Meaning.{Means, MeansEach, SameText, TreeMeans}
 use Rattle.wax_token.specs.Reads.{Span}
 use Rattle.wax_token.specs.Syntax.{Tree, Trees}
 use Rattle.wax_token.specs.Words.{trees}
@@ -67,10 +68,10 @@ same_slash text e = subst (λ t. SameText false t text) (sym chars_slash) (subst
 -- a rooted tree wildcard with nothing before it
 pub slash_begins : (after : Bool) (text : List ℕ) → TreeMeans false after true text → StandsAt Beginning (false, chars (47 ∷ [])) text
 slash_begins after text h =
-    let b : Begins text = rooted after h in
+    let b : BeginsWithSlash text = rooted after h in
     (47 ∷ [], b.0, b.1, same_slash (47 ∷ []) refl)
   where
-    rooted : (after : Bool) → TreeMeans false after true text → Begins text
+    rooted : (after : Bool) → TreeMeans false after true text → BeginsWithSlash text
     rooted true h = h.0
     rooted false h = h
 

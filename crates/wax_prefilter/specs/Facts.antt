@@ -32,5 +32,5 @@ abbrev pub HoldsEach : List FactView → List ℕ → Type 0
 HoldsEach facts text = All (λ fact. HoldsOne fact.0 fact.1 text) facts
 
 -- it is long enough, and holds one of each
-abbrev pub Passes : PrefilterView → List ℕ → Type 0
-Passes prefilter text = (prefilter.0 ≤ length text) × HoldsEach prefilter.1 text
+abbrev pub PassesFacts : PrefilterView → List ℕ → Type 0
+PassesFacts prefilter text = (prefilter.0 ≤ length text) × HoldsEach prefilter.1 text

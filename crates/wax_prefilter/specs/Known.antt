@@ -2,7 +2,7 @@
 use Rattle.std.specs.Prelude.{◌≡◌, ◌≤◌, ℕ, Bool, false, List, length}
 use Rattle.wax_token.specs.Meaning.{MeansEach}
 use Rattle.wax_token.specs.Syntax.{Trees}
-use Rattle.wax_prefilter.specs.Facts.{NeedleView, FactView, PrefilterView, StandsAt, HoldsOne, HoldsEach, Passes}
+use Rattle.wax_prefilter.specs.Facts.{NeedleView, FactView, PrefilterView, StandsAt, HoldsOne, HoldsEach, PassesFacts}
 use Rattle.wax_prefilter.specs.declared.needle.Place.{Place}
 use Rattle.wax_prefilter.specs.declared.needle.Place.TheVariants.{Beginning, End, Anywhere}
 
@@ -34,4 +34,4 @@ MeantHold tokens facts = (text : List ℕ) → MeansEach tokens false false text
 
 -- each such text passes
 abbrev pub MeantPass : {A : Type 0} → Trees A → PrefilterView → Type 0
-MeantPass tokens prefilter = (text : List ℕ) → MeansEach tokens false false text → Passes prefilter text
+MeantPass tokens prefilter = (text : List ℕ) → MeansEach tokens false false text → PassesFacts prefilter text

@@ -1,7 +1,7 @@
 //! What is looked at in a text before it is matched.
 ghost use Rattle.std.specs.Prelude.{◌≡◌, ℕ, List, [], ◌∷◌, ◌++◌, IsTrue, IfOk, OnOk, chars};
 ghost use Rattle.wax_token.specs.Words.{trees};
-ghost use Rattle.wax_prefilter.specs.Facts.{HoldsOne, Passes};
+ghost use Rattle.wax_prefilter.specs.Facts.{HoldsOne, PassesFacts};
 ghost use Rattle.wax_prefilter.specs.Known.{MeantPass};
 
 use crate::facts::all_facts;
@@ -84,7 +84,7 @@ impl Prefilter {
     /// Whether the text may be meant. It takes no memory, and time of the order of the text for each fact and
     /// each of its texts.
     pub fn may_match(&self, text: &str) -> bool
-        ensures { Passes self.now (chars text.now) → IsTrue result }
+        ensures { PassesFacts self.now (chars text.now) → IsTrue result }
     {
         if text.len() < self.least {
             return false;

@@ -7,8 +7,8 @@ use Rattle.std.proofs.Math.Nat.{mul-le-mul_left, mul-le-mul_right}
 use Rattle.wax_program.specs.declared.instruction.Test.{Test}
 use Rattle.wax_program.specs.declared.instruction.Instruction.{Instruction}
 use Rattle.wax_program.specs.declared.instruction.Instruction.TheVariants.{Check, Repeat, Components, Fork, Jump, Back}
-use Rattle.wax_program.specs.Machine.{Passes, Moves, AcceptsIn, Accepts}
-use Rattle.wax_program.specs.Threads.{Has, IsDone, IsEmpty, Position, Reached, Taken, Inserted, InsertedNext, AnyOf, Led, Handled, Followed, Round, Advances, Stays, members}
+use Rattle.wax_program.specs.Machine.{PassesTest, Moves, AcceptsIn, Accepts}
+use Rattle.wax_program.specs.Threads.{HoldsPlace, IsDone, IsEmpty, Position, IsReached, Taken, Inserted, InsertedNext, AnyOf, Led, Handled, Followed, Round, Advances, Stays, member_count}
 use Rattle.wax_program.proofs.Sets.{members_some}
 use Rattle.wax_program.proofs.Steps.{after_test, after_last, after_one, after_any, after_slash, after_fork, after_jump, after_back}
 
@@ -19,13 +19,13 @@ some_same e = cc
 handled_as : (code : List Instruction) (c k : ℕ) (p : Position) (i : Instruction) → slice_get code k ≡ Some i → Led i c k p → Handled code c p k
 handled_as code c k p i is led j js = subst (λ z. Led z c k p) (some_same (sym is ∙ js)) led
 
-inserted_reached : (p q : Position) (at x : ℕ) → Inserted p q at → Reached p x → Reached q x
+inserted_reached : (p q : Position) (at x : ℕ) → Inserted p q at → IsReached p x → IsReached q x
 inserted_reached p q at x g (inl h) = inl (g.keeps x h)
-inserted_reached p q at x g (inr h) = inr (subst (λ z. Has z x) (sym g.read) h)
+inserted_reached p q at x g (inr h) = inr (subst (λ z. HoldsPlace z x) (sym g.read) h)
 
-next_reached : (p q : Position) (at x : ℕ) → InsertedNext p q at → Reached p x → Reached q x
-next_reached p q at x g (inl h) = inl (subst (λ z. Has z x) (sym g.pending) h)
-next_reached p q at x g (inr h) = inr (subst (λ z. Has z x) (sym g.read) h)
+next_reached : (p q : Position) (at x : ℕ) → InsertedNext p q at → IsReached p x → IsReached q x
+next_reached p q at x g (inl h) = inl (subst (λ z. HoldsPlace z x) (sym g.pending) h)
+next_reached p q at x g (inr h) = inr (subst (λ z. HoldsPlace z x) (sym g.read) h)
 
 module _ (code : List Instruction) (c k : ℕ) (old new : Position) where
   pub followed_fork : (n : ℕ) (mid : Position) → slice_get code k ≡ Some (Fork n) → Inserted old mid (k + 1) → Inserted mid new (k + 1 + n) → Followed code c k old new
@@ -37,7 +37,7 @@ module _ (code : List Instruction) (c k : ℕ) (old new : Position) where
       (λ lt. h.adds (omega (arith, lt, h.size))),
     );
     keeps = λ x e. h.keeps x (g.keeps x e);
-    keeps_next = λ x e. subst (λ z. Has z x) (sym (h.next ∙ g.next)) e;
+    keeps_next = λ x e. subst (λ z. HoldsPlace z x) (sym (h.next ∙ g.next)) e;
     only = λ x e. elim (h.only x e) [
       | inl m ↦ elim (g.only x m) [
         | inl o ↦ inl o
@@ -45,7 +45,7 @@ module _ (code : List Instruction) (c k : ℕ) (old new : Position) where
       ]
       | inr same ↦ inr (λ s a. after_fork n code k s is (inr (subst (λ z. Accepts code z s) same a)))
     ];
-    only_next = λ x e. inl (subst (λ z. Has z x) (h.next ∙ g.next) e);
+    only_next = λ x e. inl (subst (λ z. HoldsPlace z x) (h.next ∙ g.next) e);
   }
 
   pub followed_jump : (n : ℕ) → slice_get code k ≡ Some (Jump n) → Inserted old new (k + 1 + n) → Followed code c k old new
@@ -54,9 +54,9 @@ module _ (code : List Instruction) (c k : ℕ) (old new : Position) where
     read = g.read;
     handled = handled_as code c k new (Jump n) is (λ lt. g.adds (omega (arith, lt, g.size)));
     keeps = g.keeps;
-    keeps_next = λ x e. subst (λ z. Has z x) (sym g.next) e;
+    keeps_next = λ x e. subst (λ z. HoldsPlace z x) (sym g.next) e;
     only = λ x e. elim (g.only x e) [ inl o ↦ inl o | inr same ↦ inr (λ s a. after_jump n code k s is (subst (λ z. Accepts code z s) same a)) ];
-    only_next = λ x e. inl (subst (λ z. Has z x) g.next e);
+    only_next = λ x e. inl (subst (λ z. HoldsPlace z x) g.next e);
   }
 
   pub followed_back : (n : ℕ) → slice_get code k ≡ Some (Back n) → Inserted old new (k - n) → Followed code c k old new
@@ -65,23 +65,23 @@ module _ (code : List Instruction) (c k : ℕ) (old new : Position) where
     read = g.read;
     handled = handled_as code c k new (Back n) is (λ lt. g.adds (omega (arith, lt, g.size)));
     keeps = g.keeps;
-    keeps_next = λ x e. subst (λ z. Has z x) (sym g.next) e;
+    keeps_next = λ x e. subst (λ z. HoldsPlace z x) (sym g.next) e;
     only = λ x e. elim (g.only x e) [ inl o ↦ inl o | inr same ↦ inr (λ s a. after_back n code k s is (subst (λ z. Accepts code z s) same a)) ];
-    only_next = λ x e. inl (subst (λ z. Has z x) g.next e);
+    only_next = λ x e. inl (subst (λ z. HoldsPlace z x) g.next e);
   }
 
-  pub followed_pass : (t : Test) → slice_get code k ≡ Some (Check t) → Passes t c → InsertedNext old new (k + 1) → Followed code c k old new
+  pub followed_pass : (t : Test) → slice_get code k ≡ Some (Check t) → PassesTest t c → InsertedNext old new (k + 1) → Followed code c k old new
   followed_pass t is p g = record {
     size = g.size;
     read = g.read;
     handled = handled_as code c k new (Check t) is (λ q lt. g.adds (omega (arith, lt, g.size)));
-    keeps = λ x e. subst (λ z. Has z x) (sym g.pending) e;
+    keeps = λ x e. subst (λ z. HoldsPlace z x) (sym g.pending) e;
     keeps_next = g.keeps;
-    only = λ x e. inl (subst (λ z. Has z x) g.pending e);
+    only = λ x e. inl (subst (λ z. HoldsPlace z x) g.pending e);
     only_next = λ x e. elim (g.only x e) [ inl o ↦ inl o | inr same ↦ inr (λ s a. after_test t code k c s is p (subst (λ z. Accepts code z s) same a)) ];
   }
 
-  pub followed_more : (t : Test) (mid : Position) → slice_get code k ≡ Some (Repeat t) → Passes t c → Inserted old mid (k + 1) → InsertedNext mid new k → Followed code c k old new
+  pub followed_more : (t : Test) (mid : Position) → slice_get code k ≡ Some (Repeat t) → PassesTest t c → Inserted old mid (k + 1) → InsertedNext mid new k → Followed code c k old new
   followed_more t mid is p g h = record {
     size = h.size ∙ g.size;
     read = h.read ∙ g.read;
@@ -89,27 +89,27 @@ module _ (code : List Instruction) (c k : ℕ) (old new : Position) where
       (λ lt. next_reached mid new k (k + 1) h (g.adds (omega (arith, lt, h.size, g.size)))),
       (λ q lt. h.adds (omega (arith, lt, h.size))),
     );
-    keeps = λ x e. subst (λ z. Has z x) (sym h.pending) (g.keeps x e);
-    keeps_next = λ x e. h.keeps x (subst (λ z. Has z x) (sym g.next) e);
-    only = λ x e. elim (g.only x (subst (λ z. Has z x) h.pending e)) [
+    keeps = λ x e. subst (λ z. HoldsPlace z x) (sym h.pending) (g.keeps x e);
+    keeps_next = λ x e. h.keeps x (subst (λ z. HoldsPlace z x) (sym g.next) e);
+    only = λ x e. elim (g.only x (subst (λ z. HoldsPlace z x) h.pending e)) [
       | inl o ↦ inl o
       | inr same ↦ inr (λ s a. after_last t code k s is (subst (λ z. Accepts code z s) same a))
     ];
     only_next = λ x e. elim (h.only x e) [
-      | inl m ↦ inl (subst (λ z. Has z x) g.next m)
+      | inl m ↦ inl (subst (λ z. HoldsPlace z x) g.next m)
       | inr same ↦ inr (λ s a. after_one t code k c s is p (subst (λ z. Accepts code z s) same a))
     ];
   }
 
-  pub followed_last : (t : Test) → slice_get code k ≡ Some (Repeat t) → (Passes t c → ⊥) → Inserted old new (k + 1) → Followed code c k old new
+  pub followed_last : (t : Test) → slice_get code k ≡ Some (Repeat t) → (PassesTest t c → ⊥) → Inserted old new (k + 1) → Followed code c k old new
   followed_last t is p g = record {
     size = g.size;
     read = g.read;
     handled = handled_as code c k new (Repeat t) is ((λ lt. g.adds (omega (arith, lt, g.size))), (λ q lt. absurd (p q)));
     keeps = g.keeps;
-    keeps_next = λ x e. subst (λ z. Has z x) (sym g.next) e;
+    keeps_next = λ x e. subst (λ z. HoldsPlace z x) (sym g.next) e;
     only = λ x e. elim (g.only x e) [ inl o ↦ inl o | inr same ↦ inr (λ s a. after_last t code k s is (subst (λ z. Accepts code z s) same a)) ];
-    only_next = λ x e. inl (subst (λ z. Has z x) g.next e);
+    only_next = λ x e. inl (subst (λ z. HoldsPlace z x) g.next e);
   }
 
   pub followed_any : slice_get code k ≡ Some Components → (c ≡ 47 → ⊥) → InsertedNext old new k → Followed code c k old new
@@ -117,9 +117,9 @@ module _ (code : List Instruction) (c k : ℕ) (old new : Position) where
     size = g.size;
     read = g.read;
     handled = handled_as code c k new Components is ((λ lt. g.adds (omega (arith, lt, g.size))), (λ q lt. absurd (p q)));
-    keeps = λ x e. subst (λ z. Has z x) (sym g.pending) e;
+    keeps = λ x e. subst (λ z. HoldsPlace z x) (sym g.pending) e;
     keeps_next = g.keeps;
-    only = λ x e. inl (subst (λ z. Has z x) g.pending e);
+    only = λ x e. inl (subst (λ z. HoldsPlace z x) g.pending e);
     only_next = λ x e. elim (g.only x e) [ inl o ↦ inl o | inr same ↦ inr (λ s a. after_any code k c s is (subst (λ z. Accepts code z s) same a)) ];
   }
 
@@ -131,9 +131,9 @@ module _ (code : List Instruction) (c k : ℕ) (old new : Position) where
       (λ lt. h.keeps k (g.adds (omega (arith, lt, h.size, g.size)))),
       (λ q lt. h.adds (omega (arith, lt, h.size))),
     );
-    keeps = λ x e. subst (λ z. Has z x) (sym (h.pending ∙ g.pending)) e;
+    keeps = λ x e. subst (λ z. HoldsPlace z x) (sym (h.pending ∙ g.pending)) e;
     keeps_next = λ x e. h.keeps x (g.keeps x e);
-    only = λ x e. inl (subst (λ z. Has z x) (h.pending ∙ g.pending) e);
+    only = λ x e. inl (subst (λ z. HoldsPlace z x) (h.pending ∙ g.pending) e);
     only_next = λ x e. elim (h.only x e) [
       | inl m ↦ elim (g.only x m) [
         | inl o ↦ inl o
@@ -144,7 +144,7 @@ module _ (code : List Instruction) (c k : ℕ) (old new : Position) where
   }
 
 -- ---- one step of a round
-led_later : (i : Instruction) (c k : ℕ) (p q : Position) → q.size ≡ p.size → ((x : ℕ) → Reached p x → Reached q x) → ((x : ℕ) → Has p.next x → Has q.next x) →
+led_later : (i : Instruction) (c k : ℕ) (p q : Position) → q.size ≡ p.size → ((x : ℕ) → IsReached p x → IsReached q x) → ((x : ℕ) → HoldsPlace p.next x → HoldsPlace q.next x) →
     Led i c k p → Led i c k q
 led_later (Check t) c k p q e f g h = λ a lt. g (k + 1) (h a (omega (arith, lt, e)))
 led_later (Repeat t) c k p q e f g h = ((λ lt. f (k + 1) (h.0 (omega (arith, lt, e)))), (λ a lt. g k (h.1 a (omega (arith, lt, e)))))
@@ -170,18 +170,18 @@ module _ (code : List Instruction) (c : ℕ) where
 
 module _ (code : List Instruction) (c : ℕ) (old : List Bool) where
   module _ (p q r : Position) (k : ℕ) (t : Taken p q k) (f : Followed code c k q r) where
-    step_reached : (x : ℕ) → Reached p x → Reached r x
+    step_reached : (x : ℕ) → IsReached p x → IsReached r x
     step_reached x (inl h) = elim (t.others x h) [
       | inl m ↦ inl (f.keeps x m)
-      | inr same ↦ inr (subst (λ z. Has z x) (sym f.read) (subst (Has q.read) (sym same) t.reads))
+      | inr same ↦ inr (subst (λ z. HoldsPlace z x) (sym f.read) (subst (HoldsPlace q.read) (sym same) t.reads))
     ]
-    step_reached x (inr h) = inr (subst (λ z. Has z x) (sym f.read) (t.keeps x h))
+    step_reached x (inr h) = inr (subst (λ z. HoldsPlace z x) (sym f.read) (t.keeps x h))
 
-    step_next : (x : ℕ) → Has p.next x → Has r.next x
-    step_next x h = f.keeps_next x (subst (λ z. Has z x) (sym t.next) h)
+    step_next : (x : ℕ) → HoldsPlace p.next x → HoldsPlace r.next x
+    step_next x h = f.keeps_next x (subst (λ z. HoldsPlace z x) (sym t.next) h)
 
-    step_read : (x : ℕ) → Has r.read x → Has p.read x ⊎ (x ≡ k)
-    step_read x h = t.only x (subst (λ z. Has z x) f.read h)
+    step_read : (x : ℕ) → HoldsPlace r.read x → HoldsPlace p.read x ⊎ (x ≡ k)
+    step_read x h = t.only x (subst (λ z. HoldsPlace z x) f.read h)
 
     pub round_step : Round code c old p → Round code c old r
     round_step d = record {
@@ -205,25 +205,25 @@ module _ (code : List Instruction) (c : ℕ) (old : List Bool) where
         ]
       ];
       no_more_next = λ x h s a. elim (f.only_next x h) [
-        | inl m ↦ d.no_more_next x (subst (λ z. Has z x) t.next m) s a
+        | inl m ↦ d.no_more_next x (subst (λ z. HoldsPlace z x) t.next m) s a
         | inr from ↦ d.no_more k (inl t.held) (c ∷ s) (from s a)
       ];
     }
 
   -- nothing is left to be read
   module _ (p : Position) (sized : p.size ≡ length code) (done : IsDone p) (d : Round code c old p) where
-    pub was_read : (x : ℕ) → Reached p x → x < length code → Has p.read x
+    pub was_read : (x : ℕ) → IsReached p x → x < length code → HoldsPlace p.read x
     was_read x (inl h) lt = absurd (omega (arith, done x h, lt, sized))
     was_read x (inr h) lt = h
 
-    pub read_one : (k : ℕ) → Has old k → k < length code → 1 ≤ members p.read
+    pub read_one : (k : ℕ) → HoldsPlace old k → k < length code → 1 ≤ member_count p.read
     read_one k h lt = members_some p.read k (was_read k (d.begins k h) lt)
 
     below : (n k : ℕ) (s : List ℕ) → AcceptsIn code n k s → k ≤ p.size
     below n k s a = omega (arith, in_range code n k s a, sized)
 
     goes : (n k : ℕ) (s : List ℕ) (i : Instruction) → Led i c k p → Moves i (AcceptsIn code n) k (c ∷ s) →
-        ((x : ℕ) → Reached p x → AcceptsIn code n x (c ∷ s) → AnyOf code p.next s) → AnyOf code p.next s
+        ((x : ℕ) → IsReached p x → AcceptsIn code n x (c ∷ s) → AnyOf code p.next s) → AnyOf code p.next s
     goes n k s (Check t) led m again = (k + 1, led m.0 (below n (k + 1) s m.1), (n, m.1))
     goes n k s (Repeat t) led (inl m) again = again (k + 1) (led.0 (below n (k + 1) (c ∷ s) m)) m
     goes n k s (Repeat t) led (inr m) again = (k, led.1 m.0 (below n k s m.1), (n, m.1))
@@ -237,7 +237,7 @@ module _ (code : List Instruction) (c : ℕ) (old : List Bool) where
     cons_nil : {b : ℕ} {t : List ℕ} → b ∷ t ≡ [] → ⊥
     cons_nil e = cc
 
-    reaches : (n k : ℕ) (s : List ℕ) → Reached p k → AcceptsIn code n k (c ∷ s) → AnyOf code p.next s
+    reaches : (n k : ℕ) (s : List ℕ) → IsReached p k → AcceptsIn code n k (c ∷ s) → AnyOf code p.next s
     reaches zero k s h a = absurd a
     reaches (suc n) k s h (inl a) = absurd (cons_nil a.1)
     reaches (suc n) k s h (inr a) = goes n k s a.0 (d.handled k (was_read k h (slice_get_within code k a.0 a.1)) a.0 a.1) a.2 (λ x g b. reaches n x s g b)
@@ -248,12 +248,12 @@ module _ (code : List Instruction) (c : ℕ) (old : List Bool) where
       backward = λ s h. d.no_more_next h.0 h.1 s h.2;
     }
 
-    pub round_accepts : Has p.pending p.size → AnyOf code old []
+    pub round_accepts : HoldsPlace p.pending p.size → AnyOf code old []
     round_accepts h = d.no_more p.size (inl h) [] (1, inl (sized, refl))
 
     -- where no character is left, only the program's end accepts
     stops : (n k : ℕ) (i : Instruction) → Led i c k p → Moves i (AcceptsIn code n) k [] →
-        ((x : ℕ) → Reached p x → AcceptsIn code n x [] → Has p.pending p.size) → Has p.pending p.size
+        ((x : ℕ) → IsReached p x → AcceptsIn code n x [] → HoldsPlace p.pending p.size) → HoldsPlace p.pending p.size
     stops n k (Check t) led m again = absurd m
     stops n k (Repeat t) led m again = again (k + 1) (led.0 (below n (k + 1) [] m)) m
     stops n k Components led m again = absurd m
@@ -262,16 +262,16 @@ module _ (code : List Instruction) (c : ℕ) (old : List Bool) where
     stops n k (Jump b) led m again = again (k + 1 + b) (led (below n (k + 1 + b) [] m)) m
     stops n k (Back b) led m again = again (k - b) (led (below n (k - b) [] m)) m
 
-    at_end : (k : ℕ) → Reached p k → k ≡ length code → Has p.pending p.size
-    at_end k (inl h) e = subst (Has p.pending) (e ∙ sym sized) h
+    at_end : (k : ℕ) → IsReached p k → k ≡ length code → HoldsPlace p.pending p.size
+    at_end k (inl h) e = subst (HoldsPlace p.pending) (e ∙ sym sized) h
     at_end k (inr h) e = absurd (omega (arith, d.within k h, e, sized))
 
-    ends : (n k : ℕ) → Reached p k → AcceptsIn code n k [] → Has p.pending p.size
+    ends : (n k : ℕ) → IsReached p k → AcceptsIn code n k [] → HoldsPlace p.pending p.size
     ends zero k h a = absurd a
     ends (suc n) k h (inl a) = at_end k h a.0
     ends (suc n) k h (inr a) = stops n k a.0 (d.handled k (was_read k h (slice_get_within code k a.0 a.1)) a.0 a.1) a.2 (λ x g b. ends n x g b)
 
-    pub round_ends : AnyOf code old [] → Has p.pending p.size
+    pub round_ends : AnyOf code old [] → HoldsPlace p.pending p.size
     round_ends h = ends h.2.0 h.0 (d.begins h.0 h.1) h.2.1
 
 -- ---- the whole text
@@ -281,9 +281,9 @@ stays_start code text p q sized no_pending no_read g = record {
   backward = λ h. elim (g.only h.0 h.1) [ inl m ↦ absurd (no_pending h.0 m) | inr same ↦ subst (λ z. Accepts code z text) same h.2 ];
 }
   where
-    at_start : Reached q 0 → Has q.pending 0
+    at_start : IsReached q 0 → HoldsPlace q.pending 0
     at_start (inl h) = h
-    at_start (inr h) = absurd (no_read 0 (subst (λ z. Has z 0) g.read h))
+    at_start (inr h) = absurd (no_read 0 (subst (λ z. HoldsPlace z 0) g.read h))
 
 pub stays_step : (code : List Instruction) (text left rest : List ℕ) (set next : List Bool) (c : ℕ) → left ≡ c ∷ rest → Stays code text left set → Advances code c set next → Stays code text rest next
 stays_step code text left rest set next c e s a = record {

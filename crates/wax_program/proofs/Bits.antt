@@ -7,7 +7,7 @@ use Rattle.std.proofs.lemmas.Nat.Bits.{bit_at_set_same, bit_at_set_other, bit_at
 use Rattle.std.specs.Prelude.{bit_and, bit_or}
 use Rattle.std.specs.Int.{bit_at, bit_not, trailing_zeros}
 use Rattle.wax_program.specs.Bits.{bit_of, bits_of}
-use Rattle.wax_program.specs.Threads.{Has, IsEmpty}
+use Rattle.wax_program.specs.Threads.{HoldsPlace, IsEmpty}
 
 pub length-bits_of : (words : List ℕ) → length (bits_of words) ≡ 64 * length words
 unfolding bits_of
@@ -18,14 +18,14 @@ unfolding bits_of
 get_or-bits_of words k h = get_or-map-range_with_len (bit_of words) 0 (64 * length words) k k false h (omega arith)
 
 -- a place of a set has its bit, and lies in one of the words
-pub bit_of_has : (words : List ℕ) (k : ℕ) → Has (bits_of words) k → (k < 64 * length words) × (bit_at (get_or words (k / 64) 0) (k % 64) ≡ 1)
+pub bit_of_has : (words : List ℕ) (k : ℕ) → HoldsPlace (bits_of words) k → (k < 64 * length words) × (bit_at (get_or words (k / 64) 0) (k % 64) ≡ 1)
 bit_of_has words k h =
     elim (cases_lt k (64 * length words)) [
       | inl within ↦ (within, eqb-true _ 1 (sym (get_or-bits_of words k within) ∙ h))
       | inr past ↦ absurd (true≢false (sym h ∙ get_or_past (bits_of words) k false (omega (arith, length-bits_of words))))
     ]
 
-pub has_of_bit : (words : List ℕ) (k : ℕ) → k < 64 * length words → bit_at (get_or words (k / 64) 0) (k % 64) ≡ 1 → Has (bits_of words) k
+pub has_of_bit : (words : List ℕ) (k : ℕ) → k < 64 * length words → bit_at (get_or words (k / 64) 0) (k % 64) ≡ 1 → HoldsPlace (bits_of words) k
 has_of_bit words k within e = get_or-bits_of words k within ∙ eq-eqb _ 1 e
 
 pub empty_of_zeros : (words : List ℕ) → ((k : ℕ) → k < length words → get_or words k 0 ≡ 0) → IsEmpty (bits_of words)
@@ -91,7 +91,7 @@ module _ (words : List ℕ) (first index bits : ℕ) (low : first ≤ index) (wi
   zeros : (trailing_zeros w64 bits < 64) × (bit_at bits (trailing_zeros w64 bits) ≡ 1) × ((i : ℕ) → i < trailing_zeros w64 bits → bit_at bits i ≡ 0)
   zeros = bit_at-trailing_zeros w64 bits (omega (arith, some)) small
 
-  pub first_has : Has (bits_of words) (index * 64 + trailing_zeros w64 bits)
+  pub first_has : HoldsPlace (bits_of words) (index * 64 + trailing_zeros w64 bits)
   first_has =
       let t : ℕ = trailing_zeros w64 bits in
       let z : t < 64 = zeros.0 in
@@ -100,7 +100,7 @@ module _ (words : List ℕ) (first index bits : ℕ) (low : first ≤ index) (wi
       has_of_bit words (index * 64 + t) (omega (arith, z, within))
       (ap (λ x. bit_at (get_or words x 0) ((index * 64 + t) % 64)) q ∙ ap (λ x. bit_at (get_or words index 0) x) r ∙ ap (λ x. bit_at x t) (sym at) ∙ zeros.1)
 
-  pub first_least : (k : ℕ) → Has (bits_of words) k → 64 * first ≤ k → index * 64 + trailing_zeros w64 bits ≤ k
+  pub first_least : (k : ℕ) → HoldsPlace (bits_of words) k → 64 * first ≤ k → index * 64 + trailing_zeros w64 bits ≤ k
   first_least k h from =
       let b : (k < 64 * length words) × (bit_at (get_or words (k / 64) 0) (k % 64) ≡ 1) = bit_of_has words k h in
       elim (cases_lt k (index * 64 + trailing_zeros w64 bits)) [
@@ -117,7 +117,7 @@ module _ (words : List ℕ) (first index bits : ℕ) (low : first ≤ index) (wi
 
 -- all words from one on are 0
 pub none_from : (words : List ℕ) (first : ℕ) → ((j : ℕ) → first ≤ j → j < length words → get_or words j 0 ≡ 0)
-    → (k : ℕ) → Has (bits_of words) k → k < 64 * first
+    → (k : ℕ) → HoldsPlace (bits_of words) k → k < 64 * first
 none_from words first zeros k h =
     let b : (k < 64 * length words) × (bit_at (get_or words (k / 64) 0) (k % 64) ≡ 1) = bit_of_has words k h in
     elim (cases_lt k (64 * first)) [

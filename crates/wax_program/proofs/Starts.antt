@@ -7,14 +7,14 @@ use Rattle.std.proofs.lemmas.List.{get_or-drop}
 use Rattle.wax_program.specs.declared.instruction.Instruction.{Instruction}
 use Rattle.wax_program.specs.Ends.{Reaches}
 use Rattle.wax_program.specs.Machine.{Accepts, AcceptsIn}
-use Rattle.wax_program.specs.Threads.{Has, IsDone, Position, AnyOf}
+use Rattle.wax_program.specs.Threads.{HoldsPlace, IsDone, Position, AnyOf}
 use Rattle.wax_program.proofs.Advancing.{in_range}
 
 -- the set accepts what goes on from what lies between a flagged place and the place `at`, wherever the
 -- program accepts both together
 abbrev pub Onward : List Instruction → List ℕ → List Bool → ℕ → List Bool → Type 0
 Onward code text starts at set =
-    (n m : ℕ) → n + m ≡ at → Has starts n → (s : List ℕ) → Accepts code 0 (take m (drop n text) ++ s) → AnyOf code set s
+    (n m : ℕ) → n + m ≡ at → HoldsPlace starts n → (s : List ℕ) → Accepts code 0 (take m (drop n text) ++ s) → AnyOf code set s
 
 -- where no instruction is left, only the empty text is accepted
 module _ (code : List Instruction) (p : Position) (sized : p.size ≡ length code) (done : IsDone p) where
@@ -32,27 +32,27 @@ module _ (code : List Instruction) (p : Position) (sized : p.size ≡ length cod
       ended (suc n) k le (inl g) = cons_nil g.1
       ended (suc n) k le (inr g) = past k le (slice_get_within code k g.0 g.1)
 
-  pub done_ends : AnyOf code p.pending [] → Has p.pending p.size
+  pub done_ends : AnyOf code p.pending [] → HoldsPlace p.pending p.size
   done_ends h =
       let e : h.0 ≡ p.size = omega (arith, done h.0 h.1, in_range code h.2.0 h.0 [] h.2.1, sized) in
-      subst (Has p.pending) e h.1
+      subst (HoldsPlace p.pending) e h.1
 
 module _ (code : List Instruction) (text : List ℕ) (starts : List Bool) where
   -- with the places that begin here
   pub onward_begun : (at : ℕ) (old new : List Bool) →
-      ((n m : ℕ) → n + m ≡ at → n < at → Has starts n → (s : List ℕ) → Accepts code 0 (take m (drop n text) ++ s) → AnyOf code old s) →
-      ((k : ℕ) → Has old k → Has new k) → (Has starts at → Has new 0) → Onward code text starts at new
+      ((n m : ℕ) → n + m ≡ at → n < at → HoldsPlace starts n → (s : List ℕ) → Accepts code 0 (take m (drop n text) ++ s) → AnyOf code old s) →
+      ((k : ℕ) → HoldsPlace old k → HoldsPlace new k) → (HoldsPlace starts at → HoldsPlace new 0) → Onward code text starts at new
   onward_begun at old new before kept begun n m e h s a = elim (cases_lt n at) [
     | inl lt ↦ (let g : AnyOf code old s = before n m e lt h s a in (g.0, kept g.0 g.1, g.2))
     | inr ge ↦ (let same : n ≡ at = omega (arith, e, ge) in
         let none : m ≡ 0 = omega (arith, e, ge) in
         let b : Accepts code 0 (take 0 (drop n text) ++ s) = subst (λ k. Accepts code 0 (take k (drop n text) ++ s)) none a in
-        (0, begun (subst (Has starts) same h), b))
+        (0, begun (subst (HoldsPlace starts) same h), b))
   ]
 
   -- one character further
   pub onward_step : (at c : ℕ) (set next : List Bool) → at < length text → c ≡ get_or text at c → Onward code text starts at set → ((s : List ℕ) → AnyOf code set (c ∷ s) → AnyOf code next s) →
-      (n m : ℕ) → n + m ≡ at + 1 → n < at + 1 → Has starts n → (s : List ℕ) → Accepts code 0 (take m (drop n text) ++ s) → AnyOf code next s
+      (n m : ℕ) → n + m ≡ at + 1 → n < at + 1 → HoldsPlace starts n → (s : List ℕ) → Accepts code 0 (take m (drop n text) ++ s) → AnyOf code next s
   onward_step at c set next lt is before a n zero e less h s acc = absurd (omega (arith, e, less))
   onward_step at c set next lt is before a n (suc m) e less h s acc =
       let whole : n + m ≡ at = omega (arith, e) in
@@ -63,9 +63,9 @@ module _ (code : List Instruction) (text : List ℕ) (starts : List Bool) where
       a s (before n m whole h (c ∷ s) b)
 
   pub reaches_more : (at : ℕ) (set old new : List Bool) (b : Bool) → Onward code text starts at set → Reaches code text starts old at →
-      ((k : ℕ) → Has old k → Has new k) → (IsTrue b → Has new at) → (AnyOf code set [] → IsTrue b) → Reaches code text starts new (at + 1)
+      ((k : ℕ) → HoldsPlace old k → HoldsPlace new k) → (IsTrue b → HoldsPlace new at) → (AnyOf code set [] → IsTrue b) → Reaches code text starts new (at + 1)
   reaches_more at set old new b onward before kept marked ended n m lt h a = elim (cases_lt (n + m) at) [
     | inl less ↦ kept (n + m) (before n m less h a)
     | inr ge ↦ (let same : n + m ≡ at = omega (arith, lt, ge) in
-        subst (Has new) (sym same) (marked (ended (onward n m same h [] (subst (Accepts code 0) (sym (append-nil (take m (drop n text)))) a)))))
+        subst (HoldsPlace new) (sym same) (marked (ended (onward n m same h [] (subst (Accepts code 0) (sym (append-nil (take m (drop n text)))) a)))))
   ]

@@ -10,9 +10,9 @@ use Rattle.wax_program.specs.declared.steady.Steady.{Steady}
 use Rattle.wax_program.specs.declared.steady.Watch.{Watch}
 use Rattle.wax_program.specs.declared.steady.Watch.TheVariants.{Nothing, Place, Lost}
 use Rattle.wax_program.specs.Bits.{places_of}
-use Rattle.wax_program.specs.Machine.{Passes, Moves, AcceptsIn}
-use Rattle.wax_program.specs.Steady.{Alike, Comes, Covers, IsAbsorbing, IsKnown, Lets, Noted, NotedMiss, NotedRepeat}
-use Rattle.wax_program.specs.Threads.{Has, Position, IsDone, Reached, Taken, Followed, Round, Led, AnyOf, Advances}
+use Rattle.wax_program.specs.Machine.{PassesTest, Moves, AcceptsIn}
+use Rattle.wax_program.specs.Steady.{Alike, Comes, ActsAlike, IsAbsorbing, IsKnown, Lets, Noted, NotedMiss, NotedRepeat}
+use Rattle.wax_program.specs.Threads.{HoldsPlace, Position, IsDone, IsReached, Taken, Followed, Round, Led, AnyOf, Advances}
 use Rattle.wax_program.proofs.Advancing.{in_range, round_end, was_read}
 
 -- ---- one instruction is noted
@@ -20,7 +20,7 @@ some_same : {i j : Instruction} → Some i ≡ Some j → i ≡ j
 some_same e = cc
 
 module _ (code : List Instruction) (c k : ℕ) where
-  covers_as : (watch : Watch) (i : Instruction) → slice_get code k ≡ Some i → ((d : ℕ) → c ≢ 47 → d ≢ 47 → Lets code watch d → Alike i c d) → Covers code c watch k
+  covers_as : (watch : Watch) (i : Instruction) → slice_get code k ≡ Some i → ((d : ℕ) → c ≢ 47 → d ≢ 47 → Lets code watch d → Alike i c d) → ActsAlike code c watch k
   covers_as watch i is h j js d cn dn lets = subst (λ z. Alike z c d) (some_same (sym is ∙ js)) (h d cn dn lets)
 
   pub noted_lost : (old : Watch) → Noted code c k old Lost
@@ -44,10 +44,10 @@ module _ (code : List Instruction) (c k : ℕ) where
   same_watch : (old new : Watch) → new ≡ old → (d : ℕ) → Lets code new d → Lets code old d
   same_watch old new e d h = subst (λ z. Lets code z d) e h
 
-  pub noted_miss : (old new : Watch) (t : Test) → slice_get code k ≡ Some (Check t) → (Passes t c → ⊥) → NotedMiss old new k t → Noted code c k old new
+  pub noted_miss : (old new : Watch) (t : Test) → slice_get code k ≡ Some (Check t) → (PassesTest t c → ⊥) → NotedMiss old new k t → Noted code c k old new
   noted_miss old new t is missed (inl h) = record {
     stricter = same_watch old new h.0;
-    covers = covers_as new (Check t) is (λ d cn dn lets. ((λ p. absurd (missed p)), (λ p. absurd (dn (subst (λ z. Passes z d) h.1 p)))));
+    covers = covers_as new (Check t) is (λ d cn dn lets. ((λ p. absurd (missed p)), (λ p. absurd (dn (subst (λ z. PassesTest z d) h.1 p)))));
   }
   noted_miss old new t is missed (inr (inl h)) = subst (Noted code c k old) (sym h) (noted_lost old)
   noted_miss old new t is missed (inr (inr h)) = subst (λ z. Noted code c k z new) (sym h.0) (subst (Noted code c k Nothing) (sym h.1) placed)
@@ -64,17 +64,17 @@ module _ (code : List Instruction) (c k : ℕ) where
     covers = covers_as new (Repeat t) is (λ d cn dn lets. taken h.1 d cn dn);
   }
     where
-      taken : (t ≡ NotSlash) ⊎ (t ≡ Any) → (d : ℕ) → c ≢ 47 → d ≢ 47 → Passes t c ↔ Passes t d
-      taken (inl e) d cn dn = subst (λ z. Passes z c ↔ Passes z d) (sym e) ((λ _. dn), (λ _. cn))
-      taken (inr e) d cn dn = subst (λ z. Passes z c ↔ Passes z d) (sym e) ((λ _. tt), (λ _. tt))
+      taken : (t ≡ NotSlash) ⊎ (t ≡ Any) → (d : ℕ) → c ≢ 47 → d ≢ 47 → PassesTest t c ↔ PassesTest t d
+      taken (inl e) d cn dn = subst (λ z. PassesTest z c ↔ PassesTest z d) (sym e) ((λ _. dn), (λ _. cn))
+      taken (inr e) d cn dn = subst (λ z. PassesTest z c ↔ PassesTest z d) (sym e) ((λ _. tt), (λ _. tt))
   noted_repeat old new t is (inr h) = subst (Noted code c k old) (sym h) (noted_lost old)
 
 -- ---- all that were read in a round are noted
 pub watched_step : (code : List Instruction) (c k : ℕ) (p q r : Position) (old new : Watch) → Taken p q k → Followed code c k q r → Noted code c k old new →
-    ((x : ℕ) → Has p.read x → Covers code c old x) → (x : ℕ) → Has r.read x → Covers code c new x
-watched_step code c k p q r old new t f n h x g = elim (t.only x (subst (λ z. Has z x) f.read g)) [
+    ((x : ℕ) → HoldsPlace p.read x → ActsAlike code c old x) → (x : ℕ) → HoldsPlace r.read x → ActsAlike code c new x
+watched_step code c k p q r old new t f n h x g = elim (t.only x (subst (λ z. HoldsPlace z x) f.read g)) [
   | inl m ↦ (λ j js d cn dn lets. h x m j js d cn dn (n.stricter d lets))
-  | inr same ↦ subst (Covers code c new) (sym same) n.covers
+  | inr same ↦ subst (ActsAlike code c new) (sym same) n.covers
 ]
 
 -- ---- a round that leads back
@@ -83,7 +83,7 @@ module _ (code : List Instruction) (c : ℕ) (old : List Bool) (p : Position) (s
   below n k s a = omega (arith, in_range code n k s a, sized)
 
   moves_alike : (a b n k : ℕ) (s : List ℕ) (i : Instruction) → Led i c k p → Alike i a b → Moves i (AcceptsIn code n) k (a ∷ s) →
-      ((x : ℕ) → Reached p x → AcceptsIn code n x (a ∷ s) → AcceptsIn code n x (b ∷ s)) → Moves i (AcceptsIn code n) k (b ∷ s)
+      ((x : ℕ) → IsReached p x → AcceptsIn code n x (a ∷ s) → AcceptsIn code n x (b ∷ s)) → Moves i (AcceptsIn code n) k (b ∷ s)
   moves_alike a b n k s (Check t) led like m again = (like.0 m.0, m.1)
   moves_alike a b n k s (Repeat t) led like (inl m) again = inl (again (k + 1) (led.0 (below n (k + 1) (a ∷ s) m)) m)
   moves_alike a b n k s (Repeat t) led like (inr m) again = inr (like.0 m.0, m.1)
@@ -97,11 +97,11 @@ module _ (code : List Instruction) (c : ℕ) (old : List Bool) (p : Position) (s
   cons_nil : {b : ℕ} {t : List ℕ} → b ∷ t ≡ [] → ⊥
   cons_nil e = cc
 
-  alike_accepts : (a b : ℕ) → ((x : ℕ) (i : Instruction) → Has p.read x → slice_get code x ≡ Some i → Alike i a b) → (n k : ℕ) (s : List ℕ) → Reached p k → AcceptsIn code n k (a ∷ s) → AcceptsIn code n k (b ∷ s)
+  alike_accepts : (a b : ℕ) → ((x : ℕ) (i : Instruction) → HoldsPlace p.read x → slice_get code x ≡ Some i → Alike i a b) → (n k : ℕ) (s : List ℕ) → IsReached p k → AcceptsIn code n k (a ∷ s) → AcceptsIn code n k (b ∷ s)
   alike_accepts a b like zero k s h g = absurd g
   alike_accepts a b like (suc n) k s h (inl g) = absurd (cons_nil g.1)
   alike_accepts a b like (suc n) k s h (inr g) =
-      let read : Has p.read k = was_read code c old p sized done r k h (slice_get_within code k g.0 g.1) in
+      let read : HoldsPlace p.read k = was_read code c old p sized done r k h (slice_get_within code k g.0 g.1) in
       inr (g.0, g.1, moves_alike a b n k s g.0 (r.handled k read g.0 g.1) (like k g.0 read g.1) g.2 (λ x reached m. alike_accepts a b like n x s reached m))
 
   flip : (i : Instruction) (a b : ℕ) → Alike i a b → Alike i b a
@@ -112,7 +112,7 @@ module _ (code : List Instruction) (c : ℕ) (old : List Bool) (p : Position) (s
   flip (Jump n) a b h = tt
   flip (Back n) a b h = tt
 
-  pub round_steady : (watch : Watch) → ((x : ℕ) → Has p.read x → Covers code c watch x) → c ≢ 47 → p.next ≡ old → (d : ℕ) → d ≢ 47 → Lets code watch d → Advances code d old old
+  pub round_steady : (watch : Watch) → ((x : ℕ) → HoldsPlace p.read x → ActsAlike code c watch x) → c ≢ 47 → p.next ≡ old → (d : ℕ) → d ≢ 47 → Lets code watch d → Advances code d old old
   round_steady watch covers cn back d dn lets = record {
     onward = λ s h. subst (λ z. AnyOf code z s) back (ends.onward s (h.0, h.1, (h.2.0, alike_accepts d c (λ x i read is. flip i c d (like x i read is)) h.2.0 h.0 s (r.begins h.0 h.1) h.2.1)));
     backward = λ s h. turned s (ends.backward s (subst (λ z. AnyOf code z s) (sym back) h));
@@ -121,14 +121,14 @@ module _ (code : List Instruction) (c : ℕ) (old : List Bool) (p : Position) (s
       ends : Advances code c old p.next
       ends = round_end code c old p sized done r
 
-      like : (x : ℕ) (i : Instruction) → Has p.read x → slice_get code x ≡ Some i → Alike i c d
+      like : (x : ℕ) (i : Instruction) → HoldsPlace p.read x → slice_get code x ≡ Some i → Alike i c d
       like x i read is = covers x read i is d cn dn lets
 
       turned : (s : List ℕ) → AnyOf code old (c ∷ s) → AnyOf code old (d ∷ s)
       turned s h = (h.0, h.1, (h.2.0, alike_accepts c d like h.2.0 h.0 s (r.begins h.0 h.1) h.2.1))
 
   -- what a round that leads back tells
-  pub round_known : (watch : Watch) → ((x : ℕ) → Has p.read x → Covers code c watch x) → (here : Option ℕ) → IfSome here (λ word. old ≡ places_of word) →
+  pub round_known : (watch : Watch) → ((x : ℕ) → HoldsPlace p.read x → ActsAlike code c watch x) → (here : Option ℕ) → IfSome here (λ word. old ≡ places_of word) →
       (result : Option Steady) → IfSome result (Comes code c p.next here watch) → IfSome result (IsKnown code)
   round_known watch covers here began None h = tt
   round_known watch covers here began (Some s) h = let known : IsKnown code s = record {

@@ -3,10 +3,10 @@ use Rattle.std.proofs.Common.{◌≡◌, ℕ, suc, ◌+◌, ◌-◌, ◌⊎◌, 
 use Rattle.wax_program.specs.declared.instruction.Test.{Test}
 use Rattle.wax_program.specs.declared.instruction.Instruction.{Instruction}
 use Rattle.wax_program.specs.declared.instruction.Instruction.TheVariants.{Check, Repeat, Components, Fork, Jump, Back}
-use Rattle.wax_program.specs.Machine.{Passes, Accepts}
+use Rattle.wax_program.specs.Machine.{PassesTest, Accepts}
 
 -- one step of a test
-pub after_test : (t : Test) (code : List Instruction) (at : ℕ) (c : ℕ) (s : List ℕ) → slice_get code at ≡ Some (Check t) → Passes t c → Accepts code (at + 1) s → Accepts code at (c ∷ s)
+pub after_test : (t : Test) (code : List Instruction) (at : ℕ) (c : ℕ) (s : List ℕ) → slice_get code at ≡ Some (Check t) → PassesTest t c → Accepts code (at + 1) s → Accepts code at (c ∷ s)
 after_test t code at c s st p h = (suc h.0, inr (Check t, st, (p, h.1)))
 
 pub after_fork : (n : ℕ) (code : List Instruction) (at : ℕ) (s : List ℕ) → slice_get code at ≡ Some (Fork n) → Accepts code (at + 1) s ⊎ Accepts code (at + 1 + n) s → Accepts code at s
@@ -24,7 +24,7 @@ pub after_last : (t : Test) (code : List Instruction) (at : ℕ) (s : List ℕ) 
 after_last t code at [] st h = (suc h.0, inr (Repeat t, st, h.1))
 after_last t code at (c ∷ s) st h = (suc h.0, inr (Repeat t, st, inl h.1))
 
-pub after_one : (t : Test) (code : List Instruction) (at c : ℕ) (s : List ℕ) → slice_get code at ≡ Some (Repeat t) → Passes t c → Accepts code at s → Accepts code at (c ∷ s)
+pub after_one : (t : Test) (code : List Instruction) (at c : ℕ) (s : List ℕ) → slice_get code at ≡ Some (Repeat t) → PassesTest t c → Accepts code at s → Accepts code at (c ∷ s)
 after_one t code at c s st p h = (suc h.0, inr (Repeat t, st, inr (p, h.1)))
 
 -- one character of components, and the last one

@@ -5,7 +5,7 @@ use Rattle.std.specs.Prelude.{bit_and, bit_or}
 use Rattle.std.specs.Int.{bit_at, bit_not, trailing_zeros}
 use Rattle.std.specs.Int.Count.{trailing_of_zero}
 use Rattle.wax_program.specs.Bits.{bits_of}
-use Rattle.wax_program.specs.Threads.{Has, IsEmpty}
+use Rattle.wax_program.specs.Threads.{HoldsPlace, IsEmpty}
 use Rattle.wax_program.proofs.Bits.{length-bits_of, get_or-bits_of, bits_of-insert, bits_of-remove, first_has, first_least, empty_of_replicate}
 
 pub length_word : (w : ℕ) → length (bits_of (w ∷ [])) ≡ 64
@@ -34,15 +34,15 @@ no_earlier : (w j : ℕ) → 0 ≤ j → j < 0 → get_or (w ∷ []) j 0 ≡ 0
 no_earlier w j from h = absurd (omega (arith, h))
 
 module _ (w : ℕ) (small : w < 2 ^ 64) where
-  pub word_lowest : (k : ℕ) → Has (bits_of (w ∷ [])) k → trailing_zeros w64 w ≤ k
+  pub word_lowest : (k : ℕ) → HoldsPlace (bits_of (w ∷ [])) k → trailing_zeros w64 w ≤ k
   word_lowest k h = elim (cases_eq w 0) [
-    | inl none ↦ absurd (empty_word k (let e : Has (bits_of (0 ∷ [])) k = rw none at h in e))
+    | inl none ↦ absurd (empty_word k (let e : HoldsPlace (bits_of (0 ∷ [])) k = rw none at h in e))
     | inr some ↦ (let e : 0 * 64 + trailing_zeros w64 w ≤ k = first_least (w ∷ []) 0 0 w (omega arith) (omega arith) refl small some (no_earlier w) k h (omega arith) in omega (arith, e))
   ]
 
-  pub word_held : trailing_zeros w64 w < length (bits_of (w ∷ [])) → Has (bits_of (w ∷ [])) (trailing_zeros w64 w)
+  pub word_held : trailing_zeros w64 w < length (bits_of (w ∷ [])) → HoldsPlace (bits_of (w ∷ [])) (trailing_zeros w64 w)
   word_held lt = elim (cases_eq w 0) [
     | inl none ↦ absurd (let e : trailing_zeros w64 w ≡ 64 = ap (trailing_zeros w64) none ∙ trailing_of_zero 64 in omega (arith, e, lt, length_word w))
-    | inr some ↦ (let e : Has (bits_of (w ∷ [])) (0 * 64 + trailing_zeros w64 w) = first_has (w ∷ []) 0 0 w (omega arith) (omega arith) refl small some (no_earlier w) in
+    | inr some ↦ (let e : HoldsPlace (bits_of (w ∷ [])) (0 * 64 + trailing_zeros w64 w) = first_has (w ∷ []) 0 0 w (omega arith) (omega arith) refl small some (no_earlier w) in
         let z : 0 * 64 + trailing_zeros w64 w ≡ trailing_zeros w64 w = omega arith in rw z at e)
   ]

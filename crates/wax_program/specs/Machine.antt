@@ -8,20 +8,20 @@ use Rattle.wax_program.specs.declared.instruction.Instruction.{Instruction}
 use Rattle.wax_program.specs.declared.instruction.Instruction.TheVariants.{Check, Repeat, Components, Fork, Jump, Back}
 
 -- the character passes the test
-abbrev pub Passes : Test → ℕ → Type 0
-Passes (Char d) c = c ≡ d
-Passes (Folded d) c = d ≡ simple_fold c
-Passes (Class k) c = in_class k.0 k.1 c ≡ true
-Passes NotSlash c = c ≢ 47
-Passes Any c = Unit {0}
-Passes Never c = ⊥
+abbrev pub PassesTest : Test → ℕ → Type 0
+PassesTest (Char d) c = c ≡ d
+PassesTest (Folded d) c = d ≡ simple_fold c
+PassesTest (Class k) c = in_class k.0 k.1 c ≡ true
+PassesTest NotSlash c = c ≢ 47
+PassesTest Any c = Unit {0}
+PassesTest Never c = ⊥
 
 -- one instruction at pc, where `Then` says what is accepted from a place on
 abbrev pub Moves : Instruction → (ℕ → List ℕ → Type 0) → ℕ → List ℕ → Type 0
 Moves (Check t) Then pc [] = ⊥
-Moves (Check t) Then pc (c ∷ s) = Passes t c × Then (pc + 1) s
+Moves (Check t) Then pc (c ∷ s) = PassesTest t c × Then (pc + 1) s
 Moves (Repeat t) Then pc [] = Then (pc + 1) []
-Moves (Repeat t) Then pc (c ∷ s) = Then (pc + 1) (c ∷ s) ⊎ (Passes t c × Then pc s)
+Moves (Repeat t) Then pc (c ∷ s) = Then (pc + 1) (c ∷ s) ⊎ (PassesTest t c × Then pc s)
 Moves Components Then pc [] = ⊥
 Moves Components Then pc (c ∷ s) = Then pc s ⊎ ((c ≡ 47) × Then (pc + 1) s)
 Moves (Fork n) Then pc s = Then (pc + 1) s ⊎ Then (pc + 1 + n) s

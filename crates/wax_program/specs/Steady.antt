@@ -8,12 +8,12 @@ use Rattle.wax_program.specs.declared.steady.Steady.{Steady}
 use Rattle.wax_program.specs.declared.steady.Watch.{Watch}
 use Rattle.wax_program.specs.declared.steady.Watch.TheVariants.{Nothing, Place, Lost}
 use Rattle.wax_program.specs.Bits.{places_of}
-use Rattle.wax_program.specs.Machine.{Passes}
+use Rattle.wax_program.specs.Machine.{PassesTest}
 use Rattle.wax_program.specs.Threads.{Advances}
 
 -- no check that stands at the place takes the character
 abbrev pub Misses : List Instruction → ℕ → ℕ → Type 0
-Misses code k c = (t : Test) → slice_get code k ≡ Some (Check t) → Passes t c → ⊥
+Misses code k c = (t : Test) → slice_get code k ≡ Some (Check t) → PassesTest t c → ⊥
 
 -- the set leads to itself by each character but `/` that the check at `watch` doesn't take
 abbrev pub IsSteady : List Instruction → List Bool → ℕ → Type 0
@@ -32,8 +32,8 @@ pub record IsKnown (code : List Instruction) (s : Steady) : Type 0 where
 
 -- the instruction does the same by both characters
 abbrev pub Alike : Instruction → ℕ → ℕ → Type 0
-Alike (Check t) c d = Passes t c ↔ Passes t d
-Alike (Repeat t) c d = Passes t c ↔ Passes t d
+Alike (Check t) c d = PassesTest t c ↔ PassesTest t d
+Alike (Repeat t) c d = PassesTest t c ↔ PassesTest t d
 Alike Components c d = (c ≡ 47) ↔ (d ≡ 47)
 Alike (Fork n) c d = Unit {0}
 Alike (Jump n) c d = Unit {0}
@@ -46,14 +46,14 @@ Lets code (Place k) d = Misses code k d
 Lets code Lost d = ⊥
 
 -- the instruction at k does by each such character what it does by c
-abbrev pub Covers : List Instruction → ℕ → Watch → ℕ → Type 0
-Covers code c watch k = (i : Instruction) → slice_get code k ≡ Some i
+abbrev pub ActsAlike : List Instruction → ℕ → Watch → ℕ → Type 0
+ActsAlike code c watch k = (i : Instruction) → slice_get code k ≡ Some i
     → (d : ℕ) → c ≢ 47 → d ≢ 47 → Lets code watch d → Alike i c d
 
 -- the instruction at k was read, and what was watched still is
 pub record Noted (code : List Instruction) (c k : ℕ) (old new : Watch) : Type 0 where
   pub stricter : (d : ℕ) → Lets code new d → Lets code old d
-  pub covers : Covers code c new k
+  pub covers : ActsAlike code c new k
 
 -- a check at k that doesn't take the round's character is watched, if it asks for more than `/`
 abbrev pub NotedMiss : Watch → Watch → ℕ → Test → Type 0

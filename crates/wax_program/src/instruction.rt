@@ -1,7 +1,7 @@
 //! What a program is made of.
 ghost use Rattle.std.specs.Prelude.{◌≡◌, ◌↔◌, IsTrue, true};
 ghost use Rattle.unicode.specs.CaseFolding.{simple_fold};
-ghost use Rattle.wax_program.specs.Machine.{Passes};
+ghost use Rattle.wax_program.specs.Machine.{PassesTest};
 ghost use Rattle.wax_token.specs.Meaning.{in_class};
 
 use unicode::case::simple_fold;
@@ -46,7 +46,7 @@ impl Test {
     /// Whether the character passes. A class is searched from its first archetype on.
     #[inline]
     pub fn passes(&self, c: char) -> bool
-        ensures { IsTrue result ↔ Passes self.now c }
+        ensures { IsTrue result ↔ PassesTest self.now c }
     {
         match self {
             Test::Char(d) => *d == c,

@@ -1,7 +1,7 @@
 //! Where the parts of a text end that a program accepts, told in one pass for all places where they begin.
 ghost use Rattle.std.specs.Prelude.{◌≡◌, ◌+◌, ◌*◌, ◌<◌, ◌≤◌, ◌∷◌, [], ℕ, List, IsTrue, OnOk, length};
 ghost use Rattle.wax_program.specs.Ends.{Reaches};
-ghost use Rattle.wax_program.specs.Threads.{AnyOf, Has, IsEmpty};
+ghost use Rattle.wax_program.specs.Threads.{AnyOf, HoldsPlace, IsEmpty};
 
 use crate::machine::{Meter, Program};
 use crate::narrow::Narrow;
@@ -24,7 +24,7 @@ pub fn run_from(
     requires starts { length starts.now ≡ length text.now + 1 }
     requires ends { length ends.old ≡ length text.now + 1 }
     ensures len { length ends.new ≡ length ends.old }
-    ensures kept { (n : ℕ) → Has ends.old n → Has ends.new n }
+    ensures kept { (n : ℕ) → HoldsPlace ends.old n → HoldsPlace ends.new n }
     ensures reached { OnOk result
         (Reaches program.now.0 text.now starts.now ends.new (length text.now + 1)) }
     ensures above { meter.new ≤ meter.old + length program.now.0 * (length text.now + 1) }
@@ -48,9 +48,9 @@ fn begin<R: Rows>(starts: &[bool], at: usize, rows: &mut R)
     ensures size { (R.position rows.new).size ≡ (R.position rows.old).size }
     ensures read { (R.position rows.new).read ≡ (R.position rows.old).read }
     ensures next { (R.position rows.new).next ≡ (R.position rows.old).next }
-    ensures kept { (k : ℕ) → Has (R.position rows.old).pending k → Has (R.position rows.new).pending k }
-    ensures begun { IsEmpty (R.position rows.old).read → Has starts.now at
-        → Has (R.position rows.new).pending 0 }
+    ensures kept { (k : ℕ) → HoldsPlace (R.position rows.old).pending k → HoldsPlace (R.position rows.new).pending k }
+    ensures begun { IsEmpty (R.position rows.old).read → HoldsPlace starts.now at
+        → HoldsPlace (R.position rows.new).pending 0 }
 {
     if starts[at] {
         rows.insert(0);
@@ -62,8 +62,8 @@ fn begin<R: Rows>(starts: &[bool], at: usize, rows: &mut R)
 fn mark(ends: &mut [bool], at: usize, ended: bool)
     requires within { at < length ends.old }
     ensures len { length ends.new ≡ length ends.old }
-    ensures kept { (n : ℕ) → Has ends.old n → Has ends.new n }
-    ensures marked { IsTrue ended → Has ends.new at }
+    ensures kept { (n : ℕ) → HoldsPlace ends.old n → HoldsPlace ends.new n }
+    ensures marked { IsTrue ended → HoldsPlace ends.new at }
 {
     if ended {
         ends[at] = true;
@@ -112,7 +112,7 @@ fn onward_over<R: Rows>(
     requires read { IsEmpty (R.position rows.old).read }
     requires next { IsEmpty (R.position rows.old).next }
     ensures len { length ends.new ≡ length ends.old }
-    ensures kept { (n : ℕ) → Has ends.old n → Has ends.new n }
+    ensures kept { (n : ℕ) → HoldsPlace ends.old n → HoldsPlace ends.new n }
     ensures reached { Reaches program.now.0 text.now starts.now ends.new (length text.now + 1) }
     ensures above { meter.new ≤ meter.old + length program.now.0 * (length text.now + 1) }
     ensures steady { meter.old ≤ meter.new }

@@ -2,7 +2,7 @@
 ghost use Rattle.std.specs.Prelude.{◌≡◌, ◌+◌, ◌≤◌, ◌<◌, ◌^◌, ◌↔◌, ℕ, IfSome, IsTrue, MatchOption};
 ghost use Rattle.std.specs.Bool.{MatchBool};
 ghost use Rattle.wax_program.specs.Bits.{places_of};
-ghost use Rattle.wax_program.specs.Threads.{Has, Inserted, InsertedNext, IsDone, IsEmpty, Position, Taken, members};
+ghost use Rattle.wax_program.specs.Threads.{HoldsPlace, Inserted, InsertedNext, IsDone, IsEmpty, Position, Taken, member_count};
 
 /// Three sets of places: those that are still to be read at a position of the text, those that were
 /// read there, and those of the next position. The place after the last instruction, where the program
@@ -14,7 +14,7 @@ pub trait Rows {
     /// Whether no instruction is left to be read here.
     fn is_done(&self) -> bool
         ensures { MatchBool result (IsDone (position self.now))
-            ((k : ℕ) × Has (position self.now).pending k × (k < (position self.now).size)) };
+            ((k : ℕ) × HoldsPlace (position self.now).pending k × (k < (position self.now).size)) };
 
     /// The set that is to be read here, where it is held by a word.
     fn word(&self) -> Option<u64>
@@ -31,7 +31,7 @@ pub trait Rows {
 
     /// The lowest instruction that is still to be read here. From now on it was read.
     fn take(&mut self) -> Option<usize>
-        ensures few { members (position self.new).read ≤ (position self.new).size }
+        ensures few { member_count (position self.new).read ≤ (position self.new).size }
         ensures small { (position self.old).size < 2 ^ 64 }
         ensures taken { MatchOption result
             ((position self.new ≡ position self.old) × IsDone (position self.new))
@@ -58,5 +58,5 @@ pub trait Rows {
 
     /// Whether the program's end is reached here.
     fn ends(&self) -> bool
-        ensures { IsTrue result ↔ Has (position self.now).pending (position self.now).size };
+        ensures { IsTrue result ↔ HoldsPlace (position self.now).pending (position self.now).size };
 }

@@ -1,7 +1,7 @@
 //! Sets of places, one bit each.
 ghost use Rattle.std.specs.Prelude.{◌≡◌, ◌*◌, ◌^◌, ◌<◌, ◌≤◌, ℕ, Bool, List, IfOk, MatchOption, length, slice_index_or, slice_set, true, false};
 ghost use Rattle.wax_program.specs.Bits.{bits_of};
-ghost use Rattle.wax_program.specs.Threads.{Has, IsEmpty};
+ghost use Rattle.wax_program.specs.Threads.{HoldsPlace, IsEmpty};
 
 use std::alloc::{AllocError, Global};
 use std::marker::Model;
@@ -63,8 +63,8 @@ impl Set {
 
     /// The lowest place in this word or a later one.
     pub fn first_from(&self, word: usize) -> Option<usize>
-        ensures { MatchOption result ((k : ℕ) → Has self.now k → k < 64 * word)
-            (λ at. Has self.now at × (64 * word ≤ at) × ((k : ℕ) → Has self.now k → 64 * word ≤ k → at ≤ k)) }
+        ensures { MatchOption result ((k : ℕ) → HoldsPlace self.now k → k < 64 * word)
+            (λ at. HoldsPlace self.now at × (64 * word ≤ at) × ((k : ℕ) → HoldsPlace self.now k → 64 * word ≤ k → at ≤ k)) }
     {
         for index in word..self.words.len() {
             let bits = self.words[index];

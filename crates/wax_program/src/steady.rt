@@ -1,6 +1,6 @@
 //! Sets of places that most characters leave as they are, so that no round is needed for these.
 ghost use Rattle.std.specs.Prelude.{◌≡◌, ◌+◌, ◌≤◌, ℕ, List, IfSome, IsTrue, min};
-ghost use Rattle.wax_program.specs.Machine.{Passes};
+ghost use Rattle.wax_program.specs.Machine.{PassesTest};
 ghost use Rattle.wax_program.specs.Meter.{most_ticks};
 ghost use Rattle.wax_program.specs.Steady.{IsAbsorbing, IsKnown, Lets, Misses, NotedMiss, NotedRepeat};
 ghost use Rattle.wax_program.specs.Threads.{Advances};
@@ -85,7 +85,7 @@ impl Watch {
 /// Whether the instruction is no check that takes the character.
 #[inline(always)]
 fn misses(instruction: &Instruction, c: char) -> bool
-    ensures { IsTrue result → (t : Test) → instruction.now ≡ Instruction.Check t → Passes t c → ⊥ }
+    ensures { IsTrue result → (t : Test) → instruction.now ≡ Instruction.Check t → PassesTest t c → ⊥ }
 {
     match instruction {
         Instruction::Check(test) => !test.passes(c),

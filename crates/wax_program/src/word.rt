@@ -1,7 +1,7 @@
 //! Sets of places below 64, one bit each, in one word.
 ghost use Rattle.std.specs.Prelude.{◌≡◌, ◌<◌, ◌≤◌, ℕ, IsTrue, length, slice_index_or, slice_set, true, false};
 ghost use Rattle.wax_program.specs.Bits.{places_of};
-ghost use Rattle.wax_program.specs.Threads.{Has, IsEmpty};
+ghost use Rattle.wax_program.specs.Threads.{HoldsPlace, IsEmpty};
 
 use std::marker::Model;
 
@@ -82,8 +82,8 @@ impl Word {
     /// The lowest place, or 64 where there is none.
     #[inline]
     pub fn first(&self) -> usize
-        ensures lowest { (k : ℕ) → Has self.now k → result ≤ k }
-        ensures held { result < length self.now → Has self.now result }
+        ensures lowest { (k : ℕ) → HoldsPlace self.now k → result ≤ k }
+        ensures held { result < length self.now → HoldsPlace self.now result }
     {
         self.bits.trailing_zeros() as usize
     }

@@ -9,12 +9,12 @@ abbrev pub end_of : Span → ℕ
 end_of s = s.0 + s.1
 
 -- no byte and no edge of the second is outside the first
-abbrev pub Holds : Span → Span → Type 0
-Holds s t = (s.0 ≤ t.0) × (end_of t ≤ end_of s)
+abbrev pub HoldsSpan : Span → Span → Type 0
+HoldsSpan s t = (s.0 ≤ t.0) × (end_of t ≤ end_of s)
 
 -- the least span that holds both
 abbrev pub IsUnion : Span → Span → Span → Type 0
-IsUnion s t u = Holds u s × Holds u t × ((v : Span) → Holds v s → Holds v t → Holds v u)
+IsUnion s t u = HoldsSpan u s × HoldsSpan u t × ((v : Span) → HoldsSpan v s → HoldsSpan v t → HoldsSpan v u)
 
 -- the same, computed
 abbrev pub span_union : Span → Span → Span

@@ -27,9 +27,9 @@ IsMapped P None o = IsNone o
 IsMapped P (Some x) o = IsSomeAnd o (P x)
 
 -- the value of either side
-abbrev pub inner : {T : Type 0} → Variance T T → T
-inner (Invariant t) = t
-inner (Variant t) = t
+abbrev pub variance_value : {T : Type 0} → Variance T T → T
+variance_value (Invariant t) = t
+variance_value (Variant t) = t
 
 -- what is behind the references
 abbrev pub variance_copied : {T B : Type 0} → Variance (Bor T) (Bor B) → Variance T B

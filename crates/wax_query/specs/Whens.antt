@@ -26,7 +26,7 @@ when false = Never
 when true = Always
 
 -- yes, no, or neither
-abbrev pub answer_of : When → Option Bool
-answer_of Never = Some false
-answer_of Sometimes = None
-answer_of Always = Some true
+abbrev pub certain_bool : When → Option Bool
+certain_bool Never = Some false
+certain_bool Sometimes = None
+certain_bool Always = Some true

@@ -19,9 +19,9 @@ pub record ErrorView : Type 0 where
   pub expression : List ℕ
 
 -- the error tells the first of the breaks
-abbrev pub IsFirst : List Break → ErrorView → Type 0
-IsFirst [] e = ⊥
-IsFirst (b ∷ bs) e = (e.kind ≡ b.kind) × (e.location ≡ b.location)
+abbrev pub TellsFirst : List Break → ErrorView → Type 0
+TellsFirst [] e = ⊥
+TellsFirst (b ∷ bs) e = (e.kind ≡ b.kind) × (e.location ≡ b.location)
 
 abbrev pub head_of : {A : Type 0} → List A → Option A
 head_of [] = None

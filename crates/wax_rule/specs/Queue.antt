@@ -6,7 +6,7 @@ use Rattle.wax_token.specs.TreeCode.{tree_code}
 use Rattle.wax_token.specs.Reads.{Span}
 use Rattle.wax_token.specs.Syntax.{Tree, leaf, alternation, concatenation, repetition, Trees, none, more}
 use Rattle.wax_rule.specs.declared.rule.situated.Side.{Side}
-use Rattle.wax_rule.specs.Situated.{Situated, end_side, right_of, beside, levels}
+use Rattle.wax_rule.specs.Situated.{Situated, end_side, right_of, beside, situated_levels}
 
 abbrev pub branches : Option Side → Option Side → Trees Span → List Situated
 branches left right none = []
@@ -30,7 +30,7 @@ children s = children_between s.left s.right s.token
 -- the levels of these tokens together
 abbrev pub all_levels : List Situated → List (List Situated)
 all_levels [] = []
-all_levels (s ∷ ss) = beside (levels s.left s.right s.token) (all_levels ss)
+all_levels (s ∷ ss) = beside (situated_levels s.left s.right s.token) (all_levels ss)
 
 -- the tokens that the one at the index holds
 abbrev pub queue_children : List Situated → ℕ → List Situated

@@ -10,19 +10,19 @@ use Rattle.wax_token.specs.Words.{annotation_of}
 -- such a leaf is reached through first tokens of concatenations, bodies of repetitions and all branches of
 -- alternations
 abbrev mutual
-  pub starts_in : {A : Type 0} → (Leaf → Bool) → Tree A → Bool
-  starts_in such (leaf a l) = such l
-  starts_in such (alternation a ts) = some_starts_in such ts
-  starts_in such (concatenation a ts) = first_starts_in such ts
-  starts_in such (repetition a t low high) = starts_in such t
+  pub starts_with_leaf : {A : Type 0} → (Leaf → Bool) → Tree A → Bool
+  starts_with_leaf such (leaf a l) = such l
+  starts_with_leaf such (alternation a ts) = some_starts_in such ts
+  starts_with_leaf such (concatenation a ts) = first_starts_in such ts
+  starts_with_leaf such (repetition a t low high) = starts_with_leaf such t
 
   pub some_starts_in : {A : Type 0} → (Leaf → Bool) → Trees A → Bool
   some_starts_in such none = false
-  some_starts_in such (more t ts) = starts_in such t || some_starts_in such ts
+  some_starts_in such (more t ts) = starts_with_leaf such t || some_starts_in such ts
 
   pub first_starts_in : {A : Type 0} → (Leaf → Bool) → Trees A → Bool
   first_starts_in such none = false
-  first_starts_in such (more t ts) = starts_in such t
+  first_starts_in such (more t ts) = starts_with_leaf such t
 
 -- the same through last tokens
 abbrev mutual
@@ -54,8 +54,8 @@ end_side t = record {
 abbrev pub start_side : Tree Span → Side
 start_side t = record {
   span = annotation_of t;
-  has_boundary = starts_in is_boundary_leaf t;
-  has_zero_or_more = starts_in is_zero_or_more_leaf t;
+  has_boundary = starts_with_leaf is_boundary_leaf t;
+  has_zero_or_more = starts_with_leaf is_zero_or_more_leaf t;
 }
 
 -- A token with its neighbours: those beside it in its concatenation, else those of the branch around it, each
@@ -78,26 +78,26 @@ beside (x ∷ xs) (y ∷ ys) = (x ++ y) ∷ beside xs ys
 
 -- the tokens of a tree by level, between two neighbours: itself, its tokens, their tokens, and so on
 abbrev mutual
-  pub levels : Option Side → Option Side → Tree Span → List (List Situated)
-  levels left right (leaf a l) = (record { token = leaf a l; left = left; right = right } ∷ []) ∷ []
-  levels left right (alternation a ts) =
+  pub situated_levels : Option Side → Option Side → Tree Span → List (List Situated)
+  situated_levels left right (leaf a l) = (record { token = leaf a l; left = left; right = right } ∷ []) ∷ []
+  situated_levels left right (alternation a ts) =
       (record { token = alternation a ts; left = left; right = right } ∷ []) ∷ branch_levels left right ts
-  levels left right (concatenation a ts) =
+  situated_levels left right (concatenation a ts) =
       (record { token = concatenation a ts; left = left; right = right } ∷ []) ∷ member_levels left right ts
-  levels left right (repetition a t low high) =
-      (record { token = repetition a t low high; left = left; right = right } ∷ []) ∷ levels left right t
+  situated_levels left right (repetition a t low high) =
+      (record { token = repetition a t low high; left = left; right = right } ∷ []) ∷ situated_levels left right t
 
   -- the branches of an alternation have its neighbours
   pub branch_levels : Option Side → Option Side → Trees Span → List (List Situated)
   branch_levels left right none = []
-  branch_levels left right (more t ts) = beside (levels left right t) (branch_levels left right ts)
+  branch_levels left right (more t ts) = beside (situated_levels left right t) (branch_levels left right ts)
 
   -- the tokens of a concatenation are one another's neighbours
   pub member_levels : Option Side → Option Side → Trees Span → List (List Situated)
   member_levels left right none = []
   member_levels left right (more t ts) =
-      beside (levels left (right_of ts right) t) (member_levels (Some (end_side t)) right ts)
+      beside (situated_levels left (right_of ts right) t) (member_levels (Some (end_side t)) right ts)
 
 -- all tokens of a glob, breadth first
 abbrev pub breadth_first : Tree Span → List Situated
-breadth_first t = flat_map (λ level. level) (levels None None t)
+breadth_first t = flat_map (λ level. level) (situated_levels None None t)

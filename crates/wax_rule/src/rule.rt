@@ -6,7 +6,7 @@ ghost use Rattle.itertools.specs.Consumer.{find_at};
 ghost use Rattle.wax_query.specs.Outcome.{MatchBuild};
 ghost use Rattle.wax_rule.specs.Situated.{breadth_first};
 ghost use Rattle.wax_rule.specs.Rules.{broken, break_here, breaks_among, size_breaks};
-ghost use Rattle.wax_rule.specs.FirstBreak.{IsFirst, head_of, breaks_of, breaks_beside, oversized, first_in, is_broken_at};
+ghost use Rattle.wax_rule.specs.FirstBreak.{TellsFirst, head_of, breaks_of, breaks_beside, oversized, first_in, is_broken_at};
 
 mod boundary;
 mod bounds;
@@ -290,7 +290,7 @@ pub fn check<'t>(
     tokenized: Tokenized<'t, ExpressionMetadata>,
 ) -> Result<Checked<Tokenized<'t, ExpressionMetadata>>, Refusal<RuleError<'t>>>
     ensures kept { IfOk result (λ t. t ≡ tokenized.entry) }
-    ensures rules { MatchBuild result (λ t. broken t.token ≡ []) (IsFirst (broken tokenized.entry.token)) }
+    ensures rules { MatchBuild result (λ t. broken t.token ≡ []) (TellsFirst (broken tokenized.entry.token)) }
     ensures expression { MatchBuild result (λ _. Unit {0})
         (λ e. e.expression ≡ chars (cow_str_bytes tokenized.entry.expression)) }
 {

@@ -1,7 +1,8 @@
 -- Texts one after another, and copies of a body.
 use Rattle.std.proofs.Common.{◌++◌, ◌+◌, ◌-◌, ◌∙◌, ◌≡◌, ◌≤◌, Bool, List, None, Option, ℕ, [], ap, append-nil}
 use Rattle.std.proofs.Common.{append_assoc, arith, refl, subst, suc, sym, true, zero}
-use Rattle.wax_token.specs.Meaning.{AtMost, Copies}
+use Rattle.wax_query.specs.Ranges.{AtMost}
+use Rattle.wax_token.specs.Meaning.{Copies}
 
 abbrev pub OneThen : (List ℕ → Type 0) → (List ℕ → Type 0) → List ℕ → Type 0
 OneThen P Q s = (x : List ℕ) × (y : List ℕ) × (s ≡ x ++ y) × P x × Q y

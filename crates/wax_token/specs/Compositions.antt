@@ -14,9 +14,9 @@ disjunctive (Conjunctive c) = None
 disjunctive (Disjunctive d) = Some d
 
 -- the value of either side
-abbrev pub inner : {T : Type 0} → Composition T T → T
-inner (Conjunctive t) = t
-inner (Disjunctive t) = t
+abbrev pub composition_value : {T : Type 0} → Composition T T → T
+composition_value (Conjunctive t) = t
+composition_value (Disjunctive t) = t
 
 -- what the function gives for the value, on the same side
 abbrev pub on_inner : {T U : Type 0} → (T → U) → Composition T T → Composition U U

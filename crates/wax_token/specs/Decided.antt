@@ -7,7 +7,8 @@ use Rattle.std.proofs.lemmas.Bool.{cases_eq, cases_lt}
 use Rattle.unicode.specs.CaseFolding.{simple_fold}
 use Rattle.wax_token.specs.Syntax.{Leaf, literal, class, separator, one, zero_or_more, tree, Tree, leaf}
 use Rattle.wax_token.specs.Syntax.{alternation, concatenation, repetition, Trees, none, more}
-use Rattle.wax_token.specs.Meaning.{Begins, Ends, HasNoSlash, TreeMeans, SameFold, SameText, LeafMeans}
+use Rattle.wax_query.specs.Components.{BeginsWithSlash, EndsWithSlash}
+use Rattle.wax_token.specs.Meaning.{HasNoSlash, TreeMeans, SameFold, SameText, LeafMeans}
 use Rattle.wax_token.specs.Meaning.{in_class, Copies, AtMost, Means, MeansSome, MeansEach}
 
 -- a fact that is known to hold or not to hold
@@ -105,7 +106,7 @@ pieces P Q p q (c ∷ s) = elim (both (p []) (q (c ∷ s))) [
   no [] y e h k n m = n (h, subst Q (sym e) k)
   no (d ∷ x) y e h k n m = let i : d ≡ c = cc in m (x, y, (cc), subst (λ v. P (v ∷ x)) i h, k)
 
-begins : (s : List ℕ) → Decided (Begins s)
+begins : (s : List ℕ) → Decided (BeginsWithSlash s)
 begins [] = inr (λ b. (let e = b.1 in cc))
 begins (c ∷ s) = elim (cases_eq c 47) [
   | inl e ↦ inl (s, ap (λ v. v ∷ s) e)
@@ -120,11 +121,11 @@ ends_one : (c : ℕ) (t : List ℕ) → c ∷ [] ≡ t ++ 47 ∷ [] → c ≡ 47
 ends_one c [] e = cc
 ends_one c (d ∷ t) e = absurd (ends_end t (cc))
 
-ends_more : (c d : ℕ) (s t : List ℕ) → c ∷ d ∷ s ≡ t ++ 47 ∷ [] → Ends (d ∷ s)
+ends_more : (c d : ℕ) (s t : List ℕ) → c ∷ d ∷ s ≡ t ++ 47 ∷ [] → EndsWithSlash (d ∷ s)
 ends_more c d s [] e = cc
 ends_more c d s (x ∷ t) e = (t, (cc))
 
-ends : (s : List ℕ) → Decided (Ends s)
+ends : (s : List ℕ) → Decided (EndsWithSlash s)
 ends [] = inr (λ b. ends_end b.0 b.1)
 ends (c ∷ []) = elim (cases_eq c 47) [
   | inl e ↦ inl ([], ap (λ v. v ∷ []) e)

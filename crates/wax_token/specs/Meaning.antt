@@ -5,14 +5,10 @@ use Rattle.std.specs.List.{list_any, list_all}
 use Rattle.unicode.specs.CaseFolding.{simple_fold}
 use Rattle.wax_token.specs.declared.token.Archetype.{Archetype}
 use Rattle.wax_token.specs.declared.token.Archetype.TheVariants.{Character, Range}
+use Rattle.wax_query.specs.Components.{BeginsWithSlash, EndsWithSlash}
+use Rattle.wax_query.specs.Ranges.{AtMost}
 use Rattle.wax_token.specs.Syntax.{Leaf, literal, class, separator, one, zero_or_more, tree, Tree, leaf}
 use Rattle.wax_token.specs.Syntax.{alternation, concatenation, repetition, Trees, none, more}
-
-abbrev pub Begins : List ℕ → Type 0
-Begins s = (t : List ℕ) × (s ≡ 47 ∷ t)
-
-abbrev pub Ends : List ℕ → Type 0
-Ends s = (t : List ℕ) × (s ≡ t ++ 47 ∷ [])
 
 abbrev pub HasNoSlash : List ℕ → Type 0
 HasNoSlash [] = Unit {0}
@@ -21,11 +17,11 @@ HasNoSlash (c ∷ s) = (c ≢ 47) × HasNoSlash s
 -- a tree wildcard: whether something is before it, whether something is after it, whether it is rooted
 abbrev pub TreeMeans : Bool → Bool → Bool → List ℕ → Type 0
 TreeMeans false false false s = Unit {0}
-TreeMeans false false true s = Begins s
-TreeMeans false true false s = (s ≡ []) ⊎ Ends s
-TreeMeans false true true s = Begins s × Ends s
-TreeMeans true true rooted s = Begins s × Ends s
-TreeMeans true false rooted s = (s ≡ []) ⊎ Begins s
+TreeMeans false false true s = BeginsWithSlash s
+TreeMeans false true false s = (s ≡ []) ⊎ EndsWithSlash s
+TreeMeans false true true s = BeginsWithSlash s × EndsWithSlash s
+TreeMeans true true rooted s = BeginsWithSlash s × EndsWithSlash s
+TreeMeans true false rooted s = (s ≡ []) ⊎ BeginsWithSlash s
 
 abbrev pub in_archetype : ℕ → Archetype → Bool
 in_archetype c (Character d) = c == d
@@ -70,10 +66,6 @@ Copies zero Body before after s = s ≡ []
 Copies (suc zero) Body before after s = Body before after s
 Copies (suc (suc k)) Body before after s =
     (x : List ℕ) × (y : List ℕ) × (s ≡ x ++ y) × Body before true x × Copies (suc k) Body true after y
-
-abbrev pub AtMost : ℕ → Option ℕ → Type 0
-AtMost k None = Unit {0}
-AtMost k (Some n) = k ≤ n
 
 abbrev mutual
   pub Means : {A : Type 0} → Tree A → Bool → Bool → List ℕ → Type 0

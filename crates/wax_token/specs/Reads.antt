@@ -33,9 +33,9 @@ Past cs p q = (p.rest ≡ cs ++ q.rest) × (q.insensitive ≡ p.insensitive)
 abbrev pub is_one_of : List ℕ → ℕ → Bool
 is_one_of set c = list_any (λ d. d == c) set
 
-abbrev pub starts_in : List ℕ → List ℕ → Bool
-starts_in set [] = false
-starts_in set (c ∷ cs) = is_one_of set c
+abbrev pub starts_with_one_of : List ℕ → List ℕ → Bool
+starts_with_one_of set [] = false
+starts_with_one_of set (c ∷ cs) = is_one_of set c
 
 -- what is spelled by a backslash and itself in a literal, and in a class
 abbrev pub escapable : List ℕ
@@ -107,15 +107,15 @@ decimal_from n (d ∷ ds) = decimal_from (10 * n + (d - 48)) ds
 abbrev pub IsNumber : List ℕ → ℕ → Type 0
 IsNumber ds n = (ds ≢ []) × (list_all is_ascii_digit ds ≡ true) × (decimal_from 0 ds ≡ n) × (n < 2 ^ 64)
 
-pub data Bounds (cs : List ℕ) (low : ℕ) (high : Option ℕ) : Type 0 where
-  any_number : cs ≡ [] → low ≡ 0 → high ≡ None → Bounds cs low high
-  at_least_one : cs ≡ codes ":" → low ≡ 1 → high ≡ None → Bounds cs low high
-  exactly : (ds : List ℕ) → cs ≡ codes ":" ++ ds → IsNumber ds low → high ≡ Some low → Bounds cs low high
+pub data ReadsBounds (cs : List ℕ) (low : ℕ) (high : Option ℕ) : Type 0 where
+  any_number : cs ≡ [] → low ≡ 0 → high ≡ None → ReadsBounds cs low high
+  at_least_one : cs ≡ codes ":" → low ≡ 1 → high ≡ None → ReadsBounds cs low high
+  exactly : (ds : List ℕ) → cs ≡ codes ":" ++ ds → IsNumber ds low → high ≡ Some low → ReadsBounds cs low high
   at_least : (ds : List ℕ) → cs ≡ codes ":" ++ ds ++ codes "," → IsNumber ds low → high ≡ None →
-      Bounds cs low high
+      ReadsBounds cs low high
   between : (ds es : List ℕ) (most : ℕ) → cs ≡ codes ":" ++ ds ++ codes "," ++ es →
       IsNumber ds low → IsNumber es most →
-      high ≡ Some most → Bounds cs low high
+      high ≡ Some most → ReadsBounds cs low high
 
 -- where a sub-glob stands: nothing, `,` or `}`, `:` or `>` ends it
 pub data Around : Type 0 where
@@ -125,8 +125,8 @@ pub data Around : Type 0 where
 
 abbrev pub IsEnd : Around → Place → Type 0
 IsEnd whole q = q.rest ≡ []
-IsEnd in_alternation q = starts_in (codes ",}") q.rest ≡ true
-IsEnd in_repetition q = starts_in (codes ":>") q.rest ≡ true
+IsEnd in_alternation q = starts_with_one_of (codes ",}") q.rest ≡ true
+IsEnd in_repetition q = starts_with_one_of (codes ":>") q.rest ≡ true
 
 abbrev pub evaluation_text : Evaluation → List ℕ
 evaluation_text Eager = codes "*"
@@ -134,7 +134,7 @@ evaluation_text Lazy = codes "$"
 
 -- no flag groups and then `*` or `$` follow
 abbrev pub NoWildcardFollows : Place → Type 0
-NoWildcardFollows q = (m : Place) → Flags q m → starts_in (codes "*$") m.rest ≡ false
+NoWildcardFollows q = (m : Place) → Flags q m → starts_with_one_of (codes "*$") m.rest ≡ false
 
 -- after `**`: flag groups and `/`, or the end of the sub-glob
 abbrev pub TreeCloses : Around → Place → Place → Type 0
@@ -151,7 +151,7 @@ ReadsLeaf around first (literal insensitive t) p q =
     × Past (all_spelled escapable t) p q × NoLiteralFollows q.rest
 ReadsLeaf around first (class negated xs) p q =
     (xs ≢ []) × AllPlain xs × Past (class_text negated xs) p q
-    × (negated ≡ false → starts_in (codes "!") (archetypes_text xs) ≡ false)
+    × (negated ≡ false → starts_with_one_of (codes "!") (archetypes_text xs) ≡ false)
 ReadsLeaf around first separator p q =
     Past (codes "/") p q × ((r : Place) → TreeFollows around q r → ⊥)
 ReadsLeaf around first one p q = Past (codes "?") p q
@@ -177,7 +177,7 @@ module _ (size : ℕ) where
         × IsSpan s p q
     ReadsToken (repetition s t low high) around first p q =
         (m n k : Place) × (cs : List ℕ) × Flags p m × Past (codes "<") m n × ReadsGlob t in_repetition n k
-        × Bounds cs low high × Past (cs ++ codes ">") k q × IsSpan s p q
+        × ReadsBounds cs low high × Past (cs ++ codes ">") k q × IsSpan s p q
     ReadsToken (concatenation s ts) around first p q = ⊥
 
     -- the tokens of a concatenation

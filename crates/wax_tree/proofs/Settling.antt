@@ -21,7 +21,7 @@ use Rattle.wax_walk.specs.View.{lacks_memory, over_budget, gives}
 use Rattle.wax_tree.specs.declared.steps.Steps.{Steps}
 use Rattle.wax_tree.specs.declared.steps.Step.{Step}
 use Rattle.wax_tree.specs.declared.steps.Step.TheVariants.{Gives, GoesOn, Ends}
-use Rattle.wax_tree.specs.Stepping.{IsCounted, Asked, Settles, Answers, StepIs}
+use Rattle.wax_tree.specs.Stepping.{IsCounted, Asked, Settles, StepAnswers, StepIs}
 use Rattle.wax_tree.specs.Walking.{step_given, tree_given, names_left, allowance, Rest, AtRest, PlainToCome}
 use Rattle.wax_tree.specs.Walking.{steps_view}
 use Rattle.wax_tree.proofs.Resting.{comes_ended}
@@ -118,7 +118,7 @@ module _ {D C : Type 0} (law : Law D C) where
   -- the directory answered, and the step did with it what it did
   pub answers_settled : (asked : Asked) (w : Steps D C) (d : D) (r : Step) (new : Steps D C)
       → Counts asked.counts (law.tally w.directory) (law.tally d) → asked.counts.items ≡ asked.taken
-      → Settles asked (record w { directory = d }) r new → Answers law asked.names w r new
+      → Settles asked (record w { directory = d }) r new → StepAnswers law asked.names w r new
   answers_settled asked w d r new c i s =
       let A : D → Type 0 = λ v. CountsFaults (fault_counts (step_given r)) (law.tally w.directory)
       (law.tally v) in

@@ -11,7 +11,7 @@ use Rattle.wax_directory.specs.declared.directory.DirectoryFault.TheVariants as 
 use Rattle.wax_directory.specs.Answers.{KindIs}
 use Rattle.wax_directory.specs.Shown.{Items, end, leaf, folder, sealed, misnamed, unread, not_text, Shown}
 use Rattle.wax_directory.specs.Shown.{a_leaf, a_folder, a_sealed, missing, failing, leaf_kind, IsPlain}
-use Rattle.wax_directory.specs.Shown.{ShowsIn, join, Listed, named, no_item, no_name, first_of, rest_of}
+use Rattle.wax_directory.specs.Shown.{ShowsIn, join, Listed, named, no_item, no_name, first_item, rest_of}
 use Rattle.wax_directory.specs.Shown.{child_in, child_shown}
 use Rattle.wax_walk.specs.declared.error.FaultKind.TheVariants.{NotFound, NotAFolder, Listing, NotText}
 use Rattle.wax_walk.specs.declared.error.FaultKind.TheVariants.{BadName}
@@ -161,7 +161,7 @@ shows_rest shows path (misnamed y kind rest) h = h.1
 shows_rest shows path (unread rest) h = h
 shows_rest shows path (not_text rest) h = h
 
-pub count_rest : (x : Listed) (l : Items) → Some x ≡ first_of l
+pub count_rest : (x : Listed) (l : Items) → Some x ≡ first_item l
     → count l ≡ 1 + (own_count l + count (rest_of l))
 count_rest x end h = cc
 count_rest x (leaf y link rest) h = omega arith
@@ -193,7 +193,7 @@ at_depth_followed scope depth x below f g = go (nat_lt depth scope.min) where
   go false = refl
 
 -- the first item of a folder and what comes after it
-pub headed_is : (scope : Scope) (at : Spot) (x : Listed) (l : Items) (g : Forest Given) → Some x ≡ first_of l
+pub headed_is : (scope : Scope) (at : Spot) (x : Listed) (l : Items) (g : Forest Given) → Some x ≡ first_item l
     → followed_by (items_forest scope at l) g ≡ first_item_forest scope at l
     (followed_by (items_forest scope at (rest_of l)) g)
 headed_is scope at x end g h = cc
@@ -211,7 +211,7 @@ headed_is scope at x (not_text rest) g h = refl
 module _ (scope : Scope) (at : Spot) where
   -- what stands under a plain name
   pub takes_name : (shows : List ℕ → Shown → Type 0) (x : List ℕ) (kind : FileType) (l : Items)
-      (g : Forest Given) → Some (named x kind) ≡ first_of l → IsPlain x → ShowsIn shows at.path l
+      (g : Forest Given) → Some (named x kind) ≡ first_item l → IsPlain x → ShowsIn shows at.path l
       → (s : Shown) × shows (join at.path x) s × HasKind s kind × (own_count l ≡ count_shown s) ×
       (first_item_forest scope at l g ≡ entry_forest scope (item_spot at x) kind s g)
   takes_name shows x kind end g h q i = cc
@@ -231,7 +231,7 @@ module _ (scope : Scope) (at : Spot) where
 
   -- a name that no path can hold
   pub takes_misnamed : (shows : List ℕ → Shown → Type 0) (x : List ℕ) (kind : FileType) (l : Items)
-      (g : Forest Given) → Some (named x kind) ≡ first_of l → ¬ (IsPlain x) → ShowsIn shows at.path l
+      (g : Forest Given) → Some (named x kind) ≡ first_item l → ¬ (IsPlain x) → ShowsIn shows at.path l
       → first_item_forest scope at l g ≡ item (fault BadName at.path (at.depth - 1)) nothing g
   takes_misnamed shows x kind end g h q i = cc
   takes_misnamed shows x kind (leaf y link rest) g h q i = let e : x ≡ y =
@@ -244,7 +244,7 @@ module _ (scope : Scope) (at : Spot) where
   takes_misnamed shows x kind (unread rest) g h q i = cc
   takes_misnamed shows x kind (not_text rest) g h q i = cc
 
-  pub takes_failed : (l : Items) (g : Forest Given) → Some no_item ≡ first_of l
+  pub takes_failed : (l : Items) (g : Forest Given) → Some no_item ≡ first_item l
       → first_item_forest scope at l g ≡ item (fault Listing at.path (at.depth - 1)) nothing g
   takes_failed (unread rest) g h = refl
   takes_failed end g h = cc
@@ -254,7 +254,7 @@ module _ (scope : Scope) (at : Spot) where
   takes_failed (misnamed y kind rest) g h = cc
   takes_failed (not_text rest) g h = cc
 
-  pub takes_not_text : (l : Items) (g : Forest Given) → Some no_name ≡ first_of l
+  pub takes_not_text : (l : Items) (g : Forest Given) → Some no_name ≡ first_item l
       → first_item_forest scope at l g ≡ item (fault NotText at.path (at.depth - 1)) nothing g
   takes_not_text (not_text rest) g h = refl
   takes_not_text end g h = cc

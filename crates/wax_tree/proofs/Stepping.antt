@@ -13,7 +13,7 @@ use Rattle.wax_directory.specs.Answers.{Opens}
 use Rattle.wax_directory.specs.Law.{Law, HoldsLast}
 use Rattle.wax_directory.specs.Shown.{Items, end, leaf, folder, sealed, misnamed, unread, not_text, Shown}
 use Rattle.wax_directory.specs.Shown.{a_leaf, a_folder, a_sealed, missing, failing, IsPlain, ShowsIn, join}
-use Rattle.wax_directory.specs.Shown.{first_of, child_shown}
+use Rattle.wax_directory.specs.Shown.{first_item, child_shown}
 use Rattle.wax_walk.specs.declared.entry.TreeEntry.{TreeEntry}
 use Rattle.wax_walk.specs.declared.error.WalkError.{WalkError}
 use Rattle.wax_walk.specs.declared.error.WalkError.TheVariants.{Memory}
@@ -35,7 +35,7 @@ use Rattle.wax_tree.specs.Prefix.{ArePlain, from_last, walk_from}
 use Rattle.wax_tree.specs.Walking.{HasKind, IsAlone, IsFolder, tree_given, entered_forest}
 use Rattle.wax_tree.specs.Walking.{folder_spot, place_spot, scope_of, cursors_of, allowance}
 use Rattle.wax_tree.specs.Walking.{Rest, FirstShows, EnteredShows, LevelsShow, AtRest}
-use Rattle.wax_tree.specs.Walking.{PlainToCome, WereListed, steps_view, Advances}
+use Rattle.wax_tree.specs.Walking.{PlainToCome, WereListed, steps_view, MovesOn}
 use Rattle.wax_tree.specs.Stepping.{Blames, StepIs, Beside}
 use Rattle.wax_tree.specs.Stepping.{listing_pending, Adds, AddsFirst, Saves, items_left, steps_left}
 use Rattle.wax_tree.proofs.Showing.{silent, in_range, from_last_end, follows_folder, child_counts}
@@ -160,7 +160,7 @@ module _ {D C : Type 0} (law : Law D C) where
 
   -- the end of a folder
   pub goes_up : (w new : Steps D C) (at : Spot) (l : Items) (rest after : Rest) (items : ℕ)
-      → None ≡ first_of l → after.forest ≡ rest.forest → after.listed ≡ rest.listed → AtRest law new after
+      → None ≡ first_item l → after.forest ≡ rest.forest → after.listed ≡ rest.listed → AtRest law new after
       → allowance new ≡ allowance w → after.count ≤ items
       → StepIs law w (listing_pending (scope_of w) at l rest items) GoesOn new
   goes_up w new at end rest after items h f t r a few = (
@@ -417,7 +417,7 @@ listed_last [] path f = refl
 listed_last (x ∷ paths) path f = ap (lists x) (listed_last paths path f)
 
 -- one step on
-pub leads_on : (p q r : Pending Given) → ListsBetween p q → Advances q r → ListsBetween p r
+pub leads_on : (p q r : Pending Given) → ListsBetween p q → MovesOn q r → ListsBetween p r
 leads_on p q r h a = elim a [
   | inl e ↦ (h.0, h.1 ∙ ap (after_listing h.0) e.0, e.1 ∙ h.2)
   | inr e ↦ (

@@ -17,14 +17,14 @@ abbrev pub or_greatest : Option ℕ → ℕ
 or_greatest (Some n) = n
 or_greatest None = 2 ^ 64 - 1
 
-abbrev pub range_of : WalkBehavior → Range
-range_of b = record { min = least b.depth; max = or_greatest (greatest b.depth); budget = b.budget }
+abbrev pub behavior_range : WalkBehavior → Range
+behavior_range b = record { min = least b.depth; max = or_greatest (greatest b.depth); budget = b.budget }
 
 abbrev pub scope_in : Range → List ℕ → Scope
 scope_in range root = record { min = range.min; max = range.max; root = root }
 
 -- it ends, and gives no more items than so many
-pub record AtMost (most : ℕ) (left : Count) : Type 0 where
+pub record EndsWithin (most : ℕ) (left : Count) : Type 0 where
   pub ends : IsFinite left
   pub gives : size left ≤ most
 

@@ -32,11 +32,11 @@ IsUnbounded None (Some q) = ⊥
 IsUnbounded (Some p) (Some q) = (p ≡ 0) ⊎ (q < p)
 
 -- these are the bounds
-abbrev pub Bounds : Option ℕ → Option ℕ → DepthBehavior → Type 0
-Bounds (Some p) None (Min d) = non_zero_usize_get d.0 ≡ p
-Bounds None (Some q) (Max d) = d.0 ≡ q
-Bounds (Some p) (Some q) (MinMax d) = (non_zero_usize_get d.min ≡ p) × (p + d.extent ≡ q)
-Bounds p q d = ⊥
+abbrev pub HasBounds : Option ℕ → Option ℕ → DepthBehavior → Type 0
+HasBounds (Some p) None (Min d) = non_zero_usize_get d.0 ≡ p
+HasBounds None (Some q) (Max d) = d.0 ≡ q
+HasBounds (Some p) (Some q) (MinMax d) = (non_zero_usize_get d.min ≡ p) × (p + d.extent ≡ q)
+HasBounds p q d = ⊥
 
 -- with so many added
 abbrev pub raised : ℕ → Option ℕ → Option ℕ
@@ -53,5 +53,5 @@ abbrev pub IsUnboundedAt : ℕ → Option ℕ → Option ℕ → Type 0
 IsUnboundedAt n p q = IsPast n p ⊎ (IsPast n q ⊎ IsUnbounded (raised n p) (raised n q))
 
 -- of these depths, with links as they are, and as many items as can be counted
-abbrev pub at_depth : DepthBehavior → WalkBehavior
-at_depth d = record { depth = d; link = ReadFile; budget = 2 ^ 32 - 1 }
+abbrev pub behavior_at : DepthBehavior → WalkBehavior
+behavior_at d = record { depth = d; link = ReadFile; budget = 2 ^ 32 - 1 }

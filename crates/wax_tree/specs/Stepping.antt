@@ -17,7 +17,7 @@ use Rattle.wax_tree.specs.declared.steps.Step.TheVariants.{Gives, GoesOn, Ends}
 use Rattle.wax_tree.specs.declared.steps.Steps.{Steps}
 use Rattle.wax_tree.specs.Plain.{Scope, Spot, items_forest}
 use Rattle.wax_tree.specs.Walking.{if_some, step_given, cursors_of, Rest, HasStopped, allowance, names_left}
-use Rattle.wax_tree.specs.Walking.{AtRest, PlainToCome, steps_view, Advances}
+use Rattle.wax_tree.specs.Walking.{AtRest, PlainToCome, steps_view, MovesOn}
 
 -- no more is counted
 pub record IsCounted (n k : Tally) : Type 0 where
@@ -97,7 +97,7 @@ module _ {D C : Type 0} (law : Law D C) where
   -- what a step does where this was to come
   abbrev pub StepIs : Steps D C → Pending Given → Step → Steps D C → Type 0
   StepIs old p (Gives x) new = GivesOrStops (steps_view law old) p (step_given (Gives x)) (steps_view law new)
-  StepIs old p GoesOn new = (q : Pending Given) × PlainToCome law new q × Advances p q ×
+  StepIs old p GoesOn new = (q : Pending Given) × PlainToCome law new q × MovesOn p q ×
       (q.items + allowance old ≤ p.items + allowance new)
   StepIs old p Ends new = GivesOrStops (steps_view law old) p None (steps_view law new)
 
@@ -114,7 +114,7 @@ module _ {D C : Type 0} (law : Law D C) where
     pub opened : Contains rest.listed (string_bytes level.folder.path)
 
   -- what a step asks, takes and counts, where so many names were to be followed
-  pub record Answers (names : ℕ) (old : Steps D C) (r : Step) (new : Steps D C) : Type 0 where
+  pub record StepAnswers (names : ℕ) (old : Steps D C) (r : Step) (new : Steps D C) : Type 0 where
     pub goes_on : r ≡ Ends → ⊥
     pub accounts : Accounts law (steps_view law old) (step_given r) (steps_view law new)
     pub names_left : names_left new ≤ names

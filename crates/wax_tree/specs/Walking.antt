@@ -176,6 +176,6 @@ module _ {D C : Type 0} (law : Law D C) where
   }
 
 -- from p the walk goes on to q, with no item between
-abbrev pub Advances : Pending Given → Pending Given → Type 0
-Advances p q = ((all_pending p ≡ all_pending q) × (q.listed ≡ p.listed))
+abbrev pub MovesOn : Pending Given → Pending Given → Type 0
+MovesOn p q = ((all_pending p ≡ all_pending q) × (q.listed ≡ p.listed))
     ⊎ ((path : List ℕ) × (all_pending p ≡ lists path (all_pending q)) × (q.listed ≡ p.listed ++ path ∷ []))

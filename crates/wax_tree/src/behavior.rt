@@ -1,7 +1,7 @@
 //! How far a walk goes: the depths that it gives, and how many items it takes.
 ghost use Rattle.std.specs.Prelude.{◌≡◌, ℕ, Option, Some, MatchOption, min, max};
 ghost use Rattle.std.specs.Int.NonZero.{non_zero_usize_get};
-ghost use Rattle.wax_tree.specs.Depths.{Bounds, IsPast, IsUnbounded, IsUnboundedAt, at_depth};
+ghost use Rattle.wax_tree.specs.Depths.{HasBounds, IsPast, IsUnbounded, IsUnboundedAt, behavior_at};
 ghost use Rattle.wax_tree.specs.Depths.{greatest, least, no_bound, raised};
 ghost use Rattle.wax_query.specs.Ranges.{bounds};
 ghost use Rattle.wax_tree.specs.declared.behavior.DepthBehavior.TheVariants.{Unbounded, MinMax};
@@ -128,7 +128,7 @@ impl DepthBehavior {
         P: Into<Option<usize>>,
         Q: Into<Option<usize>>,
         ensures { (p : Option ℕ) × (q : Option ℕ) × P.converts min p × Q.converts max q × MatchOption result
-            (IsUnbounded p q) (Bounds p q) }
+            (IsUnbounded p q) (HasBounds p q) }
     {
         between(min.into(), max.into())
     }
@@ -141,7 +141,7 @@ impl DepthBehavior {
         Q: Into<Option<usize>>,
         ensures { (p : Option ℕ) × (q : Option ℕ) × P.converts min p × Q.converts max q × MatchOption result
             (IsUnboundedAt (bounds depth).0 p q)
-            (Bounds (raised (bounds depth).0 p) (raised (bounds depth).0 q)) }
+            (HasBounds (raised (bounds depth).0 p) (raised (bounds depth).0 q)) }
     {
         let (min, max) = (min.into(), max.into());
         let least = depth.lower();
@@ -221,7 +221,7 @@ pub struct WalkBehavior {
 impl Default for WalkBehavior {
     /// All depths, links as they are, and 4,294,967,295 items.
     fn default() -> Self
-        ensures { result ≡ at_depth Unbounded }
+        ensures { result ≡ behavior_at Unbounded }
     {
         WalkBehavior {
             depth: DepthBehavior::Unbounded,
@@ -232,10 +232,10 @@ impl Default for WalkBehavior {
 }
 
 impl From<()> for WalkBehavior {
-    ghost use Rattle.wax_tree.specs.Depths.{at_depth};
+    ghost use Rattle.wax_tree.specs.Depths.{behavior_at};
     ghost use Rattle.wax_tree.specs.declared.behavior.DepthBehavior.TheVariants.{Unbounded};
 
-    ghost from_gives = { λ _ r. r ≡ at_depth Unbounded };
+    ghost from_gives = { λ _ r. r ≡ behavior_at Unbounded };
 
     fn from(_: ()) -> Self {
         WalkBehavior::default()
@@ -243,9 +243,9 @@ impl From<()> for WalkBehavior {
 }
 
 impl From<DepthBehavior> for WalkBehavior {
-    ghost use Rattle.wax_tree.specs.Depths.{at_depth};
+    ghost use Rattle.wax_tree.specs.Depths.{behavior_at};
 
-    ghost from_gives = { λ d r. r ≡ at_depth d };
+    ghost from_gives = { λ d r. r ≡ behavior_at d };
 
     fn from(depth: DepthBehavior) -> Self {
         WalkBehavior {
@@ -256,10 +256,10 @@ impl From<DepthBehavior> for WalkBehavior {
 }
 
 impl From<DepthMin> for WalkBehavior {
-    ghost use Rattle.wax_tree.specs.Depths.{at_depth};
+    ghost use Rattle.wax_tree.specs.Depths.{behavior_at};
     ghost use Rattle.wax_tree.specs.declared.behavior.DepthBehavior.TheVariants.{Min};
 
-    ghost from_gives = { λ d r. r ≡ at_depth (Min d) };
+    ghost from_gives = { λ d r. r ≡ behavior_at (Min d) };
 
     fn from(min: DepthMin) -> Self {
         WalkBehavior::from(DepthBehavior::from(min))
@@ -267,10 +267,10 @@ impl From<DepthMin> for WalkBehavior {
 }
 
 impl From<DepthMax> for WalkBehavior {
-    ghost use Rattle.wax_tree.specs.Depths.{at_depth};
+    ghost use Rattle.wax_tree.specs.Depths.{behavior_at};
     ghost use Rattle.wax_tree.specs.declared.behavior.DepthBehavior.TheVariants.{Max};
 
-    ghost from_gives = { λ d r. r ≡ at_depth (Max d) };
+    ghost from_gives = { λ d r. r ≡ behavior_at (Max d) };
 
     fn from(max: DepthMax) -> Self {
         WalkBehavior::from(DepthBehavior::from(max))
@@ -278,10 +278,10 @@ impl From<DepthMax> for WalkBehavior {
 }
 
 impl From<DepthMinMax> for WalkBehavior {
-    ghost use Rattle.wax_tree.specs.Depths.{at_depth};
+    ghost use Rattle.wax_tree.specs.Depths.{behavior_at};
     ghost use Rattle.wax_tree.specs.declared.behavior.DepthBehavior.TheVariants.{MinMax};
 
-    ghost from_gives = { λ d r. r ≡ at_depth (MinMax d) };
+    ghost from_gives = { λ d r. r ≡ behavior_at (MinMax d) };
 
     fn from(bounds: DepthMinMax) -> Self {
         WalkBehavior::from(DepthBehavior::from(bounds))
@@ -289,10 +289,10 @@ impl From<DepthMinMax> for WalkBehavior {
 }
 
 impl From<LinkBehavior> for WalkBehavior {
-    ghost use Rattle.wax_tree.specs.Depths.{at_depth};
+    ghost use Rattle.wax_tree.specs.Depths.{behavior_at};
     ghost use Rattle.wax_tree.specs.declared.behavior.DepthBehavior.TheVariants.{Unbounded};
 
-    ghost from_gives = { λ l r. r ≡ record (at_depth Unbounded) { link = l } };
+    ghost from_gives = { λ l r. r ≡ record (behavior_at Unbounded) { link = l } };
 
     fn from(link: LinkBehavior) -> Self {
         WalkBehavior {
@@ -303,7 +303,7 @@ impl From<LinkBehavior> for WalkBehavior {
 }
 
 fn between(min: Option<usize>, max: Option<usize>) -> Option<DepthBehavior>
-    ensures { MatchOption result (IsUnbounded min max) (Bounds min max) }
+    ensures { MatchOption result (IsUnbounded min max) (HasBounds min max) }
 {
     match (min, max) {
         (Some(min), None) => Some(DepthBehavior::Min(DepthMin(NonZeroUsize::new(min)?))),

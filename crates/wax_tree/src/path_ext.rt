@@ -1,9 +1,9 @@
 //! Walks from a path.
 
 ghost use Rattle.std.specs.Prelude.{◌≡◌, ◌+◌, ◌*◌, ℕ, List};
-ghost use Rattle.wax_tree.specs.Depths.{at_depth, greatest};
+ghost use Rattle.wax_tree.specs.Depths.{behavior_at, greatest};
 ghost use Rattle.wax_tree.specs.declared.behavior.DepthBehavior.TheVariants.{Unbounded};
-ghost use Rattle.wax_tree.specs.Begins.{AtMost, Begins, or_greatest, range_of};
+ghost use Rattle.wax_tree.specs.Begins.{EndsWithin, Begins, or_greatest, behavior_range};
 
 use crate::behavior::{DepthBehavior, WalkBehavior};
 use crate::steps::Range;
@@ -25,9 +25,9 @@ pub trait PathExt {
     fn walk<D: Directory>(self, alloc: Global, directory: D) -> WalkTree<D>
     where
         Self: Sized,
-        ensures begins { Begins D.law directory (text self) (range_of (at_depth Unbounded))
+        ensures begins { Begins D.law directory (text self) (behavior_range (behavior_at Unbounded))
             (⟦<WalkTree<D> as FileIterator>⟧.view result) }
-        ensures gives { AtMost (2 * (at_depth Unbounded).budget + 3)
+        ensures gives { EndsWithin (2 * (behavior_at Unbounded).budget + 3)
             (⟦<WalkTree<D> as SeparatingFilter>⟧.left result) };
 
     /// The walk from this path, of the depths that the behavior has, which takes at most as many
@@ -39,8 +39,8 @@ pub trait PathExt {
         D: Directory,
         B: Into<WalkBehavior>,
         ensures { (b : WalkBehavior) × B.converts behavior b
-            × Begins D.law directory (text self) (range_of b) (⟦<WalkTree<D> as FileIterator>⟧.view result)
-            × AtMost (2 * b.budget + 3) (⟦<WalkTree<D> as SeparatingFilter>⟧.left result) };
+            × Begins D.law directory (text self) (behavior_range b) (⟦<WalkTree<D> as FileIterator>⟧.view result)
+            × EndsWithin (2 * b.budget + 3) (⟦<WalkTree<D> as SeparatingFilter>⟧.left result) };
 }
 
 // The greatest depth; the greatest that a walk counts where there is no bound.
@@ -56,7 +56,7 @@ fn greatest_or_all(depth: &DepthBehavior) -> usize
 impl WalkBehavior {
     /// The depths and the budget as numbers; where there is no greatest depth, the greatest number.
     pub fn range(&self) -> Range
-        ensures { result ≡ range_of self.now }
+        ensures { result ≡ behavior_range self.now }
     {
         Range {
             min: self.depth.least(),
@@ -73,9 +73,9 @@ pub(crate) fn walk_from<D: Directory>(
     start: &str,
     behavior: WalkBehavior,
 ) -> WalkTree<D>
-    ensures begins { Begins D.law directory start.now (range_of behavior)
+    ensures begins { Begins D.law directory start.now (behavior_range behavior)
         (⟦<WalkTree<D> as FileIterator>⟧.view result) }
-    ensures gives { AtMost (2 * behavior.budget + 3) (⟦<WalkTree<D> as SeparatingFilter>⟧.left result) }
+    ensures gives { EndsWithin (2 * behavior.budget + 3) (⟦<WalkTree<D> as SeparatingFilter>⟧.left result) }
 {
     WalkTree::with_range(alloc, directory, start, behavior.range())
 }

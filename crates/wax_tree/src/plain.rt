@@ -2,7 +2,7 @@
 
 ghost use Rattle.std.specs.Prelude.{◌+◌, List, ℕ, IfOk, map, ⊤};
 ghost use Rattle.wax_directory.specs.Shown.{Shown};
-ghost use Rattle.wax_tree.specs.Begins.{range_of};
+ghost use Rattle.wax_tree.specs.Begins.{behavior_range};
 ghost use Rattle.wax_tree.specs.Whole.{plain_pending, EntriesAre};
 ghost use Rattle.wax_walk.specs.Collected.{GaveAll};
 ghost use Rattle.wax_walk.specs.Entries.{given_outcome};
@@ -27,16 +27,16 @@ pub fn entries<D: Directory>(
 ) -> Result<(Vec<Result<TreeEntry, WalkError>>, D), NoMemory>
     ensures items { IfOk result (λ r. (s : Shown) → D.law.shows directory start.now s
         → (listed : List (List ℕ))
-        × GaveAll (λ _. ⊤) (behavior.budget + 1) (plain_pending (range_of behavior) start.now s listed)
+        × GaveAll (λ _. ⊤) (behavior.budget + 1) (plain_pending (behavior_range behavior) start.now s listed)
         (map (given_outcome ⟦<TreeEntry as Entry>⟧.facts ⟦<TreeEntry as Entry>⟧.facts) r.0.items)) }
     ensures entries { IfOk result (λ r. (s : Shown) → D.law.shows directory start.now s
-        → EntriesAre (range_of behavior) start.now s
+        → EntriesAre (behavior_range behavior) start.now s
         (map (given_outcome ⟦<TreeEntry as Entry>⟧.facts ⟦<TreeEntry as Entry>⟧.facts) r.0.items)) }
     ensures folders { IfOk result
         (λ r. (s : Shown) (listed : List (List ℕ)) → D.law.shows directory start.now s
         → D.law.tells directory listed
         → GaveAll (D.law.tells r.1) (behavior.budget + 1)
-        (plain_pending (range_of behavior) start.now s listed)
+        (plain_pending (behavior_range behavior) start.now s listed)
         (map (given_outcome ⟦<TreeEntry as Entry>⟧.facts ⟦<TreeEntry as Entry>⟧.facts) r.0.items)) }
 {
     collect(alloc, walk_from(alloc, directory, start, behavior))

@@ -5,7 +5,7 @@ ghost use Rattle.std.specs.Prelude.{Option, Some, None, Ok, true, false, OnOk, I
 ghost use Rattle.std.specs.Prelude.{MatchOption, ⊤};
 ghost use Rattle.wax_directory.specs.Answers.{listed_of};
 ghost use Rattle.wax_directory.specs.Counting.{kind_counts, item_counts};
-ghost use Rattle.wax_directory.specs.Shown.{Items, Shown, ShowsIn, IsPlain, named, first_of, rest_of};
+ghost use Rattle.wax_directory.specs.Shown.{Items, Shown, ShowsIn, IsPlain, named, first_item, rest_of};
 ghost use Rattle.wax_walk.specs.Forest.{Forest, Pending, followed_by};
 ghost use Rattle.wax_walk.specs.Given.{Given, fault};
 ghost use Rattle.wax_walk.specs.View.{Accounts, FeedStep};
@@ -13,7 +13,7 @@ ghost use Rattle.wax_tree.specs.Heads.{first_item_forest, own_count};
 ghost use Rattle.wax_tree.specs.Plain.{Spot, entry_forest, below_forest, count, count_shown};
 ghost use Rattle.wax_tree.specs.Prefix.{ArePlain, from_last, walk_from};
 ghost use Rattle.wax_tree.specs.Stepping.{Settles, nothing_asked, Adds, AddsFirst, Saves, Spends, StepIs};
-ghost use Rattle.wax_tree.specs.Stepping.{Continues, Beside, listing_pending, Answers, IsStep, Blames};
+ghost use Rattle.wax_tree.specs.Stepping.{Continues, Beside, listing_pending, StepAnswers, IsStep, Blames};
 ghost use Rattle.wax_tree.specs.Stepping.{items_left};
 ghost use Rattle.wax_tree.specs.Walking.{HasKind, IsFolder, EnteredShows, PlainToCome, entered_forest};
 ghost use Rattle.wax_tree.specs.Walking.{place_spot, folder_spot, scope_of, steps_view, names_left};
@@ -247,7 +247,7 @@ impl<D: Directory> Steps<D> {
 
     // What stands at the place to begin at.
     fn begin(&mut self, place: Place) -> Step
-        ensures answers { Answers D.law (names_left self.old + length place.names.items) self.old result
+        ensures answers { StepAnswers D.law (names_left self.old + length place.names.items) self.old result
             self.new }
         ensures continues { (s : Shown) → D.law.shows self.old.directory (string_bytes place.path) s
             → let names = from_last place.names.items in
@@ -275,7 +275,7 @@ impl<D: Directory> Steps<D> {
 
     // Opens a folder.
     fn enter(&mut self, folder: Folder) -> Step
-        ensures answers { Answers D.law (names_left self.old) self.old result self.new }
+        ensures answers { StepAnswers D.law (names_left self.old) self.old result self.new }
         ensures continues { (s : Shown) → D.law.shows self.old.directory (string_bytes folder.path) s
             → IsFolder s
             → let entered = entered_forest (scope_of self.old) (folder_spot folder) s in
@@ -315,7 +315,7 @@ impl<D: Directory> Steps<D> {
         kind: FileType,
     ) -> Step
         ensures settles { Settles (nothing_asked (names_left self.old)) self.old result self.new }
-        ensures continues { (l : Items) → Some (named name.now kind) ≡ first_of l → IsPlain name.now
+        ensures continues { (l : Items) → Some (named name.now kind) ≡ first_item l → IsPlain name.now
             → ShowsIn (D.law.shows self.old.directory) folder.now l
             → let at : Spot = record { path = folder.now; candidate = candidate.now; depth = depth } in
             Continues D.law self.old (first_item_forest (scope_of self.old) at l) (own_count l) result
@@ -336,7 +336,7 @@ impl<D: Directory> Steps<D> {
         ensures settles { Settles
             (record { counts = item_counts item; taken = 0; names = names_left self.old })
             self.old result self.new }
-        ensures continues { (l : Items) → Some (listed_of item) ≡ first_of l
+        ensures continues { (l : Items) → Some (listed_of item) ≡ first_item l
             → ShowsIn (D.law.shows self.old.directory) folder.now l
             → let at : Spot = record { path = folder.now; candidate = candidate.now; depth = depth } in
             Continues D.law self.old (first_item_forest (scope_of self.old) at l) (own_count l) result
@@ -361,7 +361,7 @@ impl<D: Directory> Steps<D> {
         ensures settles { (self.old.has_ended ≡ false)
             → Settles (record { counts = item_counts item; taken = 1; names = names_left self.old })
             self.old result self.new }
-        ensures lists { (l : Items) (rest : Rest) (items : ℕ) → Some (listed_of item) ≡ first_of l
+        ensures lists { (l : Items) (rest : Rest) (items : ℕ) → Some (listed_of item) ≡ first_item l
             → Beside D.law self.old (record { folder = folder; cursor = cursor }) (rest_of l) rest
             → ShowsIn (D.law.shows self.old.directory) (string_bytes folder.path) l
             → rest.count + count l ≤ items
@@ -391,7 +391,7 @@ impl<D: Directory> Steps<D> {
     // A step in a folder that is being listed.
     fn list_next(&mut self, level: Level<D::Cursor>) -> Step
         ensures answers { (self.old.has_ended ≡ false)
-            → Answers D.law (names_left self.old) self.old result self.new }
+            → StepAnswers D.law (names_left self.old) self.old result self.new }
         ensures lists { (l : Items) (rest : Rest) (items : ℕ) → Beside D.law self.old level l rest
             → rest.count + count l ≤ items
             → let p = listing_pending (scope_of self.old) (folder_spot level.folder) l rest items in

@@ -3,7 +3,7 @@
 ghost use Rattle.std.specs.Prelude.{◌≡◌, ◌+◌, ◌*◌, string_bytes, IfOk, ⊤};
 ghost use Rattle.std.specs.Iterator.{at_most};
 ghost use Rattle.wax_filter.specs.Feeding.{NextFiltrate};
-ghost use Rattle.wax_tree.specs.Begins.{AtMost, Begins, BeginsAt, HasEnded, LacksMemory};
+ghost use Rattle.wax_tree.specs.Begins.{EndsWithin, Begins, BeginsAt, HasEnded, LacksMemory};
 ghost use Rattle.wax_tree.specs.Lacking.{tree_view, gives_at_most};
 ghost use Rattle.wax_tree.specs.Prefix.{from_last};
 ghost use Rattle.wax_walk.specs.Entries.{entry_in, facts_of, answer_of};
@@ -76,7 +76,7 @@ impl<D: Directory> WalkTree<D> {
     pub(crate) fn with_range(alloc: Global, directory: D, start: &str, range: Range) -> WalkTree<D>
         ensures begins { Begins D.law directory start.now range
             (⟦<WalkTree<D> as FileIterator>⟧.view result) }
-        ensures gives { AtMost (2 * range.budget + 3) (⟦<WalkTree<D> as SeparatingFilter>⟧.left result) }
+        ensures gives { EndsWithin (2 * range.budget + 3) (⟦<WalkTree<D> as SeparatingFilter>⟧.left result) }
     {
         let none = Vec::new(alloc);
         WalkTree::to_place(alloc, directory, start, start, "", none, range)
@@ -103,7 +103,7 @@ impl<D: Directory> WalkTree<D> {
           candidate = candidate.now;
           names = from_last names.items;
         }) range (⟦<WalkTree<D> as FileIterator>⟧.view result) }
-        ensures gives { AtMost (2 * range.budget + 3) (⟦<WalkTree<D> as SeparatingFilter>⟧.left result) }
+        ensures gives { EndsWithin (2 * range.budget + 3) (⟦<WalkTree<D> as SeparatingFilter>⟧.left result) }
     {
         if range.max < names.len() {
             return WalkTree::ended(alloc, directory, range);
@@ -123,7 +123,7 @@ impl<D: Directory> WalkTree<D> {
     /// A walk that has ended: nothing comes, and nothing is asked.
     pub fn ended(alloc: Global, directory: D, range: Range) -> WalkTree<D>
         ensures ended { HasEnded D.law directory range (⟦<WalkTree<D> as FileIterator>⟧.view result) }
-        ensures gives { AtMost (2 * range.budget + 3) (⟦<WalkTree<D> as SeparatingFilter>⟧.left result) }
+        ensures gives { EndsWithin (2 * range.budget + 3) (⟦<WalkTree<D> as SeparatingFilter>⟧.left result) }
     {
         WalkTree {
             steps: Steps::new(alloc, directory, None, String::new(alloc), range),
@@ -134,7 +134,7 @@ impl<D: Directory> WalkTree<D> {
     /// A walk whose one item tells that memory was refused; nothing is asked.
     pub fn refused(alloc: Global, directory: D, range: Range) -> WalkTree<D>
         ensures lacks { LacksMemory D.law directory range (⟦<WalkTree<D> as FileIterator>⟧.view result) }
-        ensures gives { AtMost (2 * range.budget + 3) (⟦<WalkTree<D> as SeparatingFilter>⟧.left result) }
+        ensures gives { EndsWithin (2 * range.budget + 3) (⟦<WalkTree<D> as SeparatingFilter>⟧.left result) }
     {
         WalkTree {
             steps: Steps::new(alloc, directory, None, String::new(alloc), range),

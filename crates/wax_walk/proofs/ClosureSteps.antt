@@ -7,7 +7,7 @@ use Rattle.wax_walk.specs.declared.entry.TreeEntry.{TreeEntry}
 use Rattle.wax_walk.specs.declared.iterator.EntryResidue.{EntryResidue}
 use Rattle.wax_walk.specs.Forest.{cancelled}
 use Rattle.wax_walk.specs.Given.{Given, Facts, Mark, mark_by, with_mark, is_cut}
-use Rattle.wax_walk.specs.Says.{Says, closure_view}
+use Rattle.wax_walk.specs.Says.{SaysByRule, closure_view}
 use Rattle.wax_walk.specs.View.{WalkView, FeedStep, CancelStep, GivesOrStops}
 use Rattle.wax_walk.proofs.Accounting.{IsAsked, HasAnswered, step_ends, step_marked}
 use Rattle.wax_walk.proofs.Filtering.{layer_ends, layer_cuts, layer_passes}
@@ -39,7 +39,7 @@ module _ {D C F : Type 0} (law : Law D C) (step : F → Bor TreeEntry → Option
 
   -- what the closure says of an item, whatever rule it follows
   abbrev pub SaysOf : F → Given → Mark → F → Type 0
-  SaysOf f x m t = (rule : Facts → Mark) → Says step rule f → (m ≡ mark_by rule x) × Says step rule t
+  SaysOf f x m t = (rule : Facts → Mark) → SaysByRule step rule f → (m ≡ mark_by rule x) × SaysByRule step rule t
 
   pub closure_passes : (v w : WalkView D) (f t : F) (x y : Given) (m : Mark) → FeedStep law v (Some x) w
       → SaysOf f x m t → y ≡ with_mark x m → false ≡ is_cut x m → FeedStep law (closure_view step v f)

@@ -9,12 +9,12 @@ use Rattle.wax_filter.specs.Leaving.{residue_item}
 use Rattle.wax_filter.specs.declared.filter.tree_residue.TreeResidue.{TreeResidue}
 use Rattle.wax_filter.specs.declared.filter.tree_residue.TreeResidue.TheVariants.{Node, Tree}
 use Rattle.wax_walk.specs.Entries.{facts_of, given_residue}
-use Rattle.wax_walk.specs.Says.{Says}
+use Rattle.wax_walk.specs.Says.{SaysByRule}
 
 -- one call says what the rule says, and later calls will
 pub says_now : {F : Type 0} (step : F → Bor TreeEntry → Option EntryResidue → F → Type 0)
     (rule : Facts → Mark) (f t : F) (e : Bor TreeEntry) (r : Option EntryResidue)
-    → Says step rule f → step f e r t → (mark_of r ≡ rule (facts_of e.now)) × Says step rule t
+    → SaysByRule step rule f → step f e r t → (mark_of r ≡ rule (facts_of e.now)) × SaysByRule step rule t
 says_now step rule f t e r s h =
     ((s ((e, r) ∷ []) t (t, h, refl)).0, λ calls u runs. (s ((e, r) ∷ calls) u (t, h, runs)).1)
 

@@ -11,7 +11,7 @@ use Rattle.wax_walk.specs.Forest.{Pending, cancelled}
 use Rattle.wax_walk.specs.Given.{Given, Facts, Mark, ToComeFiltered}
 use Rattle.wax_walk.specs.Known.{KnownOutcome, KnownAnswer, KeepsKnown}
 use Rattle.wax_walk.specs.Ruled.{ruled_view}
-use Rattle.wax_walk.specs.Says.{Says, ToComeByClosure, closure_view}
+use Rattle.wax_walk.specs.Says.{SaysByRule, ToComeByClosure, closure_view}
 use Rattle.wax_walk.specs.View.{WalkView, CancelStep}
 
 filtered_cancelling : (rule : Facts → Mark) (inner new : Pending Given → Type 0) (q : Pending Given)
@@ -59,7 +59,7 @@ module _ {F : Type 0} (step : F → Bor TreeEntry → Option EntryResidue → F 
   closure_cancelling v w f g h e = record {
     leaves_out = λ o i. (
       i.0,
-      subst (λ s. Says step i.0 s) (sym e) i.1,
+      subst (λ s. SaysByRule step i.0 s) (sym e) i.1,
       filtered_cancelling i.0 v.to_come
           w.to_come o h.leaves_out i.2,
     );

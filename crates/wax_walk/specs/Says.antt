@@ -24,12 +24,12 @@ module _ {F : Type 0} (step : F → Bor TreeEntry → Option EntryResidue → F 
   Agrees rule (call ∷ calls) = (mark_of call.1 ≡ rule (facts_of call.0.now)) × Agrees rule calls
 
   -- each answer, in whatever calls, is what the rule says of the entry
-  abbrev pub Says : (Facts → Mark) → F → Type 0
-  Says rule f = (calls : List Call) (t : F) → Runs f calls t → Agrees rule calls
+  abbrev pub SaysByRule : (Facts → Mark) → F → Type 0
+  SaysByRule rule f = (calls : List Call) (t : F) → Runs f calls t → Agrees rule calls
 
   -- what is to come after the closure's filter
   abbrev pub ToComeByClosure : (Pending Given → Type 0) → F → Pending Given → Type 0
-  ToComeByClosure inner f q = (rule : Facts → Mark) × Says rule f × ToComeFiltered inner rule q
+  ToComeByClosure inner f q = (rule : Facts → Mark) × SaysByRule rule f × ToComeFiltered inner rule q
 
   -- the view of the filter
   abbrev pub closure_view : {D : Type 0} → WalkView D → F → WalkView D

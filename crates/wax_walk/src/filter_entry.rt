@@ -7,7 +7,7 @@ ghost use Rattle.wax_walk.specs.Entries.{given_of, answer_of};
 ghost use Rattle.wax_walk.specs.Given.{Facts, Mark, mark_by};
 ghost use Rattle.wax_walk.specs.Known.{KeepsKnown};
 ghost use Rattle.wax_walk.specs.Said.{mark_of};
-ghost use Rattle.wax_walk.specs.Says.{Says, closure_view};
+ghost use Rattle.wax_walk.specs.Says.{SaysByRule, closure_view};
 ghost use Rattle.wax_walk.specs.View.{FeedStep};
 
 use crate::entry::{Entry, TreeEntry};
@@ -25,8 +25,8 @@ where
     F: FnMut(&TreeEntry) -> Option<EntryResidue>,
     requires { F.IsAlwaysCallable f.old }
     ensures callable { F.IsAlwaysCallable f.new }
-    ensures says { (rule : Facts → Mark) → Says F.step rule f.old
-        → (mark_of result ≡ mark_by rule (given_of T.facts R.facts separation.now)) × Says F.step rule f.new }
+    ensures says { (rule : Facts → Mark) → SaysByRule F.step rule f.old
+        → (mark_of result ≡ mark_by rule (given_of T.facts R.facts separation.now)) × SaysByRule F.step rule f.new }
 {
     match separation {
         Separation::Filtrate(filtrate) => match filtrate.get() {

@@ -5,7 +5,8 @@ use Rattle.wax_alternatives.proofs.Means.{means_one_of}
 use Rattle.wax_alternatives.specs.Alternatives.{alternatives}
 use Rattle.wax_components.specs.TopLevel.{tokens_of}
 use Rattle.wax_token.specs.Decided.{means_test, means_tested}
-use Rattle.wax_token.specs.Meaning.{Begins, TreeMeans, Means, MeansSome, MeansEach}
+use Rattle.wax_query.specs.Components.{BeginsWithSlash}
+use Rattle.wax_token.specs.Meaning.{TreeMeans, Means, MeansSome, MeansEach}
 use Rattle.wax_token.specs.Spelled.{LiteralsHaveNoSlash, AllHaveNoSlash}
 use Rattle.wax_token.specs.Syntax.{literal, class, separator, one, zero_or_more, tree, Tree, leaf}
 use Rattle.wax_token.specs.Syntax.{alternation, concatenation, repetition, Trees, none, more}
@@ -134,10 +135,10 @@ glob_keeps rooted t names p q =
 
 -- ---- a pattern that is left out
 
-begins_more : (s r : List ℕ) → Begins s → Begins (s ++ r)
+begins_more : (s r : List ℕ) → BeginsWithSlash s → BeginsWithSlash (s ++ r)
 begins_more s r h = (h.0 ++ r, ap (λ v. v ++ r) h.1)
 
-empty_or_begins : (s r : List ℕ) → (s ≡ []) ⊎ Begins s → (s ++ 47 ∷ r ≡ []) ⊎ Begins (s ++ 47 ∷ r)
+empty_or_begins : (s r : List ℕ) → (s ≡ []) ⊎ BeginsWithSlash s → (s ++ 47 ∷ r ≡ []) ⊎ BeginsWithSlash (s ++ 47 ∷ r)
 empty_or_begins s r h =
     elim h [ inl e ↦ inr (r, ap (λ v. v ++ 47 ∷ r) e) | inr b ↦ inr (begins_more s (47 ∷ r) b) ]
 

@@ -4,10 +4,10 @@ ghost use Rattle.wax_depth.specs.Depth.{Depth};
 ghost use Rattle.wax_facts.specs.Prefix.{Prefix};
 ghost use Rattle.wax_glob_walk.specs.Matches.{IsMatchedEntry};
 ghost use Rattle.wax_leading.specs.Prefix.{HasEmptyName};
-ghost use Rattle.wax_query.specs.Components.{components};
-ghost use Rattle.wax_query.specs.Ranges.{AtMost as AtMostComponents, Bounds};
-ghost use Rattle.wax_tree.specs.Begins.{AtMost, BeginsAt, range_of};
-ghost use Rattle.wax_tree.specs.Depths.{at_depth};
+ghost use Rattle.wax_query.specs.Components.{components_in};
+ghost use Rattle.wax_query.specs.Ranges.{EndsWithin as AtMostComponents, Bounds};
+ghost use Rattle.wax_tree.specs.Begins.{EndsWithin, BeginsAt, behavior_range};
+ghost use Rattle.wax_tree.specs.Depths.{behavior_at};
 ghost use Rattle.wax_tree.specs.Prefix.{from_last};
 ghost use Rattle.wax_tree.specs.declared.behavior.DepthBehavior.TheVariants.{Unbounded};
 ghost use Rattle.wax_walk.specs.Known.{StaysKnown};
@@ -43,9 +43,9 @@ impl<'t> Glob<'t> {
         directory: D,
         start: &str,
     ) -> GlobWalk<'g, 't, D>
-        ensures begins { BeginsGlob self.now.tree D.law directory start.now (range_of (at_depth Unbounded))
+        ensures begins { BeginsGlob self.now.tree D.law directory start.now (behavior_range (behavior_at Unbounded))
             (⟦<GlobWalk<'g, 't, D> as FileIterator>⟧.view result) }
-        ensures gives { AtMost (2 * (at_depth Unbounded).budget + 3)
+        ensures gives { EndsWithin (2 * (behavior_at Unbounded).budget + 3)
             (⟦<GlobWalk<'g, 't, D> as SeparatingFilter>⟧.left result) }
         ensures known { StaysKnown (IsMatchedEntry (IsMeant self.now) (HasCaptures self.now))
             (⟦<GlobWalk<'g, 't, D> as FileIterator>⟧.known result) }
@@ -66,9 +66,9 @@ impl<'t> Glob<'t> {
         D: Directory,
         B: Into<WalkBehavior>,
         ensures begins { (b : WalkBehavior) × B.converts behavior b
-            × BeginsGlob self.now.tree D.law directory start.now (range_of b)
+            × BeginsGlob self.now.tree D.law directory start.now (behavior_range b)
             (⟦<GlobWalk<'g, 't, D> as FileIterator>⟧.view result)
-            × AtMost (2 * b.budget + 3) (⟦<GlobWalk<'g, 't, D> as SeparatingFilter>⟧.left result) }
+            × EndsWithin (2 * b.budget + 3) (⟦<GlobWalk<'g, 't, D> as SeparatingFilter>⟧.left result) }
         ensures known { StaysKnown (IsMatchedEntry (IsMeant self.now) (HasCaptures self.now))
             (⟦<GlobWalk<'g, 't, D> as FileIterator>⟧.known result) }
     {
@@ -85,7 +85,7 @@ impl<'t> Glob<'t> {
     // The range, but no deeper than the glob's texts.
     fn within(&self, range: Range) -> Range
         ensures { (depth : Bounds) × Depth self.now.tree depth
-            × ((s : List ℕ) → IsMeant self.now s → AtMostComponents (components s) depth.1)
+            × ((s : List ℕ) → IsMeant self.now s → AtMostComponents (components_in s) depth.1)
             × (result ≡ within range depth) }
     {
         match self.depth().upper() {
@@ -129,7 +129,7 @@ fn walk_along<D: Directory>(
     ensures begins { BeginsAt D.law directory
         (way_from start.now way.is_rooted (from_last way.names.items)) range
         (⟦<WalkTree<D> as FileIterator>⟧.view result) }
-    ensures gives { AtMost (2 * range.budget + 3) (⟦<WalkTree<D> as SeparatingFilter>⟧.left result) }
+    ensures gives { EndsWithin (2 * range.budget + 3) (⟦<WalkTree<D> as SeparatingFilter>⟧.left result) }
 {
     let Way { is_rooted, names } = way;
     if is_rooted {
@@ -147,9 +147,9 @@ fn walk_in<'g, 't, D: Directory>(
     start: &str,
     behavior: WalkBehavior,
 ) -> GlobWalk<'g, 't, D>
-    ensures begins { BeginsGlob glob.now.tree D.law directory start.now (range_of behavior)
+    ensures begins { BeginsGlob glob.now.tree D.law directory start.now (behavior_range behavior)
         (⟦<GlobWalk<'g, 't, D> as FileIterator>⟧.view result) }
-    ensures gives { AtMost (2 * behavior.budget + 3)
+    ensures gives { EndsWithin (2 * behavior.budget + 3)
         (⟦<GlobWalk<'g, 't, D> as SeparatingFilter>⟧.left result) }
     ensures known { StaysKnown (IsMatchedEntry (IsMeant glob.now) (HasCaptures glob.now))
         (⟦<GlobWalk<'g, 't, D> as FileIterator>⟧.known result) }
@@ -207,7 +207,7 @@ impl<'t> Glob<'t> {
             → D.law.shows directory (way_from start.now b.rooted b.names).path s
             → D.law.tells directory listed
             → KeepsWanted (D.law.tells r.1)
-            (trip_of start.now (range_of behavior) depth b filters) s listed
+            (trip_of start.now (behavior_range behavior) depth b filters) s listed
             (map (given_outcome ⟦<GlobEntry as Entry>⟧.facts ⟦<TreeEntry as Entry>⟧.facts) r.0.items))) }
     {
         let walk = walk_in(alloc, self, directory, start, behavior);

@@ -1,7 +1,7 @@
 -- Lengths of the parts of a text that a form takes.
 use Rattle.std.specs.Prelude.{◌≡◌, ◌↔◌, ◌⊎◌, ℕ, zero, suc, ◌-◌, ◌<◌, ◌≤◌, Bool, List, ⊤, length, take}
 use Rattle.std.specs.Prelude.{slice_index_or}
-use Rattle.wax_program.specs.Threads.{Has}
+use Rattle.wax_program.specs.Threads.{HoldsPlace}
 use Rattle.wax_capture.specs.Captures.{Prefers}
 use Rattle.wax_capture.specs.Pieces.{TakenBy}
 use Rattle.wax_capture.specs.declared.form.Form.{Form}
@@ -14,7 +14,7 @@ abbrev pub IsMarked : Marks → List ℕ → ℕ → Type 0
 IsMarked All s n = ⊤
 IsMarked AfterSlash s zero = ⊤
 IsMarked AfterSlash s (suc n) = slice_index_or s n 0 ≡ 47
-IsMarked (Flags flags) s n = Has flags.items n
+IsMarked (Flags flags) s n = HoldsPlace flags.items n
 
 abbrev pub InSpan : Span → List ℕ → ℕ → Type 0
 InSpan span s n = (span.low ≤ n) × (n < span.end) × IsMarked span.marks s n

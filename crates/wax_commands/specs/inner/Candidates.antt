@@ -15,8 +15,8 @@ use Rattle.wax_commands.specs.Candidates.{candidate_lines, is_error}
 
 -- of what waits and a line, some bytes were written, and the others wait. `held` is what the writer holds,
 -- before and after.
-abbrev pub Moves : (held held' : Option (List ℕ)) → (waiting waiting' line : List ℕ) → Type 0
-Moves held held' waiting waiting' line =
+abbrev pub MovesBytes : (held held' : Option (List ℕ)) → (waiting waiting' line : List ℕ) → Type 0
+MovesBytes held held' waiting waiting' line =
     (bytes : List ℕ) × Appends held held' bytes × (bytes ++ waiting' ≡ waiting ++ line)
 
 -- the walk was taken to its end, and the lines of its items were written

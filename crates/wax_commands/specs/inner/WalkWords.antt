@@ -36,9 +36,9 @@ pub record AreMore (bounds : OptionWords) (o : WalkOption) (more : OptionWords) 
   pub lists : one_if more.has_list ≡ one_if bounds.has_list + count_lists (o ∷ [])
 
 -- a word, and then the rest
-abbrev pub IsFirst : {A : Type 0} → List (Option (String A)) → List ℕ → List (Option (String A)) → Type 0
-IsFirst (Some w ∷ words) word rest = (string_bytes w ≡ word) × (rest ≡ words)
-IsFirst _ word rest = ⊥
+abbrev pub IsFirstWord : {A : Type 0} → List (Option (String A)) → List ℕ → List (Option (String A)) → Type 0
+IsFirstWord (Some w ∷ words) word rest = (string_bytes w ≡ word) × (rest ≡ words)
+IsFirstWord _ word rest = ⊥
 
 -- the first word isn't text, or there is none
 abbrev pub HasNoFirst : {A : Type 0} → List (Option (String A)) → Type 0

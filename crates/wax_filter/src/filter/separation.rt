@@ -5,7 +5,7 @@ ghost use Rattle.std.specs.Option.{option_map};
 ghost use Rattle.std.specs.Fn.{FnOnceReturnsAt};
 ghost use Rattle.wax_filter.specs.Separating.{filtrate_of, AtFiltrate, AtResidue, LeavesOut, LeavesOutNode};
 ghost use Rattle.wax_filter.specs.Separating.{LeavesOutTree, MapsFiltrate, MapsLeftOut, RefersTo};
-ghost use Rattle.wax_filter.specs.Separating.{CancelsTree, Answers, Says, SeparatesBy, CancelsBy};
+ghost use Rattle.wax_filter.specs.Separating.{CancelsTree, Answers, SaysOf, SeparatesBy, CancelsBy};
 ghost use Rattle.wax_filter.specs.Transposing.{Transposes, TransposesOk};
 
 use crate::filter::cancel::{CancelWalk, WalkCancellation};
@@ -214,7 +214,7 @@ where
         I: CancelWalk,
         F: FnOnce(&S::Substituent) -> Option<TreeResidue<()>>,
         requires { F.IsAlwaysCallable f }
-        ensures separates { (said : _) × Says (FnOnceReturnsAt F.FnOnce f) (S.shown self) said
+        ensures separates { (said : _) × SaysOf (FnOnceReturnsAt F.FnOnce f) (S.shown self) said
             × SeparatesBy R.from_gives said self result
             × CancelsBy I.cancels said self cancellation.old.0.now cancellation.new.0.now }
         ensures same { cancellation.new.0.ghost_name ≡ cancellation.old.0.ghost_name }

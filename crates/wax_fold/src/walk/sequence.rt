@@ -2,7 +2,7 @@
 ghost use Rattle.std.specs.Prelude.{◌≡◌, ◌∷◌, [], ℕ, List, IfOk, map};
 ghost use Rattle.std.specs.Option.{option_map};
 ghost use Rattle.wax_fold.specs.Folded.{listed_term};
-ghost use Rattle.wax_fold.specs.Branches.{Branch, branch_of, first_of, last_of, picked, tokens_in};
+ghost use Rattle.wax_fold.specs.Branches.{Branch, branch_of, first_picked, last_picked, picked, tokens_in};
 
 use std::alloc::{AllocError, Global};
 use std::marker::Model;
@@ -81,7 +81,7 @@ impl<'i, 't, A> Parent<&'i BranchKind<'t, A>> {
         alloc: Global,
     ) -> Result<Vec<ChildToken<'i, 't, A>>, AllocError>
         ensures { IfOk result (λ cs. map (λ c. c.now) cs.items
-            ≡ first_of (tokens_in (branch_of self.entry.now))) }
+            ≡ first_picked (tokens_in (branch_of self.entry.now))) }
     {
         match self.0 {
             BranchKind::Alternation(alternation) => some(alloc, alternation.tokens().first()),
@@ -97,7 +97,7 @@ impl<'i, 't, A> Parent<&'i BranchKind<'t, A>> {
         alloc: Global,
     ) -> Result<Vec<ChildToken<'i, 't, A>>, AllocError>
         ensures { IfOk result (λ cs. map (λ c. c.now) cs.items
-            ≡ last_of (tokens_in (branch_of self.entry.now))) }
+            ≡ last_picked (tokens_in (branch_of self.entry.now))) }
     {
         match self.0 {
             BranchKind::Alternation(alternation) => some(alloc, alternation.tokens().last()),

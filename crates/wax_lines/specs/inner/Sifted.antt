@@ -8,9 +8,9 @@ abbrev pub HasNoFeed : List ℕ → Type 0
 HasNoFeed bytes = All (λ b. b ≢ 10) bytes
 
 -- each line and its line feed
-abbrev pub joined : List (List ℕ) → List ℕ
-joined [] = []
-joined (line ∷ rest) = line ++ 10 ∷ joined rest
+abbrev pub lines_text : List (List ℕ) → List ℕ
+lines_text [] = []
+lines_text (line ∷ rest) = line ++ 10 ∷ lines_text rest
 
 -- a count that stays at the greatest u64 grew by m
 abbrev pub CountsMore : ℕ → ℕ → ℕ → Type 0
@@ -21,7 +21,7 @@ pub record Sifted (Writes : List ℕ → List ℕ → Type 0) (taken written car
     (counted : ℕ) : Type 0 where
   pub whole : List (List ℕ)
   pub bad : ℕ
-  pub splits : taken ≡ joined whole ++ carry
+  pub splits : taken ≡ lines_text whole ++ carry
   pub are_lines : All HasNoFeed whole
   pub is_open : HasNoFeed carry
   pub filters : Filters Writes whole (written ++ waiting) bad

@@ -1,7 +1,7 @@
 //! How the instructions of tokens are written, from the last one to the first.
 ghost use Rattle.std.specs.Prelude.{◌≡◌, ◌<◌, ◌++◌, OnOk, List, Some, length};
 ghost use Rattle.wax_program.specs.declared.instruction.Instruction.{Instruction};
-ghost use Rattle.wax_match.specs.Code.{branches_code, choose, copied_code, copies_code, counted_code, loop, many_code, repeated_code, sequence_code, tree_code, up_to_code};
+ghost use Rattle.wax_match.specs.Code.{branches_code, choose, copied_code, copies_code, counted_code, loop, many_code, repeated_code, sequence_code, instructions_of, up_to_code};
 ghost use Rattle.wax_token.specs.Words.{trees};
 
 use crate::encode::cost::weigh;
@@ -20,7 +20,7 @@ fn put_token<'t, A>(
     before: bool,
     after: bool,
 ) -> Result<(), AllocError>
-    ensures { OnOk result (tail.new ≡ tree_code token.now before after ++ tail.old) }
+    ensures { OnOk result (tail.new ≡ instructions_of token.now before after ++ tail.old) }
 {
     match token.topology() {
         Topology::Branch(branch) => match branch {
@@ -96,7 +96,7 @@ fn put_choice<'t, A>(
     after: bool,
 ) -> Result<(), AllocError>
     ensures { (other rest : List Instruction) → tail.old ≡ other ++ rest → length other ≡ others
-        → OnOk result (tail.new ≡ choose (tree_code token.now before after) other ++ rest) }
+        → OnOk result (tail.new ≡ choose (instructions_of token.now before after) other ++ rest) }
 {
     let start = tail.len();
     tail.put(Instruction::Jump(others))?;
@@ -139,7 +139,7 @@ fn put_copied<'t, A>(
     before: bool,
     after: bool,
 ) -> Result<(), AllocError>
-    ensures { OnOk result (tail.new ≡ copied_code lower upper (tree_code body.now) before after ++ tail.old) }
+    ensures { OnOk result (tail.new ≡ copied_code lower upper (instructions_of body.now) before after ++ tail.old) }
 {
     let further = match upper {
         Some(upper) => {
@@ -185,7 +185,7 @@ fn put_few<'t, A>(
 ) -> Result<(), AllocError>
     requires { upper < 2 }
     ensures { OnOk result
-        (tail.new ≡ copied_code lower (Some upper) (tree_code body.now) before after ++ tail.old) }
+        (tail.new ≡ copied_code lower (Some upper) (instructions_of body.now) before after ++ tail.old) }
 {
     if upper < lower {
         tail.put(Instruction::Check(Test::Never))?;
@@ -213,7 +213,7 @@ fn put_many<'t, A>(
     before: bool,
     after: bool,
 ) -> Result<(), AllocError>
-    ensures { OnOk result (tail.new ≡ many_code lower upper (tree_code body.now) before after ++ tail.old) }
+    ensures { OnOk result (tail.new ≡ many_code lower upper (instructions_of body.now) before after ++ tail.old) }
 {
     put_token(alloc, tail, body, true, after)?;
     put_counted(alloc, tail, body, lower, upper, true, true)?;
@@ -233,7 +233,7 @@ fn put_counted<'t, A>(
     after: bool,
 ) -> Result<(), AllocError>
     ensures { OnOk result
-        (tail.new ≡ counted_code lower upper (tree_code body.now before after) ++ tail.old) }
+        (tail.new ≡ counted_code lower upper (instructions_of body.now before after) ++ tail.old) }
 {
     let Some(upper) = upper else {
         put_loop_of(alloc, tail, body, before, after)?;
@@ -259,7 +259,7 @@ fn put_copies<'t, A>(
     before: bool,
     after: bool,
 ) -> Result<(), AllocError>
-    ensures { OnOk result (tail.new ≡ copies_code count (tree_code body.now before after) ++ tail.old) }
+    ensures { OnOk result (tail.new ≡ copies_code count (instructions_of body.now before after) ++ tail.old) }
 {
     for _copy in 0..count {
         put_token(alloc, tail, body, before, after)?;
@@ -277,7 +277,7 @@ fn put_up_to<'t, A>(
     before: bool,
     after: bool,
 ) -> Result<(), AllocError>
-    ensures { OnOk result (tail.new ≡ up_to_code count (tree_code body.now before after) ++ tail.old) }
+    ensures { OnOk result (tail.new ≡ up_to_code count (instructions_of body.now before after) ++ tail.old) }
 {
     let start = tail.len();
     for _copy in 0..count {
@@ -297,7 +297,7 @@ fn put_loop_of<'t, A>(
     before: bool,
     after: bool,
 ) -> Result<(), AllocError>
-    ensures { OnOk result (tail.new ≡ loop (tree_code body.now before after) ++ tail.old) }
+    ensures { OnOk result (tail.new ≡ loop (instructions_of body.now before after) ++ tail.old) }
 {
     let start = tail.len();
     tail.put(Instruction::Back(0))?;

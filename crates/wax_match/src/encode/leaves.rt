@@ -1,6 +1,6 @@
 //! How the instructions of leaves are written, from the last one to the first.
 ghost use Rattle.std.specs.Prelude.{◌≡◌, ◌++◌, ◌∷◌, ℕ, List, [], OnOk, IfOk, chars};
-ghost use Rattle.wax_match.specs.Code.{leaf_code, literal_code, skip, slash, wildcard_code};
+ghost use Rattle.wax_match.specs.Code.{leaf_instructions, literal_code, skip, slash_code, wildcard_code};
 ghost use Rattle.wax_token.specs.View.{leaf_of};
 
 use crate::encode::tail::Tail;
@@ -10,7 +10,7 @@ use wax_program::instruction::{Instruction, Test};
 use wax_token::token::{Class, LeafKind, Literal, Wildcard};
 
 fn put_slash(tail: &mut Tail) -> Result<(), AllocError>
-    ensures { OnOk result (tail.new ≡ slash ++ tail.old) }
+    ensures { OnOk result (tail.new ≡ slash_code ++ tail.old) }
 {
     tail.put(Instruction::Check(Test::Char('/')))?;
     Ok(())
@@ -27,7 +27,7 @@ fn put_components(tail: &mut Tail) -> Result<(), AllocError>
 
 /// A text that begins with `/`.
 fn put_rest(tail: &mut Tail) -> Result<(), AllocError>
-    ensures { OnOk result (tail.new ≡ slash ++ Instruction.Repeat Test.Any ∷ tail.old) }
+    ensures { OnOk result (tail.new ≡ slash_code ++ Instruction.Repeat Test.Any ∷ tail.old) }
 {
     tail.put(Instruction::Repeat(Test::Any))?;
     put_slash(tail)?;
@@ -108,7 +108,7 @@ pub fn put_leaf(
     before: bool,
     after: bool,
 ) -> Result<(), AllocError>
-    ensures { OnOk result (tail.new ≡ leaf_code (leaf_of leaf.now) before after ++ tail.old) }
+    ensures { OnOk result (tail.new ≡ leaf_instructions (leaf_of leaf.now) before after ++ tail.old) }
 {
     match leaf {
         LeafKind::Class(class) => {

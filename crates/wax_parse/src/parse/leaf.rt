@@ -1,6 +1,6 @@
 //! The leaf that a text begins with.
 ghost use Rattle.std.specs.Prelude.{◌≡◌, IfOk, MatchOption, Some, None, chars, codes};
-ghost use Rattle.wax_token.specs.Reads.{starts_in};
+ghost use Rattle.wax_token.specs.Reads.{starts_with_one_of};
 ghost use Rattle.wax_token.specs.View.{leaf_of};
 ghost use Rattle.wax_parse.specs.Parser.{place, around_of, flags_end, after_tree, boundary_leaf, zero_or_more_leaf, inner_leaf, read_leaf, at};
 
@@ -25,7 +25,7 @@ fn read_boundary(around: Around, rest: Cursor<'_>) -> (LeafKind<'static>, Cursor
 
 /// Whether `*` or `$` follows, after flag groups.
 fn is_before_wildcard(rest: Cursor<'_>) -> bool
-    ensures { result ≡ starts_in (codes "*$") (flags_end (place rest.entry)).rest }
+    ensures { result ≡ starts_with_one_of (codes "*$") (flags_end (place rest.entry)).rest }
 {
     match split_first(read_flags(rest).rest) {
         None => false,

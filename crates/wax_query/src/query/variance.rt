@@ -2,7 +2,7 @@
 ghost use Rattle.std.specs.Prelude.{◌≡◌, ◌↔◌, IfOk, IsNone, IsSome, IsTrue};
 ghost use Rattle.std.specs.Prelude.{option_copied, option_map, string_bytes};
 ghost use Rattle.std.specs.Option.{ForSome};
-ghost use Rattle.wax_query.specs.Variances.{IsMapped, bound, inner, invariant, text_of};
+ghost use Rattle.wax_query.specs.Variances.{IsMapped, bound, variance_value, invariant, text_of};
 ghost use Rattle.wax_query.specs.Variances.{variance_copied, variant};
 
 use crate::diagnostics::NoMemory;
@@ -144,7 +144,7 @@ impl<T, B> Variance<T, B> {
 impl<T> Variance<T, T> {
     /// The value of either side.
     pub fn into_inner(self) -> T
-        ensures { result ≡ inner self }
+        ensures { result ≡ variance_value self }
     {
         match self {
             Variance::Invariant(inner) | Variance::Variant(inner) => inner,
@@ -155,8 +155,8 @@ impl<T> Variance<T, T> {
     pub fn map<U, F>(self, f: F) -> Variance<U, U>
     where
         F: FnOnce(T) -> U,
-        requires { F.pre f (inner self) }
-        ensures value { F.post f (inner self) (inner result) }
+        requires { F.pre f (variance_value self) }
+        ensures value { F.post f (variance_value self) (variance_value result) }
         ensures side { IsSome (invariant result) ↔ IsSome (invariant self) }
     {
         match self {

@@ -1,6 +1,6 @@
 //! How sure an answer is.
 ghost use Rattle.std.specs.Prelude.{◌≡◌, ◌≢◌, ◌↔◌, IsTrue, max, min};
-ghost use Rattle.wax_query.specs.Whens.{answer_of, certainty, greater, lesser, rank, when};
+ghost use Rattle.wax_query.specs.Whens.{certain_bool, certainty, greater, lesser, rank, when};
 ghost use Rattle.wax_query.specs.declared.query.when.When.TheVariants.{Always, Never, Sometimes};
 
 /// Whether something holds of the texts of a glob: of none, of some or of all, in this order.
@@ -81,7 +81,7 @@ impl From<bool> for When {
 
 /// None is `Sometimes`.
 impl From<Option<bool>> for When {
-    ghost from_gives = { λ answer w. answer ≡ answer_of w };
+    ghost from_gives = { λ answer w. answer ≡ certain_bool w };
 
     fn from(answer: Option<bool>) -> Self {
         answer.map_or(When::Sometimes, When::from)
@@ -90,7 +90,7 @@ impl From<Option<bool>> for When {
 
 /// None is `Sometimes`.
 impl From<When> for Option<bool> {
-    ghost from_gives = { λ w answer. answer ≡ answer_of w };
+    ghost from_gives = { λ w answer. answer ≡ certain_bool w };
 
     fn from(when: When) -> Self {
         match when {

@@ -3,7 +3,7 @@ ghost use Rattle.std.specs.Prelude.{◌≡◌, ◌++◌, ◌∷◌, [], Bool, If
 ghost use Rattle.std.specs.List.{flat_map};
 ghost use Rattle.wax_token.specs.View.{leaf_of};
 ghost use Rattle.wax_token.specs.Words.{trees, annotation_of};
-ghost use Rattle.wax_rule.specs.Situated.{starts_in, some_starts_in, ends_in, some_ends_in, end_side, start_side, right_of, breadth_first};
+ghost use Rattle.wax_rule.specs.Situated.{starts_with_leaf, some_starts_in, ends_in, some_ends_in, end_side, start_side, right_of, breadth_first};
 ghost use Rattle.wax_token.specs.Kinds.{is_boundary_leaf, is_zero_or_more_leaf};
 ghost use Rattle.wax_rule.specs.Queue.{branches, siblings, children, queue_children};
 
@@ -80,8 +80,8 @@ fn found_in_leaf(leaf: &LeafKind<'_>) -> Found
 /// What is reached through first tokens.
 #[cycle(found_at_start)]
 fn found_at_start<'t>(token: &Token<'t, ExpressionMetadata>) -> Found
-    ensures boundary { result.boundary ≡ starts_in is_boundary_leaf token.now }
-    ensures zero_or_more { result.zero_or_more ≡ starts_in is_zero_or_more_leaf token.now }
+    ensures boundary { result.boundary ≡ starts_with_leaf is_boundary_leaf token.now }
+    ensures zero_or_more { result.zero_or_more ≡ starts_with_leaf is_zero_or_more_leaf token.now }
 {
     match token.topology() {
         Topology::Branch(branch) => match branch {

@@ -4,7 +4,7 @@ ghost use Rattle.std.specs.Borrow.{Lends, sem};
 ghost use Rattle.std.specs.Option.{ForSome};
 ghost use Rattle.wax_query.specs.Variances.{IsMapped};
 ghost use Rattle.wax_token.specs.Compositions.{children_of, composition_copied, composition_of};
-ghost use Rattle.wax_token.specs.Compositions.{conjunctive, disjunctive, inner, on_inner};
+ghost use Rattle.wax_token.specs.Compositions.{conjunctive, disjunctive, composition_value, on_inner};
 ghost use Rattle.wax_token.specs.Words.{trees};
 ghost use Rattle.wax_token.specs.contracts.token.composition.Composition.{the_row};
 
@@ -84,7 +84,7 @@ impl<C, D> Composition<C, D> {
 impl<T> Composition<T, T> {
     /// The value of either side.
     pub fn into_inner(self) -> T
-        ensures { result ≡ inner self }
+        ensures { result ≡ composition_value self }
     {
         match self {
             Composition::Conjunctive(inner) | Composition::Disjunctive(inner) => inner,
@@ -95,8 +95,8 @@ impl<T> Composition<T, T> {
     pub fn map<U, F>(self, f: F) -> Composition<U, U>
     where
         F: FnOnce(T) -> U,
-        requires { F.pre f (inner self) }
-        ensures value { F.post f (inner self) (inner result) }
+        requires { F.pre f (composition_value self) }
+        ensures value { F.post f (composition_value self) (composition_value result) }
         ensures side { IsSome (conjunctive result) ↔ IsSome (conjunctive self) }
     {
         match self {
@@ -107,7 +107,7 @@ impl<T> Composition<T, T> {
 
     /// The value of either side.
     pub fn get(&self) -> &T
-        ensures { result.now ≡ inner self.now }
+        ensures { result.now ≡ composition_value self.now }
     {
         match self {
             Composition::Conjunctive(inner) | Composition::Disjunctive(inner) => inner,
@@ -116,7 +116,7 @@ impl<T> Composition<T, T> {
 
     /// The value of either side, to be changed; the side stays.
     pub fn get_mut(&mut self) -> &mut T
-        ensures value { result.now ≡ inner self.old }
+        ensures value { result.now ≡ composition_value self.old }
         ensures* writes_back { sem 𝓛 (Lends (the_row T.row T.row) T.row self.entry result
             (λ w. on_inner (λ _. w) self.old)) }
     {

@@ -22,15 +22,15 @@ is_left rules (fault kind path depth) = false
 is_left rules no_memory = false
 
 -- the rule leaves out this entry with what lies below it
-abbrev pub LeavesOut : (Facts → Mark) → Given → Type 0
-LeavesOut rule (entry m f) = rule f ≡ with_tree
-LeavesOut rule (fault kind path depth) = ⊤
-LeavesOut rule no_memory = ⊤
+abbrev pub LeavesOutTree : (Facts → Mark) → Given → Type 0
+LeavesOutTree rule (entry m f) = rule f ≡ with_tree
+LeavesOutTree rule (fault kind path depth) = ⊤
+LeavesOutTree rule no_memory = ⊤
 
 -- each entry
 abbrev pub LeavesOutAll : (Facts → Mark) → Forest Given → Type 0
 LeavesOutAll rule nothing = ⊤
-LeavesOutAll rule (item x below after) = LeavesOut rule x × LeavesOutAll rule below × LeavesOutAll rule after
+LeavesOutAll rule (item x below after) = LeavesOutTree rule x × LeavesOutAll rule below × LeavesOutAll rule after
 LeavesOutAll rule (lists path after) = LeavesOutAll rule after
 
 abbrev pub IsEntryLeftOut : (Facts → Mark) → Given → Type 0

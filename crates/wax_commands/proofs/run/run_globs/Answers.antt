@@ -1,7 +1,7 @@
 use Rattle.std.proofs.Common.{◌≡◌, ◌∙◌, List, [], ◌∷◌, ℕ, Option, Some, None, subst, sym}
 use Rattle.std.specs.Prelude.{String}
 use Rattle.wax_commands.specs.Commands.{Asks}
-use Rattle.wax_commands.specs.LineCommands.{LinesEnd, match_of, captures_of}
+use Rattle.wax_commands.specs.LineCommands.{LinesEnd, match_command, captures_of}
 use Rattle.wax_commands.specs.Queried.{QueryEnds}
 use Rattle.wax_commands.specs.inner.WalkWords.{IsRead}
 use Rattle.wax_commands.proofs.OptionWords.{same_walk}
@@ -22,7 +22,7 @@ returns-in-Some-clause-matches g c e asks =
     let left' = g.R.Read.remaining c.run_lines.new.input.inner in
     let held = g.W.Write.contents c.args.output.now.inner in
     let held' = g.W.Write.contents c.run_lines.new.output.inner in
-    subst (λ z. LinesEnd (match_of z) left left' held held' c.run_lines.result) (one_expression _ c.args.words.now c.in-Some.expression.now e c.in-Some.ensures.some asks) c.run_lines.ensures.ends
+    subst (λ z. LinesEnd (match_command z) left left' held held' c.run_lines.result) (one_expression _ c.args.words.now c.in-Some.expression.now e c.in-Some.ensures.some asks) c.run_lines.ensures.ends
 
 pub returns-in-Some-expression_after-clause-captures : goal.returns-in-Some-expression_after-clause-captures
 returns-in-Some-expression_after-clause-captures g c e asks =

@@ -1,6 +1,6 @@
 use Rattle.std.proofs.Common.{◌≡◌, subst}
 use Rattle.std.specs.Fn.{FnReturnsAt}
-use Rattle.wax_tree.specs.Depths.{at_depth}
+use Rattle.wax_tree.specs.Depths.{behavior_at}
 use Rattle.wax_commands.specs.inner.Candidates.{WroteWanted}
 use Rattle.wax_commands.proofs.Going.{ends_done, ends_faulty, ends_stopped, ground}
 use Rattle.wax_commands.proofs.walking.run_walk.Goals as goal
@@ -12,7 +12,7 @@ returns-in-Ok-true-clause-ends g c asked read =
     let held = g.W.Write.contents c.args.output.now.inner in
     let held' = g.W.Write.contents c.write_wanted.new.output.inner in
     let walk = c.walk_with_behavior-entries.ensures.begins in
-    let is : walk.0 ≡ at_depth c.args.walk.depth = walk.1 in
+    let is : walk.0 ≡ behavior_at c.args.walk.depth = walk.1 in
     ends_faulty over c.args.walk asked read c.in-Some.glob c.in-Some.ensures.some _ c.in-Some-built_filters.ensures.some walk.0 is _ walk.2 held held'
     (subst (WroteWanted law _ _ held held') c.in-Ok-true.field-0-test c.in-Ok-true.ensures.done)
 
@@ -23,7 +23,7 @@ returns-in-Ok-false-clause-ends g c asked read =
     let held = g.W.Write.contents c.args.output.now.inner in
     let held' = g.W.Write.contents c.write_wanted.new.output.inner in
     let walk = c.walk_with_behavior-entries.ensures.begins in
-    let is : walk.0 ≡ at_depth c.args.walk.depth = walk.1 in
+    let is : walk.0 ≡ behavior_at c.args.walk.depth = walk.1 in
     ends_done over c.args.walk asked read c.in-Some.glob c.in-Some.ensures.some _ c.in-Some-built_filters.ensures.some walk.0 is _ walk.2 held held'
     (subst (WroteWanted law _ _ held held') c.in-Ok-false.field-0-test c.in-Ok-false.ensures.done)
 
@@ -34,6 +34,6 @@ returns-clause-ends g c asked read =
     let held = g.W.Write.contents c.args.output.now.inner in
     let held' = g.W.Write.contents c.write_wanted.new.output.inner in
     let walk = c.walk_with_behavior-entries.ensures.begins in
-    let is : walk.0 ≡ at_depth c.args.walk.depth = walk.1 in
+    let is : walk.0 ≡ behavior_at c.args.walk.depth = walk.1 in
     ends_stopped over c.args.walk asked read c.in-Some.glob c.in-Some.ensures.some _ c.in-Some-built_filters.ensures.some walk.0 is _ walk.2 held held'
     c.in-Err.ensures.stopped

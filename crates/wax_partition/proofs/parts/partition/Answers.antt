@@ -1,6 +1,6 @@
 use Rattle.std.proofs.Common.{IfOk, Result, Ok, Err, chars, string_bytes, subst}
 use Rattle.std.specs.Cow.{cow_str_bytes}
-use Rattle.wax_partition.specs.Partition.{IsPartition, spelled}
+use Rattle.wax_partition.specs.Partition.{IsPartition, spelled_rest}
 use Rattle.wax_partition.proofs.RestKnown.{parts_branch, parts_fits, parts_orderly, parts_rest, parts_split, parts_whole}
 use Rattle.wax_partition.proofs.parts.partition.Goals as goal
 
@@ -10,7 +10,7 @@ if_ok (Err e) f h = tt
 
 pub returns-clause-parts : goal.returns-clause-parts
 returns-clause-parts c =
-    subst (λ p. IfOk c.parts.result (λ r. IsPartition (chars (cow_str_bytes p.0)) p.1 (chars (string_bytes r.0)) (spelled r.1)))
+    subst (λ p. IfOk c.parts.result (λ r. IsPartition (chars (cow_str_bytes p.0)) p.1 (chars (string_bytes r.0)) (spelled_rest r.1)))
     c.into_parts-expression.ensures c.parts.ensures
 
 pub returns-clause-rest : goal.returns-clause-rest

@@ -1,6 +1,6 @@
 use Rattle.std.proofs.Common.{◌≡◌, ◌+◌, ℕ, IsTrue, List, length, arith, ◌∙◌}
 use Rattle.wax_program.specs.Ends.{Reaches}
-use Rattle.wax_program.specs.Threads.{Has}
+use Rattle.wax_program.specs.Threads.{HoldsPlace}
 use Rattle.wax_program.proofs.Starts.{Onward, onward_begun, onward_step, reaches_more}
 use Rattle.wax_program.proofs.onward.onward_over.Goals as goal
 
@@ -34,8 +34,8 @@ returns-clause-reached g c =
     let at : ℕ = c.loop-at.at in
     let begun = g.R.Rows.position c.begin-2.new.rows in
     let n : at ≡ length text = omega (arith, c.loop-at-test.false, c.loop-at.auto.at-end) in
-    let begin : Has starts at → Has begun.pending 0 = rw n (c.begin-2.ensures.begun c.loop-at.invariant.read) in
-    let mark : IsTrue c.finish-ended.result → Has c.mark-2.new.ends at = rw n c.mark-2.ensures.marked in
+    let begin : HoldsPlace starts at → HoldsPlace begun.pending 0 = rw n (c.begin-2.ensures.begun c.loop-at.invariant.read) in
+    let mark : IsTrue c.finish-ended.result → HoldsPlace c.mark-2.new.ends at = rw n c.mark-2.ensures.marked in
     let onward : Onward code text starts at begun.pending = onward_begun code text starts at (g.R.Rows.position c.loop-at.rows).pending begun.pending c.loop-at.invariant.before c.begin-2.ensures.kept begin in
     let all : Reaches code text starts c.mark-2.new.ends (at + 1) = reaches_more code text starts at begun.pending c.loop-at.ends c.mark-2.new.ends c.finish-ended.result onward c.loop-at.invariant.reached c.mark-2.ensures.kept mark c.finish-ended.ensures.decides.1 in
     rw (← n) all

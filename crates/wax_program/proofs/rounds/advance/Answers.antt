@@ -1,6 +1,6 @@
 use Rattle.std.proofs.Common.{◌≡◌, ◌+◌, ◌≤◌, ◌∙◌, ℕ, arith, ap, sym}
-use Rattle.wax_program.specs.Steady.{Covers}
-use Rattle.wax_program.specs.Threads.{Followed, Has, IsDone, Round, Taken, members}
+use Rattle.wax_program.specs.Steady.{ActsAlike}
+use Rattle.wax_program.specs.Threads.{Followed, HoldsPlace, IsDone, Round, Taken, member_count}
 use Rattle.wax_program.proofs.Advancing.{read_one, round_start, round_step, round_end}
 use Rattle.wax_program.proofs.Sets.{members_none}
 use Rattle.wax_program.proofs.Staying.{round_known, watched_step}
@@ -22,8 +22,8 @@ loop-at-preserved g c =
     let r = g.R.Rows.position c.follow.new.rows in
     let t : Taken p q c.in-Some.at = c.in-Some.ensures.taken in
     let f : Followed c.args.program.now.0 c.args.c c.in-Some.at q r = c.follow.ensures.followed in
-    let n : members r.read ≡ members p.read + 1 = ap members f.read ∙ t.counted in
-    let same : members q.read ≡ members r.read = sym (ap members f.read) in
+    let n : member_count r.read ≡ member_count p.read + 1 = ap member_count f.read ∙ t.counted in
+    let same : member_count q.read ≡ member_count r.read = sym (ap member_count f.read) in
     record {
       size = f.size ∙ t.size ∙ c.loop-at.invariant.size;
       round = round_step c.args.program.now.0 c.args.c (g.R.Rows.position c.args.rows.now).pending p q r c.in-Some.at t f c.loop-at.invariant.round;
@@ -48,8 +48,8 @@ returns-clause-below g c = λ k h lt.
     let same : q ≡ p = c.in_default.ensures.taken.0 in
     let done : IsDone q = c.in_default.ensures.taken.1 in
     let round : Round c.args.program.now.0 c.args.c (g.R.Rows.position c.args.rows.now).pending q = rw same c.loop-at.invariant.round in
-    let some : 1 ≤ members q.read = read_one c.args.program.now.0 c.args.c (g.R.Rows.position c.args.rows.now).pending q (ap (λ p. p.size) same ∙ c.loop-at.invariant.size) done round k h lt in
-    omega (arith, some, ap (λ p. members p.read) same, c.loop-at.invariant.visits, c.add.ensures.counted)
+    let some : 1 ≤ member_count q.read = read_one c.args.program.now.0 c.args.c (g.R.Rows.position c.args.rows.now).pending q (ap (λ p. p.size) same ∙ c.loop-at.invariant.size) done round k h lt in
+    omega (arith, some, ap (λ p. member_count p.read) same, c.loop-at.invariant.visits, c.add.ensures.counted)
 
 pub returns-clause-known : goal.returns-clause-known
 returns-clause-known g c =
@@ -58,6 +58,6 @@ returns-clause-known g c =
     let same : q ≡ p = c.in_default.ensures.taken.0 in
     let done : IsDone q = c.in_default.ensures.taken.1 in
     let round : Round c.args.program.now.0 c.args.c (g.R.Rows.position c.args.rows.now).pending q = rw same c.loop-at.invariant.round in
-    let watched : (x : ℕ) → Has q.read x → Covers c.args.program.now.0 c.args.c c.loop-at.watch x = rw same c.loop-at.invariant.watched in
+    let watched : (x : ℕ) → HoldsPlace q.read x → ActsAlike c.args.program.now.0 c.args.c c.loop-at.watch x = rw same c.loop-at.invariant.watched in
     round_known c.args.program.now.0 c.args.c (g.R.Rows.position c.args.rows.now).pending q (ap (λ p. p.size) same ∙ c.loop-at.invariant.size) done round
     c.loop-at.watch watched c.word-here.result c.word-here.ensures c.settle.result c.settle.ensures

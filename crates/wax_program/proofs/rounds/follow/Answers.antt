@@ -1,18 +1,18 @@
 use Rattle.std.proofs.Common.{Some, IsTrue, ◌∙◌, ap, rules}
-use Rattle.wax_program.specs.Machine.{Passes}
+use Rattle.wax_program.specs.Machine.{PassesTest}
 use Rattle.wax_program.proofs.Advancing.{followed_any, followed_back, followed_fork, followed_jump, followed_last, followed_more, followed_pass, followed_slash}
 use Rattle.wax_program.proofs.Staying.{noted_back, noted_components, noted_fork, noted_jump, noted_lost, noted_miss, noted_repeat}
 use Rattle.wax_program.proofs.rounds.follow.Goals as goal
 
 pub returns-then-passes-clause-followed : goal.returns-then-passes-clause-followed
 returns-then-passes-clause-followed g c =
-    let p : Passes c.in-Check.test c.args.c = search rules in
+    let p : PassesTest c.in-Check.test c.args.c = search rules in
     followed_pass c.args.program.now.0 c.args.c c.args.at (g.R.Rows.position c.args.rows.now) (g.R.Rows.position c.insert_next.new.self) c.in-Check.test
     (c.fetch.ensures.instruction ∙ ap (λ i. Some i) c.in-Check.is) p c.insert_next.ensures
 
 pub returns-then-passes-2-clause-followed : goal.returns-then-passes-2-clause-followed
 returns-then-passes-2-clause-followed g c =
-    let p : Passes c.in-Repeat.test c.args.c = search rules in
+    let p : PassesTest c.in-Repeat.test c.args.c = search rules in
     followed_more c.args.program.now.0 c.args.c c.args.at (g.R.Rows.position c.args.rows.now) (g.R.Rows.position c.insert_next-then-passes-2.new.self) c.in-Repeat.test (g.R.Rows.position c.insert.new.self)
     (c.fetch.ensures.instruction ∙ ap (λ i. Some i) c.in-Repeat.is) p c.insert.ensures c.insert_next-then-passes-2.ensures
 

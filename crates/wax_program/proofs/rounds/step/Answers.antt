@@ -1,5 +1,5 @@
 use Rattle.std.proofs.Common.{◌<◌, ℕ, subst, sym, arith}
-use Rattle.wax_program.specs.Threads.{Advances, Has}
+use Rattle.wax_program.specs.Threads.{Advances, HoldsPlace}
 use Rattle.wax_program.proofs.rounds.step.Goals as goal
 
 pub returns-clause-advances : goal.returns-clause-advances
@@ -8,5 +8,5 @@ returns-clause-advances g c = λ _.
 
 pub returns-clause-below : goal.returns-clause-below
 returns-clause-below g c = λ _.
-    let here : (k : ℕ) × Has (g.R.Rows.position c.args.rows.now).pending k × (k < (g.R.Rows.position c.args.rows.now).size) = c.if-is_done.ensures in
+    let here : (k : ℕ) × HoldsPlace (g.R.Rows.position c.args.rows.now).pending k × (k < (g.R.Rows.position c.args.rows.now).size) = c.if-is_done.ensures in
     omega (arith, c.advance-found.ensures.below here.0 here.1 (omega (arith, here.2, c.requires.size)), c.stays.ensures.steady)

@@ -1,7 +1,7 @@
 use Rattle.std.proofs.Common.{◌+◌, subst}
 use Rattle.wax_walk.proofs.Collecting.{map_ok}
 use Rattle.wax_walk.specs.Collected.{GaveAll}
-use Rattle.wax_tree.specs.Begins.{range_of, scope_in}
+use Rattle.wax_tree.specs.Begins.{behavior_range, scope_in}
 use Rattle.wax_tree.specs.Whole.{plain_pending}
 use Rattle.wax_tree.proofs.InRange.{entries_are, untold}
 use Rattle.wax_tree.proofs.Kept.{plain_kept}
@@ -10,7 +10,7 @@ use Rattle.wax_tree.proofs.plain.entries.Goals as goal
 pub returns-clause-items : goal.returns-clause-items
 returns-clause-items g c =
     let law = g.D.Directory.law in
-    let range = range_of c.args.behavior in
+    let range = behavior_range c.args.behavior in
     let start = c.args.start.now in
     let b = c.walk_from.ensures.begins in
     map_ok (λ r h s shows.
@@ -26,7 +26,7 @@ returns-clause-items g c =
 pub returns-clause-entries : goal.returns-clause-entries
 returns-clause-entries g c =
     let law = g.D.Directory.law in
-    let range = range_of c.args.behavior in
+    let range = behavior_range c.args.behavior in
     let start = c.args.start.now in
     let b = c.walk_from.ensures.begins in
     map_ok (λ r h s shows.
@@ -40,7 +40,7 @@ returns-clause-entries g c =
 pub returns-clause-folders : goal.returns-clause-folders
 returns-clause-folders g c =
     let law = g.D.Directory.law in
-    let range = range_of c.args.behavior in
+    let range = behavior_range c.args.behavior in
     let start = c.args.start.now in
     let b = c.walk_from.ensures.begins in
     map_ok (λ r h s listed shows told.

@@ -1,6 +1,6 @@
 use Rattle.std.proofs.Common.{[]}
 use Rattle.wax_collect.specs.Trips.{goes}
-use Rattle.wax_tree.specs.Begins.{range_of}
+use Rattle.wax_tree.specs.Begins.{behavior_range}
 use Rattle.wax_walk.proofs.Collecting.{map_ok}
 use Rattle.wax_walk.proofs.Knowing.{all_before}
 use Rattle.wax.specs.GlobWalks.{trip_of}
@@ -17,7 +17,7 @@ returns-clause-wanted g c =
     let law = g.D.Directory.law in
     let d = c.args.directory in
     let start = c.args.start.now in
-    let asked = range_of c.args.behavior in
+    let asked = behavior_range c.args.behavior in
     let h = c.walk_in-walk.ensures.begins in
     map_ok
     (λ r k. (

@@ -1,5 +1,5 @@
 use Rattle.std.proofs.Common.{◌≡◌, ◌∙◌, MatchOption, ap, subst}
-use Rattle.wax_tree.specs.Begins.{range_of}
+use Rattle.wax_tree.specs.Begins.{behavior_range}
 use Rattle.wax_tree.specs.Prefix.{from_last}
 use Rattle.wax_leading.specs.Prefix.{HasEmptyName}
 use Rattle.wax.specs.GlobWalks.{IsPlan, within}
@@ -11,7 +11,7 @@ pub returns-in-Ok-Some-clause-begins : goal.returns-in-Ok-Some-clause-begins
 returns-in-Ok-Some-clause-begins g c =
     let glob = c.args.glob.now in
     let start = c.args.start.now in
-    let asked = range_of c.args.behavior in
+    let asked = behavior_range c.args.behavior in
     let w = c.within-range.ensures in
     let same : c.within-range.result ≡ within asked w.0 = w.3 ∙ ap (λ r. within r w.0) c.range.ensures in
     let way = c.in-Ok-Some.way in
@@ -24,7 +24,7 @@ pub returns-in-Ok-None-clause-begins : goal.returns-in-Ok-None-clause-begins
 returns-in-Ok-None-clause-begins g c =
     let glob = c.args.glob.now in
     let start = c.args.start.now in
-    let asked = range_of c.args.behavior in
+    let asked = behavior_range c.args.behavior in
     let w = c.within-range.ensures in
     let same : c.within-range.result ≡ within asked w.0 = w.3 ∙ ap (λ r. within r w.0) c.range.ensures in
     begins_ended glob g.D.Directory.law c.args.directory start asked w.0 w.1 (λ b filters plain. can_walk glob.tree c.keeps_rules.ensures w.0 w.2 start asked b filters plain) _
@@ -36,7 +36,7 @@ pub returns-in-Err-clause-begins : goal.returns-in-Err-clause-begins
 returns-in-Err-clause-begins g c =
     let glob = c.args.glob.now in
     let start = c.args.start.now in
-    let asked = range_of c.args.behavior in
+    let asked = behavior_range c.args.behavior in
     let w = c.within-range.ensures in
     let same : c.within-range.result ≡ within asked w.0 = w.3 ∙ ap (λ r. within r w.0) c.range.ensures in
     begins_refused glob g.D.Directory.law c.args.directory start asked w.0 w.1 (λ b filters plain. can_walk glob.tree c.keeps_rules.ensures w.0 w.2 start asked b filters plain) _

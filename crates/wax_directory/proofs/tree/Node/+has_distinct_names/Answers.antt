@@ -2,7 +2,7 @@ use Rattle.std.proofs.Common.{◌≡◌, ◌<◌, ℕ, List, Some, slice_get, su
 use Rattle.wax_directory.specs.declared.tree.Node.{Node}
 use Rattle.wax_directory.specs.declared.tree.TreeItem.{TreeItem}
 use Rattle.wax_directory.specs.Names.{are_distinct}
-use Rattle.wax_directory.specs.Nodes.{HasDistinctNames, HasDuplicateName, names_of, held, entry_of}
+use Rattle.wax_directory.specs.Nodes.{HasDistinctNames, HasDuplicateName, names_of, held, entry_node}
 use Rattle.wax_directory.proofs.Finding.{other_distinct, own_duplicate, below_duplicate, folder_held}
 use Rattle.wax_directory.proofs.Finding.{folder_distinct, entry_at, no_entry_at, entry_within, one_more}
 use Rattle.wax_directory.proofs.Finding.{same_entry, not_both}
@@ -35,7 +35,7 @@ returns-then-not-branch-2 t c =
 pub loop-item-preserved : goal.loop-item-preserved
 loop-item-preserved t c =
     let items : List TreeItem = c.deref-item-items.result.now in
-    let P : ℕ → Type 0 = λ p. (m : Node) → entry_of (slice_get items p) ≡ Some m → HasDistinctNames m in
+    let P : ℕ → Type 0 = λ p. (m : Node) → entry_node (slice_get items p) ≡ Some m → HasDistinctNames m in
     let here : P c.loop-item.item-index =
     elim c.match-item.branch [
       | in-Entry+in_ok-has_distinct_names+else-not-branch-2 w ↦ λ m e.
@@ -43,11 +43,11 @@ loop-item-preserved t c =
           subst (λ b. MatchBool b (HasDistinctNames w.in-Entry.node) (HasDuplicateName w.in-Entry.node))
           w.if-not-branch-2.false w.in_ok-has_distinct_names.ensures in
           subst HasDistinctNames
-          (same_entry (entry_of (slice_get items c.loop-item.item-index)) w.in-Entry.node m
+          (same_entry (entry_node (slice_get items c.loop-item.item-index)) w.in-Entry.node m
           (entry_at items c.loop-item.item-index c.item-item.result w.in-Entry.field-0 w.in-Entry.node
           c.loop-item-test.true c.item-item.is w.in-Entry.is) e) distinct
       | in_default-item w ↦ λ m e. absurd
-          (not_both (entry_of (slice_get items c.loop-item.item-index)) m
+          (not_both (entry_node (slice_get items c.loop-item.item-index)) m
           (no_entry_at items c.loop-item.item-index c.item-item.result c.loop-item-test.true c.item-item.is
           w.in_default-item.not-Entry) e)
     ] in

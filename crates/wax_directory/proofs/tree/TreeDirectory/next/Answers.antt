@@ -2,7 +2,7 @@ use Rattle.std.proofs.Common.{◌≡◌, ◌+◌, ◌∙◌, sym, ap, drop, Some
 use Rattle.std.specs.Option.{option_map}
 use Rattle.wax_directory.specs.Answers.{listed_of}
 use Rattle.wax_directory.specs.Nodes.{listed_item, items_shown}
-use Rattle.wax_directory.specs.Shown.{first_of, rest_of}
+use Rattle.wax_directory.specs.Shown.{first_item, rest_of}
 use Rattle.wax_directory.specs.TreeCursors.{last_parts, one_more}
 use Rattle.wax_directory.specs.Trees.{item_among}
 use Rattle.wax_directory.proofs.Cursors.{given, ended, none_of}
@@ -13,7 +13,7 @@ returns-in_default-clause-nexts c = λ cursors ls l held.
     let t = c.args.self.now in
     let p = last_parts t.working t.root cursors ls c.args.cursor.now l held in
     let h = p.1 in
-    let r : (None ≡ first_of l) × (rest_of l ≡ items_shown (drop c.args.cursor.now.next h.0)) =
+    let r : (None ≡ first_item l) × (rest_of l ≡ items_shown (drop c.args.cursor.now.next h.0)) =
     ended h.0 c.args.cursor.now.next l h.2
     (sym (ap (option_map listed_of) (none_of c.in_ok-item.field-0 c.in_default.not-Some)) ∙
     c.in_ok-item.ensures.listed ∙ ap (λ o. option_map listed_item (item_among c.args.cursor.now.next o))
@@ -25,7 +25,7 @@ returns-clause-nexts c = λ cursors ls l held.
     let t = c.args.self.now in
     let p = last_parts t.working t.root cursors ls c.args.cursor.now l held in
     let h = p.1 in
-    let r : (Some (listed_of c.in-Some.item) ≡ first_of l) ×
+    let r : (Some (listed_of c.in-Some.item) ≡ first_item l) ×
     (rest_of l ≡ items_shown (drop (c.args.cursor.now.next + 1) h.0)) = given h.0 c.args.cursor.now.next
     (listed_of c.in-Some.item) l h.2
     (sym (ap (option_map listed_of) c.in-Some.is) ∙ c.in_ok-item.ensures.listed ∙ ap

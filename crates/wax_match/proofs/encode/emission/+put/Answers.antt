@@ -1,7 +1,7 @@
 use Rattle.std.proofs.Common.{◌≡◌, ◌+◌, ◌-◌, ◌++◌, ◌∷◌, [], ◌||◌, Bool, List, ℕ, ltb, length, length-append, append_assoc, set, arith, rules, sym, ◌∙◌, ap}
 use Rattle.wax_program.specs.declared.instruction.Instruction.{Instruction}
 use Rattle.wax_program.specs.declared.instruction.Instruction.TheVariants.{Back, Fork}
-use Rattle.wax_match.specs.Code.{tree_code}
+use Rattle.wax_match.specs.Code.{instructions_of}
 use Rattle.wax_match.proofs.Sequences.{or_left, or_right, sequence_put}
 use Rattle.wax_match.proofs.Tails.{set_seam}
 use Rattle.wax_match.proofs.encode.emission.+put.Goals as goal
@@ -9,7 +9,7 @@ use Rattle.wax_match.proofs.encode.emission.+put.Goals.{put_sequence-then-before
 
 pub put_loop_of-returns : goal.put_loop_of-returns
 put_loop_of-returns g t c =
-    let a : List Instruction = tree_code c.args.body.now c.args.before c.args.after in
+    let a : List Instruction = instructions_of c.args.body.now c.args.before c.args.after in
     let e : c.put_token.new.tail ≡ a ++ (Back 0 ∷ c.args.tail.now) = search rules in
     let n : c.len.result ≡ length a + 1 + length c.args.tail.now = omega (arith, c.len.ensures, ap length e, length-append a (Back 0 ∷ c.args.tail.now)) in
     let by : c.len.result - c.len-start.result ≡ length a + 1 = omega (arith, n, c.len-start.ensures) in

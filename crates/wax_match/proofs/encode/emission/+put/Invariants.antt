@@ -1,5 +1,5 @@
 use Rattle.std.proofs.Common.{◌≡◌, ◌+◌, ◌*◌, ◌≤◌, ◌++◌, ◌||◌, ltb, drop, length}
-use Rattle.wax_match.specs.Code.{branches_code, copies_code, sequence_code, tree_code, up_to_code}
+use Rattle.wax_match.specs.Code.{branches_code, copies_code, sequence_code, instructions_of, up_to_code}
 use Rattle.wax_token.specs.Syntax.{tree_size, trees_size}
 use Rattle.wax_token.specs.Words.{trees}
 use Rattle.wax_match.proofs.encode.emission.+put.Given as goal
@@ -59,7 +59,7 @@ abbrev pub decreases-put_branches-loop-index : goal.decreases-put_branches-loop-
 decreases-put_branches-loop-index g l = l.index
 
 abbrev pub invariant-put_copies-loop-copy : goal.invariant-put_copies-loop-copy
-invariant-put_copies-loop-copy g l = l.tail ≡ copies_code l._copy (tree_code l.body l.before l.after) ++ l.fn.tail
+invariant-put_copies-loop-copy g l = l.tail ≡ copies_code l._copy (instructions_of l.body l.before l.after) ++ l.fn.tail
 
 abbrev pub invariant-put_up_to-loop-copy : goal.invariant-put_up_to-loop-copy
-invariant-put_up_to-loop-copy g l = l.tail ≡ up_to_code l._copy (tree_code l.body l.before l.after) ++ l.fn.tail
+invariant-put_up_to-loop-copy g l = l.tail ≡ up_to_code l._copy (instructions_of l.body l.before l.after) ++ l.fn.tail
