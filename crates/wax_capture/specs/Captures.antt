@@ -61,7 +61,8 @@ abbrev pub MeansByWay : {A : Type 0} → Tree A → ℕ → Bool → Bool → Li
 MeansByWay (leaf a l) k before after x = LeafWay l k before after x
 MeansByWay (alternation a ts) k before after x = MeansBranch ts k before after x
 MeansByWay (concatenation a ts) k before after x = First (MeansEach ts before after x) k
-MeansByWay (repetition a t low high) k before after x = First (Means (repetition a t low high) before after x) k
+MeansByWay (repetition a t low high) k before after x =
+    First (Means (repetition a t low high) before after x) k
 
 abbrev pub is_lazy_leaf : Leaf → Bool
 is_lazy_leaf (zero_or_more Lazy) = true
@@ -91,7 +92,8 @@ has_more (more t ts) = true
 -- the first n characters can be the piece of the token t, by its k-th way, as the others mean the rest
 abbrev pub FitsPiece : {A : Type 0} → Tree A → Trees A → Bool → Bool → List ℕ → ℕ × ℕ → Type 0
 FitsPiece t ts before after s (k, n) =
-    (n ≤ length s) × MeansByWay t k before (after || has_more ts) (take n s) × MeansEach ts true after (drop n s)
+    (n ≤ length s) × MeansByWay t k before (after || has_more ts) (take n s)
+        × MeansEach ts true after (drop n s)
 
 -- of all lengths that fit, n is the one by the best way, and by that way the longest or the shortest
 pub record IsChosen {A : Type 0} (t : Tree A) (ts : Trees A) (before after : Bool) (s : List ℕ) (n : ℕ) :

@@ -17,7 +17,8 @@ use wax_program::instruction::{Test, folds_to};
 /// Of one character that passes the test.
 fn of_one(test: &Test, text: &[char], at: usize, visits: &mut Visits) -> Span
     requires { at ≤ length text.now }
-    ensures lengths { AreLengths (λ x. (c : ℕ) × (x ≡ c ∷ []) × PassesTest test.now c) (drop at text.now) result }
+    ensures lengths { AreLengths (λ x. (c : ℕ) × (x ≡ c ∷ []) × PassesTest test.now c)
+        (drop at text.now) result }
     ensures end { at + result.end ≤ length text.now + 1 }
     ensures looked { visits.new + looks result ≤ visits.old + (length text.now + 1) }
     ensures steady { visits.old ≤ visits.new }

@@ -40,8 +40,8 @@ abbrev pub HaveEach : Node → Node → List TreeCursor → List Items → Type 
 HaveEach working root [] [] = Unit {0}
 HaveEach working root [] (l ∷ ls) = ⊥
 HaveEach working root (cursor ∷ cursors) [] = ⊥
-HaveEach working root (cursor ∷ cursors) (l ∷ ls) = HasItems working root cursor l × HaveEach working root cursors
-    ls
+HaveEach working root (cursor ∷ cursors) (l ∷ ls) =
+    HasItems working root cursor l × HaveEach working root cursors ls
 
 abbrev pub item_among : ℕ → Option (List TreeItem) → Option TreeItem
 item_among k None = None

@@ -25,7 +25,8 @@ abbrev mutual
   pub inner_cut : {A : Type 0} → Tree A → ℕ → Option (Tree A × ℕ)
   inner_cut (leaf a l) n = None
   inner_cut (alternation a none) n = None
-  inner_cut (alternation a (more t none)) n = entered n (begins_with_tree (opened t)) (or_here (t, n) (inner_cut t n))
+  inner_cut (alternation a (more t none)) n =
+      entered n (begins_with_tree (opened t)) (or_here (t, n) (inner_cut t n))
   inner_cut (alternation a (more t (more u us))) n = None
   inner_cut (concatenation a ts) n = inner_last ts n
   inner_cut (repetition a t zero high) n = None

@@ -105,7 +105,8 @@ abbrev mutual
 
   pub branches_code : {A : Type 0} → Trees A → Bool → Bool → List Instruction
   branches_code none before after = never
-  branches_code (more t ts) before after = choose (instructions_of t before after) (branches_code ts before after)
+  branches_code (more t ts) before after =
+      choose (instructions_of t before after) (branches_code ts before after)
 
   pub sequence_code : {A : Type 0} → Trees A → Bool → Bool → List Instruction
   sequence_code none before after = []

@@ -95,7 +95,8 @@ ReachedBelow p k = k ≤ p.size → IsReached p k
 abbrev pub Led : Instruction → ℕ → ℕ → Position → Type 0
 Led (Check t) c k p = PassesTest t c → k + 1 ≤ p.size → HoldsPlace p.next (k + 1)
 Led (Repeat t) c k p = ReachedBelow p (k + 1) × (PassesTest t c → k ≤ p.size → HoldsPlace p.next k)
-Led Components c k p = (k ≤ p.size → HoldsPlace p.next k) × (c ≡ 47 → k + 1 ≤ p.size → HoldsPlace p.next (k + 1))
+Led Components c k p =
+    (k ≤ p.size → HoldsPlace p.next k) × (c ≡ 47 → k + 1 ≤ p.size → HoldsPlace p.next (k + 1))
 Led (Fork n) c k p = ReachedBelow p (k + 1) × ReachedBelow p (k + 1 + n)
 Led (Jump n) c k p = ReachedBelow p (k + 1 + n)
 Led (Back n) c k p = ReachedBelow p (k - n)

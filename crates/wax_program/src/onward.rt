@@ -48,7 +48,8 @@ fn begin<R: Rows>(starts: &[bool], at: usize, rows: &mut R)
     ensures size { (R.position rows.new).size ≡ (R.position rows.old).size }
     ensures read { (R.position rows.new).read ≡ (R.position rows.old).read }
     ensures next { (R.position rows.new).next ≡ (R.position rows.old).next }
-    ensures kept { (k : ℕ) → HoldsPlace (R.position rows.old).pending k → HoldsPlace (R.position rows.new).pending k }
+    ensures kept { (k : ℕ) → HoldsPlace (R.position rows.old).pending k
+        → HoldsPlace (R.position rows.new).pending k }
     ensures begun { IsEmpty (R.position rows.old).read → HoldsPlace starts.now at
         → HoldsPlace (R.position rows.new).pending 0 }
 {

@@ -39,7 +39,8 @@ pub trait PathExt {
         D: Directory,
         B: Into<WalkBehavior>,
         ensures { (b : WalkBehavior) × B.converts behavior b
-            × Begins D.law directory (text self) (behavior_range b) (⟦<WalkTree<D> as FileIterator>⟧.view result)
+            × Begins D.law directory (text self) (behavior_range b)
+                (⟦<WalkTree<D> as FileIterator>⟧.view result)
             × EndsWithin (2 * b.budget + 3) (⟦<WalkTree<D> as SeparatingFilter>⟧.left result) };
 }
 

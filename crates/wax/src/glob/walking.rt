@@ -43,8 +43,8 @@ impl<'t> Glob<'t> {
         directory: D,
         start: &str,
     ) -> GlobWalk<'g, 't, D>
-        ensures begins { BeginsGlob self.now.tree D.law directory start.now (behavior_range (behavior_at Unbounded))
-            (⟦<GlobWalk<'g, 't, D> as FileIterator>⟧.view result) }
+        ensures begins { BeginsGlob self.now.tree D.law directory start.now
+            (behavior_range (behavior_at Unbounded)) (⟦<GlobWalk<'g, 't, D> as FileIterator>⟧.view result) }
         ensures gives { EndsWithin (2 * (behavior_at Unbounded).budget + 3)
             (⟦<GlobWalk<'g, 't, D> as SeparatingFilter>⟧.left result) }
         ensures known { StaysKnown (IsMatchedEntry (IsMeant self.now) (HasCaptures self.now))

@@ -139,7 +139,8 @@ fn put_copied<'t, A>(
     before: bool,
     after: bool,
 ) -> Result<(), AllocError>
-    ensures { OnOk result (tail.new ≡ copied_code lower upper (instructions_of body.now) before after ++ tail.old) }
+    ensures { OnOk result
+        (tail.new ≡ copied_code lower upper (instructions_of body.now) before after ++ tail.old) }
 {
     let further = match upper {
         Some(upper) => {
@@ -213,7 +214,8 @@ fn put_many<'t, A>(
     before: bool,
     after: bool,
 ) -> Result<(), AllocError>
-    ensures { OnOk result (tail.new ≡ many_code lower upper (instructions_of body.now) before after ++ tail.old) }
+    ensures { OnOk result
+        (tail.new ≡ many_code lower upper (instructions_of body.now) before after ++ tail.old) }
 {
     put_token(alloc, tail, body, true, after)?;
     put_counted(alloc, tail, body, lower, upper, true, true)?;

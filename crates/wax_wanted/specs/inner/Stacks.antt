@@ -30,7 +30,8 @@ LeavesOutTree rule no_memory = ⊤
 -- each entry
 abbrev pub LeavesOutAll : (Facts → Mark) → Forest Given → Type 0
 LeavesOutAll rule nothing = ⊤
-LeavesOutAll rule (item x below after) = LeavesOutTree rule x × LeavesOutAll rule below × LeavesOutAll rule after
+LeavesOutAll rule (item x below after) =
+    LeavesOutTree rule x × LeavesOutAll rule below × LeavesOutAll rule after
 LeavesOutAll rule (lists path after) = LeavesOutAll rule after
 
 abbrev pub IsEntryLeftOut : (Facts → Mark) → Given → Type 0
