@@ -5,7 +5,7 @@ use Rattle.std.proofs.lemmas.Bool.{cases_lt, or_parts}
 use Rattle.wax_facts.specs.Orderly.{Worded, WordedEach, WordedLeaf}
 use Rattle.wax_facts.specs.Prefix.{Prefix}
 use Rattle.wax_leading.proofs.Beginnings.{begins_with, bounds_names}
-use Rattle.wax_query.specs.Components.{components_in}
+use Rattle.wax_query.specs.Components.{component_total}
 use Rattle.wax_query.specs.Ranges.{AtMost, Bounds}
 use Rattle.wax_token.specs.Meaning.{HasNoSlash, Means}
 use Rattle.wax_token.specs.Reads.{Span, is_one_of}
@@ -62,7 +62,7 @@ pub names_are : (start : List ℕ) (rooted : Bool) (names : List (List ℕ)) →
 names_are start true names = refl
 names_are start false names = refl
 
-greatest_at : (t : Tree Span) (rooted : Bool) (most : ℕ) (upper : Option ℕ) → ((s : List ℕ) → Means t false false s → AtMost (components_in s) upper) →
+greatest_at : (t : Tree Span) (rooted : Bool) (most : ℕ) (upper : Option ℕ) → ((s : List ℕ) → Means t false false s → AtMost (component_total s) upper) →
     (up_to most upper ≡ most) ⊎ ((up_to most upper ≤ most) × BoundsNames rooted t (up_to most upper))
 greatest_at t rooted most None h = inl refl
 greatest_at t rooted most (Some upper) h = elim (cases_lt upper most) [
@@ -72,7 +72,7 @@ greatest_at t rooted most (Some upper) h = elim (cases_lt upper most) [
   | inr l ↦ inl (omega (arith, l))
 ]
 
-pub can_walk : (t : Tree Span) → IsKept t → (depth : Bounds) → ((s : List ℕ) → Means t false false s → AtMost (components_in s) depth.1) →
+pub can_walk : (t : Tree Span) → IsKept t → (depth : Bounds) → ((s : List ℕ) → Means t false false s → AtMost (component_total s) depth.1) →
     (start : List ℕ) (asked : Range) (b : Beginning t) (filters : List (Filter Span)) → ArePlain b.names →
     CanWalk (wants t b filters) asked (within asked depth) (way_from start b.rooted b.names)
 can_walk t kept depth bound start asked b filters plain =

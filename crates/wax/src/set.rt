@@ -5,7 +5,7 @@ ghost use Rattle.wax_depth.specs.Depth.{Depth};
 ghost use Rattle.wax_facts.specs.Exhaustive.{exhaustive};
 ghost use Rattle.wax_facts.specs.InvariantText.{Text, Variant};
 ghost use Rattle.wax_facts.specs.Root.{root};
-ghost use Rattle.wax_query.specs.Components.{Bare, BeginsWithSlash, components_in};
+ghost use Rattle.wax_query.specs.Components.{Bare, BeginsWithSlash, component_total};
 ghost use Rattle.wax_query.specs.Outcome.{MatchBuild};
 ghost use Rattle.wax_query.specs.Ranges.{AtMost, bounds};
 ghost use Rattle.wax_query.specs.Variances.{text_of};
@@ -131,8 +131,8 @@ impl Program for Any<'_> {
     /// to the branches.
     fn depth(&self) -> DepthVariance
         ensures depth { Depth self.now (bounds result) }
-        ensures least { (s : List ℕ) → MeansText self.now s → Bare s → (bounds result).0 ≤ components_in s }
-        ensures greatest { (s : List ℕ) → MeansText self.now s → AtMost (components_in s) (bounds result).1 }
+        ensures least { (s : List ℕ) → MeansText self.now s → Bare s → (bounds result).0 ≤ component_total s }
+        ensures greatest { (s : List ℕ) → MeansText self.now s → AtMost (component_total s) (bounds result).1 }
     {
         depth(&self.token)
     }

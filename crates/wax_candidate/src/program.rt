@@ -2,7 +2,7 @@
 ghost use Rattle.std.specs.Prelude.{◌≡◌, ◌↔◌, ◌≤◌, ◌+◌, ◌*◌, ◌++◌, ◌∷◌, ℕ, Bool, List, IsTrue, IfOk, IfSome};
 ghost use Rattle.std.specs.Prelude.{chars, length};
 ghost use Rattle.wax_candidate.specs.Matched.{IsMatchOf, cube_visits};
-ghost use Rattle.wax_query.specs.Components.{Bare, BeginsWithSlash, components_in};
+ghost use Rattle.wax_query.specs.Components.{Bare, BeginsWithSlash, component_total};
 ghost use Rattle.wax_query.specs.Ranges.{AtMost, bounds};
 ghost use Rattle.wax_query.specs.Variances.{text_of};
 ghost use Rattle.wax_query.specs.declared.query.when.When.TheVariants.{Always};
@@ -76,8 +76,8 @@ pub trait Program {
     /// How many components the meant texts have: none that isn't empty and has no `/` at its ends has
     /// fewer than the lower bound, and none has more than the upper one. Any number, where nothing is known.
     fn depth(&self) -> DepthVariance
-        ensures least { (s : List ℕ) → means self.now s → Bare s → (bounds result).0 ≤ components_in s }
-        ensures greatest { (s : List ℕ) → means self.now s → AtMost (components_in s) (bounds result).1 }
+        ensures least { (s : List ℕ) → means self.now s → Bare s → (bounds result).0 ≤ component_total s }
+        ensures greatest { (s : List ℕ) → means self.now s → AtMost (component_total s) (bounds result).1 }
     {
         DepthVariance::from_closed_and_open(0, None)
     }

@@ -1,7 +1,7 @@
 -- From the numbers of `/` to those of components, and to the depth.
 use Rattle.std.proofs.Common.{if◌then◌else◌, ◌+◌, ◌-◌, ◌==◌, ◌∙◌, ◌∷◌, ◌≡◌, ◌≤◌, ◌⊎◌, Bool, List, None}
 use Rattle.std.proofs.Common.{Option, Some, ℕ, [], ap, arith, false, inl, inr, refl, sym, true}
-use Rattle.wax_query.specs.Components.{components_in, first_slash, last_slash, slashes}
+use Rattle.wax_query.specs.Components.{component_total, first_slash, last_slash, slashes}
 use Rattle.wax_token.specs.Syntax.{Tree}
 use Rattle.wax_depth.specs.Depth.{Depth, HasComponents, IsGreatest}
 use Rattle.wax_depth.specs.declared.profile.Profile.{Profile}
@@ -29,7 +29,7 @@ last_is c (d ∷ s) x y e =
     let g : r.1 ≡ y = cc in
     last_is d s r.0 y (r.2 ∙ ap (λ z. ended r.0 z) g)
 
-pub components_at : (s : List ℕ) (a : Shape) → shape s ≡ a → components_in s ≡ component_count a (slashes s)
+pub components_at : (s : List ℕ) (a : Shape) → shape s ≡ a → component_total s ≡ component_count a (slashes s)
 components_at [] empty e = refl
 components_at [] (ended x y) e = absurd (let f : ⊥ = cc in f)
 components_at (c ∷ s) empty e = absurd (let r : (x : Bool) × (y : Bool) × (shape (c ∷ s) ≡ ended x y) = shape_of_some c s in let f : empty ≡ ended r.0 r.1 = sym e ∙ r.2 in let g : ⊥ = cc in g)
@@ -42,7 +42,7 @@ rises (ended x y) m n le = omega (arith, le)
 
 module _ {r : Profile} {P : List ℕ → Type 0} (f : Exact r P) where
   abbrev NumberOf : Shape → ℕ → Type 0
-  NumberOf a n = (s : List ℕ) × P s × (shape s ≡ a) × (components_in s ≡ n)
+  NumberOf a n = (s : List ℕ) × P s × (shape s ≡ a) × (component_total s ≡ n)
 
   numbered : (a : Shape) (n : ℕ) → Has P a n → NumberOf a (component_count a n)
   numbered a n h = (h.0, h.1, h.2, components_at h.0 a h.2 ∙ ap (component_count a) h.3)
@@ -75,7 +75,7 @@ module _ {r : Profile} {P : List ℕ → Type 0} (f : Exact r P) where
   hull_at a (Some x) h = ((numbered a x.0 h.0.0, at_least a x.0 h.0.1), greatest_at a x.1 h.1)
 
   abbrev Number : ℕ → Type 0
-  Number n = (s : List ℕ) × P s × (components_in s ≡ n)
+  Number n = (s : List ℕ) × P s × (component_total s ≡ n)
 
   abbrev Five : ℕ → Type 0
   Five n = NumberOf empty n ⊎ (NumberOf (ended false false) n ⊎ (NumberOf (ended false true) n ⊎ (NumberOf (ended true false) n ⊎ NumberOf (ended true true) n)))

@@ -2,7 +2,7 @@
 use Rattle.std.proofs.Common.{◌≡◌, ◌*◌, ◌++◌, ◌+◌, ◌==◌, ◌∷◌, ◌≤◌, Bool, List, None, Option, Some, ℕ, [], ap}
 use Rattle.std.proofs.Common.{arith, false, inl, inr, length, refl, suc, true, zero}
 use Rattle.std.proofs.Math.Nat.{mul-le-mul_left, mul-le-mul_right}
-use Rattle.wax_query.specs.Components.{components_in, slash, slashes}
+use Rattle.wax_query.specs.Components.{component_total, slash, slashes}
 use Rattle.wax_query.specs.Ranges.{Bounds, AtMost}
 use Rattle.wax_token.specs.Cost.{branches_cost, copies_of, cost, costs, holds_tree, leaf_cost}
 use Rattle.wax_token.specs.Meaning.{Copies, LeafMeans, Means, MeansEach, MeansSome, TreeMeans}
@@ -100,7 +100,7 @@ mutual
       let y : HasFew (MeansEach (thinned_each (more u us)) true d) (costs (more u us)) = has_few_each (more u us) true a h.1 h.4 true d in
       (x.0 ++ y.0, (x.0, y.0, refl, x.1, y.1), omega (arith, slashes_append x.0 y.0, x.2, y.2))
 
-pub few_components : (s : List ℕ) → components_in s ≤ slashes s + 1
+pub few_components : (s : List ℕ) → component_total s ≤ slashes s + 1
 few_components [] = omega arith
 few_components (c ∷ s) = omega arith
 
@@ -109,6 +109,6 @@ pub least_bounded : {A : Type 0} (t : Tree A) (r : Bounds) → Depth t r → r.0
 least_bounded t r (inl h) =
     let w : HasComponents t r.0 = h.0.0 in
     let u : HasFew (Means (thinned t) false false) (cost t) = has_few t false false w.0 w.1 false false in
-    let le : r.0 ≤ components_in u.0 = h.0.1 (components_in u.0) (u.0, u.1, refl) in
+    let le : r.0 ≤ component_total u.0 = h.0.1 (component_total u.0) (u.0, u.1, refl) in
     omega (arith, le, few_components u.0, u.2)
 least_bounded t r (inr h) = let e : r.0 ≡ 0 = ap (λ z. z.0) h.1 in omega (arith, e)

@@ -2,7 +2,7 @@
 use Rattle.std.proofs.Common.{◌*◌, ◌++◌, ◌+◌, ◌==◌, ◌||◌, ◌∙◌, ◌∷◌, ◌≡◌, ◌≤◌, ◌⊎◌, Bool, List, None, Some, ℕ}
 use Rattle.std.proofs.Common.{[], ap, arith, false, inl, inr, refl, suc, sym, true, zero}
 use Rattle.std.proofs.Math.Nat.{mul-le-mul_left, mul-le-mul_right}
-use Rattle.wax_query.specs.Components.{components_in, last_slash, slashes}
+use Rattle.wax_query.specs.Components.{component_total, last_slash, slashes}
 use Rattle.wax_token.proofs.Copies.{Many, OneThen, same_from, same_to, tail_from, tail_to}
 use Rattle.wax_token.proofs.Moved.{means_moved}
 use Rattle.wax_token.specs.Cost.{branches_cost, copies_of, cost, costs, holds_tree, is_tree, leaf_cost}
@@ -173,7 +173,7 @@ last_at_most : (c : ℕ) (s : List ℕ) → last_slash (c ∷ s) ≤ 1
 last_at_most c [] = bit_at_most (c == 47)
 last_at_most c (d ∷ s) = last_at_most d s
 
-many_components : (s : List ℕ) → slashes s ≤ components_in s + 1
+many_components : (s : List ℕ) → slashes s ≤ component_total s + 1
 many_components [] = omega arith
 many_components (c ∷ s) = omega (arith, bit_at_most (c == 47), last_at_most c s)
 
@@ -183,7 +183,7 @@ greatest_bounded t low high (inl h) =
     elim (few_or_pumps t false false w.0 w.1) [
       | inl le ↦ omega (arith, le, few_components w.0, w.2)
       | inr heavy ↦ (let u : (u : List ℕ) × Means (thinned t) false false u × (shape u ≡ shape w.0) × (high + 2 ≤ slashes u) = heavy (high + 2) in
-          let le : components_in u.0 ≤ high = h.1.1 (components_in u.0) (u.0, u.1, refl) in
+          let le : component_total u.0 ≤ high = h.1.1 (component_total u.0) (u.0, u.1, refl) in
           absurd (omega (arith, le, many_components u.0, u.3)))
     ]
 greatest_bounded t low high (inr h) = let e : high ≡ 0 = same (ap (λ z. z.1) h.1) in omega (arith, e)

@@ -2,7 +2,7 @@
 use Rattle.std.proofs.Common.{if◌then◌else◌, ◌++◌, ◌+◌, ◌==◌, ◌∙◌, ◌∷◌, ◌≡◌, ◌≢◌, ◌≤◌, Bool, List, None}
 use Rattle.std.proofs.Common.{Option, Some, ℕ, [], ap, append-nil, arith, false, inl, inr, refl, subst, suc}
 use Rattle.std.proofs.Common.{sym, true, zero}
-use Rattle.wax_query.specs.Components.{Bare, components_in, first_slash, last_slash, slash, slashes, BeginsWithSlash, EndsWithSlash}
+use Rattle.wax_query.specs.Components.{Bare, component_total, first_slash, last_slash, slash, slashes, BeginsWithSlash, EndsWithSlash}
 use Rattle.wax_query.specs.Ranges.{AtMost, Bounds}
 use Rattle.wax_token.specs.Meaning.{Copies, HasNoSlash, LeafMeans, Means, MeansEach, MeansSome}
 use Rattle.wax_token.specs.Meaning.{in_class}
@@ -126,7 +126,7 @@ mutual
       (x.0 ++ y.0, (x.0, y.0, refl, x.1, y.1), subst (λ z. Thins z (x.0 ++ y.0)) (sym h.2) (thins_append h.0 h.1 x.0 y.0 x.2 y.2))
 
 -- ---- the numbers
-fewer : (s u : List ℕ) → Thins s u → components_in s ≤ components_in u
+fewer : (s u : List ℕ) → Thins s u → component_total s ≤ component_total u
 fewer [] u h = omega arith
 fewer (c ∷ s) [] h = absurd (let e : c ∷ s ≡ [] = h.nothing refl in let k : ⊥ = cc in k)
 fewer (c ∷ s) (d ∷ u) h = omega (arith, h.number, h.first, h.last)
@@ -149,7 +149,7 @@ last_none (c ∷ []) h = elim (c == 47) as (λ b. (c == 47) ≡ b → Zero (if b
 ] refl
 last_none (c ∷ d ∷ s) h = last_none (d ∷ s) (λ e. h (c ∷ e.0, ap (λ z. c ∷ z) e.1))
 
-as_many : (s u : List ℕ) → Bare s → Thins s u → components_in u ≡ components_in s
+as_many : (s u : List ℕ) → Bare s → Thins s u → component_total u ≡ component_total s
 as_many [] u b h = absurd (b.0 refl)
 as_many (c ∷ s) [] b h = absurd (let e : c ∷ s ≡ [] = h.nothing refl in let k : ⊥ = cc in k)
 as_many (c ∷ s) (d ∷ u) b h =
@@ -164,11 +164,11 @@ most_components X (Some high) m n g x le = let k : n ≤ high = g.1 n x in omega
 pub depth_bounds : {A : Type 0} (t : Tree A) (r : Bounds) → Depth t r → BoundsComponents t r
 depth_bounds t r (inl h) = record {
   least = λ s m b. let u : Thinner (Means (thinned t) false false) s = thinned_means t false false s m in
-      let le : r.0 ≤ components_in u.0 = h.0.1 (components_in u.0) (u.0, u.1, refl) in omega (arith, le, as_many s u.0 b u.2);
+      let le : r.0 ≤ component_total u.0 = h.0.1 (component_total u.0) (u.0, u.1, refl) in omega (arith, le, as_many s u.0 b u.2);
   greatest = λ s m. let u : Thinner (Means (thinned t) false false) s = thinned_means t false false s m in
-      most_components (HasComponents t) r.1 (components_in s) (components_in u.0) h.1 (u.0, u.1, refl) (fewer s u.0 u.2);
+      most_components (HasComponents t) r.1 (component_total s) (component_total u.0) h.1 (u.0, u.1, refl) (fewer s u.0 u.2);
 }
 depth_bounds t r (inr h) = record {
-  least = λ s m b. let u : Thinner (Means (thinned t) false false) s = thinned_means t false false s m in absurd (h.0 (components_in u.0) (u.0, u.1, refl));
-  greatest = λ s m. let u : Thinner (Means (thinned t) false false) s = thinned_means t false false s m in absurd (h.0 (components_in u.0) (u.0, u.1, refl));
+  least = λ s m b. let u : Thinner (Means (thinned t) false false) s = thinned_means t false false s m in absurd (h.0 (component_total u.0) (u.0, u.1, refl));
+  greatest = λ s m. let u : Thinner (Means (thinned t) false false) s = thinned_means t false false s m in absurd (h.0 (component_total u.0) (u.0, u.1, refl));
 }

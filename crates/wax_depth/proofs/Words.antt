@@ -1,7 +1,7 @@
 -- The depth that is read from a profile whose numbers stay at the greatest of 128 bits.
 use Rattle.std.proofs.Common.{if◌then◌else◌, ◌+◌, ◌-◌, ◌∙◌, ◌≡◌, ◌≤◌, Bool, List, None, Option, Some, ℕ, ap}
 use Rattle.std.proofs.Common.{arith, false, inl, inr, min, refl, subst, sym, true}
-use Rattle.wax_query.specs.Components.{components_in, slashes}
+use Rattle.wax_query.specs.Components.{component_total, slashes}
 use Rattle.wax_query.specs.Ranges.{AtMost, Bounds}
 use Rattle.wax_token.specs.Syntax.{Tree}
 use Rattle.wax_depth.specs.Bounds.{AtMostSaturated, BoundsComponents, SaturatedBounds}
@@ -112,8 +112,8 @@ below n (Some high) le = λ lt. omega (arith, le, lt)
 
 pub saturated_bounds_of : {A : Type 0} (t : Tree A) (s : Bounds) → SaturatedDepth t s → SaturatedBounds t s
 saturated_bounds_of t s h = record {
-  least = λ x m bare. let le : h.0.0 ≤ components_in x = b.least x m bare in omega (arith, le, low);
-  greatest = λ x m. subst (AtMostSaturated (components_in x)) (sym high) (below (components_in x) h.0.1 (b.greatest x m));
+  least = λ x m bare. let le : h.0.0 ≤ component_total x = b.least x m bare in omega (arith, le, low);
+  greatest = λ x m. subst (AtMostSaturated (component_total x)) (sym high) (below (component_total x) h.0.1 (b.greatest x m));
 }
   where
     b : BoundsComponents t h.0

@@ -1,6 +1,6 @@
 -- The least and the greatest number of components of the texts that a tree means.
 use Rattle.std.specs.Prelude.{◌≡◌, ◌-◌, ◌^◌, ◌≤◌, ◌⊎◌, List, None, Option, Some, ℕ, false, min}
-use Rattle.wax_query.specs.Components.{components_in}
+use Rattle.wax_query.specs.Components.{component_total}
 use Rattle.wax_query.specs.Ranges.{Bounds}
 use Rattle.wax_token.specs.Meaning.{Means}
 use Rattle.wax_token.specs.Syntax.{Leaf, Tree, Trees, alternation, class, concatenation, leaf, literal, more}
@@ -28,7 +28,7 @@ abbrev mutual
 
 -- some text of the thinned tree has n components
 abbrev pub HasComponents : {A : Type 0} → Tree A → ℕ → Type 0
-HasComponents t n = (s : List ℕ) × Means (thinned t) false false s × (components_in s ≡ n)
+HasComponents t n = (s : List ℕ) × Means (thinned t) false false s × (component_total s ≡ n)
 
 abbrev pub IsLeast : (ℕ → Type 0) → ℕ → Type 0
 IsLeast X low = X low × ((n : ℕ) → X n → low ≤ n)

@@ -21,7 +21,7 @@ use Rattle.wax_directory.specs.Nodes.{node_layer, entry_node, held_layer, held, 
 use Rattle.wax_directory.specs.Nodes.{and_below, node_at, name_before, names_of, HasDistinctNames}
 use Rattle.wax_directory.specs.Nodes.{HasDuplicateName, Reached, to_node, named_before, named_in, below_layer}
 use Rattle.wax_directory.specs.Nodes.{onward, reached}
-use Rattle.wax_directory.specs.Places.{layer_has_name, has_name, to_reached}
+use Rattle.wax_directory.specs.inner.Places.{layer_has_name, has_name, to_reached}
 use Rattle.wax_directory.specs.TreeLaw.{node_at-append}
 use Rattle.std.proofs.lemmas.Slice.Eq.{bytes_eq-Decides}
 use Rattle.wax_directory.proofs.PathNames.{bytes_eq-swap, distinct_twice}

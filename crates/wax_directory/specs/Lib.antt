@@ -6,9 +6,9 @@ pub mod Calls
 pub mod Listing
 pub mod Names
 pub mod Nodes
-pub mod Places
 pub mod Trees
 pub mod TreeCursors
 pub mod TreeLaw
 pub mod Turns
 pub mod Starved
+pub mod inner

@@ -12,7 +12,7 @@ ghost use Rattle.wax_directory.specs.Nodes.{below_layer, reached};
 ghost use Rattle.wax_query.specs.declared.diagnostics.Refusal.TheVariants.{Refused, Memory};
 ghost use Rattle.wax_directory.specs.Counting.{no_counts};
 ghost use Rattle.wax_directory.specs.Trees.{tree_law, HasItems, tree_start, reached_in, shown_in, item_at};
-ghost use Rattle.wax_directory.specs.Places.{has_name, reached_place, reached_at, Locates};
+ghost use Rattle.wax_directory.specs.inner.Places.{has_name, reached_place, reached_at, Locates};
 
 use crate::directory::{Directory, DirectoryFault, FileType, ListItem};
 use crate::tally::Tally;

@@ -2,4 +2,4 @@ pub mod Leaving
 pub mod Separating
 pub mod Transposing
 pub mod Feeding
-pub mod Walking
+pub mod inner

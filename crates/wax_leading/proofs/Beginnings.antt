@@ -7,7 +7,7 @@ use Rattle.wax_facts.specs.Joined.{IsSeam}
 use Rattle.wax_facts.specs.Orderly.{Full}
 use Rattle.wax_facts.specs.Prefix.{Prefix}
 use Rattle.wax_facts.proofs.Seams.{Seam, prefix_seam}
-use Rattle.wax_query.specs.Components.{components_in, last_slash, slash, slashes, BeginsWithSlash, EndsWithSlash}
+use Rattle.wax_query.specs.Components.{component_total, last_slash, slash, slashes, BeginsWithSlash, EndsWithSlash}
 use Rattle.wax_token.specs.Meaning.{HasNoSlash, Means}
 use Rattle.wax_token.specs.Syntax.{Tree}
 use Rattle.wax_tree.specs.Prefix.{ArePlain}
@@ -100,7 +100,7 @@ last_of rooted [] names h = absurd (h.0 refl)
 last_of false (c ∷ n) names h = last_name c n names h
 last_of true (c ∷ n) names h = last_name c n names h
 
-components_of : (rooted : Bool) (names : List (List ℕ)) → AreNames names → components_in (text_at rooted names) ≡ length names
+components_of : (rooted : Bool) (names : List (List ℕ)) → AreNames names → component_total (text_at rooted names) ≡ length names
 components_of false [] h = refl
 components_of true [] h = omega arith
 components_of rooted ([] ∷ names) h = absurd (h.0 refl)
@@ -110,7 +110,7 @@ components_of true ((c ∷ n) ∷ names) h =
     omega (arith, slashes_in ((c ∷ n) ∷ names) h, last_name c n names h)
 
 -- the greatest number of components bounds the names
-pub bounds_names : {A : Type 0} (t : Tree A) (upper : ℕ) → ((s : List ℕ) → Means t false false s → components_in s ≤ upper) → (rooted : Bool) → BoundsNames rooted t upper
+pub bounds_names : {A : Type 0} (t : Tree A) (upper : ℕ) → ((s : List ℕ) → Means t false false s → component_total s ≤ upper) → (rooted : Bool) → BoundsNames rooted t upper
 bounds_names t upper h rooted names k m = subst (λ n. n ≤ upper) (components_of rooted names k) (h (text_at rooted names) m)
 
 -- ---- from the prefix to its names

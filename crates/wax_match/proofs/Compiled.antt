@@ -9,7 +9,7 @@ use Rattle.wax_query.specs.Ranges.{AtMost}
 use Rattle.wax_query.specs.Components.{BeginsWithSlash, EndsWithSlash}
 use Rattle.wax_token.specs.Meaning.{TreeMeans, HasNoSlash, SameFold, SameText, LeafMeans, Copies, Means, MeansSome, MeansEach}
 use Rattle.wax_token.specs.Cost.{holds_tree}
-use Rattle.wax_match.specs.Code.{slash_code, never, skip, choose, literal_code, wildcard_code, leaf_instructions, copies_code, up_to_code, counted_code, many_code, copied_code, instructions_of, branches_code, sequence_code}
+use Rattle.wax_match.specs.inner.Code.{slash_code, never, skip, choose, literal_code, wildcard_code, leaf_instructions, copies_code, up_to_code, counted_code, many_code, copied_code, instructions_of, branches_code, sequence_code}
 use Rattle.wax_match.proofs.Fragments.{Spells, OneOf, spells_empty, spells_test, spells_repeat, spells_components, spells_append, spells_same, spells_loop, spells_skip, spells_choose}
 use Rattle.wax_token.proofs.Copies.{Many, ManyWithin, OneThen, Repeats, TwoMore, open_from, open_to}
 use Rattle.wax_token.proofs.Copies.{many_add, many_split, same_from, same_to, two_more_from, two_more_to}

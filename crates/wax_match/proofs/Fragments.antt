@@ -7,7 +7,7 @@ use Rattle.wax_program.specs.declared.instruction.Instruction.{Instruction}
 use Rattle.wax_program.specs.declared.instruction.Instruction.TheVariants.{Check, Repeat, Components, Fork, Jump, Back}
 use Rattle.wax_program.specs.Machine.{PassesTest, Moves, AcceptsIn, Accepts}
 use Rattle.wax_program.proofs.Steps.{after_test, after_fork, after_jump, after_back, after_last, after_one, after_any, after_slash}
-use Rattle.wax_match.specs.Code.{loop, skip, choose}
+use Rattle.wax_match.specs.inner.Code.{loop, skip, choose}
 use Rattle.wax_query.specs.Components.{EndsWithSlash}
 
 -- these instructions stand in the code from a place on

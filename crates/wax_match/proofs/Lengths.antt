@@ -4,7 +4,7 @@ use Rattle.wax_program.specs.declared.instruction.Instruction.{Instruction}
 use Rattle.wax_program.specs.declared.instruction.Instruction.TheVariants.{Jump, Back}
 use Rattle.wax_token.specs.Syntax.{Leaf, literal, class, separator, one, zero_or_more, tree, Tree, leaf, alternation, concatenation, repetition, Trees, none, more}
 use Rattle.wax_token.specs.Cost.{leaf_cost, holds_tree, copies_of, cost, costs, branches_cost}
-use Rattle.wax_match.specs.Code.{never, loop, choose, literal_code, wildcard_code, leaf_instructions, copies_code, up_to_code, counted_code, many_code, copied_code, instructions_of, branches_code, sequence_code}
+use Rattle.wax_match.specs.inner.Code.{never, loop, choose, literal_code, wildcard_code, leaf_instructions, copies_code, up_to_code, counted_code, many_code, copied_code, instructions_of, branches_code, sequence_code}
 use Rattle.wax_match.proofs.Compiled.{le_from}
 
 length-literal : (b : Bool) (t : List ℕ) → length (literal_code b t) ≤ length t

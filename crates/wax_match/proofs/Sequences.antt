@@ -3,7 +3,7 @@ use Rattle.std.proofs.Common.{◌≡◌, ℕ, zero, suc, ◌-◌, ◌<◌, ◌�
 use Rattle.std.proofs.lemmas.Bool.{cases_lt, lt-ltb, le-ltb}
 use Rattle.std.proofs.lemmas.List.{drop_all}
 use Rattle.wax_program.specs.declared.instruction.Instruction.{Instruction}
-use Rattle.wax_match.specs.Code.{copied_code, copies_code, counted_code, never, repeated_code, sequence_code, instructions_of, up_to_code}
+use Rattle.wax_match.specs.inner.Code.{copied_code, copies_code, counted_code, never, repeated_code, sequence_code, instructions_of, up_to_code}
 use Rattle.wax_token.specs.Cost.{holds_tree}
 use Rattle.wax_token.specs.Syntax.{Tree}
 use Rattle.wax_token.specs.Words.{trees}

@@ -5,8 +5,8 @@ use Rattle.std.specs.List.{list_all}
 use Rattle.std.proofs.lemmas.Bool.Decides.{eqb_tells}
 use borrow.Author.Tests.{ltb-true, lt-ltb}
 use Rattle.wax_token.specs.Reads.{decimal_from, IsNumber, ReadsBounds, any_number, at_least_one, exactly, at_least, between}
-use Rattle.wax_parse.specs.Parser.{strip, digit_step, next_number, digits_run, digits_after, number_run, with_value, with_lower, upper_end, upper_or, read_upper, upper_after, lower_after, read_numbers, numbers_or, bounds_after, read_bounds}
-use Rattle.wax_parse.specs.Reading.{Beyond}
+use Rattle.wax_parse.specs.inner.Parser.{strip, digit_step, next_number, digits_run, digits_after, number_run, with_value, with_lower, upper_end, upper_or, read_upper, upper_after, lower_after, read_numbers, numbers_or, bounds_after, read_bounds}
+use Rattle.wax_parse.specs.inner.Reading.{Beyond}
 use Rattle.wax_parse.proofs.Runs.{none_some}
 use Rattle.wax_parse.proofs.Trees.{strip_is}
 

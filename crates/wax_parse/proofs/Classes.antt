@@ -4,7 +4,7 @@ use Rattle.std.proofs.lemmas.Bool.Decides.{eqb_tells}
 use Rattle.wax_token.specs.declared.token.Archetype.{Archetype}
 use Rattle.wax_token.specs.declared.token.Archetype.TheVariants.{Character, Range}
 use Rattle.wax_token.specs.Reads.{is_one_of, starts_with_one_of, class_escapable, spelled, archetype_text, archetypes_text, IsPlainArchetype, AllPlain}
-use Rattle.wax_parse.specs.Parser.{strip, escaped_step, class_step, range_to, archetype_of, archetype_after, archetype_step, put_some, go_on, class_run}
+use Rattle.wax_parse.specs.inner.Parser.{strip, escaped_step, class_step, range_to, archetype_of, archetype_after, archetype_step, put_some, go_on, class_run}
 use Rattle.wax_parse.proofs.Runs.{none_some, or_false}
 
 -- a character that is of a set isn't one that isn't

@@ -1,7 +1,7 @@
 -- Flag groups.
 use Rattle.std.proofs.Common.{true≢false, ◌≡◌, ℕ, zero, suc, ◌<◌, ◌≤◌, ◌⊎◌, Bool, true, false, List, [], ◌∷◌, ◌++◌, length, Option, Some, None, if◌then◌else◌, ◌==◌, codes, refl, sym, ◌∙◌, ap, subst, inl, inr, arith, length-append, append_assoc, eqb-true}
 use Rattle.wax_token.specs.Reads.{Place, Past, Flags, no_flags, group, toggles_text, last_toggle, starts_with_one_of}
-use Rattle.wax_parse.specs.Parser.{at, strip, toggle_off, toggle_step, group_end, dash_end, first_toggle, after_question, after_parenthesis, group_step, flags_on, flags_run, flags_end}
+use Rattle.wax_parse.specs.inner.Parser.{at, strip, toggle_off, toggle_step, group_end, dash_end, first_toggle, after_question, after_parenthesis, group_step, flags_on, flags_run, flags_end}
 
 -- ---- the groups that are read are flag groups
 abbrev Toggles : Bool → List ℕ → Place → Type 0

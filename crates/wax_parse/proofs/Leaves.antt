@@ -6,8 +6,8 @@ use Rattle.wax_token.specs.declared.token.Evaluation.{Evaluation}
 use Rattle.wax_token.specs.declared.token.Evaluation.TheVariants.{Eager, Lazy}
 use Rattle.wax_token.specs.Syntax.{Leaf, literal, class, separator, one, zero_or_more, tree}
 use Rattle.wax_token.specs.Reads.{is_one_of, starts_with_one_of, escapable, all_spelled, NoLiteralFollows, archetypes_text, class_text, AllPlain, Place, Past, Around, no_flags, NoWildcardFollows, TreeCloses, TreeFollows, ReadsLeaf}
-use Rattle.wax_parse.specs.Parser.{at, flags_end, with_flag, after_star, star_after, put, literal_run, literal_leaf, after_tree, boundary_leaf, zero_or_more_leaf, inner_leaf, first_leaf, read_leaf, class_run, class_leaf, read_class}
-use Rattle.wax_parse.specs.Reading.{IsTaken}
+use Rattle.wax_parse.specs.inner.Parser.{at, flags_end, with_flag, after_star, star_after, put, literal_run, literal_leaf, after_tree, boundary_leaf, zero_or_more_leaf, inner_leaf, first_leaf, read_leaf, class_run, class_leaf, read_class}
+use Rattle.wax_parse.specs.inner.Reading.{IsTaken}
 use Rattle.wax_parse.proofs.Runs.{none_some, or_false}
 use Rattle.wax_parse.proofs.Classes.{outside, not_member, closing, class_run_complete, class_run_sound, GoodRun}
 use Rattle.wax_parse.proofs.Flags.{flags_text}

@@ -8,8 +8,8 @@ use Rattle.wax_token.specs.Reads.{Span, Place, Around, in_repetition, utf8_len}
 use Rattle.wax_parse.specs.declared.parse.surroundings.Around as code
 use Rattle.wax_parse.specs.declared.parse.surroundings.Around.TheVariants as around
 use Rattle.wax_parse.specs.Accepted.{IsPlace}
-use Rattle.wax_parse.specs.Parser.{around_of, at, flags_end, read_leaf}
-use Rattle.wax_parse.specs.Reading.{GlobFrom, IsRefusal, Sole, Unreadable, Beyond, IsTaken}
+use Rattle.wax_parse.specs.inner.Parser.{around_of, at, flags_end, read_leaf}
+use Rattle.wax_parse.specs.inner.Reading.{GlobFrom, IsRefusal, Sole, Unreadable, Beyond, IsTaken}
 use Rattle.wax_parse.proofs.Places.{token_takes}
 use Rattle.wax_parse.proofs.Flags.{flags_reached, flags_text}
 

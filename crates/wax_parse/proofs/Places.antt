@@ -2,8 +2,8 @@
 use Rattle.std.proofs.Common.{◌≡◌, ℕ, ◌<◌, Bool, List, ◌++◌, length, Some, sym, ◌∙◌, ap, subst, arith, length-append, append_assoc}
 use Rattle.wax_token.specs.Syntax.{Leaf}
 use Rattle.wax_token.specs.Reads.{Place, Flags, Around, ReadsLeaf}
-use Rattle.wax_parse.specs.Parser.{flags_end, read_leaf}
-use Rattle.wax_parse.specs.Reading.{IsTaken}
+use Rattle.wax_parse.specs.inner.Parser.{flags_end, read_leaf}
+use Rattle.wax_parse.specs.inner.Reading.{IsTaken}
 use Rattle.wax_parse.proofs.Flags.{flags_last, flags_reached, flags_text}
 use Rattle.wax_parse.proofs.Leaves.{Good, leaf_sound, leaf_complete, leaf_takes, leaf_no_flag}
 

@@ -3,8 +3,8 @@ use Rattle.std.proofs.Common.{true≢false, ◌≡◌, ℕ, ◌+◌, ◌-◌, �
 use Rattle.std.proofs.lemmas.Bool.Decides.{eqb_tells}
 use Rattle.wax_token.specs.Syntax.{Leaf, Tree, leaf, alternation, concatenation, repetition, Trees}
 use Rattle.wax_token.specs.Reads.{Span, Place, Past, Flags, no_flags, group, Around, whole, in_alternation, in_repetition, starts_with_one_of, utf8_len, ReadsBounds, nesting, deepest, IsSpan, ReadsToken, ReadsGlob, ReadsBranches}
-use Rattle.wax_parse.specs.Parser.{at, strip, is_end, flags_end, read_leaf, read_bounds}
-use Rattle.wax_parse.specs.Reading.{TokenFrom, GlobFrom, BranchesFrom, Sole, Unreadable}
+use Rattle.wax_parse.specs.inner.Parser.{at, strip, is_end, flags_end, read_leaf, read_bounds}
+use Rattle.wax_parse.specs.inner.Reading.{TokenFrom, GlobFrom, BranchesFrom, Sole, Unreadable}
 use Rattle.wax_parse.proofs.Runs.{none_some}
 use Rattle.wax_parse.proofs.Bounds.{bounds_sound, bounds_complete}
 use Rattle.wax_parse.proofs.Flags.{flags_last, flags_reached}

@@ -4,8 +4,8 @@ use Rattle.std.proofs.lemmas.Bool.Decides.{eqb_tells}
 use Rattle.wax_token.specs.Syntax.{Tree, leaf, alternation, concatenation, repetition, Trees, none, more}
 use Rattle.wax_token.specs.Words.{trees}
 use Rattle.wax_token.specs.Reads.{Span, Place, Past, Around, in_alternation, utf8_len, ReadsTokens, ReadsBranches}
-use Rattle.wax_parse.specs.Parser.{strip, is_end}
-use Rattle.wax_parse.specs.Reading.{is_nil, onto, TokenFrom, TokensFrom, GlobFrom, BranchesFrom, Sole, Unreadable, Begun}
+use Rattle.wax_parse.specs.inner.Parser.{strip, is_end}
+use Rattle.wax_parse.specs.inner.Reading.{is_nil, onto, TokenFrom, TokensFrom, GlobFrom, BranchesFrom, Sole, Unreadable, Begun}
 use Rattle.wax_parse.proofs.Runs.{none_some}
 use Rattle.wax_parse.proofs.Readings.{heads, after_one, stripped, no_token, span_between, span_from, span_is}
 use Rattle.wax_parse.proofs.Trees.{end_sound, end_complete}

@@ -4,7 +4,7 @@ use Rattle.wax_token.specs.declared.token.Archetype.{Archetype}
 use Rattle.wax_token.specs.declared.token.Archetype.TheVariants.{Character}
 use Rattle.wax_token.specs.Syntax.{literal}
 use Rattle.wax_token.specs.Reads.{is_one_of, starts_with_one_of, escapable, class_escapable}
-use Rattle.wax_parse.specs.Parser.{strip, escaped_step, literal_step, put, literal_run, literal_leaf, is_plain_character, is_plain_text, StopsPlain, class_step, range_to, archetype_of, archetype_after, archetype_step, put_some, go_on, class_run, prefixed}
+use Rattle.wax_parse.specs.inner.Parser.{strip, escaped_step, literal_step, put, literal_run, literal_leaf, is_plain_character, is_plain_text, StopsPlain, class_step, range_to, archetype_of, archetype_after, archetype_step, put_some, go_on, class_run, prefixed}
 
 pub none_some : {A : Type 0} (x : A) → None ≡ Some x → ⊥
 none_some x e = cc

@@ -5,7 +5,7 @@ use Rattle.std.specs.Char.{IsScalar}
 use Rattle.std.proofs.lemmas.Str.{encodes-chars, encodes-append, encodes_same, chars-append, chars_past_char, chars-nil, len_utf8_bounds, IsUtf8-encode, IsCharBoundary-at_seam}
 use Rattle.wax_token.specs.Reads.{Span, utf8_len}
 use Rattle.wax_parse.specs.Accepted.{IsPlace, first_len}
-use Rattle.wax_parse.specs.Reading.{Beyond, IsTaken}
+use Rattle.wax_parse.specs.inner.Reading.{Beyond, IsTaken}
 use Rattle.wax_token.proofs.Bytes.{bytes_len}
 use Rattle.std.proofs.Math.Seq.{take-append_seam}
 

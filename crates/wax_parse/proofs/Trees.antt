@@ -1,7 +1,7 @@
 -- What closes and what follows, where flag groups may stand between.
 use Rattle.std.proofs.Common.{◌≡◌, ℕ, Bool, true, false, List, [], ◌∷◌, Option, Some, None, if◌then◌else◌, ◌==◌, codes, refl, sym, ◌∙◌, ap, subst, inl, inr, eqb-true}
 use Rattle.wax_token.specs.Reads.{Place, Past, Flags, no_flags, group, Around, whole, in_alternation, in_repetition, IsEnd, starts_with_one_of, NoWildcardFollows, TreeCloses, TreeFollows}
-use Rattle.wax_parse.specs.Parser.{at, strip, flags_end, is_end, after_slash, closed_by_slash, after_stars, after_star, star_after, after_tree}
+use Rattle.wax_parse.specs.inner.Parser.{at, strip, flags_end, is_end, after_slash, closed_by_slash, after_stars, after_star, star_after, after_tree}
 use Rattle.wax_parse.proofs.Runs.{none_some}
 use Rattle.wax_parse.proofs.Classes.{outside}
 use Rattle.wax_parse.proofs.Flags.{flags_reached, flags_cases, flags_last}

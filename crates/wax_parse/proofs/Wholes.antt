@@ -2,7 +2,7 @@
 use Rattle.std.proofs.Common.{◌≡◌, ℕ, false, List, [], ◌∷◌, sym, ◌∙◌, ap, subst, refl}
 use Rattle.wax_token.specs.Syntax.{Tree, leaf, literal}
 use Rattle.wax_token.specs.Reads.{Span, Place, whole, start, utf8_len, Reads}
-use Rattle.wax_parse.specs.Reading.{GlobFrom, Sole, Unreadable}
+use Rattle.wax_parse.specs.inner.Reading.{GlobFrom, Sole, Unreadable}
 
 pub reads_empty : (e : List ℕ) (t : Tree Span) (s : Span) → e ≡ [] → s ≡ (0, 0) → t ≡ leaf s (literal false []) → Reads e t × ((u : Tree Span) → Reads e u → u ≡ t)
 reads_empty e t s blank span made =

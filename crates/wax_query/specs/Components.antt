@@ -18,9 +18,9 @@ last_slash (c ∷ []) = slash c
 last_slash (c ∷ d ∷ s) = last_slash (d ∷ s)
 
 -- the number of components, where a `/` at an end parts none
-abbrev pub components_in : List ℕ → ℕ
-components_in [] = 0
-components_in (c ∷ s) = slashes (c ∷ s) + 1 - first_slash (c ∷ s) - last_slash (c ∷ s)
+abbrev pub component_total : List ℕ → ℕ
+component_total [] = 0
+component_total (c ∷ s) = slashes (c ∷ s) + 1 - first_slash (c ∷ s) - last_slash (c ∷ s)
 
 abbrev pub BeginsWithSlash : List ℕ → Type 0
 BeginsWithSlash s = (t : List ℕ) × (s ≡ 47 ∷ t)

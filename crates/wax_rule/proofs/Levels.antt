@@ -4,8 +4,9 @@ use Rattle.std.proofs.lemmas.List.{take-append-drop, drop-append-le, length-drop
 use Rattle.std.proofs.lemmas.Grind.{flat_map-append}
 use Rattle.std.proofs.Math.Seq.{drop-append_seam, take-append_seam, take-add, drop-drop}
 use Rattle.std.specs.List.{flat_map}
-use Rattle.wax_rule.specs.Queue.{branches, siblings, children, queue_children, children_between, all_levels}
-use Rattle.wax_rule.specs.Situated.{Situated, end_side, right_of, beside, situated_levels, branch_levels, member_levels, breadth_first}
+use Rattle.wax_rule.specs.inner.Queue.{branches, siblings, children, queue_children, children_between, all_levels}
+use Rattle.wax_alternatives.specs.Alternatives.{beside}
+use Rattle.wax_rule.specs.Situated.{Situated, end_side, right_of, situated_levels, branch_levels, member_levels, breadth_first}
 use Rattle.wax_rule.specs.declared.rule.situated.Side.{Side}
 use Rattle.wax_token.specs.Reads.{Span}
 use Rattle.wax_token.specs.Syntax.{Tree, leaf, alternation, concatenation, repetition, Trees, none, more}

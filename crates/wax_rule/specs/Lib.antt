@@ -1,6 +1,5 @@
 pub mod FirstBreak
-pub mod Naturals
-pub mod Queue
 pub mod Rules
 pub mod Situated
 pub mod Sizes
+pub mod inner

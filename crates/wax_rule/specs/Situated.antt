@@ -1,6 +1,7 @@
 -- The tokens of a tree, breadth first, each with what stands beside it.
 use Rattle.std.specs.Prelude.{Bool, false, ◌||◌, List, [], ◌∷◌, ◌++◌, Option, Some, None}
 use Rattle.std.specs.List.{flat_map}
+use Rattle.wax_alternatives.specs.Alternatives.{beside}
 use Rattle.wax_rule.specs.declared.rule.situated.Side.{Side}
 use Rattle.wax_token.specs.Kinds.{is_zero_or_more_leaf, is_boundary_leaf}
 use Rattle.wax_token.specs.Reads.{Span}
@@ -69,12 +70,6 @@ pub record Situated : Type 0 where
 abbrev pub right_of : Trees Span → Option Side → Option Side
 right_of none outer = outer
 right_of (more t ts) outer = Some (start_side t)
-
--- two rows of levels, side by side
-abbrev pub beside : {A : Type 0} → List (List A) → List (List A) → List (List A)
-beside [] ys = ys
-beside (x ∷ xs) [] = x ∷ xs
-beside (x ∷ xs) (y ∷ ys) = (x ++ y) ∷ beside xs ys
 
 -- the tokens of a tree by level, between two neighbours: itself, its tokens, their tokens, and so on
 abbrev mutual

@@ -9,7 +9,8 @@ use Rattle.wax_token.specs.Syntax.{Leaf, literal, class, separator, one, zero_or
 use Rattle.wax_token.specs.Syntax.{alternation, concatenation, repetition, Trees, none, more}
 use Rattle.wax_query.specs.Components.{BeginsWithSlash, EndsWithSlash}
 use Rattle.wax_token.specs.Meaning.{HasNoSlash, TreeMeans, SameFold, SameText, LeafMeans}
-use Rattle.wax_token.specs.Meaning.{in_class, Copies, AtMost, Means, MeansSome, MeansEach}
+use Rattle.wax_query.specs.Ranges.{AtMost}
+use Rattle.wax_token.specs.Meaning.{in_class, Copies, Means, MeansSome, MeansEach}
 
 -- a fact that is known to hold or not to hold
 abbrev pub Decided : Type 0 → Type 0

@@ -20,7 +20,7 @@ use Rattle.wax_walk.specs.Given.{Given, fault}
 use Rattle.wax_tree.specs.Plain.{Scope, Spot, item_spot, one_deeper, count, count_shown, at_depth}
 use Rattle.wax_tree.specs.Plain.{entry_forest, plain_at, items_forest}
 use Rattle.wax_tree.specs.Prefix.{from_last, walk_from}
-use Rattle.wax_tree.specs.Heads.{first_item_forest, own_count}
+use Rattle.wax_tree.specs.inner.Heads.{first_item_forest, own_count}
 use Rattle.wax_tree.specs.Walking.{HasKind}
 
 pub silent : (scope : Scope) (depth : ℕ) (x : Given) (below after : Forest Given) → depth < scope.min

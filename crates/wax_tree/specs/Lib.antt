@@ -1,10 +1,10 @@
 pub mod Depths
 pub mod Plain
 pub mod Prefix
-pub mod Heads
 pub mod Walking
 pub mod Stepping
 pub mod Lacking
 pub mod WalkLaws
 pub mod Begins
 pub mod Whole
+pub mod inner

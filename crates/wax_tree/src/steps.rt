@@ -9,7 +9,7 @@ ghost use Rattle.wax_directory.specs.Shown.{Items, Shown, ShowsIn, IsPlain, name
 ghost use Rattle.wax_walk.specs.Forest.{Forest, Pending, followed_by};
 ghost use Rattle.wax_walk.specs.Given.{Given, fault};
 ghost use Rattle.wax_walk.specs.View.{Accounts, FeedStep};
-ghost use Rattle.wax_tree.specs.Heads.{first_item_forest, own_count};
+ghost use Rattle.wax_tree.specs.inner.Heads.{first_item_forest, own_count};
 ghost use Rattle.wax_tree.specs.Plain.{Spot, entry_forest, below_forest, count, count_shown};
 ghost use Rattle.wax_tree.specs.Prefix.{ArePlain, from_last, walk_from};
 ghost use Rattle.wax_tree.specs.Stepping.{Settles, nothing_asked, Adds, AddsFirst, Saves, Spends, StepIs};

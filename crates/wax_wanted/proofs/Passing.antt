@@ -12,7 +12,7 @@ use Rattle.wax_walk.specs.Given.{Facts, Mark, with_tree, Given}
 use Rattle.wax_wanted.proofs.Names.{at_join, at_sees, names_chars, seen_at}
 use Rattle.wax_wanted.specs.Candidates.{AreNames, Candidate}
 use Rattle.wax_wanted.specs.inner.Descents.{said_of, Descends, At, child_spot}
-use Rattle.wax_wanted.specs.inner.Stacks.{LeavesOutTree, LeavesOutAll, IsEntryLeftOut, PassesDown}
+use Rattle.wax_wanted.specs.inner.Stacks.{LeavesOutWhole, LeavesOutAll, IsEntryLeftOut, PassesDown}
 use Rattle.wax_wanted.specs.Marks.{of_candidate}
 use Rattle.wax_wanted.specs.Premises.{ArePlainItems, IsPlainShown}
 
@@ -27,7 +27,7 @@ module _ (rule : Facts → Mark) where
   left_followed (item x below after) g h k = (h.0, h.1, left_followed after g h.2 k)
   left_followed (lists path after) g h k = left_followed after g h k
 
-  left_unless : (b : Bool) (x : Given) (below after : Forest Given) → LeavesOutTree rule x
+  left_unless : (b : Bool) (x : Given) (below after : Forest Given) → LeavesOutWhole rule x
       → LeavesOutAll rule below
       → LeavesOutAll rule after → LeavesOutAll rule (cond b (followed_by below after) (item x below after))
   left_unless true x below after e h k = left_followed below after h k

@@ -6,11 +6,11 @@ use Rattle.wax_walk.specs.Forest.{Forest, nothing, item, lists, preorder, filter
 use Rattle.wax_walk.specs.Given.{Facts, Mark, kept, alone, with_tree, Given, entry, fault, no_memory}
 use Rattle.wax_walk.specs.Given.{combined_mark, is_cut, changed_by, cut_by}
 use Rattle.wax_wanted.specs.Wanted.{stacked, is_kept_entry}
-use Rattle.wax_wanted.specs.inner.Stacks.{keeps, all_keep, is_left, LeavesOutTree, LeavesOutAll, IsEntryLeftOut}
+use Rattle.wax_wanted.specs.inner.Stacks.{keeps, all_keep, is_left, LeavesOutWhole, LeavesOutAll, IsEntryLeftOut}
 use Rattle.wax_wanted.specs.inner.Stacks.{PassesDown, AllPassDown}
 
 module _ (rule : Facts → Mark) (rules : List (Facts → Mark)) where
-  unwanted : (x : Given) → LeavesOutTree rule x → is_left (rule ∷ rules) x ≡ false
+  unwanted : (x : Given) → LeavesOutWhole rule x → is_left (rule ∷ rules) x ≡ false
   unwanted (entry kept f) e = ap (λ m. keeps m && all_keep rules f) e
   unwanted (entry alone f) e = refl
   unwanted (entry with_tree f) e = refl
@@ -92,7 +92,7 @@ module _ (rule : Facts → Mark) (rules : List (Facts → Mark)) where
 -- ---- a filter doesn't change what another says
 
 module _ (rule other : Facts → Mark) where
-  left_still : (x : Given) → LeavesOutTree other x → LeavesOutTree other (changed_by rule x)
+  left_still : (x : Given) → LeavesOutWhole other x → LeavesOutWhole other (changed_by rule x)
   left_still (entry m f) h = h
   left_still (fault kind path depth) h = tt
   left_still no_memory h = tt

@@ -1,7 +1,7 @@
 //! The cost of tokens, which is known before an instruction is written.
 ghost use Rattle.std.specs.Prelude.{◌≡◌, ◌+◌, ◌-◌, ◌*◌, ◌^◌, ℕ, length, min};
 ghost use Rattle.std.specs.Str.{chars};
-ghost use Rattle.wax_match.specs.Limits.{longest};
+ghost use Rattle.wax_match.specs.inner.Limits.{longest};
 ghost use Rattle.wax_token.specs.Cost.{branches_cost, copies_of, cost, costs, holds_tree, is_tree, leaf_cost, some_holds_tree};
 ghost use Rattle.wax_token.specs.View.{leaf_of};
 ghost use Rattle.wax_token.specs.Words.{trees};

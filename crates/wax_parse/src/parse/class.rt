@@ -1,7 +1,7 @@
 //! Classes.
 ghost use Rattle.std.specs.Prelude.{◌≡◌, IfOk, MatchOption, Some, None, chars, length};
 ghost use Rattle.wax_token.specs.View.{leaf_of};
-ghost use Rattle.wax_parse.specs.Parser.{archetype_step, class_run, class_leaf, read_class};
+ghost use Rattle.wax_parse.specs.inner.Parser.{archetype_step, class_run, class_leaf, read_class};
 
 use crate::parse::text::{class_character, strip};
 use std::alloc::{AllocError, Global};

@@ -1,6 +1,6 @@
 //! Where a glob stands, and what ends it.
 ghost use Rattle.std.specs.Prelude.{◌≡◌, ◌+◌, MatchOption, chars};
-ghost use Rattle.wax_parse.specs.Parser.{around_of, is_end};
+ghost use Rattle.wax_parse.specs.inner.Parser.{around_of, is_end};
 
 use crate::parse::text::split_first;
 

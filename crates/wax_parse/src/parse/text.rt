@@ -1,7 +1,7 @@
 //! Beginnings of texts.
 ghost use Rattle.std.specs.Prelude.{◌≡◌, ◌∷◌, ◌++◌, [], List, ℕ, chars, MatchOption, Some, None, not};
 ghost use Rattle.wax_token.specs.Reads.{is_one_of, escapable, class_escapable};
-ghost use Rattle.wax_parse.specs.Parser.{strip, literal_step, class_step, is_plain_character};
+ghost use Rattle.wax_parse.specs.inner.Parser.{strip, literal_step, class_step, is_plain_character};
 
 /// The first character, and the text after it.
 pub(super) fn split_first(text: &str) -> Option<(char, &str)>

@@ -5,7 +5,7 @@ ghost use Rattle.wax_token.specs.View.{leaf_of};
 ghost use Rattle.wax_token.specs.Words.{trees, annotation_of};
 ghost use Rattle.wax_rule.specs.Situated.{starts_with_leaf, some_starts_in, ends_in, some_ends_in, end_side, start_side, right_of, breadth_first};
 ghost use Rattle.wax_token.specs.Kinds.{is_boundary_leaf, is_zero_or_more_leaf};
-ghost use Rattle.wax_rule.specs.Queue.{branches, siblings, children, queue_children};
+ghost use Rattle.wax_rule.specs.inner.Queue.{branches, siblings, children, queue_children};
 
 use std::alloc::{AllocError, Global};
 use std::marker::Model;
@@ -31,7 +31,7 @@ pub(super) struct Situated<'i, 't> {
 
 impl<'i, 't> Model for Situated<'i, 't> {
     ghost use Rattle.wax_rule.specs.Situated.{Situated as ASituated};
-    ghost use Rattle.wax_rule.specs.Queue.{situated_code};
+    ghost use Rattle.wax_rule.specs.inner.Queue.{situated_code};
 
     ghost Value = { ASituated };
 

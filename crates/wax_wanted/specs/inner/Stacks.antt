@@ -22,16 +22,16 @@ is_left rules (fault kind path depth) = false
 is_left rules no_memory = false
 
 -- the rule leaves out this entry with what lies below it
-abbrev pub LeavesOutTree : (Facts → Mark) → Given → Type 0
-LeavesOutTree rule (entry m f) = rule f ≡ with_tree
-LeavesOutTree rule (fault kind path depth) = ⊤
-LeavesOutTree rule no_memory = ⊤
+abbrev pub LeavesOutWhole : (Facts → Mark) → Given → Type 0
+LeavesOutWhole rule (entry m f) = rule f ≡ with_tree
+LeavesOutWhole rule (fault kind path depth) = ⊤
+LeavesOutWhole rule no_memory = ⊤
 
 -- each entry
 abbrev pub LeavesOutAll : (Facts → Mark) → Forest Given → Type 0
 LeavesOutAll rule nothing = ⊤
 LeavesOutAll rule (item x below after) =
-    LeavesOutTree rule x × LeavesOutAll rule below × LeavesOutAll rule after
+    LeavesOutWhole rule x × LeavesOutAll rule below × LeavesOutAll rule after
 LeavesOutAll rule (lists path after) = LeavesOutAll rule after
 
 abbrev pub IsEntryLeftOut : (Facts → Mark) → Given → Type 0

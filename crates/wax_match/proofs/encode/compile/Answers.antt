@@ -1,5 +1,5 @@
 use Rattle.std.proofs.Common.{◌≡◌, ◌++◌, [], length, arith, rules, sym, ap, subst, append-nil, ◌∙◌}
-use Rattle.wax_match.specs.Code.{sequence_code}
+use Rattle.wax_match.specs.inner.Code.{sequence_code}
 use Rattle.wax_program.specs.Machine.{Accepts}
 use Rattle.wax_token.specs.Words.{trees}
 use Rattle.wax_match.proofs.Compiled.{compiled_sequence}

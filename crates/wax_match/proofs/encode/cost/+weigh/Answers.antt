@@ -1,5 +1,5 @@
 use Rattle.std.proofs.Common.{◌≡◌, ◌+◌, ◌*◌, List, [], ◌∷◌, length, arith, refl, ap, ◌∙◌, min, rules}
-use Rattle.wax_match.specs.Limits.{longest}
+use Rattle.wax_match.specs.inner.Limits.{longest}
 use Rattle.wax_token.specs.Cost.{branches_cost, costs}
 use Rattle.wax_token.specs.Syntax.{Tree}
 use Rattle.wax_token.specs.Words.{trees}

@@ -1,5 +1,5 @@
 use Rattle.std.proofs.Common.{◌≡◌, ◌+◌, ◌≤◌, ◌||◌, drop, min}
-use Rattle.wax_match.specs.Limits.{longest}
+use Rattle.wax_match.specs.inner.Limits.{longest}
 use Rattle.wax_token.specs.Cost.{costs, some_holds_tree}
 use Rattle.wax_token.specs.Syntax.{tree_size, trees_size}
 use Rattle.wax_token.specs.Words.{trees}

@@ -1,7 +1,7 @@
 use Rattle.std.proofs.Common.{◌≡◌, ◌+◌, ◌-◌, ◌++◌, ◌∷◌, [], ◌||◌, Bool, List, ℕ, ltb, length, length-append, append_assoc, set, arith, rules, sym, ◌∙◌, ap}
 use Rattle.wax_program.specs.declared.instruction.Instruction.{Instruction}
 use Rattle.wax_program.specs.declared.instruction.Instruction.TheVariants.{Back, Fork}
-use Rattle.wax_match.specs.Code.{instructions_of}
+use Rattle.wax_match.specs.inner.Code.{instructions_of}
 use Rattle.wax_match.proofs.Sequences.{or_left, or_right, sequence_put}
 use Rattle.wax_match.proofs.Tails.{set_seam}
 use Rattle.wax_match.proofs.encode.emission.+put.Goals as goal

@@ -1,5 +1,5 @@
 use Rattle.std.proofs.Common.{◌≡◌, ◌≤◌, ◌++◌, drop, length}
-use Rattle.wax_match.specs.Code.{literal_code}
+use Rattle.wax_match.specs.inner.Code.{literal_code}
 use Rattle.wax_match.proofs.encode.leaves.put_literal.Given as goal
 
 abbrev pub invariant-loop-index : goal.invariant-loop-index

@@ -1,7 +1,7 @@
 use Rattle.std.proofs.Common.{◌≡◌, chars, length}
 use denote.Text.{Utf8}
 use denote.Shadow.{shadow}
-use Rattle.wax_parse.specs.Parser.{number_run, digits_run}
+use Rattle.wax_parse.specs.inner.Parser.{number_run, digits_run}
 use Rattle.wax_parse.proofs.parse.bounds.read_number.Given as goal
 
 abbrev pub invariant-loop-digit : goal.invariant-loop-digit

@@ -1,7 +1,7 @@
 use Rattle.std.proofs.Common.{◌≡◌, ◌≤◌, ℕ, chars, length}
 use denote.Text.{Utf8}
 use denote.Shadow.{shadow}
-use Rattle.wax_parse.specs.Parser.{class_run, prefixed}
+use Rattle.wax_parse.specs.inner.Parser.{class_run, prefixed}
 use Rattle.wax_parse.proofs.parse.class.read_archetypes.Given as goal
 
 abbrev pub invariant-loop-after : goal.invariant-loop-after

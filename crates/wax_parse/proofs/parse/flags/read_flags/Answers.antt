@@ -1,5 +1,5 @@
 use Rattle.std.proofs.Common.{rules, chars}
-use Rattle.wax_parse.specs.Parser.{at}
+use Rattle.wax_parse.specs.inner.Parser.{at}
 use Rattle.wax_parse.proofs.Flags.{flags_start, flags_more, flags_stop, group_smaller}
 use Rattle.wax_parse.proofs.parse.flags.read_flags.Goals as goal
 

@@ -1,7 +1,7 @@
 use Rattle.std.proofs.Common.{◌≡◌, ◌≤◌, ℕ, chars, length}
 use denote.Text.{Utf8}
 use denote.Shadow.{shadow}
-use Rattle.wax_parse.specs.Parser.{at, flags_run, flags_end}
+use Rattle.wax_parse.specs.inner.Parser.{at, flags_run, flags_end}
 use Rattle.wax_parse.proofs.parse.flags.read_flags.Given as goal
 
 abbrev pub invariant-loop-next : goal.invariant-loop-next

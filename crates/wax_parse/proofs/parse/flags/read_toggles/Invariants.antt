@@ -1,7 +1,7 @@
 use Rattle.std.proofs.Common.{◌≡◌, chars, length}
 use denote.Text.{Utf8}
 use denote.Shadow.{shadow}
-use Rattle.wax_parse.specs.Parser.{group_end}
+use Rattle.wax_parse.specs.inner.Parser.{group_end}
 use Rattle.wax_parse.proofs.parse.flags.read_toggles.Given as goal
 
 abbrev pub invariant-loop-after : goal.invariant-loop-after

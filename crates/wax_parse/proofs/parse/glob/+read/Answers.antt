@@ -5,8 +5,8 @@ use Rattle.wax_token.specs.Syntax.{alternation, repetition, concatenation, leaf}
 use Rattle.wax_token.specs.View.{leaf_of}
 use Rattle.wax_token.specs.Words.{trees}
 use Rattle.wax_parse.specs.Accepted.{IsPlace}
-use Rattle.wax_parse.specs.Parser.{around_of, place, at, strip, read_leaf}
-use Rattle.wax_parse.specs.Reading.{Beyond, IsTaken, BranchesFrom, GlobFrom, TokenFrom, TokensFrom, Sole, Unreadable, Begun, is_nil}
+use Rattle.wax_parse.specs.inner.Parser.{around_of, place, at, strip, read_leaf}
+use Rattle.wax_parse.specs.inner.Reading.{Beyond, IsTaken, BranchesFrom, GlobFrom, TokenFrom, TokensFrom, Sole, Unreadable, Begun, is_nil}
 use Rattle.wax_parse.proofs.Outcomes.{passed_up, refused_as, as_made, leaf_taken, opening_taken, flags_beyond, taken_more, one_beyond, inner_fails, inner_sole}
 use Rattle.wax_parse.proofs.Readings.{alternation_sole, alternation_unreadable, alternation_too_deep, repetition_sole, repetition_unreadable, repetition_unbounded, repetition_too_deep, leaf_sole, leaf_unreadable}
 use Rattle.wax_parse.proofs.Bounds.{bounds_beyond}

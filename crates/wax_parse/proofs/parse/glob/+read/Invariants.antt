@@ -2,8 +2,8 @@ use Rattle.std.proofs.Common.{◌+◌, ◌*◌, chars, length, true}
 use denote.Text.{Utf8}
 use denote.Shadow.{shadow}
 use Rattle.wax_token.specs.Reads.{utf8_len}
-use Rattle.wax_parse.specs.Reading.{is_nil, Beyond, Begun, BranchesFrom, TokensFrom}
-use Rattle.wax_parse.specs.Parser.{around_of, place}
+use Rattle.wax_parse.specs.inner.Reading.{is_nil, Beyond, Begun, BranchesFrom, TokensFrom}
+use Rattle.wax_parse.specs.inner.Parser.{around_of, place}
 use Rattle.wax_parse.proofs.parse.glob.+read.Given as goal
 
 -- a call goes down to the globs of a branch, or from a glob to its tokens

@@ -1,5 +1,5 @@
 use Rattle.std.proofs.Common.{rules, ◌≡◌, ◌++◌, chars, string_bytes, ◌∙◌, ap, None}
-use Rattle.wax_parse.specs.Parser.{literal_run, strip}
+use Rattle.wax_parse.specs.inner.Parser.{literal_run, strip}
 use Rattle.wax_parse.proofs.Runs.{run_borrowed, run_owned}
 use Rattle.wax_parse.proofs.parse.literal.literal_text.Goals as goal
 

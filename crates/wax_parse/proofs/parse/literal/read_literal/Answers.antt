@@ -1,6 +1,6 @@
 use Rattle.std.proofs.Common.{chars, ◌∙◌, ap}
 use Rattle.std.specs.Cow.{cow_str_bytes}
-use Rattle.wax_parse.specs.Parser.{literal_leaf}
+use Rattle.wax_parse.specs.inner.Parser.{literal_leaf}
 use Rattle.wax_parse.proofs.Runs.{leaf_empty, leaf_escape, leaf_some}
 use Rattle.wax_parse.proofs.Texts.{chars_if_empty, chars_unless_empty}
 use Rattle.wax_parse.proofs.parse.literal.read_literal.Goals as goal

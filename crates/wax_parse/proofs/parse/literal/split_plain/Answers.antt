@@ -1,6 +1,6 @@
 use Rattle.std.proofs.Common.{rules, ◌≡◌, ◌++◌, ◌∷◌, [], chars, ◌∙◌, ap, true}
 use Rattle.wax_parse.proofs.Runs.{shift_one, plain_more}
-use Rattle.wax_parse.specs.Parser.{is_plain_text, is_plain_character}
+use Rattle.wax_parse.specs.inner.Parser.{is_plain_text, is_plain_character}
 use Rattle.wax_parse.proofs.parse.literal.split_plain.Goals as goal
 
 pub loop-c-preserved : goal.loop-c-preserved

@@ -1,7 +1,7 @@
 use Rattle.std.proofs.Common.{◌≡◌, ◌≤◌, ◌++◌, length, take, drop}
 use Rattle.std.specs.List.{flat_map}
 use Rattle.wax_rule.specs.Situated.{breadth_first}
-use Rattle.wax_rule.specs.Queue.{all_levels}
+use Rattle.wax_rule.specs.inner.Queue.{all_levels}
 use Rattle.wax_rule.proofs.rule.situated.breadth_first.Given as goal
 
 abbrev pub invariant-loop-from : goal.invariant-loop-from

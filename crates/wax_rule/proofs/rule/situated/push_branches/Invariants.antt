@@ -1,5 +1,5 @@
 use Rattle.std.proofs.Common.{◌≡◌, ◌++◌, drop}
-use Rattle.wax_rule.specs.Queue.{branches}
+use Rattle.wax_rule.specs.inner.Queue.{branches}
 use Rattle.wax_token.specs.Words.{trees}
 use Rattle.wax_rule.proofs.rule.situated.push_branches.Given as goal
 

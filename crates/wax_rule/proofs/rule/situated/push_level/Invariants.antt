@@ -1,6 +1,6 @@
 use Rattle.std.proofs.Common.{◌≡◌, ◌++◌, ◌-◌, take, drop}
 use Rattle.std.specs.List.{flat_map}
-use Rattle.wax_rule.specs.Queue.{children}
+use Rattle.wax_rule.specs.inner.Queue.{children}
 use Rattle.wax_rule.proofs.rule.situated.push_level.Given as goal
 
 abbrev pub invariant-loop-index : goal.invariant-loop-index

@@ -2,7 +2,7 @@ use Rattle.std.proofs.Common.{arith, ap, refl, string_bytes, ◌≡◌, ◌≤�
 use Rattle.std.proofs.Common.{length-append, length, ◌-◌}
 use Rattle.wax_directory.specs.Answers.{listed_of}
 use Rattle.wax_directory.specs.Shown.{rest_of}
-use Rattle.wax_tree.specs.Heads.{own_count}
+use Rattle.wax_tree.specs.inner.Heads.{own_count}
 use Rattle.wax_tree.specs.Plain.{count}
 use Rattle.wax_tree.specs.Walking.{scope_of, folder_spot, allowance}
 use Rattle.wax_tree.proofs.Resting.{rest_pushed, rest_spent}
