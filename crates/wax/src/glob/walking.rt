@@ -5,7 +5,7 @@ ghost use Rattle.wax_facts.specs.Prefix.{Prefix};
 ghost use Rattle.wax_glob_walk.specs.Matches.{IsMatchedEntry};
 ghost use Rattle.wax_leading.specs.Prefix.{HasEmptyName};
 ghost use Rattle.wax_query.specs.Components.{component_total};
-ghost use Rattle.wax_query.specs.Ranges.{EndsWithin as AtMostComponents, Bounds};
+ghost use Rattle.wax_query.specs.Ranges.{AtMost, Bounds};
 ghost use Rattle.wax_tree.specs.Begins.{EndsWithin, BeginsAt, behavior_range};
 ghost use Rattle.wax_tree.specs.Depths.{behavior_at};
 ghost use Rattle.wax_tree.specs.Prefix.{from_last};
@@ -85,7 +85,7 @@ impl<'t> Glob<'t> {
     // The range, but no deeper than the glob's texts.
     fn within(&self, range: Range) -> Range
         ensures { (depth : Bounds) × Depth self.now.tree depth
-            × ((s : List ℕ) → IsMeant self.now s → AtMostComponents (component_total s) depth.1)
+            × ((s : List ℕ) → IsMeant self.now s → AtMost (component_total s) depth.1)
             × (result ≡ within range depth) }
     {
         match self.depth().upper() {
