@@ -34,7 +34,7 @@ use wax_components::{Warning, captures, diagnose, has_semantic_literals};
 use wax_depth::depth;
 use wax_facts::{has_root, is_exhaustive, text};
 use wax_match::encode;
-use wax_match::encode::{CompileError, Meter};
+use wax_match::encode::{CompileError, Matcher, Meter};
 use wax_parse::parse::parse;
 use wax_prefilter::Prefilter;
 use wax_query::diagnostics::{NoMemory, Refusal};
@@ -45,7 +45,7 @@ use wax_token::token::{ExpressionMetadata, LeafKind, Tokenized};
 /// A glob. Contracts see the characters of its expression and its tree.
 pub struct Glob<'t> {
     tokenized: Tokenized<'t, ExpressionMetadata>,
-    program: encode::Program,
+    program: Matcher,
     prefilter: Prefilter,
     pieces: Pieces,
 }
@@ -184,7 +184,7 @@ fn compiled<'t>(
         (λ _. 1048576 < program_length tokenized.entry.token) }
 {
     let tokens = tokenized.token.concatenation();
-    let program = encode::compile(alloc, tokens, false, false)?;
+    let program = Matcher::new(encode::compile(alloc, tokens, false, false)?);
     let prefilter = Prefilter::new(alloc, tokens)?;
     let pieces = Pieces::new(alloc, tokens)?;
     Ok(Glob {
@@ -224,7 +224,7 @@ impl Program for Glob<'_> {
             return Ok((false, 0));
         }
         let mut meter = Meter::new();
-        let answer = encode::run(alloc, &self.program, text, &mut meter)?;
+        let answer = self.program.run(alloc, text, &mut meter)?;
         Ok((answer, meter.ticks()))
     }
 

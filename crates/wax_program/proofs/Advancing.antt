@@ -275,18 +275,18 @@ module _ (code : List Instruction) (c : ℕ) (old : List Bool) where
     round_ends h = ends h.2.0 h.0 (d.begins h.0 h.1) h.2.1
 
 -- ---- the whole text
-pub stays_start : (code : List Instruction) (text : List ℕ) (p q : Position) → p.size ≡ length code → IsEmpty p.pending → IsEmpty p.read → Inserted p q 0 → Stays code text text q.pending
-stays_start code text p q sized no_pending no_read g = record {
-  onward = λ h. (0, at_start (g.adds (omega (arith, in_range code h.0 0 text h.1, sized))), h);
+pub stays_start : (code : List Instruction) (start : ℕ) (text : List ℕ) (p q : Position) → p.size ≡ length code → IsEmpty p.pending → IsEmpty p.read → Inserted p q start → Stays code start text text q.pending
+stays_start code start text p q sized no_pending no_read g = record {
+  onward = λ h. (start, at_start (g.adds (omega (arith, in_range code h.0 start text h.1, sized))), h);
   backward = λ h. elim (g.only h.0 h.1) [ inl m ↦ absurd (no_pending h.0 m) | inr same ↦ subst (λ z. Accepts code z text) same h.2 ];
 }
   where
-    at_start : IsReached q 0 → HoldsPlace q.pending 0
+    at_start : IsReached q start → HoldsPlace q.pending start
     at_start (inl h) = h
-    at_start (inr h) = absurd (no_read 0 (subst (λ z. HoldsPlace z 0) g.read h))
+    at_start (inr h) = absurd (no_read start (subst (λ z. HoldsPlace z start) g.read h))
 
-pub stays_step : (code : List Instruction) (text left rest : List ℕ) (set next : List Bool) (c : ℕ) → left ≡ c ∷ rest → Stays code text left set → Advances code c set next → Stays code text rest next
-stays_step code text left rest set next c e s a = record {
+pub stays_step : (code : List Instruction) (start : ℕ) (text left rest : List ℕ) (set next : List Bool) (c : ℕ) → left ≡ c ∷ rest → Stays code start text left set → Advances code c set next → Stays code start text rest next
+stays_step code start text left rest set next c e s a = record {
   onward = λ h. a.onward rest (subst (AnyOf code set) e (s.onward h));
   backward = λ h. s.backward (subst (AnyOf code set) (sym e) (a.backward rest h));
 }
@@ -325,8 +325,8 @@ reads_longer len most n old new few h =
     omega (arith, a, h)
 
 -- where no instruction is left, no text that goes on is accepted
-pub stays_done : (code : List Instruction) (text left rest : List ℕ) (c : ℕ) (p : Position) → left ≡ c ∷ rest → p.size ≡ length code → IsDone p → Stays code text left p.pending → Accepts code 0 text → ⊥
-stays_done code text left rest c p e sized done s a =
+pub stays_done : (code : List Instruction) (start : ℕ) (text left rest : List ℕ) (c : ℕ) (p : Position) → left ≡ c ∷ rest → p.size ≡ length code → IsDone p → Stays code start text left p.pending → Accepts code start text → ⊥
+stays_done code start text left rest c p e sized done s a =
     let h : AnyOf code p.pending (c ∷ rest) = subst (AnyOf code p.pending) e (s.onward a) in
     ended h.2.0 h.0 (omega (arith, done h.0 h.1, sized)) h.2.1
   where

@@ -17,8 +17,8 @@ pub record Leads (code : List Instruction) (front : List ℕ) (set : List Bool) 
 module _ (code : List Instruction) where
   pub leads_start : (p q : Position) → p.size ≡ length code → IsEmpty p.pending → IsEmpty p.read → Inserted p q 0 → Leads code [] q.pending
   leads_start p q sized no_pending no_read g = record {
-    onward = λ s h. (stays_start code s p q sized no_pending no_read g).onward h;
-    backward = λ s h. (stays_start code s p q sized no_pending no_read g).backward h;
+    onward = λ s h. (stays_start code 0 s p q sized no_pending no_read g).onward h;
+    backward = λ s h. (stays_start code 0 s p q sized no_pending no_read g).backward h;
   }
 
   pub leads_step : (front : List ℕ) (set next : List Bool) (c : ℕ) → Leads code front set → Advances code c set next → Leads code (front ++ c ∷ []) next
@@ -37,8 +37,8 @@ module _ (code : List Instruction) where
   -- where no instruction is left, nothing longer is
   pub leads_done : (front : List ℕ) (p : Position) → Leads code front p.pending → p.size ≡ length code → IsDone p → (c : ℕ) (s : List ℕ) → Accepts code 0 (front ++ c ∷ s) → ⊥
   leads_done front p l sized done c s h =
-      let t : Stays code (front ++ c ∷ s) (c ∷ s) p.pending = record { onward = λ a. l.onward (c ∷ s) a; backward = λ a. l.backward (c ∷ s) a } in
-      stays_done code (front ++ c ∷ s) (c ∷ s) s c p refl sized done t h
+      let t : Stays code 0 (front ++ c ∷ s) (c ∷ s) p.pending = record { onward = λ a. l.onward (c ∷ s) a; backward = λ a. l.backward (c ∷ s) a } in
+      stays_done code 0 (front ++ c ∷ s) (c ∷ s) s c p refl sized done t h
 
   module _ (text : List ℕ) where
     pub marked_push : (ends : List Bool) (n : ℕ) (b : Bool) → length ends ≡ n → MarksBeginnings code text ends n → (IsTrue b ↔ Accepts code 0 (take n text)) → MarksBeginnings code text (ends ++ b ∷ []) (n + 1)

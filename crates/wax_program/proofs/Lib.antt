@@ -1,6 +1,7 @@
 pub mod Advancing
 pub mod Beginnings
 pub mod Bits
+pub mod Last
 pub mod Sets
 pub mod Starts
 pub mod Staying

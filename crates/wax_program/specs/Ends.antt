@@ -13,4 +13,4 @@ MarksBeginnings code text ends n = (i : ℕ) → i < n → HoldsPlace ends i ↔
 abbrev pub Reaches : List Instruction → List ℕ → List Bool → List Bool → ℕ → Type 0
 Reaches code text starts ends at =
     (n m : ℕ) → n + m < at → HoldsPlace starts n → Accepts code 0 (take m (drop n text))
-        → HoldsPlace ends (n + m)
+    → HoldsPlace ends (n + m)

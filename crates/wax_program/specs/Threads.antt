@@ -130,7 +130,7 @@ pub record Advances (code : List Instruction) (c : ℕ) (old next : List Bool) :
   pub onward : (s : List ℕ) → AnyOf code old (c ∷ s) → AnyOf code next s
   pub backward : (s : List ℕ) → AnyOf code next s → AnyOf code old (c ∷ s)
 
--- the set accepts what is left exactly where the program accepts the whole
-pub record Stays (code : List Instruction) (text left : List ℕ) (set : List Bool) : Type 0 where
-  pub onward : Accepts code 0 text → AnyOf code set left
-  pub backward : AnyOf code set left → Accepts code 0 text
+-- the set accepts what is left exactly where the program accepts the whole from the place `start` on
+pub record Stays (code : List Instruction) (start : ℕ) (text left : List ℕ) (set : List Bool) : Type 0 where
+  pub onward : Accepts code start text → AnyOf code set left
+  pub backward : AnyOf code set left → Accepts code start text

@@ -29,29 +29,54 @@ pub fn run(
         (λ b. IsTrue b → min (meter.old + length (chars text.now)) most_ticks ≤ meter.new) }
     ensures steady { meter.old ≤ meter.new }
 {
+    run_at(alloc, program, 0, text, meter)
+}
+
+/// The same from a place on.
+pub(crate) fn run_at(
+    alloc: Global,
+    program: &Program,
+    start: usize,
+    text: &str,
+    meter: &mut Meter,
+) -> Result<bool, NoMemory>
+    requires start { start ≤ length program.now.0 }
+    ensures decides { IfOk result (λ b. IsTrue b ↔ Accepts program.now.0 start (chars text.now)) }
+    ensures above { meter.new ≤ meter.old + program.now.1 * (length (chars text.now) + 1) }
+    ensures below { IfOk result
+        (λ b. IsTrue b → min (meter.old + length (chars text.now)) most_ticks ≤ meter.new) }
+    ensures steady { meter.old ≤ meter.new }
+{
     let size = program.size();
     if size < 64 {
         let mut rows = Narrow::new(size);
-        return Ok(run_over(program, text, &mut rows, meter));
+        return Ok(run_over(program, start, text, &mut rows, meter));
     }
     let mut rows = Wide::new(alloc, size)?;
-    Ok(run_over(program, text, &mut rows, meter))
+    Ok(run_over(program, start, text, &mut rows, meter))
 }
 
 /// The same, over empty rows. Once no character changes anything any more, the rest of the text is counted
 /// at once, by its bytes: there are no fewer of them than characters, and at most four times as many.
-fn run_over<R: Rows>(program: &Program, text: &str, rows: &mut R, meter: &mut Meter) -> bool
+fn run_over<R: Rows>(
+    program: &Program,
+    start: usize,
+    text: &str,
+    rows: &mut R,
+    meter: &mut Meter,
+) -> bool
+    requires start { start ≤ length program.now.0 }
     requires size { (R.position rows.old).size ≡ length program.now.0 }
     requires few { length program.now.0 < program.now.1 }
     requires pending { IsEmpty (R.position rows.old).pending }
     requires read { IsEmpty (R.position rows.old).read }
     requires next { IsEmpty (R.position rows.old).next }
-    ensures decides { IsTrue result ↔ Accepts program.now.0 0 (chars text.now) }
+    ensures decides { IsTrue result ↔ Accepts program.now.0 start (chars text.now) }
     ensures above { meter.new ≤ meter.old + program.now.1 * (length (chars text.now) + 1) }
     ensures below { IsTrue result → min (meter.old + length (chars text.now)) most_ticks ≤ meter.new }
     ensures steady { meter.old ≤ meter.new }
 {
-    rows.insert(0);
+    rows.insert(start);
     let mut steady = None;
     let mut left = text.chars();
     while let Some(c) = left.next() {

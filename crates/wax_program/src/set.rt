@@ -65,7 +65,7 @@ impl Set {
     pub fn first_from(&self, word: usize) -> Option<usize>
         ensures { MatchOption result ((k : ℕ) → HoldsPlace self.now k → k < 64 * word)
             (λ at. HoldsPlace self.now at × (64 * word ≤ at)
-                × ((k : ℕ) → HoldsPlace self.now k → 64 * word ≤ k → at ≤ k)) }
+            × ((k : ℕ) → HoldsPlace self.now k → 64 * word ≤ k → at ≤ k)) }
     {
         for index in word..self.words.len() {
             let bits = self.words[index];

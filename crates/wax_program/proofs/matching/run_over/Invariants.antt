@@ -14,7 +14,7 @@ invariant-loop-c g l = (m : ℕ) × record {
   size : (g.R.Rows.position l.rows).size ≡ length l.program.0;
   read : IsEmpty (g.R.Rows.position l.rows).read;
   next : IsEmpty (g.R.Rows.position l.rows).next;
-  stays : Stays l.program.0 (chars l.text) (chars (chars_rest l.left)) (g.R.Rows.position l.rows).pending;
+  stays : Stays l.program.0 l.start (chars l.text) (chars (chars_rest l.left)) (g.R.Rows.position l.rows).pending;
   above : l.meter ≤ l.fn.meter + l.program.1 * m;
   below : min (l.fn.meter + m) most_ticks ≤ l.meter;
   steady : l.fn.meter ≤ l.meter;

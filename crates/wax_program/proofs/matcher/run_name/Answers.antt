@@ -1,0 +1,17 @@
+use Rattle.std.proofs.Common.{length, arith, chars}
+use Rattle.wax_program.proofs.Last.{counted_name, name_decides, same_answer}
+use Rattle.wax_program.proofs.matcher.run_name.Goals as goal
+
+pub returns-clause-decides : goal.returns-clause-decides
+returns-clause-decides c =
+    same_answer c.run_at.result _ _
+    (name_decides c.args.program.now.0 (chars c.args.text.now) (chars c.last_name-name.result.now) c.requires.last c.last_name-name.ensures.name)
+    c.run_at.ensures.decides
+
+pub returns-clause-above : goal.returns-clause-above
+returns-clause-above c =
+    let cut = c.last_name-name.ensures.cut in
+    counted_name c.args.program.now.1 c.args.meter.now c.pass.new.self c.run_at.new.meter
+    (length c.args.text.now) (length c.last_name-name.result.now)
+    (length (chars c.args.text.now)) (length (chars c.last_name-name.result.now))
+    c.requires.long cut.bytes cut.most (omega (arith, c.pass.ensures.counted)) c.run_at.ensures.above
