@@ -93,7 +93,7 @@ has_more (more t ts) = true
 abbrev pub FitsPiece : {A : Type 0} → Tree A → Trees A → Bool → Bool → List ℕ → ℕ × ℕ → Type 0
 FitsPiece t ts before after s (k, n) =
     (n ≤ length s) × MeansByWay t k before (after || has_more ts) (take n s)
-        × MeansEach ts true after (drop n s)
+    × MeansEach ts true after (drop n s)
 
 -- of all lengths that fit, n is the one by the best way, and by that way the longest or the shortest
 pub record IsChosen {A : Type 0} (t : Tree A) (ts : Trees A) (before after : Bool) (s : List ℕ) (n : ℕ) :

@@ -40,7 +40,7 @@ pub trait PathExt {
         B: Into<WalkBehavior>,
         ensures { (b : WalkBehavior) × B.converts behavior b
             × Begins D.law directory (text self) (behavior_range b)
-                (⟦<WalkTree<D> as FileIterator>⟧.view result)
+            (⟦<WalkTree<D> as FileIterator>⟧.view result)
             × EndsWithin (2 * b.budget + 3) (⟦<WalkTree<D> as SeparatingFilter>⟧.left result) };
 }
 

@@ -27,7 +27,7 @@ where
     ensures callable { F.IsAlwaysCallable f.new }
     ensures says { (rule : Facts → Mark) → SaysByRule F.step rule f.old
         → (mark_of result ≡ mark_by rule (given_of T.facts R.facts separation.now))
-            × SaysByRule F.step rule f.new }
+        × SaysByRule F.step rule f.new }
 {
     match separation {
         Separation::Filtrate(filtrate) => match filtrate.get() {
