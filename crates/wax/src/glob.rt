@@ -173,6 +173,18 @@ impl<'t> Glob<'t> {
     }
 }
 
+impl Glob<'_> {
+    /// Whether it may mean the text, by what is looked at before it is matched.
+    fn may_match(&self, text: &str) -> bool
+        ensures { IsMeant self.now (chars text.now) → IsTrue result }
+    {
+        if self.program.reads_last() {
+            return self.prefilter.may_match_at_once(text);
+        }
+        self.prefilter.may_match(text)
+    }
+}
+
 // The glob of an expression's tokens, as they stand.
 fn compiled<'t>(
     alloc: Global,
@@ -220,7 +232,7 @@ impl Program for Glob<'_> {
         path: &CandidatePath<'_>,
     ) -> Result<(bool, u128), NoMemory> {
         let text = path.as_str();
-        if !self.prefilter.may_match(text) {
+        if !self.may_match(text) {
             return Ok((false, 0));
         }
         let mut meter = Meter::new();

@@ -40,6 +40,11 @@ impl Needle {
         })
     }
 
+    /// Whether it stands for its text in any case.
+    pub fn is_case_insensitive(&self) -> bool {
+        self.is_case_insensitive
+    }
+
     /// Whether it can stand there in the text: at the end, one of any case always can.
     #[inline]
     pub fn can_stand_at(&self, place: Place, text: &str) -> bool

@@ -36,9 +36,20 @@ impl Fact {
         Ok(())
     }
 
-    fn may_hold(&self, text: &str) -> bool
+    /// Whether it is looked for wherever it stands and in any case, which takes longest.
+    fn is_sought_in_any_case(&self) -> bool {
+        match (self.place, self.needles.first()) {
+            (Place::Anywhere, Some(needle)) => needle.is_case_insensitive(),
+            _ => false,
+        }
+    }
+
+    fn may_hold(&self, text: &str, seeks_in_any_case: bool) -> bool
         ensures { HoldsOne self.now.0 self.now.1 (chars text.now) → IsTrue result }
     {
+        if !seeks_in_any_case && self.is_sought_in_any_case() {
+            return true;
+        }
         for needle in &self.needles {
             if needle.can_stand_at(self.place, text) {
                 return true;
@@ -86,11 +97,24 @@ impl Prefilter {
     pub fn may_match(&self, text: &str) -> bool
         ensures { PassesFacts self.now (chars text.now) → IsTrue result }
     {
+        self.passes(text, true)
+    }
+
+    /// The same, where to match takes less time than to look for a text in any case: no such text is looked for.
+    pub fn may_match_at_once(&self, text: &str) -> bool
+        ensures { PassesFacts self.now (chars text.now) → IsTrue result }
+    {
+        self.passes(text, false)
+    }
+
+    fn passes(&self, text: &str, seeks_in_any_case: bool) -> bool
+        ensures { PassesFacts self.now (chars text.now) → IsTrue result }
+    {
         if text.len() < self.least {
             return false;
         }
         for fact in &self.facts {
-            if !fact.may_hold(text) {
+            if !fact.may_hold(text, seeks_in_any_case) {
                 return false;
             }
         }

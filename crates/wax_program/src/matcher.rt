@@ -57,6 +57,11 @@ impl Matcher {
         }
     }
 
+    /// Whether it is known that only the last component of a text matters to it.
+    pub fn reads_last(&self) -> bool {
+        self.reads_last
+    }
+
     /// Whether the program accepts the text, as [`run`] decides it. Where only the last component of a text
     /// matters, what stands before it is counted by its bytes and not followed.
     pub fn run(&self, alloc: Global, text: &str, meter: &mut Meter) -> Result<bool, NoMemory>

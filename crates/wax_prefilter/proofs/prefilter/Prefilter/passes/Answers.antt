@@ -1,7 +1,7 @@
 use Rattle.std.proofs.Common.{arith, ◌≡◌, ◌<◌, IsTrue, length, get_or, chars, sym, ap, ◌∙◌, subst, rules}
 use Rattle.wax_prefilter.specs.Facts.{HoldsOne}
 use Rattle.wax_prefilter.proofs.Lengths.{chars_short}
-use Rattle.wax_prefilter.proofs.prefilter.Prefilter.may_match.Goals as goal
+use Rattle.wax_prefilter.proofs.prefilter.Prefilter.passes.Goals as goal
 
 pub returns-then-not-may_hold : goal.returns-then-not-may_hold
 returns-then-not-may_hold c = λ passes.
