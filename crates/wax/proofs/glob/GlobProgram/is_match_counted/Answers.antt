@@ -1,5 +1,5 @@
 use Rattle.std.proofs.Common.{◌≡◌, false, chars, IsTrue, length, sym, ap, subst, arith, rules}
-use Rattle.wax_token.specs.Meaning.{Means}
+use Rattle.wax.specs.GlobView.{IsMeant}
 use Rattle.wax_prefilter.proofs.Lengths.{chars_short}
 use Rattle.wax.proofs.glob.GlobProgram.is_match_counted.Goals as goal
 
@@ -12,10 +12,8 @@ pub returns-then-not-may_match-clause-decides : goal.returns-then-not-may_match-
 returns-then-not-may_match-clause-decides c = (
   λ no. absurd (search rules),
   λ meant.
-      let text = chars c.as_str-text.result.now in
-      let tree : c.self.inside.tokenized.token ≡ c.args.self.now.tree = ap (λ g. g.tree) c.self.view_is in
-      let same : Means c.self.inside.tokenized.token false false text =
-      subst (λ t. Means t false false text) (sym tree) (subst (λ s. Means c.args.self.now.tree false false s) (sym c.as_str-text.ensures) meant) in
-      let passes : IsTrue c.may_match.result = c.may_match.ensures (c.self.invariant.passes text same) in
+      let same : IsMeant c.args.self.now (chars c.as_str-text.result.now) =
+      subst (IsMeant c.args.self.now) (sym c.as_str-text.ensures) meant in
+      let passes : IsTrue c.may_match.result = c.may_match.ensures same in
       absurd (search (rules, passes)),
 )
