@@ -1,0 +1,39 @@
+-- What a walk keeps of which a closure leaves something out that depends on the entry alone.
+use Rattle.std.proofs.Common.{◌≡◌, ◌≤◌, ℕ, List, [], ◌∷◌, Option, filter, length, refl, subst}
+use Rattle.std.specs.Prelude.{Result, IfOk, map}
+use denote.Ref.{Bor}
+use Rattle.wax_directory.specs.Law.{Law}
+use Rattle.wax_walk.specs.Collected.{GaveAll, Took}
+use Rattle.wax_walk.specs.Entries.{facts_of}
+use Rattle.wax_walk.specs.Forest.{Pending, filtered_pending}
+use Rattle.wax_walk.specs.Given.{Facts, Given, Mark, changed_by, cut_by, is_kept}
+use Rattle.wax_walk.specs.Said.{mark_of}
+use Rattle.wax_walk.specs.Says.{Call, Runs, SaysByRule, closure_view}
+use Rattle.wax_walk.specs.View.{IsSeenAs, WalkView}
+use Rattle.wax_walk.specs.declared.entry.TreeEntry.{TreeEntry}
+use Rattle.wax_walk.specs.declared.iterator.EntryResidue.{EntryResidue}
+use Rattle.wax_uses.specs.Walks.{KeepsByRule}
+
+module _ {F : Type 0} (step : F → Bor TreeEntry → Option EntryResidue → F → Type 0) (rule : Facts → Mark) where
+  -- in whatever state, the closure answers what the rule says
+  abbrev pub AlwaysSays : Type 0
+  AlwaysSays = (f : F) (e : Bor TreeEntry) (r : Option EntryResidue) (t : F) → step f e r t
+      → mark_of r ≡ rule (facts_of e.now)
+
+  pub says_by_rule : AlwaysSays → (f : F) → SaysByRule step rule f
+  says_by_rule h f [] t runs = tt
+  says_by_rule h f (call ∷ calls) t runs =
+      (h f call.0 call.1 runs.0 runs.1, says_by_rule h runs.0 calls t runs.2)
+
+  -- what was collected of such a walk
+  pub keeps_by_rule : {D C : Type 0} (law : Law D C) (v u : WalkView D) (new : D) (f : F) (xs ys : List Given)
+      → AlwaysSays → IsSeenAs (closure_view step v f) u → Took law u new xs → ys ≡ filter is_kept xs
+      → (p : Pending Given) → v.to_come p → KeepsByRule (law.tells new) v.listings_left rule p ys
+  keeps_by_rule law v u new f xs ys h seen took kept p comes = (
+    xs,
+    subst (λ n. GaveAll (law.tells new) n (filtered_pending (changed_by rule) (cut_by rule) p) xs)
+        seen.listings_left
+        (took.all (filtered_pending (changed_by rule) (cut_by rule) p)
+        (seen.to_come (filtered_pending (changed_by rule) (cut_by rule) p) (rule, says_by_rule h f, (p, comes, refl)))),
+    kept,
+  )

@@ -1,0 +1,6 @@
+pub mod ByRule
+pub mod Meanings
+pub mod OneComponents
+pub mod Pictures
+pub mod SingleNames
+pub mod Stems

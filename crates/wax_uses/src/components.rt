@@ -1,0 +1,18 @@
+//! Globs of one component.
+ghost use Rattle.std.specs.Prelude.{ℕ, List, IfOk, chars};
+ghost use Rattle.wax.specs.Build.{MatchGlob};
+ghost use Rattle.wax.specs.GlobView.{IsMeant};
+ghost use Rattle.wax_token.specs.Meaning.{HasNoSlash};
+ghost use Rattle.wax_uses.specs.Names.{IsOneComponent};
+
+use std::alloc::Global;
+use wax::{BuildError, Glob};
+
+/// The glob of an expression. Where neither `/` nor `**` is written in it, no text that it means holds a `/`.
+pub fn glob_of_component<'t>(alloc: Global, expression: &'t str) -> Result<Glob<'t>, BuildError>
+    ensures built { MatchGlob (chars expression.now) result }
+    ensures respects { IfOk result (λ glob. IsOneComponent (chars expression.now)
+        → (text : List ℕ) → IsMeant glob text → HasNoSlash text) }
+{
+    Glob::new(alloc, expression)
+}

@@ -1,0 +1,20 @@
+//! Ignore lists that are asked of a path.
+ghost use Rattle.std.specs.List.{AllZip};
+ghost use Rattle.std.specs.Prelude.{◌≡◌, List, IfOk, chars};
+ghost use Rattle.wax.specs.Ignoring.{IsReadAs};
+ghost use Rattle.wax_ignore.specs.Lines.{written_lines};
+ghost use Rattle.wax_token.specs.Reads.{Span};
+ghost use Rattle.wax_wanted.specs.Ignored.{Line, is_ignored};
+
+use std::alloc::Global;
+use wax::CandidatePath;
+use wax::walk::{IgnoreError, IgnoreList};
+
+/// Whether the lines of an ignore list's text ignore the path: whether the last that means it ignores.
+pub fn is_ignored_by(alloc: Global, list: &str, path: &str) -> Result<bool, IgnoreError>
+    ensures { IfOk result (λ answer. (lines : List (Line Span))
+        × AllZip IsReadAs (written_lines list.now) lines × (answer ≡ is_ignored lines (chars path.now))) }
+{
+    let list = IgnoreList::parse(alloc, list)?;
+    Ok(list.is_ignored(alloc, &CandidatePath::from(path))?)
+}

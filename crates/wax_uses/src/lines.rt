@@ -1,0 +1,18 @@
+//! Lines of a text in memory.
+ghost use Rattle.std.specs.Prelude.{ℕ, IfOk};
+ghost use Rattle.wax.specs.GlobView.{IsMeant};
+ghost use Rattle.wax_lines.specs.Lines.{Filters, WritesMeant, lines};
+
+use std::alloc::Global;
+use wax::{Counted, Glob, LinesError, filter_lines};
+
+/// The lines of these bytes that the glob means, in order, each with one line feed.
+pub fn meant_lines(alloc: Global, bytes: &[u8], glob: &Glob<'_>) -> Result<Vec<u8>, LinesError>
+    ensures { IfOk result
+        (λ out. (bad : ℕ) × Filters (WritesMeant (IsMeant glob.now)) (lines bytes.now) out.items bad) }
+{
+    let mut input = Counted::new(bytes);
+    let mut output = Counted::new(Vec::new(alloc));
+    filter_lines(alloc, &mut input, &mut output, glob)?;
+    Ok(output.into_inner())
+}

@@ -1,0 +1,41 @@
+//! Work that can be left undone, by what is known of a glob.
+ghost use Rattle.std.specs.Prelude.{◌≤◌, ◌++◌, ◌∷◌, ℕ, List, IfOk, IsTrue};
+ghost use Rattle.wax.specs.GlobView.{IsMeant};
+ghost use Rattle.wax_query.specs.Components.{Bare, component_total};
+ghost use Rattle.wax_token.specs.Meaning.{HasNoSlash};
+
+use std::alloc::Global;
+use wax::{CandidatePath, Glob, NoMemory, Program};
+
+/// Whether the glob means the folder and all that lies below it, so that nothing there has to be asked.
+pub fn means_all_below(
+    alloc: Global,
+    glob: &Glob<'_>,
+    folder: &CandidatePath<'_>,
+) -> Result<bool, NoMemory>
+    ensures folder { IfOk result (λ answer. IsTrue answer → IsMeant glob.now folder.now) }
+    ensures below { IfOk result
+        (λ answer. IsTrue answer → (rest : List ℕ) → IsMeant glob.now (folder.now ++ 47 ∷ rest)) }
+{
+    if !glob.is_exhaustive().is_always() {
+        return Ok(false);
+    }
+    glob.is_match(alloc, folder)
+}
+
+/// Whether the glob means no path of more components than this, so that folders of so many needn't be listed.
+pub fn has_no_deeper(glob: &Glob<'_>, most: usize) -> bool
+    ensures { IsTrue result → (text : List ℕ) → IsMeant glob.now text → component_total text ≤ most }
+{
+    match glob.depth().upper() {
+        Some(upper) => upper <= most,
+        None => false,
+    }
+}
+
+/// Whether each path that the glob means is a single name, or begins or ends with `/`, or is empty.
+pub fn means_single_names(glob: &Glob<'_>) -> bool
+    ensures { IsTrue result → (text : List ℕ) → IsMeant glob.now text → Bare text → HasNoSlash text }
+{
+    has_no_deeper(glob, 1)
+}
