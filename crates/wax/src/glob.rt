@@ -196,12 +196,13 @@ fn compiled<'t>(
         (λ _. 1048576 < program_length tokenized.entry.token) }
 {
     let tokens = tokenized.token.concatenation();
-    let program = Matcher::new(encode::compile(alloc, tokens, false, false)?);
+    let program = encode::compile(alloc, tokens, false, false)?;
+    let matcher = Matcher::new(program);
     let prefilter = Prefilter::new(alloc, tokens)?;
     let pieces = Pieces::new(alloc, tokens)?;
     Ok(Glob {
         tokenized,
-        program,
+        program: matcher,
         prefilter,
         pieces,
     })
