@@ -1,7 +1,7 @@
 //! What `run_globs` does, and how words are read.
 
 use crate::files::no_files;
-use crate::streams::{Narrow, Slow};
+use crate::streams::{Slow, failing_after};
 use std::alloc::{AllocError, Global};
 use std::env::FillError;
 use std::rt::Env;
@@ -10,7 +10,8 @@ use wax::Counted;
 use wax::walk::{Node, Tree};
 use wax_commands::{run_globs, words};
 
-const USAGE: &[u8] = b"usage: globs match EXPR
+/// What a run with wrong words tells.
+pub const USAGE: &[u8] = b"usage: globs match EXPR
        globs captures EXPR
        globs query EXPR
        globs walk START EXPR [not EXPR].. [min N] [max N] [ignore FILE]
@@ -182,15 +183,6 @@ fn refused_builds_print_their_reason(rt: HostRuntime) -> Result<(), Fail> {
         }
     }
     Ok(())
-}
-
-// A writer that fails after so many bytes.
-fn failing_after(alloc: Global, room: usize) -> Narrow {
-    Narrow {
-        taken: Vec::new(alloc),
-        room,
-        fails: true,
-    }
 }
 
 #[test]

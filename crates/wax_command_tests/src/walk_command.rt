@@ -1,19 +1,14 @@
 //! What the command `walk` writes and tells.
 
+use crate::commands::USAGE;
 use crate::files::{held, no_files};
-use crate::streams::Narrow;
+use crate::streams::failing_after;
 use std::alloc::{AllocError, Global};
 use std::fs;
 use std::test::*;
 use wax::Counted;
 use wax::walk::{Directory, Folders, Node, Starving, Tree, TreeItem};
 use wax_commands::run_globs;
-
-const USAGE: &[u8] = b"usage: globs match EXPR
-       globs captures EXPR
-       globs query EXPR
-       globs walk START EXPR [not EXPR].. [min N] [max N] [ignore FILE]
-";
 
 fn words_of(alloc: Global, texts: &[&str]) -> Result<Vec<Option<String>>, AllocError> {
     let mut words = Vec::new(alloc);
@@ -380,15 +375,6 @@ fn lines_go_out_as_the_walk_goes(rt: HostRuntime) -> Result<(), Fail> {
         assert_eq!(rt; taken.as_slice(), &want[..end]);
     }
     Ok(())
-}
-
-// A writer that fails after so many bytes.
-fn failing_after(alloc: Global, room: usize) -> Narrow {
-    Narrow {
-        taken: Vec::new(alloc),
-        room,
-        fails: true,
-    }
 }
 
 #[test]
