@@ -1,10 +1,11 @@
 -- A glob's tokens mean and cost what its tree does.
 use Rattle.std.proofs.Common.{◌≡◌, ◌↔◌, ℕ, ◌+◌, ◌≤◌, Bool, false, List, refl, ap, ◌∙◌, subst, add-zero}
-use Rattle.std.proofs.Common.{arith}
+use Rattle.std.proofs.Common.{arith, IsTrue}
 use Rattle.wax_capture.specs.Pieces.{ArePieces}
 use Rattle.wax_capture.specs.declared.piece.Piece.{Piece}
 use Rattle.wax_prefilter.specs.Known.{MeantPass}
 use Rattle.wax_prefilter.specs.Facts.{PrefilterView}
+use Rattle.wax_program.specs.Last.{ReadsLast}
 use Rattle.wax_program.specs.Machine.{Accepts}
 use Rattle.wax_program.specs.declared.instruction.Instruction.{Instruction}
 use Rattle.wax_token.specs.Cost.{cost, costs, program_length}
@@ -27,16 +28,18 @@ costs_members (concatenation a ts) = refl
 costs_members (repetition a t low high) = add-zero _
 
 -- what was made of a tree's tokens
-pub is_compiled : (t : Tree Span) (ts : Trees Span) (program : List Instruction × ℕ) (prefilter : PrefilterView) (pieces : List Piece) → ts ≡ members t
+pub is_compiled : (t : Tree Span) (ts : Trees Span) (program : List Instruction × ℕ) (reads_last : Bool) (prefilter : PrefilterView) (pieces : List Piece) → ts ≡ members t
     → ((s : List ℕ) → Accepts program.0 0 s ↔ MeansEach ts false false s) → program.1 ≡ costs ts + 1 → program.1 ≤ 1048576
-    → MeantPass ts prefilter → ArePieces ts false false pieces → IsKept t → IsCompiled t program prefilter pieces
-is_compiled t ts program prefilter pieces same accepts len fits passes split kept = record {
+    → (IsTrue reads_last → ReadsLast program.0) → MeantPass ts prefilter → ArePieces ts false false pieces → IsKept t
+    → IsCompiled t program reads_last prefilter pieces
+is_compiled t ts program reads_last prefilter pieces same accepts len fits last passes split kept = record {
   accepts = λ s.
       let whole = subst (λ z. Accepts program.0 0 s ↔ MeansEach z false false s) same (accepts s) in
       let parts = means_members t false false s in
       (λ h. parts.0 (whole.0 h), λ h. whole.1 (parts.1 h));
   len = total;
   fits = omega (arith, total, fits);
+  last = last;
   passes = λ s h. subst (λ z. MeantPass z prefilter) same passes s ((means_members t false false s).1 h);
   split = subst (λ z. ArePieces z false false pieces) same split;
   kept = kept;

@@ -1,11 +1,12 @@
 -- What contracts see of a glob.
-use Rattle.std.specs.Prelude.{◌≡◌, ◌⊎◌, ◌↔◌, ◌≤◌, ℕ, false, List, [], refl}
+use Rattle.std.specs.Prelude.{◌≡◌, ◌⊎◌, ◌↔◌, ◌≤◌, ℕ, Bool, IsTrue, false, List, [], refl}
 use Rattle.std.specs.Coded.{Coded, code_by, coded×, coded_list, coded_ℕ}
 use Rattle.wax_capture.specs.Captures.{Captured}
 use Rattle.wax_capture.specs.Pieces.{ArePieces}
 use Rattle.wax_capture.specs.declared.piece.Piece.{Piece}
 use Rattle.wax_facts.specs.Orderly.{Orderly}
 use Rattle.wax_prefilter.specs.Facts.{PrefilterView, PassesFacts}
+use Rattle.wax_program.specs.Last.{ReadsLast}
 use Rattle.wax_program.specs.Machine.{Accepts}
 use Rattle.wax_program.specs.declared.instruction.Instruction.{Instruction}
 use Rattle.wax_token.specs.Cost.{program_length}
@@ -34,12 +35,14 @@ abbrev pub IsKept : Tree Span → Type 0
 IsKept t = Orderly t ⊎ (t ≡ empty_tree)
 
 -- The program accepts what the tree means with nothing around it, and has the length of the tree's cost,
--- which fits; each such text passes the prefilter; and the pieces are those of the tree's tokens.
-pub record IsCompiled (t : Tree Span) (program : List Instruction × ℕ) (prefilter : PrefilterView)
-    (pieces : List Piece) : Type 0 where
+-- which fits; with the flag, it reads the last component alone; each meant text passes the prefilter; and the
+-- pieces are those of the tree's tokens.
+pub record IsCompiled (t : Tree Span) (program : List Instruction × ℕ) (reads_last : Bool)
+    (prefilter : PrefilterView) (pieces : List Piece) : Type 0 where
   pub accepts : (text : List ℕ) → Accepts program.0 0 text ↔ Means t false false text
   pub len : program.1 ≡ program_length t
   pub fits : program_length t ≤ 1048576
+  pub last : IsTrue reads_last → ReadsLast program.0
   pub passes : (text : List ℕ) → Means t false false text → PassesFacts prefilter text
   pub split : ArePieces (members t) false false pieces
   pub kept : IsKept t

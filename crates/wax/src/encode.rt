@@ -1,3 +1,3 @@
 //! Programs of tokens, and how they are run.
 
-pub use wax_match::encode::{CompileError, Matcher, Meter, Program, case_folded_eq, compile, run};
+pub use wax_match::encode::{CompileError, Meter, Program, case_folded_eq, compile, run};

@@ -34,7 +34,7 @@ use wax_components::{Warning, captures, diagnose, has_semantic_literals};
 use wax_depth::depth;
 use wax_facts::{has_root, is_exhaustive, text};
 use wax_match::encode;
-use wax_match::encode::{CompileError, Matcher, Meter};
+use wax_match::encode::{CompileError, Meter};
 use wax_parse::parse::parse;
 use wax_prefilter::Prefilter;
 use wax_query::diagnostics::{NoMemory, Refusal};
@@ -45,7 +45,8 @@ use wax_token::token::{ExpressionMetadata, LeafKind, Tokenized};
 /// A glob. Contracts see the characters of its expression and its tree.
 pub struct Glob<'t> {
     tokenized: Tokenized<'t, ExpressionMetadata>,
-    program: Matcher,
+    program: encode::Program,
+    reads_last: bool,
     prefilter: Prefilter,
     pieces: Pieces,
 }
@@ -56,6 +57,7 @@ impl Drop for Glob<'_> {
         let Glob {
             tokenized: _,
             program: _,
+            reads_last: _,
             prefilter: _,
             pieces: _,
         } = self;
@@ -76,7 +78,7 @@ impl<'t> Model for Glob<'t> {
       tree = g.tokenized.token;
     } };
 
-    ghost invariant = { λ g. IsCompiled g.tokenized.token g.program g.prefilter g.pieces };
+    ghost invariant = { λ g. IsCompiled g.tokenized.token g.program g.reads_last g.prefilter g.pieces };
 }
 
 impl<'t> Glob<'t> {
@@ -178,7 +180,7 @@ impl Glob<'_> {
     fn may_match(&self, text: &str) -> bool
         ensures { IsMeant self.now (chars text.now) → IsTrue result }
     {
-        if self.program.reads_last() {
+        if self.reads_last {
             return self.prefilter.may_match_at_once(text);
         }
         self.prefilter.may_match(text)
@@ -196,12 +198,14 @@ fn compiled<'t>(
         (λ _. 1048576 < program_length tokenized.entry.token) }
 {
     let tokens = tokenized.token.concatenation();
-    let program = Matcher::new(encode::compile(alloc, tokens, false, false)?);
+    let program = encode::compile(alloc, tokens, false, false)?;
+    let reads_last = encode::reads_last(&program);
     let prefilter = Prefilter::new(alloc, tokens)?;
     let pieces = Pieces::new(alloc, tokens)?;
     Ok(Glob {
         tokenized,
         program,
+        reads_last,
         prefilter,
         pieces,
     })
@@ -236,7 +240,7 @@ impl Program for Glob<'_> {
             return Ok((false, 0));
         }
         let mut meter = Meter::new();
-        let answer = self.program.run(alloc, text, &mut meter)?;
+        let answer = encode::run_known(alloc, &self.program, self.reads_last, text, &mut meter)?;
         Ok((answer, meter.ticks()))
     }
 

@@ -1,8 +1,9 @@
 //! Times matches, captures and walks: `match EXPR..` matches each line of standard input, `captures EXPR..`
-//! tells what is captured of it, `walk FOLDER..` walks folders of the real system; `build` builds one glob of
-//! all of standard input but its line break, and asks for its depth. Prints a line for each expression, folder
-//! or build, with tabs between: nanoseconds and visits a line, and lines that match; or entries, errors and
-//! milliseconds; or milliseconds.
+//! tells what is captured of it, `new EXPR..` builds each glob many times, `walk FOLDER..` walks folders of the
+//! real system; `build` builds one glob of all of standard input but its line break, and asks for its depth.
+//! Prints a line for each expression, folder or build, with tabs between: nanoseconds and visits a line, and lines
+//! that match; or nanoseconds a glob, and how many were built; or entries, errors and milliseconds; or
+//! milliseconds.
 #![tactic(auto)]
 
 use std::alloc::{AllocError, Global};
@@ -75,6 +76,27 @@ fn time_lines(rt: HostRuntime, timed: Timed, expression: &str, lines: &[&str]) -
     )
 }
 
+/// How often each glob is built.
+const BUILDS: u64 = 1_000;
+
+/// How many of so many builds of the expression succeed.
+fn built(alloc: Global, expression: &str) -> u64 {
+    let mut count: u64 = 0;
+    for _ in 0..BUILDS {
+        if Glob::new(alloc, expression).is_ok() {
+            count = count.saturating_add(1);
+        }
+    }
+    count
+}
+
+fn time_new(rt: HostRuntime, expression: &str) -> io::Result<()> {
+    let start = Instant::now(&rt)?;
+    let count = built(rt.alloc(), expression);
+    let nanoseconds = start.elapsed(&rt)?.as_nanos() / (BUILDS as u128);
+    println!(rt; "{expression}\t{nanoseconds}\t{count}")
+}
+
 /// How many entries and errors the walk from a path gives.
 fn walked(rt: HostRuntime, start: &str) -> (u64, u64) {
     let (mut entries, mut errors) = (0u64, 0u64);
@@ -111,6 +133,12 @@ fn main(rt: HostRuntime) -> io::Result<()> {
         Some("match") => Timed::Matches,
         Some("captures") => Timed::Captures,
         Some("build") => return time_build(rt),
+        Some("new") => {
+            for expression in words {
+                time_new(rt, &expression)?;
+            }
+            return Ok(());
+        }
         Some("walk") => {
             for start in words {
                 time_walk(rt, &start)?;

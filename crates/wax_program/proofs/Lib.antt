@@ -1,7 +1,7 @@
 pub mod Advancing
 pub mod Beginnings
 pub mod Bits
-pub mod Last
+pub mod LastNames
 pub mod Sets
 pub mod Starts
 pub mod Staying

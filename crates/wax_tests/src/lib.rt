@@ -1,13 +1,13 @@
-//! Tests of the commands, of lines, of folds and of walks. They stand in a crate of their own, since a
+//! Tests of calls of `wax`: lines, folds and walks among them. They stand in a crate of their own, since a
 //! crate with tests is proved twice.
 #![tactic(auto)]
 
 #[cfg(test)]
-mod commands;
+mod calls;
+#[cfg(test)]
+mod captured_lines;
 #[cfg(test)]
 mod escapes;
-#[cfg(test)]
-mod files;
 #[cfg(test)]
 mod folds;
 #[cfg(test)]
@@ -16,7 +16,5 @@ mod ignores;
 mod lines;
 #[cfg(test)]
 mod streams;
-#[cfg(test)]
-mod walk_command;
 #[cfg(test)]
 mod walks;

@@ -2,7 +2,7 @@
 ghost use Rattle.std.specs.Prelude.{◌≡◌, ◌==◌, [], nat_eq, true, codes, encode_utf8_all};
 ghost use Rattle.std.specs.List.{ends_with};
 
-use crate::streams::{Asked, Narrow, Slow};
+use crate::streams::{Asked, NAMES, Narrow, Slow, interrupted_names, interrupted_writer};
 use std::alloc::Global;
 use std::convert::AsStr;
 use std::io::{Read, Write};
@@ -11,8 +11,6 @@ use wax::{
     CandidatePath, Counted, Glob, LinesError, MatchedText, NoMemory, Program, capture_lines,
     filter_lines,
 };
-
-const NAMES: &[u8] = b"logo.png\nlogo.svg\na/b.png\nx.png";
 
 // Means the texts that end in `.png`. It finds no memory for the text `starve`.
 struct Pictures;
@@ -211,6 +209,57 @@ fn a_failed_write_stops_the_filter(rt: HostRuntime) -> Result<(), Fail> {
         assert_eq!(rt; output.failures(), 2);
         assert_eq!(rt; output.into_inner().taken.as_slice(), b"logo.".as_slice());
     }
+    Ok(())
+}
+
+#[test]
+fn a_writer_may_take_nothing(rt: HostRuntime) -> Result<(), Fail> {
+    let mut output = Counted::new(Narrow {
+        taken: Vec::new(rt.alloc()),
+        room: 0,
+        fails: false,
+    });
+    let mut input = Counted::new(NAMES);
+    let answer = filter_lines(rt.alloc(), &mut input, &mut output, &Pictures);
+    assert!(rt; answer == Err(LinesError::Write));
+    assert_eq!(rt; output.calls(), 1);
+    assert_eq!(rt; output.failures(), 1);
+    assert_eq!(rt; output.into_inner().taken.len(), 0);
+    Ok(())
+}
+
+#[test]
+fn an_interrupted_read_is_a_failed_one(rt: HostRuntime) -> Result<(), Fail> {
+    let mut input = Counted::new(interrupted_names());
+    let mut output = Counted::new(Vec::new(rt.alloc()));
+    let answer = filter_lines(rt.alloc(), &mut input, &mut output, &Pictures);
+    assert!(rt; answer == Err(LinesError::Read));
+    assert_eq!(rt; input.calls(), 10);
+    assert_eq!(rt; input.failures(), 1);
+    let answer = filter_lines(rt.alloc(), &mut input, &mut output, &Pictures);
+    assert!(rt; answer == Ok(0));
+    assert_eq!(rt; input.failures(), 1);
+    assert_eq!(rt;
+        output.into_inner().as_slice(),
+        b"logo.png\na/b.png\nx.png\n".as_slice()
+    );
+    Ok(())
+}
+
+#[test]
+fn an_interrupted_write_is_a_failed_one(rt: HostRuntime) -> Result<(), Fail> {
+    let mut output = Counted::new(interrupted_writer(rt.alloc()));
+    let mut input = Counted::new(NAMES);
+    let answer = filter_lines(rt.alloc(), &mut input, &mut output, &Pictures);
+    assert!(rt; answer == Err(LinesError::Write));
+    assert_eq!(rt; output.calls(), 1);
+    assert_eq!(rt; output.failures(), 1);
+    let mut input = Counted::new(b"b.png\n".as_slice());
+    let answer = filter_lines(rt.alloc(), &mut input, &mut output, &Pictures);
+    assert!(rt; answer == Ok(0));
+    assert_eq!(rt; output.failures(), 1);
+    let taken = output.into_inner().inner;
+    assert_eq!(rt; taken.as_slice(), b"b.png\n".as_slice());
     Ok(())
 }
 

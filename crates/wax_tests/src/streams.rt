@@ -1,7 +1,10 @@
-//! Readers and writers that fail, and one that counts what it is asked.
+//! Readers and writers that fail or are interrupted, and one that counts what it is asked.
 
+use std::alloc::Global;
 use std::io;
 use std::io::{Read, Write};
+
+pub const NAMES: &[u8] = b"logo.png\nlogo.svg\na/b.png\nx.png";
 
 // Hands over one byte at a time, and fails where `left` reads were made.
 #[derive(Drop)]
@@ -48,6 +51,65 @@ impl Write for Narrow {
 
     fn flush(&mut self) -> io::Result<()> {
         Err(io::Error::from(io::ErrorKind::BrokenPipe))
+    }
+}
+
+// Hands each call on, but for one that is interrupted: the one after `before` others.
+#[derive(Drop)]
+pub struct Interrupted<T> {
+    pub inner: T,
+    pub before: Option<u64>,
+}
+
+// The names one byte at a time, with an interrupted call behind the first line.
+pub fn interrupted_names() -> Interrupted<Slow<'static>> {
+    Interrupted {
+        inner: Slow {
+            bytes: NAMES,
+            left: 1000,
+        },
+        before: Some(9),
+    }
+}
+
+// Takes all that it is given, but for the first time.
+pub fn interrupted_writer(alloc: Global) -> Interrupted<Vec<u8>> {
+    Interrupted {
+        inner: Vec::new(alloc),
+        before: Some(0),
+    }
+}
+
+impl<T> Interrupted<T> {
+    fn step(&mut self) -> io::Result<()> {
+        match self.before {
+            None => {}
+            Some(0) => {
+                self.before = None;
+                return Err(io::Error::from(io::ErrorKind::Interrupted));
+            }
+            Some(before) => self.before = Some(before - 1),
+        }
+        Ok(())
+    }
+}
+
+impl<R: Read> Read for Interrupted<R> {
+    fn read(&mut self, buf: &mut [u8]) -> io::Result<usize> {
+        self.step()?;
+        self.inner.read(buf)
+    }
+}
+
+impl<W: Write> Write for Interrupted<W> {
+    fn write(&mut self, buf: &[u8]) -> io::Result<usize> {
+        self.step()?;
+        self.inner.write(buf)
+    }
+
+    fn flush(&mut self) -> io::Result<()> {
+        self.step()?;
+        self.inner.flush()
     }
 }
 

@@ -17,6 +17,7 @@ impl<'t> Glob<'t> {
         let Glob {
             tokenized,
             program: _,
+            reads_last: _,
             prefilter: _,
             pieces: _,
         } = self;

@@ -21,6 +21,7 @@ impl<'t> Pattern for Glob<'t> {
         let Glob {
             tokenized,
             program: _,
+            reads_last: _,
             prefilter: _,
             pieces: _,
         } = self;

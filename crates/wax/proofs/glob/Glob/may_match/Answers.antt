@@ -2,8 +2,8 @@ use Rattle.std.proofs.Common.{◌≡◌, false, chars, sym, ap, subst}
 use Rattle.wax_token.specs.Meaning.{Means}
 use Rattle.wax.proofs.glob.Glob.may_match.Goals as goal
 
-pub returns-then-reads_last : goal.returns-then-reads_last
-returns-then-reads_last c = λ meant.
+pub returns-then-self : goal.returns-then-self
+returns-then-self c = λ meant.
     let text = chars c.args.text.now in
     let tree : c.self.inside.tokenized.token ≡ c.args.self.now.tree = ap (λ g. g.tree) c.self.view_is in
     let same : Means c.self.inside.tokenized.token false false text = subst (λ t. Means t false false text) (sym tree) meant in

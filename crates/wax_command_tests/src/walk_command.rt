@@ -1,19 +1,14 @@
 //! What the command `walk` writes and tells.
 
+use crate::commands::USAGE;
 use crate::files::{held, no_files};
-use crate::streams::Narrow;
+use crate::streams::failing_after;
 use std::alloc::{AllocError, Global};
 use std::fs;
 use std::test::*;
 use wax::Counted;
 use wax::walk::{Directory, Folders, Node, Starving, Tree, TreeItem};
 use wax_commands::run_globs;
-
-const USAGE: &[u8] = b"usage: globs match EXPR
-       globs captures EXPR
-       globs query EXPR
-       globs walk START EXPR [not EXPR].. [min N] [max N] [ignore FILE]
-";
 
 fn words_of(alloc: Global, texts: &[&str]) -> Result<Vec<Option<String>>, AllocError> {
     let mut words = Vec::new(alloc);
@@ -98,71 +93,73 @@ fn run<D: Directory>(alloc: Global, texts: &[&str], directory: D) -> Result<Ran,
     })
 }
 
+// The words of a walk of the project, and what is written.
+const WALKS: &[(&[&str], &[u8])] = &[
+    (
+        &["", "**/*.rs"],
+        b"src/lib.rs\nsrc/a/mod.rs\ntarget/lib.rs\n",
+    ),
+    (&["src", "**/*.rs"], b"lib.rs\na/mod.rs\n"),
+    (&["src", "*"], b"\nlib.rs\nnotes.md\na\n"),
+    (&["src", "?*"], b"lib.rs\nnotes.md\na\n"),
+    (&["", "src/*.rs"], b"src/lib.rs\n"),
+    (
+        &["", "**", "not", "target/**"],
+        b"\nsrc\nsrc/lib.rs\nsrc/notes.md\nsrc/a\nsrc/a/mod.rs\n",
+    ),
+    (
+        &["", "**/*.*", "not", "**/*.md", "not", "{target,src/a}/**"],
+        b"src/lib.rs\n",
+    ),
+    (&["", "**", "max", "1"], b"\nsrc\ntarget\n"),
+    (&["", "**", "max", "00"], b"\n"),
+    (&["", "**", "min", "3"], b"src/a/mod.rs\n"),
+    (
+        &["", "**/*.rs", "min", "2", "max", "2"],
+        b"src/lib.rs\ntarget/lib.rs\n",
+    ),
+    (
+        &[
+            "",
+            "**/*.rs",
+            "max",
+            "18446744073709551615",
+            "not",
+            "src",
+            "min",
+            "0",
+        ],
+        b"src/lib.rs\nsrc/a/mod.rs\ntarget/lib.rs\n",
+    ),
+    (
+        &["", "**/lib.*", "min", "2", "not", "target/*", "max", "2"],
+        b"src/lib.rs\n",
+    ),
+    (
+        &["", "**/*.rs", "ignore", "empty"],
+        b"src/lib.rs\nsrc/a/mod.rs\ntarget/lib.rs\n",
+    ),
+    (
+        &["", "**/*.rs", "ignore", "targets"],
+        b"src/lib.rs\nsrc/a/mod.rs\n",
+    ),
+    (
+        &["", "**", "not", "target/**", "ignore", "notes"],
+        b"\nsrc\nsrc/lib.rs\nsrc/a/mod.rs\n",
+    ),
+    (
+        &["", "**", "ignore", "notes", "min", "2", "not", "target/**"],
+        b"src/lib.rs\nsrc/a/mod.rs\n",
+    ),
+    (&["src", "**", "max", "1", "ignore", "notes"], b"\nlib.rs\n"),
+    (&["", "target/*", "ignore", "targets"], b""),
+];
+
 #[test]
 fn candidates_are_written(rt: HostRuntime) -> Result<(), Fail> {
-    let cases: [(&[&str], &[u8]); 19] = [
-        (
-            &["", "**/*.rs"],
-            b"src/lib.rs\nsrc/a/mod.rs\ntarget/lib.rs\n",
-        ),
-        (&["src", "**/*.rs"], b"lib.rs\na/mod.rs\n"),
-        (&["src", "*"], b"\nlib.rs\nnotes.md\na\n"),
-        (&["src", "?*"], b"lib.rs\nnotes.md\na\n"),
-        (&["", "src/*.rs"], b"src/lib.rs\n"),
-        (
-            &["", "**", "not", "target/**"],
-            b"\nsrc\nsrc/lib.rs\nsrc/notes.md\nsrc/a\nsrc/a/mod.rs\n",
-        ),
-        (
-            &["", "**/*.*", "not", "**/*.md", "not", "{target,src/a}/**"],
-            b"src/lib.rs\n",
-        ),
-        (&["", "**", "max", "1"], b"\nsrc\ntarget\n"),
-        (&["", "**", "max", "00"], b"\n"),
-        (&["", "**", "min", "3"], b"src/a/mod.rs\n"),
-        (
-            &["", "**/*.rs", "min", "2", "max", "2"],
-            b"src/lib.rs\ntarget/lib.rs\n",
-        ),
-        (
-            &[
-                "",
-                "**/*.rs",
-                "max",
-                "18446744073709551615",
-                "not",
-                "src",
-                "min",
-                "0",
-            ],
-            b"src/lib.rs\nsrc/a/mod.rs\ntarget/lib.rs\n",
-        ),
-        (
-            &["", "**/lib.*", "min", "2", "not", "target/*", "max", "2"],
-            b"src/lib.rs\n",
-        ),
-        (
-            &["", "**/*.rs", "ignore", "empty"],
-            b"src/lib.rs\nsrc/a/mod.rs\ntarget/lib.rs\n",
-        ),
-        (
-            &["", "**/*.rs", "ignore", "targets"],
-            b"src/lib.rs\nsrc/a/mod.rs\n",
-        ),
-        (
-            &["", "**", "not", "target/**", "ignore", "notes"],
-            b"\nsrc\nsrc/lib.rs\nsrc/a/mod.rs\n",
-        ),
-        (
-            &["", "**", "ignore", "notes", "min", "2", "not", "target/**"],
-            b"src/lib.rs\nsrc/a/mod.rs\n",
-        ),
-        (&["src", "**", "max", "1", "ignore", "notes"], b"\nlib.rs\n"),
-        (&["", "target/*", "ignore", "targets"], b""),
-    ];
-    for (texts, want) in cases {
-        let ran = run(rt.alloc(), texts, project(rt.alloc())?)?;
-        assert_eq!(rt; ran.written.as_slice(), want);
+    for (texts, want) in WALKS {
+        let ran = run(rt.alloc(), *texts, project(rt.alloc())?)?;
+        assert_eq!(rt; ran.written.as_slice(), *want);
         assert_eq!(rt; ran.told.len(), 0);
         assert_eq!(rt; ran.status, 0);
     }
@@ -335,6 +332,16 @@ fn many(alloc: Global) -> Result<Tree, Fail> {
     tree_of(alloc, items)
 }
 
+// The lines of these files.
+fn many_lines(alloc: Global) -> Result<Vec<u8>, AllocError> {
+    let mut lines = Vec::new(alloc);
+    for k in 0u32..700 {
+        let line = format!(in alloc; "a-file-of-many-{k}\n")?;
+        lines.extend_from_slice(line.as_bytes())?;
+    }
+    Ok(lines)
+}
+
 #[test]
 fn lines_go_out_as_the_walk_goes(rt: HostRuntime) -> Result<(), Fail> {
     let words = words_of(rt.alloc(), &["", "?*"])?;
@@ -353,14 +360,18 @@ fn lines_go_out_as_the_walk_goes(rt: HostRuntime) -> Result<(), Fail> {
     );
     assert_eq!(rt; status, 0);
     assert_eq!(rt; output.calls(), 2);
-    let mut want = Vec::new(rt.alloc());
-    for k in 0u32..700 {
-        let line = format!(in rt.alloc(); "a-file-of-many-{k}\n")?;
-        want.extend_from_slice(line.as_bytes())?;
-    }
+    let want = many_lines(rt.alloc())?;
     let written = output.into_inner();
     assert_eq!(rt; written.as_slice(), want.as_slice());
+    Ok(())
+}
+
+#[test]
+fn a_failed_write_stops_the_walk(rt: HostRuntime) -> Result<(), Fail> {
+    let words = words_of(rt.alloc(), &["", "?*"])?;
+    let want = many_lines(rt.alloc())?;
     for room in [0, 5, 8200, 12000] {
+        let mut input = Counted::new(b"".as_slice());
         let mut output = Counted::new(failing_after(rt.alloc(), room));
         let mut told = Vec::new(rt.alloc());
         let tree = many(rt.alloc())?;
@@ -380,15 +391,6 @@ fn lines_go_out_as_the_walk_goes(rt: HostRuntime) -> Result<(), Fail> {
         assert_eq!(rt; taken.as_slice(), &want[..end]);
     }
     Ok(())
-}
-
-// A writer that fails after so many bytes.
-fn failing_after(alloc: Global, room: usize) -> Narrow {
-    Narrow {
-        taken: Vec::new(alloc),
-        room,
-        fails: true,
-    }
 }
 
 #[test]

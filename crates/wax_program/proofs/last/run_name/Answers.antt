@@ -1,6 +1,6 @@
 use Rattle.std.proofs.Common.{length, arith, chars}
-use Rattle.wax_program.proofs.Last.{counted_name, name_decides, same_answer}
-use Rattle.wax_program.proofs.matcher.run_name.Goals as goal
+use Rattle.wax_program.proofs.LastNames.{counted_name, name_decides, same_answer}
+use Rattle.wax_program.proofs.last.run_name.Goals as goal
 
 pub returns-clause-decides : goal.returns-clause-decides
 returns-clause-decides c =

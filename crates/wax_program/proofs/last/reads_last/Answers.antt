@@ -1,5 +1,5 @@
-use Rattle.wax_program.proofs.Last.{reads_last_of}
-use Rattle.wax_program.proofs.matcher.reads_last.Goals as goal
+use Rattle.wax_program.proofs.LastNames.{reads_last_of}
+use Rattle.wax_program.proofs.last.reads_last.Goals as goal
 
 pub returns-then-begins_with_components : goal.returns-then-begins_with_components
 returns-then-begins_with_components c = λ stays.

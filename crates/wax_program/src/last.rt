@@ -1,4 +1,4 @@
-//! A program with what was found of it before it is run.
+//! Programs to which only the last component of a text matters, as to that of `**/*.rs`.
 ghost use Rattle.std.specs.Prelude.{◌≡◌, ◌+◌, ◌*◌, ◌≤◌, ◌↔◌, IsTrue, IfOk, Some, chars, length, min, slice_get};
 ghost use Rattle.wax_program.specs.declared.instruction.Instruction.TheVariants.{Components, Fork};
 ghost use Rattle.wax_program.specs.inner.Names.{IsCutBetween, IsLastName, StayInName, StaysInName};
@@ -10,72 +10,28 @@ use crate::instruction::Instruction;
 use crate::machine::{Meter, Program, Visits};
 use crate::matching::{run, run_at};
 use std::alloc::Global;
-use std::marker::Model;
 use wax_query::diagnostics::NoMemory;
 
-/// A program, and whether only the last component of a text matters to it, as to that of `**/*.rs`.
-pub struct Matcher {
-    program: Program,
+/// Whether the program accepts the text, as [`run`] decides it. Where it is known that only the last component of
+/// a text matters, what stands before that is counted by its bytes and not followed.
+pub fn run_known(
+    alloc: Global,
+    program: &Program,
     reads_last: bool,
-}
-
-// Written out, as that of a program is.
-impl Drop for Matcher {
-    fn drop(self) {
-        let Matcher {
-            program: _,
-            reads_last: _,
-        } = self;
+    text: &str,
+    meter: &mut Meter,
+) -> Result<bool, NoMemory>
+    requires known { IsTrue reads_last → ReadsLast program.now.0 }
+    ensures decides { IfOk result (λ b. IsTrue b ↔ Accepts program.now.0 0 (chars text.now)) }
+    ensures above { meter.new ≤ meter.old + program.now.1 * (length (chars text.now) + 1) }
+    ensures below { IfOk result
+        (λ b. IsTrue b → min (meter.old + length (chars text.now)) most_ticks ≤ meter.new) }
+    ensures steady { meter.old ≤ meter.new }
+{
+    if reads_last && program.size() >= 2 && program.len() >= 4 {
+        return run_name(alloc, program, text, meter);
     }
-}
-
-impl Model for Matcher {
-    ghost use Rattle.std.specs.Prelude.{ℕ, List, IsTrue};
-    ghost use Rattle.wax_program.specs.declared.instruction.Instruction.{Instruction};
-    ghost use Rattle.wax_program.specs.contracts.instruction.Instruction as instruction;
-    ghost use Rattle.wax_program.specs.Last.{ReadsLast};
-    ghost use Rattle.std.specs.Coded.{coded×, coded_list, coded_ℕ};
-
-    ghost Value = { List Instruction × ℕ };
-
-    ghost coded = { coded× (coded_list instruction.the_row.coded) coded_ℕ };
-
-    ghost view = { λ m. m.program };
-
-    ghost invariant = { λ m. IsTrue m.reads_last → ReadsLast m.program.0 };
-}
-
-impl Matcher {
-    /// The program, ready to be run. Its instructions are read once.
-    pub fn new(program: Program) -> Matcher
-        ensures { result ≡ program }
-    {
-        let reads_last = reads_last(&program);
-        Matcher {
-            program,
-            reads_last,
-        }
-    }
-
-    /// Whether it is known that only the last component of a text matters to it.
-    pub fn reads_last(&self) -> bool {
-        self.reads_last
-    }
-
-    /// Whether the program accepts the text, as [`run`] decides it. Where only the last component of a text
-    /// matters, what stands before it is counted by its bytes and not followed.
-    pub fn run(&self, alloc: Global, text: &str, meter: &mut Meter) -> Result<bool, NoMemory>
-        ensures decides { IfOk result (λ b. IsTrue b ↔ Accepts self.now.0 0 (chars text.now)) }
-        ensures above { meter.new ≤ meter.old + self.now.1 * (length (chars text.now) + 1) }
-        ensures below { IfOk result
-            (λ b. IsTrue b → min (meter.old + length (chars text.now)) most_ticks ≤ meter.new) }
-        ensures steady { meter.old ≤ meter.new }
-    {
-        if self.reads_last && self.program.size() >= 2 && self.program.len() >= 4 {
-            return run_name(alloc, &self.program, text, meter);
-        }
-        run(alloc, &self.program, text, meter)
-    }
+    run(alloc, program, text, meter)
 }
 
 /// The same of a program to which only the last component matters.
@@ -111,8 +67,8 @@ fn last_name(text: &str) -> &str
 }
 
 /// Whether it is known that only the last component of a text matters: the program begins with components, and
-/// takes no `/` after them.
-fn reads_last(program: &Program) -> bool
+/// takes no `/` after them. Each instruction is read at most once.
+pub fn reads_last(program: &Program) -> bool
     ensures { IsTrue result → ReadsLast program.now.0 }
 {
     begins_with_components(program) && stay_in_name(program)

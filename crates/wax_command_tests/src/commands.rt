@@ -1,7 +1,7 @@
 //! What `run_globs` does, and how words are read.
 
 use crate::files::no_files;
-use crate::streams::{Narrow, Slow};
+use crate::streams::{Slow, failing_after};
 use std::alloc::{AllocError, Global};
 use std::env::FillError;
 use std::rt::Env;
@@ -10,7 +10,8 @@ use wax::Counted;
 use wax::walk::{Node, Tree};
 use wax_commands::{run_globs, words};
 
-const USAGE: &[u8] = b"usage: globs match EXPR
+/// What a run with wrong words tells.
+pub const USAGE: &[u8] = b"usage: globs match EXPR
        globs captures EXPR
        globs query EXPR
        globs walk START EXPR [not EXPR].. [min N] [max N] [ignore FILE]
@@ -120,48 +121,50 @@ fn words_follow_the_name(rt: HostRuntime) -> Result<(), Fail> {
     Ok(())
 }
 
+// Expressions that are refused, and why.
+const REFUSED: &[(&str, &str)] = &[
+    ("***", "failed to parse glob expression"),
+    ("[a", "failed to parse glob expression"),
+    (
+        "a//b",
+        "malformed glob expression: adjacent component boundaries `/` or `**`",
+    ),
+    (
+        "</a/:1,>",
+        "malformed glob expression: adjacent component boundaries `/` or `**`",
+    ),
+    (
+        "<a/:10,9>",
+        "malformed glob expression: incompatible repetition bounds",
+    ),
+    (
+        "{a,**}",
+        "malformed glob expression: singular tree wildcard `**` in branch",
+    ),
+    (
+        "*{a,*}",
+        "malformed glob expression: adjacent zero-or-more wildcards `*` or `$`",
+    ),
+    (
+        "{a,/b}",
+        "malformed glob expression: uncertain or overlapping roots in branch",
+    ),
+    (
+        "<*:1,>",
+        "malformed glob expression: singular zero-or-more wildcard `*` or `$` in branch",
+    ),
+    (
+        "<a:65536>",
+        "malformed glob expression: oversized invariant expression",
+    ),
+    ("<a*:174763>", "failed to compile glob: oversized program"),
+];
+
 #[test]
 fn refused_builds_print_their_reason(rt: HostRuntime) -> Result<(), Fail> {
-    let cases: [(&str, &str); 11] = [
-        ("***", "failed to parse glob expression"),
-        ("[a", "failed to parse glob expression"),
-        (
-            "a//b",
-            "malformed glob expression: adjacent component boundaries `/` or `**`",
-        ),
-        (
-            "</a/:1,>",
-            "malformed glob expression: adjacent component boundaries `/` or `**`",
-        ),
-        (
-            "<a/:10,9>",
-            "malformed glob expression: incompatible repetition bounds",
-        ),
-        (
-            "{a,**}",
-            "malformed glob expression: singular tree wildcard `**` in branch",
-        ),
-        (
-            "*{a,*}",
-            "malformed glob expression: adjacent zero-or-more wildcards `*` or `$`",
-        ),
-        (
-            "{a,/b}",
-            "malformed glob expression: uncertain or overlapping roots in branch",
-        ),
-        (
-            "<*:1,>",
-            "malformed glob expression: singular zero-or-more wildcard `*` or `$` in branch",
-        ),
-        (
-            "<a:65536>",
-            "malformed glob expression: oversized invariant expression",
-        ),
-        ("<a*:174763>", "failed to compile glob: oversized program"),
-    ];
-    for (expression, text) in cases {
+    for (expression, text) in REFUSED {
         for command in ["match", "captures", "query"] {
-            let words = words_of(rt.alloc(), &[command, expression])?;
+            let words = words_of(rt.alloc(), &[command, *expression])?;
             let mut input = Counted::new(b"a\n".as_slice());
             let mut output = Counted::new(Vec::new(rt.alloc()));
             let mut faults = Vec::new(rt.alloc());
@@ -182,15 +185,6 @@ fn refused_builds_print_their_reason(rt: HostRuntime) -> Result<(), Fail> {
         }
     }
     Ok(())
-}
-
-// A writer that fails after so many bytes.
-fn failing_after(alloc: Global, room: usize) -> Narrow {
-    Narrow {
-        taken: Vec::new(alloc),
-        room,
-        fails: true,
-    }
 }
 
 #[test]
@@ -226,35 +220,40 @@ fn lines_that_are_not_text_are_counted(rt: HostRuntime) -> Result<(), Fail> {
     Ok(())
 }
 
+// An expression, the input, what is written, the status, and what is told.
+const CAPTURED: &[(&str, &[u8], &[u8], u8, &[u8])] = &[
+    (
+        "$-*.*",
+        b"a-b-c.ext\nabc\n-.\n",
+        b"a-b-c.ext\ta\tb-c\text\n-.\t\t\t\n",
+        0,
+        b"",
+    ),
+    (
+        "log-{<[0-9]:3>,<[0-9]:4>-<[0-9]:2>-<[0-9]:2>}.txt",
+        b"log-123.txt\nlog-1970-01-01.txt",
+        b"log-123.txt\t123\nlog-1970-01-01.txt\t1970-01-01\n",
+        0,
+        b"",
+    ),
+    ("a", b"a\nb\n", b"a\n", 0, b""),
+    (
+        "*.png",
+        b"\xff.png\na.png\n",
+        b"a.png\ta\n",
+        1,
+        b"globs: 1 lines are not text\n",
+    ),
+];
+
 #[test]
 fn captures_are_written_with_tabs(rt: HostRuntime) -> Result<(), Fail> {
-    let cases: [(&str, &[u8], &[u8], u8, &[u8]); 4] = [
-        (
-            "$-*.*",
-            b"a-b-c.ext\nabc\n-.\n",
-            b"a-b-c.ext\ta\tb-c\text\n-.\t\t\t\n",
-            0,
-            b"",
-        ),
-        (
-            "log-{<[0-9]:3>,<[0-9]:4>-<[0-9]:2>-<[0-9]:2>}.txt",
-            b"log-123.txt\nlog-1970-01-01.txt",
-            b"log-123.txt\t123\nlog-1970-01-01.txt\t1970-01-01\n",
-            0,
-            b"",
-        ),
-        ("a", b"a\nb\n", b"a\n", 0, b""),
-        (
-            "*.png",
-            b"\xff.png\na.png\n",
-            b"a.png\ta\n",
-            1,
-            b"globs: 1 lines are not text\n",
-        ),
-    ];
-    for (expression, bytes, want, want_status, told) in cases {
-        let words = words_of(rt.alloc(), &["captures", expression])?;
-        let mut input = Counted::new(Slow { bytes, left: 1000 });
+    for (expression, bytes, want, want_status, told) in CAPTURED {
+        let words = words_of(rt.alloc(), &["captures", *expression])?;
+        let mut input = Counted::new(Slow {
+            bytes: *bytes,
+            left: 1000,
+        });
         let mut output = Counted::new(Vec::new(rt.alloc()));
         let mut faults = Vec::new(rt.alloc());
         let status = run_globs(
@@ -266,9 +265,9 @@ fn captures_are_written_with_tabs(rt: HostRuntime) -> Result<(), Fail> {
             nothing(rt.alloc())?,
             no_files,
         );
-        assert_eq!(rt; status, want_status);
-        assert_eq!(rt; output.into_inner().as_slice(), want);
-        assert_eq!(rt; faults.as_slice(), told);
+        assert_eq!(rt; status, *want_status);
+        assert_eq!(rt; output.into_inner().as_slice(), *want);
+        assert_eq!(rt; faults.as_slice(), *told);
     }
     Ok(())
 }

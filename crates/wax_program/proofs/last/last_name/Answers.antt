@@ -1,6 +1,6 @@
 use Rattle.std.proofs.Common.{inl, refl}
-use Rattle.wax_program.proofs.Last.{last_name_of, name_slashless}
-use Rattle.wax_program.proofs.matcher.last_name.Goals as goal
+use Rattle.wax_program.proofs.LastNames.{last_name_of, name_slashless}
+use Rattle.wax_program.proofs.last.last_name.Goals as goal
 
 pub returns-in-Some-clause-name : goal.returns-in-Some-clause-name
 returns-in-Some-clause-name c =
