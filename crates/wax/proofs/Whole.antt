@@ -1,11 +1,11 @@
 -- A glob's tokens mean and cost what its tree does.
 use Rattle.std.proofs.Common.{◌≡◌, ◌↔◌, ℕ, ◌+◌, ◌≤◌, Bool, false, List, refl, ap, ◌∙◌, subst, add-zero}
-use Rattle.std.proofs.Common.{arith, IsTrue}
+use Rattle.std.proofs.Common.{arith, IsTrue, ◌∷◌, ◌++◌, inl, inr}
 use Rattle.wax_capture.specs.Pieces.{ArePieces}
 use Rattle.wax_capture.specs.declared.piece.Piece.{Piece}
 use Rattle.wax_prefilter.specs.Known.{MeantPass}
 use Rattle.wax_prefilter.specs.Facts.{PrefilterView}
-use Rattle.wax_program.specs.Last.{ReadsLast}
+use Rattle.wax_program.specs.Last.{IsLastName, ReadsLast}
 use Rattle.wax_program.specs.Machine.{Accepts}
 use Rattle.wax_program.specs.declared.instruction.Instruction.{Instruction}
 use Rattle.wax_token.specs.Cost.{cost, costs, program_length}
@@ -46,3 +46,15 @@ is_compiled t ts program reads_last prefilter pieces same accepts len fits last 
 } where
   total : program.1 ≡ program_length t
   total = len ∙ ap (λ z. costs z + 1) same ∙ ap (λ n. n + 1) (costs_members t)
+
+-- where only the last component matters, it is meant by itself
+pub means_name : (t : Tree Span) (program : List Instruction × ℕ) (reads_last : Bool) (prefilter : PrefilterView)
+    (pieces : List Piece) → IsCompiled t program reads_last prefilter pieces → IsTrue reads_last
+    → (text name : List ℕ) → IsLastName text name → Means t false false text → Means t false false name
+means_name t program reads_last prefilter pieces is known text name (none, inl e) meant =
+    subst (Means t false false) e meant
+means_name t program reads_last prefilter pieces is known text name (none, inr (before, e)) meant =
+    let last = is.last known before name none in
+    let accepted : Accepts program.0 0 (before ++ 47 ∷ name) =
+    subst (Accepts program.0 0) e ((is.accepts text).1 meant) in
+    (is.accepts name).0 (last.0.1 (last.1.0 accepted))

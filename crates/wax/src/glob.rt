@@ -176,14 +176,15 @@ impl<'t> Glob<'t> {
 }
 
 impl Glob<'_> {
-    /// Whether it may mean the text, by what is looked at before it is matched.
+    /// Whether it may mean the text, by what is looked at before it is matched. Where only the last component
+    /// matters, texts in any case are sought in that alone.
     fn may_match(&self, text: &str) -> bool
         ensures { IsMeant self.now (chars text.now) → IsTrue result }
     {
-        if self.reads_last {
-            return self.prefilter.may_match_at_once(text);
+        if !self.reads_last {
+            return self.prefilter.may_match(text);
         }
-        self.prefilter.may_match(text)
+        self.prefilter.may_match_at_once(text) && self.prefilter.may_match(encode::last_name(text))
     }
 }
 

@@ -21,7 +21,7 @@ mod leaves;
 mod tail;
 
 pub use folding::case_folded_eq;
-pub use wax_program::{Meter, Program, reads_last, run, run_known};
+pub use wax_program::{Meter, Program, last_name, reads_last, run, run_known};
 
 /// The tokens cost more than a program may hold (refusal 9).
 #[derive(Clone, Copy, Debug, Error)]

@@ -16,9 +16,9 @@ use Rattle.std.proofs.lemmas.Str.Ascii.{IsAscii-cons, IsAscii-nil}
 use Rattle.std.specs.Str.{IsUtf8, NoCharPasses, NonePass, chars}
 use Rattle.wax_program.specs.declared.instruction.Instruction.{Instruction}
 use Rattle.wax_program.specs.declared.instruction.Instruction.TheVariants.{Check, Repeat, Components, Fork, Jump, Back}
-use Rattle.wax_program.specs.Last.{ReadsLast}
+use Rattle.wax_program.specs.Last.{IsCutBetween, IsLastName, ReadsLast}
 use Rattle.wax_program.specs.Machine.{PassesTest, Moves, AcceptsIn, Accepts}
-use Rattle.wax_program.specs.inner.Names.{IsCutBetween, IsLastName, StaysInName, StayInName}
+use Rattle.wax_program.specs.inner.Names.{StaysInName, StayInName}
 use Rattle.wax_program.proofs.Advancing.{chars_few}
 use Rattle.wax_program.proofs.Steps.{after_any, after_slash, after_fork}
 use Rattle.wax_token.specs.Meaning.{HasNoSlash}

@@ -1,8 +1,8 @@
 //! Programs to which only the last component of a text matters, as to that of `**/*.rs`.
 ghost use Rattle.std.specs.Prelude.{◌≡◌, ◌+◌, ◌*◌, ◌≤◌, ◌↔◌, IsTrue, IfOk, Some, chars, length, min, slice_get};
 ghost use Rattle.wax_program.specs.declared.instruction.Instruction.TheVariants.{Components, Fork};
-ghost use Rattle.wax_program.specs.inner.Names.{IsCutBetween, IsLastName, StayInName, StaysInName};
-ghost use Rattle.wax_program.specs.Last.{ReadsLast};
+ghost use Rattle.wax_program.specs.inner.Names.{StayInName, StaysInName};
+ghost use Rattle.wax_program.specs.Last.{IsCutBetween, IsLastName, ReadsLast};
 ghost use Rattle.wax_program.specs.Machine.{Accepts};
 ghost use Rattle.wax_program.specs.Meter.{most_ticks};
 
@@ -28,7 +28,8 @@ pub fn run_known(
         (λ b. IsTrue b → min (meter.old + length (chars text.now)) most_ticks ≤ meter.new) }
     ensures steady { meter.old ≤ meter.new }
 {
-    if reads_last && program.size() >= 2 && program.len() >= 4 {
+    // A name of one instruction is read in no less time than `run` takes, which ends early.
+    if reads_last && program.size() > 3 && program.len() > 3 {
         return run_name(alloc, program, text, meter);
     }
     run(alloc, program, text, meter)
@@ -55,8 +56,8 @@ fn run_name(
     run_at(alloc, program, 2, name, meter)
 }
 
-/// What follows the last `/` of the text, or all of it.
-fn last_name(text: &str) -> &str
+/// What follows the last `/` of the text, or all of it. It takes no memory.
+pub fn last_name(text: &str) -> &str
     ensures name { IsLastName (chars text.now) (chars result.now) }
     ensures cut { IsCutBetween text.now result.now }
 {

@@ -1,17 +1,10 @@
-use Rattle.std.proofs.Common.{◌≡◌, false, chars, sym, ap, subst}
+use Rattle.std.proofs.Common.{◌≡◌, false, chars, sym, ap, subst, rules}
 use Rattle.wax_token.specs.Meaning.{Means}
+use Rattle.wax.proofs.Whole.{means_name}
 use Rattle.wax.proofs.glob.Glob.may_match.Goals as goal
 
-pub returns-then-self : goal.returns-then-self
-returns-then-self c = λ meant.
-    let text = chars c.args.text.now in
-    let tree : c.self.inside.tokenized.token ≡ c.args.self.now.tree = ap (λ g. g.tree) c.self.view_is in
-    let same : Means c.self.inside.tokenized.token false false text = subst (λ t. Means t false false text) (sym tree) meant in
-    c.may_match_at_once.ensures (c.self.invariant.passes text same)
+pub returns-then-not-self : goal.returns-then-not-self
+returns-then-not-self c = ?
 
 pub returns : goal.returns
-returns c = λ meant.
-    let text = chars c.args.text.now in
-    let tree : c.self.inside.tokenized.token ≡ c.args.self.now.tree = ap (λ g. g.tree) c.self.view_is in
-    let same : Means c.self.inside.tokenized.token false false text = subst (λ t. Means t false false text) (sym tree) meant in
-    c.may_match.ensures (c.self.invariant.passes text same)
+returns c = ?
