@@ -1,5 +1,5 @@
 -- Columns are counted character by character.
-use Rattle.std.proofs.Common.{◌≡◌, ◌∙◌, ◌+◌, ◌-◌, ◌==◌, ◌∷◌, List, ℕ, [], ap, arith, refl, sym, true, false, zero, suc}
+use Rattle.std.proofs.Common.{◌≡◌, ◌∙◌, ◌+◌, ◌-◌, ◌==◌, ◌∷◌, List, ℕ, [], ap, arith, refl, false}
 use Rattle.std.specs.Char.{len_utf8}
 use Rattle.wax_picture.specs.Drawn.{columns_before}
 

@@ -1,6 +1,5 @@
 -- What a walk keeps of which a closure leaves something out that depends on the entry alone.
-use Rattle.std.proofs.Common.{◌≡◌, ◌≤◌, ℕ, List, [], ◌∷◌, Option, filter, length, refl, subst}
-use Rattle.std.specs.Prelude.{Result, IfOk, map}
+use Rattle.std.proofs.Common.{◌≡◌, List, [], ◌∷◌, Option, filter, refl, subst}
 use denote.Ref.{Bor}
 use Rattle.wax_directory.specs.Law.{Law}
 use Rattle.wax_walk.specs.Collected.{GaveAll, Took}
@@ -8,7 +7,7 @@ use Rattle.wax_walk.specs.Entries.{facts_of}
 use Rattle.wax_walk.specs.Forest.{Pending, filtered_pending}
 use Rattle.wax_walk.specs.Given.{Facts, Given, Mark, changed_by, cut_by, is_kept}
 use Rattle.wax_walk.specs.Said.{mark_of}
-use Rattle.wax_walk.specs.Says.{Call, Runs, SaysByRule, closure_view}
+use Rattle.wax_walk.specs.Says.{SaysByRule, closure_view}
 use Rattle.wax_walk.specs.View.{IsSeenAs, WalkView}
 use Rattle.wax_walk.specs.declared.entry.TreeEntry.{TreeEntry}
 use Rattle.wax_walk.specs.declared.iterator.EntryResidue.{EntryResidue}

@@ -1,5 +1,5 @@
 -- What an expression means, by its only tree.
-use Rattle.std.proofs.Common.{◌≡◌, ◌↔◌, ℕ, false, List, subst}
+use Rattle.std.proofs.Common.{◌↔◌, ℕ, false, List, subst}
 use Rattle.std.specs.Prelude.{Result, Ok, Err, IfOk}
 use Rattle.wax.specs.Build.{IsGlob, MatchGlob}
 use Rattle.wax.specs.GlobView.{GlobView, IsMeant}

@@ -1,6 +1,6 @@
 -- Where neither `/` nor `**` is written, no token bounds components.
 use Rattle.std.proofs.Common.{◌≡◌, ◌==◌, ◌||◌, ◌∙◌, ℕ, Bool, true, false, List, [], ◌∷◌, ◌++◌, codes}
-use Rattle.std.proofs.Common.{ap, refl, rules, sym, subst}
+use Rattle.std.proofs.Common.{ap, refl, sym, subst}
 use Rattle.std.specs.List.{list_any}
 use Rattle.wax_token.specs.Kinds.{has_boundary, is_boundary_leaf, some_has_boundary}
 use Rattle.wax_token.specs.Meaning.{HasNoSlash}

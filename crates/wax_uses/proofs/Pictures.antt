@@ -1,13 +1,13 @@
 -- What `*.png` spells and means.
-use Rattle.std.proofs.Common.{◌≡◌, ◌↔◌, ◌∙◌, ℕ, Bool, true, false, List, [], ◌∷◌, ◌++◌, codes}
+use Rattle.std.proofs.Common.{◌≡◌, ◌↔◌, ◌∙◌, ℕ, false, List, [], ◌∷◌, ◌++◌, codes}
 use Rattle.std.proofs.Common.{ap, arith, refl, sym, subst}
 use Rattle.std.specs.Str.{chars}
 use Rattle.wax_token.specs.declared.token.Evaluation.TheVariants.{Eager}
-use Rattle.wax_token.specs.Meaning.{HasNoSlash, Means, SameText}
+use Rattle.wax_token.specs.Meaning.{Means, SameText}
 use Rattle.wax_token.specs.Reads.{Flags, NoWildcardFollows, Place, Reads, Span, no_flags, group, start}
 use Rattle.wax_token.specs.Reads.{starts_with_one_of}
 use Rattle.wax_token.specs.Syntax.{Tree, leaf, literal, zero_or_more, concatenation, none, more}
-use Rattle.wax_uses.specs.Names.{HasStem, IsPictureName}
+use Rattle.wax_uses.specs.Names.{IsPictureName}
 
 -- ---- the tree
 

@@ -1,6 +1,6 @@
 -- A bare text of one component is a single name.
-use Rattle.std.proofs.Common.{◌≡◌, ◌≢◌, ◌==◌, ◌≤◌, ℕ, false, List, [], ◌∷◌, ◌++◌, ap, arith, refl, rules, sym, subst}
-use Rattle.wax_query.specs.Components.{Bare, EndsWithSlash, component_total, first_slash, last_slash, slash}
+use Rattle.std.proofs.Common.{◌≡◌, ◌≢◌, ◌==◌, ◌≤◌, ℕ, false, List, [], ◌∷◌, ap, arith, refl, rules, subst}
+use Rattle.wax_query.specs.Components.{Bare, EndsWithSlash, component_total, last_slash, slash}
 use Rattle.wax_query.specs.Components.{slashes}
 use Rattle.wax_token.specs.Meaning.{HasNoSlash}
 

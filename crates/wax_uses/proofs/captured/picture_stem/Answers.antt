@@ -1,4 +1,4 @@
-use Rattle.std.proofs.Common.{chars, rules, sym, subst, ◌≡◌, string_bytes}
+use Rattle.std.proofs.Common.{chars, rules, sym, subst, ◌≡◌}
 use Rattle.std.specs.Prelude.{None, Some}
 use Rattle.wax.specs.GlobView.{HasCaptures, IsMeant}
 use Rattle.wax_uses.specs.Names.{HasStem}
