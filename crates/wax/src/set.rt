@@ -132,7 +132,8 @@ impl Program for Any<'_> {
     fn depth(&self) -> DepthVariance
         ensures depth { Depth self.now (bounds result) }
         ensures least { (s : List ℕ) → MeansText self.now s → Bare s → (bounds result).0 ≤ component_total s }
-        ensures greatest { (s : List ℕ) → MeansText self.now s → AtMost (component_total s) (bounds result).1 }
+        ensures greatest { (s : List ℕ) → MeansText self.now s
+            → AtMost (component_total s) (bounds result).1 }
     {
         depth(&self.token)
     }

@@ -1,9 +1,9 @@
 //! Times matches, captures and walks: `match EXPR..` matches each line of standard input, `captures EXPR..`
-//! tells what is captured of it, `new EXPR..` builds each glob many times, `walk FOLDER..` walks folders of the
-//! real system; `build` builds one glob of all of standard input but its line break, and asks for its depth.
-//! Prints a line for each expression, folder or build, with tabs between: nanoseconds and visits a line, and lines
-//! that match; or nanoseconds a glob, and how many were built; or entries, errors and milliseconds; or
-//! milliseconds.
+//! tells what is captured of it, `new EXPR..` builds each glob many times, `walk FOLDER..` walks folders of
+//! the real system; `build` builds one glob of all of standard input but its line break, and asks for its
+//! depth. Prints a line for each expression, folder or build, with tabs between: nanoseconds and visits a
+//! line, and lines that match; or nanoseconds a glob, and how many were built; or entries, errors and
+//! milliseconds; or milliseconds.
 #![tactic(auto)]
 
 use std::alloc::{AllocError, Global};

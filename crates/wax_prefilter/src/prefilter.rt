@@ -100,7 +100,8 @@ impl Prefilter {
         self.passes(text, true)
     }
 
-    /// The same, where to match takes less time than to look for a text in any case: no such text is looked for.
+    /// The same, where to match takes less time than to look for a text in any case: no such text is
+    /// looked for.
     pub fn may_match_at_once(&self, text: &str) -> bool
         ensures { PassesFacts self.now (chars text.now) → IsTrue result }
     {

@@ -12,8 +12,8 @@ use crate::matching::{run, run_at};
 use std::alloc::Global;
 use wax_query::diagnostics::NoMemory;
 
-/// Whether the program accepts the text, as [`run`] decides it. Where it is known that only the last component of
-/// a text matters, what stands before that is counted by its bytes and not followed.
+/// Whether the program accepts the text, as [`run`] decides it. Where it is known that only the last component
+/// of a text matters, what stands before that is counted by its bytes and not followed.
 pub fn run_known(
     alloc: Global,
     program: &Program,
@@ -67,8 +67,8 @@ pub fn last_name(text: &str) -> &str
     }
 }
 
-/// Whether it is known that only the last component of a text matters: the program begins with components, and
-/// takes no `/` after them. Each instruction is read at most once.
+/// Whether it is known that only the last component of a text matters: the program begins with components,
+/// and takes no `/` after them. Each instruction is read at most once.
 pub fn reads_last(program: &Program) -> bool
     ensures { IsTrue result → ReadsLast program.now.0 }
 {

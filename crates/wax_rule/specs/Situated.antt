@@ -80,7 +80,8 @@ abbrev mutual
   situated_levels left right (concatenation a ts) =
       (record { token = concatenation a ts; left = left; right = right } ∷ []) ∷ member_levels left right ts
   situated_levels left right (repetition a t low high) =
-      (record { token = repetition a t low high; left = left; right = right } ∷ []) ∷ situated_levels left right t
+      (record { token = repetition a t low high; left = left; right = right } ∷ [])
+      ∷ situated_levels left right t
 
   -- the branches of an alternation have its neighbours
   pub branch_levels : Option Side → Option Side → Trees Span → List (List Situated)

@@ -5,8 +5,8 @@ use wax::Counted;
 use wax::walk::{Node, Tree};
 use wax_commands::{FileFault, run_globs};
 
-/// The expression, and each line that is written of its glob: depth, text, root, exhaustiveness, prefix, rest,
-/// how many tokens capture, and warnings.
+/// The expression, and each line that is written of its glob: depth, text, root, exhaustiveness, prefix,
+/// rest, how many tokens capture, and warnings.
 pub fn query_row(alloc: Global, expression: &str) -> Result<String, AllocError> {
     let mut words = Vec::new(alloc);
     words.push(Some(String::from_str(alloc, "query")?))?;
