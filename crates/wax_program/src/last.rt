@@ -12,8 +12,8 @@ use crate::matching::{run, run_at};
 use std::alloc::Global;
 use wax_query::diagnostics::NoMemory;
 
-/// Whether the program accepts the text, as [`run`] decides it. Where it is known that only the last component
-/// of a text matters, what stands before that is counted by its bytes and not followed.
+/// Whether the program accepts the text, as [`run`] decides it. Where it is known that only the last
+/// component of a text matters, what stands before that is counted by its bytes and not followed.
 pub fn run_known(
     alloc: Global,
     program: &Program,
