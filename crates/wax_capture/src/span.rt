@@ -1,5 +1,6 @@
 //! Lengths of the parts of a text that a form takes from a place on, from which the best are picked.
-ghost use Rattle.std.specs.Prelude.{◌≡◌, ◌+◌, ◌-◌, ◌<◌, ◌≤◌, ◌↔◌, ℕ, IsTrue, IfSome, MatchOption, length, drop};
+ghost use Rattle.std.specs.Prelude.{◌≡◌, ◌+◌, ◌-◌, ◌<◌, ◌≤◌, ◌↔◌, ℕ, IsTrue, IfSome, MatchOption, length};
+ghost use Rattle.std.specs.Prelude.{drop};
 ghost use Rattle.std.specs.Prelude.{true, false};
 ghost use Rattle.wax_program.specs.Threads.{HoldsPlace};
 ghost use Rattle.wax_capture.specs.inner.Spans.{InSpan, IsMarked, IsNarrowed, IsPicked, looks, looks_of};

@@ -1,7 +1,8 @@
 //! The candidates of a walk, as lines.
 ghost use Rattle.std.specs.Prelude.{◌≡◌, ◌∷◌, ◌++◌, [], IfOk, IfErr, OnOk, OnErr, false, map};
 ghost use Rattle.std.specs.Iterator.{IsFinite};
-ghost use Rattle.wax_commands.specs.inner.Candidates.{MovesBytes, WroteAll, WroteFirst, WroteSome, WroteWanted};
+ghost use Rattle.wax_commands.specs.inner.Candidates.{MovesBytes, WroteAll, WroteFirst, WroteSome};
+ghost use Rattle.wax_commands.specs.inner.Candidates.{WroteWanted};
 ghost use Rattle.wax_commands.specs.Candidates.{candidate_line, is_error};
 ghost use Rattle.wax_lines.specs.Written.{WritesPart};
 ghost use Rattle.wax_walk.specs.Entries.{given_of};

@@ -1,5 +1,6 @@
 -- A picture of an expression, with marks under the places that are told.
-use Rattle.std.specs.Prelude.{ℕ, ◌+◌, ◌-◌, ◌^◌, ◌==◌, ◌||◌, max, min, if◌then◌else◌, List, [], ◌∷◌, ◌++◌, codes, map}
+use Rattle.std.specs.Prelude.{ℕ, ◌+◌, ◌-◌, ◌^◌, ◌==◌, ◌||◌, max, min, if◌then◌else◌, List, [], ◌∷◌, ◌++◌}
+use Rattle.std.specs.Prelude.{codes, map}
 use Rattle.std.specs.Prelude.{◌&&◌, encode_utf8_all, nat_le, nat_lt, replicate}
 use Rattle.std.specs.Char.{len_utf8}
 use Rattle.wax_query.specs.Labels.{Label}

@@ -2,7 +2,8 @@
 use Rattle.std.specs.Prelude.{◌≡◌, ◌≤◌, ℕ, Bool, false, List, length}
 use Rattle.wax_token.specs.Meaning.{MeansEach}
 use Rattle.wax_token.specs.Syntax.{Trees}
-use Rattle.wax_prefilter.specs.Facts.{NeedleView, FactView, PrefilterView, StandsAt, HoldsOne, HoldsEach, PassesFacts}
+use Rattle.wax_prefilter.specs.Facts.{NeedleView, FactView, PrefilterView, StandsAt, HoldsOne, HoldsEach}
+use Rattle.wax_prefilter.specs.Facts.{PassesFacts}
 use Rattle.wax_prefilter.specs.declared.needle.Place.{Place}
 use Rattle.wax_prefilter.specs.declared.needle.Place.TheVariants.{Beginning, End, Anywhere}
 

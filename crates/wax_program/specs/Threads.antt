@@ -1,7 +1,9 @@
 -- Sets of places in a program, as flags.
-use Rattle.std.specs.Prelude.{◌≡◌, ℕ, ◌+◌, ◌-◌, ◌<◌, ◌≤◌, ◌*◌, Bool, true, false, ◌⊎◌, List, [], ◌∷◌, length, Some, slice_get, slice_index_or}
+use Rattle.std.specs.Prelude.{◌≡◌, ℕ, ◌+◌, ◌-◌, ◌<◌, ◌≤◌, ◌*◌, Bool, true, false, ◌⊎◌, List, [], ◌∷◌, length}
+use Rattle.std.specs.Prelude.{Some, slice_get, slice_index_or}
 use Rattle.wax_program.specs.declared.instruction.Instruction.{Instruction}
-use Rattle.wax_program.specs.declared.instruction.Instruction.TheVariants.{Check, Repeat, Components, Fork, Jump, Back}
+use Rattle.wax_program.specs.declared.instruction.Instruction.TheVariants.{Check, Repeat, Components, Fork}
+use Rattle.wax_program.specs.declared.instruction.Instruction.TheVariants.{Jump, Back}
 use Rattle.wax_program.specs.Machine.{PassesTest, Accepts}
 
 -- the place is in the set

@@ -1,5 +1,6 @@
 //! Programs to which only the last component of a text matters, as to that of `**/*.rs`.
-ghost use Rattle.std.specs.Prelude.{◌≡◌, ◌+◌, ◌*◌, ◌≤◌, ◌↔◌, IsTrue, IfOk, Some, chars, length, min, slice_get};
+ghost use Rattle.std.specs.Prelude.{◌≡◌, ◌+◌, ◌*◌, ◌≤◌, ◌↔◌, IsTrue, IfOk, Some, chars, length, min};
+ghost use Rattle.std.specs.Prelude.{slice_get};
 ghost use Rattle.wax_program.specs.declared.instruction.Instruction.TheVariants.{Components, Fork};
 ghost use Rattle.wax_program.specs.inner.Names.{StayInName, StaysInName};
 ghost use Rattle.wax_program.specs.Last.{IsCutBetween, IsLastName, ReadsLast};

@@ -2,7 +2,8 @@
 ghost use Rattle.std.specs.Prelude.{◌≡◌, ◌+◌, ◌≤◌, ◌<◌, ◌^◌, ◌↔◌, ℕ, IfSome, IsTrue, MatchOption};
 ghost use Rattle.std.specs.Bool.{MatchBool};
 ghost use Rattle.wax_program.specs.inner.Bits.{places_of};
-ghost use Rattle.wax_program.specs.Threads.{HoldsPlace, Inserted, InsertedNext, IsDone, IsEmpty, Position, Taken, member_count};
+ghost use Rattle.wax_program.specs.Threads.{HoldsPlace, Inserted, InsertedNext, IsDone, IsEmpty, Position};
+ghost use Rattle.wax_program.specs.Threads.{Taken, member_count};
 
 /// Three sets of places: those that are still to be read at a position of the text, those that were
 /// read there, and those of the next position. The place after the last instruction, where the program

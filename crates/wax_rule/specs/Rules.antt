@@ -1,5 +1,6 @@
 -- The breaks of the rules, in order.
-use Rattle.std.specs.Prelude.{ℕ, Bool, true, false, ◌&&◌, ◌||◌, not, nat_lt, ◌==◌, List, [], ◌∷◌, ◌++◌, if◌then◌else◌, Option, Some, None, codes}
+use Rattle.std.specs.Prelude.{ℕ, Bool, true, false, ◌&&◌, ◌||◌, not, nat_lt, ◌==◌, List, [], ◌∷◌, ◌++◌}
+use Rattle.std.specs.Prelude.{if◌then◌else◌, Option, Some, None, codes}
 use Rattle.std.specs.List.{flat_map}
 use Rattle.std.specs.Option.{is_none}
 use Rattle.wax_query.specs.Spans.{span_union}
@@ -7,7 +8,10 @@ use Rattle.wax_query.specs.declared.diagnostics.located.CorrelatedSpan.{Correlat
 use Rattle.wax_query.specs.declared.diagnostics.located.CorrelatedSpan.TheVariants.{Contiguous, Split}
 use Rattle.wax_rule.specs.declared.rule.Break.{Break}
 use Rattle.wax_rule.specs.declared.rule.RuleErrorKind.{RuleErrorKind}
-use Rattle.wax_rule.specs.declared.rule.RuleErrorKind.TheVariants.{AdjacentBoundary, IncompatibleBounds, SingularTree, AdjacentZeroOrMore, RootedSubGlob, SingularZeroOrMore, OversizedInvariant}
+use Rattle.wax_rule.specs.declared.rule.RuleErrorKind.TheVariants.{AdjacentBoundary, IncompatibleBounds}
+use Rattle.wax_rule.specs.declared.rule.RuleErrorKind.TheVariants.{SingularTree, AdjacentZeroOrMore}
+use Rattle.wax_rule.specs.declared.rule.RuleErrorKind.TheVariants.{RootedSubGlob, SingularZeroOrMore}
+use Rattle.wax_rule.specs.declared.rule.RuleErrorKind.TheVariants.{OversizedInvariant}
 use Rattle.wax_rule.specs.declared.rule.branch.Row.{Row}
 use Rattle.wax_rule.specs.declared.rule.branch.Terminal.{Terminal}
 use Rattle.wax_rule.specs.declared.rule.branch.Sort.{Sort}
@@ -15,7 +19,8 @@ use Rattle.wax_rule.specs.declared.rule.branch.Sort.TheVariants as sort
 use Rattle.wax_rule.specs.declared.rule.situated.Side.{Side}
 use Rattle.wax_rule.specs.Sizes.{is_oversized}
 use Rattle.wax_rule.specs.Situated.{Situated, breadth_first}
-use Rattle.wax_token.specs.Kinds.{is_such, is_separator_leaf, is_zero_or_more_leaf, is_tree_leaf, is_boundary_leaf, is_rooting_leaf}
+use Rattle.wax_token.specs.Kinds.{is_such, is_separator_leaf, is_zero_or_more_leaf, is_tree_leaf}
+use Rattle.wax_token.specs.Kinds.{is_boundary_leaf, is_rooting_leaf}
 use Rattle.wax_token.specs.Reads.{Span}
 use Rattle.wax_token.specs.Syntax.{Tree, leaf, alternation, concatenation, repetition, Trees, none, more}
 use Rattle.wax_token.specs.Words.{annotation_of, members}

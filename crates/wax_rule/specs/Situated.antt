@@ -5,7 +5,8 @@ use Rattle.wax_alternatives.specs.Alternatives.{beside}
 use Rattle.wax_rule.specs.declared.rule.situated.Side.{Side}
 use Rattle.wax_token.specs.Kinds.{is_zero_or_more_leaf, is_boundary_leaf}
 use Rattle.wax_token.specs.Reads.{Span}
-use Rattle.wax_token.specs.Syntax.{Leaf, Tree, leaf, alternation, concatenation, repetition, Trees, none, more}
+use Rattle.wax_token.specs.Syntax.{Leaf, Tree, leaf, alternation, concatenation, repetition, Trees, none}
+use Rattle.wax_token.specs.Syntax.{more}
 use Rattle.wax_token.specs.Words.{annotation_of}
 
 -- such a leaf is reached through first tokens of concatenations, bodies of repetitions and all branches of

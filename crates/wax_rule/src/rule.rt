@@ -1,12 +1,14 @@
 //! The rules that tell expressions apart whose meaning would surprise.
-ghost use Rattle.std.specs.Prelude.{◌≡◌, ◌∷◌, ◌++◌, ◌<◌, [], ℕ, Bool, IfOk, None, chars, codes, encode_utf8_all, length, map, slice_get};
+ghost use Rattle.std.specs.Prelude.{◌≡◌, ◌∷◌, ◌++◌, ◌<◌, [], ℕ, Bool, IfOk, None, chars, codes};
+ghost use Rattle.std.specs.Prelude.{encode_utf8_all, length, map, slice_get};
 ghost use Rattle.std.specs.Cow.{cow_str_bytes};
 ghost use Rattle.std.specs.List.{flat_map, range_with_len};
 ghost use Rattle.itertools.specs.Consumer.{find_at};
 ghost use Rattle.wax_query.specs.Outcome.{MatchBuild};
 ghost use Rattle.wax_rule.specs.Situated.{breadth_first};
 ghost use Rattle.wax_rule.specs.Rules.{broken, break_here, breaks_among, size_breaks};
-ghost use Rattle.wax_rule.specs.FirstBreak.{TellsFirst, head_of, breaks_of, breaks_beside, oversized, first_in, is_broken_at};
+ghost use Rattle.wax_rule.specs.FirstBreak.{TellsFirst, head_of, breaks_of, breaks_beside, oversized};
+ghost use Rattle.wax_rule.specs.FirstBreak.{first_in, is_broken_at};
 
 mod boundary;
 mod bounds;

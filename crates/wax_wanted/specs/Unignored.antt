@@ -1,5 +1,6 @@
 -- The law of plain walks that a list of lines filters.
-use Rattle.std.specs.Prelude.{◌≡◌, ℕ, Bool, false, ◌&&◌, not, ◌⊎◌, List, [], ◌∷◌, ◌++◌, All, chars, filter, map}
+use Rattle.std.specs.Prelude.{◌≡◌, ℕ, Bool, false, ◌&&◌, not, ◌⊎◌, List, [], ◌∷◌, ◌++◌, All, chars, filter}
+use Rattle.std.specs.Prelude.{map}
 use Rattle.std.specs.List.{Contains}
 use Rattle.wax_directory.specs.Shown.{Shown}
 use Rattle.wax_token.specs.Reads.{Span}

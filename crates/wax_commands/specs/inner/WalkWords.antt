@@ -1,5 +1,6 @@
 -- What is read of the words of a walk. Only private functions cite this file.
-use Rattle.std.specs.Prelude.{◌≡◌, ◌≤◌, ◌+◌, ◌⊎◌, ⊤, ℕ, Bool, true, false, List, [], ◌∷◌, ◌++◌, length, Option, Some, None}
+use Rattle.std.specs.Prelude.{◌≡◌, ◌≤◌, ◌+◌, ◌⊎◌, ⊤, ℕ, Bool, true, false, List, [], ◌∷◌, ◌++◌, length}
+use Rattle.std.specs.Prelude.{Option, Some, None}
 use Rattle.std.specs.Prelude.{String, string_bytes}
 use Rattle.wax_tree.specs.Depths.{greatest, least}
 use Rattle.wax_commands.specs.Commands.{WalkOption, WalkRequest, SayEach, count_lists, greatest_in}

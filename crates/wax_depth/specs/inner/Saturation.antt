@@ -5,7 +5,8 @@ use Rattle.wax_depth.specs.Depth.{usize_max}
 use Rattle.wax_depth.specs.declared.profile.Profile.{Profile}
 use Rattle.wax_depth.specs.declared.profiles.Profiles.{Profiles}
 use Rattle.wax_depth.specs.inner.Intervals.{Interval, hull, or_zero, saturated_interval}
-use Rattle.wax_depth.specs.inner.Profiles.{interval_at, concatenated, empty_text, only, power_range, profile, union}
+use Rattle.wax_depth.specs.inner.Profiles.{interval_at, concatenated, empty_text, only, power_range, profile}
+use Rattle.wax_depth.specs.inner.Profiles.{union}
 use Rattle.wax_depth.specs.inner.TreeProfiles.{admits, admits_two, less_two}
 
 abbrev pub u128_max : ℕ

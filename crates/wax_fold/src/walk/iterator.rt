@@ -8,7 +8,8 @@ ghost use Rattle.wax_fold.specs.Branches.{branch_of};
 ghost use Rattle.wax_fold.specs.Sequences.{forward_chosen, starting_chosen, ending_chosen};
 ghost use Rattle.wax_fold.specs.Subtrees.{subtrees};
 ghost use Rattle.wax_fold.specs.inner.WalkSteps.{StepsToEnd, GivesEntry, TakesFirst, gone_below};
-ghost use Rattle.wax_fold.specs.Walking.{Nexts, walk_begun, below, cancelled, walk_entry, items_left, to_come, walking};
+ghost use Rattle.wax_fold.specs.Walking.{Nexts, walk_begun, below, cancelled, walk_entry, items_left};
+ghost use Rattle.wax_fold.specs.Walking.{to_come, walking};
 
 use crate::walk::entry::{Depth, Position, TokenEntry, WalkEntry};
 use crate::walk::sequence::{ChildToken, Parent, Sequencer};

@@ -2,7 +2,8 @@
 ghost use Rattle.std.specs.Prelude.{◌≡◌, ◌+◌, ◌-◌, ◌*◌, ◌^◌, ℕ, length, min};
 ghost use Rattle.std.specs.Str.{chars};
 ghost use Rattle.wax_match.specs.inner.Limits.{longest};
-ghost use Rattle.wax_token.specs.Cost.{branches_cost, copies_of, cost, costs, holds_tree, is_tree, leaf_cost, some_holds_tree};
+ghost use Rattle.wax_token.specs.Cost.{branches_cost, copies_of, cost, costs, holds_tree, is_tree, leaf_cost};
+ghost use Rattle.wax_token.specs.Cost.{some_holds_tree};
 ghost use Rattle.wax_token.specs.View.{leaf_of};
 ghost use Rattle.wax_token.specs.Words.{trees};
 

@@ -1,7 +1,9 @@
 //! How the instructions of tokens are written, from the last one to the first.
 ghost use Rattle.std.specs.Prelude.{◌≡◌, ◌<◌, ◌++◌, OnOk, List, Some, length};
 ghost use Rattle.wax_program.specs.declared.instruction.Instruction.{Instruction};
-ghost use Rattle.wax_match.specs.inner.Code.{branches_code, choose, copied_code, copies_code, counted_code, loop, many_code, repeated_code, sequence_code, instructions_of, up_to_code};
+ghost use Rattle.wax_match.specs.inner.Code.{branches_code, choose, copied_code, copies_code, counted_code};
+ghost use Rattle.wax_match.specs.inner.Code.{loop, many_code, repeated_code, sequence_code, instructions_of};
+ghost use Rattle.wax_match.specs.inner.Code.{up_to_code};
 ghost use Rattle.wax_token.specs.Words.{trees};
 
 use crate::encode::cost::weigh;

@@ -1,6 +1,7 @@
 //! How the instructions of leaves are written, from the last one to the first.
 ghost use Rattle.std.specs.Prelude.{◌≡◌, ◌++◌, ◌∷◌, ℕ, List, [], OnOk, IfOk, chars};
-ghost use Rattle.wax_match.specs.inner.Code.{leaf_instructions, literal_code, skip, slash_code, wildcard_code};
+ghost use Rattle.wax_match.specs.inner.Code.{leaf_instructions, literal_code, skip, slash_code};
+ghost use Rattle.wax_match.specs.inner.Code.{wildcard_code};
 ghost use Rattle.wax_token.specs.View.{leaf_of};
 
 use crate::encode::tail::Tail;

@@ -1,6 +1,7 @@
 -- How the parser reads: what its private functions answer. No part of the language's definition.
 use Rattle.std.specs.Char.{is_ascii_digit}
-use Rattle.std.specs.Prelude.{chars, ltb, ◌+◌, ◌*◌, ◌-◌, ◌^◌, ℕ, zero, suc, Bool, true, false, List, [], ◌∷◌, ◌++◌, length, Option, Some, None, codes, ◌==◌, ◌≡◌, not, if◌then◌else◌}
+use Rattle.std.specs.Prelude.{chars, ltb, ◌+◌, ◌*◌, ◌-◌, ◌^◌, ℕ, zero, suc, Bool, true, false, List, [], ◌∷◌}
+use Rattle.std.specs.Prelude.{◌++◌, length, Option, Some, None, codes, ◌==◌, ◌≡◌, not, if◌then◌else◌}
 use Rattle.std.specs.List.{list_all}
 use Rattle.wax_token.specs.declared.token.Archetype.{Archetype}
 use Rattle.wax_token.specs.declared.token.Archetype.TheVariants.{Character, Range}
@@ -10,7 +11,8 @@ use Rattle.wax_token.specs.Syntax.{Leaf, literal, class, separator, one, zero_or
 use Rattle.wax_parse.specs.declared.parse.flags.Cursor.{Cursor}
 use Rattle.wax_parse.specs.declared.parse.surroundings.Around as code
 use Rattle.wax_parse.specs.declared.parse.surroundings.Around.TheVariants as around
-use Rattle.wax_token.specs.Reads.{Place, Around, whole, in_alternation, in_repetition, is_one_of, starts_with_one_of, escapable, class_escapable}
+use Rattle.wax_token.specs.Reads.{Place, Around, whole, in_alternation, in_repetition, is_one_of}
+use Rattle.wax_token.specs.Reads.{starts_with_one_of, escapable, class_escapable}
 
 abbrev pub strip : ℕ → List ℕ → Option (List ℕ)
 strip c [] = None

@@ -4,7 +4,8 @@ use Rattle.wax_query.specs.declared.diagnostics.Refusal.{Refusal}
 use Rattle.wax_query.specs.declared.diagnostics.Refusal.TheVariants.{Refused, Memory}
 use Rattle.std.specs.Prelude.{chars, ◌≡◌, ◌≤◌, ◌<◌, length, Bool, true, false, ℕ, List, [], ◌∷◌, ◌++◌, codes}
 use Rattle.wax_token.specs.Syntax.{Tree, Trees, more}
-use Rattle.wax_token.specs.Reads.{Span, Place, utf8_len, Around, Past, IsEnd, nesting, deepest, ReadsToken, ReadsTokens, ReadsGlob, ReadsBranches}
+use Rattle.wax_token.specs.Reads.{Span, Place, utf8_len, Around, Past, IsEnd, nesting, deepest, ReadsToken}
+use Rattle.wax_token.specs.Reads.{ReadsTokens, ReadsGlob, ReadsBranches}
 use Rattle.wax_parse.specs.declared.parse.flags.Cursor.{Cursor}
 use Rattle.wax_parse.specs.declared.parse.surroundings.Scope.{Scope}
 use Rattle.wax_parse.specs.inner.Parser.{around_of, place}

@@ -1,6 +1,7 @@
 //! Bounds of repetitions.
 ghost use Rattle.std.specs.Prelude.{◌≡◌, ◌+◌, ◌*◌, ◌-◌, ◌<◌, ◌^◌, MatchOption, Some, None, chars};
-ghost use Rattle.wax_parse.specs.inner.Parser.{digit_step, next_number, number_run, read_bounds, read_numbers, read_upper};
+ghost use Rattle.wax_parse.specs.inner.Parser.{digit_step, next_number, number_run, read_bounds};
+ghost use Rattle.wax_parse.specs.inner.Parser.{read_numbers, read_upper};
 
 use crate::parse::text::{split_first, strip};
 

@@ -1,6 +1,7 @@
 //! Flag groups.
 ghost use Rattle.std.specs.Prelude.{◌≡◌, MatchOption, Some, None, chars};
-ghost use Rattle.wax_parse.specs.inner.Parser.{place, around_of, toggle_step, group_end, group_step, flags_end, after_stars, after_tree};
+ghost use Rattle.wax_parse.specs.inner.Parser.{place, around_of, toggle_step, group_end, group_step};
+ghost use Rattle.wax_parse.specs.inner.Parser.{flags_end, after_stars, after_tree};
 
 use crate::parse::surroundings::Around;
 use crate::parse::text::strip;

@@ -4,7 +4,8 @@ ghost use Rattle.wax_query.specs.Outcome.{MatchBuild};
 ghost use Rattle.wax_token.specs.Reads.{in_alternation, in_repetition, utf8_len};
 ghost use Rattle.wax_token.specs.Words.{trees};
 ghost use Rattle.wax_parse.specs.Accepted.{IsPlace, first_len};
-ghost use Rattle.wax_parse.specs.inner.Reading.{Beyond, BranchesAt, GlobAt, IsRefusal, Sole, IsTaken, TokenAt, Unreadable, IsWithinScope};
+ghost use Rattle.wax_parse.specs.inner.Reading.{Beyond, BranchesAt, GlobAt, IsRefusal, Sole, IsTaken};
+ghost use Rattle.wax_parse.specs.inner.Reading.{TokenAt, Unreadable, IsWithinScope};
 ghost use Rattle.wax_parse.specs.inner.Parser.{around_of, flags_end, place, at};
 
 use super::ParseError;

@@ -2,7 +2,8 @@
 ghost use Rattle.std.specs.Prelude.{◌≡◌, IfOk, MatchOption, Some, None, chars, codes};
 ghost use Rattle.wax_token.specs.Reads.{starts_with_one_of};
 ghost use Rattle.wax_token.specs.View.{leaf_of};
-ghost use Rattle.wax_parse.specs.inner.Parser.{place, around_of, flags_end, after_tree, boundary_leaf, zero_or_more_leaf, inner_leaf, read_leaf, at};
+ghost use Rattle.wax_parse.specs.inner.Parser.{place, around_of, flags_end, after_tree, boundary_leaf};
+ghost use Rattle.wax_parse.specs.inner.Parser.{zero_or_more_leaf, inner_leaf, read_leaf, at};
 
 use crate::parse::class::read_class;
 use crate::parse::flags::{Cursor, after_tree, read_flags};

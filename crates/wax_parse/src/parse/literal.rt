@@ -1,5 +1,6 @@
 //! Literals.
-ghost use Rattle.std.specs.Prelude.{◌≡◌, ◌++◌, List, ℕ, IfOk, MatchOption, Some, None, chars, string_bytes, true};
+ghost use Rattle.std.specs.Prelude.{◌≡◌, ◌++◌, List, ℕ, IfOk, MatchOption, Some, None, chars, string_bytes};
+ghost use Rattle.std.specs.Prelude.{true};
 ghost use Rattle.std.specs.Cow.{cow_str_bytes};
 ghost use Rattle.wax_token.specs.View.{leaf_of};
 ghost use Rattle.wax_parse.specs.inner.Parser.{literal_run, literal_leaf, is_plain_text, StopsPlain};

@@ -1,7 +1,8 @@
 -- Instructions that read one component.
 use Rattle.std.specs.Prelude.{◌≡◌, ◌+◌, ◌≤◌, ℕ, List, Some, slice_get}
 use Rattle.wax_program.specs.declared.instruction.Instruction.{Instruction}
-use Rattle.wax_program.specs.declared.instruction.Instruction.TheVariants.{Check, Repeat, Components, Fork, Jump, Back}
+use Rattle.wax_program.specs.declared.instruction.Instruction.TheVariants.{Check, Repeat, Components, Fork}
+use Rattle.wax_program.specs.declared.instruction.Instruction.TheVariants.{Jump, Back}
 use Rattle.wax_program.specs.Machine.{PassesTest}
 
 -- the instruction at k takes no `/`, and leads to no place before 2 from any after it

@@ -2,7 +2,10 @@
 ghost use Rattle.std.specs.Prelude.{◌≡◌};
 ghost use Rattle.std.specs.Option.{option_or};
 ghost use Rattle.wax_token.specs.Words.{trees};
-ghost use Rattle.wax_rule.specs.Rules.{terminal_of, side_has_boundary, has_zero_or_more, split_from, shared_rows, alternation_rows, repetition_rows, own_rows, first_that_holds, rows_of, sub_glob_breaks, alternative_breaks, branch_breaks, label_of};
+ghost use Rattle.wax_rule.specs.Rules.{terminal_of, side_has_boundary, has_zero_or_more, split_from};
+ghost use Rattle.wax_rule.specs.Rules.{shared_rows, alternation_rows, repetition_rows, own_rows};
+ghost use Rattle.wax_rule.specs.Rules.{first_that_holds, rows_of, sub_glob_breaks, alternative_breaks};
+ghost use Rattle.wax_rule.specs.Rules.{branch_breaks, label_of};
 ghost use Rattle.wax_rule.specs.FirstBreak.{head_of};
 
 use super::situated::{Side, Situated};

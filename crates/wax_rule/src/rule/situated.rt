@@ -1,9 +1,11 @@
 //! The tokens of a glob in a row, breadth first, each with what stands beside it.
-ghost use Rattle.std.specs.Prelude.{◌≡◌, ◌++◌, ◌∷◌, [], Bool, IfOk, OnOk, Option, Some, None, drop, ◌<◌, ◌≤◌, length};
+ghost use Rattle.std.specs.Prelude.{◌≡◌, ◌++◌, ◌∷◌, [], Bool, IfOk, OnOk, Option, Some, None, drop, ◌<◌, ◌≤◌};
+ghost use Rattle.std.specs.Prelude.{length};
 ghost use Rattle.std.specs.List.{flat_map};
 ghost use Rattle.wax_token.specs.View.{leaf_of};
 ghost use Rattle.wax_token.specs.Words.{trees, annotation_of};
-ghost use Rattle.wax_rule.specs.Situated.{starts_with_leaf, some_starts_in, ends_in, some_ends_in, end_side, start_side, right_of, breadth_first};
+ghost use Rattle.wax_rule.specs.Situated.{starts_with_leaf, some_starts_in, ends_in, some_ends_in, end_side};
+ghost use Rattle.wax_rule.specs.Situated.{start_side, right_of, breadth_first};
 ghost use Rattle.wax_token.specs.Kinds.{is_boundary_leaf, is_zero_or_more_leaf};
 ghost use Rattle.wax_rule.specs.inner.Queue.{branches, siblings, children, queue_children};
 

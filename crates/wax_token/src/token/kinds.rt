@@ -3,7 +3,8 @@ ghost use Rattle.std.specs.Prelude.{◌≡◌, ◌↔◌, IsSome, IsTrue, Some, 
 ghost use Rattle.std.specs.Prelude.{option_copied, option_map};
 ghost use Rattle.wax_token.specs.Kinds.{alternation_of, class_of, concatenation_of, literal_of};
 ghost use Rattle.wax_token.specs.Kinds.{is_alternation, is_branch, is_capturing, is_concatenation};
-ghost use Rattle.wax_token.specs.Kinds.{is_literal, is_separator, is_tree_wildcard, repetition_of, wildcard_of};
+ghost use Rattle.wax_token.specs.Kinds.{is_literal, is_separator, is_tree_wildcard, repetition_of};
+ghost use Rattle.wax_token.specs.Kinds.{wildcard_of};
 ghost use Rattle.wax_token.specs.Words.{is_leaf_tree, trees};
 
 use super::{
