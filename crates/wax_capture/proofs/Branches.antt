@@ -7,9 +7,10 @@ use Rattle.wax_token.specs.Meaning.{Means}
 use Rattle.wax_token.specs.Syntax.{Tree}
 use Rattle.wax_token.specs.Words.{trees}
 use Rattle.wax_capture.specs.Captures.{MeansBranch}
-use Rattle.wax_capture.specs.Pieces.{TakenBy, WayIn, form_size, size_of}
-use Rattle.wax_capture.specs.declared.form.Form.{Form}
-use Rattle.wax_capture.proofs.Lists.{slice_left, slice_seam, some_same}
+use Rattle.wax_capture.specs.Pieces.{WayIn, size_of}
+use Rattle.wax_lengths.specs.Forms.{TakenBy, form_size}
+use Rattle.wax_lengths.specs.declared.form.Form.{Form}
+use Rattle.wax_lengths.proofs.Lists.{slice_left, slice_seam, some_same}
 
 -- ---- one token of a row
 pub record Stands {A : Type 0} (ts : List (Tree A)) (i : ℕ) : Type 0 where

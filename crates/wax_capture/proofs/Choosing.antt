@@ -3,15 +3,16 @@ use Rattle.std.proofs.Common.{◌≡◌, ℕ, ◌+◌, ◌<◌, ◌≤◌, Bool,
 use Rattle.std.proofs.lemmas.Bool.{cases_lt}
 use Rattle.std.proofs.lemmas.List.{drop-drop}
 use Rattle.std.proofs.lemmas.Option.{slice_get_within}
-use Rattle.wax_capture.specs.Captures.{Prefers}
-use Rattle.wax_capture.specs.Pieces.{TakenBy, forms_of}
+use Rattle.wax_lengths.specs.Prefers.{Prefers}
+use Rattle.wax_capture.specs.Pieces.{forms_of}
+use Rattle.wax_lengths.specs.Forms.{TakenBy}
 use Rattle.wax_capture.specs.inner.Rows.{FitsIn, IsFilled, Row}
-use Rattle.wax_capture.specs.inner.Spans.{HasLengths, InSpan, IsNarrowed, IsPicked}
+use Rattle.wax_lengths.specs.Spans.{HasLengths, InSpan, IsNarrowed, IsPicked}
 use Rattle.wax_capture.specs.inner.Splits.{FitsBy, IsChosenBy, Splits}
-use Rattle.wax_capture.specs.declared.form.Form.{Form}
+use Rattle.wax_lengths.specs.declared.form.Form.{Form}
 use Rattle.wax_capture.specs.declared.piece.Piece.{Piece}
-use Rattle.wax_capture.specs.declared.span.Span.{Span}
-use Rattle.wax_capture.proofs.Lists.{some_same}
+use Rattle.wax_lengths.specs.declared.span.Span.{Span}
+use Rattle.wax_lengths.proofs.Lists.{some_same}
 use Rattle.wax_capture.proofs.Rows.{cell_filled}
 
 pub prefers_same : (lazy : Bool) (n : ℕ) → Prefers lazy n n

@@ -1,8 +1,9 @@
 -- How much pieces come to, and how often characters are looked at.
 use Rattle.std.proofs.Common.{◌≡◌, ℕ, zero, suc, ◌+◌, ◌*◌, ◌<◌, ◌≤◌, List, [], ◌∷◌, length, get_or, take, drop, drop-cons, sym, ◌∙◌, ap, subst, arith}
 use Rattle.std.proofs.Math.Nat.{add-mul, mul-add, mul_assoc, mul-one, mul-le-mul_left, mul-le-mul_right}
-use Rattle.wax_capture.specs.Pieces.{form_size, forms_of, size_of}
-use Rattle.wax_capture.specs.declared.form.Form.{Form}
+use Rattle.wax_capture.specs.Pieces.{forms_of, size_of}
+use Rattle.wax_lengths.specs.Forms.{form_size}
+use Rattle.wax_lengths.specs.declared.form.Form.{Form}
 use Rattle.wax_capture.specs.inner.Splits.{all_sizes}
 use Rattle.wax_capture.specs.declared.piece.Piece.{Piece}
 

@@ -3,11 +3,8 @@ pub mod Built
 pub mod ByteParts
 pub mod Choosing
 pub mod Counting
-pub mod FormLengths
-pub mod Lists
 pub mod NothingCaptured
 pub mod Parts
-pub mod Picking
 pub mod Rows
 pub mod Taking
 pub mod Tied

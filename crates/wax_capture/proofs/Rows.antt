@@ -10,7 +10,7 @@ use Rattle.std.proofs.lemmas.Option.{slice_get_within}
 use Rattle.wax_capture.specs.inner.Rows.{ArePieceRows, IsCell, IsFilled, Row, TakesPiece}
 use Rattle.wax_capture.specs.inner.Splits.{Splits}
 use Rattle.wax_capture.specs.declared.piece.Piece.{Piece}
-use Rattle.wax_capture.proofs.Lists.{slice_left, slice_seam, some_same}
+use Rattle.wax_lengths.proofs.Lists.{slice_left, slice_seam, some_same}
 
 -- ---- one cell
 pub takes_splits : (ps : List Piece) (s : List ℕ) (n : ℕ) → TakesPiece ps s n → Splits ps s

@@ -9,7 +9,7 @@ use Rattle.wax_capture.specs.inner.Parts.{parts}
 use Rattle.wax_capture.specs.inner.Rows.{ArePieceRows, IsCell, Row}
 use Rattle.wax_capture.specs.inner.Splits.{AreChosen, CapturedBy, IsChosenBy, Splits}
 use Rattle.wax_capture.specs.declared.piece.Piece.{Piece}
-use Rattle.wax_capture.proofs.Lists.{slice_read}
+use Rattle.wax_lengths.proofs.Lists.{slice_read}
 use Rattle.wax_capture.proofs.Rows.{takes_splits}
 
 -- ---- the table

@@ -4,7 +4,8 @@ use Rattle.std.proofs.lemmas.List.{take-append-drop, drop_all, take_all}
 use Rattle.std.proofs.Math.Seq.{take-append_seam, drop-append_seam}
 use Rattle.wax_token.specs.Meaning.{LeafMeans, Means, MeansSome, MeansEach}
 use Rattle.wax_token.specs.Syntax.{Leaf, literal, class, separator, one, zero_or_more, tree, Tree, leaf, alternation, concatenation, repetition, Trees, none, more}
-use Rattle.wax_capture.specs.Captures.{Captured, First, FitsPiece, IsChosen, LeafWay, MeansBranch, Prefers, MeansByWay, has_more}
+use Rattle.wax_capture.specs.Captures.{Captured, First, FitsPiece, IsChosen, LeafWay, MeansBranch, MeansByWay, has_more}
+use Rattle.wax_lengths.specs.Prefers.{Prefers}
 use Rattle.wax_capture.specs.Pieces.{ArePieces, IsPiece}
 use Rattle.wax_capture.specs.inner.Splits.{CapturedBy, FitsBy, IsChosenBy, Splits}
 use Rattle.std.specs.Global.{Vec}

@@ -13,9 +13,10 @@ use Rattle.wax_token.specs.Syntax.{literal, class, separator, one, zero_or_more,
 use Rattle.wax_token.specs.Words.{trees}
 use Rattle.wax_capture.specs.Captures.{First, LeafWay, MeansByWay, tree_capture}
 use Rattle.wax_capture.specs.inner.Ways.{IsTreeToken, is_single}
-use Rattle.wax_capture.specs.Pieces.{SpelledBy, TakenBy, WayIn}
-use Rattle.wax_capture.specs.declared.form.Form.{Form}
-use Rattle.wax_capture.proofs.Lists.{some_same}
+use Rattle.wax_capture.specs.Pieces.{WayIn}
+use Rattle.wax_lengths.specs.Forms.{SpelledBy, TakenBy}
+use Rattle.wax_lengths.specs.declared.form.Form.{Form}
+use Rattle.wax_lengths.proofs.Lists.{some_same}
 
 pub refused_more : {T U E : Type 0} (e : Refusal E) (P : T → Type 0) (Q : U → Type 0) (M N : Type 0) → (M → N) → MatchBuild {T = T} (Err e) P (λ _. M) → MatchBuild {T = U} (Err e) Q (λ _. N)
 refused_more (Refused e) P Q M N f h = f h

@@ -2,16 +2,17 @@
 use Rattle.std.proofs.Common.{◌≡◌, ℕ, zero, suc, ◌+◌, ◌<◌, ◌≤◌, List, [], ◌∷◌, ◌++◌, length, get_or, take, drop, drop-cons, Some, slice_get, refl, sym, ◌∙◌, ap, subst, inl, inr, arith, length-drop}
 use Rattle.std.proofs.lemmas.Bool.{cases_lt}
 use Rattle.std.proofs.lemmas.List.{drop-drop, drop_all, length_push}
-use Rattle.wax_capture.specs.Captures.{Prefers}
-use Rattle.wax_capture.specs.Pieces.{TakenBy, WayOf, forms_of}
-use Rattle.wax_capture.specs.inner.Spans.{HasLengths, InSpan, IsNarrowed, IsPicked, looks}
+use Rattle.wax_lengths.specs.Prefers.{Prefers}
+use Rattle.wax_capture.specs.Pieces.{WayOf, forms_of}
+use Rattle.wax_lengths.specs.Forms.{TakenBy}
+use Rattle.wax_lengths.specs.Spans.{HasLengths, InSpan, IsNarrowed, IsPicked, looks}
 use Rattle.wax_capture.specs.inner.Splits.{AreChosen, FitsBy, IsChosenBy, Splits}
 use Rattle.wax_capture.specs.inner.Trials.{HasRoom, HasTaken, IsOpen, Trail, lengths_of, characters_taken}
-use Rattle.wax_capture.specs.declared.form.Form.{Form}
+use Rattle.wax_lengths.specs.declared.form.Form.{Form}
 use Rattle.wax_capture.specs.declared.piece.Piece.{Piece}
 use Rattle.wax_capture.specs.declared.trial.Frame.{Frame}
 use Rattle.wax_capture.proofs.Choosing.{prefers_same}
-use Rattle.wax_capture.proofs.Lists.{some_same}
+use Rattle.wax_lengths.proofs.Lists.{some_same}
 use Rattle.wax_capture.proofs.Taking.{chosen_splits}
 
 module _ (p : Piece) (ps : List Piece) (s : List ℕ) where

@@ -1,7 +1,8 @@
 -- There is one chosen split.
 use Rattle.std.proofs.Common.{◌≡◌, ℕ, ◌++◌, Bool, true, false, List, take, drop, sym, ◌∙◌, ap, subst, arith}
 use Rattle.wax_token.specs.Syntax.{Tree, Trees, none, more}
-use Rattle.wax_capture.specs.Captures.{Captured, FitsPiece, IsChosen, Prefers, is_lazy, token_captures}
+use Rattle.wax_capture.specs.Captures.{Captured, FitsPiece, IsChosen, is_lazy, token_captures}
+use Rattle.wax_lengths.specs.Prefers.{Prefers}
 
 same_best : (lazy : Bool) (n m : ℕ) → Prefers lazy n m → Prefers lazy m n → n ≡ m
 same_best true n m h g = omega (arith, h, g)

@@ -80,11 +80,6 @@ is_lazy (alternation a ts) = false
 is_lazy (concatenation a ts) = false
 is_lazy (repetition a t low high) = false
 
--- n characters are as good as m, or better: of the lazy token no more, of another no fewer
-abbrev pub Prefers : Bool → ℕ → ℕ → Type 0
-Prefers true n m = n ≤ m
-Prefers false n m = m ≤ n
-
 abbrev pub has_more : {A : Type 0} → Trees A → Bool
 has_more none = false
 has_more (more t ts) = true

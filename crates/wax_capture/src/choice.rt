@@ -1,16 +1,14 @@
 //! Which part of a text a token takes, where it is known from which places on the further ones take the rest.
 ghost use Rattle.std.specs.Prelude.{◌≡◌, ◌+◌, ◌*◌, ◌≤◌, ◌∷◌, ℕ, List, IfOk, MatchOption, length, drop};
-ghost use Rattle.wax_capture.specs.Captures.{Prefers};
-ghost use Rattle.wax_capture.specs.Pieces.{form_size, forms_of, size_of};
+ghost use Rattle.wax_lengths.specs.Prefers.{Prefers};
+ghost use Rattle.wax_capture.specs.Pieces.{forms_of, size_of};
+ghost use Rattle.wax_lengths.specs.Forms.{form_size};
 ghost use Rattle.wax_capture.specs.inner.Rows.{FitsIn, IsCell, Row};
 ghost use Rattle.wax_capture.specs.declared.piece.Piece.{Piece};
 
-use crate::form::Form;
-use crate::lengths::lengths_of;
 use crate::piece::Piece;
-use crate::span::pick;
-use crate::visits::Visits;
 use std::alloc::{AllocError, Global};
+use wax_lengths::{Form, Visits, lengths_of, pick};
 
 /// The best of the lengths from `at` on that the form takes and after which the cell isn't empty.
 fn choose_by(

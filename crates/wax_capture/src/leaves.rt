@@ -4,12 +4,12 @@ ghost use Rattle.unicode.specs.CaseFolding.{simple_fold};
 ghost use Rattle.wax_token.specs.Cost.{cost, leaf_cost};
 ghost use Rattle.wax_token.specs.Meaning.{LeafMeans, Means, SameText};
 ghost use Rattle.wax_token.specs.View.{leaf_of, wildcard_leaf};
-ghost use Rattle.wax_capture.specs.Pieces.{TakenBy, form_size};
+ghost use Rattle.wax_lengths.specs.Forms.{TakenBy, form_size};
 
 use crate::bytes::characters;
-use crate::form::Form;
 use std::alloc::{AllocError, Global};
 use unicode::case::simple_fold;
+use wax_lengths::Form;
 use wax_program::instruction::Test;
 use wax_token::token::{BranchKind, Class, LeafKind, Literal, Token, Topology, Wildcard};
 

@@ -1,10 +1,11 @@
 //! How much pieces come to: how often a character is looked at by their forms, at most.
 ghost use Rattle.std.specs.Prelude.{◌≡◌, ◌≤◌};
-ghost use Rattle.wax_capture.specs.Pieces.{form_size, size_of};
+ghost use Rattle.wax_capture.specs.Pieces.{size_of};
+ghost use Rattle.wax_lengths.specs.Forms.{form_size};
 ghost use Rattle.wax_capture.specs.inner.Splits.{all_sizes};
 
-use crate::form::Form;
 use crate::piece::Piece;
+use wax_lengths::Form;
 
 /// Of one form.
 fn size_of_form(form: &Form) -> usize

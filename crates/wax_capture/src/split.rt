@@ -10,8 +10,8 @@ ghost use Rattle.wax_capture.specs.inner.Splits.{AreChosen, CapturedBy, Splits, 
 use crate::piece::{Capture, Piece};
 use crate::table::split_by_table;
 use crate::trial::{Trial, split_by_trial};
-use crate::visits::Visits;
 use std::alloc::{AllocError, Global};
+use wax_lengths::Visits;
 
 /// Where the part of `n` characters from `at` on ends, or `at` where it is one `/`.
 fn end_unless_slash(text: &[char], at: usize, n: usize) -> usize

@@ -7,8 +7,8 @@ ghost use Rattle.wax_capture.specs.declared.piece.Piece.{Piece};
 
 use crate::choice::choose;
 use crate::piece::Piece;
-use crate::visits::Visits;
 use std::alloc::{AllocError, Global};
+use wax_lengths::Visits;
 
 /// The row of no piece: it splits what is left at the text's end alone.
 fn last_row(alloc: Global, text: &[char]) -> Result<Vec<Option<usize>>, AllocError>

@@ -2,17 +2,15 @@
 ghost use Rattle.std.specs.Prelude.{◌≡◌, ◌+◌, ◌*◌, ◌<◌, ◌≤◌, ◌∷◌, [], ◌++◌, ℕ, List, IfOk, length, drop};
 ghost use Rattle.std.specs.Bool.{MatchBool};
 ghost use Rattle.wax_capture.specs.Pieces.{forms_of, size_of};
-ghost use Rattle.wax_capture.specs.inner.Spans.{InSpan, IsNarrowed, IsPicked, looks};
+ghost use Rattle.wax_lengths.specs.Spans.{InSpan, IsNarrowed, IsPicked, looks};
 ghost use Rattle.wax_capture.specs.inner.Splits.{Splits, all_sizes};
 ghost use Rattle.wax_capture.specs.inner.Trials.{HasTaken, IsOpen, IsTried, lengths_of};
 ghost use Rattle.wax_capture.specs.declared.piece.Piece.{Piece};
 
-use crate::lengths::lengths_of;
 use crate::piece::Piece;
-use crate::span::{Span, pick};
-use crate::visits::Visits;
 use std::alloc::{AllocError, Global};
 use std::mem;
+use wax_lengths::{Span, Visits, lengths_of, pick};
 
 /// What a piece takes, as far as it was tried.
 #[derive(Drop)]

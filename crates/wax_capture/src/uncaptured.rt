@@ -2,9 +2,9 @@
 ghost use Rattle.std.specs.Prelude.{◌≡◌, ◌↔◌, ◌≤◌, [], ℕ, List};
 ghost use Rattle.wax_token.specs.Meaning.{TreeMeans};
 ghost use Rattle.wax_capture.specs.Captures.{tree_capture};
-ghost use Rattle.wax_capture.specs.Pieces.{TakenBy, form_size};
+ghost use Rattle.wax_lengths.specs.Forms.{TakenBy, form_size};
 
-use crate::form::Form;
+use wax_lengths::Form;
 use wax_program::instruction::Test;
 
 /// The form of the pieces of a tree wildcard of which nothing is captured.

@@ -7,15 +7,16 @@ ghost use Rattle.wax_token.specs.Meaning.{Means};
 ghost use Rattle.wax_token.specs.Syntax.{Tree, tree};
 ghost use Rattle.wax_token.specs.Words.{trees};
 ghost use Rattle.wax_capture.specs.Captures.{LeafWay, MeansBranch, MeansByWay};
-ghost use Rattle.wax_capture.specs.Pieces.{TakenBy, WayIn, form_size, forms_of, size_of};
+ghost use Rattle.wax_capture.specs.Pieces.{WayIn, forms_of, size_of};
+ghost use Rattle.wax_lengths.specs.Forms.{TakenBy, form_size};
 ghost use Rattle.wax_capture.specs.inner.Ways.{IsAt, is_single};
 
-use crate::form::Form;
 use crate::leaves::{form_of_leaf, lone_leaf};
 use crate::piece::Ways;
 use crate::tokens::tree_root;
 use crate::uncaptured::nothing_captured;
 use std::alloc::{AllocError, Global};
+use wax_lengths::Form;
 use wax_match::encode::{CompileError, compile};
 use wax_query::diagnostics::Refusal;
 use wax_token::token::{BranchKind, Token, Topology};

@@ -1,6 +1,6 @@
 -- How pieces split a text, by their forms alone.
 use Rattle.std.specs.Prelude.{◌≡◌, ℕ, ◌+◌, ◌≤◌, List, [], ◌∷◌, ◌++◌, length, take, drop}
-use Rattle.wax_capture.specs.Captures.{Prefers}
+use Rattle.wax_lengths.specs.Prefers.{Prefers}
 use Rattle.wax_capture.specs.Pieces.{WayOf, captured_by, forms_of, size_of}
 use Rattle.wax_capture.specs.declared.piece.Piece.{Piece}
 

@@ -1,8 +1,8 @@
 -- How far it was tried which part of a text each piece takes.
 use Rattle.std.specs.Prelude.{◌≡◌, ◌⊎◌, ℕ, ◌+◌, ◌<◌, ◌≤◌, List, [], ◌∷◌, ⊤, length, take, drop}
-use Rattle.wax_capture.specs.Captures.{Prefers}
+use Rattle.wax_lengths.specs.Prefers.{Prefers}
 use Rattle.wax_capture.specs.Pieces.{WayOf}
-use Rattle.wax_capture.specs.inner.Spans.{InSpan, looks}
+use Rattle.wax_lengths.specs.Spans.{InSpan, looks}
 use Rattle.wax_capture.specs.inner.Splits.{AreChosen, FitsBy, Splits}
 use Rattle.wax_capture.specs.declared.piece.Piece.{Piece}
 use Rattle.wax_capture.specs.declared.trial.Frame.{Frame}

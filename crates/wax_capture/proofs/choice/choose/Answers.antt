@@ -2,7 +2,7 @@ use Rattle.std.proofs.Common.{◌≡◌, ◌+◌, ℕ, Some, length, slice_get, 
 use Rattle.wax_capture.specs.Pieces.{forms_of, size_of}
 use Rattle.wax_capture.proofs.Choosing.{chosen, none_at_all, none_more}
 use Rattle.wax_capture.proofs.Counting.{reads_fewer, reads_way, size_of_some}
-use Rattle.wax_capture.proofs.Lists.{slice_read}
+use Rattle.wax_lengths.proofs.Lists.{slice_read}
 use Rattle.wax_capture.proofs.choice.choose.Goals as goal
 
 pub returns-in-Some-clause-cell : goal.returns-in-Some-clause-cell

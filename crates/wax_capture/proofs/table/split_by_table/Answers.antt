@@ -1,6 +1,6 @@
 use Rattle.std.proofs.Common.{◌≡◌, ◌+◌, ◌<◌, ◌≤◌, ◌++◌, ◌∷◌, [], ℕ, List, length, get_or, drop, sym, arith, rules}
 use Rattle.std.proofs.lemmas.Option.{get_or_from_slice_get}
-use Rattle.wax_capture.proofs.Lists.{slice_got}
+use Rattle.wax_lengths.proofs.Lists.{slice_got}
 use Rattle.wax_capture.specs.inner.Rows.{IsCell}
 use Rattle.wax_capture.specs.inner.Splits.{IsChosenBy}
 use Rattle.wax_capture.proofs.Taking.{cell_chosen, cell_read, cell_some, lengths_end, row_long, taken_lengths, taken_splits, taken_within, whole_fails, whole_splits}

@@ -3,7 +3,7 @@ use Rattle.std.proofs.lemmas.Option.{slice_get_read}
 use Rattle.wax_capture.specs.inner.Rows.{Row}
 use Rattle.wax_capture.specs.inner.Splits.{all_sizes}
 use Rattle.wax_capture.proofs.Counting.{all_some, reads_fewer, reads_step}
-use Rattle.wax_capture.proofs.Lists.{slice_read}
+use Rattle.wax_lengths.proofs.Lists.{slice_read}
 use Rattle.wax_capture.proofs.Rows.{row_next, rows_none, rows_push}
 use Rattle.wax_capture.proofs.table.table.Goals as goal
 

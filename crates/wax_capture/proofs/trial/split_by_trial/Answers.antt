@@ -1,6 +1,6 @@
 use Rattle.std.proofs.Common.{◌≡◌, ◌+◌, ◌*◌, ◌<◌, ◌≤◌, ℕ, List, [], ◌∷◌, ◌++◌, length, drop, sym, ◌∙◌, subst, arith, rules}
 use Rattle.std.proofs.lemmas.Bool.{MatchBool-at_false, MatchBool-at_true}
-use Rattle.wax_capture.specs.inner.Spans.{looks}
+use Rattle.wax_lengths.specs.Spans.{looks}
 use Rattle.wax_capture.specs.inner.Splits.{AreChosen, Splits, all_sizes}
 use Rattle.wax_capture.specs.inner.Trials.{HasRoom, HasTaken, lengths_of}
 use Rattle.wax_capture.specs.declared.piece.Piece.{Piece}

@@ -1,7 +1,7 @@
 use Rattle.std.proofs.Common.{◌≡◌, ◌≤◌, ◌++◌, ◌∷◌, [], ℕ, length, rules, arith, ap}
 use Rattle.std.proofs.lemmas.List.{length_push}
 use Rattle.wax_token.specs.Cost.{cost}
-use Rattle.wax_capture.specs.Pieces.{form_size}
+use Rattle.wax_lengths.specs.Forms.{form_size}
 use Rattle.wax_capture.proofs.Branches.{sizes_push, stands, ways_all, ways_push}
 use Rattle.wax_capture.proofs.TokenWays.{refused_more}
 use Rattle.wax_capture.proofs.ways.branch_ways.Goals as goal

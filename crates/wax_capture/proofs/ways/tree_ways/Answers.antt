@@ -1,5 +1,5 @@
 use Rattle.std.proofs.Common.{◌≡◌, ◌∷◌, [], rules}
-use Rattle.wax_capture.specs.declared.form.Form.TheVariants as form
+use Rattle.wax_lengths.specs.declared.form.Form.TheVariants as form
 use Rattle.wax_capture.proofs.TokenWays.{tree_two_ways}
 use Rattle.wax_capture.proofs.ways.tree_ways.Goals as goal
 

@@ -1,0 +1,3 @@
+pub mod FormLengths
+pub mod Lists
+pub mod Picking

@@ -1,0 +1,4 @@
+pub mod Forms
+pub mod Prefers
+pub mod Spans
+pub mod inner

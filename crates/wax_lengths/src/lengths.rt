@@ -1,0 +1,252 @@
+//! The lengths of the parts that a form takes from a place on.
+ghost use Rattle.std.specs.Prelude.{◌≡◌, ◌⊎◌, ◌||◌, ◌+◌, ◌*◌, ◌<◌, ◌≤◌, ◌↔◌, ◌∷◌, [], ℕ, IfOk, IsTrue};
+ghost use Rattle.std.specs.Prelude.{length, take, drop};
+ghost use Rattle.wax_program.specs.Machine.{Accepts, PassesTest};
+ghost use Rattle.wax_query.specs.Components.{BeginsWithSlash};
+ghost use Rattle.wax_token.specs.Meaning.{HasNoSlash, TreeMeans};
+ghost use Rattle.wax_lengths.specs.Forms.{IsLetter, SpelledBy, form_size, program_size};
+ghost use Rattle.wax_lengths.specs.inner.Names.{name_end, least_of, marks_of, name_len};
+ghost use Rattle.wax_lengths.specs.Spans.{AreLengths, HasLengths, looks};
+
+use crate::form::Form;
+use crate::span::{Marks, Span};
+use crate::visits::Visits;
+use std::alloc::{AllocError, Global};
+use wax_program::Program;
+use wax_program::instruction::{Test, folds_to};
+
+/// Of one character that passes the test.
+fn of_one(test: &Test, text: &[char], at: usize, visits: &mut Visits) -> Span
+    requires { at ≤ length text.now }
+    ensures lengths { AreLengths (λ x. (c : ℕ) × (x ≡ c ∷ []) × PassesTest test.now c)
+        (drop at text.now) result }
+    ensures end { at + result.end ≤ length text.now + 1 }
+    ensures looked { visits.new + looks result ≤ visits.old + (length text.now + 1) }
+    ensures steady { visits.old ≤ visits.new }
+{
+    if at == text.len() {
+        return Span::new(0, 0);
+    }
+    visits.add(1);
+    if test.passes(text[at]) {
+        Span::new(1, 2)
+    } else {
+        Span::new(0, 0)
+    }
+}
+
+/// Whether the character is the letter, or with the flag has it as its folding.
+fn is_letter(is_folded: bool, letter: char, c: char) -> bool
+    ensures { IsTrue result ↔ IsLetter is_folded letter c }
+{
+    if is_folded {
+        folds_to(c, letter)
+    } else {
+        c == letter
+    }
+}
+
+/// Whether the letters stand at the place.
+fn is_spelled(
+    letters: &[char],
+    is_folded: bool,
+    text: &[char],
+    at: usize,
+    visits: &mut Visits,
+) -> bool
+    requires { at + length letters.now ≤ length text.now }
+    ensures spelled { IsTrue result
+        ↔ SpelledBy is_folded letters.now (take (length letters.now) (drop at text.now)) }
+    ensures looked { visits.new ≤ visits.old + length letters.now }
+    ensures steady { visits.old ≤ visits.new }
+{
+    for index in 0..letters.len() {
+        if !is_letter(is_folded, letters[index], text[at + index]) {
+            visits.add(index + 1);
+            return false;
+        }
+    }
+    visits.add(letters.len());
+    true
+}
+
+/// Of the letters.
+fn of_text(letters: &[char], is_folded: bool, text: &[char], at: usize, visits: &mut Visits) -> Span
+    requires { at ≤ length text.now }
+    ensures lengths { AreLengths (SpelledBy is_folded letters.now) (drop at text.now) result }
+    ensures end { at + result.end ≤ length text.now + 1 }
+    ensures looked { visits.new + looks result ≤ visits.old + length letters.now * (length text.now + 1) }
+    ensures steady { visits.old ≤ visits.new }
+{
+    let len = letters.len();
+    if len > text.len() - at {
+        return Span::new(0, 0);
+    }
+    if is_spelled(letters, is_folded, text, at, visits) {
+        return Span::new(len, len + 1);
+    }
+    Span::new(0, 0)
+}
+
+/// How many characters stand from the place on before the next `/` or the text's end.
+fn name_len(text: &[char], at: usize) -> usize
+    requires { at ≤ length text.now }
+    ensures is { result ≡ name_len (drop at text.now) }
+    ensures within { at + result ≤ length text.now }
+{
+    let mut end = at;
+    while end < text.len() && text[end] != '/' {
+        end += 1;
+    }
+    end - at
+}
+
+/// Of any number of characters other than `/`.
+fn of_name(text: &[char], at: usize, visits: &mut Visits) -> Span
+    requires { at ≤ length text.now }
+    ensures lengths { AreLengths HasNoSlash (drop at text.now) result }
+    ensures end { at + result.end ≤ length text.now + 1 }
+    ensures looked { visits.new + looks result ≤ visits.old + (length text.now + 1) }
+    ensures steady { visits.old ≤ visits.new }
+{
+    let end = name_len(text, at) + 1;
+    visits.add(end);
+    Span::new(0, end)
+}
+
+fn begins_with_slash(text: &[char], at: usize) -> bool
+    requires { at ≤ length text.now }
+    ensures { IsTrue result ↔ BeginsWithSlash (drop at text.now) }
+{
+    at < text.len() && text[at] == '/'
+}
+
+/// Of nothing, or `/`.
+fn of_slash_or_nothing(text: &[char], at: usize, visits: &mut Visits) -> Span
+    requires { at ≤ length text.now }
+    ensures lengths { AreLengths (λ x. (x ≡ []) ⊎ (x ≡ 47 ∷ [])) (drop at text.now) result }
+    ensures end { at + result.end ≤ length text.now + 1 }
+    ensures looked { visits.new + looks result ≤ visits.old + (length text.now + 1) }
+    ensures steady { visits.old ≤ visits.new }
+{
+    visits.add(1);
+    if begins_with_slash(text, at) {
+        Span::new(0, 2)
+    } else {
+        Span::new(0, 1)
+    }
+}
+
+/// The least length of what a tree wildcard means.
+fn least(before: bool, after: bool, has_root: bool) -> usize
+    ensures { result ≡ least_of before after has_root }
+{
+    if before {
+        after as usize
+    } else {
+        has_root as usize
+    }
+}
+
+/// The number above the lengths, of which `rest` is the greatest. Where a `/` has to come first and doesn't,
+/// only 0 is left.
+fn end(is_bound: bool, begins: bool, rest: usize) -> usize
+    requires { rest + 1 < 18446744073709551616 }
+    ensures { result ≡ name_end is_bound begins rest }
+{
+    if is_bound && !begins { 1 } else { rest + 1 }
+}
+
+/// Which lengths are meant.
+fn marks(after: bool) -> Marks
+    ensures { result ≡ marks_of after }
+{
+    if after { Marks::AfterSlash } else { Marks::All }
+}
+
+/// Whether a `/` has to come first.
+fn is_bound(before: bool, has_root: bool) -> bool
+    ensures { result ≡ (before || has_root) }
+{
+    before || has_root
+}
+
+/// Of what a tree wildcard means.
+fn of_tree(
+    before: bool,
+    after: bool,
+    has_root: bool,
+    text: &[char],
+    at: usize,
+    visits: &mut Visits,
+) -> Span
+    requires { at ≤ length text.now }
+    ensures lengths { AreLengths (TreeMeans before after has_root) (drop at text.now) result }
+    ensures end { at + result.end ≤ length text.now + 1 }
+    ensures looked { visits.new + looks result ≤ visits.old + 2 * (length text.now + 1) }
+    ensures steady { visits.old ≤ visits.new }
+{
+    visits.add(1);
+    let begins = begins_with_slash(text, at);
+    Span {
+        low: least(before, after, has_root),
+        end: end(is_bound(before, has_root), begins, text.len() - at),
+        marks: marks(after),
+    }
+}
+
+/// Of what the program accepts.
+fn of_program(
+    alloc: Global,
+    program: &Program,
+    text: &[char],
+    at: usize,
+    visits: &mut Visits,
+) -> Result<Span, AllocError>
+    requires { at ≤ length text.now }
+    ensures lengths { IfOk result (AreLengths (Accepts program.now.0 0) (drop at text.now)) }
+    ensures end { IfOk result (λ span. at + span.end ≤ length text.now + 1) }
+    ensures none { IfOk result (λ span. looks span ≡ 0) }
+    ensures above { visits.new ≤ visits.old + program_size program.now * (length text.now + 1) }
+    ensures steady { visits.old ≤ visits.new }
+{
+    let mut flags = Vec::with_capacity(alloc, text.len() - at + 1)?;
+    visits.run_ends(alloc, program, &text[at..], &mut flags)?;
+    Ok(Span {
+        low: 0,
+        end: flags.len(),
+        marks: Marks::Flags(flags),
+    })
+}
+
+/// The lengths of the parts from the place on that the form takes.
+pub fn lengths_of(
+    alloc: Global,
+    form: &Form,
+    text: &[char],
+    at: usize,
+    visits: &mut Visits,
+) -> Result<Span, AllocError>
+    requires { at ≤ length text.now }
+    ensures lengths { IfOk result (HasLengths form.now (drop at text.now)) }
+    ensures end { IfOk result (λ span. at + span.end ≤ length text.now + 1) }
+    ensures looked { IfOk result (λ span.
+        visits.new + looks span ≤ visits.old + form_size form.now * (length text.now + 1)) }
+    ensures above { visits.new ≤ visits.old + form_size form.now * (length text.now + 1) }
+    ensures steady { visits.old ≤ visits.new }
+{
+    match form {
+        Form::One(test) => Ok(of_one(test, text, at, visits)),
+        Form::Text(letters, is_folded) => {
+            Ok(of_text(letters.as_slice(), *is_folded, text, at, visits))
+        }
+        Form::Name => Ok(of_name(text, at, visits)),
+        Form::SlashOrNothing => Ok(of_slash_or_nothing(text, at, visits)),
+        Form::Tree {
+            before,
+            after,
+            has_root,
+        } => Ok(of_tree(*before, *after, *has_root, text, at, visits)),
+        Form::Coded(program) => of_program(alloc, program, text, at, visits),
+    }
+}

@@ -1,0 +1,12 @@
+//! The lengths of the parts of a text that a form takes.
+#![tactic(auto)]
+
+mod form;
+mod lengths;
+mod span;
+mod visits;
+
+pub use form::Form;
+pub use lengths::lengths_of;
+pub use span::{Marks, Span, pick};
+pub use visits::Visits;

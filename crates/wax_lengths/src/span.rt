@@ -1,0 +1,142 @@
+//! Lengths of the parts of a text that a form takes from a place on, from which the best are picked.
+ghost use Rattle.std.specs.Prelude.{◌≡◌, ◌+◌, ◌-◌, ◌<◌, ◌≤◌, ◌↔◌, ℕ, IsTrue, IfSome, MatchOption, length};
+ghost use Rattle.std.specs.Prelude.{drop};
+ghost use Rattle.std.specs.Prelude.{true, false};
+ghost use Rattle.wax_program.specs.Threads.{HoldsPlace};
+ghost use Rattle.wax_lengths.specs.Spans.{InSpan, IsMarked, IsNarrowed, IsPicked, looks, looks_of};
+
+use crate::visits::Visits;
+
+/// Which lengths of a span are meant.
+#[derive(Drop)]
+pub enum Marks {
+    All,
+    /// 0, and those at whose end a `/` was taken.
+    AfterSlash,
+    /// Those that are flagged.
+    Flags(Vec<bool>),
+}
+
+/// Lengths from `low` on and below `end`.
+#[derive(Drop)]
+pub struct Span {
+    pub low: usize,
+    pub end: usize,
+    pub marks: Marks,
+}
+
+impl Span {
+    /// The lengths from `low` on and below `end`, all of them.
+    pub fn new(low: usize, end: usize) -> Span
+        ensures { result ≡ record { low = low; end = end; marks = Marks.All } }
+    {
+        Span {
+            low,
+            end,
+            marks: Marks::All,
+        }
+    }
+}
+
+/// Whether a `/` stands before the end of the part of `n` characters from `at` on, if it has any.
+fn is_after_slash(text: &[char], at: usize, n: usize) -> bool
+    requires { at + n ≤ length text.now }
+    ensures { IsTrue result ↔ IsMarked Marks.AfterSlash (drop at text.now) n }
+{
+    if n == 0 {
+        return true;
+    }
+    text[at + n - 1] == '/'
+}
+
+/// Whether the length is flagged.
+fn is_flagged(flags: &[bool], n: usize) -> bool
+    ensures { IsTrue result ↔ HoldsPlace flags.now n }
+{
+    if n >= flags.len() {
+        return false;
+    }
+    flags[n]
+}
+
+/// Whether the part of `n` characters from `at` on has one of the lengths that are meant.
+fn is_marked(text: &[char], at: usize, n: usize, marks: &Marks, visits: &mut Visits) -> bool
+    requires { at + n ≤ length text.now }
+    ensures marked { IsTrue result ↔ IsMarked marks.now (drop at text.now) n }
+    ensures looked { visits.new ≤ visits.old + looks_of marks.now 1 }
+    ensures steady { visits.old ≤ visits.new }
+{
+    match marks {
+        Marks::All => true,
+        Marks::AfterSlash => {
+            visits.add(1);
+            is_after_slash(text, at, n)
+        }
+        Marks::Flags(flags) => is_flagged(flags.as_slice(), n),
+    }
+}
+
+/// The greatest length of the span. The less ones are left in it.
+fn pick_longest(text: &[char], at: usize, span: &mut Span, visits: &mut Visits) -> Option<usize>
+    requires { at + span.old.end ≤ length text.now + 1 }
+    ensures picked { MatchOption result ((m : ℕ) → InSpan span.old (drop at text.now) m → ⊥)
+        (IsPicked span.old span.new (drop at text.now) false) }
+    ensures narrowed { IsNarrowed span.old span.new (drop at text.now) }
+    ensures less { IfSome result (λ _. span.new.end - span.new.low < span.old.end - span.old.low) }
+    ensures end { span.new.end ≤ span.old.end }
+    ensures looked { visits.new + looks span.new ≤ visits.old + looks span.old }
+    ensures steady { visits.old ≤ visits.new }
+{
+    while span.low < span.end {
+        span.end -= 1;
+        if is_marked(text, at, span.end, &span.marks, visits) {
+            return Some(span.end);
+        }
+    }
+    None
+}
+
+/// The least length of the span. The greater ones are left in it.
+fn pick_shortest(text: &[char], at: usize, span: &mut Span, visits: &mut Visits) -> Option<usize>
+    requires { at + span.old.end ≤ length text.now + 1 }
+    ensures picked { MatchOption result ((m : ℕ) → InSpan span.old (drop at text.now) m → ⊥)
+        (IsPicked span.old span.new (drop at text.now) true) }
+    ensures narrowed { IsNarrowed span.old span.new (drop at text.now) }
+    ensures less { IfSome result (λ _. span.new.end - span.new.low < span.old.end - span.old.low) }
+    ensures end { span.new.end ≤ span.old.end }
+    ensures looked { visits.new + looks span.new ≤ visits.old + looks span.old }
+    ensures steady { visits.old ≤ visits.new }
+{
+    while span.low < span.end {
+        let n = span.low;
+        span.low += 1;
+        if is_marked(text, at, n, &span.marks, visits) {
+            return Some(n);
+        }
+    }
+    None
+}
+
+/// The best length of the span. The others are left in it.
+pub fn pick(
+    text: &[char],
+    at: usize,
+    span: &mut Span,
+    is_lazy: bool,
+    visits: &mut Visits,
+) -> Option<usize>
+    requires { at + span.old.end ≤ length text.now + 1 }
+    ensures picked { MatchOption result ((m : ℕ) → InSpan span.old (drop at text.now) m → ⊥)
+        (IsPicked span.old span.new (drop at text.now) is_lazy) }
+    ensures narrowed { IsNarrowed span.old span.new (drop at text.now) }
+    ensures less { IfSome result (λ _. span.new.end - span.new.low < span.old.end - span.old.low) }
+    ensures end { span.new.end ≤ span.old.end }
+    ensures looked { visits.new + looks span.new ≤ visits.old + looks span.old }
+    ensures steady { visits.old ≤ visits.new }
+{
+    if is_lazy {
+        pick_shortest(text, at, span, visits)
+    } else {
+        pick_longest(text, at, span, visits)
+    }
+}
