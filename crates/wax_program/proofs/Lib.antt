@@ -2,7 +2,7 @@ pub mod Advancing
 pub mod Beginnings
 pub mod Bits
 pub mod LastNames
-pub mod Sets
+pub mod Members
 pub mod Starts
 pub mod Staying
 pub mod Steps

@@ -43,7 +43,7 @@ IsReached p k = HoldsPlace p.pending k ⊎ HoldsPlace p.read k
 
 -- the sets have room for the program and its end and no place beyond it; a place to be read was not read,
 -- and none lies below the first word
-pub record AreRows (size first : ℕ) (pending read next : List Bool) : Type 0 where
+pub record AreSets (size first : ℕ) (pending read next : List Bool) : Type 0 where
   pub pending_room : size < length pending
   pub read_room : size < length read
   pub next_room : size < length next

@@ -3,11 +3,11 @@ ghost use Rattle.std.specs.Prelude.{◌≡◌, ◌+◌, ◌*◌, ◌<◌, ◌≤
 ghost use Rattle.wax_program.specs.Ends.{MarksBeginnings};
 ghost use Rattle.wax_program.specs.Threads.{IsEmpty};
 
+use crate::heap_sets::HeapSets;
 use crate::machine::{Meter, Program};
-use crate::narrow::Narrow;
 use crate::rounds::{advance, finish};
-use crate::rows::Rows;
-use crate::wide::Wide;
+use crate::sets::Sets;
+use crate::word_sets::WordSets;
 use std::alloc::{AllocError, Global};
 
 /// Writes into `ends` flags, one for each beginning of the text from the empty one on, that tell whether
@@ -28,27 +28,27 @@ pub fn run_ends(
 {
     let size = program.size();
     if size < 64 {
-        let mut rows = Narrow::new(size);
-        ends_over(program, text, &mut rows, ends, meter)?;
+        let mut sets = WordSets::new(size);
+        ends_over(program, text, &mut sets, ends, meter)?;
         return Ok(());
     }
-    let mut rows = Wide::new(alloc, size)?;
-    ends_over(program, text, &mut rows, ends, meter)?;
+    let mut sets = HeapSets::new(alloc, size)?;
+    ends_over(program, text, &mut sets, ends, meter)?;
     Ok(())
 }
 
-/// The same, over empty rows.
-fn ends_over<R: Rows>(
+/// The same, over empty sets.
+fn ends_over<R: Sets>(
     program: &Program,
     text: &[char],
-    rows: &mut R,
+    sets: &mut R,
     ends: &mut Vec<bool>,
     meter: &mut Meter,
 ) -> Result<(), AllocError>
-    requires size { (R.position rows.old).size ≡ length program.now.0 }
-    requires pending { IsEmpty (R.position rows.old).pending }
-    requires read { IsEmpty (R.position rows.old).read }
-    requires next { IsEmpty (R.position rows.old).next }
+    requires size { (R.position sets.old).size ≡ length program.now.0 }
+    requires pending { IsEmpty (R.position sets.old).pending }
+    requires read { IsEmpty (R.position sets.old).read }
+    requires next { IsEmpty (R.position sets.old).next }
     ensures marked { OnOk result
         (MarksBeginnings program.now.0 text.now ends.new.items (length text.now + 1)) }
     ensures few { OnOk result (length ends.new.items ≤ length text.now + 1) }
@@ -56,19 +56,19 @@ fn ends_over<R: Rows>(
     ensures steady { meter.old ≤ meter.new }
 {
     ends.clear();
-    rows.insert(0);
+    sets.insert(0);
     for c in text {
-        if rows.is_done() {
-            let ended = finish(program, rows, meter);
+        if sets.is_done() {
+            let ended = finish(program, sets, meter);
             ends.push(ended)?;
             return Ok(());
         }
-        advance(program, *c, rows, meter);
-        let ended = rows.ends();
+        advance(program, *c, sets, meter);
+        let ended = sets.ends();
         ends.push(ended)?;
-        rows.turn();
+        sets.turn();
     }
-    let ended = finish(program, rows, meter);
+    let ended = finish(program, sets, meter);
     ends.push(ended)?;
     Ok(())
 }

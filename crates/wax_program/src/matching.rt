@@ -4,12 +4,12 @@ ghost use Rattle.wax_program.specs.Machine.{Accepts};
 ghost use Rattle.wax_program.specs.Meter.{most_ticks};
 ghost use Rattle.wax_program.specs.Threads.{IsEmpty};
 
+use crate::heap_sets::HeapSets;
 use crate::machine::{Meter, Program};
-use crate::narrow::Narrow;
 use crate::rounds::{finish, step};
-use crate::rows::Rows;
+use crate::sets::Sets;
 use crate::steady::absorbs;
-use crate::wide::Wide;
+use crate::word_sets::WordSets;
 use std::alloc::Global;
 use wax_query::diagnostics::NoMemory;
 
@@ -49,44 +49,44 @@ pub(crate) fn run_at(
 {
     let size = program.size();
     if size < 64 {
-        let mut rows = Narrow::new(size);
-        return Ok(run_over(program, start, text, &mut rows, meter));
+        let mut sets = WordSets::new(size);
+        return Ok(run_over(program, start, text, &mut sets, meter));
     }
-    let mut rows = Wide::new(alloc, size)?;
-    Ok(run_over(program, start, text, &mut rows, meter))
+    let mut sets = HeapSets::new(alloc, size)?;
+    Ok(run_over(program, start, text, &mut sets, meter))
 }
 
-/// The same, over empty rows. Once no character changes anything any more, the rest of the text is counted
+/// The same, over empty sets. Once no character changes anything any more, the rest of the text is counted
 /// at once, by its bytes: there are no fewer of them than characters, and at most four times as many.
-fn run_over<R: Rows>(
+fn run_over<R: Sets>(
     program: &Program,
     start: usize,
     text: &str,
-    rows: &mut R,
+    sets: &mut R,
     meter: &mut Meter,
 ) -> bool
     requires start { start ≤ length program.now.0 }
-    requires size { (R.position rows.old).size ≡ length program.now.0 }
+    requires size { (R.position sets.old).size ≡ length program.now.0 }
     requires few { length program.now.0 < program.now.1 }
-    requires pending { IsEmpty (R.position rows.old).pending }
-    requires read { IsEmpty (R.position rows.old).read }
-    requires next { IsEmpty (R.position rows.old).next }
+    requires pending { IsEmpty (R.position sets.old).pending }
+    requires read { IsEmpty (R.position sets.old).read }
+    requires next { IsEmpty (R.position sets.old).next }
     ensures decides { IsTrue result ↔ Accepts program.now.0 start (chars text.now) }
     ensures above { meter.new ≤ meter.old + program.now.1 * (length (chars text.now) + 1) }
     ensures below { IsTrue result → min (meter.old + length (chars text.now)) most_ticks ≤ meter.new }
     ensures steady { meter.old ≤ meter.new }
 {
-    rows.insert(start);
+    sets.insert(start);
     let mut steady = None;
     let mut left = text.chars();
     while let Some(c) = left.next() {
-        if !step(program, c, rows, &mut steady, meter) {
+        if !step(program, c, sets, &mut steady, meter) {
             return false;
         }
-        if c == '/' && program.len() >= 4 && absorbs(program, rows, steady) {
+        if c == '/' && program.len() >= 4 && absorbs(program, sets, steady) {
             meter.pass(left.as_str().len());
-            return finish(program, rows, meter);
+            return finish(program, sets, meter);
         }
     }
-    finish(program, rows, meter)
+    finish(program, sets, meter)
 }

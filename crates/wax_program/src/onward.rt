@@ -3,11 +3,11 @@ ghost use Rattle.std.specs.Prelude.{◌≡◌, ◌+◌, ◌*◌, ◌<◌, ◌≤
 ghost use Rattle.wax_program.specs.Ends.{Reaches};
 ghost use Rattle.wax_program.specs.Threads.{AnyOf, HoldsPlace, IsEmpty};
 
+use crate::heap_sets::HeapSets;
 use crate::machine::{Meter, Program};
-use crate::narrow::Narrow;
 use crate::rounds::{advance, finish};
-use crate::rows::Rows;
-use crate::wide::Wide;
+use crate::sets::Sets;
+use crate::word_sets::WordSets;
 use std::alloc::{AllocError, Global};
 
 /// Flags in `ends` each place of the text where a part ends that begins at a place flagged in `starts` and
@@ -32,29 +32,29 @@ pub fn run_from(
 {
     let size = program.size();
     if size < 64 {
-        let mut rows = Narrow::new(size);
-        onward_over(program, text, starts, &mut rows, ends, meter);
+        let mut sets = WordSets::new(size);
+        onward_over(program, text, starts, &mut sets, ends, meter);
         return Ok(());
     }
-    let mut rows = Wide::new(alloc, size)?;
-    onward_over(program, text, starts, &mut rows, ends, meter);
+    let mut sets = HeapSets::new(alloc, size)?;
+    onward_over(program, text, starts, &mut sets, ends, meter);
     Ok(())
 }
 
 /// Begins at the place, if it is flagged.
 #[inline(always)]
-fn begin<R: Rows>(starts: &[bool], at: usize, rows: &mut R)
+fn begin<R: Sets>(starts: &[bool], at: usize, sets: &mut R)
     requires within { at < length starts.now }
-    ensures size { (R.position rows.new).size ≡ (R.position rows.old).size }
-    ensures read { (R.position rows.new).read ≡ (R.position rows.old).read }
-    ensures next { (R.position rows.new).next ≡ (R.position rows.old).next }
-    ensures kept { (k : ℕ) → HoldsPlace (R.position rows.old).pending k
-        → HoldsPlace (R.position rows.new).pending k }
-    ensures begun { IsEmpty (R.position rows.old).read → HoldsPlace starts.now at
-        → HoldsPlace (R.position rows.new).pending 0 }
+    ensures size { (R.position sets.new).size ≡ (R.position sets.old).size }
+    ensures read { (R.position sets.new).read ≡ (R.position sets.old).read }
+    ensures next { (R.position sets.new).next ≡ (R.position sets.old).next }
+    ensures kept { (k : ℕ) → HoldsPlace (R.position sets.old).pending k
+        → HoldsPlace (R.position sets.new).pending k }
+    ensures begun { IsEmpty (R.position sets.old).read → HoldsPlace starts.now at
+        → HoldsPlace (R.position sets.new).pending 0 }
 {
     if starts[at] {
-        rows.insert(0);
+        sets.insert(0);
     }
 }
 
@@ -74,44 +74,44 @@ fn mark(ends: &mut [bool], at: usize, ended: bool)
 /// Goes on to the next place by the character, and answers whether a part ends here. Where no instruction is
 /// left to be read, none is.
 #[inline(always)]
-fn go_on<R: Rows>(program: &Program, c: char, rows: &mut R, meter: &mut Meter) -> bool
-    requires size { (R.position rows.old).size ≡ length program.now.0 }
-    requires read { IsEmpty (R.position rows.old).read }
-    requires next { IsEmpty (R.position rows.old).next }
-    ensures size { (R.position rows.new).size ≡ (R.position rows.old).size }
-    ensures read { IsEmpty (R.position rows.new).read }
-    ensures next { IsEmpty (R.position rows.new).next }
-    ensures ended { AnyOf program.now.0 (R.position rows.old).pending [] → IsTrue result }
-    ensures onward { (s : List ℕ) → AnyOf program.now.0 (R.position rows.old).pending (c ∷ s)
-        → AnyOf program.now.0 (R.position rows.new).pending s }
+fn go_on<R: Sets>(program: &Program, c: char, sets: &mut R, meter: &mut Meter) -> bool
+    requires size { (R.position sets.old).size ≡ length program.now.0 }
+    requires read { IsEmpty (R.position sets.old).read }
+    requires next { IsEmpty (R.position sets.old).next }
+    ensures size { (R.position sets.new).size ≡ (R.position sets.old).size }
+    ensures read { IsEmpty (R.position sets.new).read }
+    ensures next { IsEmpty (R.position sets.new).next }
+    ensures ended { AnyOf program.now.0 (R.position sets.old).pending [] → IsTrue result }
+    ensures onward { (s : List ℕ) → AnyOf program.now.0 (R.position sets.old).pending (c ∷ s)
+        → AnyOf program.now.0 (R.position sets.new).pending s }
     ensures above { meter.new ≤ meter.old + length program.now.0 }
     ensures steady { meter.old ≤ meter.new }
 {
-    if rows.is_done() {
-        let ended = rows.ends();
-        rows.turn();
+    if sets.is_done() {
+        let ended = sets.ends();
+        sets.turn();
         return ended;
     }
-    advance(program, c, rows, meter);
-    let ended = rows.ends();
-    rows.turn();
+    advance(program, c, sets, meter);
+    let ended = sets.ends();
+    sets.turn();
     ended
 }
 
-/// The same, over empty rows.
-fn onward_over<R: Rows>(
+/// The same, over empty sets.
+fn onward_over<R: Sets>(
     program: &Program,
     text: &[char],
     starts: &[bool],
-    rows: &mut R,
+    sets: &mut R,
     ends: &mut [bool],
     meter: &mut Meter,
 )
     requires starts { length starts.now ≡ length text.now + 1 }
     requires ends { length ends.old ≡ length text.now + 1 }
-    requires size { (R.position rows.old).size ≡ length program.now.0 }
-    requires read { IsEmpty (R.position rows.old).read }
-    requires next { IsEmpty (R.position rows.old).next }
+    requires size { (R.position sets.old).size ≡ length program.now.0 }
+    requires read { IsEmpty (R.position sets.old).read }
+    requires next { IsEmpty (R.position sets.old).next }
     ensures len { length ends.new ≡ length ends.old }
     ensures kept { (n : ℕ) → HoldsPlace ends.old n → HoldsPlace ends.new n }
     ensures reached { Reaches program.now.0 text.now starts.now ends.new (length text.now + 1) }
@@ -119,11 +119,11 @@ fn onward_over<R: Rows>(
     ensures steady { meter.old ≤ meter.new }
 {
     for at in 0..text.len() {
-        begin(starts, at, rows);
-        let ended = go_on(program, text[at], rows, meter);
+        begin(starts, at, sets);
+        let ended = go_on(program, text[at], sets, meter);
         mark(ends, at, ended);
     }
-    begin(starts, text.len(), rows);
-    let ended = finish(program, rows, meter);
+    begin(starts, text.len(), sets);
+    let ended = finish(program, sets, meter);
     mark(ends, text.len(), ended);
 }

@@ -7,7 +7,7 @@ ghost use Rattle.wax_program.specs.Threads.{Advances};
 
 use crate::instruction::{Instruction, Test};
 use crate::machine::{Meter, Program, Visits};
-use crate::rows::Rows;
+use crate::sets::Sets;
 
 /// The set of a word, which leads to itself by each character but `/` that the check at `watch` doesn't take.
 #[derive(Clone, Copy)]
@@ -96,16 +96,16 @@ fn misses(instruction: &Instruction, c: char) -> bool
 /// Whether the places that are to be read lead to themselves by the character, so far as that is known.
 /// It reads one instruction at most.
 #[inline(always)]
-pub fn stays<R: Rows>(
+pub fn stays<R: Sets>(
     program: &Program,
     c: char,
-    rows: &R,
+    sets: &R,
     steady: Option<Steady>,
     meter: &mut Meter,
 ) -> bool
     requires known { IfSome steady (IsKnown program.now.0) }
     ensures advances { IsTrue result
-        → Advances program.now.0 c (R.position rows.now).pending (R.position rows.now).pending }
+        → Advances program.now.0 c (R.position sets.now).pending (R.position sets.now).pending }
     ensures above { meter.new ≤ meter.old + 1 }
     ensures steady { meter.old ≤ meter.new }
     ensures below { IsTrue result → min (meter.old + 1) most_ticks ≤ meter.new }
@@ -113,7 +113,7 @@ pub fn stays<R: Rows>(
     let Some(known) = steady else {
         return false;
     };
-    if !rows.is_at(known.word) || (c == '/' && !known.by_slash) {
+    if !sets.is_at(known.word) || (c == '/' && !known.by_slash) {
         return false;
     }
     let mut visits = Visits::new();
@@ -126,12 +126,12 @@ pub fn stays<R: Rows>(
 /// further character changes anything.
 #[inline(always)]
 #[tactic(auto, using(crate::proofs::Staying::absorbing))]
-pub fn absorbs<R: Rows>(program: &Program, rows: &R, steady: Option<Steady>) -> bool
+pub fn absorbs<R: Sets>(program: &Program, sets: &R, steady: Option<Steady>) -> bool
     requires known { IfSome steady (IsKnown program.now.0) }
-    ensures { IsTrue result → IsAbsorbing program.now.0 (R.position rows.now).pending }
+    ensures { IsTrue result → IsAbsorbing program.now.0 (R.position sets.now).pending }
 {
     let Some(known) = steady else {
         return false;
     };
-    known.by_slash && known.by_others && rows.is_at(known.word)
+    known.by_slash && known.by_others && sets.is_at(known.word)
 }

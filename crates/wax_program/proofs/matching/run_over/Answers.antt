@@ -19,7 +19,7 @@ loop-c-init g c = (
     size = c.insert.ensures.size ∙ c.requires.size;
     read = rw c.insert.ensures.read c.requires.read;
     next = rw c.insert.ensures.next c.requires.next;
-    stays = rw c.chars-left.ensures.rest (stays_start c.args.program.now.0 c.args.start (chars c.args.text.now) (g.R.Rows.position c.args.rows.now) (g.R.Rows.position c.insert.new.self) c.requires.size c.requires.pending c.requires.read c.insert.ensures);
+    stays = rw c.chars-left.ensures.rest (stays_start c.args.program.now.0 c.args.start (chars c.args.text.now) (g.R.Sets.position c.args.sets.now) (g.R.Sets.position c.insert.new.self) c.requires.size c.requires.pending c.requires.read c.insert.ensures);
     above = omega arith;
     below = omega arith;
     steady = omega arith;
@@ -32,9 +32,9 @@ returns-then-not-step-clause-decides g c =
     let (m, held) = c.loop-c.invariant in
     let cs : List ℕ = chars c.args.text.now in
     let one : chars (chars_rest c.loop-c.left) ≡ c.in-Some.c ∷ chars (chars_rest c.next.new.self) = chars_past_char _ _ _ held.utf8 c.in-Some.ensures.steps.0 in
-    let done : IsDone (g.R.Rows.position c.loop-c.rows) = c.step.ensures.done (search rules) in
+    let done : IsDone (g.R.Sets.position c.loop-c.sets) = c.step.ensures.done (search rules) in
     let none : Accepts c.args.program.now.0 c.args.start cs → ⊥ =
-    stays_done c.args.program.now.0 c.args.start cs _ _ c.in-Some.c (g.R.Rows.position c.loop-c.rows) one held.size done held.stays in
+    stays_done c.args.program.now.0 c.args.start cs _ _ c.in-Some.c (g.R.Sets.position c.loop-c.sets) one held.size done held.stays in
     ((λ h. absurd (true≢false (sym h))), (λ h. absurd (none h)))
 
 pub returns-then-not-step-clause-above : goal.returns-then-not-step-clause-above
@@ -50,9 +50,9 @@ returns-then-absorbs-clause-decides g c =
     let left : List ℕ = chars (chars_rest c.next.new.self) in
     let one : chars (chars_rest c.loop-c.left) ≡ c.in-Some.c ∷ left = chars_past_char _ _ _ held.utf8 c.in-Some.ensures.steps.0 in
     let went : IsTrue c.step.result = search rules in
-    let set = (g.R.Rows.position c.step.new.rows).pending in
+    let set = (g.R.Sets.position c.step.new.sets).pending in
     let rest : Stays code c.args.start cs left set =
-    stays_step code c.args.start cs _ left (g.R.Rows.position c.loop-c.rows).pending set c.in-Some.c one held.stays (c.step.ensures.advances went) in
+    stays_step code c.args.start cs _ left (g.R.Sets.position c.loop-c.sets).pending set c.in-Some.c one held.stays (c.step.ensures.advances went) in
     let same = absorbed code set (c.absorbs.ensures (search rules)) left in
     ((λ h. rest.backward (same.1 (c.finish.ensures.decides.0 h))), (λ h. c.finish.ensures.decides.1 (same.0 (rest.onward h))))
 
@@ -95,7 +95,7 @@ loop-c-preserved g c =
         size = c.step.ensures.size ∙ held.size;
         read = c.step.ensures.read;
         next = c.step.ensures.next;
-        stays = stays_step code c.args.start cs _ left (g.R.Rows.position c.loop-c.rows).pending (g.R.Rows.position c.step.new.rows).pending c.in-Some.c one held.stays (c.step.ensures.advances went);
+        stays = stays_step code c.args.start cs _ left (g.R.Sets.position c.loop-c.sets).pending (g.R.Sets.position c.step.new.sets).pending c.in-Some.c one held.stays (c.step.ensures.advances went);
         above = omega (arith, c.step.ensures.above, held.above);
         below = omega (arith, once, held.below);
         steady = omega (arith, c.step.ensures.steady, held.steady);
@@ -108,7 +108,7 @@ returns-clause-decides g c =
     let (m, held) = c.loop-c.invariant in
     let cs : List ℕ = chars c.args.text.now in
     let end : chars (chars_rest c.loop-c.left) ≡ [] = ap chars (nil_from_length _ c.in_default.ensures.steps.0.0) ∙ chars-nil in
-    let s : Stays c.args.program.now.0 c.args.start cs [] (g.R.Rows.position c.loop-c.rows).pending = rw end at held.stays in
+    let s : Stays c.args.program.now.0 c.args.start cs [] (g.R.Sets.position c.loop-c.sets).pending = rw end at held.stays in
     ((λ h. s.backward (c.finish-2.ensures.decides.0 h)), (λ h. c.finish-2.ensures.decides.1 (s.onward h)))
 
 pub returns-clause-above : goal.returns-clause-above

@@ -11,10 +11,10 @@ abbrev pub invariant-loop-c : goal.invariant-loop-c
 invariant-loop-c g l = (m : ℕ) × record {
   utf8 : IsUtf8 (chars_rest l.left);
   whole : m + length (chars (chars_rest l.left)) ≡ length (chars l.text);
-  size : (g.R.Rows.position l.rows).size ≡ length l.program.0;
-  read : IsEmpty (g.R.Rows.position l.rows).read;
-  next : IsEmpty (g.R.Rows.position l.rows).next;
-  stays : Stays l.program.0 l.start (chars l.text) (chars (chars_rest l.left)) (g.R.Rows.position l.rows).pending;
+  size : (g.R.Sets.position l.sets).size ≡ length l.program.0;
+  read : IsEmpty (g.R.Sets.position l.sets).read;
+  next : IsEmpty (g.R.Sets.position l.sets).next;
+  stays : Stays l.program.0 l.start (chars l.text) (chars (chars_rest l.left)) (g.R.Sets.position l.sets).pending;
   above : l.meter ≤ l.fn.meter + l.program.1 * m;
   below : min (l.fn.meter + m) most_ticks ≤ l.meter;
   steady : l.fn.meter ≤ l.meter;

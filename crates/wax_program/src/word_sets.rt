@@ -1,92 +1,86 @@
-//! The places that a run has reached, for programs of any length.
-ghost use Rattle.std.specs.Prelude.{◌≡◌, IfOk};
+//! The places that a run has reached, for programs of fewer than 64 instructions.
+ghost use Rattle.std.specs.Prelude.{◌≡◌, ◌<◌};
 ghost use Rattle.wax_program.specs.Threads.{IsEmpty};
 
-use crate::rows::Rows;
-use crate::set::Set;
-use std::alloc::{AllocError, Global};
+use crate::sets::Sets;
+use crate::word::Word;
 use std::marker::Model;
 use std::mem;
 
-/// Three rows of words. They are allocated once a run.
+/// Three sets of one word each. They take no memory but their own.
 #[derive(Drop)]
-pub struct Wide {
+pub struct WordSets {
     /// How many instructions the program has. Places past it are never inserted.
     size: usize,
-    /// No pending place lies below this word.
-    first: usize,
     /// What is still to be read here.
-    pending: Set,
+    pending: Word,
     /// What was read here.
-    read: Set,
+    read: Word,
     /// What is to be read at the next position.
-    next: Set,
+    next: Word,
 }
 
-impl Model for Wide {
-    ghost use Rattle.wax_program.specs.Threads.{Position, AreRows};
+impl Model for WordSets {
+    ghost use Rattle.wax_program.specs.Threads.{Position, AreSets};
 
     ghost Value = { Position };
 
     ghost view = { λ r. record { size = r.size; pending = r.pending; read = r.read; next = r.next } };
 
-    ghost invariant = { λ r. AreRows r.size r.first r.pending r.read r.next };
+    ghost invariant = { λ r. AreSets r.size 0 r.pending r.read r.next };
 }
 
-impl Wide {
-    /// Empty rows for a program of `size` instructions.
-    pub fn new(alloc: Global, size: usize) -> Result<Wide, AllocError>
-        ensures size { IfOk result (λ r. r.size ≡ size) }
-        ensures pending { IfOk result (λ r. IsEmpty r.pending) }
-        ensures read { IfOk result (λ r. IsEmpty r.read) }
-        ensures next { IfOk result (λ r. IsEmpty r.next) }
+impl WordSets {
+    /// Empty sets for a program of `size` instructions.
+    #[inline]
+    pub fn new(size: usize) -> WordSets
+        requires { size < 64 }
+        ensures size { result.size ≡ size }
+        ensures pending { IsEmpty result.pending }
+        ensures read { IsEmpty result.read }
+        ensures next { IsEmpty result.next }
     {
-        let pending = Set::new(alloc, size)?;
-        let read = Set::new(alloc, size)?;
-        let next = Set::new(alloc, size)?;
-        Ok(Wide {
+        let pending = Word::new();
+        let read = Word::new();
+        let next = Word::new();
+        WordSets {
             size,
-            first: 0,
             pending,
             read,
             next,
-        })
+        }
     }
 }
 
-impl Rows for Wide {
+impl Sets for WordSets {
     ghost position = { λ r. r };
 
     #[inline]
     fn is_done(&self) -> bool {
-        match self.pending.first_from(self.first) {
-            Some(at) => at >= self.size,
-            None => true,
-        }
+        self.pending.first() >= self.size
     }
 
     #[inline]
     fn word(&self) -> Option<u64> {
-        None
+        Some(self.pending.bits())
     }
 
     #[inline]
-    fn is_at(&self, _word: u64) -> bool {
-        false
+    fn is_at(&self, word: u64) -> bool {
+        self.pending.is(word)
     }
 
     #[inline]
-    fn leads_to(&self, _word: u64) -> bool {
-        false
+    fn leads_to(&self, word: u64) -> bool {
+        self.next.is(word)
     }
 
     #[inline]
     fn take(&mut self) -> Option<usize> {
-        let at = self.pending.first_from(self.first)?;
+        let at = self.pending.first();
         if at >= self.size {
             return None;
         }
-        self.first = at / 64;
         self.pending.remove(at);
         self.read.insert(at);
         Some(at)
@@ -95,7 +89,6 @@ impl Rows for Wide {
     #[inline]
     fn insert(&mut self, at: usize) {
         if at <= self.size && !self.read.contains(at) {
-            self.first = self.first.min(at / 64);
             self.pending.insert(at);
         }
     }
@@ -119,7 +112,6 @@ impl Rows for Wide {
         mem::swap(&mut self.pending, &mut self.next);
         self.next.clear();
         self.read.clear();
-        self.first = 0;
     }
 
     #[inline]

@@ -1,7 +1,7 @@
 use Rattle.std.proofs.Common.{◌<◌, ◌≤◌, ℕ, arith}
-use Rattle.wax_program.proofs.Sets.{reads_few, takes_few, takes}
+use Rattle.wax_program.proofs.Members.{reads_few, takes_few, takes}
 use Rattle.wax_program.specs.Threads.{HoldsPlace}
-use Rattle.wax_program.proofs.wide.WideRows.take.Goals as goal
+use Rattle.wax_program.proofs.heap_sets.HeapSetsSets.take.Goals as goal
 
 pub returns-in_err-at-clause-few : goal.returns-in_err-at-clause-few
 returns-in_err-at-clause-few c =

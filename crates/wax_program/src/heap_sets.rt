@@ -1,86 +1,92 @@
-//! The places that a run has reached, for programs of fewer than 64 instructions.
-ghost use Rattle.std.specs.Prelude.{◌≡◌, ◌<◌};
+//! The places that a run has reached, for programs of any length.
+ghost use Rattle.std.specs.Prelude.{◌≡◌, IfOk};
 ghost use Rattle.wax_program.specs.Threads.{IsEmpty};
 
-use crate::rows::Rows;
-use crate::word::Word;
+use crate::set::Set;
+use crate::sets::Sets;
+use std::alloc::{AllocError, Global};
 use std::marker::Model;
 use std::mem;
 
-/// Three sets of one word each. They take no memory but their own.
+/// Three sets of words. They are allocated once a run.
 #[derive(Drop)]
-pub struct Narrow {
+pub struct HeapSets {
     /// How many instructions the program has. Places past it are never inserted.
     size: usize,
+    /// No pending place lies below this word.
+    first: usize,
     /// What is still to be read here.
-    pending: Word,
+    pending: Set,
     /// What was read here.
-    read: Word,
+    read: Set,
     /// What is to be read at the next position.
-    next: Word,
+    next: Set,
 }
 
-impl Model for Narrow {
-    ghost use Rattle.wax_program.specs.Threads.{Position, AreRows};
+impl Model for HeapSets {
+    ghost use Rattle.wax_program.specs.Threads.{Position, AreSets};
 
     ghost Value = { Position };
 
     ghost view = { λ r. record { size = r.size; pending = r.pending; read = r.read; next = r.next } };
 
-    ghost invariant = { λ r. AreRows r.size 0 r.pending r.read r.next };
+    ghost invariant = { λ r. AreSets r.size r.first r.pending r.read r.next };
 }
 
-impl Narrow {
-    /// Empty rows for a program of `size` instructions.
-    #[inline]
-    pub fn new(size: usize) -> Narrow
-        requires { size < 64 }
-        ensures size { result.size ≡ size }
-        ensures pending { IsEmpty result.pending }
-        ensures read { IsEmpty result.read }
-        ensures next { IsEmpty result.next }
+impl HeapSets {
+    /// Empty sets for a program of `size` instructions.
+    pub fn new(alloc: Global, size: usize) -> Result<HeapSets, AllocError>
+        ensures size { IfOk result (λ r. r.size ≡ size) }
+        ensures pending { IfOk result (λ r. IsEmpty r.pending) }
+        ensures read { IfOk result (λ r. IsEmpty r.read) }
+        ensures next { IfOk result (λ r. IsEmpty r.next) }
     {
-        let pending = Word::new();
-        let read = Word::new();
-        let next = Word::new();
-        Narrow {
+        let pending = Set::new(alloc, size)?;
+        let read = Set::new(alloc, size)?;
+        let next = Set::new(alloc, size)?;
+        Ok(HeapSets {
             size,
+            first: 0,
             pending,
             read,
             next,
-        }
+        })
     }
 }
 
-impl Rows for Narrow {
+impl Sets for HeapSets {
     ghost position = { λ r. r };
 
     #[inline]
     fn is_done(&self) -> bool {
-        self.pending.first() >= self.size
+        match self.pending.first_from(self.first) {
+            Some(at) => at >= self.size,
+            None => true,
+        }
     }
 
     #[inline]
     fn word(&self) -> Option<u64> {
-        Some(self.pending.bits())
+        None
     }
 
     #[inline]
-    fn is_at(&self, word: u64) -> bool {
-        self.pending.is(word)
+    fn is_at(&self, _word: u64) -> bool {
+        false
     }
 
     #[inline]
-    fn leads_to(&self, word: u64) -> bool {
-        self.next.is(word)
+    fn leads_to(&self, _word: u64) -> bool {
+        false
     }
 
     #[inline]
     fn take(&mut self) -> Option<usize> {
-        let at = self.pending.first();
+        let at = self.pending.first_from(self.first)?;
         if at >= self.size {
             return None;
         }
+        self.first = at / 64;
         self.pending.remove(at);
         self.read.insert(at);
         Some(at)
@@ -89,6 +95,7 @@ impl Rows for Narrow {
     #[inline]
     fn insert(&mut self, at: usize) {
         if at <= self.size && !self.read.contains(at) {
+            self.first = self.first.min(at / 64);
             self.pending.insert(at);
         }
     }
@@ -112,6 +119,7 @@ impl Rows for Narrow {
         mem::swap(&mut self.pending, &mut self.next);
         self.next.clear();
         self.read.clear();
+        self.first = 0;
     }
 
     #[inline]

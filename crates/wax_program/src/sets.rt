@@ -8,7 +8,7 @@ ghost use Rattle.wax_program.specs.Threads.{Taken, member_count};
 /// Three sets of places: those that are still to be read at a position of the text, those that were
 /// read there, and those of the next position. The place after the last instruction, where the program
 /// ends, is never taken.
-pub trait Rows {
+pub trait Sets {
     // The sets, and how many instructions the program has.
     ghost position: { Self → Position };
 

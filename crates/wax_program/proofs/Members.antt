@@ -2,7 +2,7 @@
 use Rattle.std.proofs.Common.{◌≡◌, ℕ, zero, suc, ◌+◌, ◌<◌, ◌≤◌, ◌⊎◌, inl, inr, Bool, true, false, List, [], ◌∷◌, length, set, refl, sym, ◌∙◌, arith, true≢false, get_or-set_same, get_or-set_other, length-set}
 use Rattle.std.proofs.lemmas.Bool.{cases_eq, cases_lt}
 use Rattle.std.proofs.lemmas.List.{get_or_past}
-use Rattle.wax_program.specs.Threads.{AreRows, HoldsPlace, IsEmpty, Taken, Within, member_count}
+use Rattle.wax_program.specs.Threads.{AreSets, HoldsPlace, IsEmpty, Taken, Within, member_count}
 
 -- a set whose places are below a number has at most that many
 pub members_within : (n : ℕ) (flags : List Bool) → Within n flags → member_count flags ≤ n
@@ -70,17 +70,17 @@ module _ (flags : List Bool) (k : ℕ) where
   ]
 
 -- the lowest place that is still to be read counts as read
-module _ (size first : ℕ) (pending read next : List Bool) (rows : AreRows size first pending read next) where
+module _ (size first : ℕ) (pending read next : List Bool) (sets : AreSets size first pending read next) where
   pub reads_few : member_count read ≤ size
-  reads_few = members_within size read rows.read_within
+  reads_few = members_within size read sets.read_within
 
   module _ (at : ℕ) (held : HoldsPlace pending at) (lt : at < size) (lowest : (k : ℕ) → HoldsPlace pending k → at ≤ k) where
     room : at < length read
-    room = omega (arith, lt, rows.read_room)
+    room = omega (arith, lt, sets.read_room)
 
     pub takes_few : member_count (set read at true) ≤ size
     takes_few = members_within size (set read at true) (λ x h. elim (added_only read at x h) [
-      | inl g ↦ rows.read_within x g
+      | inl g ↦ sets.read_within x g
       | inr same ↦ rw same lt
     ])
 
@@ -96,5 +96,5 @@ module _ (size first : ℕ) (pending read next : List Bool) (rows : AreRows size
       reads = has_added read at room;
       keeps = added_keeps read at;
       only = added_only read at;
-      counted = members_set read at room (rows.apart at held);
+      counted = members_set read at room (sets.apart at held);
     }
