@@ -15,6 +15,7 @@ globs:
 test:
 	tests/documents
 	tests/names
+	tests/widths
 	rt ci
 	tests/memory
 	tests/hostile
