@@ -1,8 +1,10 @@
 //! The texts that globs are matched against.
-ghost use Rattle.std.specs.Prelude.{◌≡◌, ℕ, List, Some, IfOk, chars, encode_utf8_all};
+ghost use Rattle.std.specs.Prelude.{◌≡◌, ℕ, List, Some, IfOk, chars, encode_utf8_all, nat_eq};
+ghost use Rattle.std.specs.Cmp.{partial_equiv_from_equiv};
+ghost use Rattle.std.specs.Cmp.Lexicographic.{pointwise, nat_list_eq_equiv};
 ghost use Rattle.std.specs.Cow.{cow_str_bytes};
 
-use std::alloc::Global;
+use std::alloc::{AllocError, Global};
 use std::borrow::CowStr;
 use std::convert::AsStr;
 use std::fmt;
@@ -38,6 +40,41 @@ impl<'t> CandidatePath<'t> {
             text: CowStr::Owned(text),
         })
     }
+
+    /// A copy with a text of its own. Refused with 10 where memory is.
+    pub fn to_owned(&self, alloc: Global) -> Result<CandidatePath<'static>, NoMemory>
+        ensures { IfOk result (λ copy. copy ≡ self.now) }
+    {
+        Ok(CandidatePath {
+            text: CowStr::Owned(String::from_str(alloc, self.as_str())?),
+        })
+    }
+}
+
+/// A copy that borrows its text where this path does, and then takes no memory.
+impl Clone for CandidatePath<'_> {
+    ghost is_clone = { λ path copy. copy ≡ path };
+
+    fn clone(&self) -> Result<Self, AllocError> {
+        Ok(CandidatePath {
+            text: self.text.clone()?,
+        })
+    }
+}
+
+/// Paths are equal where their texts are.
+impl PartialEq for CandidatePath<'_> {
+    ghost eq = { pointwise nat_eq };
+
+    ghost laws = { partial_equiv_from_equiv nat_list_eq_equiv };
+
+    fn eq(&self, other: &Self) -> bool {
+        self.as_str() == other.as_str()
+    }
+}
+
+impl Eq for CandidatePath<'_> {
+    ghost laws = { nat_list_eq_equiv };
 }
 
 impl AsStr for CandidatePath<'_> {

@@ -5,13 +5,13 @@ ghost use Rattle.wax_candidate.specs.Matched.{texts};
 ghost use Rattle.wax_candidate.specs.Parts.{IsPart, cut};
 
 use crate::candidate::CandidatePath;
-use std::alloc::Global;
+use std::alloc::{AllocError, Global};
 use std::borrow::CowStr;
 use std::marker::Model;
 use wax_query::diagnostics::NoMemory;
 
 /// A text and what was captured of it. Contracts see the characters of the text and of the captures.
-#[derive(Drop)]
+#[derive(Debug, Drop)]
 pub struct MatchedText<'t> {
     text: CowStr<'t>,
     /// Where each capture begins and ends, in bytes.
@@ -102,5 +102,17 @@ impl<'t> MatchedText<'t> {
         let captures = self.captures.clone()?;
         let text = CowStr::Owned(String::from_str(alloc, self.text.as_str())?);
         Ok(MatchedText { text, captures })
+    }
+}
+
+/// A copy that borrows its text where this one does.
+impl Clone for MatchedText<'_> {
+    ghost is_clone = { λ m copy. copy ≡ m };
+
+    fn clone(&self) -> Result<Self, AllocError> {
+        Ok(MatchedText {
+            text: self.text.clone()?,
+            captures: self.captures.clone()?,
+        })
     }
 }
