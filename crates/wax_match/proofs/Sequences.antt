@@ -8,14 +8,6 @@ use Rattle.wax_token.specs.Cost.{holds_tree}
 use Rattle.wax_token.specs.Syntax.{Tree}
 use Rattle.wax_token.specs.Words.{trees}
 
-pub or_left : (a b c : Bool) → a ≡ true → b ≡ a → b ≡ (a || c)
-or_left true b c e f = f
-or_left false b c e f = cc
-
-pub or_right : (a b c : Bool) → a ≡ false → b ≡ c → b ≡ (a || c)
-or_right false b c e f = f
-or_right true b c e f = cc
-
 or_true : (b c : Bool) → c ≡ true → (b || c) ≡ true
 or_true true c e = refl
 or_true false c e = e

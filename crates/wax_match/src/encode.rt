@@ -7,7 +7,7 @@ ghost use Rattle.wax_token.specs.Words.{trees};
 ghost use Rattle.wax_program.specs.Machine.{Accepts};
 
 use cost::{LONGEST, weigh_all};
-use emission::put_sequence;
+use sides::Sides;
 use std::alloc::Global;
 use tail::Tail;
 use thiserror::Error;
@@ -18,6 +18,7 @@ mod cost;
 mod emission;
 mod folding;
 mod leaves;
+mod sides;
 mod tail;
 
 pub use folding::case_folded_eq;
@@ -48,6 +49,6 @@ pub fn compile<'t, A>(
         return Err(Refusal::Refused(CompileError));
     }
     let mut tail = Tail::new(alloc);
-    put_sequence(alloc, &mut tail, tokens, before, after)?;
+    tail.put_sequence(tokens, Sides { before, after })?;
     Ok(Program::new(tail.into_instructions(), cost + 1))
 }

@@ -4,63 +4,90 @@ ghost use Rattle.wax_match.specs.inner.Code.{leaf_instructions, literal_code, sk
 ghost use Rattle.wax_match.specs.inner.Code.{wildcard_code};
 ghost use Rattle.wax_token.specs.View.{leaf_of};
 
+use crate::encode::sides::Sides;
 use crate::encode::tail::Tail;
 use std::alloc::{AllocError, Global};
 use unicode::case::simple_fold;
 use wax_program::instruction::{Instruction, Test};
 use wax_token::token::{Class, LeafKind, Literal, Wildcard};
 
-fn put_slash(tail: &mut Tail) -> Result<(), AllocError>
-    ensures { OnOk result (tail.new ≡ slash_code ++ tail.old) }
-{
-    tail.put(Instruction::Check(Test::Char('/')))?;
-    Ok(())
-}
-
-/// A text that ends with `/`, or none.
-fn put_components(tail: &mut Tail) -> Result<(), AllocError>
-    ensures { OnOk result (tail.new ≡ skip (Instruction.Components ∷ []) ++ tail.old) }
-{
-    tail.put(Instruction::Components)?;
-    tail.put(Instruction::Fork(1))?;
-    Ok(())
-}
-
-/// A text that begins with `/`.
-fn put_rest(tail: &mut Tail) -> Result<(), AllocError>
-    ensures { OnOk result (tail.new ≡ slash_code ++ Instruction.Repeat Test.Any ∷ tail.old) }
-{
-    tail.put(Instruction::Repeat(Test::Any))?;
-    put_slash(tail)?;
-    Ok(())
-}
-
-fn put_wildcard(
-    tail: &mut Tail,
-    before: bool,
-    after: bool,
-    has_root: bool,
-) -> Result<(), AllocError>
-    ensures { OnOk result (tail.new ≡ wildcard_code before after has_root ++ tail.old) }
-{
-    if before && !after {
-        put_rest(tail)?;
-        tail.put(Instruction::Fork(2))?;
-        return Ok(());
-    }
-    if !before && !after {
-        if has_root {
-            put_rest(tail)?;
-        } else {
-            tail.put(Instruction::Repeat(Test::Any))?;
+impl Tail {
+    /// Writes a leaf.
+    pub fn put_leaf(&mut self, leaf: &LeafKind<'_>, sides: Sides) -> Result<(), AllocError>
+        ensures { OnOk result
+            (self.new ≡ leaf_instructions (leaf_of leaf.now) sides.before sides.after ++ self.old) }
+    {
+        match leaf {
+            LeafKind::Class(class) => {
+                let class = copy(self.allocator(), class)?;
+                self.put(Instruction::Check(Test::Class(class)))
+            }
+            LeafKind::Literal(literal) => self.put_literal(literal),
+            LeafKind::Separator(_) => self.put_slash(),
+            LeafKind::Wildcard(wildcard) => match wildcard {
+                Wildcard::One => self.put(Instruction::Check(Test::NotSlash)),
+                Wildcard::ZeroOrMore(_) => self.put(Instruction::Repeat(Test::NotSlash)),
+                Wildcard::Tree { has_root } => self.put_wildcard(sides, *has_root),
+            },
         }
-        return Ok(());
     }
-    put_components(tail)?;
-    if before || has_root {
-        put_slash(tail)?;
+
+    fn put_literal(&mut self, literal: &Literal<'_>) -> Result<(), AllocError>
+        ensures { OnOk result (self.new ≡ literal_code literal.now.0 literal.now.1 ++ self.old) }
+    {
+        let characters = characters(self.allocator(), literal.text())?;
+        let mut index = characters.len();
+        while index > 0 {
+            index -= 1;
+            let test = test_of(literal.is_case_insensitive(), characters[index]);
+            self.put(Instruction::Check(test))?;
+        }
+        Ok(())
     }
-    Ok(())
+
+    fn put_slash(&mut self) -> Result<(), AllocError>
+        ensures { OnOk result (self.new ≡ slash_code ++ self.old) }
+    {
+        self.put(Instruction::Check(Test::Char('/')))
+    }
+
+    /// Writes a tree wildcard.
+    fn put_wildcard(&mut self, sides: Sides, has_root: bool) -> Result<(), AllocError>
+        ensures { OnOk result
+            (self.new ≡ wildcard_code sides.before sides.after has_root ++ self.old) }
+    {
+        if sides.after {
+            self.put_components()?;
+            if sides.before || has_root {
+                self.put_slash()?;
+            }
+            return Ok(());
+        }
+        if sides.before {
+            self.put_rest()?;
+            self.put(Instruction::Fork(2))
+        } else if has_root {
+            self.put_rest()
+        } else {
+            self.put(Instruction::Repeat(Test::Any))
+        }
+    }
+
+    /// A text that ends with `/`, or none.
+    fn put_components(&mut self) -> Result<(), AllocError>
+        ensures { OnOk result (self.new ≡ skip (Instruction.Components ∷ []) ++ self.old) }
+    {
+        self.put(Instruction::Components)?;
+        self.put(Instruction::Fork(1))
+    }
+
+    /// A text that begins with `/`.
+    fn put_rest(&mut self) -> Result<(), AllocError>
+        ensures { OnOk result (self.new ≡ slash_code ++ Instruction.Repeat Test.Any ∷ self.old) }
+    {
+        self.put(Instruction::Repeat(Test::Any))?;
+        self.put_slash()
+    }
 }
 
 /// The test for a character of a literal.
@@ -75,19 +102,6 @@ fn test_of(is_case_insensitive: bool, c: char) -> Test
     }
 }
 
-fn put_literal(alloc: Global, tail: &mut Tail, literal: &Literal<'_>) -> Result<(), AllocError>
-    ensures { OnOk result (tail.new ≡ literal_code literal.now.0 literal.now.1 ++ tail.old) }
-{
-    let characters = characters(alloc, literal.text())?;
-    let mut index = characters.len();
-    while index > 0 {
-        index -= 1;
-        let test = test_of(literal.is_case_insensitive(), characters[index]);
-        tail.put(Instruction::Check(test))?;
-    }
-    Ok(())
-}
-
 pub fn characters(alloc: Global, text: &str) -> Result<Vec<char>, AllocError>
     ensures { IfOk result (λ v. v.items ≡ chars text.now) }
 {
@@ -99,30 +113,4 @@ fn copy(alloc: Global, class: &Class) -> Result<Class, AllocError>
 {
     let archetypes = class.archetypes().to_vec(alloc)?;
     Ok(Class::new(class.is_negated(), archetypes))
-}
-
-/// Writes a leaf.
-pub fn put_leaf(
-    alloc: Global,
-    tail: &mut Tail,
-    leaf: &LeafKind<'_>,
-    before: bool,
-    after: bool,
-) -> Result<(), AllocError>
-    ensures { OnOk result (tail.new ≡ leaf_instructions (leaf_of leaf.now) before after ++ tail.old) }
-{
-    match leaf {
-        LeafKind::Class(class) => {
-            let class = copy(alloc, class)?;
-            tail.put(Instruction::Check(Test::Class(class)))?;
-        }
-        LeafKind::Literal(literal) => put_literal(alloc, tail, literal)?,
-        LeafKind::Separator(_) => put_slash(tail)?,
-        LeafKind::Wildcard(wildcard) => match wildcard {
-            Wildcard::One => tail.put(Instruction::Check(Test::NotSlash))?,
-            Wildcard::ZeroOrMore(_) => tail.put(Instruction::Repeat(Test::NotSlash))?,
-            Wildcard::Tree { has_root } => put_wildcard(tail, before, after, *has_root)?,
-        },
-    }
-    Ok(())
 }

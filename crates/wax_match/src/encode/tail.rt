@@ -33,6 +33,11 @@ impl Tail {
         }
     }
 
+    /// The allocator that it was made with.
+    pub fn allocator(&self) -> Global {
+        *self.reversed.allocator()
+    }
+
     pub fn len(&self) -> usize
         ensures { result ≡ length self.now }
     {

@@ -2,7 +2,7 @@ use Rattle.std.proofs.Common.{◌≡◌, ◌+◌, ◌*◌, ◌≤◌, ◌++◌, 
 use Rattle.wax_match.specs.inner.Code.{branches_code, copies_code, sequence_code, instructions_of, up_to_code}
 use Rattle.wax_token.specs.Syntax.{tree_size, trees_size}
 use Rattle.wax_token.specs.Words.{trees}
-use Rattle.wax_match.proofs.encode.emission.+put.Given as goal
+use Rattle.wax_match.proofs.encode.tail.Tail.+put.Given as goal
 
 abbrev pub decreases-put_token : goal.decreases-put_token
 decreases-put_token g l = 8 * tree_size l.token.now
@@ -43,7 +43,7 @@ decreases-put_loop_of g l = 8 * tree_size l.body.now + 2
 abbrev pub invariant-put_sequence-loop-index : goal.invariant-put_sequence-loop-index
 invariant-put_sequence-loop-index g l = record {
   within : l.index ≤ length l.tokens;
-  written : l.tail ≡ sequence_code (trees (drop l.index l.tokens)) (l.before || ltb 0 l.index) l.after ++ l.fn.tail;
+  written : l.self ≡ sequence_code (trees (drop l.index l.tokens)) (l.sides.before || ltb 0 l.index) l.sides.after ++ l.fn.self;
 }
 
 abbrev pub decreases-put_sequence-loop-index : goal.decreases-put_sequence-loop-index
@@ -52,14 +52,14 @@ decreases-put_sequence-loop-index g l = l.index
 abbrev pub invariant-put_branches-loop-index : goal.invariant-put_branches-loop-index
 invariant-put_branches-loop-index g l = record {
   within : l.index ≤ length l.tokens;
-  written : l.tail ≡ branches_code (trees (drop l.index l.tokens)) l.before l.after ++ l.fn.tail;
+  written : l.self ≡ branches_code (trees (drop l.index l.tokens)) l.sides.before l.sides.after ++ l.fn.self;
 }
 
 abbrev pub decreases-put_branches-loop-index : goal.decreases-put_branches-loop-index
 decreases-put_branches-loop-index g l = l.index
 
 abbrev pub invariant-put_copies-loop-copy : goal.invariant-put_copies-loop-copy
-invariant-put_copies-loop-copy g l = l.tail ≡ copies_code l._copy (instructions_of l.body l.before l.after) ++ l.fn.tail
+invariant-put_copies-loop-copy g l = l.self ≡ copies_code l._copy (instructions_of l.body l.sides.before l.sides.after) ++ l.fn.self
 
 abbrev pub invariant-put_up_to-loop-copy : goal.invariant-put_up_to-loop-copy
-invariant-put_up_to-loop-copy g l = l.tail ≡ up_to_code l._copy (instructions_of l.body l.before l.after) ++ l.fn.tail
+invariant-put_up_to-loop-copy g l = l.self ≡ up_to_code l._copy (instructions_of l.body l.sides.before l.sides.after) ++ l.fn.self

@@ -1,11 +1,11 @@
 use Rattle.std.proofs.Common.{◌≡◌, ◌≤◌, ◌++◌, drop, length}
 use Rattle.wax_match.specs.inner.Code.{literal_code}
-use Rattle.wax_match.proofs.encode.leaves.put_literal.Given as goal
+use Rattle.wax_match.proofs.encode.tail.Tail.put_literal.Given as goal
 
 abbrev pub invariant-loop-index : goal.invariant-loop-index
 invariant-loop-index l = record {
   within : l.index ≤ length l.characters.items;
-  written : l.tail ≡ literal_code l.literal.0 (drop l.index l.characters.items) ++ l.fn.tail;
+  written : l.self ≡ literal_code l.literal.0 (drop l.index l.characters.items) ++ l.fn.self;
 }
 
 abbrev pub decreases-loop-index : goal.decreases-loop-index
