@@ -4,6 +4,7 @@ pub mod Resting
 pub mod Stepping
 pub mod Naming
 pub mod Settling
+pub mod Finding
 pub mod Making
 pub mod Kept
 pub mod InRange

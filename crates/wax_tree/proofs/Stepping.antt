@@ -16,7 +16,6 @@ use Rattle.wax_directory.specs.Shown.{a_leaf, a_folder, a_sealed, missing, faili
 use Rattle.wax_directory.specs.Shown.{first_item, child_shown}
 use Rattle.wax_walk.specs.declared.entry.TreeEntry.{TreeEntry}
 use Rattle.wax_walk.specs.declared.error.WalkError.{WalkError}
-use Rattle.wax_walk.specs.declared.error.WalkError.TheVariants.{Memory}
 use Rattle.wax_walk.specs.declared.error.FaultKind.TheVariants.{Listing}
 use Rattle.wax_walk.specs.Forest.{Forest, nothing, item, lists, followed_by, Pending, pending, all_pending}
 use Rattle.wax_walk.specs.Forest.{FirstIs, IsListed, listed_next}
@@ -36,7 +35,7 @@ use Rattle.wax_tree.specs.Walking.{HasKind, IsAlone, IsFolder, tree_given, enter
 use Rattle.wax_tree.specs.Walking.{folder_spot, place_spot, scope_of, cursors_of, allowance}
 use Rattle.wax_tree.specs.Walking.{Rest, FirstShows, EnteredShows, LevelsShow, AtRest}
 use Rattle.wax_tree.specs.Walking.{PlainToCome, WereListed, steps_view, MovesOn}
-use Rattle.wax_tree.specs.Stepping.{Blames, StepIs, Beside}
+use Rattle.wax_tree.specs.Stepping.{StepIs, Beside}
 use Rattle.wax_tree.specs.Stepping.{listing_pending, Adds, AddsFirst, Saves, items_left, steps_left}
 use Rattle.wax_tree.proofs.Showing.{silent, in_range, from_last_end, follows_folder, child_counts}
 use Rattle.wax_tree.proofs.Resting.{comes_after, comes_rest, rest_pushed}
@@ -95,23 +94,6 @@ module _ {D C : Type 0} (law : Law D C) where
       gives items (λ n. omega (arith, a (λ i. n (subst (λ v. IsLast (Some v)) (sym e) i))))
       (subst (λ f. FirstIs (PlainToCome law new) f listed items (Some (tree_given r))) (sym is)
       (ap Some e, c))
-
-  -- a fault was given, or memory was refused
-  pub blamed : (w new : Steps D C) (head g : Forest Given) (listed : List (List ℕ)) (items : ℕ) (x : Given)
-      (r : Step) → head ≡ item x nothing g → Blames x w r new
-      → PlainToCome law w (pending nothing g listed items) → StepIs law w (pending nothing head listed items)
-      r new
-  blamed w new head g listed items x (Gives y) is h c = elim h [
-    | inl m ↦ let n : y ≡ Err Memory = cc in lacks_memory (ap (λ v. Some (tree_given v)) n)
-    | inr m ↦
-        let e : tree_given y ≡ x = cc in
-        gives_fault w new head g listed items x y is e (λ n. ap allowance m.1)
-        (subst (λ v. PlainToCome law v (pending nothing g listed items)) (sym m.1) c)
-  ]
-  blamed w new head g listed items x GoesOn is h c =
-      elim h [ inl m ↦ (cc) | inr m ↦ let n : None ≡ Some x = m.0 in cc ]
-  blamed w new head g listed items x Ends is h c =
-      elim h [ inl m ↦ (cc) | inr m ↦ let n : None ≡ Some x = m.0 in cc ]
 
   -- a folder was opened
   pub enters : (w v : Steps D C) (d : D) (lv : Level C) (s : Shown) (rest : Rest) (items : ℕ)

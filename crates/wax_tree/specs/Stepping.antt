@@ -1,12 +1,11 @@
 -- What a step of a walk does.
 use Rattle.std.specs.Prelude.{◌≡◌, ℕ, ◌+◌, ◌*◌, ◌<◌, ◌≤◌, true, cond, length, Option, Some, None}
-use Rattle.std.specs.Prelude.{Err, ◌⊎◌, string_bytes}
+use Rattle.std.specs.Prelude.{string_bytes}
 use Rattle.std.specs.List.{Contains}
 use Rattle.wax_directory.specs.Counting.{no_counts}
 use Rattle.wax_directory.specs.declared.tally.Tally.{Tally}
 use Rattle.wax_directory.specs.Law.{Law, HoldsLast}
 use Rattle.wax_directory.specs.Shown.{Items, ShowsIn}
-use Rattle.wax_walk.specs.declared.error.WalkError.TheVariants.{Memory}
 use Rattle.wax_walk.specs.Forest.{Forest, nothing, followed_by, Pending, pending}
 use Rattle.wax_walk.specs.Given.{Given}
 use Rattle.wax_walk.specs.View.{Accounts, GivesOrStops, IsLast, IsMisplaced, Takes, fault_counts}
@@ -42,11 +41,6 @@ first_steps None = 0
 first_steps (Some place) = 4 + length place.names.items
 
 module _ {D C : Type 0} where
-  -- the walk gives this fault, or that memory was refused, and ends
-  abbrev pub Blames : Given → Steps D C → Step → Steps D C → Type 0
-  Blames x old r new = ((r ≡ Gives (Err Memory)) × (new ≡ record old { has_ended = true })) ⊎
-      ((step_given r ≡ Some x) × (new ≡ old))
-
   -- what a step makes of an answer, with no further question
   pub record Settles (asked : Asked) (old : Steps D C) (r : Step) (new : Steps D C) : Type 0 where
     pub goes_on : r ≡ Ends → ⊥

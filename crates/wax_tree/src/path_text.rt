@@ -16,11 +16,12 @@ fn is_open(path: &str) -> bool
     }
 }
 
-/// The path of a name in a folder.
+/// The path of a name in a folder. It asks for memory once.
 pub(crate) fn join(alloc: Global, folder: &str, name: &str) -> Result<String, AllocError>
     ensures { IfOk result (λ path. string_bytes path ≡ join_path folder.now name.now) }
 {
-    let mut path = String::from_str(alloc, folder)?;
+    let mut path = String::with_capacity(alloc, folder.len() + name.len() + 1)?;
+    path.push_str(folder)?;
     if !is_open(folder) {
         path.push('/')?;
     }

@@ -5,15 +5,17 @@ ghost use Rattle.std.specs.Prelude.{Option, Some, None, Ok, true, false, OnOk, I
 ghost use Rattle.std.specs.Prelude.{MatchOption, ⊤};
 ghost use Rattle.wax_directory.specs.Answers.{listed_of};
 ghost use Rattle.wax_directory.specs.Counting.{kind_counts, item_counts};
-ghost use Rattle.wax_directory.specs.Shown.{Items, Shown, ShowsIn, IsPlain, named, first_item, rest_of};
+ghost use Rattle.wax_directory.specs.Shown.{Items, Shown, ShowsIn, first_item, rest_of};
+ghost use Rattle.wax_directory.specs.declared.directory.ListItem.{ListItem};
 ghost use Rattle.wax_walk.specs.Forest.{Forest, Pending, followed_by};
 ghost use Rattle.wax_walk.specs.Given.{Given, fault};
 ghost use Rattle.wax_walk.specs.View.{Accounts, FeedStep};
+ghost use Rattle.wax_tree.specs.inner.Finding.{IsEntry, IsFault, IsFound};
 ghost use Rattle.wax_tree.specs.inner.Heads.{first_item_forest, own_count};
 ghost use Rattle.wax_tree.specs.Plain.{Spot, entry_forest, below_forest, count, count_shown};
 ghost use Rattle.wax_tree.specs.Prefix.{ArePlain, from_last, walk_from};
 ghost use Rattle.wax_tree.specs.Stepping.{Settles, nothing_asked, Adds, AddsFirst, Saves, Spends, StepIs};
-ghost use Rattle.wax_tree.specs.Stepping.{Continues, Beside, listing_pending, StepAnswers, IsStep, Blames};
+ghost use Rattle.wax_tree.specs.Stepping.{Continues, Beside, listing_pending, StepAnswers, IsStep};
 ghost use Rattle.wax_tree.specs.Stepping.{items_left};
 ghost use Rattle.wax_tree.specs.Walking.{HasKind, IsFolder, EnteredShows, PlainToCome, entered_forest};
 ghost use Rattle.wax_tree.specs.Walking.{place_spot, folder_spot, scope_of, steps_view, names_left};
@@ -58,6 +60,14 @@ enum Step {
     Ends,
 }
 
+/// What an item of a folder stands for: an entry, with its path, candidate and kind, or a fault of the
+/// folder with this path.
+#[derive(Drop)]
+enum Found {
+    Entry(String, String, FileType),
+    Fault(FaultKind, String),
+}
+
 /// A plain walk: what is yet to be entered, and the folders that are being listed, the outermost
 /// first.
 #[derive(Drop)]
@@ -80,6 +90,40 @@ pub struct Range {
     pub min: usize,
     pub max: usize,
     pub budget: u32,
+}
+
+// The entry of a name in a folder.
+fn entry_in(alloc: Global, folder: &Folder, name: &str, kind: FileType) -> Result<Found, AllocError>
+    ensures { IfOk result (IsEntry (folder_spot folder.now) name.now kind) }
+{
+    let path = join(alloc, folder.path.as_str(), name)?;
+    let candidate = join(alloc, folder.candidate.as_str(), name)?;
+    Ok(Found::Entry(path, candidate, kind))
+}
+
+// A fault of a folder.
+fn fault_in(folder: &Folder, kind: FaultKind) -> Result<Found, AllocError>
+    ensures { IfOk result (IsFault (folder_spot folder.now) kind) }
+{
+    let path = folder.path.clone()?;
+    Ok(Found::Fault(kind, path))
+}
+
+// What an item of a folder stands for.
+fn found_in(alloc: Global, folder: &Folder, item: ListItem) -> Result<Found, AllocError>
+    ensures { IfOk result (IsFound (folder_spot folder.now) item) }
+{
+    match item {
+        ListItem::Name(name, kind) => {
+            if is_plain(name.as_str()) {
+                entry_in(alloc, folder, name.as_str(), kind)
+            } else {
+                fault_in(folder, FaultKind::BadName)
+            }
+        }
+        ListItem::Failed => fault_in(folder, FaultKind::Listing),
+        ListItem::NotText => fault_in(folder, FaultKind::NotText),
+    }
 }
 
 impl<D: Directory> Steps<D> {
@@ -295,64 +339,22 @@ impl<D: Directory> Steps<D> {
         }
     }
 
-    // A fault in a folder, in which what is has this depth.
-    fn blame(&mut self, kind: FaultKind, folder: &str, depth: usize) -> Step
-        ensures { Blames (fault kind folder.now (depth - 1)) self.old result self.new }
-    {
-        match String::from_str(self.alloc, folder) {
-            Ok(path) => Step::Gives(Err(WalkError::Fault(kind, path, depth.saturating_sub(1)))),
-            Err(_) => self.fail(),
-        }
-    }
-
-    // The entry of a name in a folder.
-    fn take_name(
-        &mut self,
-        folder: &str,
-        candidate: &str,
-        depth: usize,
-        name: &str,
-        kind: FileType,
-    ) -> Step
-        ensures settles { Settles (nothing_asked (names_left self.old)) self.old result self.new }
-        ensures continues { (l : Items) → Some (named name.now kind) ≡ first_item l → IsPlain name.now
-            → ShowsIn (D.law.shows self.old.directory) folder.now l
-            → let at : Spot = record { path = folder.now; candidate = candidate.now; depth = depth } in
-            Continues D.law self.old (first_item_forest (scope_of self.old) at l) (own_count l) result
-            self.new }
-        ensures adds { (self.old.entered ≡ None) → Adds 1 2 self.old result self.new }
-    {
-        let Ok(path) = join(self.alloc, folder, name) else {
-            return self.fail();
-        };
-        let Ok(candidate) = join(self.alloc, candidate, name) else {
-            return self.fail();
-        };
-        self.give(path, candidate, kind, depth)
-    }
-
-    // An item of a folder.
-    fn take_item(&mut self, folder: &str, candidate: &str, depth: usize, item: ListItem) -> Step
-        ensures settles { Settles
-            (record { counts = item_counts item; taken = 0; names = names_left self.old })
+    // Gives what was found in a folder, in which what is has this depth.
+    fn give_found(&mut self, found: Found, depth: usize) -> Step
+        ensures settles { (at : Spot) (x : ListItem) → IsFound at x found
+            → Settles (record { counts = item_counts x; taken = 0; names = names_left self.old })
             self.old result self.new }
-        ensures continues { (l : Items) → Some (listed_of item) ≡ first_item l
-            → ShowsIn (D.law.shows self.old.directory) folder.now l
-            → let at : Spot = record { path = folder.now; candidate = candidate.now; depth = depth } in
-            Continues D.law self.old (first_item_forest (scope_of self.old) at l) (own_count l) result
+        ensures continues { (at : Spot) (x : ListItem) (l : Items) → IsFound at x found → at.depth ≡ depth
+            → Some (listed_of x) ≡ first_item l → ShowsIn (D.law.shows self.old.directory) at.path l
+            → Continues D.law self.old (first_item_forest (scope_of self.old) at l) (own_count l) result
             self.new }
         ensures adds { (self.old.entered ≡ None) → Adds 1 2 self.old result self.new }
     {
-        match item {
-            ListItem::Name(name, kind) => {
-                if is_plain(name.as_str()) {
-                    self.take_name(folder, candidate, depth, name.as_str(), kind)
-                } else {
-                    self.blame(FaultKind::BadName, folder, depth)
-                }
+        match found {
+            Found::Entry(path, candidate, kind) => self.give(path, candidate, kind, depth),
+            Found::Fault(kind, path) => {
+                Step::Gives(Err(WalkError::Fault(kind, path, depth.saturating_sub(1))))
             }
-            ListItem::Failed => self.blame(FaultKind::Listing, folder, depth),
-            ListItem::NotText => self.blame(FaultKind::NotText, folder, depth),
         }
     }
 
@@ -375,17 +377,14 @@ impl<D: Directory> Steps<D> {
             return self.stop(FaultKind::Budget, folder.path, depth);
         }
         self.budget -= 1;
-        let Ok(path) = folder.path.clone() else {
-            return self.fail();
-        };
-        let Ok(candidate) = folder.candidate.clone() else {
+        let Ok(found) = found_in(self.alloc, &folder, item) else {
             return self.fail();
         };
         let depth = folder.depth;
         let Ok(()) = self.levels.push(Level { folder, cursor }) else {
             return self.fail();
         };
-        self.take_item(path.as_str(), candidate.as_str(), depth, item)
+        self.give_found(found, depth)
     }
 
     // A step in a folder that is being listed.

@@ -1,10 +1,12 @@
 use Rattle.std.proofs.Common.{arith, ap, refl, string_bytes, ◌≡◌, ◌≤◌, ◌+◌, ◌∙◌, cond}
 use Rattle.std.proofs.Common.{length-append, length, ◌-◌}
 use Rattle.wax_directory.specs.Answers.{listed_of}
+use Rattle.wax_directory.specs.Counting.{item_counts}
 use Rattle.wax_directory.specs.Shown.{rest_of}
 use Rattle.wax_tree.specs.inner.Heads.{own_count}
 use Rattle.wax_tree.specs.Plain.{count}
-use Rattle.wax_tree.specs.Walking.{scope_of, folder_spot, allowance}
+use Rattle.wax_tree.specs.Walking.{scope_of, folder_spot, allowance, names_left}
+use Rattle.wax_tree.proofs.Finding.{taken_settles}
 use Rattle.wax_tree.proofs.Resting.{rest_pushed, rest_spent}
 use Rattle.wax_tree.proofs.Settling.{stops_over, step_from}
 use Rattle.wax_tree.proofs.Showing.{headed_is, count_rest}
@@ -20,12 +22,21 @@ returns-then-self-eq0-clause-lists g c l rest items h b i e =
     stops_over g.D.Directory.law w c.stop.new.self _ (string_bytes c.args.folder.path) _ c.stop.result
     c.stop.ensures.gives (omega (arith, none, allowed, one, e)) b.opened
 
+pub returns-clause-settles : goal.returns-clause-settles
+returns-clause-settles g c running =
+    let w = c.args.self.now in
+    let none : w.budget ≡ 0 → ⊥ = c.if-self-eq0.false in
+    let mid = record w { levels = c.push.new.self; budget = w.budget - 1 } in
+    let allowed : allowance w ≡ w.budget + 1 = ap (λ v. cond v 0 (w.budget + 1)) running in
+    let allowed_then : allowance mid ≡ w.budget - 1 + 1 = ap (λ v. cond v 0 (w.budget - 1 + 1)) running in
+    taken_settles (item_counts c.args.item) (names_left w) w mid c.give_found.new.self c.give_found.result
+    refl (omega (arith, none, allowed, allowed_then))
+    (c.give_found.ensures.settles (folder_spot c.args.folder) c.args.item c.in-Ok.ensures)
+
 pub returns-clause-lists : goal.returns-clause-lists
 returns-clause-lists g c l rest items h b i e =
     let law = g.D.Directory.law in
     let w = c.args.self.now in
-    let p = c.as_str.ensures.value ∙ c.in-Ok.ensures.cases in
-    let q = c.as_str-2.ensures.value ∙ c.in-Ok-clone.ensures.cases in
     let none : w.budget ≡ 0 → ⊥ = c.if-self-eq0.false in
     let pushed = record w { levels = c.push.new.self } in
     let mid = record w { levels = c.push.new.self; budget = w.budget - 1 } in
@@ -37,8 +48,9 @@ returns-clause-lists g c l rest items h b i e =
     (rest_pushed law w pushed (record { folder = c.args.folder; cursor = c.args.cursor }) (rest_of l) rest
     b.rests b.held b.shown b.opened c.in-Ok-push.ensures.items) in
     let few : own_count l + (rest.count + count (rest_of l)) ≤ items - 1 = omega (arith, one, e) in
-    let st = rw (p, q) at (c.take_item.ensures.continues l h (rw p i) _ (items - 1) at_rest few) in
-    step_from law w mid c.take_item.new.self _ _ c.take_item.result
+    let st = c.give_found.ensures.continues (folder_spot c.args.folder) c.args.item l c.in-Ok.ensures refl h i
+    _ (items - 1) at_rest few in
+    step_from law w mid c.give_found.new.self _ _ c.give_found.result
     (headed_is (scope_of w) (folder_spot c.args.folder) (listed_of c.args.item) l rest.forest h) refl
     (omega (arith, none, allowed, allowed_then, one, e)) st
 
@@ -47,5 +59,5 @@ returns-clause-saves g c e n =
     let none : c.args.self.now.budget ≡ 0 → ⊥ = c.if-self-eq0.false in
     let mid = record c.args.self.now { levels = c.push.new.self; budget = c.args.self.now.budget - 1 } in
     let long = ap length c.in-Ok-push.ensures.items ∙ length-append c.args.self.now.levels.items _ in
-    saves_after c.args.self.now mid c.take_item.new.self c.take_item.result (omega arith)
-    (omega (arith, long)) (c.take_item.ensures.adds e)
+    saves_after c.args.self.now mid c.give_found.new.self c.give_found.result (omega arith)
+    (omega (arith, long)) (c.give_found.ensures.adds e)

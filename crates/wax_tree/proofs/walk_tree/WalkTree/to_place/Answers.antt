@@ -1,4 +1,4 @@
-use Rattle.std.proofs.Common.{◌≡◌, ◌≤◌, ◌<◌, ◌+◌, ◌-◌, ◌^◌, length, refl, arith, ap, string_bytes, false}
+use Rattle.std.proofs.Common.{◌≡◌, ◌≤◌, ◌+◌, ◌-◌, ◌^◌, length, refl, arith, ap, string_bytes, false}
 use Rattle.std.specs.Prelude.{Some, None}
 use Rattle.wax_tree.specs.Lacking.{goes}
 use Rattle.wax_tree.specs.Prefix.{from_last}

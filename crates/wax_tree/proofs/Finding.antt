@@ -1,0 +1,180 @@
+-- What is found in a folder.
+use Rattle.std.proofs.Common.{◌≡◌, ℕ, ◌+◌, ◌-◌, List, false, inl, inr, sym, subst, ◌∙◌, arith, string_bytes}
+use Rattle.std.proofs.lemmas.Str.{IsUtf8-string_bytes}
+use Rattle.std.specs.Prelude.{Option, Some, None, Err, String}
+use Rattle.std.specs.declared.alloc.Global.{Global}
+use Rattle.wax_directory.specs.declared.directory.FileType.{FileType}
+use Rattle.wax_directory.specs.declared.directory.ListItem.{ListItem}
+use Rattle.wax_directory.specs.declared.directory.ListItem.TheVariants as I
+use Rattle.wax_directory.specs.declared.tally.Tally.{Tally}
+use Rattle.wax_directory.specs.Answers.{listed_of}
+use Rattle.wax_directory.specs.Counting.{item_counts, no_counts}
+use Rattle.wax_directory.specs.Names.{is_plain}
+use Rattle.wax_directory.specs.Shown.{Items, Shown, ShowsIn, first_item}
+use Rattle.wax_directory.specs.TreeLaw.{not_plain, plain_of}
+use Rattle.wax_walk.specs.declared.error.FaultKind.{FaultKind}
+use Rattle.wax_walk.specs.declared.error.FaultKind.TheVariants as K
+use Rattle.wax_walk.specs.declared.error.WalkError.TheVariants as W
+use Rattle.wax_walk.specs.Forest.{Forest, nothing, item}
+use Rattle.wax_walk.specs.Given.{Given, entry, fault, no_memory}
+use Rattle.wax_walk.specs.View.{Takes, fault_counts}
+use Rattle.wax_tree.specs.declared.steps.Found.TheVariants.{Entry, Fault}
+use Rattle.wax_tree.specs.declared.steps.Step.{Step}
+use Rattle.wax_tree.specs.declared.steps.Step.TheVariants.{Gives}
+use Rattle.wax_tree.specs.declared.steps.Steps.{Steps}
+use Rattle.wax_tree.specs.Plain.{Scope, Spot, count_shown, entry_forest}
+use Rattle.wax_tree.specs.inner.Finding.{IsFault, IsFound}
+use Rattle.wax_tree.specs.inner.Heads.{first_item_forest, own_count}
+use Rattle.wax_tree.specs.Stepping.{Asked, IsCounted, Settles, nothing_asked}
+use Rattle.wax_tree.specs.Walking.{HasKind, allowance, names_left, step_given}
+use Rattle.wax_tree.proofs.Settling.{gives_settles}
+use Rattle.wax_tree.proofs.Showing.{takes_name, takes_misnamed, takes_failed, takes_not_text}
+
+module _ (scope : Scope) (at : Spot) (shows : List ℕ → Shown → Type 0) where
+  -- an entry of the folder
+  pub found_entry : (x : ListItem) (path candidate : String Global) (kind : FileType) (depth : ℕ) (l : Items)
+      (g : Forest Given) → IsFound at x (Entry path candidate kind) → at.depth ≡ depth
+      → Some (listed_of x) ≡ first_item l → ShowsIn shows at.path l
+      → (s : Shown) × shows (string_bytes path) s × HasKind s kind × (own_count l ≡ count_shown s)
+      × (first_item_forest scope at l g ≡ entry_forest scope (record {
+        path = string_bytes path;
+        candidate = string_bytes candidate;
+        depth = depth;
+      }) kind s g)
+  found_entry (I.Name name k) path candidate kind depth l g f d h i = elim f [
+    | inl a ↦
+        let t = takes_name scope at shows (string_bytes name) k l g h
+        (plain_of (string_bytes name) (IsUtf8-string_bytes name) a.0) i in
+        let e = a.1 in (
+          t.0,
+          subst (λ v. shows v t.0) (sym e.0) t.1,
+          subst (HasKind t.0) (sym e.2) t.2,
+          t.3,
+          t.4 ∙ (λ j. entry_forest scope
+              (record { path = sym e.0 j; candidate = sym e.1 j; depth = d j }) (sym e.2 j) t.0 g),
+        )
+    | inr a ↦ absurd a.1
+  ]
+  found_entry I.Failed path candidate kind depth l g f d h i = absurd f
+  found_entry I.NotText path candidate kind depth l g f d h i = absurd f
+
+  fault_told : (kind : FaultKind) (k : FaultKind) (path : String Global) (head g : Forest Given)
+      → IsFault at kind (Fault k path) → head ≡ item (fault kind at.path (at.depth - 1)) nothing g
+      → head ≡ item (fault k (string_bytes path) (at.depth - 1)) nothing g
+  fault_told kind k path head g f h =
+      h ∙ (λ j. item (fault (sym f.0 j) (sym f.1 j) (at.depth - 1)) nothing g)
+
+  -- a fault of the folder
+  pub found_fault : (x : ListItem) (kind : FaultKind) (path : String Global) (l : Items) (g : Forest Given)
+      → IsFound at x (Fault kind path) → Some (listed_of x) ≡ first_item l → ShowsIn shows at.path l
+      → first_item_forest scope at l g ≡ item (fault kind (string_bytes path) (at.depth - 1)) nothing g
+  found_fault (I.Name name k) kind path l g f h i = elim f [
+    | inl a ↦ absurd a.1
+    | inr a ↦
+        fault_told K.BadName kind path (first_item_forest scope at l g) g a.1
+        (takes_misnamed scope at shows (string_bytes name) k l g h (not_plain (string_bytes name) a.0) i)
+  ]
+  found_fault I.Failed kind path l g f h i =
+      fault_told K.Listing kind path (first_item_forest scope at l g) g f (takes_failed scope at l g h)
+  found_fault I.NotText kind path l g f h i =
+      fault_told K.NotText kind path (first_item_forest scope at l g) g f (takes_not_text scope at l g h)
+
+-- ---- what a step makes of it
+
+counted_none : (n k : Tally) → IsCounted n no_counts → IsCounted n k
+counted_none n k c = record {
+  misses = omega (arith, c.misses);
+  leaves = omega (arith, c.leaves);
+  failures = omega (arith, c.failures);
+  bad_names = omega (arith, c.bad_names);
+}
+
+misnamed_counted : (name : String Global) (kind : FileType) (path : List ℕ) (depth : ℕ)
+    → is_plain (string_bytes name) ≡ false
+    → IsCounted (fault_counts (Some (fault K.BadName path depth))) (item_counts (I.Name name kind))
+misnamed_counted name kind path depth e = record {
+  misses = omega arith;
+  leaves = omega arith;
+  failures = omega arith;
+  bad_names = rw e (omega arith);
+}
+
+takes_more : (r : Option Given) (n m left : ℕ) → n ≡ m + 1 → Takes r m 0 left → Takes r n 1 left
+takes_more None n m left e h = omega (arith, e, h)
+takes_more (Some no_memory) n m left e h = omega (arith, e, h)
+takes_more (Some (entry mark facts)) n m left e h = omega (arith, e, h)
+takes_more (Some (fault K.NotFound path depth)) n m left e h = omega (arith, e, h)
+takes_more (Some (fault K.NotAFolder path depth)) n m left e h = omega (arith, e, h)
+takes_more (Some (fault K.Listing path depth)) n m left e h = omega (arith, e, h)
+takes_more (Some (fault K.BadName path depth)) n m left e h = omega (arith, e, h)
+takes_more (Some (fault K.NotText path depth)) n m left e h = omega (arith, e, h)
+takes_more (Some (fault K.Budget path depth)) n m left e h = (omega (arith, e, h.0), h.1)
+
+module _ {D C : Type 0} where
+  -- nothing was asked for an entry
+  pub entry_settles : (x : ListItem) (names : ℕ) (w new : Steps D C) (r : Step)
+      → Settles (nothing_asked names) w r new
+      → Settles (record { counts = item_counts x; taken = 0; names = names }) w r new
+  entry_settles x names w new r s = record {
+    goes_on = s.goes_on;
+    directory = s.directory;
+    counts = counted_none (fault_counts (step_given r)) (item_counts x) s.counts;
+    takes = s.takes;
+    ends = s.ends;
+    names = s.names;
+    misplaced = s.misplaced;
+  }
+
+  fault_settles : (at : Spot) (asked : Asked) (w : Steps D C) (kind k : FaultKind) (path : String Global)
+      (depth : ℕ) → IsFault at kind (Fault k path)
+      → Settles asked w (Gives (Err (W.Fault kind path depth))) w
+      → Settles asked w (Gives (Err (W.Fault k path depth))) w
+  fault_settles at asked w kind k path depth f s =
+      subst (λ v. Settles asked w (Gives (Err (W.Fault v path depth))) w) (sym f.0) s
+
+  -- a fault was counted
+  pub found_settles : (at : Spot) (x : ListItem) (kind : FaultKind) (path : String Global) (depth : ℕ)
+      (w : Steps D C) → IsFound at x (Fault kind path)
+      → Settles (record { counts = item_counts x; taken = 0; names = names_left w }) w
+      (Gives (Err (W.Fault kind path depth))) w
+  found_settles at (I.Name name k) kind path depth w f = elim f [
+    | inl a ↦ absurd a.1
+    | inr a ↦
+        fault_settles at _ w K.BadName kind path depth a.1
+        (gives_settles _ w (Err (W.Fault K.BadName path depth))
+        (misnamed_counted name k (string_bytes path) depth a.0) (omega arith) (λ i. i) (λ i. i)
+        (omega arith))
+  ]
+  found_settles at I.Failed kind path depth w f =
+      fault_settles at _ w K.Listing kind path depth f
+      (gives_settles _ w (Err (W.Fault K.Listing path depth))
+      (record {
+        misses = omega arith;
+        leaves = omega arith;
+        failures = omega arith;
+        bad_names = omega arith;
+      }) (omega arith) (λ i. i) (λ i. i) (omega arith))
+  found_settles at I.NotText kind path depth w f =
+      fault_settles at _ w K.NotText kind path depth f
+      (gives_settles _ w (Err (W.Fault K.NotText path depth))
+      (record {
+        misses = omega arith;
+        leaves = omega arith;
+        failures = omega arith;
+        bad_names = omega arith;
+      }) (omega arith) (λ i. i) (λ i. i) (omega arith))
+
+  -- an item was taken before
+  pub taken_settles : (counts : Tally) (names : ℕ) (w mid new : Steps D C) (r : Step)
+      → mid.directory ≡ w.directory → allowance w ≡ allowance mid + 1
+      → Settles (record { counts = counts; taken = 0; names = names }) mid r new
+      → Settles (record { counts = counts; taken = 1; names = names }) w r new
+  taken_settles counts names w mid new r d a s = record {
+    goes_on = s.goes_on;
+    directory = s.directory ∙ d;
+    counts = s.counts;
+    takes = takes_more (step_given r) (allowance w) (allowance mid) (allowance new) a s.takes;
+    ends = s.ends;
+    names = s.names;
+    misplaced = s.misplaced;
+  }

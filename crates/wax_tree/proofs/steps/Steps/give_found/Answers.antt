@@ -1,0 +1,42 @@
+use Rattle.std.proofs.Common.{arith, ap, refl, string_bytes, ◌≡◌, ◌≤◌, ◌+◌, ◌-◌}
+use Rattle.std.specs.Prelude.{Err}
+use Rattle.wax_walk.specs.declared.error.WalkError.TheVariants as W
+use Rattle.wax_walk.specs.Given.{fault}
+use Rattle.wax_tree.specs.Plain.{count_shown}
+use Rattle.wax_tree.specs.Walking.{names_left, scope_of}
+use Rattle.wax_tree.proofs.Finding.{found_entry, found_fault, entry_settles, found_settles}
+use Rattle.wax_tree.proofs.Resting.{comes_rest}
+use Rattle.wax_tree.proofs.Stepping.{gives_fault}
+use Rattle.wax_tree.proofs.steps.Steps.give_found.Goals as goal
+
+pub returns-in-Entry-clause-settles : goal.returns-in-Entry-clause-settles
+returns-in-Entry-clause-settles g c at x f =
+    entry_settles x (names_left c.args.self.now) c.args.self.now c.give.new.self c.give.result
+    c.give.ensures.settles
+
+pub returns-in-Entry-clause-continues : goal.returns-in-Entry-clause-continues
+returns-in-Entry-clause-continues g c at x l f d h i rest items r e =
+    let law = g.D.Directory.law in
+    let w = c.args.self.now in
+    let t = found_entry (scope_of w) at (law.shows w.directory) x c.in-Entry.path c.in-Entry.candidate
+    c.in-Entry.kind c.args.depth l rest.forest (rw c.in-Entry.is at f) d h i in
+    let few : count_shown t.0 + rest.count ≤ items = omega (arith, e, t.3) in
+    rw t.4 (c.give.ensures.continues t.0 t.1 t.2 rest items r few)
+
+pub returns-in-Fault-clause-settles : goal.returns-in-Fault-clause-settles
+returns-in-Fault-clause-settles g c at x f =
+    found_settles at x c.in-Fault.kind c.in-Fault.path c.saturating_sub.result c.args.self.now
+    (rw c.in-Fault.is at f)
+
+pub returns-in-Fault-clause-continues : goal.returns-in-Fault-clause-continues
+returns-in-Fault-clause-continues g c at x l f d h i rest items r e =
+    let law = g.D.Directory.law in
+    let w = c.args.self.now in
+    let is = found_fault (scope_of w) at (law.shows w.directory) x c.in-Fault.kind c.in-Fault.path l
+    rest.forest (rw c.in-Fault.is at f) h i in
+    let depth : c.saturating_sub.result ≡ at.depth - 1 = omega (arith, d, c.saturating_sub.ensures) in
+    gives_fault law w w _ rest.forest rest.listed items
+    (fault c.in-Fault.kind (string_bytes c.in-Fault.path) (at.depth - 1))
+    (Err (W.Fault c.in-Fault.kind c.in-Fault.path c.saturating_sub.result)) is
+    (ap (fault c.in-Fault.kind (string_bytes c.in-Fault.path)) depth) (λ n. refl)
+    (comes_rest law w items rest r (omega (arith, e)))

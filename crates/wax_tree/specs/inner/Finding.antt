@@ -1,0 +1,31 @@
+-- What an item of a folder stands for.
+use Rattle.std.specs.Prelude.{◌≡◌, ◌⊎◌, ℕ, List, true, false, string_bytes}
+use Rattle.wax_directory.specs.declared.directory.FileType.{FileType}
+use Rattle.wax_directory.specs.declared.directory.ListItem.{ListItem}
+use Rattle.wax_directory.specs.declared.directory.ListItem.TheVariants.{Name, Failed, NotText}
+use Rattle.wax_directory.specs.Names.{is_plain}
+use Rattle.wax_directory.specs.Shown.{join}
+use Rattle.wax_walk.specs.declared.error.FaultKind.{FaultKind}
+use Rattle.wax_walk.specs.declared.error.FaultKind.TheVariants as K
+use Rattle.wax_tree.specs.declared.steps.Found.{Found}
+use Rattle.wax_tree.specs.declared.steps.Found.TheVariants.{Entry, Fault}
+use Rattle.wax_tree.specs.Plain.{Spot}
+
+-- the entry of this name and kind in the folder at this place
+abbrev pub IsEntry : Spot → List ℕ → FileType → Found → Type 0
+IsEntry at name kind (Entry path candidate k) = (string_bytes path ≡ join at.path name) ×
+    (string_bytes candidate ≡ join at.candidate name) × (k ≡ kind)
+IsEntry at name kind (Fault k path) = ⊥
+
+-- this fault of the folder at this place
+abbrev pub IsFault : Spot → FaultKind → Found → Type 0
+IsFault at kind (Entry path candidate k) = ⊥
+IsFault at kind (Fault k path) = (k ≡ kind) × (string_bytes path ≡ at.path)
+
+-- what an item of the folder at this place stands for
+abbrev pub IsFound : Spot → ListItem → Found → Type 0
+IsFound at (Name name kind) found =
+    ((is_plain (string_bytes name) ≡ true) × IsEntry at (string_bytes name) kind found)
+    ⊎ ((is_plain (string_bytes name) ≡ false) × IsFault at K.BadName found)
+IsFound at Failed found = IsFault at K.Listing found
+IsFound at NotText found = IsFault at K.NotText found
