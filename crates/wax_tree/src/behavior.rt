@@ -218,6 +218,34 @@ pub struct WalkBehavior {
     pub budget: u32,
 }
 
+impl WalkBehavior {
+    /// The same with other depths: a `DepthMin`, a `DepthMax`, a `DepthMinMax` or a `DepthBehavior`.
+    pub fn with_depth<T>(self, depth: T) -> Self
+    where
+        T: Into<DepthBehavior>,
+        ensures { (d : DepthBehavior) × T.converts depth d × (result ≡ record self { depth = d }) }
+    {
+        WalkBehavior {
+            depth: depth.into(),
+            ..self
+        }
+    }
+
+    /// The same with at most `budget` items of folders.
+    pub fn with_budget(self, budget: u32) -> Self
+        ensures { result ≡ record self { budget = budget } }
+    {
+        WalkBehavior { budget, ..self }
+    }
+
+    /// The same with `link` for what it does at a link.
+    pub fn with_link(self, link: LinkBehavior) -> Self
+        ensures { result ≡ record self { link = link } }
+    {
+        WalkBehavior { link, ..self }
+    }
+}
+
 impl Default for WalkBehavior {
     /// All depths, links as they are, and 4,294,967,295 items.
     fn default() -> Self
