@@ -14,6 +14,7 @@ use wax_query::query::NaturalRange;
 
 mod boundary;
 mod composition;
+mod copied;
 mod kinds;
 mod leaves;
 mod made;
