@@ -31,7 +31,7 @@ pub use token_tree::{ConcatenationTree, TokenTree};
 pub const ROOT_SEPARATOR_EXPRESSION: &str = "/";
 
 /// A token is a branch, which holds tokens, or a leaf.
-#[derive(Drop)]
+#[derive(Debug, Drop)]
 pub enum Topology<B, L> {
     Branch(B),
     Leaf(L),
@@ -41,7 +41,7 @@ pub enum Topology<B, L> {
 pub type TokenTopology<'t, A> = Topology<BranchKind<'t, A>, LeafKind<'t>>;
 
 /// A token of a glob, with an annotation. Contracts see it as a plain tree.
-#[derive(Drop)]
+#[derive(Debug, Drop)]
 #[cycle(token)]
 pub struct Token<'t, A> {
     topology: TokenTopology<'t, A>,
@@ -71,7 +71,7 @@ impl<'t, A> Model for Token<'t, A> {
 }
 
 /// A token that holds tokens.
-#[derive(Drop)]
+#[derive(Debug, Drop)]
 #[cycle(token)]
 pub enum BranchKind<'t, A> {
     Alternation(Alternation<'t, A>),
@@ -80,7 +80,7 @@ pub enum BranchKind<'t, A> {
 }
 
 /// `{..,..}`: one of its branches.
-#[derive(Drop)]
+#[derive(Debug, Drop)]
 #[cycle(token)]
 pub struct Alternation<'t, A> {
     pub tokens: Vec<Token<'t, A>>,
@@ -96,7 +96,7 @@ impl<'t, A> Alternation<'t, A> {
 }
 
 /// A glob or a sub-glob: its tokens one after another.
-#[derive(Drop)]
+#[derive(Debug, Drop)]
 #[cycle(token)]
 pub struct Concatenation<'t, A> {
     pub tokens: Vec<Token<'t, A>>,
@@ -112,7 +112,7 @@ impl<'t, A> Concatenation<'t, A> {
 }
 
 /// `<..:n,m>`: from `lower` to `upper` copies of its sub-glob, where `None` is without limit.
-#[derive(Drop)]
+#[derive(Debug, Drop)]
 #[cycle(token)]
 pub struct Repetition<'t, A> {
     pub token: Box<Token<'t, A>>,
@@ -145,7 +145,7 @@ impl<'t, A> Repetition<'t, A> {
 }
 
 /// A token that holds no tokens.
-#[derive(Drop)]
+#[derive(Debug, Drop)]
 pub enum LeafKind<'t> {
     Class(Class),
     Literal(Literal<'t>),
@@ -154,7 +154,7 @@ pub enum LeafKind<'t> {
 }
 
 /// A member of a class: a character, or the characters from the first to the last.
-#[derive(Clone, Copy)]
+#[derive(Clone, Copy, Debug)]
 pub enum Archetype {
     Character(char),
     Range(char, char),
@@ -162,7 +162,7 @@ pub enum Archetype {
 
 /// `[..]` or `[!..]`: one character but `/`, which is, or is not, of the archetypes. Contracts see
 /// whether it is negated, and the archetypes.
-#[derive(Drop)]
+#[derive(Debug, Drop)]
 pub struct Class {
     is_negated: bool,
     archetypes: Vec<Archetype>,
@@ -204,7 +204,7 @@ impl Class {
 /// Characters that stand for themselves, or with the flag `i` for any of the same simple folding.
 /// Contracts see the flag and the characters. The text has no backslash before an escaped character;
 /// where it is none, it is borrowed from the expression.
-#[derive(Drop)]
+#[derive(Debug, Drop)]
 pub struct Literal<'t> {
     text: CowStr<'t>,
     is_case_insensitive: bool,
@@ -241,18 +241,18 @@ impl<'t> Literal<'t> {
 }
 
 /// `/` between components.
-#[derive(Clone, Copy)]
+#[derive(Clone, Copy, Debug)]
 pub struct Separator;
 
 /// Whether a capture of `*` is the longest (`*`) or the shortest (`$`) that fits.
-#[derive(Clone, Copy)]
+#[derive(Clone, Copy, Debug)]
 pub enum Evaluation {
     Eager,
     Lazy,
 }
 
 /// `?`, `*` or `$`, and `**`, whose `has_root` says that a `/` was written before it.
-#[derive(Clone, Copy)]
+#[derive(Clone, Copy, Debug)]
 pub enum Wildcard {
     One,
     ZeroOrMore(Evaluation),
@@ -260,7 +260,7 @@ pub enum Wildcard {
 }
 
 /// What the parser knows of a token: where it stands in the expression. Contracts see the span.
-#[derive(Clone, Copy)]
+#[derive(Clone, Copy, Debug)]
 pub struct ExpressionMetadata {
     span: Span,
 }
@@ -296,6 +296,7 @@ impl ExpressionMetadata {
 }
 
 /// An expression and its token.
+#[derive(Debug)]
 pub struct Tokenized<'t, A> {
     pub expression: CowStr<'t>,
     pub token: Token<'t, A>,
