@@ -3,7 +3,7 @@ use Rattle.std.proofs.Common.{◌≡◌, ℕ, zero, suc, ◌-◌, ◌<◌, ◌�
 use Rattle.std.proofs.lemmas.Bool.{cases_lt, lt-ltb, le-ltb}
 use Rattle.std.proofs.lemmas.List.{drop_all}
 use Rattle.wax_program.specs.declared.instruction.Instruction.{Instruction}
-use Rattle.wax_match.specs.inner.Code.{copied_code, copies_code, counted_code, never, repeated_code, sequence_code, instructions_of, up_to_code}
+use Rattle.wax_match.specs.inner.Code.{copied_code, copies_code, counted_code, never, repeated_code, sequence_code, skip, instructions_of, up_to_code}
 use Rattle.wax_token.specs.Cost.{holds_tree}
 use Rattle.wax_token.specs.Syntax.{Tree}
 use Rattle.wax_token.specs.Words.{trees}
@@ -59,6 +59,9 @@ sequence_put ts (suc i) t before after b f new mid old some le at is_b is_f e g 
 above : (n : ℕ) → nat_le (suc n) 0 ≡ false
 above n = search rules
 
+above_one : (n : ℕ) → nat_le (suc (suc n)) 1 ≡ false
+above_one n = search rules
+
 -- where there are no copies, what stands around them doesn't matter
 pub no_copies : {A : Type 0} (low : ℕ) (high : Option ℕ) (t : Tree A) (before after : Bool) → high ≡ Some 0 → repeated_code low high t before after ≡ counted_code low high (instructions_of t before after)
 no_copies low high t before after e = rw e (elim (holds_tree t) as (λ h. (if h then copied_code low (Some 0) (instructions_of t) before after else counted_code low (Some 0) (instructions_of t before after)) ≡ counted_code low (Some 0) (instructions_of t before after)) [
@@ -71,3 +74,19 @@ no_copies low high t before after e = rw e (elim (holds_tree t) as (λ h. (if h 
     same (suc zero) = ap (λ b. if b then copies_code 1 (instructions_of t before after) ++ up_to_code (0 - 1) (instructions_of t before after) else never) (sym (above 0))
     same (suc (suc low)) =
         ap (λ b. if b then copies_code (suc (suc low)) (instructions_of t before after) ++ up_to_code (0 - suc (suc low)) (instructions_of t before after) else never) (sym (above (suc low)))
+
+-- nor where there is at most one
+pub one_copy : {A : Type 0} (low : ℕ) (high : Option ℕ) (t : Tree A) (before after : Bool) → high ≡ Some 1 → repeated_code low high t before after ≡ counted_code low high (instructions_of t before after)
+one_copy low high t before after e = rw e (elim (holds_tree t) as (λ h. (if h then copied_code low (Some 1) (instructions_of t) before after else counted_code low (Some 1) (instructions_of t before after)) ≡ counted_code low (Some 1) (instructions_of t before after)) [
+  | true ↦ same low
+  | false ↦ refl
+])
+  where
+    a : List Instruction
+    a = instructions_of t before after
+
+    same : (low : ℕ) → copied_code low (Some 1) (instructions_of t) before after ≡ counted_code low (Some 1) (instructions_of t before after)
+    same zero = ap skip (sym (append-nil a))
+    same (suc zero) = sym (append-nil (a ++ []) ∙ append-nil a)
+    same (suc (suc low)) =
+        ap (λ b. if b then copies_code (suc (suc low)) a ++ up_to_code (1 - suc (suc low)) a else never) (sym (above_one low))

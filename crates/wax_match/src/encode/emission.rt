@@ -1,5 +1,5 @@
 //! How the instructions of tokens are written, from the last one to the first.
-ghost use Rattle.std.specs.Prelude.{◌≡◌, ◌<◌, ◌≤◌, ◌-◌, ◌∷◌, ◌++◌, OnOk, List, Some, length};
+ghost use Rattle.std.specs.Prelude.{◌≡◌, ◌≤◌, ◌-◌, ◌∷◌, ◌++◌, IfSome, OnOk, List, length};
 ghost use Rattle.wax_program.specs.declared.instruction.Instruction.{Instruction};
 ghost use Rattle.wax_match.specs.inner.Code.{branches_code, choose, copied_code, copies_code, counted_code};
 ghost use Rattle.wax_match.specs.inner.Code.{loop, many_code, repeated_code, sequence_code, instructions_of};
@@ -98,7 +98,7 @@ impl Tail {
 
     /// Writes from `lower` to `upper` copies of a token.
     #[cycle(put)]
-    #[tactic(auto, using(crate::proofs::Sequences::no_copies))]
+    #[tactic(auto, using(crate::proofs::Sequences::no_copies, crate::proofs::Sequences::one_copy))]
     fn put_repetition<'t, A>(
         &mut self,
         body: &Token<'t, A>,
@@ -109,14 +109,14 @@ impl Tail {
         ensures { OnOk result
             (self.new ≡ repeated_code lower upper body.now sides.before sides.after ++ self.old) }
     {
-        if upper == Some(0) || !weigh(body).holds_tree {
+        if matches!(upper, Some(0 | 1)) || !weigh(body).holds_tree {
             self.put_counted(body, lower, upper, sides)
         } else {
             self.put_copied(body, lower, upper, sides)
         }
     }
 
-    /// The same for a token whose meaning depends on what stands around it.
+    /// The same for a token whose meaning depends on what stands around it, where two copies may be written.
     #[cycle(put)]
     fn put_copied<'t, A>(
         &mut self,
@@ -125,11 +125,11 @@ impl Tail {
         upper: Option<usize>,
         sides: Sides,
     ) -> Result<(), AllocError>
+        requires { IfSome upper (λ upper. 2 ≤ upper) }
         ensures { OnOk result (self.new
             ≡ copied_code lower upper (instructions_of body.now) sides.before sides.after ++ self.old) }
     {
         let further = match upper {
-            Some(upper) if upper < 2 => return self.put_few(body, lower, upper, sides),
             Some(upper) => Some(upper - 2),
             None => None,
         };
@@ -141,32 +141,6 @@ impl Tail {
         }
         if lower == 0 {
             self.put_skip(start)?;
-        }
-        Ok(())
-    }
-
-    /// At most one copy, where `upper` is below 2.
-    #[cycle(put)]
-    fn put_few<'t, A>(
-        &mut self,
-        body: &Token<'t, A>,
-        lower: usize,
-        upper: usize,
-        sides: Sides,
-    ) -> Result<(), AllocError>
-        requires { upper < 2 }
-        ensures { OnOk result (self.new ≡ copied_code lower (Some upper) (instructions_of body.now)
-            sides.before sides.after ++ self.old) }
-    {
-        if upper < lower {
-            return self.put(Instruction::Check(Test::Never));
-        }
-        if upper == 1 {
-            let start = self.len();
-            self.put_token(body, sides)?;
-            if lower == 0 {
-                self.put_skip(start)?;
-            }
         }
         Ok(())
     }

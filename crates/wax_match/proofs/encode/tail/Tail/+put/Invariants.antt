@@ -22,9 +22,6 @@ decreases-put_repetition g l = 8 * tree_size l.body.now + 6
 abbrev pub decreases-put_copied : goal.decreases-put_copied
 decreases-put_copied g l = 8 * tree_size l.body.now + 5
 
-abbrev pub decreases-put_few : goal.decreases-put_few
-decreases-put_few g l = 8 * tree_size l.body.now + 4
-
 abbrev pub decreases-put_many : goal.decreases-put_many
 decreases-put_many g l = 8 * tree_size l.body.now + 4
 
