@@ -56,37 +56,36 @@ sequence_put ts (suc i) t before after b f new mid old some le at is_b is_f e g 
     ] in
     joined ∙ ap (λ z. z ++ old) code ∙ ap (λ z. sequence_code (trees (drop z ts)) (before || ltb 0 z) after ++ old) (sym p)
 
-above : (n : ℕ) → nat_le (suc n) 0 ≡ false
-above n = search rules
+either_way : (b : Bool) {x y : List Instruction} → x ≡ y → (if b then x else y) ≡ y
+either_way true e = e
+either_way false e = refl
+
+above_none : (n : ℕ) → nat_le (suc n) 0 ≡ false
+above_none n = search rules
 
 above_one : (n : ℕ) → nat_le (suc (suc n)) 1 ≡ false
 above_one n = search rules
 
 -- where there are no copies, what stands around them doesn't matter
 pub no_copies : {A : Type 0} (low : ℕ) (high : Option ℕ) (t : Tree A) (before after : Bool) → high ≡ Some 0 → repeated_code low high t before after ≡ counted_code low high (instructions_of t before after)
-no_copies low high t before after e = rw e (elim (holds_tree t) as (λ h. (if h then copied_code low (Some 0) (instructions_of t) before after else counted_code low (Some 0) (instructions_of t before after)) ≡ counted_code low (Some 0) (instructions_of t before after)) [
-  | true ↦ same low
-  | false ↦ refl
-])
-  where
-    same : (low : ℕ) → copied_code low (Some 0) (instructions_of t) before after ≡ counted_code low (Some 0) (instructions_of t before after)
-    same zero = refl
-    same (suc zero) = ap (λ b. if b then copies_code 1 (instructions_of t before after) ++ up_to_code (0 - 1) (instructions_of t before after) else never) (sym (above 0))
-    same (suc (suc low)) =
-        ap (λ b. if b then copies_code (suc (suc low)) (instructions_of t before after) ++ up_to_code (0 - suc (suc low)) (instructions_of t before after) else never) (sym (above (suc low)))
-
--- nor where there is at most one
-pub one_copy : {A : Type 0} (low : ℕ) (high : Option ℕ) (t : Tree A) (before after : Bool) → high ≡ Some 1 → repeated_code low high t before after ≡ counted_code low high (instructions_of t before after)
-one_copy low high t before after e = rw e (elim (holds_tree t) as (λ h. (if h then copied_code low (Some 1) (instructions_of t) before after else counted_code low (Some 1) (instructions_of t before after)) ≡ counted_code low (Some 1) (instructions_of t before after)) [
-  | true ↦ same low
-  | false ↦ refl
-])
+no_copies low high t before after e = rw e (either_way (holds_tree t) (same low))
   where
     a : List Instruction
     a = instructions_of t before after
 
-    same : (low : ℕ) → copied_code low (Some 1) (instructions_of t) before after ≡ counted_code low (Some 1) (instructions_of t before after)
+    same : (low : ℕ) → copied_code low (Some 0) (instructions_of t) before after ≡ counted_code low (Some 0) a
+    same zero = refl
+    same (suc zero) = ap (λ b. if b then copies_code 1 a ++ up_to_code (0 - 1) a else never) (sym (above_none 0))
+    same (suc (suc low)) = ap (λ b. if b then copies_code (suc (suc low)) a ++ up_to_code (0 - suc (suc low)) a else never) (sym (above_none (suc low)))
+
+-- nor where there is at most one
+pub one_copy : {A : Type 0} (low : ℕ) (high : Option ℕ) (t : Tree A) (before after : Bool) → high ≡ Some 1 → repeated_code low high t before after ≡ counted_code low high (instructions_of t before after)
+one_copy low high t before after e = rw e (either_way (holds_tree t) (same low))
+  where
+    a : List Instruction
+    a = instructions_of t before after
+
+    same : (low : ℕ) → copied_code low (Some 1) (instructions_of t) before after ≡ counted_code low (Some 1) a
     same zero = ap skip (sym (append-nil a))
     same (suc zero) = sym (append-nil (a ++ []) ∙ append-nil a)
-    same (suc (suc low)) =
-        ap (λ b. if b then copies_code (suc (suc low)) a ++ up_to_code (1 - suc (suc low)) a else never) (sym (above_one low))
+    same (suc (suc low)) = ap (λ b. if b then copies_code (suc (suc low)) a ++ up_to_code (1 - suc (suc low)) a else never) (sym (above_one low))
