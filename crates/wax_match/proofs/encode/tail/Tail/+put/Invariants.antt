@@ -49,7 +49,7 @@ decreases-put_sequence-loop-index g l = l.index
 abbrev pub invariant-put_branches-loop-index : goal.invariant-put_branches-loop-index
 invariant-put_branches-loop-index g l = record {
   within : l.index ≤ length l.tokens;
-  written : l.self ≡ branches_code (trees (drop l.index l.tokens)) l.sides.before l.sides.after ++ l.fn.self;
+  written : l.self ≡ branches_code (trees (drop l.index l.tokens)) l.fn.sides.before l.fn.sides.after ++ l.fn.self;
 }
 
 abbrev pub decreases-put_branches-loop-index : goal.decreases-put_branches-loop-index
