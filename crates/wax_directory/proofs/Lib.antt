@@ -3,3 +3,4 @@ pub mod PathNames
 pub mod Finding
 pub mod Cursors
 pub mod Listing
+pub mod Planting

@@ -1,6 +1,6 @@
 -- The names that are distinct, and those of a path.
 use Rattle.std.proofs.Common.{◌≡◌, ℕ, true, false, not, ◌||◌, ◌==◌, List, [], ◌∷◌, ◌++◌, length, refl, sym}
-use Rattle.std.proofs.Common.{◌∙◌, ap, inl, inr}
+use Rattle.std.proofs.Common.{◌∙◌, ap, inl, inr, ◌-◌, arith, zero, suc, nat_eq, Some, slice_get}
 use Rattle.std.specs.List.{list_any}
 use Rattle.std.specs.Str.{bytes_eq}
 use Rattle.std.proofs.lemmas.Bool.{and_parts, and_from, and_left, and_right, or_parts, or_from, or_right}
@@ -9,6 +9,7 @@ use Rattle.std.proofs.Math.Dec.{eqb-suc-zero}
 use Rattle.std.proofs.lemmas.Slice.Eq.{bytes_eq-Decides}
 use Rattle.std.proofs.lemmas.List.Folds.{list_any-append}
 use Rattle.wax_directory.specs.Names.{is_some_name, are_distinct}
+use Rattle.wax_directory.specs.Shown.{is_open}
 
 pub some_name : (x : List ℕ) → not (length x == 0) ≡ is_some_name x
 some_name [] = refl
@@ -51,3 +52,15 @@ distinct_twice (y ∷ names) x more h = elim (or_cases (bytes_eq x y) (list_any 
   | inr e ↦ and_right (not (list_any (bytes_eq y) (names ++ x ∷ more))) (are_distinct (names ++ x ∷ more))
       (distinct_twice names x more e)
 ]
+
+open_last : (xs : List ℕ) (c k : ℕ) → length xs ≡ suc k → Some c ≡ slice_get xs k → nat_eq c 47 ≡ is_open xs
+open_last [] c k l h = cc
+open_last (d ∷ []) c zero l h = let e : c ≡ d = cc in ap (λ v. nat_eq v 47) e
+open_last (d ∷ []) c (suc k) l h = cc
+open_last (d ∷ e ∷ xs) c zero l h = absurd (omega (arith, l))
+open_last (d ∷ e ∷ xs) c (suc k) l h = open_last (e ∷ xs) c k (omega (arith, l)) h
+
+-- whether a text ends with `/`, by its last byte
+pub open_some : (xs : List ℕ) (c : ℕ) → Some c ≡ slice_get xs (length xs - 1) → nat_eq c 47 ≡ is_open xs
+open_some [] c h = cc
+open_some (d ∷ xs) c h = open_last (d ∷ xs) c (length (d ∷ xs) - 1) (omega arith) h

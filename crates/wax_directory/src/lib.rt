@@ -5,6 +5,7 @@ pub mod directory;
 pub mod failing;
 pub mod folders;
 pub mod name;
+mod paths;
 pub mod starving;
 pub mod tally;
 pub mod tree;

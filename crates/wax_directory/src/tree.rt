@@ -1,6 +1,7 @@
 //! A directory in memory.
 
 ghost use Rattle.std.specs.Prelude.{◌≡◌, ◌⊎◌, ◌<◌, ◌-◌, ◌^◌, [], ℕ, if◌then◌else◌, OnOk, List, Some, map};
+ghost use Rattle.std.specs.List.{list_any};
 ghost use Rattle.std.specs.Prelude.{option_map, string_bytes, IfOk, IfErr, IfSome, MatchBool};
 ghost use Rattle.wax_directory.specs.declared.directory.DirectoryFault.TheVariants.{Failed};
 ghost use Rattle.wax_directory.specs.declared.tree.Node.TheViews.{out-Node};
@@ -217,12 +218,20 @@ impl Tree {
         if !working.has_distinct_names(alloc)? || !root.has_distinct_names(alloc)? {
             return Err(Refusal::Refused(DuplicateName));
         }
-        Ok(Tree {
+        Ok(Tree::of_nodes(alloc, working, root))
+    }
+
+    // of which nothing was asked yet
+    pub(crate) fn of_nodes(alloc: Global, working: Node, root: Node) -> Tree
+        ensures nodes { (result.working ≡ working) × (result.root ≡ root) }
+        ensures untold { tree_law.tells result [] × (tree_law.tally result ≡ no_counts) }
+    {
+        Tree {
             working,
             root,
             listed: Vec::new(alloc),
             tally: Tally::none(),
-        })
+        }
     }
 
     /// The paths of the folders that were opened, in order, those that failed too.
@@ -381,6 +390,13 @@ fn place_of(items: &[TreeItem], name: &str) -> Option<usize>
     None
 }
 
+// an entry has this name
+pub(crate) fn has_entry(items: &[TreeItem], name: &str) -> bool
+    ensures { result ≡ list_any (has_name name.now) items.now }
+{
+    items.iter().any(|item| item.is_named(name))
+}
+
 // no two entries have the same name
 fn hold_distinct_names(alloc: Global, items: &[TreeItem]) -> Result<bool, AllocError>
     ensures { IfOk result (λ r. r ≡ are_distinct (names_of items.now)) }
@@ -397,7 +413,7 @@ fn hold_distinct_names(alloc: Global, items: &[TreeItem]) -> Result<bool, AllocE
 }
 
 // the names of a path
-fn names_in(alloc: Global, path: &str) -> Result<Vec<&str>, AllocError>
+pub(crate) fn names_in(alloc: Global, path: &str) -> Result<Vec<&str>, AllocError>
     ensures { IfOk result (λ v. map (λ x. x.now) v.items ≡ names_in_path path.now) }
 {
     path.split('/')
@@ -406,7 +422,7 @@ fn names_in(alloc: Global, path: &str) -> Result<Vec<&str>, AllocError>
 }
 
 // the path is taken from the root
-fn begins_at_root(path: &str) -> bool
+pub(crate) fn begins_at_root(path: &str) -> bool
     ensures { result ≡ is_rooted path.now }
 {
     path.starts_with('/')

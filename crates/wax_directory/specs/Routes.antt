@@ -1,0 +1,86 @@
+-- What stands in a tree that is made of a list of paths.
+use Rattle.std.specs.Prelude.{◌≡◌, ℕ, Bool, true, false, not, cond, MatchBool, List, [], ◌∷◌, ◌++◌, map}
+use Rattle.std.specs.Prelude.{filter, Option, Some, None}
+use Rattle.std.specs.List.{list_any, filter_map}
+use Rattle.std.specs.Str.{bytes_eq}
+use Rattle.wax_directory.specs.declared.directory.FileType.{FileType}
+use Rattle.wax_directory.specs.declared.directory.FileType.TheVariants.{File, Folder}
+use Rattle.wax_directory.specs.Shown.{Items, Shown, a_leaf, a_folder, missing, Listed, named, listing, is_open}
+use Rattle.wax_directory.specs.Names.{is_rooted, names_in_path}
+
+-- a path from some folder on: its names, and whether it is a folder's
+pub data Route : Type 0 where
+  route : List (List ℕ) → Bool → Route
+
+-- it leads to a folder, or into one
+abbrev pub leads_on : Route → Bool
+leads_on (route [] is_folder) = is_folder
+leads_on (route (x ∷ names) is_folder) = true
+
+abbrev pub first_name : Route → Option (List ℕ)
+first_name (route [] is_folder) = None
+first_name (route (x ∷ names) is_folder) = Some x
+
+-- what is left of it after a name, where it begins with that
+abbrev pub after : List ℕ → Route → Option Route
+after x (route [] is_folder) = None
+after x (route (y ∷ names) is_folder) = cond (bytes_eq y x) (Some (route names is_folder)) None
+
+-- what is left of those that begin with a name
+abbrev pub below : List ℕ → List Route → List Route
+below x routes = filter_map (after x) routes
+
+-- what is left of those that begin with these names
+abbrev pub rests : List (List ℕ) → List Route → List Route
+rests [] routes = routes
+rests (x ∷ names) routes = rests names (below x routes)
+
+abbrev pub holds_name : List ℕ → List (List ℕ) → Bool
+holds_name x names = list_any (λ y. bytes_eq y x) names
+
+-- names, and one more if it is new
+abbrev pub added : List (List ℕ) → List ℕ → List (List ℕ)
+added names x = cond (holds_name x names) names (names ++ x ∷ [])
+
+-- names, and those of others that are new, in order
+abbrev pub with_new : List (List ℕ) → List (List ℕ) → List (List ℕ)
+with_new names [] = names
+with_new names (x ∷ more) = with_new (added names x) more
+
+-- the names with which routes begin, each once, in the order in which they come first
+abbrev pub names_by : List Route → List (List ℕ)
+names_by routes = with_new [] (filter_map first_name routes)
+
+-- where routes begin is a folder if one of them leads to a folder there or into one, else a file
+abbrev pub kind_by : List Route → FileType
+kind_by routes = cond (list_any leads_on routes) Folder File
+
+-- what the folder holds where routes begin
+abbrev pub listing_by : List Route → List Listed
+listing_by routes = map (λ x. named x (kind_by (below x routes))) (names_by routes)
+
+abbrev pub HoldsBy : List Route → Shown → Type 0
+HoldsBy routes s = (l : Items) × (s ≡ a_folder l) × (listing l ≡ listing_by routes)
+
+-- what stands where routes begin: nothing where there is none
+abbrev pub StandsBy : List Route → Shown → Type 0
+StandsBy [] s = s ≡ missing
+StandsBy (r ∷ routes) s = MatchBool (list_any leads_on (r ∷ routes)) (HoldsBy (r ∷ routes) s)
+    (s ≡ a_leaf false)
+
+-- a text is taken from the root, or else from the working folder
+abbrev pub starts_at : Bool → List ℕ → Bool
+starts_at true text = is_rooted text
+starts_at false text = not (is_rooted text)
+
+-- a text is the path of a file; where it is empty or ends with `/`, it is a folder's
+abbrev pub route_of : List ℕ → Route
+route_of text = route (names_in_path text) (is_open text)
+
+-- the routes from the root, or else from the working folder: that folder itself, and the texts
+abbrev pub routes_from : Bool → List (List ℕ) → List Route
+routes_from at_root texts = route [] true ∷ map route_of (filter (starts_at at_root) texts)
+
+-- what is left, after the names of a path, of the texts that begin with them
+abbrev pub routes_to : List ℕ → List (List ℕ) → List Route
+routes_to path texts = rests (names_in_path path) (routes_from (is_rooted path) texts)
