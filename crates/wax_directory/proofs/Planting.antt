@@ -27,7 +27,7 @@ use Rattle.wax_directory.specs.Nodes.{to_node, to_nothing, named_before, named_i
 use Rattle.wax_directory.specs.Nodes.{shown_reached}
 use Rattle.wax_directory.specs.Trees.{shown_in, tree_shows}
 use Rattle.wax_directory.specs.TreeLaw.{layer_shown, shown_layer, item_layer_shown, item_layer}
-use Rattle.wax_directory.specs.Routes.{Route, route, leads_on, first_name, after, below, rests, holds_name}
+use Rattle.wax_directory.specs.Routes.{Route, route, leads_on, first_name, rest_after, below_name, rests, holds_name}
 use Rattle.wax_directory.specs.Routes.{added, with_new, names_by, kind_by, listing_by, HoldsBy, StandsBy}
 use Rattle.wax_directory.specs.Routes.{routes_from, routes_to}
 use Rattle.wax_directory.specs.inner.Places.{layer_has_name, has_name}
@@ -49,11 +49,12 @@ abbrev pub left_of : Option Route → ℕ
 left_of None = 0
 left_of (Some r) = names_left r
 
-total_cons : (o : Option Route) (routes : List Route) → total (cons_option o routes) ≡ left_of o + total routes
+total_cons : (o : Option Route) (routes : List Route)
+    → total (cons_option o routes) ≡ left_of o + total routes
 total_cons None routes = omega arith
 total_cons (Some r) routes = refl
 
-after_fewer : (x : List ℕ) (r : Route) → left_of (after x r) ≤ names_left r
+after_fewer : (x : List ℕ) (r : Route) → left_of (rest_after x r) ≤ names_left r
 after_fewer x (route [] f) = omega arith
 after_fewer x (route (y ∷ names) f) = elim (bytes_eq y x) as
     (λ b. left_of (cond b (Some (route names f)) None) ≤ names_left (route (y ∷ names) f))
@@ -61,42 +62,41 @@ after_fewer x (route (y ∷ names) f) = elim (bytes_eq y x) as
 
 -- what is left of a route that begins with a name
 abbrev pub BeginsWith : List ℕ → Route → Type 0
-BeginsWith x r = (rest : Route) × (after x r ≡ Some rest) × (names_left rest < names_left r)
+BeginsWith x r = (rest : Route) × (rest_after x r ≡ Some rest) × (names_left rest < names_left r)
 
 begins_with : (x : List ℕ) (r : Route) → first_name r ≡ Some x → BeginsWith x r
 begins_with x (route [] f) e = absurd (let g : None ≡ Some x = e in cc)
 begins_with x (route (y ∷ names) f) e =
     let g : Some y ≡ Some x = e in
-    let same : y ≡ x = cc in
-    (
+    let same : y ≡ x = cc in (
       route names f,
       ap (λ b. cond b (Some (route names f)) None) ((bytes_eq-Decides y x).1 same),
       omega arith,
     )
 
-below_fewer : (x : List ℕ) (routes : List Route) → total (below x routes) ≤ total routes
+below_fewer : (x : List ℕ) (routes : List Route) → total (below_name x routes) ≤ total routes
 below_fewer x [] = omega arith
 below_fewer x (r ∷ routes) =
-    let h : total (below x routes) ≤ total routes = below_fewer x routes in
-    let k : total (below x (r ∷ routes)) ≡ left_of (after x r) + total (below x routes) = total_cons
-    (after x r) (below x routes) in
+    let h : total (below_name x routes) ≤ total routes = below_fewer x routes in
+    let k : total (below_name x (r ∷ routes)) ≡ left_of (rest_after x r) + total (below_name x routes) =
+    total_cons (rest_after x r) (below_name x routes) in
     omega (arith, h, k, after_fewer x r)
 
 -- fewer are left below the first name of one of them
 pub below_less : (x : List ℕ) (routes : List Route) (k : ℕ) (d : Route) → k < length routes
-    → first_name (get_or routes k d) ≡ Some x → total (below x routes) < total routes
+    → first_name (get_or routes k d) ≡ Some x → total (below_name x routes) < total routes
 below_less x [] k d lt e = absurd (omega (arith, lt))
 below_less x (r ∷ routes) zero d lt e =
     let b : BeginsWith x r = begins_with x r e in
-    let h : total (below x routes) ≤ total routes = below_fewer x routes in
-    let s : left_of (after x r) ≡ names_left b.0 = ap left_of b.1 in
-    let k : total (below x (r ∷ routes)) ≡ left_of (after x r) + total (below x routes) = total_cons
-    (after x r) (below x routes) in
+    let h : total (below_name x routes) ≤ total routes = below_fewer x routes in
+    let s : left_of (rest_after x r) ≡ names_left b.0 = ap left_of b.1 in
+    let k : total (below_name x (r ∷ routes)) ≡ left_of (rest_after x r) + total (below_name x routes) =
+    total_cons (rest_after x r) (below_name x routes) in
     omega (arith, h, k, s, b.2)
 below_less x (r ∷ routes) (suc k) d lt e =
-    let h : total (below x routes) < total routes = below_less x routes k d (omega (arith, lt)) e in
-    let s : total (below x (r ∷ routes)) ≡ left_of (after x r) + total (below x routes) = total_cons
-    (after x r) (below x routes) in
+    let h : total (below_name x routes) < total routes = below_less x routes k d (omega (arith, lt)) e in
+    let s : total (below_name x (r ∷ routes)) ≡ left_of (rest_after x r) + total (below_name x routes) =
+    total_cons (rest_after x r) (below_name x routes) in
     omega (arith, h, s, after_fewer x r)
 
 cons_some : (o : Option Route) (r : Route) (routes : List Route) → o ≡ Some r
@@ -110,12 +110,12 @@ cons_later (Some q) routes some h = absurd (let g : q ∷ routes ≡ [] = h in c
 
 -- something is left below the first name of one of them
 pub below_some : (x : List ℕ) (routes : List Route) (k : ℕ) (d : Route) → k < length routes
-    → first_name (get_or routes k d) ≡ Some x → ¬ (below x routes ≡ [])
+    → first_name (get_or routes k d) ≡ Some x → ¬ (below_name x routes ≡ [])
 below_some x [] k d lt e = absurd (omega (arith, lt))
 below_some x (r ∷ routes) zero d lt e =
-    let b : BeginsWith x r = begins_with x r e in cons_some (after x r) b.0 (below x routes) b.1
+    let b : BeginsWith x r = begins_with x r e in cons_some (rest_after x r) b.0 (below_name x routes) b.1
 below_some x (r ∷ routes) (suc k) d lt e =
-    cons_later (after x r) (below x routes) (below_some x routes k d (omega (arith, lt)) e)
+    cons_later (rest_after x r) (below_name x routes) (below_some x routes k d (omega (arith, lt)) e)
 
 -- ---- the names with which routes begin
 
@@ -144,13 +144,13 @@ kept x (y ∷ more) names h = kept x more (added names y) (kept_added x names y 
 
 -- with a name that is not among them none begins
 absent : (x : List ℕ) (routes : List Route) (names : List (List ℕ))
-    → holds_name x (with_new names (filter_map first_name routes)) ≡ false → below x routes ≡ []
+    → holds_name x (with_new names (filter_map first_name routes)) ≡ false → below_name x routes ≡ []
 absent x [] names h = refl
 absent x (route [] f ∷ routes) names h = absent x routes names h
 absent x (route (y ∷ rest) f ∷ routes) names h =
-    let later : below x routes ≡ [] = absent x routes (added names y) h in
+    let later : below_name x routes ≡ [] = absent x routes (added names y) h in
     elim (bytes_eq y x) as
-    (λ b. bytes_eq y x ≡ b → cons_option (cond b (Some (route rest f)) None) (below x routes) ≡ []) [
+    (λ b. bytes_eq y x ≡ b → cons_option (cond b (Some (route rest f)) None) (below_name x routes) ≡ []) [
       | true ↦ λ e. absurd
           (false≢true
           (sym h ∙ kept x (filter_map first_name routes) (added names y)
@@ -275,7 +275,7 @@ rests_none (x ∷ names) = rests_none names
 stands_none : (routes : List Route) (s : Shown) → routes ≡ [] → s ≡ missing → StandsBy routes s
 stands_none routes s e h = subst (λ l. StandsBy l s) (sym e) h
 
-below_ended : (x : List ℕ) (routes : List Route) → list_any leads_on routes ≡ false → below x routes ≡ []
+below_ended : (x : List ℕ) (routes : List Route) → list_any leads_on routes ≡ false → below_name x routes ≡ []
 below_ended x [] h = refl
 below_ended x (route [] f ∷ routes) h = below_ended x routes (or_parts f (list_any leads_on routes) h).1
 below_ended x (route (y ∷ rest) f ∷ routes) h = absurd (false≢true (sym h))
@@ -295,7 +295,7 @@ pub file_grows : (routes : List Route) → ¬ (routes ≡ []) → list_any leads
     → Grows routes N.File
 file_grows routes some h [] = file_stands routes some h
 file_grows routes some h (x ∷ names) =
-    stands_none (rests names (below x routes)) (shown_reached (reached (x ∷ names) N.File))
+    stands_none (rests names (below_name x routes)) (shown_reached (reached (x ∷ names) N.File))
     (ap (rests names) (below_ended x routes h) ∙ rests_none names)
     (ap (λ k. shown_reached (onward (reached names) (below_layer x k))) out_file)
 
@@ -305,8 +305,8 @@ file_distinct = leaf_distinct N.File (ap held_layer out_file)
 -- ---- the items of a folder
 
 abbrev pub GrownLayer : List Route → TreeItem-F Node TreeItem → Type 0
-GrownLayer routes (O.Entry name n) = ¬ (below (string_bytes name) routes ≡ []) × Grows
-    (below (string_bytes name) routes) n × HasDistinctNames n
+GrownLayer routes (O.Entry name n) = ¬ (below_name (string_bytes name) routes ≡ []) × Grows
+    (below_name (string_bytes name) routes) n × HasDistinctNames n
 GrownLayer routes O.Failed = ⊥
 GrownLayer routes O.NotText = ⊥
 
@@ -321,9 +321,10 @@ grown_push routes (j ∷ items) i g h = (g.0, grown_push routes items i g.1 h)
 
 pub entry_grown : (routes : List Route) (items more : List TreeItem) (name : _) (n : Node) (x : List ℕ)
     → more ≡ items ++ Entry name n ∷ [] → string_bytes name ≡ x → AreGrown routes items
-    → ¬ (below x routes ≡ []) → Grows (below x routes) n → HasDistinctNames n → AreGrown routes more
+    → ¬ (below_name x routes ≡ []) → Grows (below_name x routes) n → HasDistinctNames n → AreGrown routes more
 entry_grown routes items more name n x is e g some grows distinct =
-    let P : List ℕ → Type 0 = λ y. ¬ (below y routes ≡ []) × Grows (below y routes) n × HasDistinctNames n in
+    let P : List ℕ → Type 0 = λ y. ¬ (below_name y routes ≡ []) × Grows (below_name y routes) n ×
+    HasDistinctNames n in
     let layer : GrownLayer routes (O.Entry name n) = subst P (sym e) (some, grows, distinct) in
     subst (AreGrown routes) (sym is)
     (grown_push routes items (Entry name n) g (subst (GrownLayer routes) (sym (out_entry name n)) layer))
@@ -361,13 +362,13 @@ listed_entry y (r ∷ routes) s rest some h =
     ] h
 
 abbrev listed_by : List Route → List ℕ → Listed
-listed_by routes x = named x (kind_by (below x routes))
+listed_by routes x = named x (kind_by (below_name x routes))
 
 listed_first : (routes : List Route) (k : TreeItem-F Node TreeItem) (rest : Items) (names : List (List ℕ))
     → GrownLayer routes k → listing rest ≡ map (listed_by routes) names
     → listing (item_layer_shown k rest) ≡ map (listed_by routes) (name_before k names)
 listed_first routes (O.Entry name n) rest names g h =
-    listed_entry (string_bytes name) (below (string_bytes name) routes) (shown_of n) rest g.0 (g.1 [])
+    listed_entry (string_bytes name) (below_name (string_bytes name) routes) (shown_of n) rest g.0 (g.1 [])
     ∙ ap (λ l. listed_by routes (string_bytes name) ∷ l) h
 listed_first routes O.Failed rest names g h = absurd g
 listed_first routes O.NotText rest names g h = absurd g
@@ -382,7 +383,7 @@ listed_items routes (i ∷ items) g =
 
 -- a name among the items leads to what was made of what is left, and any other to nothing
 abbrev FoundBy : List ℕ → List Route → Reached → List (List ℕ) → Type 0
-FoundBy x routes r names = ((n : Node) × (r ≡ to_node n) × Grows (below x routes) n) ⊎
+FoundBy x routes r names = ((n : Node) × (r ≡ to_node n) × Grows (below_name x routes) n) ⊎
     ((r ≡ to_nothing) × (holds_name x names ≡ false))
 
 found_layer : (x : List ℕ) (routes : List Route) (k : TreeItem-F Node TreeItem) (r : Reached)
@@ -391,10 +392,14 @@ found_layer : (x : List ℕ) (routes : List Route) (k : TreeItem-F Node TreeItem
 found_layer x routes (O.Entry name n) r names g h =
     elim (bytes_eq (string_bytes name) x) as
     (λ b. bytes_eq (string_bytes name) x ≡ b
-    → ((m : Node) × (cond b (to_node n) r ≡ to_node m) × Grows (below x routes) m) ⊎
+    → ((m : Node) × (cond b (to_node n) r ≡ to_node m) × Grows (below_name x routes) m) ⊎
     ((cond b (to_node n) r ≡ to_nothing) × ((b || holds_name x names) ≡ false))) [
-      | true ↦ λ e. inl
-          (n, refl, subst (λ y. Grows (below y routes) n) ((bytes_eq-Decides (string_bytes name) x).0 e) g.1)
+      | true ↦ λ e. inl (
+        n,
+        refl,
+        subst (λ y. Grows (below_name y routes) n)
+            ((bytes_eq-Decides (string_bytes name) x).0 e) g.1,
+      )
       | false ↦ λ e. h
     ] refl
 found_layer x routes O.Failed r names g h = absurd g
@@ -417,11 +422,11 @@ stands_folder (r ∷ routes) s l leads e h =
 
 below_stands : (routes : List Route) (x : List ℕ) (more : List (List ℕ)) (items : List TreeItem) (q : Reached)
     → q ≡ named_in x items → names_of items ≡ names_by routes → AreGrown routes items
-    → StandsBy (rests more (below x routes)) (shown_reached (onward (reached more) q))
+    → StandsBy (rests more (below_name x routes)) (shown_reached (onward (reached more) q))
 below_stands routes x more items q led names g = elim (found_items x routes items g) [
-  | inl f ↦ subst (λ r. StandsBy (rests more (below x routes)) (shown_reached (onward (reached more) r)))
+  | inl f ↦ subst (λ r. StandsBy (rests more (below_name x routes)) (shown_reached (onward (reached more) r)))
       (sym (led ∙ f.1)) (f.2 more)
-  | inr f ↦ stands_none (rests more (below x routes)) (shown_reached (onward (reached more) q))
+  | inr f ↦ stands_none (rests more (below_name x routes)) (shown_reached (onward (reached more) q))
       (ap (rests more) (absent x routes [] (ap (holds_name x) (sym names) ∙ f.1)) ∙ rests_none more)
       (ap (λ r. shown_reached (onward (reached more) r)) (led ∙ f.0))
 ]
@@ -461,21 +466,21 @@ grown_distinct routes n items is distinct g = folder_distinct n items.items (fol
 pub planted_stands : (working root : Node) (path : List ℕ) (texts : List (List ℕ))
     → Grows (routes_from false texts) working → Grows (routes_from true texts) root
     → StandsBy (routes_to path texts) (shown_in working root path)
-planted_stands working root path texts below above =
+planted_stands working root path texts lower upper =
     elim (is_rooted path) as
     (λ b. StandsBy (rests (names_in_path path) (routes_from b texts))
     (shown_reached (reached (names_in_path path) (if b then root else working)))) [
-      | true ↦ above (names_in_path path)
-      | false ↦ below (names_in_path path)
+      | true ↦ upper (names_in_path path)
+      | false ↦ lower (names_in_path path)
     ]
 
 pub tree_stands : (t : Tree) (working root : Node) (texts : List (List ℕ)) (path : List ℕ)
     → t.working ≡ working → t.root ≡ root → Grows (routes_from false texts) working
     → Grows (routes_from true texts) root → HasDistinctNames working → HasDistinctNames root
     → (s : Shown) × tree_shows t path s × StandsBy (routes_to path texts) s
-tree_stands t working root texts path w r below above one two = (
+tree_stands t working root texts path w r lower upper one two = (
   shown_in t.working t.root path,
   (subst HasDistinctNames (sym w) one, subst HasDistinctNames (sym r) two, refl),
-  planted_stands t.working t.root path texts (subst (Grows (routes_from false texts)) (sym w) below)
-      (subst (Grows (routes_from true texts)) (sym r) above),
+  planted_stands t.working t.root path texts (subst (Grows (routes_from false texts)) (sym w) lower)
+      (subst (Grows (routes_from true texts)) (sym r) upper),
 )

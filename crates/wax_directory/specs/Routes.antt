@@ -22,18 +22,18 @@ first_name (route [] is_folder) = None
 first_name (route (x ∷ names) is_folder) = Some x
 
 -- what is left of it after a name, where it begins with that
-abbrev pub after : List ℕ → Route → Option Route
-after x (route [] is_folder) = None
-after x (route (y ∷ names) is_folder) = cond (bytes_eq y x) (Some (route names is_folder)) None
+abbrev pub rest_after : List ℕ → Route → Option Route
+rest_after x (route [] is_folder) = None
+rest_after x (route (y ∷ names) is_folder) = cond (bytes_eq y x) (Some (route names is_folder)) None
 
 -- what is left of those that begin with a name
-abbrev pub below : List ℕ → List Route → List Route
-below x routes = filter_map (after x) routes
+abbrev pub below_name : List ℕ → List Route → List Route
+below_name x routes = filter_map (rest_after x) routes
 
 -- what is left of those that begin with these names
 abbrev pub rests : List (List ℕ) → List Route → List Route
 rests [] routes = routes
-rests (x ∷ names) routes = rests names (below x routes)
+rests (x ∷ names) routes = rests names (below_name x routes)
 
 abbrev pub holds_name : List ℕ → List (List ℕ) → Bool
 holds_name x names = list_any (λ y. bytes_eq y x) names
@@ -57,7 +57,7 @@ kind_by routes = cond (list_any leads_on routes) Folder File
 
 -- what the folder holds where routes begin
 abbrev pub listing_by : List Route → List Listed
-listing_by routes = map (λ x. named x (kind_by (below x routes))) (names_by routes)
+listing_by routes = map (λ x. named x (kind_by (below_name x routes))) (names_by routes)
 
 abbrev pub HoldsBy : List Route → Shown → Type 0
 HoldsBy routes s = (l : Items) × (s ≡ a_folder l) × (listing l ≡ listing_by routes)

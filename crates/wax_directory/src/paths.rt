@@ -4,8 +4,8 @@ ghost use Rattle.std.specs.Prelude.{◌≡◌, ℕ, [], List, map, option_map, I
 ghost use Rattle.std.specs.List.{list_any};
 ghost use Rattle.wax_directory.specs.Counting.{no_counts};
 ghost use Rattle.wax_directory.specs.Nodes.{names_of, HasDistinctNames};
-ghost use Rattle.wax_directory.specs.Routes.{after, below, first_name, leads_on, routes_from, routes_to};
-ghost use Rattle.wax_directory.specs.Routes.{starts_at, StandsBy};
+ghost use Rattle.wax_directory.specs.Routes.{below_name, first_name, leads_on, rest_after, routes_from};
+ghost use Rattle.wax_directory.specs.Routes.{routes_to, starts_at, StandsBy};
 ghost use Rattle.wax_directory.specs.Shown.{Shown, is_open};
 ghost use Rattle.wax_directory.specs.Trees.{tree_law};
 ghost use Rattle.wax_directory.specs.inner.Growing.{new_name, Grows};
@@ -73,7 +73,7 @@ impl<'a> Route<'a> {
 
     // what is left of it after this name, where it begins with it
     fn after(&self, name: &str) -> Option<Route<'a>>
-        ensures { result ≡ after name.now self.now }
+        ensures { result ≡ rest_after name.now self.now }
     {
         let (first, names) = self.names.split_first()?;
         if *first != name {
@@ -143,7 +143,7 @@ fn routes_below<'a>(
     routes: &[Route<'a>],
     name: &str,
 ) -> Result<Vec<Route<'a>>, AllocError>
-    ensures { IfOk result (λ v. v.items ≡ below name.now routes.now) }
+    ensures { IfOk result (λ v. v.items ≡ below_name name.now routes.now) }
 {
     routes
         .iter()

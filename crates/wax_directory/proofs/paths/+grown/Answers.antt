@@ -1,4 +1,4 @@
-use Rattle.std.proofs.Common.{◌≡◌, ◌<◌, ◌++◌, ℕ, List, [], ◌∷◌, Bor, Some, None, get_or, refl, sym, ◌∙◌, ap, subst}
+use Rattle.std.proofs.Common.{◌≡◌, ◌<◌, ◌++◌, ℕ, List, [], ◌∷◌, Bor, None, refl, sym, ◌∙◌, ap, subst}
 use Rattle.std.proofs.Common.{option_map, drop, ◌+◌, arith}
 use Rattle.std.specs.List.{filter_map}
 use Rattle.wax_directory.specs.declared.tree.TreeItem.{TreeItem}
@@ -6,7 +6,7 @@ use Rattle.wax_directory.specs.declared.tree.TreeItem.TheVariants.{Entry}
 use Rattle.wax_directory.specs.declared.tree.Node.TheViews as V
 use Rattle.wax_directory.specs.Names.{are_distinct}
 use Rattle.wax_directory.specs.Nodes.{names_of}
-use Rattle.wax_directory.specs.Routes.{Route, first_name, below, with_new}
+use Rattle.wax_directory.specs.Routes.{Route, first_name, below_name, with_new}
 use Rattle.wax_directory.specs.inner.Growing.{new_name, Grows}
 use Rattle.wax_directory.proofs.Cursors.{none_of}
 use Rattle.wax_directory.proofs.PathNames.{distinct_push}
@@ -32,10 +32,10 @@ grown-requires t c =
     new_of (first_name c.route-item.result) (names_of c.loop-route.items.items) x
     (c.in-Some.ensures ∙ ap (λ l. new_name (names_of l) (first_name c.route-item.result))
     c.as_slice.ensures.value) in
-    let less : total (below x routes) < total routes =
+    let less : total (below_name x routes) < total routes =
     below_less x routes c.loop-route.route-index c.route-item.result c.loop-route-test.true
     (ap first_name (sym c.route-item.is) ∙ new.0) in
-    let same : total c.as_slice-in-Some.result.now ≡ total (below x routes) =
+    let same : total c.as_slice-in-Some.result.now ≡ total (below_name x routes) =
     ap total (c.as_slice-in-Some.ensures.value ∙ c.in_ok-routes_below.ensures) in
     (omega (arith, less, same, c.decreases), tt)
 
@@ -51,11 +51,11 @@ loop-route-preserved t c =
           let new : IsNewOf (names_of items) (first_name r) x =
           new_of (first_name r) (names_of items) x
           (w.in-Some.ensures ∙ ap (λ l. new_name (names_of l) (first_name r)) c.as_slice.ensures.value) in
-          let some : ¬ (below x routes ≡ []) =
+          let some : ¬ (below_name x routes ≡ []) =
           below_some x routes at r c.loop-route-test.true (ap first_name (sym c.route-item.is) ∙ new.0) in
-          let group : w.as_slice-in-Some.result.now ≡ below x routes =
+          let group : w.as_slice-in-Some.result.now ≡ below_name x routes =
           w.as_slice-in-Some.ensures.value ∙ w.in_ok-routes_below.ensures in
-          let grows : Grows (below x routes) w.in_ok-node.node =
+          let grows : Grows (below_name x routes) w.in_ok-node.node =
           subst (λ l. ¬ (l ≡ []) → Grows l w.in_ok-node.node) group w.in_ok-node.ensures.stands some in
           let more : c.match-new_name.items.items ≡ items ++ Entry w.in_ok-from_str.field-0 w.in_ok-node.node ∷
           [] = ap (λ v. v.items) w.items-is ∙ w.in_ok-push.ensures.items in
