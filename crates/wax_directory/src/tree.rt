@@ -24,7 +24,7 @@ use wax_query::diagnostics::{NoMemory, Refusal};
 
 /// What stands in a tree.
 #[cycle(tree)]
-#[derive(Drop)]
+#[derive(Debug, Drop, Eq, PartialEq)]
 pub enum Node {
     File,
     Link,
@@ -35,7 +35,7 @@ pub enum Node {
 
 /// What a folder of a tree holds, in the folder's order.
 #[cycle(tree)]
-#[derive(Drop)]
+#[derive(Debug, Drop, Eq, PartialEq)]
 pub enum TreeItem {
     /// A name, as given, and what stands there.
     Entry(String, Node),
@@ -56,7 +56,7 @@ pub struct DuplicateName;
 /// Empty parts of a path are left out; `.` and `..` are names like others. Through a file or a link
 /// leads no path; what is below a folder that can't be listed can't be read. Dropping a tree takes
 /// stack for each level.
-#[derive(Drop)]
+#[derive(Debug, Drop)]
 pub struct Tree {
     working: Node,
     root: Node,
