@@ -5,7 +5,8 @@ use Rattle.std.specs.List.{list_any, filter_map}
 use Rattle.std.specs.Str.{bytes_eq}
 use Rattle.wax_directory.specs.declared.directory.FileType.{FileType}
 use Rattle.wax_directory.specs.declared.directory.FileType.TheVariants.{File, Folder}
-use Rattle.wax_directory.specs.Shown.{Items, Shown, a_leaf, a_folder, missing, Listed, named, listing, is_open}
+use Rattle.wax_directory.specs.Shown.{Items, Shown, a_leaf, a_folder, missing, Listed, named, listing}
+use Rattle.wax_directory.specs.Shown.{is_open}
 use Rattle.wax_directory.specs.Names.{is_rooted, names_in_path}
 
 -- a path from some folder on: its names, and whether it is a folder's
