@@ -9,4 +9,5 @@ pub mod Cost
 pub mod Meaning
 pub mod Decided
 pub mod Reads
+pub mod Same
 pub mod Spelled

@@ -20,6 +20,7 @@ mod leaves;
 mod made;
 mod members;
 mod owned;
+mod same;
 mod token_tree;
 
 pub use boundary::Boundary;
