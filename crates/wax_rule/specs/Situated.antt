@@ -1,5 +1,5 @@
 -- The tokens of a tree, breadth first, each with what stands beside it.
-use Rattle.std.specs.Prelude.{Bool, false, ◌||◌, List, [], ◌∷◌, ◌++◌, Option, Some, None}
+use Rattle.std.specs.Prelude.{Bool, false, ◌||◌, List, [], ◌∷◌, Option, Some, None}
 use Rattle.std.specs.List.{flat_map}
 use Rattle.wax_alternatives.specs.Alternatives.{beside}
 use Rattle.wax_rule.specs.declared.rule.situated.Side.{Side}

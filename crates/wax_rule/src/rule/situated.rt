@@ -1,6 +1,6 @@
 //! The tokens of a glob in a row, breadth first, each with what stands beside it.
 ghost use Rattle.std.specs.Prelude.{◌≡◌, ◌++◌, ◌∷◌, [], Bool, IfOk, OnOk, Option, Some, None, drop, ◌<◌, ◌≤◌};
-ghost use Rattle.std.specs.Prelude.{length};
+ghost use Rattle.std.specs.Prelude.{◌||◌, length};
 ghost use Rattle.std.specs.List.{flat_map};
 ghost use Rattle.wax_token.specs.View.{leaf_of};
 ghost use Rattle.wax_token.specs.Words.{trees, annotation_of};
@@ -69,6 +69,24 @@ struct Found {
     zero_or_more: bool,
 }
 
+impl Found {
+    const NOTHING: Found = Found {
+        boundary: false,
+        zero_or_more: false,
+    };
+
+    /// What is in this or in the other.
+    fn or(self, other: Found) -> Found
+        ensures boundary { result.boundary ≡ (self.boundary || other.boundary) }
+        ensures zero_or_more { result.zero_or_more ≡ (self.zero_or_more || other.zero_or_more) }
+    {
+        Found {
+            boundary: self.boundary || other.boundary,
+            zero_or_more: self.zero_or_more || other.zero_or_more,
+        }
+    }
+}
+
 fn found_in_leaf(leaf: &LeafKind<'_>) -> Found
     ensures boundary { result.boundary ≡ is_boundary_leaf (leaf_of leaf.now) }
     ensures zero_or_more { result.zero_or_more ≡ is_zero_or_more_leaf (leaf_of leaf.now) }
@@ -90,10 +108,7 @@ fn found_at_start<'t>(token: &Token<'t, ExpressionMetadata>) -> Found
             BranchKind::Alternation(a) => found_at_starts(a.tokens.as_slice()),
             BranchKind::Concatenation(c) => match c.tokens.first() {
                 Some(first) => found_at_start(first),
-                None => Found {
-                    boundary: false,
-                    zero_or_more: false,
-                },
+                None => Found::NOTHING,
             },
             BranchKind::Repetition(r) => found_at_start(&r.token),
         },
@@ -108,17 +123,11 @@ fn found_at_starts<'t>(tokens: &[Token<'t, ExpressionMetadata>]) -> Found
     ensures boundary { result.boundary ≡ some_starts_in is_boundary_leaf (trees tokens.now) }
     ensures zero_or_more { result.zero_or_more ≡ some_starts_in is_zero_or_more_leaf (trees tokens.now) }
 {
-    let mut boundary = false;
-    let mut zero_or_more = false;
+    let mut found = Found::NOTHING;
     for token in tokens {
-        let found = found_at_start(token);
-        boundary = boundary || found.boundary;
-        zero_or_more = zero_or_more || found.zero_or_more;
+        found = found.or(found_at_start(token));
     }
-    Found {
-        boundary,
-        zero_or_more,
-    }
+    found
 }
 
 /// What is reached through last tokens.
@@ -132,10 +141,7 @@ fn found_at_end<'t>(token: &Token<'t, ExpressionMetadata>) -> Found
             BranchKind::Alternation(a) => found_at_ends(a.tokens.as_slice()),
             BranchKind::Concatenation(c) => match c.tokens.last() {
                 Some(last) => found_at_end(last),
-                None => Found {
-                    boundary: false,
-                    zero_or_more: false,
-                },
+                None => Found::NOTHING,
             },
             BranchKind::Repetition(r) => found_at_end(&r.token),
         },
@@ -150,39 +156,38 @@ fn found_at_ends<'t>(tokens: &[Token<'t, ExpressionMetadata>]) -> Found
     ensures boundary { result.boundary ≡ some_ends_in is_boundary_leaf (trees tokens.now) }
     ensures zero_or_more { result.zero_or_more ≡ some_ends_in is_zero_or_more_leaf (trees tokens.now) }
 {
-    let mut boundary = false;
-    let mut zero_or_more = false;
+    let mut found = Found::NOTHING;
     for token in tokens {
-        let found = found_at_end(token);
-        boundary = boundary || found.boundary;
-        zero_or_more = zero_or_more || found.zero_or_more;
+        found = found.or(found_at_end(token));
     }
-    Found {
-        boundary,
-        zero_or_more,
+    found
+}
+
+/// The side of a token at which this is found.
+fn side_of<'t>(token: &Token<'t, ExpressionMetadata>, found: Found) -> Side
+    ensures { result ≡ record {
+      span = annotation_of token.now;
+      has_boundary = found.boundary;
+      has_zero_or_more = found.zero_or_more;
+    } }
+{
+    Side {
+        span: token.annotation().span(),
+        has_boundary: found.boundary,
+        has_zero_or_more: found.zero_or_more,
     }
 }
 
 fn start_side<'t>(token: &Token<'t, ExpressionMetadata>) -> Side
     ensures { result ≡ start_side token.now }
 {
-    let found = found_at_start(token);
-    Side {
-        span: token.annotation().span(),
-        has_boundary: found.boundary,
-        has_zero_or_more: found.zero_or_more,
-    }
+    side_of(token, found_at_start(token))
 }
 
 fn end_side<'t>(token: &Token<'t, ExpressionMetadata>) -> Side
     ensures { result ≡ end_side token.now }
 {
-    let found = found_at_end(token);
-    Side {
-        span: token.annotation().span(),
-        has_boundary: found.boundary,
-        has_zero_or_more: found.zero_or_more,
-    }
+    side_of(token, found_at_end(token))
 }
 
 /// What the token at the index shows to the one before it, or the other where there is none.

@@ -13,6 +13,6 @@ decreases-found_at_starts l = trees_size (trees l.tokens.now)
 
 abbrev pub invariant-found_at_starts-loop-token : goal.invariant-found_at_starts-loop-token
 invariant-found_at_starts-loop-token l = record {
-  boundary : (l.boundary || some_starts_in is_boundary_leaf (trees (drop l.token-index l.tokens))) ≡ some_starts_in is_boundary_leaf (trees l.tokens);
-  zero_or_more : (l.zero_or_more || some_starts_in is_zero_or_more_leaf (trees (drop l.token-index l.tokens))) ≡ some_starts_in is_zero_or_more_leaf (trees l.tokens);
+  boundary : (l.found.boundary || some_starts_in is_boundary_leaf (trees (drop l.token-index l.tokens))) ≡ some_starts_in is_boundary_leaf (trees l.tokens);
+  zero_or_more : (l.found.zero_or_more || some_starts_in is_zero_or_more_leaf (trees (drop l.token-index l.tokens))) ≡ some_starts_in is_zero_or_more_leaf (trees l.tokens);
 }
