@@ -4,3 +4,4 @@ pub mod Finding
 pub mod Cursors
 pub mod Listing
 pub mod Planting
+pub mod Copying

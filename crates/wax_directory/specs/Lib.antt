@@ -7,6 +7,7 @@ pub mod Listing
 pub mod Names
 pub mod Nodes
 pub mod Routes
+pub mod Copies
 pub mod Trees
 pub mod TreeCursors
 pub mod TreeLaw

@@ -1,6 +1,7 @@
 //! Directories: what stands at a path, and what a folder holds, name by name.
 #![tactic(auto)]
 
+mod copies;
 pub mod directory;
 pub mod failing;
 pub mod folders;
