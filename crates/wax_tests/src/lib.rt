@@ -17,4 +17,6 @@ mod lines;
 #[cfg(test)]
 mod streams;
 #[cfg(test)]
+mod values;
+#[cfg(test)]
 mod walks;

@@ -1,0 +1,144 @@
+//! Values that are copied, compared and printed, and trees of paths.
+
+use std::alloc::Global;
+use std::test::*;
+use wax::prelude::*;
+use wax::token::{ExpressionMetadata, Tokenized, parse};
+use wax::walk::{DepthMax, Node, Tree, TreeItem, WalkBehavior, WalkError, entries};
+
+// The paths that a walk gave, each with a bar; of an error what it is.
+fn told<E: Entry>(alloc: Global, items: &[Result<E, WalkError>]) -> Result<String, Fail> {
+    let mut text = String::new(alloc);
+    for item in items {
+        match item {
+            Ok(entry) => text.push_str(entry.path())?,
+            Err(error) => text.push_str(format!(in alloc; "{error}")?.as_str())?,
+        }
+        text.push('|')?;
+    }
+    Ok(text)
+}
+
+const PATHS: &[&str] = &[
+    "src/lib.rs",
+    "src/token/mod.rs",
+    "target/",
+    "src",
+    "src/lib.rs",
+    "/etc/hosts",
+];
+
+#[test]
+fn a_tree_of_paths_is_walked(rt: HostRuntime) -> Result<(), Fail> {
+    let alloc = rt.alloc();
+    let whole = entries(
+        alloc,
+        Tree::from_paths(alloc, PATHS)?,
+        "",
+        WalkBehavior::default(),
+    )?;
+    let want = "|src|src/lib.rs|src/token|src/token/mod.rs|target|";
+    assert_eq!(rt; told(alloc, whole.0.as_slice())?.as_str(), want);
+    let rooted = entries(
+        alloc,
+        Tree::from_paths(alloc, PATHS)?,
+        "/",
+        WalkBehavior::default(),
+    )?;
+    assert_eq!(rt;
+        told(alloc, rooted.0.as_slice())?.as_str(),
+        "/|/etc|/etc/hosts|"
+    );
+    Ok(())
+}
+
+#[test]
+fn nodes_are_copied(rt: HostRuntime) -> Result<(), Fail> {
+    let alloc = rt.alloc();
+    let mut items = Vec::new(alloc);
+    items.push(TreeItem::Entry(String::from_str(alloc, "a")?, Node::Link))?;
+    items.push(TreeItem::NotText)?;
+    let node = Node::Folder(items);
+    let copy = node.try_clone(alloc)?;
+    assert_eq!(rt; (copy == node, copy == Node::File), (true, false));
+    Ok(())
+}
+
+#[test]
+fn a_behavior_is_built_in_steps(rt: HostRuntime) -> Result<(), Fail> {
+    let alloc = rt.alloc();
+    let behavior = WalkBehavior::default().with_depth(DepthMax(1));
+    let near = entries(alloc, Tree::from_paths(alloc, PATHS)?, "", behavior)?;
+    assert_eq!(rt; told(alloc, near.0.as_slice())?.as_str(), "|src|target|");
+    let one = entries(
+        alloc,
+        Tree::from_paths(alloc, PATHS)?,
+        "",
+        behavior.with_budget(1),
+    )?;
+    assert_eq!(rt;
+        told(alloc, one.0.as_slice())?.as_str(),
+        "|src|: budget reached|"
+    );
+    Ok(())
+}
+
+#[test]
+fn paths_are_compared_and_copied(rt: HostRuntime) -> Result<(), Fail> {
+    let alloc = rt.alloc();
+    let path = CandidatePath::from("src/日本.rs");
+    let copy = path.clone()?;
+    let owned = path.to_owned(alloc)?;
+    assert_eq!(rt;
+        (
+            copy == path,
+            owned == path,
+            path == CandidatePath::from("src")
+        ),
+        (true, true, false)
+    );
+    assert_eq!(rt; owned.as_str(), "src/日本.rs");
+    Ok(())
+}
+
+#[test]
+fn matches_are_copied(rt: HostRuntime) -> Result<(), Fail> {
+    let alloc = rt.alloc();
+    let path = CandidatePath::from("src/lib.rs");
+    let Ok(glob) = Glob::new(alloc, "**/*.rs") else {
+        return Err(Fail::from("not built"));
+    };
+    let Some(matched) = glob.matched(alloc, &path)? else {
+        return Err(Fail::from("not matched"));
+    };
+    let copy = matched.clone()?;
+    assert_eq!(rt;
+        (copy.complete(), copy.get(1), copy.get(2)),
+        ("src/lib.rs", Some("src/"), Some("lib"))
+    );
+    Ok(())
+}
+
+fn parsed(alloc: Global, expression: &str) -> Result<Tokenized<'_, ExpressionMetadata>, Fail> {
+    match parse(alloc, expression) {
+        Ok(tokenized) => Ok(tokenized),
+        Err(_) => Err(Fail::from("not parsed")),
+    }
+}
+
+#[test]
+fn tokens_are_copied_and_compared(rt: HostRuntime) -> Result<(), Fail> {
+    let alloc = rt.alloc();
+    let tokenized = parsed(alloc, "{a,[b-d]*}/<e:1,2>/**")?;
+    let copy = tokenized.to_owned(alloc)?;
+    let other = parsed(alloc, "{a,[b-d]*}/<e:1,3>/**")?;
+    assert_eq!(rt; (copy == tokenized, other == tokenized), (true, false));
+    let lines = (
+        format!(in alloc; "{copy:?}")?,
+        format!(in alloc; "{tokenized:?}")?,
+    );
+    assert_eq!(rt; lines.0.as_str(), lines.1.as_str());
+    let token = tokenized.as_token().to_owned(alloc)?;
+    assert_eq!(rt; token == *copy.as_token(), true);
+    Ok(())
+}
