@@ -1,11 +1,16 @@
 //! Why a glob is not built.
+ghost use Rattle.std.specs.Prelude.{◌≡◌, IfOk, chars, string_bytes};
 ghost use Rattle.wax.specs.Build.{IsRuleRefusal};
+ghost use Rattle.wax.specs.Locations.{error_labels};
+ghost use Rattle.wax_picture.specs.Drawn.{picture as picture_of};
+ghost use Rattle.wax_query.specs.Labels.{AreLabels};
 
 use std::alloc::Global;
 use thiserror::Error;
 use wax_match::encode::CompileError;
 use wax_parse::parse::ParseError;
-use wax_query::diagnostics::{NoMemory, Refusal};
+use wax_picture::picture;
+use wax_query::diagnostics::{CompositeSpan, NoMemory, Refusal, Span};
 use wax_rule::rule::RuleError;
 
 /// Why a glob is not built.
@@ -23,6 +28,35 @@ pub enum BuildError {
     /// Memory was asked for and refused (refusal 10).
     #[error("no memory")]
     Memory,
+}
+
+impl BuildError {
+    /// What is told of the refusal, each with its span in the expression: `unexpected expression` where it
+    /// can't be read; of a broken rule the label of its place, then `here` for each place that explains it.
+    /// The refusals 9 and 10 tell nothing. Refused with 10 where memory is.
+    pub fn labels(&self, alloc: Global) -> Result<Vec<(&'static str, Span)>, NoMemory>
+        ensures { IfOk result (λ labels. AreLabels labels.items (error_labels self.now)) }
+    {
+        match self {
+            BuildError::Parse(error) => {
+                CompositeSpan::spanned("unexpected expression", error.place()).labels(alloc)
+            }
+            BuildError::Rule(error) => error.locations()[0].labels(alloc),
+            BuildError::Compile(_) => Ok(Vec::new(alloc)),
+            BuildError::Memory => Ok(Vec::new(alloc)),
+        }
+    }
+
+    /// The picture of the expression that was refused: the expression on a line, and under it a line for each
+    /// of `labels`, as `diagnostics::picture` draws them; the expression alone where there is none. Refused
+    /// with 10 where memory is.
+    pub fn picture(&self, alloc: Global, expression: &str) -> Result<String, NoMemory>
+        ensures { IfOk result
+            (λ text. string_bytes text ≡ picture_of (chars expression.now) (error_labels self.now)) }
+    {
+        let labels = self.labels(alloc)?;
+        picture(alloc, expression, labels.as_slice())
+    }
 }
 
 impl From<Refusal<ParseError>> for BuildError {

@@ -1,7 +1,9 @@
-//! Values that are copied, compared and printed, and trees of paths.
+//! Values that are copied, compared and printed; trees of paths; what is told of a refusal.
 
 use std::alloc::Global;
 use std::test::*;
+use wax::BuildError;
+use wax::diagnostics::Span;
 use wax::prelude::*;
 use wax::token::{ExpressionMetadata, Tokenized, parse};
 use wax::walk::{DepthMax, Node, Tree, TreeItem, WalkBehavior, WalkError, entries};
@@ -140,5 +142,46 @@ fn tokens_are_copied_and_compared(rt: HostRuntime) -> Result<(), Fail> {
     assert_eq!(rt; lines.0.as_str(), lines.1.as_str());
     let token = tokenized.as_token().to_owned(alloc)?;
     assert_eq!(rt; token == *copy.as_token(), true);
+    Ok(())
+}
+
+fn refusal(alloc: Global, expression: &str) -> Result<BuildError, Fail> {
+    match Glob::new(alloc, expression) {
+        Ok(_) => Err(Fail::from("built")),
+        Err(error) => Ok(error),
+    }
+}
+
+// The labels of the refusal with their spans, each with a bar.
+fn labelled(alloc: Global, expression: &str) -> Result<String, Fail> {
+    let labels: Vec<(&'static str, Span)> = refusal(alloc, expression)?.labels(alloc)?;
+    let mut text = String::new(alloc);
+    for (label, span) in &labels {
+        text.push_str(format!(in alloc; "{label} {} {}|", span.0, span.1)?.as_str())?;
+    }
+    Ok(text)
+}
+
+#[test]
+fn labels_of_refusals(rt: HostRuntime) -> Result<(), Fail> {
+    let alloc = rt.alloc();
+    assert_eq!(rt;
+        labelled(alloc, "金/[")?.as_str(),
+        "unexpected expression 4 1|"
+    );
+    assert_eq!(rt;
+        labelled(alloc, "{é/,b}/c")?.as_str(),
+        "in this alternation 0 7|here 7 1|here 3 1|"
+    );
+    assert_eq!(rt; labelled(alloc, "<a:1000000>")?.as_str(), "here 0 11|");
+    Ok(())
+}
+
+#[test]
+fn pictures_of_refusals(rt: HostRuntime) -> Result<(), Fail> {
+    let alloc = rt.alloc();
+    let picture = refusal(alloc, "{é/,b}/c")?.picture(alloc, "{é/,b}/c")?;
+    let want = "{é/,b}/c\n^^^^^^ in this alternation\n      ^ here\n  ^ here\n";
+    assert_eq!(rt; picture.as_str(), want);
     Ok(())
 }
