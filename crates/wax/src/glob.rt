@@ -21,6 +21,7 @@ ghost use Rattle.wax.specs.Partition.{as_glob};
 
 mod parts;
 mod pattern;
+mod values;
 mod walking;
 
 use crate::build_error::{BuildError, rule_refused};

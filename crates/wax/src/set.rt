@@ -1,6 +1,6 @@
 //! A set of patterns: the alternation of their tokens, with its program and its pieces.
 ghost use Rattle.std.specs.Prelude.{◌≡◌, ◌≤◌, ◌<◌, ◌++◌, ◌∷◌, ℕ, List, chars, false};
-ghost use Rattle.std.specs.Prelude.{IfOk, IfSome, MatchOption};
+ghost use Rattle.std.specs.Prelude.{IfOk, IfSome, MatchOption, Some, codes};
 ghost use Rattle.wax_depth.specs.Depth.{Depth};
 ghost use Rattle.wax_facts.specs.Exhaustive.{exhaustive};
 ghost use Rattle.wax_facts.specs.InvariantText.{Text, Variant};
@@ -19,6 +19,7 @@ use crate::build_error::BuildError;
 use crate::pattern::Pattern;
 use std::alloc::Global;
 use std::borrow::CowStr;
+use std::fmt;
 use std::marker::Model;
 use wax_candidate::{CandidatePath, MatchedText, Program};
 use wax_capture::Pieces;
@@ -87,6 +88,15 @@ pub(crate) fn compiled<'t>(
         prefilter,
         pieces,
     })
+}
+
+/// Prints `Any { .. }`: a set has no expression.
+impl fmt::Debug for Any<'_> {
+    ghost debug_output = { λ _. Some (codes "Any { .. }") };
+
+    fn fmt<W: fmt::Write>(&self, f: &mut fmt::Formatter<W>) -> fmt::Result {
+        f.write_str("Any { .. }")
+    }
 }
 
 impl Program for Any<'_> {
