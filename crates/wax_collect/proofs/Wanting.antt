@@ -1,21 +1,21 @@
 -- What is wanted of a walk comes, and is what is kept.
-use Rattle.std.proofs.Common.{◌≡◌, ℕ, ◌+◌, ◌<◌, ◌≤◌, Bool, true, false, cond, List, [], ◌∷◌, ◌++◌, length, filter}
+use Rattle.std.proofs.Common.{◌≡◌, ℕ, ◌+◌, ◌<◌, ◌≤◌, Bool, true, false, List, length, filter}
 use Rattle.std.proofs.Common.{refl, sym, ap, subst, ◌∙◌, arith, inl, inr}
 use Rattle.std.specs.Prelude.{if◌then◌else◌, All}
 use Rattle.std.proofs.lemmas.Bool.{ltb-false, ltb-true}
-use Rattle.std.proofs.lemmas.List.Elements.{filter-append}
 use Rattle.wax_directory.specs.Counting.{grown}
 use Rattle.wax_directory.specs.Law.{Law}
 use Rattle.wax_directory.specs.Shown.{Shown}
 use Rattle.wax_token.specs.Reads.{Span}
 use Rattle.wax_tree.specs.Plain.{count_shown}
-use Rattle.wax_walk.specs.Collected.{IsCutShort, GaveAll, whole, lacks_memory, over_budget, Took}
+use Rattle.wax_walk.specs.Collected.{GaveAll, whole, lacks_memory, over_budget, Took}
 use Rattle.wax_walk.specs.Collected.{all_fault_counts}
 use Rattle.wax_walk.specs.declared.error.FaultKind.TheVariants.{Budget}
 use Rattle.wax_walk.specs.Forest.{Pending, Forest, nothing, pending, preorder, listings}
-use Rattle.wax_walk.specs.Given.{Facts, Mark, kept, alone, with_tree, Given, entry, fault, no_memory, is_kept}
+use Rattle.wax_walk.specs.Given.{Facts, Mark, kept, Given, fault, no_memory, is_kept}
 use Rattle.wax_walk.specs.Ruled.{ruled_view}
 use Rattle.wax_walk.specs.View.{WalkView, CountsFaults, IsSeenAs}
+use Rattle.wax_wanted.proofs.KeptItems.{cut_kept, kept_entries}
 use Rattle.wax_wanted.specs.Law.{GivesWanted, ListsFew, WantsNothing}
 use Rattle.wax_wanted.specs.Marks.{glob_mark, of_candidate}
 use Rattle.wax_wanted.specs.Premises.{IsWellNamed}
@@ -100,24 +100,6 @@ module _ {D C : Type 0} (law : Law D C) (d : D) where
       (all (trip_pending trip s listed) (h.comes s listed shows told))
 
 -- ---- what is kept
-
-cut_kept : (all : List Given) (x : Given) (xs : List Given) → is_kept x ≡ true → IsCutShort all x xs
-    → IsCutShort (filter is_kept all) x (filter is_kept xs)
-cut_kept all x xs e h = (
-  filter is_kept h.0,
-  filter is_kept h.1,
-  ap (filter is_kept) h.2 ∙ (filter-append is_kept h.0 (x ∷ [])
-      ∙ ap (λ b. filter is_kept h.0 ++ cond b (x ∷ []) []) e),
-  sym (filter-append is_kept h.0 h.1) ∙ ap (filter is_kept) h.3,
-)
-
-kept_entries : (xs : List Given) → filter is_kept_entry (filter is_kept xs) ≡ filter is_kept_entry xs
-kept_entries [] = refl
-kept_entries (entry kept f ∷ xs) = ap (λ ys. entry kept f ∷ ys) (kept_entries xs)
-kept_entries (entry alone f ∷ xs) = kept_entries xs
-kept_entries (entry with_tree f ∷ xs) = kept_entries xs
-kept_entries (fault kind path depth ∷ xs) = kept_entries xs
-kept_entries (no_memory ∷ xs) = kept_entries xs
 
 module _ (gives_wanted : GivesWanted) (lists_few : ListsFew) (wants_nothing : WantsNothing) where
   entries_wanted : (trip : Trip) (s : Shown) → MayGo trip

@@ -1,16 +1,16 @@
 -- What is kept of a plain walk less what lines ignore.
-use Rattle.std.proofs.Common.{◌≡◌, ◌∙◌, ◌+◌, ◌≤◌, ℕ, true, false, cond, List, [], ◌∷◌, ◌++◌, filter, refl, sym, ap, arith, subst}
-use Rattle.std.proofs.lemmas.List.Elements.{filter-append}
+use Rattle.std.proofs.Common.{◌∙◌, ◌+◌, ◌≤◌, ℕ, false, List, filter, refl, ap, arith, subst}
 use Rattle.wax_directory.specs.Law.{Law}
 use Rattle.wax_directory.specs.Shown.{Shown}
 use Rattle.wax_tree.specs.Begins.{Begins}
 use Rattle.wax_tree.specs.Plain.{count_shown}
-use Rattle.wax_walk.specs.Collected.{IsCutShort, GaveAll, whole, lacks_memory, over_budget}
+use Rattle.wax_walk.specs.Collected.{GaveAll, whole, lacks_memory, over_budget}
 use Rattle.wax_walk.specs.declared.error.FaultKind.TheVariants.{Budget}
 use Rattle.wax_walk.specs.Forest.{Pending, nothing, pending}
-use Rattle.wax_walk.specs.Given.{kept, alone, with_tree, Given, entry, fault, no_memory, is_kept}
+use Rattle.wax_walk.specs.Given.{kept, Given, fault, no_memory, is_kept}
 use Rattle.wax_walk.specs.Ruled.{ruled_view}
 use Rattle.wax_walk.specs.View.{WalkView, IsSeenAs}
+use Rattle.wax_wanted.proofs.KeptItems.{cut_kept, kept_entries}
 use Rattle.wax_wanted.specs.Ignored.{ignore_mark}
 use Rattle.wax_wanted.specs.Unignored.{GivesUnignored, LosesIgnored}
 use Rattle.wax_wanted.specs.Marks.{of_candidate}
@@ -46,24 +46,6 @@ module _ {D C : Type 0} (law : Law D C) (d : D) (tour : Tour) (rule : IgnoreRule
       (all (tour_pending tour s listed) (comes s listed shows told))
 
 -- ---- what is kept
-
-cut_kept : (all : List Given) (x : Given) (xs : List Given) → is_kept x ≡ true → IsCutShort all x xs
-    → IsCutShort (filter is_kept all) x (filter is_kept xs)
-cut_kept all x xs e h = (
-  filter is_kept h.0,
-  filter is_kept h.1,
-  ap (filter is_kept) h.2 ∙ (filter-append is_kept h.0 (x ∷ [])
-      ∙ ap (λ b. filter is_kept h.0 ++ cond b (x ∷ []) []) e),
-  sym (filter-append is_kept h.0 h.1) ∙ ap (filter is_kept) h.3,
-)
-
-kept_entries : (xs : List Given) → filter is_kept_entry (filter is_kept xs) ≡ filter is_kept_entry xs
-kept_entries [] = refl
-kept_entries (entry kept f ∷ xs) = ap (λ ys. entry kept f ∷ ys) (kept_entries xs)
-kept_entries (entry alone f ∷ xs) = kept_entries xs
-kept_entries (entry with_tree f ∷ xs) = kept_entries xs
-kept_entries (fault kind path depth ∷ xs) = kept_entries xs
-kept_entries (no_memory ∷ xs) = kept_entries xs
 
 module _ (gives_unignored : GivesUnignored) (loses_ignored : LosesIgnored) where
   pub keeps_unignored : (tells : List (List ℕ) → Type 0) (tour : Tour) (s : Shown) (listed : List (List ℕ)) (xs : List Given) → IsPlainShown s

@@ -6,6 +6,7 @@ pub mod Filters
 pub mod Headline
 pub mod Ignored
 pub mod Ignores
+pub mod KeptItems
 pub mod Leading
 pub mod Listing
 pub mod Losing
