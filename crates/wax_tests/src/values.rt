@@ -121,6 +121,27 @@ fn matches_are_copied(rt: HostRuntime) -> Result<(), Fail> {
     Ok(())
 }
 
+#[test]
+fn globs_are_copied_and_printed(rt: HostRuntime) -> Result<(), Fail> {
+    let alloc = rt.alloc();
+    let Ok(glob) = Glob::new(alloc, "{a,b}/*.rs") else {
+        return Err(Fail::from("not built"));
+    };
+    let copy = glob.to_owned(alloc)?;
+    let owned = glob.into_owned(alloc)?;
+    let path = CandidatePath::from("b/x.rs");
+    assert_eq!(rt;
+        (copy.is_match(alloc, &path)?, owned.is_match(alloc, &path)?),
+        (true, true)
+    );
+    assert_eq!(rt; owned.expression(), "{a,b}/*.rs");
+    assert_eq!(rt;
+        format!(in alloc; "{copy:?}")?.as_str(),
+        "Glob(\"{a,b}/*.rs\")"
+    );
+    Ok(())
+}
+
 fn parsed(alloc: Global, expression: &str) -> Result<Tokenized<'_, ExpressionMetadata>, Fail> {
     match parse(alloc, expression) {
         Ok(tokenized) => Ok(tokenized),
