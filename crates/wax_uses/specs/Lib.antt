@@ -1,2 +1,3 @@
+pub mod Less
 pub mod Names
 pub mod Walks

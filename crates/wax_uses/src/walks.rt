@@ -1,15 +1,20 @@
 //! Walks that leave something out.
 ghost use Rattle.std.specs.Iterator.{IsFinite};
-ghost use Rattle.std.specs.Prelude.{◌≡◌, IfOk, map};
+ghost use Rattle.std.specs.Prelude.{◌≡◌, All, IfOk, map};
 ghost use Rattle.wax_walk.specs.Entries.{facts_of, given_outcome};
 ghost use Rattle.wax_walk.specs.Forest.{Pending};
 ghost use Rattle.wax_walk.specs.Given.{Given};
+ghost use Rattle.wax_walk.specs.Known.{KnownOutcome};
 ghost use Rattle.wax_walk.specs.Said.{mark_of};
+ghost use Rattle.wax_uses.specs.Less.{AreEntriesLess, IsKnownFrom, IsMeantEntry, IsUnmeantEntry};
 ghost use Rattle.wax_uses.specs.Walks.{KeepsByRule, link_mark};
 
 use std::alloc::Global;
-use wax::NoMemory;
-use wax::walk::{Entry, EntryResidue, FileIterator, FileType, TreeEntry, WalkError, collect};
+use wax::walk::{
+    Directory, Entry, EntryResidue, FileIterator, FileType, GlobEntry, TreeEntry, WalkBehavior,
+    WalkError, WalkFilter, collect,
+};
+use wax::{BuildError, Glob, NoMemory};
 
 /// What is kept of a walk without its links, and the directory.
 pub fn without_links<I: FileIterator>(
@@ -33,4 +38,27 @@ fn link_residue(entry: &TreeEntry) -> Option<EntryResidue>
         FileType::Link => Some(EntryResidue::File),
         FileType::File | FileType::Folder => None,
     }
+}
+
+/// What is kept of the walk of the glob from a start, less what the other means, and the directory. Each
+/// entry is meant by the glob; and, where it is known what the directory shows, not by the other.
+pub fn meant_less<D: Directory>(
+    alloc: Global,
+    glob: &Glob<'_>,
+    directory: D,
+    start: &str,
+    other: Glob<'_>,
+) -> Result<(Vec<Result<GlobEntry, WalkError>>, D), BuildError>
+    ensures meant { IfOk result (λ r. All (KnownOutcome (IsMeantEntry glob.now)) r.0.items) }
+    ensures unmeant { IfOk result (λ r. IsKnownFrom glob.now D.law directory start.now
+        → All (KnownOutcome (IsUnmeantEntry other.entry)) r.0.items) }
+    ensures entries { IfOk result (λ r. (known : IsKnownFrom glob.now D.law directory start.now)
+        → AreEntriesLess known other.entry
+        (map (given_outcome ⟦<GlobEntry as Entry>⟧.facts ⟦<TreeEntry as Entry>⟧.facts) r.0.items)) }
+{
+    let filter = WalkFilter::not(alloc, other)?;
+    let Ok(filters) = Vec::from_array(alloc, [filter]) else {
+        return Err(BuildError::Memory);
+    };
+    Ok(glob.collect_less(alloc, directory, start, WalkBehavior::default(), filters)?)
 }

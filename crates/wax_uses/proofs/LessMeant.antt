@@ -1,0 +1,213 @@
+-- What a rule that is asked last leaves of a glob's walk.
+use Rattle.std.proofs.Common.{◌≡◌, ◌∙◌, ◌++◌, ◌∷◌, Bool, true, false, cond, List, [], ℕ, map, refl, sym, subst}
+use Rattle.std.proofs.Common.{inl, inr}
+use Rattle.std.specs.Prelude.{◌⊎◌, All, Err, Ok, Result, filter, if◌then◌else◌, chars, ⊤}
+use Rattle.std.proofs.lemmas.List.Elements.{All-append, All-cons, All-filter, All-head, All-nil, All-push}
+use Rattle.std.proofs.lemmas.List.Elements.{All-same, All-tail, All-weaker}
+use Rattle.wax.specs.Exclusions.{IsNotRule}
+use Rattle.wax.specs.GlobView.{GlobView, HasCaptures, IsMeant}
+use Rattle.wax.specs.GlobWalks.{Beginning, trip_of, way_from}
+use Rattle.wax_alternatives.specs.Alternatives.{alternatives}
+use Rattle.wax_collect.specs.Trips.{AreRulesOf, IsRuleOf, KeepsWanted, Trip, gives, is_beyond, lacks_memory}
+use Rattle.wax_collect.specs.Trips.{over_budget, trip_walk}
+use Rattle.wax_depth.specs.Depth.{Depth}
+use Rattle.wax_directory.specs.Law.{Law}
+use Rattle.wax_directory.specs.Shown.{Shown}
+use Rattle.wax_glob_walk.specs.Matches.{IsMatchedEntry, glob_facts}
+use Rattle.wax_glob_walk.specs.declared.entry.GlobEntry.{GlobEntry}
+use Rattle.wax_query.specs.Ranges.{Bounds}
+use Rattle.wax_token.specs.Decided.{means_test, means_tested}
+use Rattle.wax_token.specs.Meaning.{Means}
+use Rattle.wax_token.specs.Reads.{Span}
+use Rattle.wax_token.specs.Syntax.{Tree}
+use Rattle.wax_tree.specs.Begins.{behavior_range}
+use Rattle.wax_tree.specs.Depths.{behavior_at}
+use Rattle.wax_tree.specs.Prefix.{ArePlain}
+use Rattle.wax_tree.specs.declared.behavior.DepthBehavior.TheVariants.{Unbounded}
+use Rattle.wax_tree.specs.declared.steps.Range.{Range}
+use Rattle.wax_walk.specs.Collected.{IsCutShort}
+use Rattle.wax_walk.specs.Entries.{given_outcome}
+use Rattle.wax_walk.specs.Forest.{Forest, filtered, item, lists, nothing, preorder}
+use Rattle.wax_walk.specs.Given.{Facts, Given, Mark, alone, changed_by, combined_mark, cut_by, entry, fault}
+use Rattle.wax_walk.specs.Given.{is_kept, kept, no_memory, with_tree}
+use Rattle.wax_walk.specs.Known.{KnownOutcome}
+use Rattle.wax_walk.specs.declared.entry.TreeEntry.{TreeEntry}
+use Rattle.wax_walk.specs.declared.error.FaultKind.TheVariants.{Budget}
+use Rattle.wax_walk.specs.declared.error.WalkError.{WalkError}
+use Rattle.wax_wanted.specs.Candidates.{candidate_of}
+use Rattle.wax_wanted.specs.Covers.{covers_test}
+use Rattle.wax_wanted.specs.Marks.{covered_mark, glob_mark, of_candidate}
+use Rattle.wax_wanted.specs.Walked.{glob_walk, wanted_entries, way_walk}
+use Rattle.wax_wanted.specs.Wanted.{Filter, filter_mark, is_kept_entry, not_meant}
+use Rattle.wax_uses.specs.Less.{AreEntriesLess, IsCutOff, IsKnownFrom, IsMeantEntry, IsUnmeantEntry}
+use Rattle.wax_uses.specs.Less as cut
+
+-- ---- what the last rule says of what is left
+
+module _ (rule : Facts → Mark) where
+  -- the rule keeps the entry, if it is kept
+  abbrev pub IsKeptBy : Given → Type 0
+  IsKeptBy (entry m f) = m ≡ kept → rule f ≡ kept
+  IsKeptBy (fault kind path depth) = ⊤
+  IsKeptBy no_memory = ⊤
+
+  kept_by_both : (m n : Mark) → combined_mark m n ≡ kept → n ≡ kept
+  kept_by_both kept n e = e
+  kept_by_both alone kept e = cc
+  kept_by_both alone alone e = cc
+  kept_by_both alone with_tree e = cc
+  kept_by_both with_tree n e = cc
+
+  changed_kept : (x : Given) → IsKeptBy (changed_by rule x)
+  changed_kept (entry m f) = λ e. kept_by_both m (rule f) e
+  changed_kept (fault kind path depth) = tt
+  changed_kept no_memory = tt
+
+  uncut_kept : (b : Bool) (f : Forest Given) → All IsKeptBy (preorder f)
+      → All IsKeptBy (preorder (cond b nothing f))
+  uncut_kept true f h = All-nil IsKeptBy
+  uncut_kept false f h = h
+
+  abbrev pub after_rule : Forest Given → Forest Given
+  after_rule f = filtered (changed_by rule) (cut_by rule) f
+
+  all_kept : (f : Forest Given) → All IsKeptBy (preorder (after_rule f))
+  all_kept nothing = All-nil IsKeptBy
+  all_kept (lists path after) = all_kept after
+  all_kept (item x below after) =
+      let b = cut_by rule x in
+      All-cons IsKeptBy (changed_by rule x)
+      (preorder (cond b nothing (after_rule below)) ++ preorder (after_rule after)) (changed_kept x)
+      (All-append IsKeptBy (preorder (cond b nothing (after_rule below))) (preorder (after_rule after))
+      (uncut_kept b (after_rule below) (all_kept below)) (all_kept after))
+
+  before_kept : (xs ys : List Given) → All IsKeptBy (xs ++ ys) → All IsKeptBy xs
+  before_kept [] ys h = All-nil IsKeptBy
+  before_kept (x ∷ xs) ys h = All-cons IsKeptBy x xs (All-head IsKeptBy x (xs ++ ys) h)
+      (before_kept xs ys (All-tail IsKeptBy x (xs ++ ys) h))
+
+  cut_kept : (all : List Given) (x : Given) (ys : List Given) → IsKeptBy x → All IsKeptBy all
+      → IsCutShort all x ys → All IsKeptBy ys
+  cut_kept all x ys k h c =
+      let before = before_kept c.0 c.1 (All-same IsKeptBy (c.0 ++ c.1) all c.3 h) in
+      All-same IsKeptBy ys (c.0 ++ x ∷ []) c.2 (All-push IsKeptBy c.0 x before k)
+
+-- ---- of the walk of a glob, less what a tree means
+
+module _ {g : Tree Span} (start : List ℕ) (asked : Range) (depth : Bounds) (b : Beginning g)
+    (t : Tree Span) where
+  abbrev pub trip : Trip
+  trip = trip_of start asked depth b (not_meant t ∷ [])
+
+  abbrev pub not_rule : Facts → Mark
+  not_rule = of_candidate (filter_mark (not_meant t))
+
+  walk_kept : (s : Shown) (beyond : Bool) → All (IsKeptBy not_rule)
+      (preorder (if beyond then nothing else glob_walk trip.wanted trip.walked trip.way s))
+  walk_kept s true = All-nil (IsKeptBy not_rule)
+  walk_kept s false =
+      let first = of_candidate (glob_mark trip.wanted.rooted trip.wanted.glob) in
+      all_kept not_rule (filtered (changed_by first) (cut_by first) (way_walk trip.walked trip.way s))
+
+  all_wanted : (s : Shown) → All (IsKeptBy not_rule) (filter is_kept (preorder (trip_walk trip s)))
+  all_wanted s =
+      All-filter is_kept (IsKeptBy not_rule) (preorder (trip_walk trip s)) (walk_kept s (is_beyond trip))
+
+  abbrev pub all : Shown → List Given
+  all s = filter is_kept (preorder (trip_walk trip s))
+
+  pub items_kept : (tells : List (List ℕ) → Type 0) (s : Shown) (listed : List (List ℕ)) (ys : List Given)
+      → KeepsWanted tells trip s listed ys → All (IsKeptBy not_rule) ys
+  items_kept tells s listed ys (gives e f l m) = All-same (IsKeptBy not_rule) ys (all s) e (all_wanted s)
+  items_kept tells s listed ys (lacks_memory c) = cut_kept not_rule (all s) no_memory ys tt (all_wanted s) c
+  items_kept tells s listed ys (over_budget path n l c) =
+      cut_kept not_rule (all s) (fault Budget path n) ys tt (all_wanted s) c
+
+  pub entries_kept : (tells : List (List ℕ) → Type 0) (s : Shown) (listed : List (List ℕ)) (ys : List Given)
+      → KeepsWanted tells trip s listed ys
+      → IsCutOff ys ⊎ (filter is_kept_entry ys ≡ wanted_entries trip.wanted trip.asked trip.way s)
+  entries_kept tells s listed ys (gives e f l m) = inr f
+  entries_kept tells s listed ys (lacks_memory c) = inl (cut.lacks_memory c.0 c.2)
+  entries_kept tells s listed ys (over_budget path n l c) = inl (cut.over_budget c.0 path n c.2)
+
+-- ---- entries
+
+covered_kept : (is_covered is_meant : Bool) → covered_mark is_covered is_meant ≡ kept → is_meant ≡ false
+covered_kept true is_meant e = cc
+covered_kept false true e = cc
+covered_kept false false e = refl
+
+unmeant : (t : Tree Span) (s : List ℕ) → means_test t false false s ≡ false → Means t false false s → ⊥
+unmeant t s e h = let m : means_test t false false s ≡ true = (means_tested t false false s).1 h in
+    let k : true ≡ false = sym m ∙ e in cc
+
+-- what is meant of an entry that was matched
+item_meant : (g : GlobView) (x : Result GlobEntry WalkError)
+    → KnownOutcome (IsMatchedEntry (IsMeant g) (HasCaptures g)) x → KnownOutcome (IsMeantEntry g) x
+item_meant g (Ok e) h = h.0
+item_meant g (Err e) h = tt
+
+pub all_meant : (g : GlobView) (xs : List (Result GlobEntry WalkError))
+    → All (KnownOutcome (IsMatchedEntry (IsMeant g) (HasCaptures g))) xs → All (KnownOutcome (IsMeantEntry g)) xs
+all_meant g xs h = All-weaker (KnownOutcome (IsMatchedEntry (IsMeant g) (HasCaptures g)))
+    (KnownOutcome (IsMeantEntry g)) (λ x k. item_meant g x k) xs h
+
+module _ (other : GlobView) (of_residue : TreeEntry → Facts) where
+  abbrev pub other_rule : Facts → Mark
+  other_rule = of_candidate (filter_mark (not_meant other.tree))
+
+  abbrev pub given : Result GlobEntry WalkError → Given
+  given = given_outcome glob_facts of_residue
+
+  item_unmeant : (x : Result GlobEntry WalkError) → IsKeptBy other_rule (given x)
+      → KnownOutcome (IsUnmeantEntry other) x
+  item_unmeant (Ok e) h =
+      let s = chars (glob_facts e).candidate in
+      let covers = covers_test (alternatives other.tree) (candidate_of (glob_facts e)) in
+      unmeant other.tree s (covered_kept covers (means_test other.tree false false s) (h refl))
+  item_unmeant (Err e) h = tt
+
+  pub all_unmeant : (xs : List (Result GlobEntry WalkError)) → All (IsKeptBy other_rule) (map given xs)
+      → All (KnownOutcome (IsUnmeantEntry other)) xs
+  all_unmeant [] h = All-nil (KnownOutcome (IsUnmeantEntry other))
+  all_unmeant (x ∷ xs) h = All-cons (KnownOutcome (IsUnmeantEntry other)) x xs
+      (item_unmeant x (All-head (IsKeptBy other_rule) (given x) (map given xs) h))
+      (all_unmeant xs (All-tail (IsKeptBy other_rule) (given x) (map given xs) h))
+
+-- ---- what is collected
+
+module _ {D C : Type 0} {g : GlobView} (law : Law D C) (d : D) (start : List ℕ) (other : GlobView)
+    (rule : Facts → Mark) (says : IsNotRule (λ t. t ≡ other.tree) rule) (tells : List (List ℕ) → Type 0)
+    (of_residue : TreeEntry → Facts) (items : List (Result GlobEntry WalkError)) where
+  abbrev pub all_items : List Given
+  all_items = map (given_outcome glob_facts of_residue) items
+
+  -- what is collected of the glob's walk less what these rules leave out
+  abbrev pub AreItemsLess : List (Facts → Mark) → Range → Type 0
+  AreItemsLess rules asked = (depth : Bounds) × Depth g.tree depth × ((b : Beginning g.tree)
+      (filters : List (Filter Span)) (s : Shown) (listed : List (List ℕ)) → AreRulesOf filters rules
+      → ArePlain b.names → law.shows d (way_from start b.rooted b.names).path s → law.tells d listed
+      → KeepsWanted tells (trip_of start asked depth b filters) s listed all_items)
+
+  says_other : IsRuleOf (not_meant other.tree) rule
+  says_other = subst (λ t. IsRuleOf (not_meant t) rule) says.1.only.0 says.2
+
+  module _ (rules : List (Facts → Mark)) (asked : Range) (h : AreItemsLess rules asked)
+      (e : rules ≡ rule ∷ []) (known : IsKnownFrom g law d start) where
+    abbrev pub other_trip : Trip
+    other_trip = trip_of start asked h.0 known.beginning (not_meant other.tree ∷ [])
+
+    keeps_less : KeepsWanted tells other_trip known.shown known.opened all_items
+    keeps_less = h.2 known.beginning (not_meant other.tree ∷ []) known.shown known.opened
+        (subst (λ r. AreRulesOf (not_meant other.tree ∷ []) r) (sym e) (says_other, tt)) known.are_plain
+        known.shows known.tells
+
+    pub items_unmeant : All (KnownOutcome (IsUnmeantEntry other)) items
+    items_unmeant = all_unmeant other of_residue items
+        (items_kept start asked h.0 known.beginning other.tree tells known.shown known.opened all_items keeps_less)
+
+    pub items_less : asked ≡ behavior_range (behavior_at Unbounded) → AreEntriesLess known other all_items
+    items_less f = subst (λ r. IsCutOff all_items ⊎ (filter is_kept_entry all_items
+        ≡ wanted_entries other_trip.wanted r other_trip.way known.shown)) f
+        (entries_kept start asked h.0 known.beginning other.tree tells known.shown known.opened all_items
+        keeps_less)

@@ -1,0 +1,25 @@
+use Rattle.std.proofs.Common.{ap, map}
+use Rattle.wax_tree.specs.Begins.{behavior_range}
+use Rattle.wax_walk.specs.Entries.{facts_of}
+use Rattle.wax_uses.proofs.LessMeant.{all_meant, items_less, items_unmeant}
+use Rattle.wax_uses.proofs.walks.meant_less.Goals as goal
+
+pub returns-clause-meant : goal.returns-clause-meant
+returns-clause-meant g c =
+    all_meant c.args.glob.now c.in_ok-collect_less.field-0.0.items c.in_ok-collect_less.ensures.matched
+
+pub returns-clause-unmeant : goal.returns-clause-unmeant
+returns-clause-unmeant g c = λ known.
+    let law = g.D.Directory.law in
+    let r = c.in_ok-collect_less.field-0 in
+    items_unmeant law c.args.directory c.args.start.now c.args.other _ c.in_ok-filter.ensures (law.tells r.1)
+    facts_of r.0.items _ (behavior_range c.default.result) c.in_ok-collect_less.ensures.wanted
+    (ap (map _) c.in-Ok.ensures.items) known
+
+pub returns-clause-entries : goal.returns-clause-entries
+returns-clause-entries g c = λ known.
+    let law = g.D.Directory.law in
+    let r = c.in_ok-collect_less.field-0 in
+    items_less law c.args.directory c.args.start.now c.args.other _ c.in_ok-filter.ensures (law.tells r.1)
+    facts_of r.0.items _ (behavior_range c.default.result) c.in_ok-collect_less.ensures.wanted
+    (ap (map _) c.in-Ok.ensures.items) known (ap behavior_range c.default.ensures)
