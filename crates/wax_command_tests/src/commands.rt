@@ -1,41 +1,55 @@
 //! What `run_globs` does, and how words are read.
 
-use crate::files::no_files;
-use crate::streams::{Slow, failing_after};
-use std::alloc::{AllocError, Global};
+use crate::runs::{Ran, USAGE, add_words, run};
+use std::alloc::Global;
 use std::env::FillError;
+use std::io::{self, Read, Write};
 use std::rt::Env;
 use std::test::*;
-use wax::Counted;
-use wax::walk::{Node, Tree};
-use wax_commands::{run_globs, words};
-
-/// What a run with wrong words tells.
-pub const USAGE: &[u8] = b"usage: globs match EXPR
-       globs captures EXPR
-       globs query EXPR
-       globs walk START EXPR [not EXPR].. [min N] [max N] [ignore FILE]
-";
-
-fn words_of(alloc: Global, texts: &[&str]) -> Result<Vec<Option<String>>, AllocError> {
-    let mut words = Vec::new(alloc);
-    for text in texts {
-        words.push(Some(String::from_str(alloc, *text)?))?;
-    }
-    Ok(words)
-}
+use wax::walk::Tree;
+use wax_commands::words;
+use wax_plans::{ROOT, tree_of};
+use wax_streams::{Narrow, Slow};
 
 // A directory of which no command but `walk` asks.
-fn nothing(alloc: Global) -> Result<Tree, Fail> {
-    match Tree::new(alloc, Node::File, Node::File) {
-        Ok(tree) => Ok(tree),
-        Err(_) => Err(Fail::from("no tree")),
-    }
+fn unasked(alloc: Global) -> io::Result<Tree> {
+    tree_of(alloc, ROOT, ROOT)
+}
+
+fn run_with<R: Read + Drop, W: Write + Drop, F: Write + Drop>(
+    alloc: Global,
+    texts: &[&str],
+    input: R,
+    outputs: (W, F),
+) -> Result<Ran<W, F>, Fail> {
+    let mut words = Vec::new(alloc);
+    add_words(alloc, &mut words, texts)?;
+    Ok(run(alloc, &words, input, outputs, unasked(alloc)?))
+}
+
+// A run that writes and tells all.
+fn run_over<R: Read + Drop>(
+    alloc: Global,
+    texts: &[&str],
+    input: R,
+) -> Result<Ran<Vec<u8>, Vec<u8>>, Fail> {
+    let outputs = (Vec::new(alloc), Vec::new(alloc));
+    run_with(alloc, texts, input, outputs)
+}
+
+// A run whose output fails behind seven bytes.
+fn run_into_narrow(
+    alloc: Global,
+    texts: &[&str],
+    input: &[u8],
+) -> Result<Ran<Narrow, Vec<u8>>, Fail> {
+    let outputs = (Narrow::new(alloc, 7, true), Vec::new(alloc));
+    run_with(alloc, texts, input, outputs)
 }
 
 #[test]
 fn wrong_words_give_the_usage_text(rt: HostRuntime) -> Result<(), Fail> {
-    let cases: [&[&str]; 6] = [
+    let cases: &[&[&str]] = &[
         &[],
         &["match"],
         &["match", "a", "b"],
@@ -44,45 +58,25 @@ fn wrong_words_give_the_usage_text(rt: HostRuntime) -> Result<(), Fail> {
         &["", ""],
     ];
     for texts in cases {
-        let words = words_of(rt.alloc(), texts)?;
-        let mut input = Counted::new(b"a\n".as_slice());
-        let mut output = Counted::new(Vec::new(rt.alloc()));
-        let mut faults = Vec::new(rt.alloc());
-        let status = run_globs(
-            rt.alloc(),
-            &words,
-            &mut input,
-            &mut output,
-            &mut faults,
-            nothing(rt.alloc())?,
-            no_files,
-        );
-        assert_eq!(rt; status, 2);
-        assert_eq!(rt; input.calls(), 0);
-        assert_eq!(rt; output.calls(), 0);
-        assert_eq!(rt; faults.as_slice(), USAGE);
+        let ran = run_over(rt.alloc(), *texts, b"a\n".as_slice())?;
+        assert_eq!(rt; ran.status, 2);
+        assert_eq!(rt; ran.reads, 0);
+        assert_eq!(rt; ran.writes, 0);
+        assert_eq!(rt; ran.told.as_slice(), USAGE);
     }
     Ok(())
 }
 
 #[test]
 fn a_word_that_is_not_text_is_wrong(rt: HostRuntime) -> Result<(), Fail> {
-    let mut words = words_of(rt.alloc(), &["match"])?;
+    let alloc = rt.alloc();
+    let mut words = Vec::new(alloc);
+    add_words(alloc, &mut words, &["match"])?;
     words.push(None)?;
-    let mut input = Counted::new(b"a\n".as_slice());
-    let mut output = Counted::new(Vec::new(rt.alloc()));
-    let mut faults = Vec::new(rt.alloc());
-    let status = run_globs(
-        rt.alloc(),
-        &words,
-        &mut input,
-        &mut output,
-        &mut faults,
-        nothing(rt.alloc())?,
-        no_files,
-    );
-    assert_eq!(rt; status, 2);
-    assert_eq!(rt; faults.as_slice(), USAGE);
+    let outputs = (Vec::new(alloc), Vec::new(alloc));
+    let ran = run(alloc, &words, b"a\n".as_slice(), outputs, unasked(alloc)?);
+    assert_eq!(rt; ran.status, 2);
+    assert_eq!(rt; ran.told.as_slice(), USAGE);
     Ok(())
 }
 
@@ -164,24 +158,12 @@ const REFUSED: &[(&str, &str)] = &[
 fn refused_builds_print_their_reason(rt: HostRuntime) -> Result<(), Fail> {
     for (expression, text) in REFUSED {
         for command in ["match", "captures", "query"] {
-            let words = words_of(rt.alloc(), &[command, *expression])?;
-            let mut input = Counted::new(b"a\n".as_slice());
-            let mut output = Counted::new(Vec::new(rt.alloc()));
-            let mut faults = Vec::new(rt.alloc());
-            let status = run_globs(
-                rt.alloc(),
-                &words,
-                &mut input,
-                &mut output,
-                &mut faults,
-                nothing(rt.alloc())?,
-                no_files,
-            );
-            assert_eq!(rt; status, 1);
-            assert_eq!(rt; input.calls(), 0);
-            assert_eq!(rt; output.calls(), 0);
+            let ran = run_over(rt.alloc(), &[command, *expression], b"a\n".as_slice())?;
+            assert_eq!(rt; ran.status, 1);
+            assert_eq!(rt; ran.reads, 0);
+            assert_eq!(rt; ran.writes, 0);
             let line = format!(in rt.alloc(); "globs: {text}\n")?;
-            assert_eq!(rt; faults.as_slice(), line.as_bytes());
+            assert_eq!(rt; ran.told.as_slice(), line.as_bytes());
         }
     }
     Ok(())
@@ -189,7 +171,7 @@ fn refused_builds_print_their_reason(rt: HostRuntime) -> Result<(), Fail> {
 
 #[test]
 fn lines_that_are_not_text_are_counted(rt: HostRuntime) -> Result<(), Fail> {
-    let cases: [(&[u8], &[u8], u8, &[u8]); 3] = [
+    let cases: &[(&[u8], &[u8], u8, &[u8])] = &[
         (b"a\nb.c\n", b"a\n", 0, b""),
         (b"\xff\na\n", b"a\n", 1, b"globs: 1 lines are not text\n"),
         (
@@ -199,23 +181,11 @@ fn lines_that_are_not_text_are_counted(rt: HostRuntime) -> Result<(), Fail> {
             b"globs: 3 lines are not text\n",
         ),
     ];
-    let words = words_of(rt.alloc(), &["match", "?"])?;
-    for (bytes, want, want_status, told) in cases {
-        let mut input = Counted::new(bytes);
-        let mut output = Counted::new(Vec::new(rt.alloc()));
-        let mut faults = Vec::new(rt.alloc());
-        let status = run_globs(
-            rt.alloc(),
-            &words,
-            &mut input,
-            &mut output,
-            &mut faults,
-            nothing(rt.alloc())?,
-            no_files,
-        );
-        assert_eq!(rt; status, want_status);
-        assert_eq!(rt; output.into_inner().as_slice(), want);
-        assert_eq!(rt; faults.as_slice(), told);
+    for (bytes, want, status, told) in cases {
+        let ran = run_over(rt.alloc(), &["match", "?"], *bytes)?;
+        assert_eq!(rt; ran.status, *status);
+        assert_eq!(rt; ran.written.as_slice(), *want);
+        assert_eq!(rt; ran.told.as_slice(), *told);
     }
     Ok(())
 }
@@ -248,105 +218,56 @@ const CAPTURED: &[(&str, &[u8], &[u8], u8, &[u8])] = &[
 
 #[test]
 fn captures_are_written_with_tabs(rt: HostRuntime) -> Result<(), Fail> {
-    for (expression, bytes, want, want_status, told) in CAPTURED {
-        let words = words_of(rt.alloc(), &["captures", *expression])?;
-        let mut input = Counted::new(Slow {
-            bytes: *bytes,
-            left: 1000,
-        });
-        let mut output = Counted::new(Vec::new(rt.alloc()));
-        let mut faults = Vec::new(rt.alloc());
-        let status = run_globs(
-            rt.alloc(),
-            &words,
-            &mut input,
-            &mut output,
-            &mut faults,
-            nothing(rt.alloc())?,
-            no_files,
-        );
-        assert_eq!(rt; status, *want_status);
-        assert_eq!(rt; output.into_inner().as_slice(), *want);
-        assert_eq!(rt; faults.as_slice(), *told);
+    for (expression, bytes, want, status, told) in CAPTURED {
+        let input = Slow::new(*bytes, 1000);
+        let ran = run_over(rt.alloc(), &["captures", *expression], input)?;
+        assert_eq!(rt; ran.status, *status);
+        assert_eq!(rt; ran.written.as_slice(), *want);
+        assert_eq!(rt; ran.told.as_slice(), *told);
     }
     Ok(())
 }
 
+// Three lines, the first of which is not text.
+const LINES: &[u8] = b"\xff\na.png\nb.png\n";
+
 #[test]
 fn a_failed_read_is_told_after_the_lines_before(rt: HostRuntime) -> Result<(), Fail> {
-    let cases: [(&str, &[u8]); 2] = [("match", b"a.png\n"), ("captures", b"a.png\ta\n")];
+    let cases: &[(&str, &[u8])] = &[("match", b"a.png\n"), ("captures", b"a.png\ta\n")];
     for (command, want) in cases {
-        let words = words_of(rt.alloc(), &[command, "*.png"])?;
-        let mut input = Counted::new(Slow {
-            bytes: b"\xff\na.png\nb.png\n",
-            left: 11,
-        });
-        let mut output = Counted::new(Vec::new(rt.alloc()));
-        let mut faults = Vec::new(rt.alloc());
-        let status = run_globs(
-            rt.alloc(),
-            &words,
-            &mut input,
-            &mut output,
-            &mut faults,
-            nothing(rt.alloc())?,
-            no_files,
-        );
-        assert_eq!(rt; status, 1);
-        assert_eq!(rt; output.into_inner().as_slice(), want);
-        assert_eq!(rt; faults.as_slice(), b"globs: read failed\n".as_slice());
+        let ran = run_over(rt.alloc(), &[*command, "*.png"], Slow::new(LINES, 11))?;
+        assert_eq!(rt; ran.status, 1);
+        assert_eq!(rt; ran.written.as_slice(), *want);
+        assert_eq!(rt; ran.told.as_slice(), b"globs: read failed\n".as_slice());
     }
     Ok(())
 }
 
 #[test]
 fn a_failed_write_is_told(rt: HostRuntime) -> Result<(), Fail> {
-    let cases: [(&str, &[u8]); 2] = [("match", b"a.png\nb"), ("captures", b"a.png\ta")];
+    let cases: &[(&str, &[u8])] = &[("match", b"a.png\nb"), ("captures", b"a.png\ta")];
     for (command, want) in cases {
-        let words = words_of(rt.alloc(), &[command, "*.png"])?;
-        let mut input = Counted::new(b"\xff\na.png\nb.png\n".as_slice());
-        let mut output = Counted::new(failing_after(rt.alloc(), 7));
-        let mut faults = Vec::new(rt.alloc());
-        let status = run_globs(
-            rt.alloc(),
-            &words,
-            &mut input,
-            &mut output,
-            &mut faults,
-            nothing(rt.alloc())?,
-            no_files,
-        );
-        assert_eq!(rt; status, 1);
-        assert_eq!(rt; output.into_inner().taken.as_slice(), want);
-        assert_eq!(rt; faults.as_slice(), b"globs: write failed\n".as_slice());
+        let ran = run_into_narrow(rt.alloc(), &[*command, "*.png"], LINES)?;
+        assert_eq!(rt; ran.status, 1);
+        assert_eq!(rt; ran.written.taken.as_slice(), *want);
+        assert_eq!(rt; ran.told.as_slice(), b"globs: write failed\n".as_slice());
     }
     Ok(())
 }
 
 #[test]
 fn untold_faults_change_nothing_else(rt: HostRuntime) -> Result<(), Fail> {
-    let cases: [(&[&str], &[u8], u8); 3] = [
+    let cases: &[(&[&str], &[u8], u8)] = &[
         (&["match"], b"", 2),
         (&["match", "{"], b"", 1),
         (&["match", "?"], b"a\n", 1),
     ];
-    for (texts, want, want_status) in cases {
-        let words = words_of(rt.alloc(), texts)?;
-        let mut input = Counted::new(b"\xff\na\n".as_slice());
-        let mut output = Counted::new(Vec::new(rt.alloc()));
-        let mut faults = failing_after(rt.alloc(), 0);
-        let status = run_globs(
-            rt.alloc(),
-            &words,
-            &mut input,
-            &mut output,
-            &mut faults,
-            nothing(rt.alloc())?,
-            no_files,
-        );
-        assert_eq!(rt; status, want_status);
-        assert_eq!(rt; output.into_inner().as_slice(), want);
-        assert_eq!(rt; faults.taken.len(), 0);
+    for (texts, want, status) in cases {
+        let outputs = (Vec::new(rt.alloc()), Narrow::new(rt.alloc(), 0, true));
+        let ran = run_with(rt.alloc(), *texts, b"\xff\na\n".as_slice(), outputs)?;
+        assert_eq!(rt; ran.status, *status);
+        assert_eq!(rt; ran.written.as_slice(), *want);
+        assert_eq!(rt; ran.told.taken.len(), 0);
     }
     Ok(())
 }
@@ -364,7 +285,7 @@ warning terminating separator 4 1
 
 #[test]
 fn a_query_writes_what_is_known(rt: HostRuntime) -> Result<(), Fail> {
-    let cases: [(&str, &[u8]); 3] = [
+    let cases: &[(&str, &[u8])] = &[
         (
             "a/b*",
             b"depth 2\ntext variant\nroot never\nexhaustive never\nprefix a/\nrest b*\ncaptures 1\n",
@@ -376,44 +297,20 @@ fn a_query_writes_what_is_known(rt: HostRuntime) -> Result<(), Fail> {
         ),
     ];
     for (expression, want) in cases {
-        let words = words_of(rt.alloc(), &["query", expression])?;
-        let mut input = Counted::new(b"a\n".as_slice());
-        let mut output = Counted::new(Vec::new(rt.alloc()));
-        let mut faults = Vec::new(rt.alloc());
-        let status = run_globs(
-            rt.alloc(),
-            &words,
-            &mut input,
-            &mut output,
-            &mut faults,
-            nothing(rt.alloc())?,
-            no_files,
-        );
-        assert_eq!(rt; status, 0);
-        assert_eq!(rt; input.calls(), 0);
-        assert_eq!(rt; output.into_inner().as_slice(), want);
-        assert_eq!(rt; faults.len(), 0);
+        let ran = run_over(rt.alloc(), &["query", *expression], b"a\n".as_slice())?;
+        assert_eq!(rt; ran.status, 0);
+        assert_eq!(rt; ran.reads, 0);
+        assert_eq!(rt; ran.written.as_slice(), *want);
+        assert_eq!(rt; ran.told.len(), 0);
     }
     Ok(())
 }
 
 #[test]
 fn a_failed_write_of_a_query_is_told(rt: HostRuntime) -> Result<(), Fail> {
-    let words = words_of(rt.alloc(), &["query", "a"])?;
-    let mut input = Counted::new(b"".as_slice());
-    let mut output = Counted::new(failing_after(rt.alloc(), 7));
-    let mut faults = Vec::new(rt.alloc());
-    let status = run_globs(
-        rt.alloc(),
-        &words,
-        &mut input,
-        &mut output,
-        &mut faults,
-        nothing(rt.alloc())?,
-        no_files,
-    );
-    assert_eq!(rt; status, 1);
-    assert_eq!(rt; output.into_inner().taken.as_slice(), b"depth 1".as_slice());
-    assert_eq!(rt; faults.as_slice(), b"globs: write failed\n".as_slice());
+    let ran = run_into_narrow(rt.alloc(), &["query", "a"], b"")?;
+    assert_eq!(rt; ran.status, 1);
+    assert_eq!(rt; ran.written.taken.as_slice(), b"depth 1".as_slice());
+    assert_eq!(rt; ran.told.as_slice(), b"globs: write failed\n".as_slice());
     Ok(())
 }

@@ -3,10 +3,6 @@
 use std::alloc::Global;
 use wax_commands::FileFault;
 
-pub fn no_files(_: &str) -> Result<Vec<u8>, FileFault> {
-    Err(FileFault::ReadFailed)
-}
-
 /// The bytes of the files that are there.
 pub fn held(alloc: Global, file: &str) -> Result<Vec<u8>, FileFault> {
     let bytes: &[u8] = match file {

@@ -6,6 +6,6 @@ mod commands;
 #[cfg(test)]
 mod files;
 #[cfg(test)]
-mod streams;
+mod runs;
 #[cfg(test)]
 mod walk_command;

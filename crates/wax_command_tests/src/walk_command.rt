@@ -1,96 +1,43 @@
 //! What the command `walk` writes and tells.
 
-use crate::commands::USAGE;
-use crate::files::{held, no_files};
-use crate::streams::failing_after;
+use crate::runs::{Ran, USAGE, add_words, run};
 use std::alloc::{AllocError, Global};
-use std::fs;
 use std::test::*;
-use wax::Counted;
+use std::{fs, io};
 use wax::walk::{Directory, Folders, Node, Starving, Tree, TreeItem};
-use wax_commands::run_globs;
+use wax_plans::{ROOT, tree_of, tree_with};
+use wax_streams::Narrow;
+
+// `src` with two files and the folder `a` with one, and `target` with one; no fault.
+const PROJECT: &str = "src/ lib.rs notes.md a/ mod.rs ; ; target/ lib.rs ;";
+
+// A folder that can't be listed, an item that can't be read, names that are not text or bad, and two files.
+const FAULTY: &str = "first sealed# ! ? .. last";
+
+fn planned(alloc: Global, plan: &str) -> io::Result<Tree> {
+    tree_of(alloc, plan, ROOT)
+}
 
 fn words_of(alloc: Global, texts: &[&str]) -> Result<Vec<Option<String>>, AllocError> {
     let mut words = Vec::new(alloc);
-    words.push(Some(String::from_str(alloc, "walk")?))?;
-    for text in texts {
-        words.push(Some(String::from_str(alloc, *text)?))?;
-    }
+    add_words(alloc, &mut words, &["walk"])?;
+    add_words(alloc, &mut words, texts)?;
     Ok(words)
 }
 
-fn item(alloc: Global, name: &str, node: Node) -> Result<TreeItem, AllocError> {
-    Ok(TreeItem::Entry(String::from_str(alloc, name)?, node))
-}
-
-fn files(alloc: Global, names: &[&str]) -> Result<Vec<TreeItem>, AllocError> {
-    let mut items = Vec::new(alloc);
-    for name in names {
-        items.push(item(alloc, *name, Node::File)?)?;
-    }
-    Ok(items)
-}
-
-fn tree_of(alloc: Global, items: Vec<TreeItem>) -> Result<Tree, Fail> {
-    match Tree::new(alloc, Node::Folder(items), Node::File) {
-        Ok(tree) => Ok(tree),
-        Err(_) => Err(Fail::from("no tree")),
-    }
-}
-
-// `src` with two files and the folder `a` with one, and `target` with one; no fault.
-fn project(alloc: Global) -> Result<Tree, Fail> {
-    let inner = files(alloc, &["mod.rs"])?;
-    let mut sources = files(alloc, &["lib.rs", "notes.md"])?;
-    sources.push(item(alloc, "a", Node::Folder(inner))?)?;
-    let built = files(alloc, &["lib.rs"])?;
-    let mut items = Vec::new(alloc);
-    items.push(item(alloc, "src", Node::Folder(sources))?)?;
-    items.push(item(alloc, "target", Node::Folder(built))?)?;
-    tree_of(alloc, items)
-}
-
-// A folder that can't be listed, an item that can't be read, a name that isn't text, and two files.
-fn faulty(alloc: Global) -> Result<Tree, Fail> {
-    let mut items = files(alloc, &["first"])?;
-    items.push(item(alloc, "sealed", Node::Sealed)?)?;
-    items.push(TreeItem::Failed)?;
-    items.push(TreeItem::NotText)?;
-    items.push(item(alloc, "..", Node::File)?)?;
-    items.push(item(alloc, "last", Node::File)?)?;
-    tree_of(alloc, items)
-}
-
-// What a run wrote and told, and its status.
-#[derive(Drop)]
-struct Ran {
-    written: Vec<u8>,
-    told: Vec<u8>,
-    status: u8,
-}
-
-fn run<D: Directory>(alloc: Global, texts: &[&str], directory: D) -> Result<Ran, Fail> {
+// A walk that writes and tells all, and reads nothing.
+fn walk<D: Directory>(
+    alloc: Global,
+    texts: &[&str],
+    directory: D,
+) -> Result<Ran<Vec<u8>, Vec<u8>>, Fail> {
     let words = words_of(alloc, texts)?;
-    let mut input = Counted::new(b"a\n".as_slice());
-    let mut output = Counted::new(Vec::new(alloc));
-    let mut told = Vec::new(alloc);
-    let status = run_globs(
-        alloc,
-        &words,
-        &mut input,
-        &mut output,
-        &mut told,
-        directory,
-        |file| { held(alloc, file) },
-    );
-    if input.calls() != 0 {
+    let outputs = (Vec::new(alloc), Vec::new(alloc));
+    let ran = run(alloc, &words, b"a\n".as_slice(), outputs, directory);
+    if ran.reads != 0 {
         return Err(Fail::from("the input was read"));
     }
-    Ok(Ran {
-        written: output.into_inner(),
-        told,
-        status,
-    })
+    Ok(ran)
 }
 
 // The words of a walk of the project, and what is written.
@@ -158,7 +105,7 @@ const WALKS: &[(&[&str], &[u8])] = &[
 #[test]
 fn candidates_are_written(rt: HostRuntime) -> Result<(), Fail> {
     for (texts, want) in WALKS {
-        let ran = run(rt.alloc(), *texts, project(rt.alloc())?)?;
+        let ran = walk(rt.alloc(), *texts, planned(rt.alloc(), PROJECT)?)?;
         assert_eq!(rt; ran.written.as_slice(), *want);
         assert_eq!(rt; ran.told.len(), 0);
         assert_eq!(rt; ran.status, 0);
@@ -168,8 +115,8 @@ fn candidates_are_written(rt: HostRuntime) -> Result<(), Fail> {
 
 #[test]
 fn a_line_feed_is_written_as_it_is(rt: HostRuntime) -> Result<(), Fail> {
-    let items = files(rt.alloc(), &["one\ntwo", "three"])?;
-    let ran = run(rt.alloc(), &["", "?*"], tree_of(rt.alloc(), items)?)?;
+    let tree = planned(rt.alloc(), "one\ntwo three")?;
+    let ran = walk(rt.alloc(), &["", "?*"], tree)?;
     assert_eq!(rt; ran.status, 0);
     assert_eq!(rt; ran.written.as_slice(), b"one\ntwo\nthree\n".as_slice());
     Ok(())
@@ -177,7 +124,7 @@ fn a_line_feed_is_written_as_it_is(rt: HostRuntime) -> Result<(), Fail> {
 
 #[test]
 fn wrong_words_of_walks_give_the_usage_text(rt: HostRuntime) -> Result<(), Fail> {
-    let cases: [&[&str]; 23] = [
+    let cases: &[&[&str]] = &[
         &[],
         &[""],
         &["", "**", "ignore"],
@@ -203,7 +150,7 @@ fn wrong_words_of_walks_give_the_usage_text(rt: HostRuntime) -> Result<(), Fail>
         &["", "**", "not", "{", "max"],
     ];
     for texts in cases {
-        let ran = run(rt.alloc(), texts, project(rt.alloc())?)?;
+        let ran = walk(rt.alloc(), *texts, planned(rt.alloc(), PROJECT)?)?;
         assert_eq!(rt; ran.status, 2);
         assert_eq!(rt; ran.written.len(), 0);
         assert_eq!(rt; ran.told.as_slice(), USAGE);
@@ -219,25 +166,13 @@ fn a_word_of_a_walk_that_is_not_text_is_wrong(rt: HostRuntime) -> Result<(), Fai
     for k in 0..all.len() {
         let mut words = words_of(rt.alloc(), &all[..k])?;
         words.push(None)?;
-        for text in &all[k + 1..] {
-            words.push(Some(String::from_str(rt.alloc(), *text)?))?;
-        }
-        let mut input = Counted::new(b"".as_slice());
-        let mut output = Counted::new(Vec::new(rt.alloc()));
-        let mut told = Vec::new(rt.alloc());
-        let tree = project(rt.alloc())?;
-        let status = run_globs(
-            rt.alloc(),
-            &words,
-            &mut input,
-            &mut output,
-            &mut told,
-            tree,
-            no_files,
-        );
-        assert_eq!(rt; status, 2);
-        assert_eq!(rt; output.calls(), 0);
-        assert_eq!(rt; told.as_slice(), USAGE);
+        add_words(rt.alloc(), &mut words, &all[k + 1..])?;
+        let outputs = (Vec::new(rt.alloc()), Vec::new(rt.alloc()));
+        let tree = planned(rt.alloc(), PROJECT)?;
+        let ran = run(rt.alloc(), &words, b"".as_slice(), outputs, tree);
+        assert_eq!(rt; ran.status, 2);
+        assert_eq!(rt; ran.writes, 0);
+        assert_eq!(rt; ran.told.as_slice(), USAGE);
     }
     Ok(())
 }
@@ -271,7 +206,7 @@ fn the_first_refused_build_is_told(rt: HostRuntime) -> Result<(), Fail> {
         (&["nowhere", "{"], parse),
     ];
     for (texts, want) in cases {
-        let ran = run(rt.alloc(), texts, faulty(rt.alloc())?)?;
+        let ran = walk(rt.alloc(), texts, planned(rt.alloc(), FAULTY)?)?;
         assert_eq!(rt; ran.status, 1);
         assert_eq!(rt; ran.written.len(), 0);
         assert_eq!(rt; ran.told.as_slice(), want.as_bytes());
@@ -287,14 +222,14 @@ globs: : bad name
 
 #[test]
 fn errors_are_told_and_the_walk_goes_on(rt: HostRuntime) -> Result<(), Fail> {
-    let ran = run(rt.alloc(), &["", "**"], faulty(rt.alloc())?)?;
+    let ran = walk(rt.alloc(), &["", "**"], planned(rt.alloc(), FAULTY)?)?;
     assert_eq!(rt; ran.status, 3);
     assert_eq!(rt;
         ran.written.as_slice(),
         b"\nfirst\nsealed\nlast\n".as_slice()
     );
     assert_eq!(rt; ran.told.as_slice(), FAULTS);
-    let ran = run(rt.alloc(), &["nowhere", "**"], faulty(rt.alloc())?)?;
+    let ran = walk(rt.alloc(), &["nowhere", "**"], planned(rt.alloc(), FAULTY)?)?;
     assert_eq!(rt; ran.status, 3);
     assert_eq!(rt; ran.written.len(), 0);
     assert_eq!(rt;
@@ -308,8 +243,8 @@ fn errors_are_told_and_the_walk_goes_on(rt: HostRuntime) -> Result<(), Fail> {
 fn want_of_memory_on_a_walk_is_told(rt: HostRuntime) -> Result<(), Fail> {
     let mut told_once = 0u32;
     for calls in 0..12 {
-        let starving = Starving::new(project(rt.alloc())?, calls);
-        let ran = run(rt.alloc(), &["", "**/*.rs"], starving)?;
+        let starving = Starving::new(planned(rt.alloc(), PROJECT)?, calls);
+        let ran = walk(rt.alloc(), &["", "**/*.rs"], starving)?;
         if ran.status == 0 {
             assert_eq!(rt; ran.told.len(), 0);
             continue;
@@ -329,7 +264,7 @@ fn many(alloc: Global) -> Result<Tree, Fail> {
         let name = format!(in alloc; "a-file-of-many-{k}")?;
         items.push(TreeItem::Entry(name, Node::File))?;
     }
-    tree_of(alloc, items)
+    Ok(tree_with(alloc, Node::Folder(items), ROOT)?)
 }
 
 // The lines of these files.
@@ -344,25 +279,11 @@ fn many_lines(alloc: Global) -> Result<Vec<u8>, AllocError> {
 
 #[test]
 fn lines_go_out_as_the_walk_goes(rt: HostRuntime) -> Result<(), Fail> {
-    let words = words_of(rt.alloc(), &["", "?*"])?;
-    let mut input = Counted::new(b"".as_slice());
-    let mut output = Counted::new(Vec::new(rt.alloc()));
-    let mut told = Vec::new(rt.alloc());
-    let tree = many(rt.alloc())?;
-    let status = run_globs(
-        rt.alloc(),
-        &words,
-        &mut input,
-        &mut output,
-        &mut told,
-        tree,
-        no_files,
-    );
-    assert_eq!(rt; status, 0);
-    assert_eq!(rt; output.calls(), 2);
+    let ran = walk(rt.alloc(), &["", "?*"], many(rt.alloc())?)?;
+    assert_eq!(rt; ran.status, 0);
+    assert_eq!(rt; ran.writes, 2);
     let want = many_lines(rt.alloc())?;
-    let written = output.into_inner();
-    assert_eq!(rt; written.as_slice(), want.as_slice());
+    assert_eq!(rt; ran.written.as_slice(), want.as_slice());
     Ok(())
 }
 
@@ -371,58 +292,31 @@ fn a_failed_write_stops_the_walk(rt: HostRuntime) -> Result<(), Fail> {
     let words = words_of(rt.alloc(), &["", "?*"])?;
     let want = many_lines(rt.alloc())?;
     for room in [0, 5, 8200, 12000] {
-        let mut input = Counted::new(b"".as_slice());
-        let mut output = Counted::new(failing_after(rt.alloc(), room));
-        let mut told = Vec::new(rt.alloc());
+        let outputs = (Narrow::new(rt.alloc(), room, true), Vec::new(rt.alloc()));
         let tree = many(rt.alloc())?;
-        let status = run_globs(
-            rt.alloc(),
-            &words,
-            &mut input,
-            &mut output,
-            &mut told,
-            tree,
-            no_files,
-        );
-        assert_eq!(rt; status, 1);
-        assert_eq!(rt; told.as_slice(), b"globs: write failed\n".as_slice());
-        let taken = output.into_inner().taken;
+        let ran = run(rt.alloc(), &words, b"".as_slice(), outputs, tree);
+        assert_eq!(rt; ran.status, 1);
+        assert_eq!(rt; ran.told.as_slice(), b"globs: write failed\n".as_slice());
         let end = room.min(want.len());
-        assert_eq!(rt; taken.as_slice(), &want[..end]);
+        assert_eq!(rt; ran.written.taken.as_slice(), &want[..end]);
     }
     Ok(())
 }
 
 #[test]
 fn untold_errors_of_walks_change_nothing_else(rt: HostRuntime) -> Result<(), Fail> {
-    let cases: [(&[&str], u8); 3] = [
-        (&["", "**"], 3),
-        (&["", "{"], 1),
-        (&["", "**", "max", "x"], 2),
+    let cases: &[(&[&str], u8, &[u8])] = &[
+        (&["", "**"], 3, b"\nfirst\nsealed\nlast\n"),
+        (&["", "{"], 1, b""),
+        (&["", "**", "max", "x"], 2, b""),
     ];
-    for (texts, want) in cases {
-        let words = words_of(rt.alloc(), texts)?;
-        let mut input = Counted::new(b"".as_slice());
-        let mut output = Counted::new(Vec::new(rt.alloc()));
-        let mut faults = failing_after(rt.alloc(), 0);
-        let tree = faulty(rt.alloc())?;
-        let status = run_globs(
-            rt.alloc(),
-            &words,
-            &mut input,
-            &mut output,
-            &mut faults,
-            tree,
-            no_files,
-        );
-        assert_eq!(rt; status, want);
-        let written = output.into_inner();
-        let lines: &[u8] = if want == 3 {
-            b"\nfirst\nsealed\nlast\n"
-        } else {
-            b""
-        };
-        assert_eq!(rt; written.as_slice(), lines);
+    for (texts, status, want) in cases {
+        let words = words_of(rt.alloc(), *texts)?;
+        let outputs = (Vec::new(rt.alloc()), Narrow::new(rt.alloc(), 0, true));
+        let tree = planned(rt.alloc(), FAULTY)?;
+        let ran = run(rt.alloc(), &words, b"".as_slice(), outputs, tree);
+        assert_eq!(rt; ran.status, *status);
+        assert_eq!(rt; ran.written.as_slice(), *want);
     }
     Ok(())
 }
@@ -449,18 +343,18 @@ fn a_real_folder_is_walked(rt: HostRuntime) -> Result<(), Fail> {
     fs::write(&rt, "walked/a.rs", "")?;
     fs::write(&rt, "walked/b/c.rs", "")?;
     fs::write(&rt, "walked/b/d.md", "")?;
-    let all = run(rt.alloc(), &["walked", "**"], Folders::new(rt))?;
-    let some = run(
+    let all = walk(rt.alloc(), &["walked", "**"], Folders::new(rt))?;
+    let some = walk(
         rt.alloc(),
         &["walked", "**/*.rs", "min", "2"],
         Folders::new(rt),
     )?;
-    let few = run(
+    let few = walk(
         rt.alloc(),
         &["", "walked/**", "not", "walked/b/**"],
         Folders::new(rt),
     )?;
-    let none = run(rt.alloc(), &["walked/none", "*"], Folders::new(rt))?;
+    let none = walk(rt.alloc(), &["walked/none", "*"], Folders::new(rt))?;
     fs::remove_file(&rt, "walked/b/d.md")?;
     fs::remove_file(&rt, "walked/b/c.rs")?;
     fs::remove_file(&rt, "walked/a.rs")?;

@@ -2,13 +2,13 @@
 
 ghost use Rattle.std.specs.Iterator.{IsFinite};
 
-use crate::plans::{PROJECT, ROOT, tree_of};
 use crate::printed::not_made;
 use crate::walks::glob_of;
 use std::alloc::Global;
 use std::io;
 use wax::Glob;
 use wax::walk::{Directory, Entry, Failing, FileIterator, PathExt, Starving, collect};
+use wax_plans::{PROJECT, ROOT, tree_of};
 
 /// All that is kept of a walk, as lines: paths, and errors in brackets.
 fn lines_of<I>(alloc: Global, walk: I) -> io::Result<String>

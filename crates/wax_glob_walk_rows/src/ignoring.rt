@@ -2,7 +2,6 @@
 
 ghost use Rattle.std.specs.Iterator.{IsFinite};
 
-use crate::plans::{PROJECT, ROOT, tree_of};
 use crate::printed::{not_made, print_walk};
 use crate::walks::glob_of;
 use std::alloc::Global;
@@ -12,6 +11,7 @@ use wax::walk::{
     Entry, EntryResidue, FileIterator, IgnoreError, IgnoreList, PathExt, Tree, TreeEntry,
     exclusion_of, without_ignored,
 };
+use wax_plans::{PROJECT, ROOT, tree_of};
 
 /// Lists over the plain walk of the project.
 const LISTS: &[&str] = &[

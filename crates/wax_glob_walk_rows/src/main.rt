@@ -6,7 +6,6 @@
 mod draws;
 mod faults;
 mod ignoring;
-mod plans;
 mod printed;
 mod random;
 mod rows;

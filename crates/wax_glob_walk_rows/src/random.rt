@@ -1,7 +1,6 @@
 //! Random walks, beside the whole walk of which what is wanted is kept.
 
 use crate::draws::Draws;
-use crate::plans::tree_of;
 use crate::printed::not_made;
 use crate::rows::NO_BOUND;
 use crate::walks::{behavior_of, glob_of};
@@ -11,6 +10,7 @@ use wax::walk::{
     Entry, IgnoreList, PathExt, Range, Tree, WalkBehavior, WalkError, WalkFilter, collect, entries,
 };
 use wax::{CandidatePath, Glob, NoMemory, Program};
+use wax_plans::tree_of;
 
 /// What is drawn for a walk.
 #[derive(Drop)]

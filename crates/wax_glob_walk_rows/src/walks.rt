@@ -3,7 +3,6 @@
 ghost use Rattle.std.specs.Iterator.{IsFinite};
 ghost use Rattle.std.specs.Prelude.{◌≡◌, IfOk};
 
-use crate::plans::{PROJECT, ROOT, tree_of};
 use crate::printed::{not_made, print_feed, print_walk};
 use crate::rows::{ALL, FEEDS, FILTERED, LEFT_OUT, NO_BOUND, PLACES, Row, WALKS};
 use std::alloc::Global;
@@ -15,6 +14,7 @@ use wax::walk::{
     collect, exclusion_of,
 };
 use wax::{Glob, Pattern, any};
+use wax_plans::{PROJECT, ROOT, tree_of};
 
 /// How a walk goes that has this range.
 pub fn behavior_of(range: &Range) -> WalkBehavior {

@@ -3,32 +3,14 @@
 
 use crate::answers::{glob_of, print_answer};
 use std::alloc::Global;
-use std::io::{self, Read};
+use std::io;
 use wax::{
     CandidatePath, Counted, Glob, LinesError, NoMemory, Program, capture_lines, filter_lines,
 };
+use wax_streams::Slow;
 
 /// The line that isn't text is neither filtered nor captured of.
 const LINES: &[u8] = b"a-b.png\na-b.svg\nthe-longest-line-of-these.png\n\xff-.png\nx-.png";
-
-/// Hands over one byte at a time.
-#[derive(Drop)]
-struct Slow<'a> {
-    bytes: &'a [u8],
-}
-
-impl Read for Slow<'_> {
-    fn read(&mut self, buf: &mut [u8]) -> io::Result<usize> {
-        match (self.bytes.split_first(), buf.first_mut()) {
-            (Some((byte, rest)), Some(place)) => {
-                *place = *byte;
-                self.bytes = rest;
-                Ok(1)
-            }
-            _ => Ok(0),
-        }
-    }
-}
 
 /// Whether the glob means a line.
 fn is_meant(alloc: Global, glob: &Glob<'_>) -> Result<String, NoMemory> {
@@ -49,7 +31,7 @@ fn print_end(rt: &HostRuntime, answer: Result<u64, LinesError>, glob: &Glob<'_>)
 /// The lines that a glob means.
 pub fn print_filtered(rt: &HostRuntime) -> io::Result<()> {
     let glob = glob_of(rt.alloc(), "*-*.png")?;
-    let mut input = Counted::new(Slow { bytes: LINES });
+    let mut input = Counted::new(Slow::new(LINES, u64::MAX));
     let mut output = Counted::new(rt.stdout());
     let answer = filter_lines(rt.alloc(), &mut input, &mut output, &glob);
     print_end(rt, answer, &glob)
@@ -58,7 +40,7 @@ pub fn print_filtered(rt: &HostRuntime) -> io::Result<()> {
 /// What a glob captures of the lines that it means.
 pub fn print_captured(rt: &HostRuntime) -> io::Result<()> {
     let glob = glob_of(rt.alloc(), "*-*.png")?;
-    let mut input = Counted::new(Slow { bytes: LINES });
+    let mut input = Counted::new(Slow::new(LINES, u64::MAX));
     let mut output = Counted::new(rt.stdout());
     let answer = capture_lines(rt.alloc(), &mut input, &mut output, &glob);
     print_end(rt, answer, &glob)

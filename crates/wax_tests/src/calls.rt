@@ -2,8 +2,10 @@
 
 ghost use Rattle.std.specs.Iterator.{IsFinite};
 
+use crate::globs::{glob_of, list_of};
 use crate::walks::project;
 use std::alloc::Global;
+use std::process::Abort;
 use std::test::*;
 use wax::prelude::*;
 use wax::rule::{Checked, check};
@@ -157,9 +159,7 @@ fn dots_are_semantic_literals(rt: HostRuntime) -> Result<(), Fail> {
         (".../.*", false),
     ];
     for (expression, want) in cases {
-        let Ok(glob) = Glob::new(rt.alloc(), *expression) else {
-            return Err(Fail::from("not built"));
-        };
+        let glob = glob_of(rt.alloc(), *expression)?;
         assert_eq!(rt; glob.has_semantic_literals(rt.alloc())?, *want);
     }
     Ok(())
@@ -174,9 +174,7 @@ fn a_text_is_a_path(rt: HostRuntime) -> Result<(), Fail> {
         ("a*", None),
     ];
     for (expression, want) in cases {
-        let Ok(glob) = Glob::new(rt.alloc(), *expression) else {
-            return Err(Fail::from("not built"));
-        };
+        let glob = glob_of(rt.alloc(), *expression)?;
         let path = glob.text(rt.alloc())?.into_path_buf(rt.alloc())?;
         assert_eq!(rt; path.as_deref(), *want);
     }
@@ -262,22 +260,49 @@ where
     Ok((paths, tree.listed().len()))
 }
 
-// The same, less what a pattern means.
-fn less<I>(alloc: Global, walk: I, pattern: &str) -> Result<(String, usize), Fail>
+// What leaves entries out of a walk.
+#[derive(Clone, Copy)]
+enum LeftOut {
+    Meant,
+    Ignored,
+}
+
+// The same, less what a pattern means or a list ignores.
+fn less<I>(alloc: Global, walk: I, by: LeftOut, text: &str) -> Result<(String, usize), Fail>
 where
     I: FileIterator<Directory = Tree>,
     requires can { I.can_feed walk }
     requires ends { IsFinite (I.left walk) }
 {
-    match without_meant(alloc, walk, pattern) {
-        Ok(walk) => kept(alloc, walk),
-        Err(_) => Err(Fail::from("not built")),
+    match by {
+        LeftOut::Meant => match without_meant(alloc, walk, text) {
+            Ok(walk) => kept(alloc, walk),
+            Err(_) => Err(Fail::from("not built")),
+        },
+        LeftOut::Ignored => kept(alloc, walk.ignore(alloc, list_of(alloc, text)?)),
     }
+}
+
+// Compares what is kept of the project. A row has a pattern or a list, the paths, and how many folders were
+// listed.
+fn compare(
+    rt: &impl Abort,
+    alloc: Global,
+    by: LeftOut,
+    rows: &[(&str, &str, usize)],
+) -> Result<(), Fail> {
+    for (text, want, listed) in rows {
+        let walk = "".walk(alloc, project(alloc)?);
+        let (paths, folders) = less(alloc, walk, by, *text)?;
+        assert_eq!(rt; paths.as_str(), *want);
+        assert_eq!(rt; folders, *listed);
+    }
+    Ok(())
 }
 
 #[test]
 fn what_a_pattern_means_is_left_out(rt: HostRuntime) -> Result<(), Fail> {
-    let cases: &[(&str, &str, usize)] = &[
+    let rows = &[
         ("target/**", "|src|src/lib.rs|src/notes.md|", 2),
         (
             "target",
@@ -287,31 +312,12 @@ fn what_a_pattern_means_is_left_out(rt: HostRuntime) -> Result<(), Fail> {
         ("**/*.md", "|src|src/lib.rs|target|target/lib.rs|", 3),
         ("**", "", 0),
     ];
-    for (pattern, want, listed) in cases {
-        let walk = "".walk(rt.alloc(), project(rt.alloc())?);
-        let (paths, folders) = less(rt.alloc(), walk, *pattern)?;
-        assert_eq!(rt; paths.as_str(), *want);
-        assert_eq!(rt; folders, *listed);
-    }
-    Ok(())
-}
-
-// The same, less what a list ignores.
-fn unignored<I>(alloc: Global, walk: I, text: &str) -> Result<(String, usize), Fail>
-where
-    I: FileIterator<Directory = Tree>,
-    requires can { I.can_feed walk }
-    requires ends { IsFinite (I.left walk) }
-{
-    let Ok(list) = IgnoreList::parse(alloc, text) else {
-        return Err(Fail::from("not read"));
-    };
-    kept(alloc, walk.ignore(alloc, list))
+    compare(&rt, rt.alloc(), LeftOut::Meant, rows)
 }
 
 #[test]
 fn what_a_list_ignores_is_left_out(rt: HostRuntime) -> Result<(), Fail> {
-    let cases: &[(&str, &str, usize)] = &[
+    let rows = &[
         ("target/**\n", "|src|src/lib.rs|src/notes.md|", 2),
         (
             "target/**\n!target/lib.rs",
@@ -325,11 +331,5 @@ fn what_a_list_ignores_is_left_out(rt: HostRuntime) -> Result<(), Fail> {
         ),
         ("**", "", 0),
     ];
-    for (text, want, listed) in cases {
-        let walk = "".walk(rt.alloc(), project(rt.alloc())?);
-        let (paths, folders) = unignored(rt.alloc(), walk, *text)?;
-        assert_eq!(rt; paths.as_str(), *want);
-        assert_eq!(rt; folders, *listed);
-    }
-    Ok(())
+    compare(&rt, rt.alloc(), LeftOut::Ignored, rows)
 }

@@ -1,7 +1,8 @@
 //! Texts that are escaped.
 
+use crate::globs::glob_of;
 use std::test::*;
-use wax::{CandidatePath, Glob, Program, escape, is_contextual_meta_character, is_meta_character};
+use wax::{CandidatePath, Program, escape, is_contextual_meta_character, is_meta_character};
 
 #[test]
 fn escaped_texts_match_themselves(rt: HostRuntime) -> Result<(), Fail> {
@@ -14,9 +15,7 @@ fn escaped_texts_match_themselves(rt: HostRuntime) -> Result<(), Fail> {
     for (text, want) in cases {
         let escaped = escape(rt.alloc(), text)?;
         assert_eq!(rt; escaped.as_str(), want);
-        let Ok(glob) = Glob::new(rt.alloc(), escaped.as_str()) else {
-            return Err(Fail::from("not built"));
-        };
+        let glob = glob_of(rt.alloc(), escaped.as_str())?;
         assert!(rt; glob.is_match(rt.alloc(), &CandidatePath::from(text))?);
     }
     assert!(rt; is_meta_character(',') && !is_meta_character('-'));

@@ -1,17 +1,11 @@
 //! Ignore lists, and walks that they filter.
 
+use crate::globs::list_of;
 use crate::walks::project;
 use std::alloc::Global;
 use std::test::*;
 use wax::prelude::*;
 use wax::walk::{IgnoreError, WalkBehavior, collect, without_ignored};
-
-fn parsed(alloc: Global, text: &str) -> Result<IgnoreList, Fail> {
-    match IgnoreList::parse(alloc, text) {
-        Ok(list) => Ok(list),
-        Err(_) => Err(Fail::from("not read")),
-    }
-}
 
 #[test]
 fn last_line_decides(rt: HostRuntime) -> Result<(), Fail> {
@@ -26,7 +20,7 @@ fn last_line_decides(rt: HostRuntime) -> Result<(), Fail> {
         ("a\n!", "a", true),
         ("target/**", "target", true),
     ] {
-        let list = parsed(alloc, text)?;
+        let list = list_of(alloc, text)?;
         let Ok(answer) = list.is_ignored(alloc, &CandidatePath::from(path)) else {
             return Err(Fail::from("no memory"));
         };
@@ -77,8 +71,8 @@ fn walks_leave_out_what_is_ignored(rt: HostRuntime) -> Result<(), Fail> {
         ("!target/lib.rs\ntarget/**", (4, 2)),
         ("**", (0, 0)),
     ] {
-        assert_eq!(rt; kept(alloc, parsed(alloc, text)?)?, want);
-        assert_eq!(rt; entries(alloc, parsed(alloc, text)?)?, want);
+        assert_eq!(rt; kept(alloc, list_of(alloc, text)?)?, want);
+        assert_eq!(rt; entries(alloc, list_of(alloc, text)?)?, want);
     }
     Ok(())
 }

@@ -11,11 +11,13 @@ mod escapes;
 #[cfg(test)]
 mod folds;
 #[cfg(test)]
+mod globs;
+#[cfg(test)]
 mod ignores;
 #[cfg(test)]
-mod lines;
+mod line_calls;
 #[cfg(test)]
-mod streams;
+mod lines;
 #[cfg(test)]
 mod values;
 #[cfg(test)]

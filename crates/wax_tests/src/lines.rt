@@ -2,18 +2,24 @@
 ghost use Rattle.std.specs.Prelude.{◌≡◌, ◌==◌, [], nat_eq, true, codes, encode_utf8_all};
 ghost use Rattle.std.specs.List.{ends_with};
 
-use crate::streams::{Asked, NAMES, Narrow, Slow, interrupted_names, interrupted_writer};
+use crate::globs::glob_of;
+use crate::line_calls::{
+    Call, NAMES, failed_read, failed_write, interrupted_read, interrupted_write, one_by_one,
+};
 use std::alloc::Global;
 use std::convert::AsStr;
 use std::io::{Read, Write};
 use std::test::*;
 use wax::{
-    CandidatePath, Counted, Glob, LinesError, MatchedText, NoMemory, Program, capture_lines,
-    filter_lines,
+    CandidatePath, Counted, LinesError, MatchedText, NoMemory, Program, capture_lines, filter_lines,
 };
+use wax_streams::{Asked, Slow};
 
-// Means the texts that end in `.png`. It finds no memory for the text `starve`.
-struct Pictures;
+/// What the filter writes of the names.
+const WRITTEN: &[u8] = b"logo.png\na/b.png\nx.png\n";
+
+/// Means the texts that end in `.png`. It finds no memory for the text `starve`.
+pub struct Pictures;
 
 impl Program for Pictures {
     ghost means = { λ _ text. ends_with nat_eq (encode_utf8_all text) (codes ".png") ≡ true };
@@ -93,7 +99,7 @@ fn a_match_may_capture_nothing(rt: HostRuntime) -> Result<(), Fail> {
 #[test]
 fn lines_are_filtered(rt: HostRuntime) -> Result<(), Fail> {
     let cases: [(&[u8], &[u8], u64); 6] = [
-        (NAMES, b"logo.png\na/b.png\nx.png\n", 0),
+        (NAMES, WRITTEN, 0),
         (b"", b"", 0),
         (b"\n\n", b"", 0),
         (b"a.png", b"a.png\n", 0),
@@ -114,27 +120,12 @@ fn lines_are_filtered(rt: HostRuntime) -> Result<(), Fail> {
 
 #[test]
 fn bytes_may_come_one_by_one(rt: HostRuntime) -> Result<(), Fail> {
-    let mut input = Counted::new(Slow {
-        bytes: NAMES,
-        left: 1000,
-    });
-    let mut output = Counted::new(Vec::new(rt.alloc()));
-    let answer = filter_lines(rt.alloc(), &mut input, &mut output, &Pictures);
-    assert!(rt; answer == Ok(0));
-    assert_eq!(rt; input.calls(), NAMES.len() as u64 + 1);
-    assert_eq!(rt; output.calls(), 1);
-    assert_eq!(rt;
-        output.into_inner().as_slice(),
-        b"logo.png\na/b.png\nx.png\n".as_slice()
-    );
-    Ok(())
+    one_by_one(&rt, rt.alloc(), Call::Filter, WRITTEN)
 }
 
 #[test]
 fn captures_follow_their_line(rt: HostRuntime) -> Result<(), Fail> {
-    let Ok(glob) = Glob::new(rt.alloc(), "$-*.*") else {
-        return Err(Fail::from("not built"));
-    };
+    let glob = glob_of(rt.alloc(), "$-*.*")?;
     let cases: [(&[u8], &[u8], u64); 4] = [
         (
             b"a-b-c.ext\nabc\n-.",
@@ -146,7 +137,7 @@ fn captures_follow_their_line(rt: HostRuntime) -> Result<(), Fail> {
         (b"\xff-b.c\na-b.c\n-\xc3.", b"a-b.c\ta\tb\tc\n", 2),
     ];
     for (bytes, want, not_text) in cases {
-        let mut input = Counted::new(Slow { bytes, left: 1000 });
+        let mut input = Counted::new(Slow::new(bytes, 1000));
         let mut output = Counted::new(Vec::new(rt.alloc()));
         let answer = capture_lines(rt.alloc(), &mut input, &mut output, &glob);
         assert!(rt; answer == Ok(not_text));
@@ -157,17 +148,7 @@ fn captures_follow_their_line(rt: HostRuntime) -> Result<(), Fail> {
 
 #[test]
 fn lines_before_a_failed_read_are_written(rt: HostRuntime) -> Result<(), Fail> {
-    let mut input = Counted::new(Slow {
-        bytes: NAMES,
-        left: 10,
-    });
-    let mut output = Counted::new(Vec::new(rt.alloc()));
-    let answer = filter_lines(rt.alloc(), &mut input, &mut output, &Pictures);
-    assert!(rt; answer == Err(LinesError::Read));
-    assert_eq!(rt; input.calls(), 11);
-    assert_eq!(rt; input.failures(), 1);
-    assert_eq!(rt; output.into_inner().as_slice(), b"logo.png\n".as_slice());
-    Ok(())
+    failed_read(&rt, rt.alloc(), Call::Filter, b"logo.png\n")
 }
 
 #[test]
@@ -177,12 +158,12 @@ fn lines_of_the_reads_before_want_of_memory_are_written(rt: HostRuntime) -> Resu
         (b"starve", b""),
     ];
     for (bytes, want) in cases {
-        let mut input = Counted::new(Slow { bytes, left: 1000 });
+        let mut input = Counted::new(Slow::new(bytes, 1000));
         let mut output = Counted::new(Vec::new(rt.alloc()));
         let answer = filter_lines(rt.alloc(), &mut input, &mut output, &Pictures);
         assert!(rt; answer == Err(LinesError::Memory));
         assert_eq!(rt; output.into_inner().as_slice(), want);
-        let mut input = Counted::new(Slow { bytes, left: 1000 });
+        let mut input = Counted::new(Slow::new(bytes, 1000));
         let mut output = Counted::new(Vec::new(rt.alloc()));
         let answer = capture_lines(rt.alloc(), &mut input, &mut output, &Pictures);
         assert!(rt; answer == Err(LinesError::Memory));
@@ -194,16 +175,8 @@ fn lines_of_the_reads_before_want_of_memory_are_written(rt: HostRuntime) -> Resu
 #[test]
 fn a_failed_write_stops_the_filter(rt: HostRuntime) -> Result<(), Fail> {
     for fails in [false, true] {
-        let mut input = Counted::new(NAMES);
-        let mut output = Counted::new(Narrow {
-            taken: Vec::new(rt.alloc()),
-            room: 5,
-            fails,
-        });
-        let answer = filter_lines(rt.alloc(), &mut input, &mut output, &Pictures);
-        assert!(rt; answer == Err(LinesError::Write));
+        let mut output = failed_write(&rt, rt.alloc(), Call::Filter, 5, fails)?;
         assert_eq!(rt; output.calls(), 2);
-        assert_eq!(rt; output.failures(), 1);
         assert_eq!(rt; output.write(b"")?, 0);
         assert!(rt; output.flush().is_err());
         assert_eq!(rt; output.failures(), 2);
@@ -214,53 +187,20 @@ fn a_failed_write_stops_the_filter(rt: HostRuntime) -> Result<(), Fail> {
 
 #[test]
 fn a_writer_may_take_nothing(rt: HostRuntime) -> Result<(), Fail> {
-    let mut output = Counted::new(Narrow {
-        taken: Vec::new(rt.alloc()),
-        room: 0,
-        fails: false,
-    });
-    let mut input = Counted::new(NAMES);
-    let answer = filter_lines(rt.alloc(), &mut input, &mut output, &Pictures);
-    assert!(rt; answer == Err(LinesError::Write));
+    let output = failed_write(&rt, rt.alloc(), Call::Filter, 0, false)?;
     assert_eq!(rt; output.calls(), 1);
-    assert_eq!(rt; output.failures(), 1);
     assert_eq!(rt; output.into_inner().taken.len(), 0);
     Ok(())
 }
 
 #[test]
 fn an_interrupted_read_is_a_failed_one(rt: HostRuntime) -> Result<(), Fail> {
-    let mut input = Counted::new(interrupted_names());
-    let mut output = Counted::new(Vec::new(rt.alloc()));
-    let answer = filter_lines(rt.alloc(), &mut input, &mut output, &Pictures);
-    assert!(rt; answer == Err(LinesError::Read));
-    assert_eq!(rt; input.calls(), 10);
-    assert_eq!(rt; input.failures(), 1);
-    let answer = filter_lines(rt.alloc(), &mut input, &mut output, &Pictures);
-    assert!(rt; answer == Ok(0));
-    assert_eq!(rt; input.failures(), 1);
-    assert_eq!(rt;
-        output.into_inner().as_slice(),
-        b"logo.png\na/b.png\nx.png\n".as_slice()
-    );
-    Ok(())
+    interrupted_read(&rt, rt.alloc(), Call::Filter, WRITTEN)
 }
 
 #[test]
 fn an_interrupted_write_is_a_failed_one(rt: HostRuntime) -> Result<(), Fail> {
-    let mut output = Counted::new(interrupted_writer(rt.alloc()));
-    let mut input = Counted::new(NAMES);
-    let answer = filter_lines(rt.alloc(), &mut input, &mut output, &Pictures);
-    assert!(rt; answer == Err(LinesError::Write));
-    assert_eq!(rt; output.calls(), 1);
-    assert_eq!(rt; output.failures(), 1);
-    let mut input = Counted::new(b"b.png\n".as_slice());
-    let answer = filter_lines(rt.alloc(), &mut input, &mut output, &Pictures);
-    assert!(rt; answer == Ok(0));
-    assert_eq!(rt; output.failures(), 1);
-    let taken = output.into_inner().inner;
-    assert_eq!(rt; taken.as_slice(), b"b.png\n".as_slice());
-    Ok(())
+    interrupted_write(&rt, rt.alloc(), Call::Filter, b"b.png\n")
 }
 
 #[test]

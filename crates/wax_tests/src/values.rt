@@ -1,5 +1,6 @@
 //! Values that are copied, compared and printed; trees of paths; what is told of a refusal.
 
+use crate::globs::glob_of;
 use std::alloc::Global;
 use std::test::*;
 use wax::BuildError;
@@ -107,10 +108,7 @@ fn paths_are_compared_and_copied(rt: HostRuntime) -> Result<(), Fail> {
 fn matches_are_copied(rt: HostRuntime) -> Result<(), Fail> {
     let alloc = rt.alloc();
     let path = CandidatePath::from("src/lib.rs");
-    let Ok(glob) = Glob::new(alloc, "**/*.rs") else {
-        return Err(Fail::from("not built"));
-    };
-    let Some(matched) = glob.matched(alloc, &path)? else {
+    let Some(matched) = glob_of(alloc, "**/*.rs")?.matched(alloc, &path)? else {
         return Err(Fail::from("not matched"));
     };
     let copy = matched.clone()?;

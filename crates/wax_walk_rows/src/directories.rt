@@ -1,7 +1,7 @@
 //! Questions that directories are asked, and their answers.
 
-use crate::trees::{ALL_KINDS, MIXED, TWICE, folder_of, tree_of};
-use std::alloc::Global;
+use crate::trees::{ALL_KINDS, MIXED, tree_of};
+use std::alloc::{AllocError, Global};
 use std::{fs, io};
 use wax_directory::directory::{Directory, DirectoryFault, FileType, ListItem};
 use wax_directory::failing::Failing;
@@ -9,6 +9,7 @@ use wax_directory::folders::Folders;
 use wax_directory::starving::Starving;
 use wax_directory::tally::Tally;
 use wax_directory::tree::{DuplicateName, Node, Tree};
+use wax_plans::entry;
 use wax_query::diagnostics::{NoMemory, Refusal};
 
 /// A directory of which nothing is claimed.
@@ -22,7 +23,12 @@ impl Directory for Nowhere {
 
     type Cursor = ();
 
-    ghost law = { record { shows = λ _ _ _. ⊥; holds = λ _ _ _. ⊥; tells = λ _ _. ⊤; tally = λ s. s.tally } };
+    ghost law = { record {
+      shows = λ _ _ _. ⊥;
+      holds = λ _ _ _. ⊥;
+      tells = λ _ _. ⊤;
+      tally = λ s. s.tally;
+    } };
 
     fn kind(&mut self, _alloc: Global, _path: &str) -> Result<Option<FileType>, DirectoryFault> {
         let answer = Ok(None);
@@ -200,9 +206,19 @@ fn print_all_items(rt: &HostRuntime) -> io::Result<()> {
     Ok(())
 }
 
+/// A folder with a folder in it that holds a name twice.
+fn twice(alloc: Global) -> Result<Node, AllocError> {
+    let mut inner = Vec::new(alloc);
+    inner.push(entry(alloc, "a", Node::File)?)?;
+    inner.push(entry(alloc, "a", Node::Link)?)?;
+    let mut items = Vec::new(alloc);
+    items.push(entry(alloc, "b", Node::Folder(inner))?)?;
+    Ok(Node::Folder(items))
+}
+
 /// A tree is not made of a folder that holds a name twice.
 fn print_duplicate(rt: &HostRuntime) -> io::Result<()> {
-    let answer = Tree::new(rt.alloc(), folder_of(rt.alloc(), TWICE)?, Node::File);
+    let answer = Tree::new(rt.alloc(), twice(rt.alloc())?, Node::File);
     let is_refused = matches!(answer, Err(Refusal::Refused(DuplicateName)));
     println!(rt; "a name twice is refused: {is_refused}")
 }

@@ -1,7 +1,7 @@
 //! Walks to their end and beyond, over directories of three types.
 
 use crate::printed::print_to_end;
-use crate::trees::{ODD, PROJECT, SEALED, tree_of};
+use crate::trees::{ODD, SEALED, tree_of};
 use crate::walks::{WHOLE, names_of, within};
 use std::alloc::Global;
 use std::io;
@@ -9,6 +9,7 @@ use wax_directory::directory::Directory;
 use wax_directory::failing::Failing;
 use wax_directory::starving::Starving;
 use wax_directory::tree::Tree;
+use wax_plans::PROJECT;
 use wax_tree::{PathExt, Range, WalkTree};
 
 fn project(alloc: Global) -> io::Result<Tree> {

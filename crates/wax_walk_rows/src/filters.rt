@@ -3,11 +3,12 @@
 ghost use Rattle.std.specs.Iterator.{IsFinite};
 
 use crate::printed::{print_feed, print_item, print_walk};
-use crate::trees::{FAULTY, PROJECT, tree_of};
+use crate::trees::{FAULTY, tree_of};
 use std::alloc::Global;
 use std::io;
 use wax_directory::tree::Tree;
 use wax_filter::filter::CancelWalk;
+use wax_plans::PROJECT;
 use wax_query::diagnostics::NoMemory;
 use wax_tree::{PathExt, TreeFeed, WalkTree};
 use wax_walk::{Entry, EntryResidue, FileIterator, Rule, TreeEntry};
@@ -118,36 +119,35 @@ impl Rule for FromDepth {
     }
 }
 
+/// Leaves out the entries from this depth on.
+fn from_depth(depth: usize, residue: EntryResidue) -> FromDepth {
+    FromDepth { depth, residue }
+}
+
 /// The feed of a walk without the entries from a depth on.
-fn print_rule<I>(
-    rt: &HostRuntime,
-    name: &str,
-    walk: I,
-    depth: usize,
-    residue: EntryResidue,
-) -> io::Result<()>
-where
-    I: FileIterator<Feed = TreeFeed, Entry = TreeEntry, Residue = TreeEntry, Directory = Tree>,
-    requires can { I.can_feed walk }
-    requires ends { IsFinite (I.left walk) }
-{
-    let rule = FromDepth { depth, residue };
-    print_feed(rt, name, walk.without(rt.alloc(), rule))
+fn print_rule(rt: &HostRuntime, name: &str, depth: usize, residue: EntryResidue) -> io::Result<()> {
+    let walk = project(rt)?.without(rt.alloc(), from_depth(depth, residue));
+    print_feed(rt, name, walk)
+}
+
+/// The feed of a walk with a rule over another.
+fn print_two_rules(rt: &HostRuntime) -> io::Result<()> {
+    let walk = project(rt)?.without(rt.alloc(), from_depth(1, ALONE));
+    print_feed(
+        rt,
+        "two rules",
+        walk.without(rt.alloc(), from_depth(2, BELOW)),
+    )
 }
 
 /// Feeds with faults, of a rule, and of a rule over another.
 fn print_rules(rt: &HostRuntime) -> io::Result<()> {
     let tree = tree_of(rt.alloc(), FAULTY)?;
     print_feed(rt, "faults", "".walk(rt.alloc(), tree))?;
-    print_rule(rt, "a rule, depth 2", project(rt)?, 2, ALONE)?;
-    print_rule(rt, "a rule, depth 2", project(rt)?, 2, BELOW)?;
-    print_rule(rt, "a rule, depth 0", project(rt)?, 0, BELOW)?;
-    let inner = FromDepth {
-        depth: 1,
-        residue: ALONE,
-    };
-    let walk = project(rt)?.without(rt.alloc(), inner);
-    print_rule(rt, "two rules", walk, 2, BELOW)
+    print_rule(rt, "a rule, depth 2", 2, ALONE)?;
+    print_rule(rt, "a rule, depth 2", 2, BELOW)?;
+    print_rule(rt, "a rule, depth 0", 0, BELOW)?;
+    print_two_rules(rt)
 }
 
 pub fn print_rows(rt: &HostRuntime) -> io::Result<()> {

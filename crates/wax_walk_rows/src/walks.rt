@@ -1,10 +1,11 @@
 //! Walks of trees.
 
 use crate::printed::{no_memory, print_counted, print_walk};
-use crate::trees::{FAULTY, ODD, PROJECT, SEALED, tree_of, tree_with};
+use crate::trees::{FAULTY, ODD, SEALED, tree_of};
 use std::alloc::{AllocError, Global};
 use std::io;
 use wax_directory::tree::{Node, Tree, TreeItem};
+use wax_plans::{PROJECT, ROOT, tree_with};
 use wax_tree::{
     DepthBehavior, DepthMax, DepthMin, DepthMinMax, PathExt, Range, WalkBehavior, WalkTree, entries,
 };
@@ -86,7 +87,8 @@ fn print_budgets(rt: &HostRuntime) -> io::Result<()> {
     for budget in 0..11u32 {
         print_within(rt, "10", tree_of(rt.alloc(), PROJECT)?, budget)?;
     }
-    print_within(rt, "100000", tree_with(rt.alloc(), large(rt.alloc())?)?, 1)?;
+    let tree = tree_with(rt.alloc(), large(rt.alloc())?, ROOT)?;
+    print_within(rt, "100000", tree, 1)?;
     print_within(rt, "2, sealed", tree_of(rt.alloc(), SEALED)?, 1)
 }
 

@@ -1,20 +1,27 @@
-//! Trees from plans.
+//! Trees from plans, for tests.
 //!
 //! A plan of a folder has a word for each item: `a/` begins a folder `a` and `;` ends it, `a@` is a link,
 //! `a#` a folder that can't be listed, `!` an item that can't be read and `?` one whose name isn't text. Any
-//! other word is a file. An item whose name stands in its folder already is left out.
+//! other word is a file; `''` is one with an empty name. An item whose name stands in its folder already is
+//! left out.
+#![tactic(auto)]
 
 use std::alloc::{AllocError, Global};
 use std::io::{self, ErrorKind};
 use std::mem;
-use wax::walk::{Node, Tree, TreeItem};
+use wax_directory::tree::{Node, Tree, TreeItem};
 
-/// Six files in folders.
+/// Six files in folders: what most rows walk.
 pub const PROJECT: &str =
     "doc/ guide.md ; src/ glob.rs lib.rs ; tests/ harness/ mod.rs ; walk.rs ; README.md";
 
-/// What stands at the root.
+/// What stands at the root: a folder, and a file.
 pub const ROOT: &str = "a/ b ; x";
+
+/// An entry with this name.
+pub fn entry(alloc: Global, name: &str, node: Node) -> Result<TreeItem, AllocError> {
+    Ok(TreeItem::Entry(String::from_str(alloc, name)?, node))
+}
 
 /// Whether this is the item of this name.
 fn is_named(item: &TreeItem, name: &str) -> bool {
@@ -29,7 +36,7 @@ fn add(alloc: Global, items: &mut Vec<TreeItem>, name: &str, node: Node) -> Resu
     if items.iter().any(|item| is_named(item, name)) {
         return Ok(());
     }
-    items.push(TreeItem::Entry(String::from_str(alloc, name)?, node))?;
+    items.push(entry(alloc, name, node)?)?;
     Ok(())
 }
 
@@ -44,13 +51,14 @@ fn add_word(alloc: Global, items: &mut Vec<TreeItem>, word: &str) -> Result<(), 
     match word {
         "!" => items.push(TreeItem::Failed)?,
         "?" => items.push(TreeItem::NotText)?,
+        "''" => add(alloc, items, "", Node::File)?,
         _ => add(alloc, items, word, Node::File)?,
     }
     Ok(())
 }
 
 /// The folder of this plan.
-fn folder_of(alloc: Global, plan: &str) -> Result<Node, AllocError> {
+pub fn folder_of(alloc: Global, plan: &str) -> Result<Node, AllocError> {
     let mut items = Vec::new(alloc);
     let mut outer = Vec::new(alloc);
     for word in plan.split(' ') {
@@ -66,10 +74,15 @@ fn folder_of(alloc: Global, plan: &str) -> Result<Node, AllocError> {
     Ok(Node::Folder(items))
 }
 
-/// The tree with these plans of its working folder and of its root.
-pub fn tree_of(alloc: Global, working: &str, root: &str) -> io::Result<Tree> {
-    match Tree::new(alloc, folder_of(alloc, working)?, folder_of(alloc, root)?) {
+/// The tree with this working folder, and at its root the folder of a plan.
+pub fn tree_with(alloc: Global, working: Node, root: &str) -> io::Result<Tree> {
+    match Tree::new(alloc, working, folder_of(alloc, root)?) {
         Ok(tree) => Ok(tree),
         Err(_) => Err(io::Error::from(ErrorKind::InvalidData)),
     }
+}
+
+/// The tree with these plans of its working folder and of its root.
+pub fn tree_of(alloc: Global, working: &str, root: &str) -> io::Result<Tree> {
+    tree_with(alloc, folder_of(alloc, working)?, root)
 }

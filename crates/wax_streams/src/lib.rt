@@ -1,16 +1,29 @@
-//! Readers and writers that fail or are interrupted, and one that counts what it is asked.
+//! Readers and writers for tests, that fail, are interrupted, or count what they are asked.
+#![tactic(auto)]
+
+ghost use Rattle.std.specs.Prelude.{◌≡◌, Some, []};
 
 use std::alloc::Global;
 use std::io;
 use std::io::{Read, Write};
 
-pub const NAMES: &[u8] = b"logo.png\nlogo.svg\na/b.png\nx.png";
-
-// Hands over one byte at a time, and fails where `left` reads were made.
+/// Hands over one byte at a time, and fails where `left` reads were made.
 #[derive(Drop)]
 pub struct Slow<'a> {
+    /// The bytes that are still to come.
     pub bytes: &'a [u8],
+    /// How many reads don't fail.
     pub left: u64,
+}
+
+impl<'a> Slow<'a> {
+    /// Has these bytes, and lets so many reads succeed.
+    pub fn new(bytes: &'a [u8], left: u64) -> Self
+        ensures bytes { result.bytes.now ≡ bytes.now }
+        ensures left { result.left ≡ left }
+    {
+        Slow { bytes, left }
+    }
 }
 
 impl Read for Slow<'_> {
@@ -30,12 +43,30 @@ impl Read for Slow<'_> {
     }
 }
 
-// Takes `room` bytes and then fails, or takes nothing.
+/// Takes `room` bytes, and then fails, or takes nothing. A flush of it fails.
 #[derive(Drop)]
 pub struct Narrow {
+    /// The bytes that were taken.
     pub taken: Vec<u8>,
+    /// How many bytes are taken from here on.
     pub room: usize,
+    /// Whether a write fails where there is no room.
     pub fails: bool,
+}
+
+impl Narrow {
+    /// Has taken nothing yet.
+    pub fn new(alloc: Global, room: usize, fails: bool) -> Self
+        ensures taken { result.taken.items ≡ [] }
+        ensures room { result.room ≡ room }
+        ensures fails { result.fails ≡ fails }
+    {
+        Narrow {
+            taken: Vec::new(alloc),
+            room,
+            fails,
+        }
+    }
 }
 
 impl Write for Narrow {
@@ -54,33 +85,27 @@ impl Write for Narrow {
     }
 }
 
-// Hands each call on, but for one that is interrupted: the one after `before` others.
+/// Hands each call on, but for one that is interrupted: the one after `before` others.
 #[derive(Drop)]
 pub struct Interrupted<T> {
+    /// What is asked.
     pub inner: T,
+    /// How many calls come first, till the call that is interrupted.
     pub before: Option<u64>,
 }
 
-// The names one byte at a time, with an interrupted call behind the first line.
-pub fn interrupted_names() -> Interrupted<Slow<'static>> {
-    Interrupted {
-        inner: Slow {
-            bytes: NAMES,
-            left: 1000,
-        },
-        before: Some(9),
-    }
-}
-
-// Takes all that it is given, but for the first time.
-pub fn interrupted_writer(alloc: Global) -> Interrupted<Vec<u8>> {
-    Interrupted {
-        inner: Vec::new(alloc),
-        before: Some(0),
-    }
-}
-
 impl<T> Interrupted<T> {
+    /// Interrupts the call after so many others.
+    pub fn new(inner: T, before: u64) -> Self
+        ensures inner { result.inner ≡ inner }
+        ensures before { result.before ≡ Some before }
+    {
+        Interrupted {
+            inner,
+            before: Some(before),
+        }
+    }
+
     fn step(&mut self) -> io::Result<()> {
         match self.before {
             None => {}
@@ -113,11 +138,14 @@ impl<W: Write> Write for Interrupted<W> {
     }
 }
 
-// Counts what it is asked.
+/// Counts what it is asked, gives nothing, and takes all.
 #[derive(Drop)]
 pub struct Asked {
+    /// How many reads there were.
     pub reads: u64,
+    /// How many writes there were.
     pub writes: u64,
+    /// How many flushes there were.
     pub flushes: u64,
 }
 
