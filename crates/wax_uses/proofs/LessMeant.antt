@@ -176,7 +176,7 @@ module _ (other : GlobView) (of_residue : TreeEntry → Facts) where
 
 -- ---- what is collected
 
-module _ {D C : Type 0} {g : GlobView} (law : Law D C) (d : D) (start : List ℕ) (other : GlobView)
+module _ {D C : Type 0} (g : GlobView) (law : Law D C) (d : D) (start : List ℕ) (other : GlobView)
     (rule : Facts → Mark) (says : IsNotRule (λ t. t ≡ other.tree) rule) (tells : List (List ℕ) → Type 0)
     (of_residue : TreeEntry → Facts) (items : List (Result GlobEntry WalkError)) where
   abbrev pub all_items : List Given

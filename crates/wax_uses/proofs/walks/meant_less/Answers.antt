@@ -12,7 +12,7 @@ pub returns-clause-unmeant : goal.returns-clause-unmeant
 returns-clause-unmeant g c = λ known.
     let law = g.D.Directory.law in
     let r = c.in_ok-collect_less.field-0 in
-    items_unmeant law c.args.directory c.args.start.now c.args.other _ c.in_ok-filter.ensures (law.tells r.1)
+    items_unmeant c.args.glob.now law c.args.directory c.args.start.now c.args.other _ c.in_ok-filter.ensures (law.tells r.1)
     facts_of r.0.items _ (behavior_range c.default.result) c.in_ok-collect_less.ensures.wanted
     (ap (map _) c.in-Ok.ensures.items) known
 
@@ -20,6 +20,6 @@ pub returns-clause-entries : goal.returns-clause-entries
 returns-clause-entries g c = λ known.
     let law = g.D.Directory.law in
     let r = c.in_ok-collect_less.field-0 in
-    items_less law c.args.directory c.args.start.now c.args.other _ c.in_ok-filter.ensures (law.tells r.1)
+    items_less c.args.glob.now law c.args.directory c.args.start.now c.args.other _ c.in_ok-filter.ensures (law.tells r.1)
     facts_of r.0.items _ (behavior_range c.default.result) c.in_ok-collect_less.ensures.wanted
     (ap (map _) c.in-Ok.ensures.items) known (ap behavior_range c.default.ensures)
