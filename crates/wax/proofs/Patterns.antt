@@ -8,8 +8,8 @@ use Rattle.wax_token.specs.Syntax.{Tree, alternation}
 use Rattle.wax_token.specs.Words.{trees}
 use Rattle.wax.specs.AnyView.{MeansText}
 use Rattle.wax.specs.Patterns.{AreOversized, IsAnyOf, IsFirstRefused, IsOnly, NoSet, OneMeans, SpellEach, Spells}
-use Rattle.wax.specs.declared.build_error.BuildError.{BuildError}
-use Rattle.wax.specs.declared.build_error.BuildError.TheVariants.{Parse, Rule, Compile, Memory}
+use Rattle.wax_error.specs.declared.build_error.BuildError.{BuildError}
+use Rattle.wax_error.specs.declared.build_error.BuildError.TheVariants.{Parse, Rule, Compile, Memory}
 
 module _ {P : Type 0} (S : P → Tree Span → Type 0) where
   -- one branch means what the tree of its pattern does

@@ -1,34 +1,14 @@
 -- How the building of a glob ends.
-use Rattle.std.specs.Prelude.{◌≡◌, ◌↔◌, ◌<◌, ◌≤◌, ℕ, false, List, [], codes, Result, Ok, Err}
-use Rattle.wax_match.specs.declared.encode.CompileError.{CompileError}
-use Rattle.wax_query.specs.declared.diagnostics.Refusal.{Refusal}
-use Rattle.wax_query.specs.declared.diagnostics.Refusal.TheVariants as refusal
-use Rattle.wax_parse.specs.declared.parse.ParseError.{ParseError}
+use Rattle.std.specs.Prelude.{◌≡◌, ◌↔◌, ◌<◌, ◌≤◌, ℕ, false, List, [], codes, Result, Ok, Err, ⊤}
 use Rattle.wax_parse.specs.Accepted.{IsPlace}
-use Rattle.wax_rule.specs.FirstBreak.{ErrorView, TellsFirst}
+use Rattle.wax_rule.specs.FirstBreak.{TellsFirst}
 use Rattle.wax_rule.specs.Rules.{broken}
 use Rattle.wax_token.specs.Cost.{program_length}
 use Rattle.wax_token.specs.Reads.{Reads, Span}
 use Rattle.wax_token.specs.Syntax.{Tree, leaf, tree, concatenation, none, more}
 use Rattle.wax.specs.GlobView.{GlobView, IsMeant, empty_tree}
-use Rattle.wax.specs.declared.build_error.BuildError.{BuildError}
-use Rattle.wax.specs.declared.build_error.BuildError.TheVariants.{Parse, Rule, Compile, Memory}
-
-abbrev pub parse_refusal : Refusal ParseError → BuildError
-parse_refusal (refusal.Refused e) = Parse e
-parse_refusal refusal.Memory = Memory
-
--- the refusal of the rules, or want of memory
-abbrev pub IsRuleRefusal : Refusal ErrorView → BuildError → Type 0
-IsRuleRefusal (refusal.Refused e) (Rule f) = f ≡ e
-IsRuleRefusal refusal.Memory (Rule f) = ⊥
-IsRuleRefusal r (Parse p) = ⊥
-IsRuleRefusal r (Compile d) = ⊥
-IsRuleRefusal r Memory = Unit {0}
-
-abbrev pub compile_refusal : Refusal CompileError → BuildError
-compile_refusal (refusal.Refused e) = Compile e
-compile_refusal refusal.Memory = Memory
+use Rattle.wax_error.specs.declared.build_error.BuildError.{BuildError}
+use Rattle.wax_error.specs.declared.build_error.BuildError.TheVariants.{Parse, Rule, Compile, Memory}
 
 -- a glob of the expression e, and of the one tree that it spells
 pub record IsGlob (e : List ℕ) (g : GlobView) : Type 0 where
@@ -53,7 +33,7 @@ MatchGlob e (Err (Parse place)) = ((t : Tree Span) → Reads e t → ⊥) × IsP
 MatchGlob e (Err (Rule error)) =
     (t : Tree Span) × Reads e t × TellsFirst (broken t) error × (error.expression ≡ e)
 MatchGlob e (Err (Compile _)) = IsOversized e
-MatchGlob e (Err Memory) = Unit {0}
+MatchGlob e (Err Memory) = ⊤
 
 -- the glob of the empty expression: an empty literal, which means the empty text alone
 pub record IsEmptyGlob (g : GlobView) : Type 0 where

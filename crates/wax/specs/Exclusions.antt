@@ -1,5 +1,5 @@
 -- Patterns that are left out of walks.
-use Rattle.std.specs.Prelude.{◌≡◌, ◌<◌, ◌≤◌, ◌⊎◌, false, List}
+use Rattle.std.specs.Prelude.{◌≡◌, ◌<◌, ◌≤◌, ◌⊎◌, false, List, ⊤}
 use Rattle.wax_collect.specs.Trips.{IsRuleOf}
 use Rattle.wax_token.specs.Cost.{program_length}
 use Rattle.wax_token.specs.Reads.{Span}
@@ -10,8 +10,8 @@ use Rattle.wax_walk.specs.View.{IsSeenAs, WalkView}
 use Rattle.wax_wanted.specs.Marks.{not_mark, of_candidate}
 use Rattle.wax_wanted.specs.Wanted.{not_meant}
 use Rattle.wax.specs.Patterns.{IsOnly}
-use Rattle.wax.specs.declared.build_error.BuildError.{BuildError}
-use Rattle.wax.specs.declared.build_error.BuildError.TheVariants.{Parse, Rule, Compile, Memory}
+use Rattle.wax_error.specs.declared.build_error.BuildError.{BuildError}
+use Rattle.wax_error.specs.declared.build_error.BuildError.TheVariants.{Parse, Rule, Compile, Memory}
 use Rattle.wax.specs.declared.ignoring.IgnoreList.{IgnoreList}
 use Rattle.wax.specs.declared.walk_filter.WalkFilter.{WalkFilter}
 use Rattle.wax.specs.declared.walk_filter.WalkFilter.TheVariants.{Not, Ignore}
@@ -32,7 +32,7 @@ NoExclusion SpellsTree RefusesAs (Parse place) = RefusesAs (Parse place)
 NoExclusion SpellsTree RefusesAs (Rule error) = RefusesAs (Rule error)
 NoExclusion SpellsTree RefusesAs (Compile error) = RefusesAs (Compile error)
     ⊎ ((t : Tree Span) × IsOnly SpellsTree t × (1048576 < program_length t))
-NoExclusion SpellsTree RefusesAs Memory = Unit {0}
+NoExclusion SpellsTree RefusesAs Memory = ⊤
 
 -- one walk is seen as the other less what the tree that is spelled means
 abbrev pub IsWalkWithout : {D : Type 0} → (Tree Span → Type 0) → WalkView D → WalkView D → Type 0

@@ -1,5 +1,5 @@
 -- Ignore lists.
-use Rattle.std.specs.Prelude.{◌≡◌, ℕ, false, ◌++◌, List, ◌∷◌, chars, map}
+use Rattle.std.specs.Prelude.{◌≡◌, ℕ, false, ◌++◌, List, ◌∷◌, chars, map, ⊤}
 use Rattle.std.specs.List.{AllZip}
 use Rattle.wax_ignore.specs.Held.{HasLines, line_of}
 use Rattle.wax_ignore.specs.Lines.{Written, written_lines}
@@ -11,8 +11,8 @@ use Rattle.wax_wanted.specs.Ignored.{Line, ignore_mark}
 use Rattle.wax_wanted.specs.Marks.{of_candidate}
 use Rattle.wax.specs.Exclusions.{FitsAlone, NoExclusion}
 use Rattle.wax.specs.Patterns.{Refuses, Spells}
-use Rattle.wax.specs.declared.build_error.BuildError.{BuildError}
-use Rattle.wax.specs.declared.build_error.BuildError.TheVariants as build
+use Rattle.wax_error.specs.declared.build_error.BuildError.{BuildError}
+use Rattle.wax_error.specs.declared.build_error.BuildError.TheVariants as build
 use Rattle.wax.specs.declared.ignoring.IgnoreError.{IgnoreError}
 use Rattle.wax.specs.declared.ignoring.IgnoreError.TheVariants.{BadLine, Memory}
 use Rattle.wax.specs.declared.ignoring.IgnoreList.{IgnoreList}
@@ -56,7 +56,7 @@ pub record IsFirstUnread (text : List ℕ) (number : ℕ) (error : BuildError) :
 -- why a text is no list; nothing is said where memory was refused
 abbrev pub IsNoList : List ℕ → IgnoreError → Type 0
 IsNoList text (BadLine number error) = IsFirstUnread text number error
-IsNoList text Memory = Unit {0}
+IsNoList text Memory = ⊤
 
 -- the number of the refusal
 abbrev pub refusal_number : IgnoreError → ℕ

@@ -4,6 +4,5 @@ pub mod Exclusions
 pub mod GlobView
 pub mod GlobWalks
 pub mod Ignoring
-pub mod Locations
 pub mod Partition
 pub mod Patterns

@@ -1,5 +1,5 @@
 -- What patterns stand for, and how the building of a set of them ends.
-use Rattle.std.specs.Prelude.{◌≡◌, ◌↔◌, ◌<◌, ◌≤◌, ◌++◌, ◌∷◌, ◌⊎◌, ℕ, List, [], Result, Ok, Err}
+use Rattle.std.specs.Prelude.{◌≡◌, ◌↔◌, ◌<◌, ◌≤◌, ◌++◌, ◌∷◌, ◌⊎◌, ℕ, List, [], Result, Ok, Err, ⊤}
 use Rattle.std.specs.List.{AllZip}
 use Rattle.wax_parse.specs.Accepted.{IsPlace}
 use Rattle.wax_rule.specs.FirstBreak.{TellsFirst}
@@ -9,8 +9,8 @@ use Rattle.wax_token.specs.Reads.{Reads, Span}
 use Rattle.wax_token.specs.Syntax.{Tree, alternation}
 use Rattle.wax_token.specs.Words.{trees}
 use Rattle.wax.specs.AnyView.{MeansText}
-use Rattle.wax.specs.declared.build_error.BuildError.{BuildError}
-use Rattle.wax.specs.declared.build_error.BuildError.TheVariants.{Parse, Rule, Compile, Memory}
+use Rattle.wax_error.specs.declared.build_error.BuildError.{BuildError}
+use Rattle.wax_error.specs.declared.build_error.BuildError.TheVariants.{Parse, Rule, Compile, Memory}
 
 -- ---- expressions
 
@@ -23,7 +23,7 @@ abbrev pub Refuses : List ℕ → BuildError → Type 0
 Refuses e (Parse place) = ((t : Tree Span) → Reads e t → ⊥) × IsPlace e place
 Refuses e (Rule error) = (t : Tree Span) × Reads e t × TellsFirst (broken t) error × (error.expression ≡ e)
 Refuses e (Compile _) = ⊥
-Refuses e Memory = Unit {0}
+Refuses e Memory = ⊤
 
 -- want of memory alone
 abbrev pub LacksMemory : BuildError → Type 0
@@ -88,4 +88,4 @@ NoSet SpellsTree RefusesAs patterns (Parse place) = IsFirstRefused SpellsTree Re
 NoSet SpellsTree RefusesAs patterns (Rule error) = IsFirstRefused SpellsTree RefusesAs patterns (Rule error)
 NoSet SpellsTree RefusesAs patterns (Compile error) =
     IsFirstRefused SpellsTree RefusesAs patterns (Compile error) ⊎ AreOversized SpellsTree patterns
-NoSet SpellsTree RefusesAs patterns Memory = Unit {0}
+NoSet SpellsTree RefusesAs patterns Memory = ⊤

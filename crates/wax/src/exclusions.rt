@@ -8,10 +8,10 @@ ghost use Rattle.wax_wanted.specs.Ignored.{Line};
 ghost use Rattle.wax.specs.Exclusions.{IsLeftOut, IsWalkWithout, NoExclusion};
 ghost use Rattle.wax.specs.Ignoring.{HoldsLines, IsWalkIgnoring};
 
-use crate::build_error::BuildError;
 use crate::ignoring::IgnoreList;
 use crate::pattern::Pattern;
 use std::alloc::Global;
+use wax_error::BuildError;
 use wax_filter::filter::SeparatingFilter;
 use wax_leading::Exclusion;
 use wax_query::diagnostics::Refusal;

@@ -24,7 +24,6 @@ mod pattern;
 mod values;
 mod walking;
 
-use crate::build_error::{BuildError, rule_refused};
 use std::alloc::Global;
 use std::borrow::CowStr;
 use std::fmt;
@@ -34,6 +33,7 @@ use wax_candidate::{CandidatePath, MatchedText, Program};
 use wax_capture::Pieces;
 use wax_components::{Warning, captures, diagnose, has_semantic_literals};
 use wax_depth::depth;
+use wax_error::{BuildError, rule_refused};
 use wax_facts::{has_root, is_exhaustive, text};
 use wax_match::encode;
 use wax_match::encode::{CompileError, Meter};

@@ -11,12 +11,12 @@ ghost use Rattle.wax_wanted.specs.Ignored.{Line, is_ignored};
 ghost use Rattle.wax.specs.Ignoring.{HoldsLines, IsListOf, IsNoList, IsReadAs, IsUnread};
 ghost use Rattle.wax.specs.Ignoring.{refusal_number, refused_at};
 
-use crate::build_error::BuildError;
 use crate::pattern::Pattern;
 use std::alloc::Global;
 use thiserror::Error;
 use wax_candidate::CandidatePath;
 use wax_directory::directory::Directory;
+use wax_error::BuildError;
 use wax_ignore::{IgnoreLine, IgnoreRule, WrittenLine, collect_unignored, written_lines};
 use wax_query::diagnostics::NoMemory;
 use wax_tree::{PathExt, WalkBehavior};

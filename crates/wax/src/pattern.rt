@@ -4,11 +4,11 @@ ghost use Rattle.wax_token.specs.Reads.{Span};
 ghost use Rattle.wax_token.specs.Syntax.{Tree};
 ghost use Rattle.wax.specs.Patterns.{IsAnyOf, IsOnly, LacksMemory, NoSet, Refuses, RefusesOk};
 ghost use Rattle.wax.specs.Patterns.{SpellEach, Spells, SpellsOk};
-ghost use Rattle.wax.specs.declared.build_error.BuildError.{BuildError};
+ghost use Rattle.wax_error.specs.declared.build_error.BuildError.{BuildError};
 
-use crate::build_error::{BuildError, rule_refused};
 use crate::set::{Any, compiled};
 use std::alloc::Global;
+use wax_error::{BuildError, rule_refused};
 use wax_parse::parse::parse;
 use wax_query::diagnostics::{NoMemory, Refusal};
 use wax_rule::rule::{Checked, check};

@@ -15,7 +15,6 @@ ghost use Rattle.wax_token.specs.Decided.{means_test, means_tested};
 ghost use Rattle.wax.specs.AnyView.{IsAlternation, IsWhole, MeansText};
 ghost use Rattle.wax.specs.Patterns.{LacksMemory};
 
-use crate::build_error::BuildError;
 use crate::pattern::Pattern;
 use std::alloc::Global;
 use std::borrow::CowStr;
@@ -24,6 +23,7 @@ use std::marker::Model;
 use wax_candidate::{CandidatePath, MatchedText, Program};
 use wax_capture::Pieces;
 use wax_depth::depth;
+use wax_error::BuildError;
 use wax_facts::{has_root, is_exhaustive, text};
 use wax_match::encode;
 use wax_match::encode::{CompileError, Meter};

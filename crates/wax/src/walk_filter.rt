@@ -7,11 +7,11 @@ ghost use Rattle.wax_wanted.specs.Wanted.{not_ignored};
 ghost use Rattle.wax.specs.Exclusions.{IsNotRule, NoExclusion};
 ghost use Rattle.wax.specs.Ignoring.{HoldsLines};
 
-use crate::build_error::BuildError;
 use crate::exclusions::exclusion_of;
 use crate::ignoring::IgnoreList;
 use crate::pattern::Pattern;
 use std::alloc::Global;
+use wax_error::BuildError;
 use wax_leading::Exclusion;
 use wax_query::diagnostics::NoMemory;
 use wax_walk::{Entry, EntryResidue, Rule};

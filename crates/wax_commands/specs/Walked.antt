@@ -7,7 +7,7 @@ use Rattle.wax.specs.Exclusions.{FitsAlone, NoExclusion}
 use Rattle.wax.specs.GlobView.{GlobView}
 use Rattle.wax.specs.GlobWalks.{Beginning, trip_of, way_from}
 use Rattle.wax.specs.Patterns.{Refuses, Spells}
-use Rattle.wax.specs.declared.build_error.BuildError.{BuildError}
+use Rattle.wax_error.specs.declared.build_error.BuildError.{BuildError}
 use Rattle.wax_collect.specs.Trips.{KeepsWanted, Trip, trip_walk}
 use Rattle.wax_depth.specs.Depth.{Depth}
 use Rattle.wax_directory.specs.Law.{Law}

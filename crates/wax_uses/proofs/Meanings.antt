@@ -3,7 +3,7 @@ use Rattle.std.proofs.Common.{◌↔◌, ℕ, false, List, subst}
 use Rattle.std.specs.Prelude.{Result, Ok, Err, IfOk}
 use Rattle.wax.specs.Build.{IsGlob, MatchGlob}
 use Rattle.wax.specs.GlobView.{GlobView, IsMeant}
-use Rattle.wax.specs.declared.build_error.BuildError.{BuildError}
+use Rattle.wax_error.specs.declared.build_error.BuildError.{BuildError}
 use Rattle.wax_token.specs.Meaning.{HasNoSlash, Means}
 use Rattle.wax_wanted.proofs.Unslashed.{unslashed}
 use Rattle.wax_uses.specs.Names.{IsMeantBy, IsOneComponent}

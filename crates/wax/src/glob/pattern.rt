@@ -2,10 +2,10 @@
 ghost use Rattle.std.specs.Prelude.{◌≡◌};
 ghost use Rattle.wax.specs.Patterns.{LacksMemory};
 
-use crate::build_error::BuildError;
 use crate::glob::Glob;
 use crate::pattern::Pattern;
 use std::alloc::Global;
+use wax_error::BuildError;
 use wax_rule::rule::{Checked, already_checked};
 use wax_token::token::{ExpressionMetadata, Token};
 

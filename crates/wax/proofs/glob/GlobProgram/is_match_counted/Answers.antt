@@ -1,4 +1,4 @@
-use Rattle.std.proofs.Common.{◌≡◌, false, chars, IsTrue, length, sym, ap, subst, arith, rules}
+use Rattle.std.proofs.Common.{chars, IsTrue, length, sym, ap, subst, arith, rules}
 use Rattle.wax.specs.GlobView.{IsMeant}
 use Rattle.wax_prefilter.proofs.Lengths.{chars_short}
 use Rattle.wax.proofs.glob.GlobProgram.is_match_counted.Goals as goal

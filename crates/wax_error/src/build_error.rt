@@ -1,7 +1,7 @@
 //! Why a glob is not built.
 ghost use Rattle.std.specs.Prelude.{◌≡◌, IfOk, chars, string_bytes};
-ghost use Rattle.wax.specs.Build.{IsRuleRefusal};
-ghost use Rattle.wax.specs.Locations.{error_labels};
+ghost use Rattle.wax_error.specs.Refusals.{IsRuleRefusal};
+ghost use Rattle.wax_error.specs.Locations.{error_labels};
 ghost use Rattle.wax_picture.specs.Drawn.{picture as picture_of};
 ghost use Rattle.wax_query.specs.Labels.{AreLabels};
 
@@ -61,7 +61,7 @@ impl BuildError {
 
 impl From<Refusal<ParseError>> for BuildError {
     ghost use Rattle.std.specs.Prelude.{◌≡◌};
-    ghost use Rattle.wax.specs.Build.{parse_refusal};
+    ghost use Rattle.wax_error.specs.Refusals.{parse_refusal};
 
     ghost from_gives = { λ refusal error. error ≡ parse_refusal refusal };
 
@@ -75,7 +75,7 @@ impl From<Refusal<ParseError>> for BuildError {
 
 impl From<Refusal<CompileError>> for BuildError {
     ghost use Rattle.std.specs.Prelude.{◌≡◌};
-    ghost use Rattle.wax.specs.Build.{compile_refusal};
+    ghost use Rattle.wax_error.specs.Refusals.{compile_refusal};
 
     ghost from_gives = { λ refusal error. error ≡ compile_refusal refusal };
 
@@ -89,7 +89,7 @@ impl From<Refusal<CompileError>> for BuildError {
 
 impl From<NoMemory> for BuildError {
     ghost use Rattle.std.specs.Prelude.{◌≡◌};
-    ghost use Rattle.wax.specs.declared.build_error.BuildError.TheVariants.{Memory};
+    ghost use Rattle.wax_error.specs.declared.build_error.BuildError.TheVariants.{Memory};
 
     ghost from_gives = { λ _ error. error ≡ Memory };
 
@@ -99,7 +99,7 @@ impl From<NoMemory> for BuildError {
 }
 
 /// Why the rules refused, with a copy of the expression.
-pub(crate) fn rule_refused(alloc: Global, refusal: Refusal<RuleError<'_>>) -> BuildError
+pub fn rule_refused(alloc: Global, refusal: Refusal<RuleError<'_>>) -> BuildError
     ensures { IsRuleRefusal refusal.entry result }
 {
     match refusal {

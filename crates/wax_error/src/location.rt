@@ -1,6 +1,6 @@
 //! Where a build was refused.
 ghost use Rattle.std.specs.Prelude.{◌≡◌, ℕ, Some};
-ghost use Rattle.wax.specs.Locations.{location_of};
+ghost use Rattle.wax_error.specs.Locations.{location_of};
 
 use crate::build_error::BuildError;
 use std::fmt::{self, Display, Formatter};

@@ -1,8 +1,8 @@
 -- Where a build was refused.
 use Rattle.std.specs.Prelude.{List, [], ◌∷◌, Option, Some, None, codes}
 use Rattle.wax_query.specs.Labels.{Label, all_labels}
-use Rattle.wax.specs.declared.build_error.BuildError.{BuildError}
-use Rattle.wax.specs.declared.build_error.BuildError.TheVariants.{Parse, Rule, Compile, Memory}
+use Rattle.wax_error.specs.declared.build_error.BuildError.{BuildError}
+use Rattle.wax_error.specs.declared.build_error.BuildError.TheVariants.{Parse, Rule, Compile, Memory}
 
 -- what is printed of the place, and its span
 abbrev pub location_of : BuildError → Option Label

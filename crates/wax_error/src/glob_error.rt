@@ -17,7 +17,7 @@ pub enum GlobError {
 
 impl From<BuildError> for GlobError {
     ghost use Rattle.std.specs.Prelude.{◌≡◌};
-    ghost use Rattle.wax.specs.declared.glob_error.GlobError.TheVariants.{Build};
+    ghost use Rattle.wax_error.specs.declared.glob_error.GlobError.TheVariants.{Build};
 
     ghost from_gives = { λ refusal error. error ≡ Build refusal };
 
@@ -28,7 +28,7 @@ impl From<BuildError> for GlobError {
 
 impl From<WalkError> for GlobError {
     ghost use Rattle.std.specs.Prelude.{◌≡◌};
-    ghost use Rattle.wax.specs.declared.glob_error.GlobError.TheVariants.{Walk};
+    ghost use Rattle.wax_error.specs.declared.glob_error.GlobError.TheVariants.{Walk};
 
     ghost from_gives = { λ fault error. error ≡ Walk fault };
 
