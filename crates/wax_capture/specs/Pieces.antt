@@ -1,6 +1,6 @@
 -- What is known of the pieces of tokens: which texts they take, which of them is chosen, what is captured.
 use Rattle.std.specs.Prelude.{◌≡◌, ◌↔◌, ℕ, ◌+◌, ◌≤◌, Bool, true, false, ◌||◌, List, [], ◌∷◌}
-use Rattle.std.specs.Prelude.{drop, Some, slice_get}
+use Rattle.std.specs.Prelude.{drop, Some, slice_get, ⊤}
 use Rattle.wax_token.specs.Cost.{cost}
 use Rattle.wax_token.specs.Syntax.{Tree, Trees, none, more}
 use Rattle.wax_capture.specs.Captures.{MeansByWay, has_more, is_lazy, token_captures, tree_capture}
@@ -44,7 +44,7 @@ pub record IsPiece {A : Type 0} (t : Tree A) (before after : Bool) (p : Piece) :
 
 -- the pieces of tokens that stand one after another
 abbrev pub ArePieces : {A : Type 0} → Trees A → Bool → Bool → List Piece → Type 0
-ArePieces none before after [] = Unit {0}
+ArePieces none before after [] = ⊤
 ArePieces none before after (p ∷ ps) = ⊥
 ArePieces (more t ts) before after [] = ⊥
 ArePieces (more t ts) before after (p ∷ ps) =

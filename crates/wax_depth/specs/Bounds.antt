@@ -1,5 +1,5 @@
 -- What the depth of a tree says of the texts that it means.
-use Rattle.std.specs.Prelude.{◌≤◌, ◌<◌, List, None, Option, Some, ℕ, false}
+use Rattle.std.specs.Prelude.{◌≤◌, ◌<◌, List, None, Option, Some, ℕ, false, ⊤}
 use Rattle.wax_query.specs.Components.{Bare, component_total}
 use Rattle.wax_query.specs.Ranges.{AtMost, Bounds}
 use Rattle.wax_token.specs.Meaning.{Means}
@@ -14,7 +14,7 @@ pub record BoundsComponents {A : Type 0} (t : Tree A) (r : Bounds) : Type 0 wher
 
 -- the greatest number that fits into 64 bits bounds nothing
 abbrev pub AtMostSaturated : ℕ → Option ℕ → Type 0
-AtMostSaturated n None = Unit {0}
+AtMostSaturated n None = ⊤
 AtMostSaturated n (Some high) = (high < usize_max) → n ≤ high
 
 -- the same where a bound may be saturated

@@ -1,5 +1,5 @@
 -- What a directory answers.
-use Rattle.std.specs.Prelude.{◌≡◌, ℕ, map, take, Option, Some, None, Result, Ok, Err, Vec, string_bytes}
+use Rattle.std.specs.Prelude.{◌≡◌, ℕ, map, take, Option, Some, None, Result, Ok, Err, Vec, string_bytes, ⊤}
 use Rattle.std.specs.Option.{option_map}
 use Rattle.wax_query.specs.declared.diagnostics.NoMemory.{NoMemory}
 use Rattle.wax_directory.specs.declared.directory.FileType.{FileType}
@@ -18,7 +18,7 @@ listed_of I.NotText = no_name
 
 -- the answer to the question what stands there, unless memory was refused
 abbrev pub KindIs : Shown → Result (Option FileType) DirectoryFault → Type 0
-KindIs s (Err Memory) = Unit {0}
+KindIs s (Err Memory) = ⊤
 KindIs (a_leaf link) r = r ≡ Ok (Some (leaf_kind link))
 KindIs (a_folder l) r = r ≡ Ok (Some F.Folder)
 KindIs a_sealed r = r ≡ Ok (Some F.Folder)
@@ -28,7 +28,7 @@ KindIs failing r = r ≡ Err Failed
 -- the answer where this is opened, unless memory was refused: a folder's items are to come, and nothing else
 -- can be opened
 abbrev pub Opens : {C : Type 0} → (C → Items → Type 0) → Shown → Result C DirectoryFault → Type 0
-Opens holds s (Err Memory) = Unit {0}
+Opens holds s (Err Memory) = ⊤
 Opens holds (a_folder l) (Ok cursor) = holds cursor l
 Opens holds (a_folder l) (Err Failed) = ⊥
 Opens holds s r = r ≡ Err Failed
@@ -42,7 +42,7 @@ NextIs holds l (Err e) cursor = holds cursor l
 -- the answer where so many items of this are asked for, unless memory was refused: the first ones of a
 -- folder; and nothing else can be listed
 abbrev pub ListIs : {Z : Type 0} → ℕ → Shown → Result (Vec ListItem Z) DirectoryFault → Type 0
-ListIs most s (Err Memory) = Unit {0}
+ListIs most s (Err Memory) = ⊤
 ListIs most (a_folder l) (Ok answer) = map listed_of answer.items ≡ take most (listing l)
 ListIs most (a_folder l) (Err Failed) = ⊥
 ListIs most s r = r ≡ Err Failed

@@ -1,6 +1,6 @@
 -- What a directory shows: trees of files, links and folders, with faults at their places.
 use Rattle.std.specs.Prelude.{◌≡◌, ℕ, Bool, true, false, cond, List, [], ◌∷◌, ◌++◌, Option, Some, None}
-use Rattle.std.specs.Prelude.{nat_eq}
+use Rattle.std.specs.Prelude.{nat_eq, ⊤}
 use Rattle.std.specs.List.{Contains}
 use Rattle.std.specs.Str.{bytes_eq, IsUtf8}
 use Rattle.wax_directory.specs.declared.directory.FileType.{FileType}
@@ -44,7 +44,7 @@ join path name = cond (is_open path) (path ++ name) (path ++ 47 ∷ name)
 
 -- each thing that a folder holds is shown at its path
 abbrev pub ShowsIn : (List ℕ → Shown → Type 0) → List ℕ → Items → Type 0
-ShowsIn shows path end = Unit {0}
+ShowsIn shows path end = ⊤
 ShowsIn shows path (leaf x link rest) = IsPlain x × shows (join path x) (a_leaf link) × ShowsIn shows path
     rest
 ShowsIn shows path (folder x inner rest) = IsPlain x × shows (join path x) (a_folder inner) × ShowsIn shows
@@ -75,7 +75,7 @@ child_shown x failing = failing
 
 -- no entry of a folder stands under this name
 abbrev pub IsNew : List ℕ → Items → Type 0
-IsNew x end = Unit {0}
+IsNew x end = ⊤
 IsNew x (leaf y link rest) = ¬ (y ≡ x) × IsNew x rest
 IsNew x (folder y inner rest) = ¬ (y ≡ x) × IsNew x rest
 IsNew x (sealed y rest) = ¬ (y ≡ x) × IsNew x rest
@@ -85,7 +85,7 @@ IsNew x (not_text rest) = IsNew x rest
 
 -- the names in each folder are distinct
 abbrev pub AreDistinct : Items → Type 0
-AreDistinct end = Unit {0}
+AreDistinct end = ⊤
 AreDistinct (leaf x link rest) = IsNew x rest × AreDistinct rest
 AreDistinct (folder x inner rest) = IsNew x rest × AreDistinct inner × AreDistinct rest
 AreDistinct (sealed x rest) = IsNew x rest × AreDistinct rest
@@ -95,7 +95,7 @@ AreDistinct (not_text rest) = AreDistinct rest
 
 abbrev pub IsDistinct : Shown → Type 0
 IsDistinct (a_folder l) = AreDistinct l
-IsDistinct s = Unit {0}
+IsDistinct s = ⊤
 
 -- an item alone
 pub data Listed : Type 0 where

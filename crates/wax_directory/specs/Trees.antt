@@ -1,6 +1,6 @@
 -- A tree as a directory.
 use Rattle.std.specs.Prelude.{◌≡◌, ℕ, if◌then◌else◌, List, [], ◌∷◌, map, drop, Option, Some, None}
-use Rattle.std.specs.Prelude.{string_bytes, slice_get}
+use Rattle.std.specs.Prelude.{string_bytes, slice_get, ⊤}
 use Rattle.wax_directory.specs.declared.tree.Node.{Node}
 use Rattle.wax_directory.specs.declared.tree.TreeItem.{TreeItem}
 use Rattle.wax_directory.specs.declared.tree.Tree.{Tree}
@@ -37,7 +37,7 @@ HasItems working root cursor l = (items : List TreeItem) × (held_by working roo
 
 -- these cursors have these items, one for one
 abbrev pub HaveEach : Node → Node → List TreeCursor → List Items → Type 0
-HaveEach working root [] [] = Unit {0}
+HaveEach working root [] [] = ⊤
 HaveEach working root [] (l ∷ ls) = ⊥
 HaveEach working root (cursor ∷ cursors) [] = ⊥
 HaveEach working root (cursor ∷ cursors) (l ∷ ls) =

@@ -1,6 +1,6 @@
 -- The one text that a tree means, where there is only one by how it is written.
 use Rattle.std.specs.Prelude.{◌≡◌, ◌≢◌, ℕ, zero, suc, ◌==◌, ◌&&◌, Bool, true, false, IsTrue}
-use Rattle.std.specs.Prelude.{List, [], ◌∷◌, ◌++◌, Option, Some}
+use Rattle.std.specs.Prelude.{List, [], ◌∷◌, ◌++◌, Option, Some, ⊤}
 use Rattle.std.specs.List.{list_all}
 use Rattle.wax_token.specs.declared.token.Archetype.{Archetype}
 use Rattle.wax_token.specs.declared.token.Archetype.TheVariants.{Character, Range}
@@ -13,7 +13,7 @@ abbrev pub FoldsAlone : ℕ → Type 0
 FoldsAlone c = (d : ℕ) → SameFold c d → d ≡ c
 
 abbrev pub AllFoldAlone : List ℕ → Type 0
-AllFoldAlone [] = Unit {0}
+AllFoldAlone [] = ⊤
 AllFoldAlone (c ∷ t) = FoldsAlone c × AllFoldAlone t
 
 -- a literal, as its flag and its characters, that means more than one text

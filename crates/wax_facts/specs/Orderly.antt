@@ -1,5 +1,5 @@
 -- What the parser and the rules keep of a glob.
-use Rattle.std.specs.Prelude.{◌≡◌, Bool, true, false}
+use Rattle.std.specs.Prelude.{◌≡◌, Bool, true, false, ⊤}
 use Rattle.wax_token.specs.Syntax.{Leaf, literal, class, separator, one, zero_or_more, tree, Tree, leaf}
 use Rattle.wax_token.specs.Syntax.{alternation, concatenation, repetition, Trees, none, more}
 use Rattle.wax_token.specs.Reads.{IsLiteralText}
@@ -9,18 +9,18 @@ use Rattle.wax_rule.specs.Rules.{are_incompatible}
 
 abbrev pub IsSome : {A : Type 0} → Trees A → Type 0
 IsSome none = ⊥
-IsSome (more t ts) = Unit {0}
+IsSome (more t ts) = ⊤
 
 -- no alternation and no concatenation is without a token
 abbrev mutual
   pub Full : {A : Type 0} → Tree A → Type 0
-  Full (leaf a l) = Unit {0}
+  Full (leaf a l) = ⊤
   Full (alternation a ts) = IsSome ts × FullEach ts
   Full (concatenation a ts) = IsSome ts × FullEach ts
   Full (repetition a t low high) = Full t
 
   pub FullEach : {A : Type 0} → Trees A → Type 0
-  FullEach none = Unit {0}
+  FullEach none = ⊤
   FullEach (more t ts) = Full t × FullEach ts
 
 -- a token of a concatenation is no concatenation
@@ -32,27 +32,27 @@ is_token (repetition a t low high) = true
 
 abbrev mutual
   pub Flat : {A : Type 0} → Tree A → Type 0
-  Flat (leaf a l) = Unit {0}
+  Flat (leaf a l) = ⊤
   Flat (alternation a ts) = FlatSome ts
   Flat (concatenation a ts) = FlatEach ts
   Flat (repetition a t low high) = Flat t
 
   pub FlatSome : {A : Type 0} → Trees A → Type 0
-  FlatSome none = Unit {0}
+  FlatSome none = ⊤
   FlatSome (more t ts) = Flat t × FlatSome ts
 
   pub FlatEach : {A : Type 0} → Trees A → Type 0
-  FlatEach none = Unit {0}
+  FlatEach none = ⊤
   FlatEach (more t ts) = (is_token t ≡ true) × Flat t × FlatEach ts
 
 -- each literal has a text, and no `/` in it
 abbrev pub WordedLeaf : Leaf → Type 0
 WordedLeaf (literal insensitive t) = IsLiteralText t
-WordedLeaf (class negated xs) = Unit {0}
-WordedLeaf separator = Unit {0}
-WordedLeaf one = Unit {0}
-WordedLeaf (zero_or_more evaluation) = Unit {0}
-WordedLeaf (tree rooted) = Unit {0}
+WordedLeaf (class negated xs) = ⊤
+WordedLeaf separator = ⊤
+WordedLeaf one = ⊤
+WordedLeaf (zero_or_more evaluation) = ⊤
+WordedLeaf (tree rooted) = ⊤
 
 abbrev mutual
   pub Worded : {A : Type 0} → Tree A → Type 0
@@ -62,24 +62,24 @@ abbrev mutual
   Worded (repetition a t low high) = Worded t
 
   pub WordedEach : {A : Type 0} → Trees A → Type 0
-  WordedEach none = Unit {0}
+  WordedEach none = ⊤
   WordedEach (more t ts) = Worded t × WordedEach ts
 
 -- where a token of a concatenation ends in a boundary, the next one starts in none; and no repetition has
 -- bounds that the rules refuse
 abbrev mutual
   pub Apart : {A : Type 0} → Tree A → Type 0
-  Apart (leaf a l) = Unit {0}
+  Apart (leaf a l) = ⊤
   Apart (alternation a ts) = ApartSome ts
   Apart (concatenation a ts) = ApartEach ts
   Apart (repetition a t low high) = (are_incompatible low high ≡ false) × Apart t
 
   pub ApartSome : {A : Type 0} → Trees A → Type 0
-  ApartSome none = Unit {0}
+  ApartSome none = ⊤
   ApartSome (more t ts) = Apart t × ApartSome ts
 
   pub ApartEach : {A : Type 0} → Trees A → Type 0
-  ApartEach none = Unit {0}
+  ApartEach none = ⊤
   ApartEach (more t ts) =
       Apart t × (ends_in is_boundary_leaf t ≡ true → first_starts_in is_boundary_leaf ts ≡ false)
       × ApartEach ts

@@ -1,5 +1,5 @@
 -- What becomes of an item that is kept or left out.
-use Rattle.std.specs.Prelude.{◌≡◌, Option, Some, None}
+use Rattle.std.specs.Prelude.{◌≡◌, Option, Some, None, ⊤}
 use denote.Ref.{Bor}
 use Rattle.wax_filter.specs.declared.filter.product.Product.{Product}
 use Rattle.wax_filter.specs.declared.filter.product.kind.ResidueKind.{ResidueKind}
@@ -20,11 +20,11 @@ filtrate_of (Residue x) = None
 -- the fact holds of the item, if it is kept
 abbrev pub AtFiltrate : {S F R : Type 0} → (F → Type 0) → Separation S F R → Type 0
 AtFiltrate p (Filtrate x) = p x.inner
-AtFiltrate p (Residue x) = Unit {0}
+AtFiltrate p (Residue x) = ⊤
 
 -- the fact holds of the item, if it is left out
 abbrev pub AtResidue : {S F R : Type 0} → (R → Type 0) → Separation S F R → Type 0
-AtResidue p (Filtrate x) = Unit {0}
+AtResidue p (Filtrate x) = ⊤
 AtResidue p (Residue x) = p x.inner
 
 -- an item that is kept becomes one of these and is left out, any other stays

@@ -1,13 +1,10 @@
 -- Names as bytes and as characters.
 use Rattle.std.proofs.Common.{◌≡◌, ◌+◌, ℕ, suc, Bool, true, false, List, [], ◌∷◌, ◌++◌, map, length, get_or, refl, sym, ap, subst, ◌∙◌, arith, length-append, chars, encode_utf8_all}
-use Rattle.std.specs.List.{Contains}
 use Rattle.std.specs.Str.{IsUtf8}
 use Rattle.std.proofs.Math.Seq.{take-append_seam}
-use Rattle.std.proofs.lemmas.Str.{chars-append, encodes-chars, encodes-append, chars-nil, chars-encodes, IsUtf8-append, IsUtf8-nil, IsUtf8-take, IsCharBoundary-before_ascii}
-use Rattle.std.proofs.lemmas.List.Elements.{Contains-append_right}
-use Rattle.wax_token.specs.Meaning.{HasNoSlash}
+use Rattle.std.proofs.lemmas.Str.{chars-append, encodes-chars, encodes-append, chars-nil, IsUtf8-append, IsUtf8-nil, IsUtf8-take, IsCharBoundary-before_ascii}
 use Rattle.wax_tree.specs.Prefix.{ArePlain}
-use Rattle.wax_wanted.specs.Candidates.{AreNames, slashed, text_at}
+use Rattle.wax_wanted.specs.Candidates.{slashed, text_at}
 use Rattle.wax_wanted.proofs.Names.{chars_joined, chars_slash}
 use Rattle.wax_leading.specs.Prefix.{HasEmptyName}
 

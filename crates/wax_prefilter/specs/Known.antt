@@ -1,5 +1,5 @@
 -- What is known of all meant texts.
-use Rattle.std.specs.Prelude.{◌≡◌, ◌≤◌, ℕ, Bool, false, List, length}
+use Rattle.std.specs.Prelude.{◌≡◌, ◌≤◌, ℕ, Bool, false, List, length, ⊤}
 use Rattle.wax_token.specs.Meaning.{MeansEach}
 use Rattle.wax_token.specs.Syntax.{Trees}
 use Rattle.wax_prefilter.specs.Facts.{NeedleView, FactView, PrefilterView, StandsAt, HoldsOne, HoldsEach}
@@ -10,8 +10,8 @@ use Rattle.wax_prefilter.specs.declared.needle.Place.TheVariants.{Beginning, End
 -- of beginnings something is known only where nothing is written before
 abbrev pub CanBeAfter : Place → Bool → Type 0
 CanBeAfter Beginning before = before ≡ false
-CanBeAfter End before = Unit {0}
-CanBeAfter Anywhere before = Unit {0}
+CanBeAfter End before = ⊤
+CanBeAfter Anywhere before = ⊤
 
 -- these characters stand there in each text that is meant so
 abbrev pub AllStand : Place → NeedleView → (Bool → Bool → List ℕ → Type 0) → Type 0

@@ -1,6 +1,6 @@
 -- Which texts a program accepts.
 use Rattle.std.specs.Prelude.{◌≡◌, ◌≢◌, ℕ, zero, suc, ◌+◌, ◌-◌, true, ◌⊎◌, List, [], ◌∷◌, length, Some}
-use Rattle.std.specs.Prelude.{slice_get}
+use Rattle.std.specs.Prelude.{slice_get, ⊤}
 use Rattle.wax_program.specs.declared.instruction.Test.{Test}
 use Rattle.wax_program.specs.declared.instruction.Test.TheVariants.{Char, Folded, Class, NotSlash, Any, Never}
 use Rattle.unicode.specs.CaseFolding.{simple_fold}
@@ -15,7 +15,7 @@ PassesTest (Char d) c = c ≡ d
 PassesTest (Folded d) c = d ≡ simple_fold c
 PassesTest (Class k) c = in_class k.0 k.1 c ≡ true
 PassesTest NotSlash c = c ≢ 47
-PassesTest Any c = Unit {0}
+PassesTest Any c = ⊤
 PassesTest Never c = ⊥
 
 -- one instruction at pc, where `Then` says what is accepted from a place on

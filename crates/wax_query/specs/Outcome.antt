@@ -1,5 +1,5 @@
 -- What the outcome of a build says.
-use Rattle.std.specs.Prelude.{Result, Ok, Err}
+use Rattle.std.specs.Prelude.{Result, Ok, Err, ⊤}
 use Rattle.wax_query.specs.declared.diagnostics.Refusal.{Refusal}
 use Rattle.wax_query.specs.declared.diagnostics.Refusal.TheVariants.{Refused, Memory}
 
@@ -7,4 +7,4 @@ use Rattle.wax_query.specs.declared.diagnostics.Refusal.TheVariants.{Refused, Me
 abbrev pub MatchBuild : {T E : Type 0} → Result T (Refusal E) → (T → Type 0) → (E → Type 0) → Type 0
 MatchBuild (Ok t) Accepted Reason = Accepted t
 MatchBuild (Err (Refused e)) Accepted Reason = Reason e
-MatchBuild (Err Memory) Accepted Reason = Unit {0}
+MatchBuild (Err Memory) Accepted Reason = ⊤

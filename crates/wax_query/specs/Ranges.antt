@@ -1,7 +1,7 @@
 -- Ranges of whole numbers, by a lower bound and an upper one that may be open.
 use Rattle.std.specs.Prelude.{ℕ, ◌+◌, ◌*◌, ◌^◌, ◌<◌, ◌≤◌, ◌==◌, ◌⊎◌, ◌&&◌, Bool, false, max, min}
 use Rattle.std.specs.Prelude.{Option, Some, None, IfSome, MatchOption, SomeIff, if◌then◌else◌}
-use Rattle.std.specs.Prelude.{is_none, option_map, option_and_then}
+use Rattle.std.specs.Prelude.{is_none, option_map, option_and_then, ⊤}
 use Rattle.std.specs.Option.{option_map_or}
 use Rattle.std.specs.declared.num.NonZeroUsize.{NonZeroUsize}
 use Rattle.std.specs.Int.NonZero.{non_zero_usize_get}
@@ -16,7 +16,7 @@ abbrev pub Bounds : Type 0
 Bounds = ℕ × Option ℕ
 
 abbrev pub AtMost : ℕ → Option ℕ → Type 0
-AtMost n None = Unit {0}
+AtMost n None = ⊤
 AtMost n (Some high) = n ≤ high
 
 -- the number is between the bounds

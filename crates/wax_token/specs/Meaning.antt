@@ -1,6 +1,6 @@
 -- Which texts a token tree means. `before` and `after` say whether something is written around it.
 use Rattle.std.specs.Prelude.{◌≡◌, ◌≢◌, ℕ, zero, suc, ◌≤◌, Bool, true, false, ◌⊎◌, List, [], ◌∷◌, ◌++◌}
-use Rattle.std.specs.Prelude.{Option, Some, None, not, ◌&&◌, ◌==◌, nat_le, if◌then◌else◌}
+use Rattle.std.specs.Prelude.{not, ◌&&◌, ◌==◌, nat_le, if◌then◌else◌, ⊤}
 use Rattle.std.specs.List.{list_any, list_all}
 use Rattle.unicode.specs.CaseFolding.{simple_fold}
 use Rattle.wax_token.specs.declared.token.Archetype.{Archetype}
@@ -11,12 +11,12 @@ use Rattle.wax_token.specs.Syntax.{Leaf, literal, class, separator, one, zero_or
 use Rattle.wax_token.specs.Syntax.{alternation, concatenation, repetition, Trees, none, more}
 
 abbrev pub HasNoSlash : List ℕ → Type 0
-HasNoSlash [] = Unit {0}
+HasNoSlash [] = ⊤
 HasNoSlash (c ∷ s) = (c ≢ 47) × HasNoSlash s
 
 -- a tree wildcard: whether something is before it, whether something is after it, whether it is rooted
 abbrev pub TreeMeans : Bool → Bool → Bool → List ℕ → Type 0
-TreeMeans false false false s = Unit {0}
+TreeMeans false false false s = ⊤
 TreeMeans false false true s = BeginsWithSlash s
 TreeMeans false true false s = (s ≡ []) ⊎ EndsWithSlash s
 TreeMeans false true true s = BeginsWithSlash s × EndsWithSlash s
@@ -45,7 +45,7 @@ SameFold c d = simple_fold c ≡ simple_fold d
 
 -- the same characters, or with the flag characters of the same folding
 abbrev pub SameText : Bool → List ℕ → List ℕ → Type 0
-SameText insensitive [] [] = Unit {0}
+SameText insensitive [] [] = ⊤
 SameText insensitive [] (d ∷ s) = ⊥
 SameText insensitive (c ∷ t) [] = ⊥
 SameText false (c ∷ t) (d ∷ s) = (c ≡ d) × SameText false t s

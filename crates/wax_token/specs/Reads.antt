@@ -1,7 +1,7 @@
 -- Which expressions spell which token trees. A place is what is still to come, so a span is a difference of
 -- lengths.
 use Rattle.std.specs.Prelude.{◌≡◌, ◌≢◌, ℕ, ◌+◌, ◌*◌, ◌-◌, ◌^◌, ◌<◌, ◌≤◌, max, Bool, true, false, ◌⊎◌, List}
-use Rattle.std.specs.Prelude.{[], ◌∷◌, ◌++◌, Option, Some, None, codes, ◌==◌, if◌then◌else◌}
+use Rattle.std.specs.Prelude.{[], ◌∷◌, ◌++◌, Option, Some, None, codes, ◌==◌, if◌then◌else◌, ⊤}
 use Rattle.std.specs.List.{list_any, list_all}
 use Rattle.std.specs.Char.{len_utf8, is_ascii_digit}
 use Rattle.wax_token.specs.declared.token.Archetype.{Archetype}
@@ -58,7 +58,7 @@ IsLiteralText t = (t ≢ []) × (list_any (is_one_of (47 ∷ 92 ∷ [])) t ≡ f
 
 -- nothing that a literal could go on with: no plain character, and no backslash
 abbrev pub NoLiteralFollows : List ℕ → Type 0
-NoLiteralFollows [] = Unit {0}
+NoLiteralFollows [] = ⊤
 NoLiteralFollows (c ∷ cs) = is_one_of (47 ∷ escapable) c ≡ true
 
 -- flag groups: `i` for true and `-i` for false
@@ -92,7 +92,7 @@ IsPlainArchetype (Character c) = c ≡ 92 → ⊥
 IsPlainArchetype (Range c d) = (c ≡ 92 → ⊥) × (d ≡ 92 → ⊥)
 
 abbrev pub AllPlain : List Archetype → Type 0
-AllPlain [] = Unit {0}
+AllPlain [] = ⊤
 AllPlain (a ∷ xs) = IsPlainArchetype a × AllPlain xs
 
 abbrev pub class_text : Bool → List Archetype → List ℕ

@@ -1,5 +1,5 @@
 -- The depths that a walk gives.
-use Rattle.std.specs.Prelude.{◌≡◌, ◌<◌, ◌≤◌, ◌⊎◌, ℕ, ◌+◌, ◌-◌, ◌^◌, min, Option, Some, None}
+use Rattle.std.specs.Prelude.{◌≡◌, ◌<◌, ◌≤◌, ◌⊎◌, ℕ, ◌+◌, ◌-◌, ◌^◌, min, Option, Some, None, ⊤}
 use Rattle.std.specs.Int.NonZero.{non_zero_usize_get}
 use Rattle.wax_tree.specs.declared.behavior.WalkBehavior.{WalkBehavior}
 use Rattle.wax_tree.specs.declared.behavior.LinkBehavior.TheVariants.{ReadFile}
@@ -26,7 +26,7 @@ greatest (MinMax d) = Some (min (non_zero_usize_get d.min + d.extent) (2 ^ 64 - 
 
 -- from the least to the greatest depth, either of which may be missing, there are no bounds
 abbrev pub IsUnbounded : Option ℕ → Option ℕ → Type 0
-IsUnbounded None None = Unit {0}
+IsUnbounded None None = ⊤
 IsUnbounded (Some p) None = p ≡ 0
 IsUnbounded None (Some q) = ⊥
 IsUnbounded (Some p) (Some q) = (p ≡ 0) ⊎ (q < p)

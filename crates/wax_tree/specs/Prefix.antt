@@ -1,5 +1,5 @@
 -- The walk to a place below the start, and from there on.
-use Rattle.std.specs.Prelude.{ℕ, ◌+◌, List, [], ◌∷◌, ◌++◌, String, string_bytes}
+use Rattle.std.specs.Prelude.{ℕ, ◌+◌, List, [], ◌∷◌, ◌++◌, String, string_bytes, ⊤}
 use Rattle.std.specs.declared.alloc.Global.{Global}
 use Rattle.wax_directory.specs.Shown.{Shown, a_leaf, a_folder, a_sealed, missing, failing, IsPlain, join}
 use Rattle.wax_directory.specs.Shown.{child_in}
@@ -10,7 +10,7 @@ use Rattle.wax_tree.specs.Plain.{Scope, Spot, item_spot, one_deeper, plain_at}
 
 -- names that paths can hold
 abbrev pub ArePlain : List (List ℕ) → Type 0
-ArePlain [] = Unit {0}
+ArePlain [] = ⊤
 ArePlain (x ∷ names) = IsPlain x × ArePlain names
 
 -- names of which the first stands last

@@ -1,6 +1,6 @@
 -- What a step of a walk does.
 use Rattle.std.specs.Prelude.{◌≡◌, ℕ, ◌+◌, ◌*◌, ◌<◌, ◌≤◌, true, cond, length, Option, Some, None}
-use Rattle.std.specs.Prelude.{string_bytes}
+use Rattle.std.specs.Prelude.{string_bytes, ⊤}
 use Rattle.std.specs.List.{Contains}
 use Rattle.wax_directory.specs.Counting.{no_counts}
 use Rattle.wax_directory.specs.declared.tally.Tally.{Tally}
@@ -74,13 +74,13 @@ module _ {D C : Type 0} where
   abbrev pub Saves : Steps D C → Step → Steps D C → Type 0
   Saves old (Gives x) new = items_left new < items_left old
   Saves old GoesOn new = (items_left new ≤ items_left old) × (steps_left new ≤ steps_left old)
-  Saves old Ends new = Unit {0}
+  Saves old Ends new = ⊤
 
   -- a step that gives an item leaves fewer items, and one that gives none leaves fewer steps
   abbrev pub Spends : Steps D C → Step → Steps D C → Type 0
   Spends old (Gives x) new = items_left new < items_left old
   Spends old GoesOn new = (items_left new ≤ items_left old) × (steps_left new < steps_left old)
-  Spends old Ends new = Unit {0}
+  Spends old Ends new = ⊤
 
 -- what is to come of a folder and of what is at rest behind it
 abbrev pub listing_pending : Scope → Spot → Items → Rest → ℕ → Pending Given

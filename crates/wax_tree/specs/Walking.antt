@@ -1,6 +1,6 @@
 -- What a walk's state says of what is to come.
 use Rattle.std.specs.Prelude.{◌≡◌, ℕ, ◌+◌, ◌-◌, ◌^◌, ◌≤◌, true, false, cond, length, map, List, []}
-use Rattle.std.specs.Prelude.{◌∷◌, ◌++◌, Option, Some, None, Result, string_bytes, ◌⊎◌}
+use Rattle.std.specs.Prelude.{◌∷◌, ◌++◌, Option, Some, None, Result, string_bytes, ◌⊎◌, ⊤}
 use Rattle.std.specs.List.{Contains}
 use Rattle.wax_directory.specs.declared.directory.FileType.{FileType}
 use Rattle.wax_directory.specs.declared.directory.FileType.TheVariants as F
@@ -61,13 +61,13 @@ entered_forest scope at s = unlisted scope at.path (at.depth - 1)
 
 -- at the start no folder was entered
 abbrev pub IsAlone : {C : Type 0} → Option Place → Option Folder → List (Level C) → Type 0
-IsAlone None e levels = Unit {0}
+IsAlone None e levels = ⊤
 IsAlone (Some place) e levels = (e ≡ None) × (levels ≡ [])
 
 -- it is a folder, that can be listed or not
 abbrev pub IsFolder : Shown → Type 0
-IsFolder (a_folder l) = Unit {0}
-IsFolder a_sealed = Unit {0}
+IsFolder (a_folder l) = ⊤
+IsFolder a_sealed = ⊤
 IsFolder s = ⊥
 
 -- it is of this kind
@@ -82,7 +82,7 @@ cursors_of levels = map (λ level. level.cursor) levels
 
 -- the folders of these levels were listed
 abbrev pub WereListed : {C : Type 0} → List (Level C) → List (List ℕ) → Type 0
-WereListed [] listed = Unit {0}
+WereListed [] listed = ⊤
 WereListed (level ∷ inner) listed =
     Contains listed (string_bytes level.folder.path) × WereListed inner listed
 

@@ -1,5 +1,5 @@
 -- A closure whose answer depends on the entry alone.
-use Rattle.std.specs.Prelude.{◌≡◌, List, [], ◌∷◌, Option}
+use Rattle.std.specs.Prelude.{◌≡◌, List, [], ◌∷◌, Option, ⊤}
 use denote.Ref.{Bor}
 use Rattle.wax_walk.specs.declared.entry.TreeEntry.{TreeEntry}
 use Rattle.wax_walk.specs.declared.iterator.EntryResidue.{EntryResidue}
@@ -20,7 +20,7 @@ module _ {F : Type 0} (step : F → Bor TreeEntry → Option EntryResidue → F 
   Runs f (call ∷ calls) t = (u : F) × step f call.0 call.1 u × Runs u calls t
 
   abbrev pub Agrees : (Facts → Mark) → List Call → Type 0
-  Agrees rule [] = Unit {0}
+  Agrees rule [] = ⊤
   Agrees rule (call ∷ calls) = (mark_of call.1 ≡ rule (facts_of call.0.now)) × Agrees rule calls
 
   -- each answer, in whatever calls, is what the rule says of the entry

@@ -1,5 +1,5 @@
 -- What contracts see of a walk, and what a call of `feed` and cancelling change of it.
-use Rattle.std.specs.Prelude.{◌≡◌, ℕ, ◌+◌, ◌<◌, ◌≤◌, ◌^◌, ◌-◌, min, List, Option, Some, None}
+use Rattle.std.specs.Prelude.{◌≡◌, ℕ, ◌+◌, ◌<◌, ◌≤◌, ◌^◌, ◌-◌, min, List, Option, Some, None, ⊤}
 use Rattle.wax_directory.specs.Counting.{no_counts, grown}
 use Rattle.wax_directory.specs.Law.{Law}
 use Rattle.wax_directory.specs.declared.tally.Tally.{Tally}
@@ -30,15 +30,15 @@ fault_counts r = no_counts
 
 -- the walk has ended with this item
 abbrev pub IsLast : Option Given → Type 0
-IsLast (Some no_memory) = Unit {0}
-IsLast (Some (fault NotFound path depth)) = Unit {0}
-IsLast (Some (fault NotAFolder path depth)) = Unit {0}
-IsLast (Some (fault Budget path depth)) = Unit {0}
+IsLast (Some no_memory) = ⊤
+IsLast (Some (fault NotFound path depth)) = ⊤
+IsLast (Some (fault NotAFolder path depth)) = ⊤
+IsLast (Some (fault Budget path depth)) = ⊤
 IsLast r = ⊥
 
 -- a file or a link stands where a folder should be
 abbrev pub IsMisplaced : Option Given → Type 0
-IsMisplaced (Some (fault NotAFolder path depth)) = Unit {0}
+IsMisplaced (Some (fault NotAFolder path depth)) = ⊤
 IsMisplaced r = ⊥
 
 -- n items were taken of those that were allowed and so many are left: all the others, as long as the walk

@@ -1,6 +1,6 @@
 -- What a look-up in a tree answers.
 use Rattle.std.specs.Prelude.{◌≡◌, ℕ, Bool, false, List, Option, Some, None, Result, Ok, Err, Vec}
-use Rattle.std.specs.Prelude.{string_bytes, slice_get}
+use Rattle.std.specs.Prelude.{string_bytes, slice_get, ⊤}
 use Rattle.std.specs.Str.{bytes_eq}
 use Rattle.wax_directory.specs.declared.directory.DirectoryFault.{DirectoryFault}
 use Rattle.wax_directory.specs.declared.directory.DirectoryFault.TheVariants.{Failed, Memory}
@@ -38,4 +38,4 @@ abbrev pub Locates : {Z : Type 0} → Reached → Node → Result (Option (Vec �
 Locates r n (Ok (Some places)) = (m : Node) × (node_at places.items n ≡ Some m) × (r ≡ to_node m)
 Locates r n (Ok None) = r ≡ to_nothing
 Locates r n (Err Failed) = r ≡ to_sealed
-Locates r n (Err Memory) = Unit {0}
+Locates r n (Err Memory) = ⊤

@@ -1,10 +1,10 @@
 -- Lists whose first token is that of the opened list.
-use Rattle.std.specs.Prelude.{◌≡◌}
+use Rattle.std.specs.Prelude.{◌≡◌, ⊤}
 use Rattle.wax_token.specs.Syntax.{Trees, none, more}
 use Rattle.wax_facts.specs.Prefix.{opened}
 
 -- where one token is left, it doesn't stand open
 abbrev pub IsOpened : {A : Type 0} → Trees A → Type 0
-IsOpened none = Unit {0}
+IsOpened none = ⊤
 IsOpened (more t none) = opened t ≡ more t none
-IsOpened (more t (more u us)) = Unit {0}
+IsOpened (more t (more u us)) = ⊤

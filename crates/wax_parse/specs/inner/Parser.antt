@@ -1,7 +1,7 @@
 -- How the parser reads: what its private functions answer. No part of the language's definition.
 use Rattle.std.specs.Char.{is_ascii_digit}
 use Rattle.std.specs.Prelude.{chars, ltb, ◌+◌, ◌*◌, ◌-◌, ◌^◌, ℕ, zero, suc, Bool, true, false, List, [], ◌∷◌}
-use Rattle.std.specs.Prelude.{◌++◌, length, Option, Some, None, codes, ◌==◌, ◌≡◌, not, if◌then◌else◌}
+use Rattle.std.specs.Prelude.{◌++◌, length, Option, Some, None, codes, ◌==◌, ◌≡◌, not, if◌then◌else◌, ⊤}
 use Rattle.std.specs.List.{list_all}
 use Rattle.wax_token.specs.declared.token.Archetype.{Archetype}
 use Rattle.wax_token.specs.declared.token.Archetype.TheVariants.{Character, Range}
@@ -45,7 +45,7 @@ is_plain_text t = list_all is_plain_character t
 
 -- the end, or a character that isn't plain
 abbrev pub StopsPlain : List ℕ → Type 0
-StopsPlain [] = Unit {0}
+StopsPlain [] = ⊤
 StopsPlain (c ∷ s) = is_plain_character c ≡ false
 
 abbrev pub put : {A B : Type 0} → A → List A × B → List A × B

@@ -1,5 +1,5 @@
 -- Instructions that read one component.
-use Rattle.std.specs.Prelude.{◌≡◌, ◌+◌, ◌≤◌, ℕ, List, Some, slice_get}
+use Rattle.std.specs.Prelude.{◌≡◌, ◌+◌, ◌≤◌, ℕ, List, Some, slice_get, ⊤}
 use Rattle.wax_program.specs.declared.instruction.Instruction.{Instruction}
 use Rattle.wax_program.specs.declared.instruction.Instruction.TheVariants.{Check, Repeat, Components, Fork}
 use Rattle.wax_program.specs.declared.instruction.Instruction.TheVariants.{Jump, Back}
@@ -10,8 +10,8 @@ abbrev pub StaysInName : Instruction → ℕ → Type 0
 StaysInName (Check t) k = PassesTest t 47 → ⊥
 StaysInName (Repeat t) k = PassesTest t 47 → ⊥
 StaysInName Components k = ⊥
-StaysInName (Fork n) k = Unit {0}
-StaysInName (Jump n) k = Unit {0}
+StaysInName (Fork n) k = ⊤
+StaysInName (Jump n) k = ⊤
 StaysInName (Back n) k = n + 2 ≤ k
 
 -- so do all from the place 2 on and before another

@@ -1,5 +1,6 @@
 -- Sets of places that most characters leave as they are.
 use Rattle.std.specs.Prelude.{◌≡◌, ◌≢◌, ◌<◌, ◌⊎◌, ◌↔◌, ℕ, Bool, List, Option, Some, IsTrue, length, slice_get}
+use Rattle.std.specs.Prelude.{⊤}
 use Rattle.wax_program.specs.declared.instruction.Test.{Test}
 use Rattle.wax_program.specs.declared.instruction.Test.TheVariants.{Char, NotSlash, Any}
 use Rattle.wax_program.specs.declared.instruction.Instruction.{Instruction}
@@ -36,13 +37,13 @@ abbrev pub Alike : Instruction → ℕ → ℕ → Type 0
 Alike (Check t) c d = PassesTest t c ↔ PassesTest t d
 Alike (Repeat t) c d = PassesTest t c ↔ PassesTest t d
 Alike Components c d = (c ≡ 47) ↔ (d ≡ 47)
-Alike (Fork n) c d = Unit {0}
-Alike (Jump n) c d = Unit {0}
-Alike (Back n) c d = Unit {0}
+Alike (Fork n) c d = ⊤
+Alike (Jump n) c d = ⊤
+Alike (Back n) c d = ⊤
 
 -- the watched check doesn't take the character
 abbrev pub Lets : List Instruction → Watch → ℕ → Type 0
-Lets code Nothing d = Unit {0}
+Lets code Nothing d = ⊤
 Lets code (Place k) d = Misses code k d
 Lets code Lost d = ⊥
 
