@@ -2,6 +2,7 @@ pub mod GlobWalks
 pub mod Globs
 pub mod GoingAlong
 pub mod IgnoreLines
+pub mod Kept
 pub mod Parts
 pub mod Patterns
 pub mod Sets

@@ -1,8 +1,10 @@
 -- The walk of a glob.
-use Rattle.std.specs.Prelude.{◌≡◌, ℕ, ◌+◌, ◌<◌, ◌≤◌, Bool, true, false, List, [], ◌∷◌, length, min}
+use Rattle.std.specs.Prelude.{◌≡◌, ℕ, ◌+◌, ◌*◌, ◌<◌, ◌≤◌, Bool, true, false, List, [], ◌∷◌, length, min}
 use Rattle.std.specs.Prelude.{Option, Some, None}
+use Rattle.std.specs.List.{Contains}
 use Rattle.wax_collect.specs.Trips.{Trip}
 use Rattle.wax_depth.specs.Depth.{Depth}
+use Rattle.wax_directory.specs.Counting.{grown}
 use Rattle.wax_directory.specs.Law.{Law}
 use Rattle.wax_directory.specs.Shown.{Shown}
 use Rattle.wax_facts.specs.Prefix.{Prefix}
@@ -14,8 +16,11 @@ use Rattle.wax_tree.specs.Begins.{Way}
 use Rattle.wax_tree.specs.declared.steps.Range.{Range}
 use Rattle.wax_tree.specs.Plain.{count_shown}
 use Rattle.wax_tree.specs.Prefix.{ArePlain}
+use Rattle.wax_walk.specs.Collected.{all_fault_counts}
+use Rattle.wax_walk.specs.declared.error.FaultKind.TheVariants.{Budget}
 use Rattle.wax_walk.specs.Forest.{pending, nothing}
-use Rattle.wax_walk.specs.View.{WalkView}
+use Rattle.wax_walk.specs.Given.{Given, fault, no_memory}
+use Rattle.wax_walk.specs.View.{CountsFaults, WalkView}
 use Rattle.wax_wanted.specs.Leading.{leading_of}
 use Rattle.wax_wanted.specs.Premises.{CanWalk}
 use Rattle.wax_wanted.specs.Walked.{glob_walk}
@@ -86,3 +91,21 @@ trip_of {t} start asked depth b filters = record {
   walked = within asked depth;
   way = way_from start b.rooted b.names;
 }
+
+-- Whatever the directory shows: a walk over it gave these items, no more than twice its budget and 3. Each
+-- fault among them was counted, and at most budget + 1 items were taken from listings: all of these, where an
+-- item tells that the budget is reached.
+pub record GaveWithin {D C : Type 0} (law : Law D C) (d : D) (budget : ℕ) (new : D) (xs : List Given) :
+    Type 0 where
+  pub few : length xs ≤ 2 * budget + 3
+  pub counts : CountsFaults (all_fault_counts xs) (law.tally d) (law.tally new)
+  pub taken : ℕ
+  pub counted : (law.tally new).items ≡ grown taken (law.tally d).items
+  pub within : taken ≤ budget + 1
+  pub spent : (path : List ℕ) (depth : ℕ) → Contains xs (fault Budget path depth) → taken ≡ budget + 1
+
+-- nothing was kept, and no folder was listed; or it was only told that memory was refused
+pub data KeepsNothing (tells : List (List ℕ) → Type 0) (listed : List (List ℕ)) (ys : List Given) : Type 0
+  where
+    none_kept : ys ≡ [] → tells listed → KeepsNothing tells listed ys
+    memory_alone : ys ≡ no_memory ∷ [] → KeepsNothing tells listed ys

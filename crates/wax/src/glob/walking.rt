@@ -173,20 +173,23 @@ fn walk_in<'g, 't, D: Directory>(
 }
 
 impl<'t> Glob<'t> {
-    ghost use Rattle.std.specs.Prelude.{All};
+    ghost use Rattle.std.specs.Prelude.{All, filter};
     ghost use Rattle.wax_collect.specs.Trips.{AreRulesOf, KeepsWanted};
     ghost use Rattle.wax_directory.specs.Shown.{Shown};
     ghost use Rattle.wax_token.specs.Reads.{Span};
     ghost use Rattle.wax_tree.specs.Prefix.{ArePlain};
     ghost use Rattle.wax_walk.specs.Entries.{given_outcome};
+    ghost use Rattle.wax_walk.specs.Given.{Given, is_kept};
     ghost use Rattle.wax_walk.specs.Known.{KnownOutcome};
     ghost use Rattle.wax_wanted.specs.Wanted.{Filter};
-    ghost use Rattle.wax.specs.GlobWalks.{Beginning, trip_of};
+    ghost use Rattle.wax.specs.GlobWalks.{Beginning, GaveWithin, KeepsNothing, trip_of};
 
     /// The items that are kept of the walk of the glob less what these rules leave out, in order, errors
     /// among them, and the directory. Where the rules are those of patterns and of ignore lists, in whatever
     /// order, the entries are those of the whole walk, in range, that the glob means, that no pattern means
     /// and that no list ignores. What was captured of each is what the glob captures of its candidate. Where
+    /// two `/` stand side by side in the prefix, nothing is kept and nothing listed. Whatever the directory
+    /// shows, no more items are taken and given than the budget allows, and it counted each error. Where
     /// memory is refused for the list itself, nothing is answered.
     pub fn collect_less<D, R>(
         &self,
@@ -199,6 +202,15 @@ impl<'t> Glob<'t> {
     where
         D: Directory,
         R: Rule,
+        ensures took { IfOk result (λ r. (xs : List Given)
+            × GaveWithin D.law directory behavior.budget r.1 xs
+            × (map (given_outcome ⟦<GlobEntry as Entry>⟧.facts ⟦<TreeEntry as Entry>⟧.facts) r.0.items
+            ≡ filter is_kept xs)) }
+        ensures unmeant { IfOk result (λ r. (taken : ℕ) (prefix : List ℕ) (path : List ℕ) (s : Shown)
+            (listed : List (List ℕ)) → Prefix self.now.tree taken prefix → HasEmptyName prefix
+            → D.law.shows directory path s → D.law.tells directory listed
+            → KeepsNothing (D.law.tells r.1) listed
+            (map (given_outcome ⟦<GlobEntry as Entry>⟧.facts ⟦<TreeEntry as Entry>⟧.facts) r.0.items)) }
         ensures matched { IfOk result
             (λ r. All (KnownOutcome (IsMatchedEntry (IsMeant self.now) (HasCaptures self.now))) r.0.items) }
         ensures wanted { IfOk result (λ r. (depth : Bounds) × Depth self.now.tree depth

@@ -1,0 +1,39 @@
+-- What is kept of a glob's walk, whatever the directory shows, and where two `/` stand side by side in the prefix.
+use Rattle.std.proofs.Common.{◌≡◌, ◌∙◌, ℕ, ◌+◌, ◌*◌, ◌≤◌, false, List, [], ◌∷◌, ◌++◌, length, filter, refl, ap, subst, arith}
+use Rattle.wax_directory.specs.Counting.{grown}
+use Rattle.wax_directory.specs.Law.{Law}
+use Rattle.wax_walk.specs.Collected.{GaveAll, whole, lacks_memory, over_budget, Took, all_fault_counts}
+use Rattle.wax_walk.specs.Forest.{nothing, pending}
+use Rattle.wax_walk.specs.Given.{Facts, Mark, Given, is_kept, no_memory}
+use Rattle.wax_walk.specs.Ruled.{ruled_view}
+use Rattle.wax_walk.specs.View.{CountsFaults, WalkView}
+use Rattle.wax.specs.GlobWalks.{GaveWithin, KeepsNothing, none_kept, memory_alone}
+
+pub gave_within : {D C : Type 0} (law : Law D C) (d : D) (budget : ℕ) (v : WalkView D) (rule : Facts → Mark) (new : D)
+    (xs : List Given) → v.directory ≡ d → v.listings_left ≡ budget + 1 → length xs ≤ 2 * budget + 3
+    → Took law (ruled_view v rule false) new xs → GaveWithin law d budget new xs
+gave_within law d budget v rule new xs over allowed few took = record {
+  few = few;
+  counts = subst (λ w. CountsFaults (all_fault_counts xs) (law.tally w) (law.tally new)) over took.counts;
+  taken = took.taken;
+  counted = took.counted ∙ ap (λ w. grown took.taken (law.tally w).items) over;
+  within = subst (λ n. took.taken ≤ n) allowed took.within;
+  spent = λ path depth h. took.spent path depth h ∙ allowed;
+}
+
+front_empty : (xs ys : List Given) → xs ++ ys ≡ [] → xs ≡ []
+front_empty [] ys e = refl
+front_empty (x ∷ xs) ys e = cc
+
+all_listed : (listed : List (List ℕ)) → listed ++ [] ≡ listed
+all_listed [] = refl
+all_listed (x ∷ listed) = ap (λ l. x ∷ l) (all_listed listed)
+
+pub keeps_nothing : (tells : List (List ℕ) → Type 0) (budget : ℕ) (listed : List (List ℕ)) (xs ys : List Given)
+    → GaveAll tells (budget + 1) (pending nothing nothing listed 0) xs → ys ≡ filter is_kept xs
+    → KeepsNothing tells listed ys
+keeps_nothing tells budget listed xs ys (whole e told) same =
+    none_kept (same ∙ ap (filter is_kept) e) (subst tells (all_listed listed) told)
+keeps_nothing tells budget listed xs ys (lacks_memory (before, rest, e, all)) same =
+    memory_alone (same ∙ ap (filter is_kept) (e ∙ ap (λ b. b ++ no_memory ∷ []) (front_empty before rest all)))
+keeps_nothing tells budget listed xs ys (over_budget path depth few at cut) same = absurd (omega arith)
