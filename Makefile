@@ -16,6 +16,7 @@ test:
 	tests/documents
 	tests/names
 	tests/widths
+	tests/relations
 	rt ci
 	tests/memory
 	tests/hostile
