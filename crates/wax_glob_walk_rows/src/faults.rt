@@ -31,6 +31,16 @@ where
     Ok(lines)
 }
 
+/// What the walk of the glob gives.
+fn glob_lines<D: Directory>(alloc: Global, glob: &Glob<'_>, directory: D) -> io::Result<String> {
+    lines_of(alloc, glob.walk(alloc, directory, ""))
+}
+
+/// What the plain walk gives.
+fn plain_lines<D: Directory>(alloc: Global, directory: D) -> io::Result<String> {
+    lines_of(alloc, "".walk(alloc, directory))
+}
+
 /// Whether the walk of the glob gives what the plain walk does, over two equal directories.
 fn is_as_plain<D: Directory>(
     alloc: Global,
@@ -38,8 +48,8 @@ fn is_as_plain<D: Directory>(
     first: D,
     second: D,
 ) -> io::Result<bool> {
-    let walked = lines_of(alloc, glob.walk(alloc, first, ""))?;
-    let plain = lines_of(alloc, "".walk(alloc, second))?;
+    let walked = glob_lines(alloc, glob, first)?;
+    let plain = plain_lines(alloc, second)?;
     Ok(walked.as_str() == plain.as_str())
 }
 

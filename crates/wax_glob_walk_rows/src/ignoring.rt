@@ -3,7 +3,8 @@
 ghost use Rattle.std.specs.Iterator.{IsFinite};
 
 use crate::printed::{not_made, print_walk};
-use crate::walks::glob_of;
+use crate::rows::ALL;
+use crate::walks::{Part, glob_of, print_glob_walk};
 use std::alloc::Global;
 use std::io;
 use wax::CandidatePath;
@@ -71,7 +72,7 @@ where
 }
 
 /// The same over what a pattern leaves out and a closure before it.
-fn print_stacked<I>(rt: &HostRuntime, walk: I, not: &str, text: &str) -> io::Result<()>
+pub fn print_stacked<I>(rt: &HostRuntime, walk: I, not: &str, text: &str) -> io::Result<()>
 where
     I: FileIterator<Directory = Tree>,
     requires can { I.can_feed walk }
@@ -118,15 +119,15 @@ pub fn print_rows(rt: &HostRuntime) -> io::Result<()> {
     }
     let glob = glob_of(rt.alloc(), "**/*.rs")?;
     let tree = tree_of(rt.alloc(), PROJECT, ROOT)?;
-    print_stacked(
-        rt,
-        glob.walk(rt.alloc(), tree, ""),
-        "src/lib.*",
-        "tests/*\n!tests/w*",
-    )?;
-    let tree = tree_of(rt.alloc(), PROJECT, ROOT)?;
-    print_stacked(rt, "".walk(rt.alloc(), tree), "*.md", "tests/**\n!tests/w*")?;
+    let ignoring = Part::Ignoring("src/lib.*", "tests/*\n!tests/w*");
+    print_glob_walk(rt, &glob, tree, "", &ALL, &ignoring)?;
+    print_plain_stacked(rt)?;
     print_refusals(rt)
+}
+
+fn print_plain_stacked(rt: &HostRuntime) -> io::Result<()> {
+    let tree = tree_of(rt.alloc(), PROJECT, ROOT)?;
+    print_stacked(rt, "".walk(rt.alloc(), tree), "*.md", "tests/**\n!tests/w*")
 }
 
 fn print_refusals(rt: &HostRuntime) -> io::Result<()> {

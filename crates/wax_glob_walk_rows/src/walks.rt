@@ -3,6 +3,7 @@
 ghost use Rattle.std.specs.Iterator.{IsFinite};
 ghost use Rattle.std.specs.Prelude.{◌≡◌, IfOk};
 
+use crate::ignoring::print_stacked;
 use crate::printed::{not_made, print_feed, print_walk};
 use crate::rows::{ALL, FEEDS, FILTERED, LEFT_OUT, NO_BOUND, PLACES, Row, WALKS};
 use std::alloc::Global;
@@ -40,6 +41,18 @@ pub fn glob_of(alloc: Global, expression: &str) -> io::Result<Glob<'_>> {
     }
 }
 
+fn print_range(rt: &HostRuntime, range: &Range) -> io::Result<()> {
+    if range.max != NO_BOUND {
+        print!(rt; " depth {} to {}", range.min, range.max)?;
+    } else if range.min > 0 {
+        print!(rt; " depth {} and more", range.min)?;
+    }
+    if range.budget != u32::MAX {
+        print!(rt; " budget {}", range.budget)?;
+    }
+    Ok(())
+}
+
 /// What is walked; only what isn't as in most rows is told.
 fn print_label(rt: &HostRuntime, row: &Row) -> io::Result<()> {
     let (plan, expression, start, range, nots) = *row;
@@ -50,14 +63,7 @@ fn print_label(rt: &HostRuntime, row: &Row) -> io::Result<()> {
     if !start.is_empty() {
         print!(rt; " from \"{start}\"")?;
     }
-    if range.max != NO_BOUND {
-        print!(rt; " depth {} to {}", range.min, range.max)?;
-    } else if range.min > 0 {
-        print!(rt; " depth {} and more", range.min)?;
-    }
-    if range.budget != u32::MAX {
-        print!(rt; " budget {}", range.budget)?;
-    }
+    print_range(rt, &range)?;
     for not in nots {
         print!(rt; " not \"{not}\"")?;
     }
@@ -83,29 +89,25 @@ where
     let [first, rest @ ..] = nots else {
         return print_walk(rt, walk);
     };
-    let walk = walk.without(alloc, exclusion(alloc, first)?);
-    let [second, rest @ ..] = rest else {
-        return print_walk(rt, walk);
-    };
-    let walk = walk.without(alloc, exclusion(alloc, second)?);
-    let [third, ..] = rest else {
-        return print_walk(rt, walk);
-    };
-    print_walk(rt, walk.without(alloc, exclusion(alloc, third)?))
+    print_less_two(rt, walk.without(alloc, exclusion(alloc, first)?), rest)
 }
 
-fn print_row(rt: &HostRuntime, row: &Row) -> io::Result<()> {
-    let (plan, expression, start, range, nots) = *row;
-    print_label(rt, row)?;
-    let glob = glob_of(rt.alloc(), expression)?;
-    let tree = tree_of(rt.alloc(), plan, ROOT)?;
-    let has_all = range.min == 0 && range.max == NO_BOUND && range.budget == u32::MAX;
-    let walk = if has_all {
-        glob.walk(rt.alloc(), tree, start)
-    } else {
-        glob.walk_with_behavior(rt.alloc(), tree, start, behavior_of(&range))
+/// The same of two patterns at most.
+fn print_less_two<I>(rt: &HostRuntime, walk: I, nots: &[&str]) -> io::Result<()>
+where
+    I: FileIterator<Directory = Tree>,
+    requires can { I.can_feed walk }
+    requires ends { IsFinite (I.left walk) }
+{
+    let alloc = rt.alloc();
+    let [first, rest @ ..] = nots else {
+        return print_walk(rt, walk);
     };
-    print_less(rt, walk, nots)
+    let walk = walk.without(alloc, exclusion(alloc, first)?);
+    let [second, ..] = rest else {
+        return print_walk(rt, walk);
+    };
+    print_walk(rt, walk.without(alloc, exclusion(alloc, second)?))
 }
 
 /// All items of the feed, less what these patterns mean, one filter over another.
@@ -126,14 +128,69 @@ where
     print_feed(rt, walk.without(alloc, exclusion(alloc, second)?))
 }
 
+/// The part of a walk of a glob that is printed.
+#[derive(Drop)]
+pub enum Part<'a> {
+    /// What is kept, less what these patterns mean.
+    Kept(&'a [&'a str]),
+    /// All items of the feed, less the same.
+    Feed(&'a [&'a str]),
+    /// What is kept, less what stands at the path.
+    Without(&'a str, EntryResidue),
+    /// What is kept less a folder, a pattern, and what the text of a list ignores.
+    Ignoring(&'a str, &'a str),
+    /// The places of the entries, behind the expression.
+    Places(&'a str),
+}
+
+fn print_part<I>(rt: &HostRuntime, walk: I, part: &Part<'_>) -> io::Result<()>
+where
+    I: FileIterator<Feed = GlobFeed, Entry = GlobEntry, Residue = TreeEntry, Directory = Tree>,
+    requires can { I.can_feed walk }
+    requires ends { IsFinite (I.left walk) }
+{
+    match part {
+        Part::Kept(nots) => print_less(rt, walk, *nots),
+        Part::Feed(nots) => print_less_feed(rt, walk, *nots),
+        Part::Without(path, residue) => print_without(rt, walk, *path, *residue),
+        Part::Ignoring(not, list) => print_stacked(rt, walk, *not, *list),
+        Part::Places(expression) => print_places(rt, walk, *expression),
+    }
+}
+
+/// A part of the walk of a glob. A function that names the type of such a walk is long to prove, so no other does.
+pub fn print_glob_walk(
+    rt: &HostRuntime,
+    glob: &Glob<'_>,
+    tree: Tree,
+    start: &str,
+    range: &Range,
+    part: &Part<'_>,
+) -> io::Result<()> {
+    let has_all = range.min == 0 && range.max == NO_BOUND && range.budget == u32::MAX;
+    let walk = if has_all {
+        glob.walk(rt.alloc(), tree, start)
+    } else {
+        glob.walk_with_behavior(rt.alloc(), tree, start, behavior_of(range))
+    };
+    print_part(rt, walk, part)
+}
+
+fn print_row(rt: &HostRuntime, row: &Row) -> io::Result<()> {
+    let (plan, expression, start, range, nots) = *row;
+    print_label(rt, row)?;
+    let glob = glob_of(rt.alloc(), expression)?;
+    let tree = tree_of(rt.alloc(), plan, ROOT)?;
+    print_glob_walk(rt, &glob, tree, start, &range, &Part::Kept(nots))
+}
+
 fn print_feed_row(rt: &HostRuntime, row: &Row) -> io::Result<()> {
     let (plan, expression, start, range, nots) = *row;
     print!(rt; "feed of ")?;
     print_label(rt, row)?;
     let glob = glob_of(rt.alloc(), expression)?;
     let tree = tree_of(rt.alloc(), plan, ROOT)?;
-    let walk = glob.walk_with_behavior(rt.alloc(), tree, start, behavior_of(&range));
-    print_less_feed(rt, walk, nots)
+    print_glob_walk(rt, &glob, tree, start, &range, &Part::Feed(nots))
 }
 
 /// Each budget from 0 to 10, where 10 items are to be taken.
@@ -203,14 +260,17 @@ fn print_filtered(rt: &HostRuntime, path: &str, residue: EntryResidue) -> io::Re
     print!(rt; "\"**\" filtered at \"{path}\", {residue:?}:")?;
     let glob = glob_of(rt.alloc(), "**")?;
     let tree = tree_of(rt.alloc(), PROJECT, ROOT)?;
-    print_without(rt, glob.walk(rt.alloc(), tree, ""), path, residue)
+    print_glob_walk(rt, &glob, tree, "", &ALL, &Part::Without(path, residue))
 }
 
 /// Path, root, candidate, depth and kind of each entry, and what its first token captured.
-fn print_places(rt: &HostRuntime, expression: &str, start: &str) -> io::Result<()> {
-    let glob = glob_of(rt.alloc(), expression)?;
-    let tree = tree_of(rt.alloc(), PROJECT, ROOT)?;
-    let Ok((items, _)) = collect(rt.alloc(), glob.walk(rt.alloc(), tree, start)) else {
+fn print_places<I>(rt: &HostRuntime, walk: I, expression: &str) -> io::Result<()>
+where
+    I: FileIterator<Entry = GlobEntry, Directory = Tree>,
+    requires can { I.can_feed walk }
+    requires ends { IsFinite (I.left walk) }
+{
+    let Ok((items, _)) = collect(rt.alloc(), walk) else {
         return Err(not_made());
     };
     for item in &items {
@@ -245,7 +305,9 @@ pub fn print_rows(rt: &HostRuntime) -> io::Result<()> {
         print_filtered(rt, path, *residue)?;
     }
     for (expression, start) in PLACES {
-        print_places(rt, expression, start)?;
+        let glob = glob_of(rt.alloc(), *expression)?;
+        let tree = tree_of(rt.alloc(), PROJECT, ROOT)?;
+        print_glob_walk(rt, &glob, tree, *start, &ALL, &Part::Places(*expression))?;
     }
     Ok(())
 }

@@ -9,7 +9,9 @@ use std::process::Abort;
 use std::test::*;
 use wax::prelude::*;
 use wax::rule::{Checked, check};
-use wax::token::{ExpressionMetadata, Token, TokenFacts, Tokenized, components, literals, parse};
+use wax::token::{
+    Component, ExpressionMetadata, Token, TokenFacts, Tokenized, components, literals, parse,
+};
 use wax::walk::{Tree, collect, without_meant};
 use wax::{NoMemory, Refusal};
 
@@ -118,20 +120,32 @@ fn prefixes_take_tokens(rt: HostRuntime) -> Result<(), Fail> {
     Ok(())
 }
 
+// What a component is, its span, and how many tokens it has.
+fn described(
+    alloc: Global,
+    component: &Component<'_, '_, ExpressionMetadata>,
+) -> Result<String, Fail> {
+    let tokens = component.tokens();
+    let kind = if component.literal().is_some() {
+        "literal"
+    } else if tokens.first().is_some_and(|token| token.is_tree_wildcard()) {
+        "tree"
+    } else {
+        "other"
+    };
+    let (start, len) = component.span();
+    Ok(format!(in alloc; "{kind} {start} {len} {};", tokens.len())?)
+}
+
 #[test]
 fn components_are_runs_of_tokens(rt: HostRuntime) -> Result<(), Fail> {
-    let token = parsed(rt.alloc(), "a/x*/**")?.into_token();
-    let components = components(rt.alloc(), &token)?;
-    let [first, second, third] = components.as_slice() else {
-        return Err(Fail::from("not three components"));
-    };
-    assert_eq!(rt; first.span(), (0, 1));
-    assert_eq!(rt; first.tokens().len(), 1);
-    assert_eq!(rt; second.span(), (2, 2));
-    assert_eq!(rt; second.tokens().len(), 2);
-    assert!(rt; second.literal().is_none());
-    assert_eq!(rt; third.tokens().len(), 1);
-    assert!(rt; third.tokens()[0].is_tree_wildcard());
+    let alloc = rt.alloc();
+    let token = parsed(alloc, "a/x*/**")?.into_token();
+    let mut lines = String::new(alloc);
+    for component in &components(alloc, &token)? {
+        lines.push_str(described(alloc, component)?.as_str())?;
+    }
+    assert_eq!(rt; lines.as_str(), "literal 0 1 1;other 2 2 2;tree 4 3 1;");
     Ok(())
 }
 
@@ -141,12 +155,12 @@ fn literals_come_by_level(rt: HostRuntime) -> Result<(), Fail> {
     let token = parsed(alloc, "a/{b/c*,d}/e")?.into_token();
     let mut lines = String::new(alloc);
     for (component, literal) in &literals(alloc, &token)? {
-        let text = literal.text(alloc)?;
-        let (start, len) = component.span();
-        let line = format!(in alloc; "{text} {start} {len};")?;
-        lines.push_str(line.as_str())?;
+        lines.push_str(literal.text(alloc)?.as_str())?;
+        lines.push(' ')?;
+        lines.push_str(described(alloc, component)?.as_str())?;
     }
-    assert_eq!(rt; lines.as_str(), "a 0 1;e 11 1;b 3 1;d 8 1;");
+    let want = "a literal 0 1 1;e literal 11 1 1;b literal 3 1 1;d literal 8 1 1;";
+    assert_eq!(rt; lines.as_str(), want);
     Ok(())
 }
 

@@ -89,6 +89,11 @@ fn again(alloc: Global, expression: &str) -> Result<String, NoMemory> {
         return Ok(String::from_str(alloc, "not built")?);
     };
     let (_, rest) = glob.partition_or_empty(alloc)?;
-    let (prefix, last) = rest.partition_or_empty(alloc)?;
-    Ok(format!(in alloc; "{prefix}\t{last}")?)
+    in_two(alloc, rest)
+}
+
+/// The prefix of a glob, and its rest.
+fn in_two(alloc: Global, glob: Glob<'_>) -> Result<String, NoMemory> {
+    let (prefix, rest) = glob.partition_or_empty(alloc)?;
+    Ok(format!(in alloc; "{prefix}\t{rest}")?)
 }

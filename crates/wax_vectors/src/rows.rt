@@ -72,7 +72,10 @@ pub fn number(error: &BuildError) -> u8 {
 
 /// Why the expression is refused, if it is.
 fn refusal(alloc: Global, expression: &str) -> Option<BuildError> {
-    Glob::new(alloc, expression).err()
+    match Glob::new(alloc, expression) {
+        Ok(_) => None,
+        Err(error) => Some(error),
+    }
 }
 
 /// The expression, 0 or the number of its refusal, and the span of a broken rule.
