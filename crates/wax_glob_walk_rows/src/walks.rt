@@ -158,7 +158,7 @@ where
     }
 }
 
-/// A part of the walk of a glob. A function that names the type of such a walk is long to prove, so no other does.
+/// A part of the walk of a glob. What names the type of such a walk is long to prove, so no other does.
 pub fn print_glob_walk(
     rt: &HostRuntime,
     glob: &Glob<'_>,
