@@ -18,6 +18,7 @@ test:
 	tests/widths
 	tests/relations
 	rt ci
+	tests/wrong-bodies
 	tests/memory
 	tests/hostile
 
