@@ -1,7 +1,7 @@
 //! A glob in two: its prefix, and the rest.
 ghost use Rattle.std.specs.Prelude.{◌≡◌, ◌↔◌, ◌∷◌, [], ℕ, IfOk, IfSome, List, MatchOption, None, false};
 ghost use Rattle.std.specs.Prelude.{chars, string_bytes};
-ghost use Rattle.wax_rule.specs.Rules.{broken};
+ghost use Rattle.wax_break.specs.Rules.{broken};
 ghost use Rattle.wax_token.specs.Meaning.{Means};
 ghost use Rattle.wax_token.specs.Reads.{Reads};
 ghost use Rattle.wax_token.specs.Words.{trees};

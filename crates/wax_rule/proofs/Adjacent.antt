@@ -3,11 +3,11 @@ use Rattle.std.proofs.Common.{◌≡◌, ℕ, suc, ◌+◌, List, [], ◌∷◌,
 use Rattle.std.specs.Option.{is_some, option_map}
 use Rattle.std.specs.List.{range_with_len}
 use Rattle.itertools.specs.Consumer.{find_at}
-use Rattle.wax_rule.specs.declared.rule.RuleErrorKind.TheVariants.{AdjacentBoundary}
+use Rattle.wax_break.specs.declared.RuleErrorKind.TheVariants.{AdjacentBoundary}
 use Rattle.wax_token.specs.Syntax.{Tree, Trees, none, more}
 use Rattle.wax_token.specs.Words.{trees}
 use Rattle.wax_token.specs.Reads.{Span}
-use Rattle.wax_rule.specs.Rules.{break_here, adjacent_span, boundary_break, adjacent_boundaries}
+use Rattle.wax_break.specs.Rules.{break_here, adjacent_span, boundary_break, adjacent_boundaries}
 use Rattle.wax_rule.specs.FirstBreak.{adjacent_after, adjacent_at, first_some, first_adjacent, head_of}
 
 abbrev pub found : Option (ℕ × Option Span) → Option Span

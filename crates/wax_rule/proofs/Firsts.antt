@@ -4,14 +4,14 @@ use Rattle.std.proofs.lemmas.List.{drop_more}
 use Rattle.std.specs.Option.{is_some, option_or}
 use Rattle.std.specs.List.{flat_map, range_with_len}
 use Rattle.itertools.specs.Consumer.{find_at}
-use Rattle.wax_rule.specs.declared.rule.Break.{Break}
+use Rattle.wax_break.specs.declared.Break.{Break}
 use Rattle.wax_rule.specs.declared.rule.Rule.{Rule}
 use Rattle.wax_rule.specs.FirstBreak.{head_of, breaks_beside, breaks_of, first_in, is_broken_at, oversized}
 use Rattle.wax_rule.specs.declared.rule.Rule.TheVariants.{Boundary, Bounds, Branch}
-use Rattle.wax_rule.specs.declared.rule.branch.Sort.TheVariants.{Alternation}
-use Rattle.wax_rule.specs.declared.rule.situated.Side.{Side}
-use Rattle.wax_rule.specs.Rules.{alternative_breaks, breaks_among, size_breaks, sub_glob_breaks}
-use Rattle.wax_rule.specs.Situated.{Situated}
+use Rattle.wax_break.specs.declared.Sort.TheVariants.{Alternation}
+use Rattle.wax_break.specs.declared.Side.{Side}
+use Rattle.wax_break.specs.Rules.{alternative_breaks, breaks_among, size_breaks, sub_glob_breaks}
+use Rattle.wax_break.specs.Situated.{Situated}
 use Rattle.wax_token.specs.Reads.{Span}
 use Rattle.wax_token.specs.Syntax.{Tree}
 use Rattle.wax_token.specs.Words.{trees}

@@ -6,8 +6,8 @@ use Rattle.std.proofs.Math.Seq.{drop-append_seam, take-append_seam, take-add, dr
 use Rattle.std.specs.List.{flat_map}
 use Rattle.wax_rule.specs.inner.Queue.{branches, siblings, children, queue_children, children_between, all_levels}
 use Rattle.wax_alternatives.specs.Alternatives.{beside}
-use Rattle.wax_rule.specs.Situated.{Situated, end_side, right_of, situated_levels, branch_levels, member_levels, breadth_first}
-use Rattle.wax_rule.specs.declared.rule.situated.Side.{Side}
+use Rattle.wax_break.specs.Situated.{Situated, end_side, right_of, situated_levels, branch_levels, member_levels, breadth_first}
+use Rattle.wax_break.specs.declared.Side.{Side}
 use Rattle.wax_token.specs.Reads.{Span}
 use Rattle.wax_token.specs.Syntax.{Tree, leaf, alternation, concatenation, repetition, Trees, none, more}
 

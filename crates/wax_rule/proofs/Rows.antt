@@ -1,7 +1,7 @@
 -- A token of a row is smaller than the row.
 use Rattle.std.proofs.Common.{◌≡◌, ℕ, zero, suc, ◌-◌, ◌<◌, Bool, List, [], ◌∷◌, length, Some, slice_get, arith, ap, subst}
 use Rattle.wax_token.specs.Syntax.{Leaf, Tree, tree_size, trees_size}
-use Rattle.wax_rule.specs.Situated.{ends_in, last_ends_in}
+use Rattle.wax_break.specs.Situated.{ends_in, last_ends_in}
 use Rattle.wax_token.specs.Words.{trees}
 
 -- the last token

@@ -1,14 +1,14 @@
 -- The error that answers a list of breaks.
 use Rattle.std.specs.Prelude.{◌≡◌, ℕ, ◌+◌, Bool, List, [], ◌∷◌, ◌++◌, Option, Some, None, slice_get}
 use Rattle.wax_query.specs.Labels.{Composite}
-use Rattle.wax_rule.specs.declared.rule.Break.{Break}
-use Rattle.wax_rule.specs.declared.rule.RuleErrorKind.{RuleErrorKind}
+use Rattle.wax_break.specs.declared.Break.{Break}
+use Rattle.wax_break.specs.declared.RuleErrorKind.{RuleErrorKind}
 use Rattle.std.specs.List.{flat_map}
 use Rattle.std.specs.Option.{is_some}
 use Rattle.wax_rule.specs.declared.rule.Rule.{Rule}
 use Rattle.wax_rule.specs.declared.rule.Rule.TheVariants.{Boundary, Bounds, Branch}
-use Rattle.wax_rule.specs.Situated.{Situated}
-use Rattle.wax_rule.specs.Rules.{adjacent_span, boundary_breaks, bounds_breaks, branch_breaks, size_breaks}
+use Rattle.wax_break.specs.Situated.{Situated}
+use Rattle.wax_break.specs.Rules.{adjacent_span, boundary_breaks, bounds_breaks, branch_breaks, size_breaks}
 use Rattle.wax_token.specs.Reads.{Span}
 use Rattle.wax_token.specs.Syntax.{Tree, Trees, none, more}
 

@@ -1,5 +1,2 @@
 pub mod FirstBreak
-pub mod Rules
-pub mod Situated
-pub mod Sizes
 pub mod inner

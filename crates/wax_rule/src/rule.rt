@@ -5,8 +5,8 @@ ghost use Rattle.std.specs.Cow.{cow_str_bytes};
 ghost use Rattle.std.specs.List.{flat_map, range_with_len};
 ghost use Rattle.itertools.specs.Consumer.{find_at};
 ghost use Rattle.wax_query.specs.Outcome.{MatchBuild};
-ghost use Rattle.wax_rule.specs.Situated.{breadth_first};
-ghost use Rattle.wax_rule.specs.Rules.{broken, break_here, breaks_among, size_breaks};
+ghost use Rattle.wax_break.specs.Situated.{breadth_first};
+ghost use Rattle.wax_break.specs.Rules.{broken, break_here, breaks_among, size_breaks};
 ghost use Rattle.wax_rule.specs.FirstBreak.{TellsFirst, head_of, breaks_of, breaks_beside, oversized};
 ghost use Rattle.wax_rule.specs.FirstBreak.{first_in, is_broken_at};
 
@@ -29,35 +29,10 @@ use std::alloc::{AllocError, Global};
 use std::borrow::CowStr;
 use std::fmt::{self, Display, Formatter};
 use std::marker::Model;
-use thiserror::Error;
+use wax_break::Break;
+pub use wax_break::RuleErrorKind;
 use wax_query::diagnostics::{CompositeSpan, NoMemory, Refusal, Span};
 use wax_token::token::{ExpressionMetadata, Token, Tokenized};
-
-/// Which rule is broken.
-#[derive(Clone, Copy, Debug, PartialEq, Eq, Error)]
-pub enum RuleErrorKind {
-    /// Refusal 2.
-    #[error("malformed glob expression: adjacent component boundaries `/` or `**`")]
-    AdjacentBoundary,
-    /// Refusal 3.
-    #[error("malformed glob expression: incompatible repetition bounds")]
-    IncompatibleBounds,
-    /// Refusal 4.
-    #[error("malformed glob expression: singular tree wildcard `**` in branch")]
-    SingularTree,
-    /// Refusal 5.
-    #[error("malformed glob expression: adjacent zero-or-more wildcards `*` or `$`")]
-    AdjacentZeroOrMore,
-    /// Refusal 6.
-    #[error("malformed glob expression: uncertain or overlapping roots in branch")]
-    RootedSubGlob,
-    /// Refusal 7.
-    #[error("malformed glob expression: singular zero-or-more wildcard `*` or `$` in branch")]
-    SingularZeroOrMore,
-    /// Refusal 8.
-    #[error("malformed glob expression: oversized invariant expression")]
-    OversizedInvariant,
-}
 
 /// The first rule that an expression breaks, and where (refusals 2 to 8). It prints the rule.
 /// Contracts see the rule, the place and the characters of the expression.
@@ -158,13 +133,6 @@ impl<T> Checked<T> {
     {
         self.inner
     }
-}
-
-/// A rule that is broken, and where.
-#[derive(Drop)]
-struct Break {
-    kind: RuleErrorKind,
-    location: CompositeSpan,
 }
 
 /// A break at one place.

@@ -42,11 +42,21 @@ pub enum Topology<B, L> {
 pub type TokenTopology<'t, A> = Topology<BranchKind<'t, A>, LeafKind<'t>>;
 
 /// A token of a glob, with an annotation. Contracts see it as a plain tree.
-#[derive(Debug, Drop)]
+#[derive(Debug)]
 #[cycle(token)]
 pub struct Token<'t, A> {
     topology: TokenTopology<'t, A>,
     annotation: A,
+}
+
+impl<'t, A: Drop> Drop for Token<'t, A> {
+    #[cycle(token)]
+    fn drop(self) {
+        let Token {
+            topology: _,
+            annotation: _,
+        } = self;
+    }
 }
 
 impl<'t, A> Model for Token<'t, A> {

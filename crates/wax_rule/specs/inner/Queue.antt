@@ -5,9 +5,9 @@ use Rattle.std.specs.Coded.{Coded, code_by, coded_ℕ, coded_bool, coded_option,
 use Rattle.wax_token.specs.TreeCode.{tree_code}
 use Rattle.wax_token.specs.Reads.{Span}
 use Rattle.wax_token.specs.Syntax.{Tree, leaf, alternation, concatenation, repetition, Trees, none, more}
-use Rattle.wax_rule.specs.declared.rule.situated.Side.{Side}
+use Rattle.wax_break.specs.declared.Side.{Side}
 use Rattle.wax_alternatives.specs.Alternatives.{beside}
-use Rattle.wax_rule.specs.Situated.{Situated, end_side, right_of, situated_levels}
+use Rattle.wax_break.specs.Situated.{Situated, end_side, right_of, situated_levels}
 
 abbrev pub branches : Option Side → Option Side → Trees Span → List Situated
 branches left right none = []

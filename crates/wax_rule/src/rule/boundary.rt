@@ -6,7 +6,7 @@ ghost use Rattle.itertools.specs.Consumer.{find_at};
 ghost use Rattle.wax_token.specs.Words.{trees};
 ghost use Rattle.wax_token.specs.Kinds.{is_boundary_leaf};
 ghost use Rattle.wax_query.specs.Spans.{span_union};
-ghost use Rattle.wax_rule.specs.Rules.{adjacent_span, boundary_breaks, adjacent_boundaries};
+ghost use Rattle.wax_break.specs.Rules.{adjacent_span, boundary_breaks, adjacent_boundaries};
 ghost use Rattle.wax_token.specs.Kinds.{is_such};
 ghost use Rattle.wax_rule.specs.FirstBreak.{adjacent_at, head_of};
 

@@ -1,6 +1,6 @@
 //! Incompatible bounds: of a repetition, the upper bound is below the lower one, or both are zero.
 ghost use Rattle.std.specs.Prelude.{◌≡◌};
-ghost use Rattle.wax_rule.specs.Rules.{are_incompatible, bounds_breaks};
+ghost use Rattle.wax_break.specs.Rules.{are_incompatible, bounds_breaks};
 ghost use Rattle.wax_rule.specs.FirstBreak.{head_of};
 
 use super::{Break, RuleErrorKind, break_here};

@@ -2,42 +2,16 @@
 ghost use Rattle.std.specs.Prelude.{◌≡◌};
 ghost use Rattle.std.specs.Option.{option_or};
 ghost use Rattle.wax_token.specs.Words.{trees};
-ghost use Rattle.wax_rule.specs.Rules.{terminal_of, side_has_boundary, has_zero_or_more, split_from};
-ghost use Rattle.wax_rule.specs.Rules.{shared_rows, alternation_rows, repetition_rows, own_rows};
-ghost use Rattle.wax_rule.specs.Rules.{first_that_holds, rows_of, sub_glob_breaks, alternative_breaks};
-ghost use Rattle.wax_rule.specs.Rules.{branch_breaks, label_of};
+ghost use Rattle.wax_break.specs.Rules.{terminal_of, side_has_boundary, has_zero_or_more, split_from};
+ghost use Rattle.wax_break.specs.Rules.{shared_rows, alternation_rows, repetition_rows, own_rows};
+ghost use Rattle.wax_break.specs.Rules.{first_that_holds, rows_of, sub_glob_breaks, alternative_breaks};
+ghost use Rattle.wax_break.specs.Rules.{branch_breaks, label_of};
 ghost use Rattle.wax_rule.specs.FirstBreak.{head_of};
 
-use super::situated::{Side, Situated};
-use super::{Break, RuleErrorKind};
+use super::situated::Situated;
+use wax_break::{Break, Row, RuleErrorKind, Side, Sort, Terminal};
 use wax_query::diagnostics::{CompositeSpan, CorrelatedSpan, Span};
 use wax_token::token::{BranchKind, ExpressionMetadata, Token, Topology};
-
-/// The kind of a branch; of a repetition, its lower bound.
-#[derive(Clone, Copy)]
-enum Sort {
-    Alternation,
-    Repetition(usize),
-}
-
-/// The first or the last token of a sub-glob.
-#[derive(Clone, Copy)]
-struct Terminal {
-    span: Span,
-    is_boundary: bool,
-    is_separator: bool,
-    is_tree: bool,
-    is_rooting: bool,
-    is_zero_or_more: bool,
-}
-
-/// A case, whether it holds, and how it is refused: what is broken, and the places that explain it.
-#[derive(Clone, Copy)]
-struct Row {
-    holds: bool,
-    kind: RuleErrorKind,
-    correlated: CorrelatedSpan,
-}
 
 fn terminal_of<'t>(token: &Token<'t, ExpressionMetadata>) -> Terminal
     ensures { result ≡ terminal_of token.now }

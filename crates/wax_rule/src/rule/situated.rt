@@ -4,24 +4,16 @@ ghost use Rattle.std.specs.Prelude.{◌||◌, length};
 ghost use Rattle.std.specs.List.{flat_map};
 ghost use Rattle.wax_token.specs.View.{leaf_of};
 ghost use Rattle.wax_token.specs.Words.{trees, annotation_of};
-ghost use Rattle.wax_rule.specs.Situated.{starts_with_leaf, some_starts_in, ends_in, some_ends_in, end_side};
-ghost use Rattle.wax_rule.specs.Situated.{start_side, right_of, breadth_first};
+ghost use Rattle.wax_break.specs.Situated.{starts_with_leaf, some_starts_in, ends_in, some_ends_in, end_side};
+ghost use Rattle.wax_break.specs.Situated.{start_side, right_of, breadth_first};
 ghost use Rattle.wax_token.specs.Kinds.{is_boundary_leaf, is_zero_or_more_leaf};
 ghost use Rattle.wax_rule.specs.inner.Queue.{branches, siblings, children, queue_children};
 
 use std::alloc::{AllocError, Global};
 use std::marker::Model;
+use wax_break::Side;
 use wax_query::diagnostics::Span;
 use wax_token::token::{BranchKind, ExpressionMetadata, LeafKind, Token, Topology};
-
-/// What a token shows to the one beside it: its span, and whether it has a boundary, or a `*` or
-/// `$`, at that side.
-#[derive(Clone, Copy)]
-pub(super) struct Side {
-    pub span: Span,
-    pub has_boundary: bool,
-    pub has_zero_or_more: bool,
-}
 
 /// A token, and what its neighbours show to it.
 #[derive(Drop)]
@@ -32,7 +24,7 @@ pub(super) struct Situated<'i, 't> {
 }
 
 impl<'i, 't> Model for Situated<'i, 't> {
-    ghost use Rattle.wax_rule.specs.Situated.{Situated as ASituated};
+    ghost use Rattle.wax_break.specs.Situated.{Situated as ASituated};
     ghost use Rattle.wax_rule.specs.inner.Queue.{situated_code};
 
     ghost Value = { ASituated };

@@ -21,7 +21,11 @@ impl<'t, A> Token<'t, A> {
     pub fn into_parts(self) -> (TokenTopology<'t, A>, A)
         ensures { topology_tree result.0 result.1 ≡ self.entry }
     {
-        (self.topology, self.annotation)
+        let Token {
+            topology,
+            annotation,
+        } = self;
+        (topology, annotation)
     }
 }
 

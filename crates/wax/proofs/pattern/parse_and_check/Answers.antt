@@ -1,5 +1,5 @@
 use Rattle.std.proofs.Common.{◌≡◌, ◌∙◌, [], ap, chars, subst, sym}
-use Rattle.wax_rule.specs.Rules.{broken}
+use Rattle.wax_break.specs.Rules.{broken}
 use Rattle.wax_token.specs.Reads.{Reads, Span}
 use Rattle.wax_token.specs.Syntax.{Tree}
 use Rattle.wax.proofs.Patterns.{only_spelled}

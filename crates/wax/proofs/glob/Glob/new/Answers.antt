@@ -1,5 +1,5 @@
 use Rattle.std.proofs.Common.{◌≡◌, [], chars, rules}
-use Rattle.wax_rule.specs.Rules.{broken}
+use Rattle.wax_break.specs.Rules.{broken}
 use Rattle.wax_token.specs.Reads.{Reads}
 use Rattle.wax.proofs.Parts.{built_kept}
 use Rattle.wax.proofs.glob.Glob.new.Goals as goal

@@ -1,5 +1,5 @@
 use Rattle.std.proofs.Common.{◌≡◌, ◌||◌, drop}
-use Rattle.wax_rule.specs.Situated.{some_starts_in}
+use Rattle.wax_break.specs.Situated.{some_starts_in}
 use Rattle.wax_token.specs.Kinds.{is_boundary_leaf, is_zero_or_more_leaf}
 use Rattle.wax_token.specs.Syntax.{tree_size, trees_size}
 use Rattle.wax_token.specs.Words.{trees}

@@ -2,7 +2,7 @@ use Rattle.std.proofs.Common.{◌≡◌, ◌∷◌, ◌++◌, [], length, None, 
 use Rattle.std.proofs.lemmas.List.{length-append}
 use Rattle.std.specs.List.{flat_map}
 use Rattle.wax_rule.specs.inner.Queue.{all_levels}
-use Rattle.wax_rule.specs.Situated.{Situated}
+use Rattle.wax_break.specs.Situated.{Situated}
 use Rattle.wax_rule.proofs.Levels.{shorter_after, row_after, first_row}
 use Rattle.wax_rule.proofs.rule.situated.breadth_first.Goals as goal
 

@@ -1,6 +1,6 @@
 use Rattle.std.proofs.Common.{◌≡◌, ◌≤◌, ◌++◌, length, take, drop}
 use Rattle.std.specs.List.{flat_map}
-use Rattle.wax_rule.specs.Situated.{breadth_first}
+use Rattle.wax_break.specs.Situated.{breadth_first}
 use Rattle.wax_rule.specs.inner.Queue.{all_levels}
 use Rattle.wax_rule.proofs.rule.situated.breadth_first.Given as goal
 

@@ -1,0 +1,3 @@
+pub mod Rules
+pub mod Situated
+pub mod Sizes
