@@ -1,26 +1,26 @@
-# make globs: proves and builds the program, and leaves it as ./globs; some 25 minutes on 4 processors the first time
-# make test:  proves everything from nothing and runs all tests, then the programs with memory refused and on
-#             hostile input; docs/GATE.md says how long that takes
+# make quick: builds the program as ./globs with no proof, in about a minute
+# make globs: proves it and each library below it, builds it, and leaves it as ./globs
+# make test:  proves everything from nothing, runs all tests, and tries the wrong bodies
 # make bench: counts instructions of matches, and times them beside grep and walks beside find (docs/BENCH.md)
+# docs/GATE.md says how long they take.
 
-.PHONY: globs test bench
+.PHONY: quick globs test bench
+
+quick:
+	./quick
 
 globs:
-	@echo 'proving the crates below globs, side by side; some 25 minutes on 4 processors the first time'
-	./prove wax_commands
-	cd crates/globs && mkdir -p out && rm -f out/globs && { rt run </dev/null >/dev/null 2>out/prove.log || true; }
-	test -x crates/globs/out/globs || { cat crates/globs/out/prove.log; exit 1; }
+	./prove globs
 	cp crates/globs/out/globs globs
 
 test:
-	tests/documents
-	tests/names
-	tests/widths
-	tests/relations
+	tests/house
 	rt ci
-	tests/wrong-bodies
+	./quick crates/globs/out/globs.unproved
+	tests/commands
 	tests/memory
 	tests/hostile
+	tests/wrong-bodies
 
 bench: globs
 	cd crates/wax_bench && rt run </dev/null

@@ -16,15 +16,15 @@ use Rattle.wax_wanted.specs.Wanted.{Filter}
 use Rattle.wax.specs.GlobWalks.{BeginsGlob, trip_of}
 use Rattle.wax.proofs.GlobWalks.{comes_glob}
 use Rattle.wax_walk.specs.Forest.{preorder}
-use Rattle.wax_commands.specs.Candidates.{candidate_lines}
+use Rattle.wax_walk_lines.specs.Candidates.{candidate_lines}
 use Rattle.wax_commands.specs.Files.{FileAnswers}
-use Rattle.wax_commands.specs.Commands.{SayEach, WalkOption, WalkRequest}
+use Rattle.wax_words.specs.Commands.{SayEach, WalkOption, WalkRequest}
 use Rattle.wax_commands.specs.Refused.{IsRefused}
 use Rattle.wax_commands.specs.Walked.{AreAskedByAll, AreBuilt, Ground, HasRefused, OnWalk, WalkEnds, WalkGlobs, done, faulty, no_filter, no_glob}
 use Rattle.wax_commands.specs.Walked.{range_in, refused, stopped}
-use Rattle.wax_commands.specs.declared.walk_words.WalkWords.{WalkWords}
-use Rattle.wax_commands.specs.inner.Candidates.{OnTrips, WroteFirst, WroteWanted}
-use Rattle.wax_commands.specs.inner.WalkWords.{IsRead}
+use Rattle.wax_words.specs.declared.walk_words.WalkWords.{WalkWords}
+use Rattle.wax_walk_lines.specs.Wanted.{OnTrips, WroteFirst, WroteWanted}
+use Rattle.wax_words.specs.WalkWords.{IsRead}
 
 module _ {D C : Type 0} (law : Law D C) (d : D) (asked : WalkRequest) (globs : WalkGlobs) (view : WalkView D) where
   -- what holds on the trips of the walk holds on the walk

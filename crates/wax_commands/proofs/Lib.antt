@@ -1,5 +1,3 @@
-pub mod OptionWords
-pub mod Lines
 pub mod Leaving
 pub mod Adding
 pub mod Going

@@ -1,5 +1,3 @@
-pub mod Candidates
-pub mod Commands
 pub mod Files
 pub mod LineCommands
 pub mod Queried

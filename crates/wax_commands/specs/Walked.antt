@@ -20,10 +20,10 @@ use Rattle.wax_tree.specs.Prefix.{ArePlain}
 use Rattle.wax_tree.specs.declared.steps.Range.{Range}
 use Rattle.wax_walk.specs.Forest.{preorder}
 use Rattle.wax_walk.specs.Given.{Given}
-use Rattle.wax_commands.specs.Candidates.{candidate_lines, is_error}
+use Rattle.wax_walk_lines.specs.Candidates.{candidate_lines, is_error}
 use Rattle.wax_wanted.specs.Wanted.{Filter, not_meant, not_ignored}
-use Rattle.wax_commands.specs.Commands.{WalkOption, without, ignoring, at_least, at_most, WalkRequest}
-use Rattle.wax_commands.specs.Commands.{greatest_in, least_in}
+use Rattle.wax_words.specs.Commands.{WalkOption, without, ignoring, at_least, at_most, WalkRequest}
+use Rattle.wax_words.specs.Commands.{greatest_in, least_in}
 use Rattle.wax_commands.specs.Files.{FileAnswers, IsListIn, IsUnlisted}
 use Rattle.wax_commands.specs.Refused.{IsRefused}
 

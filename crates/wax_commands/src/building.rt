@@ -11,20 +11,20 @@ ghost use Rattle.wax_token.specs.Syntax.{Tree};
 ghost use Rattle.wax_walk.specs.Given.{Facts, Mark};
 ghost use Rattle.wax_wanted.specs.Ignored.{Line};
 ghost use Rattle.wax_wanted.specs.Wanted.{Filter, not_ignored, not_meant};
-ghost use Rattle.wax_commands.specs.Commands.{SayEach, IsOption, WalkOption};
+ghost use Rattle.wax_words.specs.Commands.{SayEach, IsOption, WalkOption};
 ghost use Rattle.wax_commands.specs.Files.{IsListIn, IsUnlisted};
 ghost use Rattle.wax_commands.specs.Refused.{IsRefused};
 ghost use Rattle.wax_commands.specs.Walked.{AreAskedBy, AreAskedByAll, HasRefused, IsNotOf};
 ghost use Rattle.wax_commands.specs.Walked.{IsRefusedOption};
 
 use crate::files::{FileFault, list_in};
-use crate::walk_words::next_option;
 use std::alloc::Global;
 use std::io::Write;
 use thiserror::Error;
 use wax::walk::WalkFilter;
 use wax::{BuildError, Glob};
 use wax_walk::Rule;
+use wax_words::next_option;
 
 /// Why something isn't built that is left out of a walk.
 #[derive(Debug, Drop, Error)]

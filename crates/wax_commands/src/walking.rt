@@ -1,19 +1,19 @@
 //! A walk of a glob, less what other expressions mean and a list ignores.
 ghost use Rattle.std.specs.Fn.{FnReturnsAt};
 ghost use Rattle.std.specs.Prelude.{◌≡◌};
-ghost use Rattle.wax_commands.specs.Commands.{WalkRequest};
+ghost use Rattle.wax_words.specs.Commands.{WalkRequest};
 ghost use Rattle.wax_commands.specs.Walked.{WalkEnds};
-ghost use Rattle.wax_commands.specs.inner.WalkWords.{IsRead};
+ghost use Rattle.wax_words.specs.WalkWords.{IsRead};
 
 use crate::building::{built, built_filters};
-use crate::candidates::write_wanted;
 use crate::files::FileFault;
 use crate::status::{DONE, FAILED, HAS_ERRORS};
-use crate::walk_words::WalkWords;
 use std::alloc::Global;
 use std::io::Write;
 use wax::Counted;
 use wax::walk::Directory;
+use wax_walk_lines::write_wanted;
+use wax_words::WalkWords;
 
 /// Builds the glob, then what is left out, in the order of the words, and then writes the candidates of the
 /// walk over the directory. Errors of the walk are told where they come.
