@@ -1,98 +1,84 @@
-//! Globs in two, alternatives and sizes of tokens: calls that no row of a file makes.
+//! Globs in two: a prefix, and the rest as a glob of its own.
 
-use crate::report::Report;
-use std::alloc::{AllocError, Global};
-use wax::rule::check;
-use wax::token::{Partitioned, TokenFacts, into_alternatives, parse, size};
+use crate::answers::{push_digit, push_field};
+use crate::globs::is_match;
+use crate::refusals;
+use crate::row::Row;
+use std::alloc::Global;
 use wax::{Glob, NoMemory};
 
-pub fn report(alloc: Global) -> Result<Report, AllocError> {
-    let mut report = Report::new(alloc);
-    for (expression, wanted) in [
-        ("a/b*", "a/|b*|b*"),
-        ("a/b", "a/b||**"),
-        ("</**/a:1>", "/|**/a|**/a"),
-        ("", "||**"),
-    ] {
-        report.compare_text(alloc, expression, parts(alloc, expression), wanted)?;
+/// Adds what the row asks of a glob that is taken apart.
+pub fn answer(
+    alloc: Global,
+    row: &Row<'_>,
+    glob: Glob<'_>,
+    made: &mut String,
+) -> Result<(), NoMemory> {
+    match row.kind() {
+        "partition" => push_partition(alloc, glob, made),
+        "prefix" => push_prefix(alloc, glob, made),
+        "rest_or_tree" => push_rest_or_tree(alloc, glob, made),
+        "owned_glob" => push_owned(alloc, row, glob, made),
+        _ => of_rest(alloc, row, glob, made),
     }
-    for (expression, wanted) in [("<ab:3>", Some(6)), ("[ab]?/", Some(9)), ("a*", None)] {
-        report.compare(
-            alloc,
-            expression,
-            fixed_size(alloc, expression),
-            Some(wanted),
-        )?;
+}
+
+fn push_partition(alloc: Global, glob: Glob<'_>, made: &mut String) -> Result<(), NoMemory> {
+    let (prefix, rest) = glob.partition(alloc)?;
+    Ok(match rest {
+        Some(rest) => write!(made, "{prefix}\trest {rest}")?,
+        None => write!(made, "{prefix}\tno rest")?,
+    })
+}
+
+fn push_prefix(alloc: Global, glob: Glob<'_>, made: &mut String) -> Result<(), NoMemory> {
+    let (prefix, _) = glob.partition(alloc)?;
+    Ok(made.push_str(prefix.as_str())?)
+}
+
+/// Adds the prefix, and the rest or the glob of `**`.
+fn push_rest_or_tree(alloc: Global, glob: Glob<'_>, made: &mut String) -> Result<(), NoMemory> {
+    let (prefix, rest) = glob.partition_or_tree(alloc)?;
+    Ok(write!(made, "{prefix}\t{rest}")?)
+}
+
+/// Adds whether the glob with texts of its own matches the path, and its expression.
+fn push_owned(
+    alloc: Global,
+    row: &Row<'_>,
+    glob: Glob<'_>,
+    made: &mut String,
+) -> Result<(), NoMemory> {
+    let owned = glob.into_owned(alloc)?;
+    push_digit(made, is_match(alloc, &owned, row.input(1))?)?;
+    push_field(made, owned.expression())
+}
+
+/// Adds what a glob prints that is built with its warnings, and how many these are.
+pub fn push_diagnosed(alloc: Global, row: &Row<'_>, made: &mut String) -> Result<(), NoMemory> {
+    match Glob::diagnosed(alloc, row.input(0)) {
+        Ok((glob, warnings)) => Ok(write!(made, "{glob}\t{}", warnings.len())?),
+        Err(error) => refusals::answer(alloc, row, &error, made),
     }
-    let checked = checked_parts(alloc, "a/{b}/*");
-    report.compare_text(alloc, "what was checked in two", checked, "a/b/|*")?;
-    let texts = alternatives(alloc, "{{a,b},c}").unwrap_or(None);
-    report.compare_text(alloc, "alternatives", texts, "cab")?;
-    let warned = warned(alloc, "../a/");
-    report.compare_text(
-        alloc,
-        "a glob with its warnings",
-        warned,
-        "../a/ has 2 warnings",
-    )?;
-    let empty = Glob::empty(alloc).ok().map(|glob| glob.is_empty());
-    report.compare(alloc, "the empty glob is empty", empty, Some(true))?;
-    let tree = Glob::tree(alloc).ok().map(|glob| glob.is_empty());
-    report.compare(alloc, "the glob of ** isn't empty", tree, Some(false))?;
-    let owned = owned_expression(alloc, "{a,<b:2>}[c]?");
-    report.compare_text(
-        alloc,
-        "an owned expression",
-        owned,
-        "{a,<b:2>}[c]? has 3 tokens",
-    )?;
-    Ok(report)
 }
 
-/// The prefix, the rest or the empty glob, and the rest or the glob of `**`.
-fn parts(alloc: Global, expression: &str) -> Option<String> {
-    let glob = Glob::new(alloc, expression).ok()?;
-    let (prefix, rest) = glob.partition_or_empty(alloc).ok()?;
-    let glob = Glob::new(alloc, expression).ok()?;
-    let (_, rest_or_tree) = glob.partition_or_tree(alloc).ok()?;
-    format!(in alloc; "{prefix}|{rest}|{rest_or_tree}").ok()
-}
-
-/// The prefix and the expression of the rest of what was checked.
-fn checked_parts(alloc: Global, expression: &str) -> Option<String> {
-    let checked = check(alloc, parse(alloc, expression).ok()?).ok()?;
-    let (prefix, rest) = checked.partition(alloc).ok()?;
-    let rest = rest?.release();
-    format!(in alloc; "{prefix}|{}", rest.expression()).ok()
-}
-
-fn fixed_size(alloc: Global, expression: &str) -> Option<Option<usize>> {
-    let tokenized = parse(alloc, expression).ok()?;
-    size(alloc, tokenized.as_token()).ok()
-}
-
-/// The texts of the alternatives, in their order.
-fn alternatives(alloc: Global, expression: &str) -> Result<Option<String>, NoMemory> {
-    let Ok(tokenized) = parse(alloc, expression) else {
-        return Ok(None);
-    };
-    let mut joined = String::new(alloc);
-    for token in into_alternatives(alloc, tokenized.into_token())? {
-        let text = token.text(alloc)?;
-        joined.push_str(text.as_ref().map_or("?", |text| text.as_str()))?;
+/// Adds what the row asks of the rest, or of the empty glob if there is none.
+fn of_rest(
+    alloc: Global,
+    row: &Row<'_>,
+    glob: Glob<'_>,
+    made: &mut String,
+) -> Result<(), NoMemory> {
+    let (prefix, rest) = glob.partition_or_empty(alloc)?;
+    match row.kind() {
+        "rest" => push_digit(made, is_match(alloc, &rest, row.input(1))?),
+        "again" => push_again(alloc, rest, made),
+        _ => Ok(write!(made, "{prefix}\t{rest}")?),
     }
-    Ok(Some(joined))
 }
 
-fn warned(alloc: Global, expression: &str) -> Option<String> {
-    let (glob, warnings) = Glob::diagnosed(alloc, expression).ok()?;
-    let count = warnings.len();
-    format!(in alloc; "{glob} has {count} warnings").ok()
-}
-
-/// The expression and how many tokens it has, of a copy with texts of its own.
-fn owned_expression(alloc: Global, expression: &str) -> Option<String> {
-    let owned = parse(alloc, expression).ok()?.into_owned(alloc).ok()?;
-    let count = owned.concatenation().len();
-    format!(in alloc; "{} has {count} tokens", owned.expression()).ok()
+/// Adds prefix and rest of a rest.
+fn push_again(alloc: Global, rest: Glob<'_>, made: &mut String) -> Result<(), NoMemory> {
+    let (prefix, rest) = rest.partition_or_empty(alloc)?;
+    Ok(write!(made, "{prefix}\t{rest}")?)
 }

@@ -1,155 +1,117 @@
-//! Sets of patterns.
+//! Sets of patterns: patterns have spaces between, and sets semicolons.
 
-use crate::captures::texts;
-use crate::report::Report;
-use crate::rows::number;
-use std::alloc::{AllocError, Global};
+use crate::answers::{push_digit, push_item};
+use crate::globs::{is_match, push_facts, push_match};
+use crate::refusals::number;
+use crate::row::Row;
+use std::alloc::Global;
 use wax::encode::compile;
 use wax::rule::Checked;
 use wax::token::{ExpressionMetadata, Token};
-use wax::{Any, BuildError, CandidatePath, Glob, NoMemory, Pattern, Program, any};
+use wax::{Any, BuildError, Glob, NoMemory, Pattern, any};
 
-pub fn report(alloc: Global) -> Result<Report, AllocError> {
-    let mut report = Report::new(alloc);
-    for (patterns, text, wanted) in [
-        ("a b*", "bc", Some(true)),
-        ("a b*", "c", Some(false)),
-        ("a a/**", "a/b", Some(true)),
-    ] {
-        report.compare(alloc, text, is_meant_by_one(alloc, patterns, text), wanted)?;
+/// Adds what the row asks of a set.
+pub fn answer(alloc: Global, row: &Row<'_>, made: &mut String) -> Result<(), NoMemory> {
+    let set = match row.kind() {
+        "sets" | "sets_is_match" => set_of_sets(alloc, row.input(0)),
+        "set_of_globs" => set_of_globs(alloc, row.input(0)),
+        "set_length" => set_of_parts(alloc, row.input(0)),
+        "nested_length" => set_of_set(alloc, row.input(0)),
+        "empty_set" => set_of_none(alloc),
+        _ => set_of(alloc, row.input(0)),
+    };
+    match set {
+        Ok(set) => of_set(alloc, row, set, made),
+        Err(BuildError::Memory) => Err(NoMemory),
+        Err(error) => Ok(write!(made, "{}", number(&error))?),
     }
-    for (patterns, wanted) in [
-        ("a//b ***", "2"),
-        ("*** a//b", "1"),
-        ("a <a*:1000000>", "9"),
-        ("ab <a*:174761>", "0"),
-        ("abc <a*:174761>", "9"),
-    ] {
-        let built = built_of_texts(alloc, patterns).ok();
-        report.compare_text(alloc, patterns, built, wanted)?;
-    }
-    report.compare(
-        alloc,
-        "length of no pattern",
-        length(alloc, Vec::new(alloc)),
-        Some(2),
-    )?;
-    report.compare(alloc, "length of one", length_of_one(alloc, "a"), Some(5))?;
-    let nested = length_of_nested(alloc, "a", "b");
-    report.compare(alloc, "length of a set and one", nested, Some(11))?;
-    report.compare_text(alloc, "a set of globs", built_of_globs(alloc), "0")?;
-    let nested = is_meant_by_sets(alloc, "a;b c", "c");
-    report.compare(alloc, "a set of sets", nested, Some(true))?;
-    let nothing = means_nothing(alloc, "");
-    report.compare(alloc, "no pattern on nothing", nothing, Some(false))?;
-    Ok(report)
 }
 
-/// The patterns, with spaces between.
-fn patterns_of<'p>(alloc: Global, patterns: &'p str) -> Result<Vec<&'p str>, AllocError> {
+fn of_set(
+    alloc: Global,
+    row: &Row<'_>,
+    set: Any<'static>,
+    made: &mut String,
+) -> Result<(), NoMemory> {
+    match row.kind() {
+        "meant" => push_match(alloc, &set, row.input(1), made),
+        "set_is_match" | "sets_is_match" => {
+            push_digit(made, is_match(alloc, &set, row.input(1))?)
+        }
+        "set_facts" => {
+            push_facts(alloc, &set, made)?;
+            Ok(write!(made, "\t{set:?}")?)
+        }
+        "empty_set" => {
+            push_digit(made, is_match(alloc, &set, row.input(0))?)?;
+            made.push('\t')?;
+            push_length(alloc, set, made)
+        }
+        "set_length" | "nested_length" => push_length(alloc, set, made),
+        _ => Ok(made.push('0')?),
+    }
+}
+
+/// Builds the set of the patterns.
+fn set_of(alloc: Global, patterns: &str) -> Result<Any<'static>, BuildError> {
     let mut all = Vec::new(alloc);
     for pattern in patterns.split(' ') {
-        all.push(pattern)?;
+        push_item(&mut all, pattern)?;
     }
-    Ok(all)
+    any(alloc, all)
 }
 
-/// 0, or the number of the refusal.
-fn status(alloc: Global, built: Result<Any<'static>, BuildError>) -> Result<String, NoMemory> {
-    let number = built.err().map_or(0, |error| number(&error));
-    Ok(format!(in alloc; "{number}")?)
+fn set_of_none(alloc: Global) -> Result<Any<'static>, BuildError> {
+    let none: Vec<&str> = Vec::new(alloc);
+    any(alloc, none)
 }
 
-/// Whether the set of the patterns builds.
-pub fn built_of_texts(alloc: Global, patterns: &str) -> Result<String, NoMemory> {
-    let patterns = patterns_of(alloc, patterns)?;
-    status(alloc, any(alloc, patterns))
-}
-
-/// The same of globs.
-fn built_of_globs(alloc: Global) -> Option<String> {
-    status(alloc, any(alloc, globs(alloc)?)).ok()
-}
-
-fn globs(alloc: Global) -> Option<Vec<Glob<'static>>> {
+/// Builds the set of the globs of the patterns.
+fn set_of_globs(alloc: Global, patterns: &str) -> Result<Any<'static>, BuildError> {
     let mut all = Vec::new(alloc);
-    for pattern in ["src/**/*.rs", "doc/**/*.md", "pkg/**/PKGBUILD"] {
-        all.push(Glob::new(alloc, pattern).ok()?).ok()?;
+    for pattern in patterns.split(' ') {
+        push_item(&mut all, Glob::new(alloc, pattern))?;
     }
-    Some(all)
+    any(alloc, all)
 }
 
-/// The same of sets, with semicolons between.
-pub fn built_of_sets(alloc: Global, sets: &str) -> Result<String, NoMemory> {
-    match sets_of(alloc, sets) {
-        Some(sets) => status(alloc, any(alloc, sets)),
-        None => Ok(String::from_str(alloc, "not built")?),
-    }
-}
-
-fn sets_of(alloc: Global, sets: &str) -> Option<Vec<Any<'static>>> {
+/// Builds the set of sets.
+fn set_of_sets(alloc: Global, sets: &str) -> Result<Any<'static>, BuildError> {
     let mut all = Vec::new(alloc);
     for patterns in sets.split(';') {
-        all.push(any(alloc, patterns_of(alloc, patterns).ok()?).ok()?)
-            .ok()?;
+        push_item(&mut all, set_of(alloc, patterns))?;
     }
-    Some(all)
-}
-
-/// The path, whether the set means it, and the whole text with what is captured of it where it does.
-pub fn captured_by_set(alloc: Global, patterns: &str, path: &str) -> Result<String, NoMemory> {
-    let Ok(set) = any(alloc, patterns_of(alloc, patterns)?) else {
-        return Ok(String::from_str(alloc, "not built")?);
-    };
-    let candidate = CandidatePath::from(path);
-    match set.matched(alloc, &candidate)? {
-        Some(matched) => {
-            let texts = texts(alloc, &matched, '\t')?;
-            Ok(format!(in alloc; "{path}\t1\t{texts}")?)
-        }
-        None => Ok(format!(in alloc; "{path}\t0")?),
-    }
-}
-
-fn is_meant_by_one(alloc: Global, patterns: &str, text: &str) -> Option<bool> {
-    let set = any(alloc, patterns_of(alloc, patterns).ok()?).ok()?;
-    set.is_match(alloc, &CandidatePath::from(text)).ok()
-}
-
-/// Whether a set of sets means the text.
-fn is_meant_by_sets(alloc: Global, sets: &str, text: &str) -> Option<bool> {
-    let set = any(alloc, sets_of(alloc, sets)?).ok()?;
-    set.is_match(alloc, &CandidatePath::from(text)).ok()
-}
-
-/// Whether the set of no patterns means the text.
-fn means_nothing(alloc: Global, text: &str) -> Option<bool> {
-    let none: Vec<&str> = Vec::new(alloc);
-    let set = any(alloc, none).ok()?;
-    set.is_match(alloc, &CandidatePath::from(text)).ok()
+    any(alloc, all)
 }
 
 type Part = Checked<Token<'static, ExpressionMetadata>>;
 
-/// How long the program of a set is.
-fn length(alloc: Global, parts: Vec<Part>) -> Option<usize> {
-    let set = any(alloc, parts).ok()?;
-    let token = set.into_checked(alloc).ok()?.release();
-    let program = compile(alloc, token.concatenation(), false, false).ok()?;
-    Some(program.len())
+/// Builds the set of the checked tokens of the patterns.
+fn set_of_parts(alloc: Global, patterns: &str) -> Result<Any<'static>, BuildError> {
+    let mut parts: Vec<Part> = Vec::new(alloc);
+    for pattern in patterns.split(' ') {
+        push_item(&mut parts, pattern.into_checked(alloc)?)?;
+    }
+    any(alloc, parts)
 }
 
-fn length_of_one(alloc: Global, pattern: &str) -> Option<usize> {
-    let mut parts = Vec::new(alloc);
-    parts.push(pattern.into_checked(alloc).ok()?).ok()?;
-    length(alloc, parts)
+/// Builds the set of the checked tokens of a set, before the semicolon, and of the pattern after it.
+fn set_of_set(alloc: Global, patterns: &str) -> Result<Any<'static>, BuildError> {
+    let (set, pattern) = patterns.split_once(';').unwrap_or((patterns, ""));
+    let mut parts: Vec<Part> = Vec::new(alloc);
+    push_item(&mut parts, set_of(alloc, set)?.into_checked(alloc)?)?;
+    push_item(&mut parts, pattern.into_checked(alloc)?)?;
+    any(alloc, parts)
 }
 
-/// The same of a set of a set of one pattern, and of another.
-fn length_of_nested(alloc: Global, first: &str, second: &str) -> Option<usize> {
-    let set = any(alloc, patterns_of(alloc, first).ok()?).ok()?;
-    let mut parts = Vec::new(alloc);
-    parts.push(set.into_checked(alloc).ok()?).ok()?;
-    parts.push(second.into_checked(alloc).ok()?).ok()?;
-    length(alloc, parts)
+/// Adds how long the program of the set's token is.
+fn push_length(alloc: Global, set: Any<'static>, made: &mut String) -> Result<(), NoMemory> {
+    let Ok(checked) = set.into_checked(alloc) else {
+        return Err(NoMemory);
+    };
+    let token = checked.release();
+    let Ok(program) = compile(alloc, token.concatenation(), false, false) else {
+        return Err(NoMemory);
+    };
+    Ok(write!(made, "{}", program.len())?)
 }
