@@ -1,12 +1,13 @@
 //! Answers of rows, by their kinds.
 
+use crate::answer::Answer;
 use crate::row::Row;
 use crate::{checked, globs, lists, parts, paths, programs, sets, spans, tokens};
 use std::alloc::Global;
 use wax::NoMemory;
 
 /// Adds the answer of a row.
-pub fn answer(alloc: Global, row: &Row<'_>, made: &mut String) -> Result<(), NoMemory> {
+pub fn answer(alloc: Global, row: &Row<'_>, made: &mut Answer) -> Result<(), NoMemory> {
     match row.kind() {
         "depth"
         | "root"
@@ -25,7 +26,7 @@ pub fn answer(alloc: Global, row: &Row<'_>, made: &mut String) -> Result<(), NoM
         | "checked_parts"
         | "owned_checked"
         | "owned_error" => { tokens::answer(alloc, row, made) }
-        "checked_any" => checked::push_any(alloc, row, made),
+        "checked_any" => checked::add_any(alloc, row, made),
         "length" | "program" | "program_visits" => programs::answer(alloc, row, made),
         "set"
         | "sets"
@@ -36,7 +37,8 @@ pub fn answer(alloc: Global, row: &Row<'_>, made: &mut String) -> Result<(), NoM
         | "set_facts"
         | "set_length"
         | "nested_length"
-        | "empty_set" => { sets::answer(alloc, row, made) }
+        | "empty_set"
+        | "empty_length" => { sets::answer(alloc, row, made) }
         "ignored" | "bad_line" => lists::answer(alloc, row, made),
         "escape" | "folded" | "meta" | "path_copies" | "empty_glob" | "tree_glob" => {
             paths::answer(alloc, row, made)
@@ -48,36 +50,25 @@ pub fn answer(alloc: Global, row: &Row<'_>, made: &mut String) -> Result<(), NoM
         | "span_labels"
         | "split_labels"
         | "printed_refusals" => spans::answer(alloc, row, made),
-        "diagnosed" => parts::push_diagnosed(alloc, row, made),
+        "diagnosed" => parts::add_diagnosed(alloc, row, made),
         _ => globs::answer(alloc, row, made),
     }
 }
 
-/// Adds 1 or 0.
-pub fn push_digit(made: &mut String, holds: bool) -> Result<(), NoMemory> {
-    Ok(made.push(if holds { '1' } else { '0' })?)
-}
-
-/// Adds a field: a tab, and the text.
-pub fn push_field(made: &mut String, text: &str) -> Result<(), NoMemory> {
-    made.push('\t')?;
-    Ok(made.push_str(text)?)
-}
-
 /// Adds `within` if the number is in the range, written as `9..90`, and else the number.
-pub fn push_within(made: &mut String, number: u128, range: &str) -> Result<(), NoMemory> {
+pub fn add_within(made: &mut Answer, number: u128, range: &str) {
     let (least, greatest) = range.split_once("..").unwrap_or(("", ""));
     let least = least.parse::<u128>().unwrap_or(u128::MAX);
     let greatest = greatest.parse::<u128>().unwrap_or(0);
     if least <= number && number <= greatest {
-        Ok(made.push_str("within")?)
+        made.add("within");
     } else {
-        Ok(write!(made, "{number}")?)
+        made.show(&number);
     }
 }
 
-/// Adds an item at the end.
-pub fn push_item<T: Drop>(items: &mut Vec<T>, item: T) -> Result<(), NoMemory> {
+/// Puts an item at the end.
+pub fn push<T: Drop>(items: &mut Vec<T>, item: T) -> Result<(), NoMemory> {
     match items.push(item) {
         Ok(()) => Ok(()),
         Err(_) => Err(NoMemory),

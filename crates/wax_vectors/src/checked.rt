@@ -1,11 +1,12 @@
 //! Expressions that were checked against the rules, and not compiled.
 
-use crate::answers::push_item;
+use crate::answer::Answer;
+use crate::answers::push;
 use crate::row::Row;
-use crate::tokens::push_text;
+use crate::tokens::{add_text, add_texts};
 use std::alloc::Global;
 use wax::rule::{Checked, check};
-use wax::token::{ExpressionMetadata, Partitioned, Tokenized, parse};
+use wax::token::{ExpressionMetadata, Partitioned, Token, Tokenized, parse};
 use wax::{NoMemory, Refusal};
 
 type CheckedTokens<'t> = Checked<Tokenized<'t, ExpressionMetadata>>;
@@ -15,13 +16,14 @@ pub fn answer(
     alloc: Global,
     row: &Row<'_>,
     tokens: Tokenized<'_, ExpressionMetadata>,
-    made: &mut String,
+    made: &mut Answer,
 ) -> Result<(), NoMemory> {
     match check(alloc, tokens) {
         Ok(checked) => of_checked(alloc, row, checked, made),
         Err(Refusal::Refused(error)) => {
-            let owned = error.into_owned(alloc)?;
-            Ok(write!(made, "broken {}", owned.expression())?)
+            made.add("broken ");
+            made.add(error.into_owned(alloc)?.expression());
+            Ok(())
         }
         Err(Refusal::Memory) => Err(NoMemory),
     }
@@ -31,73 +33,77 @@ fn of_checked(
     alloc: Global,
     row: &Row<'_>,
     checked: CheckedTokens<'_>,
-    made: &mut String,
+    made: &mut Answer,
 ) -> Result<(), NoMemory> {
     match row.kind() {
-        "alternatives" => push_alternatives(alloc, checked, made),
-        "checked_parts" => push_parts(alloc, checked, made),
-        "owned_checked" => push_owned(alloc, checked, made),
-        _ => Ok(made.push_str("not broken")?),
+        "alternatives" => add_alternatives(alloc, checked, made),
+        "checked_parts" => add_parts(alloc, checked, made),
+        _ => add_owned(alloc, checked, made),
     }
 }
 
 /// Adds the texts of the alternatives, each with a bar behind it.
-fn push_alternatives(
+fn add_alternatives(
     alloc: Global,
     checked: CheckedTokens<'_>,
-    made: &mut String,
+    made: &mut Answer,
 ) -> Result<(), NoMemory> {
-    for alternative in checked.into_alternatives(alloc)? {
-        push_text(alloc, &alternative.release(), made)?;
-        made.push('|')?;
+    for alternative in &checked.into_alternatives(alloc)? {
+        add_text(alloc, alternative.as_ref(), made)?;
+        made.add("|");
     }
     Ok(())
 }
 
 /// Adds the prefix, and the expression of the rest.
-fn push_parts(
-    alloc: Global,
-    checked: CheckedTokens<'_>,
-    made: &mut String,
-) -> Result<(), NoMemory> {
+fn add_parts(alloc: Global, checked: CheckedTokens<'_>, made: &mut Answer) -> Result<(), NoMemory> {
     let (prefix, rest) = checked.partition(alloc)?;
-    Ok(match rest {
-        Some(rest) => write!(made, "{prefix}\trest {}", rest.release().expression())?,
-        None => write!(made, "{prefix}\tno rest")?,
-    })
+    made.add(prefix.as_str());
+    match &rest {
+        Some(rest) => {
+            made.add("\trest ");
+            made.add(rest.as_ref().expression());
+        }
+        None => made.add("\tno rest"),
+    }
+    Ok(())
 }
 
-/// Adds the expression and its one text, and the one text of its token, each with texts of its own.
-fn push_owned(
-    alloc: Global,
-    checked: CheckedTokens<'_>,
-    made: &mut String,
-) -> Result<(), NoMemory> {
+/// Adds the expression and the one text of its token, each with texts of its own.
+fn add_owned(alloc: Global, checked: CheckedTokens<'_>, made: &mut Answer) -> Result<(), NoMemory> {
     let owned = checked.into_owned(alloc)?;
-    write!(made, "{}\t", owned.as_ref().expression())?;
-    push_text(alloc, owned.as_ref().as_token(), made)?;
-    made.push('\t')?;
-    let token = owned.into_token().into_owned(alloc)?;
-    push_text(alloc, &token.release(), made)
+    made.add(owned.as_ref().expression());
+    made.tab();
+    add_text(alloc, owned.as_ref().as_token(), made)?;
+    made.tab();
+    add_owned_token(alloc, owned.into_token(), made)
+}
+
+fn add_owned_token(
+    alloc: Global,
+    token: Checked<Token<'_, ExpressionMetadata>>,
+    made: &mut Answer,
+) -> Result<(), NoMemory> {
+    add_text(alloc, token.into_owned(alloc)?.as_ref(), made)
 }
 
 /// Adds the span and the branches of the alternation of the row's expressions, which have spaces between.
-pub fn push_any(alloc: Global, row: &Row<'_>, made: &mut String) -> Result<(), NoMemory> {
+pub fn add_any(alloc: Global, row: &Row<'_>, made: &mut Answer) -> Result<(), NoMemory> {
+    let joined = Checked::any(alloc, checked_each(alloc, row.input(0))?)?;
+    made.span(joined.as_ref().annotation().span());
+    made.tab();
+    match joined.as_ref().as_alternation() {
+        Some(alternation) => add_texts(alloc, alternation.tokens(), made),
+        None => Err(NoMemory),
+    }
+}
+
+fn checked_each(alloc: Global, expressions: &str) -> Result<Vec<CheckedTokens<'_>>, NoMemory> {
     let mut all = Vec::new(alloc);
-    for expression in row.input(0).split(' ') {
-        push_item(&mut all, checked_of(alloc, expression)?)?;
+    for expression in expressions.split(' ') {
+        push(&mut all, checked_of(alloc, expression)?)?;
     }
-    let joined = Checked::any(alloc, all)?.release();
-    let (start, len) = joined.annotation().span();
-    write!(made, "{start} {len}\t")?;
-    let Some(alternation) = joined.as_alternation() else {
-        return Ok(made.push_str("no alternation")?);
-    };
-    for token in alternation.tokens() {
-        push_text(alloc, token, made)?;
-        made.push('|')?;
-    }
-    Ok(())
+    Ok(all)
 }
 
 /// Returns the checked tokens of an expression that keeps the rules.

@@ -1,44 +1,51 @@
 //! Copies of globs and of what they match.
 
-use crate::answers::{push_digit, push_field};
-use crate::globs::{is_match, push_texts};
+use crate::answer::Answer;
+use crate::globs::{add_is_match, add_texts};
 use std::alloc::Global;
 use wax::{CandidatePath, Glob, MatchedText, NoMemory, Program};
 
 /// Adds the texts of what was matched: of a clone, of a copy with texts of its own, and of itself once it has
 /// its own.
-pub fn push_matches(
+pub fn add_matches(
     alloc: Global,
     glob: &Glob<'_>,
     path: &str,
-    made: &mut String,
+    made: &mut Answer,
 ) -> Result<(), NoMemory> {
     let path = CandidatePath::from(path);
     match glob.matched(alloc, &path)? {
-        Some(matched) => push_copies(alloc, matched, made),
-        None => Ok(made.push_str("no match")?),
+        Some(matched) => add_copies(alloc, matched, made),
+        None => Err(NoMemory),
     }
 }
 
-fn push_copies(alloc: Global, matched: MatchedText<'_>, made: &mut String) -> Result<(), NoMemory> {
-    let clone = matched.clone()?;
-    made.push_str(clone.complete())?;
-    push_texts(&clone, '|', made)?;
-    made.push('\t')?;
-    push_texts(&matched.to_owned(alloc)?, '|', made)?;
-    made.push('\t')?;
-    push_texts(&matched.into_owned(alloc)?, '|', made)
+fn add_copies(alloc: Global, matched: MatchedText<'_>, made: &mut Answer) -> Result<(), NoMemory> {
+    add_clone(&matched.clone()?, made);
+    add_clone(&matched.to_owned(alloc)?, made);
+    add_clone(&matched.into_owned(alloc)?, made);
+    Ok(())
+}
+
+/// Adds the whole text, and the texts by their numbers.
+fn add_clone(matched: &MatchedText<'_>, made: &mut Answer) {
+    made.add(matched.complete());
+    add_texts(matched, "|", made);
+    made.add(";");
 }
 
 /// Adds whether a copy of the glob matches the path, its expression and its debug text.
-pub fn push_globs(
+pub fn add_globs(
     alloc: Global,
     glob: &Glob<'_>,
     path: &str,
-    made: &mut String,
+    made: &mut Answer,
 ) -> Result<(), NoMemory> {
     let copy = glob.to_owned(alloc)?;
-    push_digit(made, is_match(alloc, &copy, path)?)?;
-    push_field(made, copy.expression())?;
-    Ok(write!(made, "\t{copy:?}")?)
+    add_is_match(alloc, &copy, path, made)?;
+    made.tab();
+    made.add(copy.expression());
+    made.tab();
+    made.debug(&copy);
+    Ok(())
 }

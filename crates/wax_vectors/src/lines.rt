@@ -1,11 +1,12 @@
 //! Lines that are read one byte at a time, filtered or captured of.
 
-use crate::answers::push_digit;
-use crate::globs::is_match;
+use crate::answer::Answer;
 use crate::row::Row;
 use std::alloc::{AllocError, Global};
 use std::io::{self, Cursor, Read};
-use wax::{Counted, Glob, LinesError, NoMemory, capture_lines, filter_lines};
+use wax::{
+    CandidatePath, Counted, Glob, LinesError, NoMemory, Program, capture_lines, filter_lines,
+};
 
 /// How many bytes the lines that are written may have.
 const ROOM: usize = 1_024;
@@ -31,11 +32,11 @@ impl Read for Bytes<'_> {
 
 /// Adds the lines that are written of the row's lines; then, each behind `=`, how the call ended and whether the
 /// glob matches the row's path after it.
-pub fn push_lines(
+pub fn add_lines(
     alloc: Global,
     glob: &Glob<'_>,
     row: &Row<'_>,
-    made: &mut String,
+    made: &mut Answer,
 ) -> Result<(), NoMemory> {
     let bytes = bytes_of(alloc, row.input(1))?;
     let mut input = Counted::new(Bytes { left: &bytes });
@@ -45,12 +46,13 @@ pub fn push_lines(
     } else {
         capture_lines(alloc, &mut input, &mut output, glob)
     };
-    push_written(&output.into_inner(), made)?;
-    push_end(ended, made)?;
-    match is_match(alloc, glob, row.input(2)) {
-        Ok(answer) => push_digit(made, answer),
-        Err(_) => Ok(made.push_str("no memory")?),
+    add_written(&output.into_inner(), made);
+    add_end(ended, made);
+    match glob.is_match(alloc, &CandidatePath::from(row.input(2))) {
+        Ok(answer) => made.digit(answer),
+        Err(error) => made.show(&error),
     }
+    Ok(())
 }
 
 /// Returns the bytes of a text, with a byte that is no text for each U+FFFD.
@@ -65,14 +67,19 @@ fn bytes_of(alloc: Global, text: &str) -> Result<Vec<u8>, AllocError> {
     Ok(bytes)
 }
 
-fn push_written(output: &Cursor<[u8; ROOM]>, made: &mut String) -> Result<(), AllocError> {
+fn add_written(output: &Cursor<[u8; ROOM]>, made: &mut Answer) {
     let count = usize::try_from(output.position()).unwrap_or(0).min(ROOM);
-    made.push_str(str::from_utf8(&output.get_ref()[..count]).unwrap_or("not text"))
+    made.add(str::from_utf8(&output.get_ref()[..count]).unwrap_or("not text"));
 }
 
-fn push_end(ended: Result<u64, LinesError>, made: &mut String) -> Result<(), AllocError> {
+fn add_end(ended: Result<u64, LinesError>, made: &mut Answer) {
+    made.add("= ");
     match ended {
-        Ok(count) => write!(made, "= {count} not text\n= "),
-        Err(error) => write!(made, "= {error}\n= "),
+        Ok(count) => {
+            made.show(&count);
+            made.add(" not text");
+        }
+        Err(error) => made.show(&error),
     }
+    made.add("\n= ");
 }

@@ -2,6 +2,7 @@
 //! with those that are wanted; each line of standard input is a row without its answer, which is shown.
 #![tactic(auto)]
 
+mod answer;
 mod answers;
 mod checked;
 mod copies;
@@ -18,29 +19,27 @@ mod sets;
 mod spans;
 mod tokens;
 
+use answer::Answer;
 use answers::answer;
 use row::Row;
 use std::{env, fs, io};
 
-/// How many bytes an answer may have without a request for memory.
-const ROOM: usize = 65_536;
-
 fn main(rt: HostRuntime) -> io::Result<()> {
-    let mut made = String::with_capacity(rt.alloc(), ROOM)?;
+    let mut made = Answer::new(rt.alloc())?;
     for name in env::args(&rt)?.skip(1) {
         compare_rows(&rt, &name, &mut made)?;
     }
     for line in rt.lines(rt.alloc()) {
         let line = line?;
         let row = Row::read(rt.alloc(), &line)?;
-        make(&rt, &row, &mut made);
-        println!(rt; "{line}\t{made}")?;
+        let answer = make(&rt, &row, &mut made);
+        println!(rt; "{line}\t{answer}")?;
     }
     Ok(())
 }
 
 /// Prints each row of the file whose answer is another, and how many are the same.
-fn compare_rows(rt: &HostRuntime, name: &str, made: &mut String) -> io::Result<()> {
+fn compare_rows(rt: &HostRuntime, name: &str, made: &mut Answer) -> io::Result<()> {
     let rows = fs::read_to_string(rt, name)?;
     let mut same: u64 = 0;
     let mut other: u64 = 0;
@@ -58,21 +57,21 @@ fn compare_rows(rt: &HostRuntime, name: &str, made: &mut String) -> io::Result<(
 }
 
 /// Returns whether the answer of the row is the one that is wanted. Prints the row if not.
-fn is_same(rt: &HostRuntime, line: &str, made: &mut String) -> io::Result<bool> {
+fn is_same(rt: &HostRuntime, line: &str, made: &mut Answer) -> io::Result<bool> {
     let row = Row::read(rt.alloc(), line)?;
-    make(rt, &row, made);
-    let is_same = made.as_str() == row.wanted();
+    let answer = make(rt, &row, made);
+    let is_same = answer == row.wanted();
     if !is_same {
-        println!(rt; "{line}\n    came to {made}")?;
+        println!(rt; "{line}\n    came to {answer}")?;
     }
     Ok(is_same)
 }
 
 /// Makes the answer of the row.
-fn make(rt: &HostRuntime, row: &Row<'_>, made: &mut String) {
+fn make<'m>(rt: &HostRuntime, row: &Row<'_>, made: &'m mut Answer) -> &'m str {
     made.clear();
-    if answer(rt.alloc(), row, made).is_err() {
-        made.clear();
-        let _ = made.push_str("no memory");
+    match answer(rt.alloc(), row, made) {
+        Ok(()) => made.text().unwrap_or("no memory"),
+        Err(_) => "no memory",
     }
 }

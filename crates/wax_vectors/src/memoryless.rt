@@ -1,8 +1,9 @@
 //! Calls that request no memory: all that they need is made before them, and so is the room of the answer.
 
+use crate::answer::Answer;
 use crate::globs::when;
 use crate::row::Row;
-use std::alloc::{AllocError, Global};
+use std::alloc::Global;
 use wax::encode::compile;
 use wax::query::When;
 use wax::token::{ExpressionMetadata, TokenFacts, Tokenized, parse};
@@ -13,15 +14,15 @@ use wax::{
 };
 
 /// Adds what these calls return of the glob, or only that all is made that they need.
-pub fn push_facts(
+pub fn add_facts(
     alloc: Global,
     glob: &Glob<'_>,
     row: &Row<'_>,
-    made: &mut String,
+    made: &mut Answer,
 ) -> Result<(), NoMemory> {
     let path = CandidatePath::from(row.input(1));
     let Some(matched) = glob.matched(alloc, &path)? else {
-        return Ok(made.push_str("no match")?);
+        return Err(NoMemory);
     };
     let Ok(tokenized) = parse(alloc, row.input(0)) else {
         return Err(NoMemory);
@@ -29,53 +30,60 @@ pub fn push_facts(
     let Ok(program) = compile(alloc, tokenized.concatenation(), false, false) else {
         return Err(NoMemory);
     };
-    if row.kind() == "prepared" {
-        return Ok(made.push_str("prepared")?);
+    made.add("prepared");
+    if row.kind() == "memoryless" {
+        add_glob(glob, made);
+        add_match(&matched, made);
+        add_tokens(&tokenized, &program, made);
+        add_values(made);
     }
-    push_glob(glob, made)?;
-    push_match(&matched, made)?;
-    push_tokens(&tokenized, &program, made)?;
-    Ok(push_values(made)?)
+    Ok(())
 }
 
-fn push_glob(glob: &Glob<'_>, made: &mut String) -> Result<(), AllocError> {
-    write!(made, "{glob}\t{}\t{:?}", glob.is_empty(), glob.depth())?;
-    let (root, exhaustive) = (when(glob.has_root()), when(glob.is_exhaustive()));
-    write!(made, "\t{root}\t{exhaustive}")
+fn add_glob(glob: &Glob<'_>, made: &mut Answer) {
+    made.tab();
+    made.show(glob);
+    made.tab();
+    made.digit(glob.is_empty());
+    made.tab();
+    made.debug(&glob.depth());
+    made.tab();
+    made.add(when(glob.has_root()));
+    made.tab();
+    made.add(when(glob.is_exhaustive()));
 }
 
-fn push_match(matched: &MatchedText<'_>, made: &mut String) -> Result<(), AllocError> {
-    let (whole, path) = (matched.complete(), matched.to_candidate_path());
-    write!(
-        made,
-        "\t{whole}\t{path}\t{:?}\t{:?}",
-        matched.get(2),
-        matched.get(9)
-    )
+fn add_match(matched: &MatchedText<'_>, made: &mut Answer) {
+    made.tab();
+    made.add(matched.complete());
+    made.tab();
+    made.show(&matched.to_candidate_path());
+    made.tab();
+    made.debug(&matched.get(2));
+    made.tab();
+    made.debug(&matched.get(9));
 }
 
-fn push_tokens(
+fn add_tokens(
     tokenized: &Tokenized<'_, ExpressionMetadata>,
     program: &encode::Program,
-    made: &mut String,
-) -> Result<(), AllocError> {
-    let exhaustive = when(tokenized.as_token().is_exhaustive());
-    write!(made, "\t{}\t{exhaustive}", program.len())
+    made: &mut Answer,
+) {
+    made.tab();
+    made.show(&program.len());
+    made.tab();
+    made.add(when(tokenized.as_token().is_exhaustive()));
 }
 
-/// Adds what characters, answers and depths come to.
-fn push_values(made: &mut String) -> Result<(), AllocError> {
-    let is_meta = is_meta_character('*');
-    let is_contextual = is_contextual_meta_character('-');
-    write!(
-        made,
-        "\t{is_meta} {is_contextual}\t{}",
-        CandidatePath::from("a/b")
-    )?;
-    let both = when(When::Always.and(When::Sometimes));
-    write!(
-        made,
-        "\t{both}\t{:?}",
-        DepthMinMax::from_depths_or_max(3, 1)
-    )
+/// Adds what characters, paths, answers and depths come to.
+fn add_values(made: &mut Answer) {
+    made.tab();
+    made.digit(is_meta_character('*'));
+    made.digit(is_contextual_meta_character('-'));
+    made.tab();
+    made.show(&CandidatePath::from("a/b"));
+    made.tab();
+    made.add(when(When::Always.and(When::Sometimes)));
+    made.tab();
+    made.debug(&DepthMinMax::from_depths_or_max(3, 1));
 }

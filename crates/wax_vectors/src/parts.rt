@@ -1,7 +1,7 @@
 //! Globs in two: a prefix, and the rest as a glob of its own.
 
-use crate::answers::{push_digit, push_field};
-use crate::globs::is_match;
+use crate::answer::Answer;
+use crate::globs::add_is_match;
 use crate::refusals;
 use crate::row::Row;
 use std::alloc::Global;
@@ -12,73 +12,70 @@ pub fn answer(
     alloc: Global,
     row: &Row<'_>,
     glob: Glob<'_>,
-    made: &mut String,
+    made: &mut Answer,
 ) -> Result<(), NoMemory> {
     match row.kind() {
-        "partition" => push_partition(alloc, glob, made),
-        "prefix" => push_prefix(alloc, glob, made),
-        "rest_or_tree" => push_rest_or_tree(alloc, glob, made),
-        "owned_glob" => push_owned(alloc, row, glob, made),
-        _ => of_rest(alloc, row, glob, made),
+        "rest_or_tree" => add_both(glob.partition_or_tree(alloc)?, made),
+        "rest_or_empty" => add_both(glob.partition_or_empty(alloc)?, made),
+        "rest" => {
+            let (_, rest) = glob.partition_or_empty(alloc)?;
+            return add_is_match(alloc, &rest, row.input(1), made);
+        }
+        "again" => {
+            let (_, rest) = glob.partition_or_empty(alloc)?;
+            add_both(rest.partition_or_empty(alloc)?, made);
+        }
+        "owned_glob" => return add_owned(alloc, row, glob, made),
+        _ => add_partition(row, glob.partition(alloc)?, made),
     }
+    Ok(())
 }
 
-fn push_partition(alloc: Global, glob: Glob<'_>, made: &mut String) -> Result<(), NoMemory> {
-    let (prefix, rest) = glob.partition(alloc)?;
-    Ok(match rest {
-        Some(rest) => write!(made, "{prefix}\trest {rest}")?,
-        None => write!(made, "{prefix}\tno rest")?,
-    })
+/// Adds a prefix and a rest.
+fn add_both(parts: (String, Glob<'_>), made: &mut Answer) {
+    made.add(parts.0.as_str());
+    made.tab();
+    made.show(&parts.1);
 }
 
-fn push_prefix(alloc: Global, glob: Glob<'_>, made: &mut String) -> Result<(), NoMemory> {
-    let (prefix, _) = glob.partition(alloc)?;
-    Ok(made.push_str(prefix.as_str())?)
-}
-
-/// Adds the prefix, and the rest or the glob of `**`.
-fn push_rest_or_tree(alloc: Global, glob: Glob<'_>, made: &mut String) -> Result<(), NoMemory> {
-    let (prefix, rest) = glob.partition_or_tree(alloc)?;
-    Ok(write!(made, "{prefix}\t{rest}")?)
+/// Adds the prefix, and the rest if the row asks for it.
+fn add_partition(row: &Row<'_>, parts: (String, Option<Glob<'_>>), made: &mut Answer) {
+    made.add(parts.0.as_str());
+    if row.kind() == "prefix" {
+        return;
+    }
+    match &parts.1 {
+        Some(rest) => {
+            made.add("\trest ");
+            made.show(rest);
+        }
+        None => made.add("\tno rest"),
+    }
 }
 
 /// Adds whether the glob with texts of its own matches the path, and its expression.
-fn push_owned(
+fn add_owned(
     alloc: Global,
     row: &Row<'_>,
     glob: Glob<'_>,
-    made: &mut String,
+    made: &mut Answer,
 ) -> Result<(), NoMemory> {
     let owned = glob.into_owned(alloc)?;
-    push_digit(made, is_match(alloc, &owned, row.input(1))?)?;
-    push_field(made, owned.expression())
+    add_is_match(alloc, &owned, row.input(1), made)?;
+    made.tab();
+    made.add(owned.expression());
+    Ok(())
 }
 
 /// Adds what a glob prints that is built with its warnings, and how many these are.
-pub fn push_diagnosed(alloc: Global, row: &Row<'_>, made: &mut String) -> Result<(), NoMemory> {
+pub fn add_diagnosed(alloc: Global, row: &Row<'_>, made: &mut Answer) -> Result<(), NoMemory> {
     match Glob::diagnosed(alloc, row.input(0)) {
-        Ok((glob, warnings)) => Ok(write!(made, "{glob}\t{}", warnings.len())?),
+        Ok((glob, warnings)) => {
+            made.show(&glob);
+            made.tab();
+            made.show(&warnings.len());
+            Ok(())
+        }
         Err(error) => refusals::answer(alloc, row, &error, made),
     }
-}
-
-/// Adds what the row asks of the rest, or of the empty glob if there is none.
-fn of_rest(
-    alloc: Global,
-    row: &Row<'_>,
-    glob: Glob<'_>,
-    made: &mut String,
-) -> Result<(), NoMemory> {
-    let (prefix, rest) = glob.partition_or_empty(alloc)?;
-    match row.kind() {
-        "rest" => push_digit(made, is_match(alloc, &rest, row.input(1))?),
-        "again" => push_again(alloc, rest, made),
-        _ => Ok(write!(made, "{prefix}\t{rest}")?),
-    }
-}
-
-/// Adds prefix and rest of a rest.
-fn push_again(alloc: Global, rest: Glob<'_>, made: &mut String) -> Result<(), NoMemory> {
-    let (prefix, rest) = rest.partition_or_empty(alloc)?;
-    Ok(write!(made, "{prefix}\t{rest}")?)
 }

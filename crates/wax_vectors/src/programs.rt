@@ -1,23 +1,34 @@
 //! Programs of expressions, with no rule checked: how long they are, and what they accept in how many visits.
 
-use crate::answers::{push_digit, push_within};
+use crate::answer::Answer;
+use crate::answers::add_within;
 use crate::row::Row;
 use std::alloc::Global;
 use wax::encode::{Meter, Program, compile, run};
-use wax::token::parse;
+use wax::token::{ExpressionMetadata, Tokenized, parse};
 use wax::{NoMemory, Refusal};
 
 /// Adds what the row asks of the program of an expression.
-pub fn answer(alloc: Global, row: &Row<'_>, made: &mut String) -> Result<(), NoMemory> {
-    let tokenized = match parse(alloc, row.input(0)) {
-        Ok(tokenized) => tokenized,
-        Err(Refusal::Memory) => return Err(NoMemory),
-        Err(Refusal::Refused(_)) => return Ok(made.push_str("not parsed")?),
-    };
-    match compile(alloc, tokenized.concatenation(), false, false) {
+pub fn answer(alloc: Global, row: &Row<'_>, made: &mut Answer) -> Result<(), NoMemory> {
+    match parse(alloc, row.input(0)) {
+        Ok(tokens) => of_tokens(alloc, row, &tokens, made),
+        Err(_) => Err(NoMemory),
+    }
+}
+
+fn of_tokens(
+    alloc: Global,
+    row: &Row<'_>,
+    tokens: &Tokenized<'_, ExpressionMetadata>,
+    made: &mut Answer,
+) -> Result<(), NoMemory> {
+    match compile(alloc, tokens.concatenation(), false, false) {
         Ok(program) => of_program(alloc, row, &program, made),
         Err(Refusal::Memory) => Err(NoMemory),
-        Err(Refusal::Refused(error)) => Ok(write!(made, "{error}")?),
+        Err(Refusal::Refused(error)) => {
+            made.show(&error);
+            Ok(())
+        }
     }
 }
 
@@ -25,16 +36,17 @@ fn of_program(
     alloc: Global,
     row: &Row<'_>,
     program: &Program,
-    made: &mut String,
+    made: &mut Answer,
 ) -> Result<(), NoMemory> {
     if row.kind() == "length" {
-        return Ok(write!(made, "{}", program.len())?);
+        made.show(&program.len());
+        return Ok(());
     }
     let mut meter = Meter::new();
-    push_digit(made, run(alloc, program, row.input(1), &mut meter)?)?;
+    made.digit(run(alloc, program, row.input(1), &mut meter)?);
     if row.kind() == "program_visits" {
-        made.push('\t')?;
-        push_within(made, meter.ticks(), row.input(2))?;
+        made.tab();
+        add_within(made, meter.ticks(), row.input(2));
     }
     Ok(())
 }

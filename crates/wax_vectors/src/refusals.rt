@@ -1,6 +1,6 @@
 //! Why an expression isn't built.
 
-use crate::answers::push_field;
+use crate::answer::Answer;
 use crate::row::Row;
 use std::alloc::Global;
 use wax::diagnostics::{LocatedError, Span};
@@ -12,28 +12,28 @@ pub fn answer(
     alloc: Global,
     row: &Row<'_>,
     error: &BuildError,
-    made: &mut String,
+    made: &mut Answer,
 ) -> Result<(), NoMemory> {
-    if let BuildError::Memory = error {
-        return Err(NoMemory);
-    }
     match row.kind() {
-        "builds" => Ok(write!(made, "{}", number(error))?),
-        "accept" => push_span(error, made),
-        "labels" => push_rule_labels(alloc, error, made),
+        _ if number(error) == 10 => return Err(NoMemory),
+        "builds" => made.show(&number(error)),
+        "accept" => add_span(error, made),
+        "labels" => return add_rule_labels(alloc, error, made),
         "error_labels" => {
-            write!(made, "{}", number(error))?;
-            push_labels(error.labels(alloc)?, made)
+            made.show(&number(error));
+            add_labels(&error.labels(alloc)?, made);
         }
-        "location" => push_location(error, made),
-        "error" => Ok(write!(made, "{error}")?),
+        "location" => add_location(error, made),
+        "error" => made.show(error),
         "picture" => {
-            let picture = error.picture(alloc, row.input(0))?;
-            Ok(write!(made, "{error}\n{picture}")?)
+            made.show(error);
+            made.add("\n");
+            made.add(error.picture(alloc, row.input(0))?.as_str());
         }
-        "is_match" | "match" | "visits" => Ok(made.push('?')?),
-        _ => Ok(made.push_str("not built")?),
+        "is_match" | "match" | "visits" => made.add("?"),
+        _ => made.add("not built"),
     }
+    Ok(())
 }
 
 /// Returns the number of a refusal.
@@ -63,41 +63,47 @@ fn rule_span(error: &BuildError) -> Option<Span> {
 }
 
 /// Adds the number, and start and length of a broken rule.
-fn push_span(error: &BuildError, made: &mut String) -> Result<(), NoMemory> {
-    let number = number(error);
-    match rule_span(error) {
-        Some((start, len)) => Ok(write!(made, "{number}\t{start}\t{len}")?),
-        None => Ok(write!(made, "{number}\t-\t-")?),
-    }
+fn add_span(error: &BuildError, made: &mut Answer) {
+    made.show(&number(error));
+    let Some((start, len)) = rule_span(error) else {
+        return made.add("\t-\t-");
+    };
+    made.tab();
+    made.show(&start);
+    made.tab();
+    made.show(&len);
 }
 
 /// Adds the number, and each label of a broken rule.
-fn push_rule_labels(alloc: Global, error: &BuildError, made: &mut String) -> Result<(), NoMemory> {
-    write!(made, "{}", number(error))?;
+fn add_rule_labels(alloc: Global, error: &BuildError, made: &mut Answer) -> Result<(), NoMemory> {
+    made.show(&number(error));
     if let BuildError::Rule(broken) = error {
         for place in broken.locations() {
-            push_labels(place.labels(alloc)?, made)?;
+            add_labels(&place.labels(alloc)?, made);
         }
     }
     Ok(())
 }
 
 /// Adds a field for each label: its text, start and length.
-pub fn push_labels(labels: Vec<(&'static str, Span)>, made: &mut String) -> Result<(), NoMemory> {
-    for (label, (start, len)) in labels {
-        push_field(made, label)?;
-        write!(made, " {start} {len}")?;
+pub fn add_labels(labels: &[(&'static str, Span)], made: &mut Answer) {
+    for (label, span) in labels {
+        made.tab();
+        made.add(*label);
+        made.add(" ");
+        made.span(*span);
     }
-    Ok(())
 }
 
 /// Adds what is wrong and where.
-fn push_location(error: &BuildError, made: &mut String) -> Result<(), NoMemory> {
-    match error.locations() {
-        Some(location) => {
-            let (start, len) = location.span();
-            Ok(write!(made, "{location} at {start} of {len}")?)
-        }
-        None => Ok(made.push_str("none")?),
-    }
+fn add_location(error: &BuildError, made: &mut Answer) {
+    let Some(location) = error.locations() else {
+        return made.add("none");
+    };
+    let (start, len) = location.span();
+    made.show(&location);
+    made.add(" at ");
+    made.show(&start);
+    made.add(" of ");
+    made.show(&len);
 }

@@ -1,7 +1,7 @@
 //! Spans, labelled places, and what refusals print.
 
-use crate::answers::push_digit;
-use crate::refusals::push_labels;
+use crate::answer::Answer;
+use crate::refusals::add_labels;
 use crate::row::Row;
 use std::alloc::Global;
 use wax::diagnostics::{
@@ -31,17 +31,18 @@ impl Spanned for Piece {
 }
 
 /// Adds what the row asks of spans, each written as start and length.
-pub fn answer(alloc: Global, row: &Row<'_>, made: &mut String) -> Result<(), NoMemory> {
+pub fn answer(alloc: Global, row: &Row<'_>, made: &mut Answer) -> Result<(), NoMemory> {
     let span = span_of(row.input(0));
     match row.kind() {
-        "union" => push_span(span.union(span_of(row.input(1))), made),
-        "piece" => push_piece(span, made),
-        "branch_labels" => push_branch(alloc, row, made),
-        "place_labels" => push_labels(CompositeSpan::spanned("here", span).labels(alloc)?, made),
-        "span_labels" => push_labels(CorrelatedSpan::from(span).labels(alloc)?, made),
-        "split_labels" => push_labels(split(row, 0).labels(alloc)?, made),
-        _ => push_printed(made),
+        "union" => add_span(span.union(span_of(row.input(1))), made),
+        "piece" => add_piece(span, made),
+        "branch_labels" => return add_branch(alloc, row, made),
+        "place_labels" => add_labels(&CompositeSpan::spanned("here", span).labels(alloc)?, made),
+        "span_labels" => add_labels(&CorrelatedSpan::from(span).labels(alloc)?, made),
+        "split_labels" => add_labels(&split(row, 0).labels(alloc)?, made),
+        _ => add_printed(made),
     }
+    Ok(())
 }
 
 /// Returns the span of two numbers with a space between.
@@ -56,47 +57,53 @@ fn number(written: &str) -> usize {
 
 /// Returns the places of two inputs, of which the left one may be `-` for none.
 fn split(row: &Row<'_>, index: usize) -> CorrelatedSpan {
-    let left = row.input(index);
     let right = span_of(row.input(index.saturating_add(1)));
-    let left = if left == "-" {
-        None
-    } else {
-        Some(span_of(left))
+    let left = match row.input(index) {
+        "-" => None,
+        left => Some(span_of(left)),
     };
     CorrelatedSpan::split_some(left, right)
 }
 
-fn push_span(span: Option<Span>, made: &mut String) -> Result<(), NoMemory> {
-    Ok(match span {
-        Some((start, len)) => write!(made, "{start} {len}")?,
-        None => made.push_str("none")?,
-    })
+fn add_span(span: Option<Span>, made: &mut Answer) {
+    match span {
+        Some(span) => made.span(span),
+        None => made.add("none"),
+    }
 }
 
 /// Adds the span of a piece once its start is 5, once that is halved, and what else the piece has.
-fn push_piece(span: Span, made: &mut String) -> Result<(), NoMemory> {
+fn add_piece(span: Span, made: &mut Answer) {
     let mut piece = Piece { size: 3, span };
     piece.span_mut().0 = 5;
-    push_span(Some(*piece.span()), made)?;
+    made.span(*piece.span());
+    made.tab();
     let moved = piece.map_span(|span| (span.0 / 2, span.1));
-    made.push('\t')?;
-    push_span(Some(*moved.span()), made)?;
-    Ok(write!(made, "\t{}", moved.size)?)
+    made.span(*moved.span());
+    made.tab();
+    made.show(&moved.size);
 }
 
 /// Adds the span of a branch of two places, what it prints, and its labels.
-fn push_branch(alloc: Global, row: &Row<'_>, made: &mut String) -> Result<(), NoMemory> {
+fn add_branch(alloc: Global, row: &Row<'_>, made: &mut Answer) -> Result<(), NoMemory> {
     let span = span_of(row.input(0));
     let branch = CompositeSpan::correlated("in this alternation", span, split(row, 1));
-    push_span(Some(branch.span()), made)?;
-    write!(made, "\t{branch}")?;
-    push_labels(branch.labels(alloc)?, made)
+    made.span(branch.span());
+    made.tab();
+    made.show(&branch);
+    add_labels(&branch.labels(alloc)?, made);
+    Ok(())
 }
 
 /// Adds what a refusal prints, what refused memory prints, and whether that has no place.
-fn push_printed(made: &mut String) -> Result<(), NoMemory> {
+fn add_printed(made: &mut Answer) {
     let refused: Refusal<CompositeSpan> = Refusal::Refused(CompositeSpan::spanned("x", (0, 1)));
     let memory: Refusal<CompositeSpan> = Refusal::from(NoMemory);
-    write!(made, "{refused}\t{memory}\t{NoMemory}\t")?;
-    push_digit(made, BuildError::Memory.locations().is_none())
+    made.show(&refused);
+    made.tab();
+    made.show(&memory);
+    made.tab();
+    made.show(&NoMemory);
+    made.tab();
+    made.digit(BuildError::Memory.locations().is_none());
 }

@@ -1,10 +1,11 @@
 //! Facts of the tokens of an expression, whether or not it keeps the rules.
 
-use crate::answers::push_digit;
+use crate::answer::Answer;
 use crate::checked;
-use crate::globs::{push_depth, when};
+use crate::globs::{add_depth, when};
 use crate::row::Row;
 use std::alloc::Global;
+use std::fmt::Debug;
 use wax::token::{
     Component, ExpressionMetadata, LeafKind, Token, TokenFacts, Tokenized, Topology, components,
     depth, into_alternatives, literals, parse, size,
@@ -14,11 +15,14 @@ use wax::{NoMemory, Refusal};
 type Tokens<'t> = Tokenized<'t, ExpressionMetadata>;
 
 /// Adds what the row asks of an expression's tokens.
-pub fn answer(alloc: Global, row: &Row<'_>, made: &mut String) -> Result<(), NoMemory> {
+pub fn answer(alloc: Global, row: &Row<'_>, made: &mut Answer) -> Result<(), NoMemory> {
     match parse(alloc, row.input(0)) {
         Ok(tokens) => of_parsed(alloc, row, tokens, made),
         Err(Refusal::Memory) => Err(NoMemory),
-        Err(Refusal::Refused(_)) => Ok(made.push_str("not parsed")?),
+        Err(Refusal::Refused(_)) => {
+            made.add("not parsed");
+            Ok(())
+        }
     }
 }
 
@@ -26,12 +30,12 @@ fn of_parsed(
     alloc: Global,
     row: &Row<'_>,
     tokens: Tokens<'_>,
-    made: &mut String,
+    made: &mut Answer,
 ) -> Result<(), NoMemory> {
     match row.kind() {
-        "token_alternatives" => push_alternatives(alloc, tokens, made),
-        "owned_tokens" => push_owned(alloc, tokens, made),
-        "token_copies" => push_copies(alloc, row, &tokens, made),
+        "token_alternatives" => add_alternatives(alloc, tokens, made),
+        "owned_tokens" => add_owned(alloc, tokens, made),
+        "token_copies" => add_copies(alloc, row, tokens, made),
         "alternatives" | "checked_parts" | "owned_checked" | "owned_error" => {
             checked::answer(alloc, row, tokens, made)
         }
@@ -43,65 +47,82 @@ fn of_token(
     alloc: Global,
     row: &Row<'_>,
     token: &Token<'_, ExpressionMetadata>,
-    made: &mut String,
+    made: &mut Answer,
 ) -> Result<(), NoMemory> {
     match row.kind() {
-        "depth" => push_depth(depth(token), made),
-        "root" => Ok(made.push_str(when(token.has_root()))?),
-        "exhaustive" => Ok(made.push_str(when(token.is_exhaustive()))?),
-        "size" => push_size(alloc, token, made),
-        "text" => push_text(alloc, token, made),
-        "casing" => push_casing(token, made),
-        "tokens" => push_tokens(token, made),
-        "components" => push_components(alloc, token, made),
-        "literals" => push_literals(alloc, token, made),
-        _ => push_prefix(alloc, token, made),
+        "depth" => add_depth(depth(token), made),
+        "root" => made.add(when(token.has_root())),
+        "exhaustive" => made.add(when(token.is_exhaustive())),
+        "casing" => add_casing(token, made),
+        "tokens" => add_tokens(token, made),
+        "size" => return add_size(alloc, token, made),
+        "text" => return add_text(alloc, token, made),
+        "components" => return add_components(alloc, token, made),
+        "literals" => return add_literals(alloc, token, made),
+        _ => return add_prefix(alloc, token, made),
     }
+    Ok(())
 }
 
 /// Adds the number of bytes of each text that the token matches, if it is one number.
-fn push_size(
+fn add_size(
     alloc: Global,
     token: &Token<'_, ExpressionMetadata>,
-    made: &mut String,
+    made: &mut Answer,
 ) -> Result<(), NoMemory> {
-    Ok(match size(alloc, token)? {
-        Some(size) => write!(made, "{size}")?,
-        None => made.push_str("varies")?,
-    })
+    match size(alloc, token)? {
+        Some(size) => made.show(&size),
+        None => made.add("varies"),
+    }
+    Ok(())
 }
 
 /// Adds the one text of the token.
-pub fn push_text(
+pub fn add_text(
     alloc: Global,
     token: &Token<'_, ExpressionMetadata>,
-    made: &mut String,
+    made: &mut Answer,
 ) -> Result<(), NoMemory> {
-    Ok(match token.text(alloc)? {
-        Some(text) => made.push_str(text.as_str())?,
-        None => made.push_str("varies")?,
-    })
+    match token.text(alloc)? {
+        Some(text) => made.add(text.as_str()),
+        None => made.add("varies"),
+    }
+    Ok(())
+}
+
+/// Adds the one text of each token, with a bar behind it.
+pub fn add_texts(
+    alloc: Global,
+    tokens: &[Token<'_, ExpressionMetadata>],
+    made: &mut Answer,
+) -> Result<(), NoMemory> {
+    for token in tokens {
+        add_text(alloc, token, made)?;
+        made.add("|");
+    }
+    Ok(())
 }
 
 /// Adds the literals of the top level, each with 1 if it matches in any case, else 0.
-fn push_casing(token: &Token<'_, ExpressionMetadata>, made: &mut String) -> Result<(), NoMemory> {
+fn add_casing(token: &Token<'_, ExpressionMetadata>, made: &mut Answer) {
     for token in token.concatenation() {
-        let Some(literal) = token.as_literal() else {
-            continue;
-        };
-        let casing = literal.is_case_insensitive() as u8;
-        write!(made, "{} {casing};", literal.text())?;
+        if let Some(literal) = token.as_literal() {
+            made.add(literal.text());
+            made.add(" ");
+            made.digit(literal.is_case_insensitive());
+            made.add(";");
+        }
     }
-    Ok(())
 }
 
 /// Adds what each token of the top level is, with its span.
-fn push_tokens(token: &Token<'_, ExpressionMetadata>, made: &mut String) -> Result<(), NoMemory> {
+fn add_tokens(token: &Token<'_, ExpressionMetadata>, made: &mut Answer) {
     for token in token.concatenation() {
-        let (start, len) = token.annotation().span();
-        write!(made, "{} {start} {len};", name(token))?;
+        made.add(name(token));
+        made.add(" ");
+        made.span(token.annotation().span());
+        made.add(";");
     }
-    Ok(())
 }
 
 fn name(token: &Token<'_, ExpressionMetadata>) -> &'static str {
@@ -117,100 +138,102 @@ fn name(token: &Token<'_, ExpressionMetadata>) -> &'static str {
 }
 
 /// Adds what a component is, its span, and how many tokens it has.
-fn push_component(
-    component: &Component<'_, '_, ExpressionMetadata>,
-    made: &mut String,
-) -> Result<(), NoMemory> {
+fn add_component(component: &Component<'_, '_, ExpressionMetadata>, made: &mut Answer) {
     let tokens = component.tokens();
-    let first_is_tree = match tokens.first() {
-        Some(token) => token.is_tree_wildcard(),
-        None => false,
-    };
-    let name = match component.literal() {
-        Some(_) => "literal",
-        None if first_is_tree => "tree",
-        None => "other",
-    };
-    let (start, len) = component.span();
-    Ok(write!(made, "{name} {start} {len} {};", tokens.len())?)
+    made.add(match (component.literal(), tokens.first()) {
+        (Some(_), _) => "literal ",
+        (None, Some(token)) if token.is_tree_wildcard() => "tree ",
+        _ => "other ",
+    });
+    made.span(component.span());
+    made.add(" ");
+    made.show(&tokens.len());
+    made.add(";");
 }
 
-fn push_components(
+fn add_components(
     alloc: Global,
     token: &Token<'_, ExpressionMetadata>,
-    made: &mut String,
+    made: &mut Answer,
 ) -> Result<(), NoMemory> {
     for component in &components(alloc, token)? {
-        push_component(component, made)?;
+        add_component(component, made);
     }
     Ok(())
 }
 
 /// Adds the literal components, by level, each with its text.
-fn push_literals(
+fn add_literals(
     alloc: Global,
     token: &Token<'_, ExpressionMetadata>,
-    made: &mut String,
+    made: &mut Answer,
 ) -> Result<(), NoMemory> {
     for (component, literal) in &literals(alloc, token)? {
-        made.push_str(literal.text(alloc)?.as_str())?;
-        made.push(' ')?;
-        push_component(component, made)?;
+        made.add(literal.text(alloc)?.as_str());
+        made.add(" ");
+        add_component(component, made);
     }
     Ok(())
 }
 
 /// Adds how many tokens the prefix of one text takes, and the prefix.
-fn push_prefix(
+fn add_prefix(
     alloc: Global,
     token: &Token<'_, ExpressionMetadata>,
-    made: &mut String,
+    made: &mut Answer,
 ) -> Result<(), NoMemory> {
     let (count, prefix) = token.invariant_text_prefix(alloc)?;
-    Ok(write!(made, "{count}\t{prefix}")?)
-}
-
-/// Adds the texts of the alternatives, each with a bar behind it.
-fn push_alternatives(alloc: Global, tokens: Tokens<'_>, made: &mut String) -> Result<(), NoMemory> {
-    for token in into_alternatives(alloc, tokens.into_token())? {
-        push_text(alloc, &token, made)?;
-        made.push('|')?;
-    }
+    made.show(&count);
+    made.tab();
+    made.add(prefix.as_str());
     Ok(())
 }
 
+/// Adds the texts of the alternatives, each with a bar behind it.
+fn add_alternatives(alloc: Global, tokens: Tokens<'_>, made: &mut Answer) -> Result<(), NoMemory> {
+    let alternatives = into_alternatives(alloc, tokens.into_token())?;
+    add_texts(alloc, &alternatives, made)
+}
+
 /// Adds the expression, how many tokens it has, and its one text, once it has texts of its own.
-fn push_owned(alloc: Global, tokens: Tokens<'_>, made: &mut String) -> Result<(), NoMemory> {
+fn add_owned(alloc: Global, tokens: Tokens<'_>, made: &mut Answer) -> Result<(), NoMemory> {
     let owned = tokens.into_owned(alloc)?;
-    let count = owned.concatenation().len();
-    write!(made, "{}\t{count}\t", owned.expression())?;
-    push_text(alloc, owned.as_token(), made)
+    made.add(owned.expression());
+    made.tab();
+    made.show(&owned.concatenation().len());
+    made.tab();
+    add_text(alloc, owned.as_token(), made)
 }
 
 /// Adds whether a copy equals the tokens, those of the row's other expression do, the copy prints the same, and a
 /// copy of the one token equals it.
-fn push_copies(
+fn add_copies(
     alloc: Global,
     row: &Row<'_>,
-    tokens: &Tokens<'_>,
-    made: &mut String,
+    tokens: Tokens<'_>,
+    made: &mut Answer,
 ) -> Result<(), NoMemory> {
+    let tokens = tokens.into_owned(alloc)?;
     let copy = tokens.to_owned(alloc)?;
-    push_digit(made, copy == *tokens)?;
-    push_digit(made, equals(alloc, tokens, row.input(1))?)?;
-    let (printed, original) = (
-        format!(in alloc; "{copy:?}")?,
-        format!(in alloc; "{tokens:?}")?,
-    );
-    push_digit(made, printed.as_str() == original.as_str())?;
-    let token = tokens.as_token().to_owned(alloc)?;
-    push_digit(made, token == *copy.as_token())
+    made.digit(copy == tokens);
+    made.digit(owned(alloc, row.input(1))? == tokens);
+    made.digit(print_the_same(alloc, &copy, &tokens)?);
+    made.digit(tokens.as_token().to_owned(alloc)? == *copy.as_token());
+    Ok(())
 }
 
-/// Returns whether the expression has the same tokens.
-fn equals(alloc: Global, tokens: &Tokens<'_>, expression: &str) -> Result<bool, NoMemory> {
+/// Returns the tokens of an expression, with texts of their own.
+fn owned(alloc: Global, expression: &str) -> Result<Tokens<'static>, NoMemory> {
     match parse(alloc, expression) {
-        Ok(other) => Ok(other == *tokens),
+        Ok(tokens) => tokens.into_owned(alloc),
         Err(_) => Err(NoMemory),
     }
+}
+
+fn print_the_same<T: Debug>(alloc: Global, left: &T, right: &T) -> Result<bool, NoMemory> {
+    let (left, right) = (
+        format!(in alloc; "{left:?}")?,
+        format!(in alloc; "{right:?}")?,
+    );
+    Ok(left.as_str() == right.as_str())
 }
