@@ -2,6 +2,7 @@
 
 use std::alloc::{AllocError, Global};
 use std::fmt::{Debug, Display};
+use wax::NoMemory;
 use wax::diagnostics::Span;
 
 /// How many bytes an answer may have without a request for memory.
@@ -67,6 +68,14 @@ impl Answer {
     /// Adds 1 or 0.
     pub fn digit(&mut self, holds: bool) {
         self.add(if holds { "1" } else { "0" });
+    }
+
+    /// Ends one of several calls: adds that memory was refused for it if it was, and a semicolon.
+    pub fn end(&mut self, call: Result<(), NoMemory>) {
+        if call.is_err() {
+            self.add("no memory");
+        }
+        self.add(";");
     }
 
     /// Adds start and length.

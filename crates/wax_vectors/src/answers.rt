@@ -39,7 +39,7 @@ pub fn answer(alloc: Global, row: &Row<'_>, made: &mut Answer) -> Result<(), NoM
         | "nested_length"
         | "empty_set"
         | "empty_length" => { sets::answer(alloc, row, made) }
-        "ignored" | "bad_line" => lists::answer(alloc, row, made),
+        "ignored" | "ignored_twice" | "bad_line" => lists::answer(alloc, row, made),
         "escape" | "folded" | "meta" | "path_copies" | "empty_glob" | "tree_glob" => {
             paths::answer(alloc, row, made)
         }

@@ -44,6 +44,10 @@ fn of_glob(
     match row.kind() {
         "match" => add_match(alloc, glob, row.input(1), made),
         "is_match" => add_is_match(alloc, glob, row.input(1), made),
+        "is_match_twice" | "match_twice" => {
+            add_twice(alloc, glob, row, made);
+            Ok(())
+        }
         "visits" => add_visits(alloc, glob, row, made),
         "captures" => add_captures(alloc, glob, made),
         "semantic" => add_semantic(alloc, glob, made),
@@ -104,6 +108,17 @@ pub fn add_match<P: Program>(
         None => made.add("0"),
     }
     Ok(())
+}
+
+/// Adds what one of these calls returns, made twice of the same glob.
+fn add_twice(alloc: Global, glob: &Glob<'_>, row: &Row<'_>, made: &mut Answer) {
+    for _ in 0..2 {
+        let call = match row.kind() {
+            "is_match_twice" => add_is_match(alloc, glob, row.input(1), made),
+            _ => add_match(alloc, glob, row.input(1), made),
+        };
+        made.end(call);
+    }
 }
 
 /// Adds the whole text and its captures, each after the separator.

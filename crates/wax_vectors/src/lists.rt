@@ -10,13 +10,26 @@ use wax::{CandidatePath, NoMemory};
 /// and why.
 pub fn answer(alloc: Global, row: &Row<'_>, made: &mut Answer) -> Result<(), NoMemory> {
     match IgnoreList::parse(alloc, row.input(0)) {
-        Ok(list) => {
-            let path = CandidatePath::from(row.input(1));
-            made.digit(list.is_ignored(alloc, &path)?);
+        Ok(list) if row.kind() == "ignored_twice" => {
+            for _ in 0..2 {
+                let call = add_ignored(alloc, &list, row.input(1), made);
+                made.end(call);
+            }
             Ok(())
         }
+        Ok(list) => add_ignored(alloc, &list, row.input(1), made),
         Err(error) => add_error(&error, made),
     }
+}
+
+fn add_ignored(
+    alloc: Global,
+    list: &IgnoreList,
+    path: &str,
+    made: &mut Answer,
+) -> Result<(), NoMemory> {
+    made.digit(list.is_ignored(alloc, &CandidatePath::from(path))?);
+    Ok(())
 }
 
 fn add_error(error: &IgnoreError, made: &mut Answer) -> Result<(), NoMemory> {

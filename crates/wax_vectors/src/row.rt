@@ -66,10 +66,17 @@ impl<'r> Row<'r> {
 fn input_count(kind: &str) -> usize {
     match kind {
         "visits" | "program_visits" | "branch_labels" | "filter_lines" | "capture_lines" => 3,
-        "is_match" | "match" | "match_copies" | "glob_copies" | "owned_glob" | "rest" => 2,
+        "is_match"
+        | "match"
+        | "is_match_twice"
+        | "match_twice"
+        | "match_copies"
+        | "glob_copies"
+        | "owned_glob"
+        | "rest" => 2,
         "memoryless" | "prepared" | "folded" | "path_copies" => 2,
         "meant" | "set_is_match" | "sets_is_match" => 2,
-        "program" | "token_copies" | "ignored" | "union" | "split_labels" => 2,
+        "program" | "token_copies" | "ignored" | "ignored_twice" | "union" | "split_labels" => 2,
         _ => 1,
     }
 }
