@@ -7,8 +7,6 @@ mod calls;
 #[cfg(test)]
 mod captured_lines;
 #[cfg(test)]
-mod escapes;
-#[cfg(test)]
 mod folds;
 #[cfg(test)]
 mod globs;

@@ -1,52 +1,77 @@
-//! Compares this library with answers of the Rust crate wax 0.7.0 and with worked examples. It prints each
-//! row that comes to something else here, with both values, and how many rows are the same.
+//! Shows facts of expressions and paths. Each word names a file of rows, whose answers are made anew and compared
+//! with those that are wanted; each line of standard input is a row without its answer, which is shown.
 #![tactic(auto)]
 
-mod calls;
-mod captures;
-mod cases;
-mod costs;
+mod answer;
+mod answers;
+mod checked;
+mod copies;
+mod globs;
+mod lines;
+mod lists;
+mod memoryless;
 mod parts;
-mod places;
+mod paths;
 mod programs;
-mod queries;
-mod report;
-mod rows;
+mod refusals;
+mod row;
 mod sets;
-mod worked;
+mod spans;
+mod tokens;
 
-use report::Report;
-use rows::{Kind, compared};
-use std::io::Print;
-use std::{fs, io};
+use answer::Answer;
+use answers::answer;
+use row::Row;
+use std::{env, fs, io};
 
 fn main(rt: HostRuntime) -> io::Result<()> {
-    for (name, kind) in [
-        ("worked_accept.tsv", Kind::Accept),
-        ("accept.tsv", Kind::Accept),
-        ("worked_labels.tsv", Kind::Labels),
-        ("worked_match.tsv", Kind::Match),
-        ("match.tsv", Kind::Match),
-        ("captures.tsv", Kind::Captures),
-        ("worked_query.tsv", Kind::Query),
-        ("query.tsv", Kind::Query),
-        ("worked_cases.tsv", Kind::Case),
-        ("tests.tsv", Kind::Case),
-        ("tests_calls.tsv", Kind::Call),
-    ] {
-        let rows = fs::read_to_string(&rt, name)?;
-        show(&rt, name, &compared(rt.alloc(), kind, rows.as_str())?)?;
+    let mut made = Answer::new(rt.alloc())?;
+    for name in env::args(&rt)?.skip(1) {
+        compare_rows(&rt, &name, &mut made)?;
     }
-    show(&rt, "worked", &worked::report(rt.alloc())?)?;
-    show(&rt, "parts", &parts::report(rt.alloc())?)?;
-    show(&rt, "places", &places::report(rt.alloc())?)?;
-    show(&rt, "sets", &sets::report(rt.alloc())?)?;
-    show(&rt, "programs", &programs::report(rt.alloc())?)?;
-    show(&rt, "costs", &costs::report(rt.alloc())?)
+    for line in rt.lines(rt.alloc()) {
+        let line = line?;
+        let row = Row::read(rt.alloc(), &line)?;
+        let answer = make(&rt, &row, &mut made);
+        println!(rt; "{line}\t{answer}")?;
+    }
+    Ok(())
 }
 
-/// Prints the rows that are other, and how many are the same.
-fn show(rt: &impl Print, name: &str, report: &Report) -> io::Result<()> {
-    let lines = report.lines();
-    println!(rt; "{lines}{name}: {report}")
+/// Prints each row of the file whose answer is another, and how many are the same.
+fn compare_rows(rt: &HostRuntime, name: &str, made: &mut Answer) -> io::Result<()> {
+    let rows = fs::read_to_string(rt, name)?;
+    let mut same: u64 = 0;
+    let mut other: u64 = 0;
+    for line in rows.lines() {
+        if line.is_empty() || line.starts_with("# ") {
+            continue;
+        }
+        if is_same(rt, line, made)? {
+            same = same.saturating_add(1);
+        } else {
+            other = other.saturating_add(1);
+        }
+    }
+    println!(rt; "{name}: {same} the same, {other} other")
+}
+
+/// Returns whether the answer of the row is the one that is wanted. Prints the row if not.
+fn is_same(rt: &HostRuntime, line: &str, made: &mut Answer) -> io::Result<bool> {
+    let row = Row::read(rt.alloc(), line)?;
+    let answer = make(rt, &row, made);
+    let is_same = answer == row.wanted();
+    if !is_same {
+        println!(rt; "{line}\n    came to {answer}")?;
+    }
+    Ok(is_same)
+}
+
+/// Makes the answer of the row.
+fn make<'m>(rt: &HostRuntime, row: &Row<'_>, made: &'m mut Answer) -> &'m str {
+    made.clear();
+    match answer(rt.alloc(), row, made) {
+        Ok(()) => made.text().unwrap_or("no memory"),
+        Err(_) => "no memory",
+    }
 }

@@ -1,98 +1,81 @@
-//! Globs in two, alternatives and sizes of tokens: calls that no row of a file makes.
+//! Globs in two: a prefix, and the rest as a glob of its own.
 
-use crate::report::Report;
-use std::alloc::{AllocError, Global};
-use wax::rule::check;
-use wax::token::{Partitioned, TokenFacts, into_alternatives, parse, size};
+use crate::answer::Answer;
+use crate::globs::add_is_match;
+use crate::refusals;
+use crate::row::Row;
+use std::alloc::Global;
 use wax::{Glob, NoMemory};
 
-pub fn report(alloc: Global) -> Result<Report, AllocError> {
-    let mut report = Report::new(alloc);
-    for (expression, wanted) in [
-        ("a/b*", "a/|b*|b*"),
-        ("a/b", "a/b||**"),
-        ("</**/a:1>", "/|**/a|**/a"),
-        ("", "||**"),
-    ] {
-        report.compare_text(alloc, expression, parts(alloc, expression), wanted)?;
+/// Adds what the row asks of a glob that is taken apart.
+pub fn answer(
+    alloc: Global,
+    row: &Row<'_>,
+    glob: Glob<'_>,
+    made: &mut Answer,
+) -> Result<(), NoMemory> {
+    match row.kind() {
+        "rest_or_tree" => add_both(glob.partition_or_tree(alloc)?, made),
+        "rest_or_empty" => add_both(glob.partition_or_empty(alloc)?, made),
+        "rest" => {
+            let (_, rest) = glob.partition_or_empty(alloc)?;
+            return add_is_match(alloc, &rest, row.input(1), made);
+        }
+        "again" => {
+            let (_, rest) = glob.partition_or_empty(alloc)?;
+            add_both(rest.partition_or_empty(alloc)?, made);
+        }
+        "owned_glob" => return add_owned(alloc, row, glob, made),
+        _ => add_partition(row, glob.partition(alloc)?, made),
     }
-    for (expression, wanted) in [("<ab:3>", Some(6)), ("[ab]?/", Some(9)), ("a*", None)] {
-        report.compare(
-            alloc,
-            expression,
-            fixed_size(alloc, expression),
-            Some(wanted),
-        )?;
+    Ok(())
+}
+
+/// Adds a prefix and a rest.
+fn add_both(parts: (String, Glob<'_>), made: &mut Answer) {
+    made.add(parts.0.as_str());
+    made.tab();
+    made.show(&parts.1);
+}
+
+/// Adds the prefix, and the rest if the row asks for it.
+fn add_partition(row: &Row<'_>, parts: (String, Option<Glob<'_>>), made: &mut Answer) {
+    made.add(parts.0.as_str());
+    if row.kind() == "prefix" {
+        return;
     }
-    let checked = checked_parts(alloc, "a/{b}/*");
-    report.compare_text(alloc, "what was checked in two", checked, "a/b/|*")?;
-    let texts = alternatives(alloc, "{{a,b},c}").unwrap_or(None);
-    report.compare_text(alloc, "alternatives", texts, "cab")?;
-    let warned = warned(alloc, "../a/");
-    report.compare_text(
-        alloc,
-        "a glob with its warnings",
-        warned,
-        "../a/ has 2 warnings",
-    )?;
-    let empty = Glob::empty(alloc).ok().map(|glob| glob.is_empty());
-    report.compare(alloc, "the empty glob is empty", empty, Some(true))?;
-    let tree = Glob::tree(alloc).ok().map(|glob| glob.is_empty());
-    report.compare(alloc, "the glob of ** isn't empty", tree, Some(false))?;
-    let owned = owned_expression(alloc, "{a,<b:2>}[c]?");
-    report.compare_text(
-        alloc,
-        "an owned expression",
-        owned,
-        "{a,<b:2>}[c]? has 3 tokens",
-    )?;
-    Ok(report)
-}
-
-/// The prefix, the rest or the empty glob, and the rest or the glob of `**`.
-fn parts(alloc: Global, expression: &str) -> Option<String> {
-    let glob = Glob::new(alloc, expression).ok()?;
-    let (prefix, rest) = glob.partition_or_empty(alloc).ok()?;
-    let glob = Glob::new(alloc, expression).ok()?;
-    let (_, rest_or_tree) = glob.partition_or_tree(alloc).ok()?;
-    format!(in alloc; "{prefix}|{rest}|{rest_or_tree}").ok()
-}
-
-/// The prefix and the expression of the rest of what was checked.
-fn checked_parts(alloc: Global, expression: &str) -> Option<String> {
-    let checked = check(alloc, parse(alloc, expression).ok()?).ok()?;
-    let (prefix, rest) = checked.partition(alloc).ok()?;
-    let rest = rest?.release();
-    format!(in alloc; "{prefix}|{}", rest.expression()).ok()
-}
-
-fn fixed_size(alloc: Global, expression: &str) -> Option<Option<usize>> {
-    let tokenized = parse(alloc, expression).ok()?;
-    size(alloc, tokenized.as_token()).ok()
-}
-
-/// The texts of the alternatives, in their order.
-fn alternatives(alloc: Global, expression: &str) -> Result<Option<String>, NoMemory> {
-    let Ok(tokenized) = parse(alloc, expression) else {
-        return Ok(None);
-    };
-    let mut joined = String::new(alloc);
-    for token in into_alternatives(alloc, tokenized.into_token())? {
-        let text = token.text(alloc)?;
-        joined.push_str(text.as_ref().map_or("?", |text| text.as_str()))?;
+    match &parts.1 {
+        Some(rest) => {
+            made.add("\trest ");
+            made.show(rest);
+        }
+        None => made.add("\tno rest"),
     }
-    Ok(Some(joined))
 }
 
-fn warned(alloc: Global, expression: &str) -> Option<String> {
-    let (glob, warnings) = Glob::diagnosed(alloc, expression).ok()?;
-    let count = warnings.len();
-    format!(in alloc; "{glob} has {count} warnings").ok()
+/// Adds whether the glob with texts of its own matches the path, and its expression.
+fn add_owned(
+    alloc: Global,
+    row: &Row<'_>,
+    glob: Glob<'_>,
+    made: &mut Answer,
+) -> Result<(), NoMemory> {
+    let owned = glob.into_owned(alloc)?;
+    add_is_match(alloc, &owned, row.input(1), made)?;
+    made.tab();
+    made.add(owned.expression());
+    Ok(())
 }
 
-/// The expression and how many tokens it has, of a copy with texts of its own.
-fn owned_expression(alloc: Global, expression: &str) -> Option<String> {
-    let owned = parse(alloc, expression).ok()?.into_owned(alloc).ok()?;
-    let count = owned.concatenation().len();
-    format!(in alloc; "{} has {count} tokens", owned.expression()).ok()
+/// Adds what a glob prints that is built with its warnings, and how many these are.
+pub fn add_diagnosed(alloc: Global, row: &Row<'_>, made: &mut Answer) -> Result<(), NoMemory> {
+    match Glob::diagnosed(alloc, row.input(0)) {
+        Ok((glob, warnings)) => {
+            made.show(&glob);
+            made.tab();
+            made.show(&warnings.len());
+            Ok(())
+        }
+        Err(error) => refusals::answer(alloc, row, &error, made),
+    }
 }

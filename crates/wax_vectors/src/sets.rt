@@ -1,155 +1,139 @@
-//! Sets of patterns.
+//! Sets of patterns: patterns have spaces between, and sets semicolons.
 
-use crate::captures::texts;
-use crate::report::Report;
-use crate::rows::number;
-use std::alloc::{AllocError, Global};
+use crate::answer::Answer;
+use crate::answers::push;
+use crate::globs::{add_facts, add_is_match, add_match};
+use crate::refusals::number;
+use crate::row::Row;
+use std::alloc::Global;
 use wax::encode::compile;
 use wax::rule::Checked;
 use wax::token::{ExpressionMetadata, Token};
-use wax::{Any, BuildError, CandidatePath, Glob, NoMemory, Pattern, Program, any};
+use wax::{Any, BuildError, Glob, NoMemory, Pattern, any};
 
-pub fn report(alloc: Global) -> Result<Report, AllocError> {
-    let mut report = Report::new(alloc);
-    for (patterns, text, wanted) in [
-        ("a b*", "bc", Some(true)),
-        ("a b*", "c", Some(false)),
-        ("a a/**", "a/b", Some(true)),
-    ] {
-        report.compare(alloc, text, is_meant_by_one(alloc, patterns, text), wanted)?;
-    }
-    for (patterns, wanted) in [
-        ("a//b ***", "2"),
-        ("*** a//b", "1"),
-        ("a <a*:1000000>", "9"),
-        ("ab <a*:174761>", "0"),
-        ("abc <a*:174761>", "9"),
-    ] {
-        let built = built_of_texts(alloc, patterns).ok();
-        report.compare_text(alloc, patterns, built, wanted)?;
-    }
-    report.compare(
-        alloc,
-        "length of no pattern",
-        length(alloc, Vec::new(alloc)),
-        Some(2),
-    )?;
-    report.compare(alloc, "length of one", length_of_one(alloc, "a"), Some(5))?;
-    let nested = length_of_nested(alloc, "a", "b");
-    report.compare(alloc, "length of a set and one", nested, Some(11))?;
-    report.compare_text(alloc, "a set of globs", built_of_globs(alloc), "0")?;
-    let nested = is_meant_by_sets(alloc, "a;b c", "c");
-    report.compare(alloc, "a set of sets", nested, Some(true))?;
-    let nothing = means_nothing(alloc, "");
-    report.compare(alloc, "no pattern on nothing", nothing, Some(false))?;
-    Ok(report)
-}
-
-/// The patterns, with spaces between.
-fn patterns_of<'p>(alloc: Global, patterns: &'p str) -> Result<Vec<&'p str>, AllocError> {
-    let mut all = Vec::new(alloc);
-    for pattern in patterns.split(' ') {
-        all.push(pattern)?;
-    }
-    Ok(all)
-}
-
-/// 0, or the number of the refusal.
-fn status(alloc: Global, built: Result<Any<'static>, BuildError>) -> Result<String, NoMemory> {
-    let number = built.err().map_or(0, |error| number(&error));
-    Ok(format!(in alloc; "{number}")?)
-}
-
-/// Whether the set of the patterns builds.
-pub fn built_of_texts(alloc: Global, patterns: &str) -> Result<String, NoMemory> {
-    let patterns = patterns_of(alloc, patterns)?;
-    status(alloc, any(alloc, patterns))
-}
-
-/// The same of globs.
-fn built_of_globs(alloc: Global) -> Option<String> {
-    status(alloc, any(alloc, globs(alloc)?)).ok()
-}
-
-fn globs(alloc: Global) -> Option<Vec<Glob<'static>>> {
-    let mut all = Vec::new(alloc);
-    for pattern in ["src/**/*.rs", "doc/**/*.md", "pkg/**/PKGBUILD"] {
-        all.push(Glob::new(alloc, pattern).ok()?).ok()?;
-    }
-    Some(all)
-}
-
-/// The same of sets, with semicolons between.
-pub fn built_of_sets(alloc: Global, sets: &str) -> Result<String, NoMemory> {
-    match sets_of(alloc, sets) {
-        Some(sets) => status(alloc, any(alloc, sets)),
-        None => Ok(String::from_str(alloc, "not built")?),
-    }
-}
-
-fn sets_of(alloc: Global, sets: &str) -> Option<Vec<Any<'static>>> {
-    let mut all = Vec::new(alloc);
-    for patterns in sets.split(';') {
-        all.push(any(alloc, patterns_of(alloc, patterns).ok()?).ok()?)
-            .ok()?;
-    }
-    Some(all)
-}
-
-/// The path, whether the set means it, and the whole text with what is captured of it where it does.
-pub fn captured_by_set(alloc: Global, patterns: &str, path: &str) -> Result<String, NoMemory> {
-    let Ok(set) = any(alloc, patterns_of(alloc, patterns)?) else {
-        return Ok(String::from_str(alloc, "not built")?);
-    };
-    let candidate = CandidatePath::from(path);
-    match set.matched(alloc, &candidate)? {
-        Some(matched) => {
-            let texts = texts(alloc, &matched, '\t')?;
-            Ok(format!(in alloc; "{path}\t1\t{texts}")?)
-        }
-        None => Ok(format!(in alloc; "{path}\t0")?),
-    }
-}
-
-fn is_meant_by_one(alloc: Global, patterns: &str, text: &str) -> Option<bool> {
-    let set = any(alloc, patterns_of(alloc, patterns).ok()?).ok()?;
-    set.is_match(alloc, &CandidatePath::from(text)).ok()
-}
-
-/// Whether a set of sets means the text.
-fn is_meant_by_sets(alloc: Global, sets: &str, text: &str) -> Option<bool> {
-    let set = any(alloc, sets_of(alloc, sets)?).ok()?;
-    set.is_match(alloc, &CandidatePath::from(text)).ok()
-}
-
-/// Whether the set of no patterns means the text.
-fn means_nothing(alloc: Global, text: &str) -> Option<bool> {
-    let none: Vec<&str> = Vec::new(alloc);
-    let set = any(alloc, none).ok()?;
-    set.is_match(alloc, &CandidatePath::from(text)).ok()
-}
+type Set = Any<'static>;
 
 type Part = Checked<Token<'static, ExpressionMetadata>>;
 
-/// How long the program of a set is.
-fn length(alloc: Global, parts: Vec<Part>) -> Option<usize> {
-    let set = any(alloc, parts).ok()?;
-    let token = set.into_checked(alloc).ok()?.release();
-    let program = compile(alloc, token.concatenation(), false, false).ok()?;
-    Some(program.len())
+/// Adds what the row asks of a set.
+pub fn answer(alloc: Global, row: &Row<'_>, made: &mut Answer) -> Result<(), NoMemory> {
+    match built(alloc, row.kind(), row.input(0)) {
+        Ok(set) => of_set(alloc, row, set, made),
+        Err(error) => add_error(&error, made),
+    }
 }
 
-fn length_of_one(alloc: Global, pattern: &str) -> Option<usize> {
-    let mut parts = Vec::new(alloc);
-    parts.push(pattern.into_checked(alloc).ok()?).ok()?;
-    length(alloc, parts)
+fn built(alloc: Global, kind: &str, patterns: &str) -> Result<Set, BuildError> {
+    match kind {
+        "sets" | "sets_is_match" => set_of_sets(alloc, patterns),
+        "set_of_globs" => set_of_globs(alloc, patterns),
+        "set_length" => set_of_parts(alloc, patterns),
+        "nested_length" => set_of_set(alloc, patterns),
+        "empty_set" | "empty_length" => set_of_none(alloc),
+        _ => set_of(alloc, patterns),
+    }
 }
 
-/// The same of a set of a set of one pattern, and of another.
-fn length_of_nested(alloc: Global, first: &str, second: &str) -> Option<usize> {
-    let set = any(alloc, patterns_of(alloc, first).ok()?).ok()?;
-    let mut parts = Vec::new(alloc);
-    parts.push(set.into_checked(alloc).ok()?).ok()?;
-    parts.push(second.into_checked(alloc).ok()?).ok()?;
-    length(alloc, parts)
+fn add_error(error: &BuildError, made: &mut Answer) -> Result<(), NoMemory> {
+    if let BuildError::Memory = error {
+        return Err(NoMemory);
+    }
+    made.show(&number(error));
+    Ok(())
+}
+
+fn of_set(alloc: Global, row: &Row<'_>, set: Set, made: &mut Answer) -> Result<(), NoMemory> {
+    match row.kind() {
+        "set_length" | "nested_length" | "empty_length" => add_length(alloc, set, made),
+        _ => of_lent(alloc, row, &set, made),
+    }
+}
+
+fn of_lent(alloc: Global, row: &Row<'_>, set: &Set, made: &mut Answer) -> Result<(), NoMemory> {
+    match row.kind() {
+        "meant" => add_match(alloc, set, row.input(1), made),
+        "set_is_match" | "sets_is_match" => add_is_match(alloc, set, row.input(1), made),
+        "empty_set" => add_is_match(alloc, set, row.input(0), made),
+        "set_facts" => {
+            made.debug(set);
+            made.tab();
+            add_facts(alloc, set, made)
+        }
+        _ => {
+            made.add("0");
+            Ok(())
+        }
+    }
+}
+
+/// Builds the set of the patterns.
+fn set_of(alloc: Global, patterns: &str) -> Result<Set, BuildError> {
+    let mut all = Vec::new(alloc);
+    for pattern in patterns.split(' ') {
+        push(&mut all, pattern)?;
+    }
+    any(alloc, all)
+}
+
+fn set_of_none(alloc: Global) -> Result<Set, BuildError> {
+    let none: Vec<&str> = Vec::new(alloc);
+    any(alloc, none)
+}
+
+/// Builds the set of the globs of the patterns.
+fn set_of_globs(alloc: Global, patterns: &str) -> Result<Set, BuildError> {
+    let mut all: Vec<Glob<'static>> = Vec::new(alloc);
+    for pattern in patterns.split(' ') {
+        push(&mut all, Glob::new(alloc, pattern)?.into_owned(alloc)?)?;
+    }
+    any(alloc, all)
+}
+
+/// Builds the set of sets.
+fn set_of_sets(alloc: Global, sets: &str) -> Result<Set, BuildError> {
+    let mut all: Vec<Set> = Vec::new(alloc);
+    for patterns in sets.split(';') {
+        push(&mut all, set_of(alloc, patterns)?)?;
+    }
+    any(alloc, all)
+}
+
+/// Builds the set of the checked tokens of the patterns.
+fn set_of_parts(alloc: Global, patterns: &str) -> Result<Set, BuildError> {
+    let mut parts: Vec<Part> = Vec::new(alloc);
+    for pattern in patterns.split(' ') {
+        push(&mut parts, pattern.into_checked(alloc)?)?;
+    }
+    any(alloc, parts)
+}
+
+/// Builds the set of the checked tokens of a set, before the semicolon, and of the pattern after it.
+fn set_of_set(alloc: Global, patterns: &str) -> Result<Set, BuildError> {
+    let (set, pattern) = patterns.split_once(';').unwrap_or((patterns, ""));
+    let mut parts: Vec<Part> = Vec::new(alloc);
+    push(&mut parts, set_of(alloc, set)?.into_checked(alloc)?)?;
+    push(&mut parts, pattern.into_checked(alloc)?)?;
+    any(alloc, parts)
+}
+
+/// Adds how long the program of the set's token is.
+fn add_length(alloc: Global, set: Set, made: &mut Answer) -> Result<(), NoMemory> {
+    match set.into_checked(alloc) {
+        Ok(checked) => add_program(alloc, checked.as_ref(), made),
+        Err(_) => Err(NoMemory),
+    }
+}
+
+fn add_program(
+    alloc: Global,
+    token: &Token<'_, ExpressionMetadata>,
+    made: &mut Answer,
+) -> Result<(), NoMemory> {
+    match compile(alloc, token.concatenation(), false, false) {
+        Ok(program) => {
+            made.show(&program.len());
+            Ok(())
+        }
+        Err(_) => Err(NoMemory),
+    }
 }

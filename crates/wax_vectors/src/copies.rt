@@ -1,0 +1,51 @@
+//! Copies of globs and of what they match.
+
+use crate::answer::Answer;
+use crate::globs::{add_is_match, add_texts};
+use std::alloc::Global;
+use wax::{CandidatePath, Glob, MatchedText, NoMemory, Program};
+
+/// Adds the texts of what was matched: of a clone, of a copy with texts of its own, and of itself once it has
+/// its own.
+pub fn add_matches(
+    alloc: Global,
+    glob: &Glob<'_>,
+    path: &str,
+    made: &mut Answer,
+) -> Result<(), NoMemory> {
+    let path = CandidatePath::from(path);
+    match glob.matched(alloc, &path)? {
+        Some(matched) => add_copies(alloc, matched, made),
+        None => Err(NoMemory),
+    }
+}
+
+fn add_copies(alloc: Global, matched: MatchedText<'_>, made: &mut Answer) -> Result<(), NoMemory> {
+    add_clone(&matched.clone()?, made);
+    add_clone(&matched.to_owned(alloc)?, made);
+    add_clone(&matched.into_owned(alloc)?, made);
+    Ok(())
+}
+
+/// Adds the whole text, and the texts by their numbers.
+fn add_clone(matched: &MatchedText<'_>, made: &mut Answer) {
+    made.add(matched.complete());
+    add_texts(matched, "|", made);
+    made.add(";");
+}
+
+/// Adds whether a copy of the glob matches the path, its expression and its debug text.
+pub fn add_globs(
+    alloc: Global,
+    glob: &Glob<'_>,
+    path: &str,
+    made: &mut Answer,
+) -> Result<(), NoMemory> {
+    let copy = glob.to_owned(alloc)?;
+    add_is_match(alloc, &copy, path, made)?;
+    made.tab();
+    made.add(copy.expression());
+    made.tab();
+    made.debug(&copy);
+    Ok(())
+}

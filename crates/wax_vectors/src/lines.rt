@@ -1,0 +1,85 @@
+//! Lines that are read one byte at a time, filtered or captured of.
+
+use crate::answer::Answer;
+use crate::row::Row;
+use std::alloc::{AllocError, Global};
+use std::io::{self, Cursor, Read};
+use wax::{
+    CandidatePath, Counted, Glob, LinesError, NoMemory, Program, capture_lines, filter_lines,
+};
+
+/// How many bytes the lines that are written may have.
+const ROOM: usize = 1_024;
+
+/// Hands over one byte at a time.
+#[derive(Drop)]
+struct Bytes<'a> {
+    left: &'a [u8],
+}
+
+impl Read for Bytes<'_> {
+    fn read(&mut self, buf: &mut [u8]) -> io::Result<usize> {
+        match (self.left.split_first(), buf.first_mut()) {
+            (Some((byte, rest)), Some(place)) => {
+                *place = *byte;
+                self.left = rest;
+                Ok(1)
+            }
+            _ => Ok(0),
+        }
+    }
+}
+
+/// Adds the lines that are written of the row's lines; then, each behind `=`, how the call ended and whether the
+/// glob matches the row's path after it.
+pub fn add_lines(
+    alloc: Global,
+    glob: &Glob<'_>,
+    row: &Row<'_>,
+    made: &mut Answer,
+) -> Result<(), NoMemory> {
+    let bytes = bytes_of(alloc, row.input(1))?;
+    let mut input = Counted::new(Bytes { left: &bytes });
+    let mut output = Counted::new(Cursor::new([0; ROOM]));
+    let ended = if row.kind() == "filter_lines" {
+        filter_lines(alloc, &mut input, &mut output, glob)
+    } else {
+        capture_lines(alloc, &mut input, &mut output, glob)
+    };
+    add_written(&output.into_inner(), made);
+    add_end(ended, made);
+    match glob.is_match(alloc, &CandidatePath::from(row.input(2))) {
+        Ok(answer) => made.digit(answer),
+        Err(error) => made.show(&error),
+    }
+    Ok(())
+}
+
+/// Returns the bytes of a text, with a byte that is no text for each U+FFFD.
+fn bytes_of(alloc: Global, text: &str) -> Result<Vec<u8>, AllocError> {
+    let mut bytes = Vec::new(alloc);
+    for (index, part) in text.split('\u{fffd}').enumerate() {
+        if index > 0 {
+            bytes.push(0xff)?;
+        }
+        bytes.extend_from_slice(part.as_bytes())?;
+    }
+    Ok(bytes)
+}
+
+fn add_written(output: &Cursor<[u8; ROOM]>, made: &mut Answer) {
+    let count = usize::try_from(output.position()).unwrap_or(0).min(ROOM);
+    made.add(str::from_utf8(&output.get_ref()[..count]).unwrap_or("not text"));
+}
+
+fn add_end(ended: Result<u64, LinesError>, made: &mut Answer) {
+    made.add("= ");
+    match ended {
+        Ok(count) => {
+            made.show(&count);
+            made.add(" not text");
+        }
+        Err(error) => made.show(&error),
+    }
+    made.add("\n= ");
+}

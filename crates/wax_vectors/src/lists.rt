@@ -1,0 +1,45 @@
+//! Ignore lists.
+
+use crate::answer::Answer;
+use crate::row::Row;
+use std::alloc::Global;
+use wax::walk::{IgnoreError, IgnoreList};
+use wax::{CandidatePath, NoMemory};
+
+/// Adds whether the list ignores a path; of a text that is no list, the number of the refusal, that of the line,
+/// and why.
+pub fn answer(alloc: Global, row: &Row<'_>, made: &mut Answer) -> Result<(), NoMemory> {
+    match IgnoreList::parse(alloc, row.input(0)) {
+        Ok(list) if row.kind() == "ignored_twice" => {
+            for _ in 0..2 {
+                let call = add_ignored(alloc, &list, row.input(1), made);
+                made.end(call);
+            }
+            Ok(())
+        }
+        Ok(list) => add_ignored(alloc, &list, row.input(1), made),
+        Err(error) => add_error(&error, made),
+    }
+}
+
+fn add_ignored(
+    alloc: Global,
+    list: &IgnoreList,
+    path: &str,
+    made: &mut Answer,
+) -> Result<(), NoMemory> {
+    made.digit(list.is_ignored(alloc, &CandidatePath::from(path))?);
+    Ok(())
+}
+
+fn add_error(error: &IgnoreError, made: &mut Answer) -> Result<(), NoMemory> {
+    let IgnoreError::BadLine { line, error: why } = error else {
+        return Err(NoMemory);
+    };
+    made.show(&error.number());
+    made.tab();
+    made.show(line);
+    made.tab();
+    made.show(why);
+    Ok(())
+}

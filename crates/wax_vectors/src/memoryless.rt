@@ -1,0 +1,89 @@
+//! Calls that request no memory: all that they need is made before them, and so is the room of the answer.
+
+use crate::answer::Answer;
+use crate::globs::when;
+use crate::row::Row;
+use std::alloc::Global;
+use wax::encode::compile;
+use wax::query::When;
+use wax::token::{ExpressionMetadata, TokenFacts, Tokenized, parse};
+use wax::walk::DepthMinMax;
+use wax::{
+    CandidatePath, Glob, MatchedText, NoMemory, Program, encode, is_contextual_meta_character,
+    is_meta_character,
+};
+
+/// Adds what these calls return of the glob, or only that all is made that they need.
+pub fn add_facts(
+    alloc: Global,
+    glob: &Glob<'_>,
+    row: &Row<'_>,
+    made: &mut Answer,
+) -> Result<(), NoMemory> {
+    let path = CandidatePath::from(row.input(1));
+    let Some(matched) = glob.matched(alloc, &path)? else {
+        return Err(NoMemory);
+    };
+    let Ok(tokenized) = parse(alloc, row.input(0)) else {
+        return Err(NoMemory);
+    };
+    let Ok(program) = compile(alloc, tokenized.concatenation(), false, false) else {
+        return Err(NoMemory);
+    };
+    made.add("prepared");
+    if row.kind() == "memoryless" {
+        add_glob(glob, made);
+        add_match(&matched, made);
+        add_tokens(&tokenized, &program, made);
+        add_values(made);
+    }
+    Ok(())
+}
+
+fn add_glob(glob: &Glob<'_>, made: &mut Answer) {
+    made.tab();
+    made.show(glob);
+    made.tab();
+    made.digit(glob.is_empty());
+    made.tab();
+    made.debug(&glob.depth());
+    made.tab();
+    made.add(when(glob.has_root()));
+    made.tab();
+    made.add(when(glob.is_exhaustive()));
+}
+
+fn add_match(matched: &MatchedText<'_>, made: &mut Answer) {
+    made.tab();
+    made.add(matched.complete());
+    made.tab();
+    made.show(&matched.to_candidate_path());
+    made.tab();
+    made.debug(&matched.get(2));
+    made.tab();
+    made.debug(&matched.get(9));
+}
+
+fn add_tokens(
+    tokenized: &Tokenized<'_, ExpressionMetadata>,
+    program: &encode::Program,
+    made: &mut Answer,
+) {
+    made.tab();
+    made.show(&program.len());
+    made.tab();
+    made.add(when(tokenized.as_token().is_exhaustive()));
+}
+
+/// Adds what characters, paths, answers and depths come to.
+fn add_values(made: &mut Answer) {
+    made.tab();
+    made.digit(is_meta_character('*'));
+    made.digit(is_contextual_meta_character('-'));
+    made.tab();
+    made.show(&CandidatePath::from("a/b"));
+    made.tab();
+    made.add(when(When::Always.and(When::Sometimes)));
+    made.tab();
+    made.debug(&DepthMinMax::from_depths_or_max(3, 1));
+}

@@ -1,0 +1,49 @@
+//! Texts that are escaped, paths as values, and the globs that need no expression.
+
+use crate::answer::Answer;
+use crate::globs::add_is_match;
+use crate::row::Row;
+use std::alloc::Global;
+use wax::encode::case_folded_eq;
+use wax::{CandidatePath, Glob, NoMemory, escape, is_contextual_meta_character, is_meta_character};
+
+/// Adds what the row asks of a text or a path.
+pub fn answer(alloc: Global, row: &Row<'_>, made: &mut Answer) -> Result<(), NoMemory> {
+    let text = row.input(0);
+    match row.kind() {
+        "escape" => made.add(&escape(alloc, text)?),
+        "folded" => made.digit(case_folded_eq(alloc, text, row.input(1))?),
+        "meta" => add_meta(text, made),
+        "path_copies" => return add_copies(alloc, row, made),
+        "empty_glob" => return add_glob(alloc, &Glob::empty(alloc)?, text, made),
+        _ => return add_glob(alloc, &Glob::tree(alloc)?, text, made),
+    }
+    Ok(())
+}
+
+/// Adds for each character whether it is a meta character, and whether it is one in a context.
+fn add_meta(text: &str, made: &mut Answer) {
+    for character in text.chars() {
+        made.digit(is_meta_character(character));
+        made.digit(is_contextual_meta_character(character));
+        made.add(";");
+    }
+}
+
+/// Adds whether copies of the path equal it, whether the row's other path does, and a path that owns its text.
+fn add_copies(alloc: Global, row: &Row<'_>, made: &mut Answer) -> Result<(), NoMemory> {
+    let path = CandidatePath::from(row.input(0));
+    made.digit(path.clone()? == path);
+    made.digit(path.to_owned(alloc)? == path);
+    made.digit(CandidatePath::from(row.input(1)) == path);
+    made.tab();
+    made.add(path.into_owned(alloc)?.as_str());
+    Ok(())
+}
+
+/// Adds whether the glob is empty, and whether it matches the path.
+fn add_glob(alloc: Global, glob: &Glob<'_>, path: &str, made: &mut Answer) -> Result<(), NoMemory> {
+    made.digit(glob.is_empty());
+    made.tab();
+    add_is_match(alloc, glob, path, made)
+}

@@ -1,0 +1,109 @@
+//! Spans, labelled places, and what refusals print.
+
+use crate::answer::Answer;
+use crate::refusals::add_labels;
+use crate::row::Row;
+use std::alloc::Global;
+use wax::diagnostics::{
+    CompositeSpan, CorrelatedSpan, LocatedError, Refusal, Span, SpanExt, Spanned,
+};
+use wax::{BuildError, NoMemory};
+
+/// What else has a span.
+#[derive(Drop)]
+struct Piece {
+    size: u8,
+    span: Span,
+}
+
+impl Spanned for Piece {
+    ghost span_of = { λ p. p.span };
+
+    ghost with_span = { λ p s. record p { span = s } };
+
+    fn span(&self) -> &Span {
+        &self.span
+    }
+
+    fn span_mut(&mut self) -> &mut Span {
+        &mut self.span
+    }
+}
+
+/// Adds what the row asks of spans, each written as start and length.
+pub fn answer(alloc: Global, row: &Row<'_>, made: &mut Answer) -> Result<(), NoMemory> {
+    let span = span_of(row.input(0));
+    match row.kind() {
+        "union" => add_span(span.union(span_of(row.input(1))), made),
+        "piece" => add_piece(span, made),
+        "branch_labels" => return add_branch(alloc, row, made),
+        "place_labels" => add_labels(&CompositeSpan::spanned("here", span).labels(alloc)?, made),
+        "span_labels" => add_labels(&CorrelatedSpan::from(span).labels(alloc)?, made),
+        "split_labels" => add_labels(&split(row, 0).labels(alloc)?, made),
+        _ => add_printed(made),
+    }
+    Ok(())
+}
+
+/// Returns the span of two numbers with a space between.
+fn span_of(written: &str) -> Span {
+    let (start, len) = written.split_once(' ').unwrap_or(("", ""));
+    (number(start), number(len))
+}
+
+fn number(written: &str) -> usize {
+    written.parse::<usize>().unwrap_or(0)
+}
+
+/// Returns the places of two inputs, of which the left one may be `-` for none.
+fn split(row: &Row<'_>, index: usize) -> CorrelatedSpan {
+    let right = span_of(row.input(index.saturating_add(1)));
+    let left = match row.input(index) {
+        "-" => None,
+        left => Some(span_of(left)),
+    };
+    CorrelatedSpan::split_some(left, right)
+}
+
+fn add_span(span: Option<Span>, made: &mut Answer) {
+    match span {
+        Some(span) => made.span(span),
+        None => made.add("none"),
+    }
+}
+
+/// Adds the span of a piece once its start is 5, once that is halved, and what else the piece has.
+fn add_piece(span: Span, made: &mut Answer) {
+    let mut piece = Piece { size: 3, span };
+    piece.span_mut().0 = 5;
+    made.span(*piece.span());
+    made.tab();
+    let moved = piece.map_span(|span| (span.0 / 2, span.1));
+    made.span(*moved.span());
+    made.tab();
+    made.show(&moved.size);
+}
+
+/// Adds the span of a branch of two places, what it prints, and its labels.
+fn add_branch(alloc: Global, row: &Row<'_>, made: &mut Answer) -> Result<(), NoMemory> {
+    let span = span_of(row.input(0));
+    let branch = CompositeSpan::correlated("in this alternation", span, split(row, 1));
+    made.span(branch.span());
+    made.tab();
+    made.show(&branch);
+    add_labels(&branch.labels(alloc)?, made);
+    Ok(())
+}
+
+/// Adds what a refusal prints, what refused memory prints, and whether that has no place.
+fn add_printed(made: &mut Answer) {
+    let refused: Refusal<CompositeSpan> = Refusal::Refused(CompositeSpan::spanned("x", (0, 1)));
+    let memory: Refusal<CompositeSpan> = Refusal::from(NoMemory);
+    made.show(&refused);
+    made.tab();
+    made.show(&memory);
+    made.tab();
+    made.show(&NoMemory);
+    made.tab();
+    made.digit(BuildError::Memory.locations().is_none());
+}

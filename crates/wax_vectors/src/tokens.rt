@@ -1,0 +1,239 @@
+//! Facts of the tokens of an expression, whether or not it keeps the rules.
+
+use crate::answer::Answer;
+use crate::checked;
+use crate::globs::{add_depth, when};
+use crate::row::Row;
+use std::alloc::Global;
+use std::fmt::Debug;
+use wax::token::{
+    Component, ExpressionMetadata, LeafKind, Token, TokenFacts, Tokenized, Topology, components,
+    depth, into_alternatives, literals, parse, size,
+};
+use wax::{NoMemory, Refusal};
+
+type Tokens<'t> = Tokenized<'t, ExpressionMetadata>;
+
+/// Adds what the row asks of an expression's tokens.
+pub fn answer(alloc: Global, row: &Row<'_>, made: &mut Answer) -> Result<(), NoMemory> {
+    match parse(alloc, row.input(0)) {
+        Ok(tokens) => of_parsed(alloc, row, tokens, made),
+        Err(Refusal::Memory) => Err(NoMemory),
+        Err(Refusal::Refused(_)) => {
+            made.add("not parsed");
+            Ok(())
+        }
+    }
+}
+
+fn of_parsed(
+    alloc: Global,
+    row: &Row<'_>,
+    tokens: Tokens<'_>,
+    made: &mut Answer,
+) -> Result<(), NoMemory> {
+    match row.kind() {
+        "token_alternatives" => add_alternatives(alloc, tokens, made),
+        "owned_tokens" => add_owned(alloc, tokens, made),
+        "token_copies" => add_copies(alloc, row, tokens, made),
+        "alternatives" | "checked_parts" | "owned_checked" | "owned_error" => {
+            checked::answer(alloc, row, tokens, made)
+        }
+        _ => of_token(alloc, row, tokens.as_token(), made),
+    }
+}
+
+fn of_token(
+    alloc: Global,
+    row: &Row<'_>,
+    token: &Token<'_, ExpressionMetadata>,
+    made: &mut Answer,
+) -> Result<(), NoMemory> {
+    match row.kind() {
+        "depth" => add_depth(depth(token), made),
+        "root" => made.add(when(token.has_root())),
+        "exhaustive" => made.add(when(token.is_exhaustive())),
+        "casing" => add_casing(token, made),
+        "tokens" => add_tokens(token, made),
+        "size" => return add_size(alloc, token, made),
+        "text" => return add_text(alloc, token, made),
+        "components" => return add_components(alloc, token, made),
+        "literals" => return add_literals(alloc, token, made),
+        _ => return add_prefix(alloc, token, made),
+    }
+    Ok(())
+}
+
+/// Adds the number of bytes of each text that the token matches, if it is one number.
+fn add_size(
+    alloc: Global,
+    token: &Token<'_, ExpressionMetadata>,
+    made: &mut Answer,
+) -> Result<(), NoMemory> {
+    match size(alloc, token)? {
+        Some(size) => made.show(&size),
+        None => made.add("varies"),
+    }
+    Ok(())
+}
+
+/// Adds the one text of the token.
+pub fn add_text(
+    alloc: Global,
+    token: &Token<'_, ExpressionMetadata>,
+    made: &mut Answer,
+) -> Result<(), NoMemory> {
+    match token.text(alloc)? {
+        Some(text) => made.add(text.as_str()),
+        None => made.add("varies"),
+    }
+    Ok(())
+}
+
+/// Adds the one text of each token, with a bar behind it.
+pub fn add_texts(
+    alloc: Global,
+    tokens: &[Token<'_, ExpressionMetadata>],
+    made: &mut Answer,
+) -> Result<(), NoMemory> {
+    for token in tokens {
+        add_text(alloc, token, made)?;
+        made.add("|");
+    }
+    Ok(())
+}
+
+/// Adds the literals of the top level, each with 1 if it matches in any case, else 0.
+fn add_casing(token: &Token<'_, ExpressionMetadata>, made: &mut Answer) {
+    for token in token.concatenation() {
+        if let Some(literal) = token.as_literal() {
+            made.add(literal.text());
+            made.add(" ");
+            made.digit(literal.is_case_insensitive());
+            made.add(";");
+        }
+    }
+}
+
+/// Adds what each token of the top level is, with its span.
+fn add_tokens(token: &Token<'_, ExpressionMetadata>, made: &mut Answer) {
+    for token in token.concatenation() {
+        made.add(name(token));
+        made.add(" ");
+        made.span(token.annotation().span());
+        made.add(";");
+    }
+}
+
+fn name(token: &Token<'_, ExpressionMetadata>) -> &'static str {
+    match token.topology() {
+        Topology::Leaf(LeafKind::Literal(_)) => "literal",
+        Topology::Leaf(LeafKind::Separator(_)) => "separator",
+        Topology::Leaf(LeafKind::Class(_)) => "class",
+        Topology::Leaf(LeafKind::Wildcard(_)) => "wildcard",
+        Topology::Branch(_) if token.is_alternation() => "alternation",
+        Topology::Branch(_) if token.is_concatenation() => "concatenation",
+        Topology::Branch(_) => "repetition",
+    }
+}
+
+/// Adds what a component is, its span, and how many tokens it has.
+fn add_component(component: &Component<'_, '_, ExpressionMetadata>, made: &mut Answer) {
+    let tokens = component.tokens();
+    made.add(match (component.literal(), tokens.first()) {
+        (Some(_), _) => "literal ",
+        (None, Some(token)) if token.is_tree_wildcard() => "tree ",
+        _ => "other ",
+    });
+    made.span(component.span());
+    made.add(" ");
+    made.show(&tokens.len());
+    made.add(";");
+}
+
+fn add_components(
+    alloc: Global,
+    token: &Token<'_, ExpressionMetadata>,
+    made: &mut Answer,
+) -> Result<(), NoMemory> {
+    for component in &components(alloc, token)? {
+        add_component(component, made);
+    }
+    Ok(())
+}
+
+/// Adds the literal components, by level, each with its text.
+fn add_literals(
+    alloc: Global,
+    token: &Token<'_, ExpressionMetadata>,
+    made: &mut Answer,
+) -> Result<(), NoMemory> {
+    for (component, literal) in &literals(alloc, token)? {
+        made.add(literal.text(alloc)?.as_str());
+        made.add(" ");
+        add_component(component, made);
+    }
+    Ok(())
+}
+
+/// Adds how many tokens the prefix of one text takes, and the prefix.
+fn add_prefix(
+    alloc: Global,
+    token: &Token<'_, ExpressionMetadata>,
+    made: &mut Answer,
+) -> Result<(), NoMemory> {
+    let (count, prefix) = token.invariant_text_prefix(alloc)?;
+    made.show(&count);
+    made.tab();
+    made.add(prefix.as_str());
+    Ok(())
+}
+
+/// Adds the texts of the alternatives, each with a bar behind it.
+fn add_alternatives(alloc: Global, tokens: Tokens<'_>, made: &mut Answer) -> Result<(), NoMemory> {
+    let alternatives = into_alternatives(alloc, tokens.into_token())?;
+    add_texts(alloc, &alternatives, made)
+}
+
+/// Adds the expression, how many tokens it has, and its one text, once it has texts of its own.
+fn add_owned(alloc: Global, tokens: Tokens<'_>, made: &mut Answer) -> Result<(), NoMemory> {
+    let owned = tokens.into_owned(alloc)?;
+    made.add(owned.expression());
+    made.tab();
+    made.show(&owned.concatenation().len());
+    made.tab();
+    add_text(alloc, owned.as_token(), made)
+}
+
+/// Adds whether a copy equals the tokens, those of the row's other expression do, the copy prints the same, and a
+/// copy of the one token equals it.
+fn add_copies(
+    alloc: Global,
+    row: &Row<'_>,
+    tokens: Tokens<'_>,
+    made: &mut Answer,
+) -> Result<(), NoMemory> {
+    let tokens = tokens.into_owned(alloc)?;
+    let copy = tokens.to_owned(alloc)?;
+    made.digit(copy == tokens);
+    made.digit(owned(alloc, row.input(1))? == tokens);
+    made.digit(print_the_same(alloc, &copy, &tokens)?);
+    made.digit(tokens.as_token().to_owned(alloc)? == *copy.as_token());
+    Ok(())
+}
+
+/// Returns the tokens of an expression, with texts of their own.
+fn owned(alloc: Global, expression: &str) -> Result<Tokens<'static>, NoMemory> {
+    match parse(alloc, expression) {
+        Ok(tokens) => tokens.into_owned(alloc),
+        Err(_) => Err(NoMemory),
+    }
+}
+
+fn print_the_same<T: Debug>(alloc: Global, left: &T, right: &T) -> Result<bool, NoMemory> {
+    let (left, right) = (
+        format!(in alloc; "{left:?}")?,
+        format!(in alloc; "{right:?}")?,
+    );
+    Ok(left.as_str() == right.as_str())
+}
