@@ -19,6 +19,7 @@ test:
 	tests/relations
 	rt ci
 	tests/wrong-bodies
+	tests/commands
 	tests/memory
 	tests/hostile
 
