@@ -1,0 +1,267 @@
+//! Folds and walks of the tokens of `a{?,**}</:1,>`.
+ghost use Rattle.std.specs.Prelude.{◌≡◌, ℕ, Bool, IfOk};
+ghost use Rattle.std.specs.List.{list_any};
+ghost use Rattle.wax_token.specs.Syntax.{Tree};
+ghost use Rattle.wax_fold.specs.Branches.{composed};
+ghost use Rattle.wax_fold.specs.Folded.{Folding};
+ghost use Rattle.wax_token.specs.Cost.{holds_tree, is_tree};
+ghost use Rattle.wax_token.specs.View.{leaf_of};
+ghost use Rattle.wax_fold.specs.Mapped.{Mapping, mapped};
+ghost use Rattle.wax_test_calls.specs.Folders.{finding, marking};
+
+use std::alloc::{AllocError, Global};
+use std::borrow::CowStr;
+use wax::NoMemory;
+use wax::token::walk::{
+    BranchFold, Fold, FoldMap, Forward, Sequencer, Walk, ending, forward, starting,
+};
+use wax::token::{
+    Alternation, BranchKind, Concatenation, LeafKind, Literal, Repetition, Separator, Token,
+    Wildcard, fold, fold_map,
+};
+use wax_token::token::{new_branch, new_leaf};
+
+/// Finds a `**`.
+#[derive(Drop)]
+struct TreeFinder;
+
+impl<'t, A> Fold<'t, A> for TreeFinder {
+    type Sequencer = Forward;
+
+    type Term = bool;
+
+    ghost answers = { λ _. finding };
+
+    fn sequencer() -> Forward {
+        Forward
+    }
+
+    fn initialize(
+        &mut self,
+        _alloc: Global,
+        _branch: &BranchKind<'t, A>,
+    ) -> Result<Option<bool>, NoMemory> {
+        Ok(None)
+    }
+
+    fn fold(
+        &mut self,
+        _alloc: Global,
+        _branch: &BranchKind<'t, A>,
+        terms: Vec<bool>,
+    ) -> Result<Option<bool>, NoMemory>
+        ensures answer { IfOk result (λ r. r ≡ Some (list_any (λ t. t) terms.items)) }
+        ensures same { ◌≡◌ {A = Folding A Bool} finding finding }
+    {
+        Ok(Some(is_one_true(&terms)))
+    }
+
+    fn finalize(
+        &mut self,
+        _alloc: Global,
+        _branch: &BranchKind<'t, A>,
+        term: bool,
+    ) -> Result<bool, NoMemory> {
+        Ok(term)
+    }
+
+    fn term(&mut self, _alloc: Global, leaf: &LeafKind<'t>) -> Result<bool, NoMemory> {
+        Ok(is_tree(leaf))
+    }
+}
+
+fn is_one_true(terms: &[bool]) -> bool
+    ensures { result ≡ list_any (λ t. t) terms.now }
+{
+    for term in terms {
+        if *term {
+            return true;
+        }
+    }
+    false
+}
+
+fn is_tree(leaf: &LeafKind<'_>) -> bool
+    ensures { result ≡ is_tree (leaf_of leaf.now) }
+{
+    match leaf {
+        LeafKind::Wildcard(wildcard) => match wildcard {
+            Wildcard::Tree { .. } => true,
+            Wildcard::One | Wildcard::ZeroOrMore(_) => false,
+        },
+        LeafKind::Class(_) | LeafKind::Literal(_) | LeafKind::Separator(_) => false,
+    }
+}
+
+/// Whether the tree holds a `**`.
+#[tactic(auto, using(crate::proofs::Finding::found))]
+fn holds_tree<'t, A>(alloc: Global, token: &Token<'t, A>) -> Result<bool, NoMemory>
+    ensures { IfOk result (λ b. b ≡ holds_tree token.now) }
+{
+    match fold(alloc, token, &mut TreeFinder)? {
+        Some(found) => Ok(found),
+        None => Ok(false),
+    }
+}
+
+/// Gives each token the annotation 7.
+#[derive(Drop)]
+struct Marker;
+
+impl<'t, A: Drop> FoldMap<'t, A> for Marker {
+    type Token = Token<'t, u8>;
+
+    ghost answers = { λ _. marking };
+
+    fn fold(
+        &mut self,
+        alloc: Global,
+        _annotation: A,
+        branch: BranchFold,
+        tokens: Vec<Token<'t, u8>>,
+    ) -> Result<Option<Token<'t, u8>>, NoMemory>
+        ensures answer { IfOk result (λ r. r ≡ composed branch tokens.entry.items 7) }
+        ensures same { ◌≡◌ {A = Mapping A (Tree ℕ)} marking marking }
+    {
+        let Some(kind) = branch.fold(alloc, tokens)? else {
+            return Ok(None);
+        };
+        Ok(Some(new_branch(kind, 7)))
+    }
+
+    fn map(
+        &mut self,
+        _alloc: Global,
+        _annotation: A,
+        leaf: LeafKind<'t>,
+    ) -> Result<Token<'t, u8>, NoMemory> {
+        Ok(new_leaf(leaf, 7))
+    }
+}
+
+/// The tree with the annotation 7 everywhere.
+fn marked<'t>(alloc: Global, token: Token<'t, u8>) -> Result<Option<Token<'t, u8>>, NoMemory>
+    ensures { IfOk result (λ r. r ≡ mapped marking token.entry) }
+{
+    fold_map(alloc, token, &mut Marker)
+}
+
+/// Pushes what a fold or a walk gives of the tokens of `a{?,**}</:1,>`.
+pub fn push_tokens(alloc: Global, kind: &str, text: &mut String) -> Result<(), NoMemory> {
+    if kind == "marked" {
+        return push_marked(alloc, text);
+    }
+    push_walked(alloc, kind, &sample(alloc), text)
+}
+
+/// Returns the tokens of `a{?,**}</:1,>`, or fewer if allocation fails.
+fn sample(alloc: Global) -> Token<'static, u8> {
+    let literal = Literal::new(CowStr::Borrowed("a"), false);
+    let tokens = with(Vec::new(alloc), new_leaf(LeafKind::Literal(literal), 0));
+    let tokens = with_copies(alloc, with(tokens, choice(alloc)));
+    new_branch(BranchKind::Concatenation(Concatenation { tokens }), 0)
+}
+
+fn choice(alloc: Global) -> Token<'static, u8> {
+    let one = new_leaf(LeafKind::Wildcard(Wildcard::One), 0);
+    let tree = new_leaf(LeafKind::Wildcard(Wildcard::Tree { has_root: false }), 0);
+    let tokens = with(with(Vec::new(alloc), one), tree);
+    new_branch(BranchKind::Alternation(Alternation { tokens }), 0)
+}
+
+fn with<'t>(mut tokens: Vec<Token<'t, u8>>, token: Token<'t, u8>) -> Vec<Token<'t, u8>> {
+    let _ = tokens.push(token);
+    tokens
+}
+
+fn with_copies<'t>(alloc: Global, tokens: Vec<Token<'t, u8>>) -> Vec<Token<'t, u8>> {
+    match Box::new(alloc, new_leaf(LeafKind::Separator(Separator), 0)) {
+        Ok(token) => {
+            let copies = Repetition {
+                token,
+                lower: 1,
+                upper: None,
+            };
+            with(tokens, new_branch(BranchKind::Repetition(copies), 0))
+        }
+        Err(_) => tokens,
+    }
+}
+
+/// Pushes the annotation of each token once all are marked.
+fn push_marked(alloc: Global, text: &mut String) -> Result<(), NoMemory> {
+    let Ok(Some(token)) = marked(alloc, sample(alloc)) else {
+        return Err(NoMemory);
+    };
+    push_annotations(alloc, &token, text)
+}
+
+fn push_annotations(
+    alloc: Global,
+    token: &Token<'_, u8>,
+    text: &mut String,
+) -> Result<(), NoMemory> {
+    let mut is_pushed = true;
+    for entry in forward(alloc, token) {
+        is_pushed &= match entry {
+            Ok(entry) => push_number(alloc, *entry.token.annotation() as usize, text).is_ok(),
+            Err(_) => false,
+        };
+    }
+    if is_pushed { Ok(()) } else { Err(NoMemory) }
+}
+
+fn push_walked(
+    alloc: Global,
+    kind: &str,
+    token: &Token<'_, u8>,
+    text: &mut String,
+) -> Result<(), NoMemory> {
+    match kind {
+        "forward" => push_depths(alloc, forward(alloc, token), text),
+        "starting" => push_depths(alloc, starting(alloc, token), text),
+        "ending" => push_depths(alloc, ending(alloc, token), text),
+        "cancelled" => push_cancelled(alloc, token, text),
+        _ => push_found(alloc, token, text),
+    }
+}
+
+/// Pushes whether there is a `**`.
+fn push_found(alloc: Global, token: &Token<'_, u8>, text: &mut String) -> Result<(), NoMemory> {
+    let found = holds_tree(alloc, token)?;
+    text.push_str(if found { "found" } else { "not found" })?;
+    Ok(())
+}
+
+/// Pushes the depth of each token that a walk gives.
+fn push_depths<S: Sequencer + Drop>(
+    alloc: Global,
+    walk: Walk<'_, '_, u8, S>,
+    text: &mut String,
+) -> Result<(), NoMemory> {
+    let mut is_pushed = true;
+    for entry in walk {
+        is_pushed &= match entry {
+            Ok(entry) => push_number(alloc, entry.position().depth.conjunctive, text).is_ok(),
+            Err(_) => false,
+        };
+    }
+    if is_pushed { Ok(()) } else { Err(NoMemory) }
+}
+
+/// Pushes the depths of the tokens behind the third, below whose branch nothing more is given.
+fn push_cancelled(alloc: Global, token: &Token<'_, u8>, text: &mut String) -> Result<(), NoMemory> {
+    let mut walk = forward(alloc, token);
+    for _ in 0..3 {
+        let _ = walk.next();
+    }
+    walk.cancel_walk_tree();
+    push_depths(alloc, walk, text)
+}
+
+fn push_number(alloc: Global, number: usize, text: &mut String) -> Result<(), AllocError> {
+    if !text.ends_with('\t') {
+        text.push(' ')?;
+    }
+    text.push_str(format!(in alloc; "{number}")?.as_str())
+}

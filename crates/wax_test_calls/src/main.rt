@@ -1,0 +1,55 @@
+//! Runs calls over streams and directories that fail, one for each row of the files in `data`, and prints the
+//! rows that come to something else. Each line of standard input is a row without its answer, and is printed
+//! with it.
+#![tactic(auto)]
+
+mod commands;
+mod folds;
+mod lines;
+mod paths;
+mod pictures;
+mod rows;
+mod streams;
+
+use std::{fs, io};
+
+fn main(rt: HostRuntime) -> io::Result<()> {
+    compare(&rt, "lines.tsv", 5)?;
+    compare(&rt, "commands.tsv", 5)?;
+    compare(&rt, "values.tsv", 2)?;
+    let asked = io::read_to_string(rt.alloc(), rt.stdin())?;
+    for row in asked.lines() {
+        let made = rows::made(rt.alloc(), row, usize::MAX)?;
+        println!(rt; "{made}")?;
+    }
+    Ok(())
+}
+
+/// Prints the rows of a file that are other, and how many are the same. So many fields of each are given: its
+/// answer follows them.
+fn compare(rt: &HostRuntime, name: &str, given: usize) -> io::Result<()> {
+    let text = fs::read_to_string(rt, name)?;
+    let mut same = 0u64;
+    let mut other = 0u64;
+    for row in text.lines() {
+        if row.is_empty() || row.starts_with("# ") {
+            continue;
+        }
+        if is_same(rt, row, given)? {
+            same = same.saturating_add(1);
+        } else {
+            other = other.saturating_add(1);
+        }
+    }
+    println!(rt; "{name}: {same} the same, {other} other")
+}
+
+/// Returns whether a row comes to what it says, and prints both if it doesn't.
+fn is_same(rt: &HostRuntime, row: &str, given: usize) -> io::Result<bool> {
+    let made = rows::made(rt.alloc(), row, given)?;
+    if made.as_str() == row {
+        return Ok(true);
+    }
+    println!(rt; "wanted {row}\nmade   {made}")?;
+    Ok(false)
+}

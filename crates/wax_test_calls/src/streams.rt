@@ -1,0 +1,58 @@
+//! The streams of a row, and what was asked of them.
+
+use std::alloc::{AllocError, Global};
+use wax::Counted;
+use wax_test_kit::streams::{Interrupted, Narrow, Slow};
+
+/// A reader that gives one byte at a time.
+pub type Reader<'a> = Counted<Interrupted<Slow<'a>>>;
+
+/// A writer that takes so many bytes.
+pub type Writer = Counted<Interrupted<Narrow>>;
+
+/// Returns a reader of these bytes. After `reads N` reads, each fails; the read after `interrupted N` is
+/// interrupted.
+pub fn reader<'a>(streams: &str, bytes: &'a [u8]) -> Reader<'a> {
+    let left = number_after(streams, "reads").unwrap_or(u64::MAX);
+    let before = number_after(streams, "interrupted").unwrap_or(u64::MAX);
+    Counted::new(Interrupted::new(Slow::new(bytes, left), before))
+}
+
+/// Returns a writer that takes all. After `room N` bytes a write fails, after `takes N` bytes it takes
+/// nothing, and the write after `disturbed N` is interrupted.
+pub fn writer(alloc: Global, streams: &str) -> Writer {
+    let before = number_after(streams, "disturbed").unwrap_or(u64::MAX);
+    Counted::new(Interrupted::new(narrow(alloc, streams), before))
+}
+
+fn narrow(alloc: Global, streams: &str) -> Narrow {
+    if let Some(room) = number_after(streams, "room") {
+        return Narrow::new(alloc, room as usize, true);
+    }
+    let taken = number_after(streams, "takes").unwrap_or(u64::MAX);
+    Narrow::new(alloc, taken as usize, false)
+}
+
+/// Returns the number that follows a word.
+pub fn number_after(streams: &str, word: &str) -> Option<u64> {
+    let mut words = streams.split(' ');
+    while let Some(name) = words.next() {
+        if name == word {
+            return words.next()?.parse().ok();
+        }
+    }
+    None
+}
+
+/// Pushes how many reads and writes there were, and how many of each failed.
+pub fn push_counts<R, W>(
+    alloc: Global,
+    input: &Counted<R>,
+    output: &Counted<W>,
+    text: &mut String,
+) -> Result<(), AllocError> {
+    let (reads, failed_reads) = (input.calls(), input.failures());
+    let (writes, failed_writes) = (output.calls(), output.failures());
+    let counts = format!(in alloc; "\t{reads} {failed_reads} {writes} {failed_writes}\t")?;
+    text.push_str(counts.as_str())
+}

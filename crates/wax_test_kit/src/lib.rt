@@ -1,0 +1,5 @@
+//! What tests share: trees from short texts, and readers and writers that fail.
+#![tactic(auto)]
+
+pub mod plans;
+pub mod streams;
