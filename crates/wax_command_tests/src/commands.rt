@@ -8,8 +8,8 @@ use std::rt::Env;
 use std::test::*;
 use wax::walk::Tree;
 use wax_commands::words;
-use wax_plans::{ROOT, tree_of};
-use wax_streams::{Narrow, Slow};
+use wax_test_kit::plans::{ROOT, tree_of};
+use wax_test_kit::streams::{Narrow, Slow};
 
 // A directory of which no command but `walk` asks.
 fn unasked(alloc: Global) -> io::Result<Tree> {

@@ -5,8 +5,8 @@ use std::alloc::{AllocError, Global};
 use std::test::*;
 use std::{fs, io};
 use wax::walk::{Directory, Folders, Node, Starving, Tree, TreeItem};
-use wax_plans::{ROOT, tree_of, tree_with};
-use wax_streams::Narrow;
+use wax_test_kit::plans::{ROOT, tree_of, tree_with};
+use wax_test_kit::streams::Narrow;
 
 // `src` with two files and the folder `a` with one, and `target` with one; no fault.
 const PROJECT: &str = "src/ lib.rs notes.md a/ mod.rs ; ; target/ lib.rs ;";

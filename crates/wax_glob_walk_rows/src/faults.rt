@@ -8,7 +8,7 @@ use std::alloc::Global;
 use std::io;
 use wax::Glob;
 use wax::walk::{Directory, Entry, Failing, FileIterator, PathExt, Starving, collect};
-use wax_plans::{PROJECT, ROOT, tree_of};
+use wax_test_kit::plans::{PROJECT, ROOT, tree_of};
 
 /// All that is kept of a walk, as lines: paths, and errors in brackets.
 fn lines_of<I>(alloc: Global, walk: I) -> io::Result<String>

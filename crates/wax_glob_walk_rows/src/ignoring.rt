@@ -12,7 +12,7 @@ use wax::walk::{
     Entry, EntryResidue, FileIterator, IgnoreError, IgnoreList, PathExt, Tree, TreeEntry,
     exclusion_of, without_ignored,
 };
-use wax_plans::{PROJECT, ROOT, tree_of};
+use wax_test_kit::plans::{PROJECT, ROOT, tree_of};
 
 /// Lists over the plain walk of the project.
 const LISTS: &[&str] = &[

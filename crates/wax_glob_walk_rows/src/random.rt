@@ -10,7 +10,7 @@ use wax::walk::{
     Entry, IgnoreList, PathExt, Range, Tree, WalkBehavior, WalkError, WalkFilter, collect, entries,
 };
 use wax::{CandidatePath, Glob, NoMemory, Program};
-use wax_plans::tree_of;
+use wax_test_kit::plans::tree_of;
 
 /// What is drawn for a walk.
 #[derive(Drop)]

@@ -1,7 +1,7 @@
 //! What is walked, row by row.
 
 use wax::walk::{EntryResidue, Range};
-use wax_plans::PROJECT;
+use wax_test_kit::plans::PROJECT;
 
 /// The plan of the working folder, an expression, a start, a range, and what is left out, in order.
 pub type Row = (

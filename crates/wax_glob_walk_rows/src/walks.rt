@@ -15,7 +15,7 @@ use wax::walk::{
     collect, exclusion_of,
 };
 use wax::{Glob, Pattern, any};
-use wax_plans::{PROJECT, ROOT, tree_of};
+use wax_test_kit::plans::{PROJECT, ROOT, tree_of};
 
 /// How a walk goes that has this range.
 pub fn behavior_of(range: &Range) -> WalkBehavior {

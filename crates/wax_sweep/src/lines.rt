@@ -7,7 +7,7 @@ use std::io;
 use wax::{
     CandidatePath, Counted, Glob, LinesError, NoMemory, Program, capture_lines, filter_lines,
 };
-use wax_streams::Slow;
+use wax_test_kit::streams::Slow;
 
 /// The line that isn't text is neither filtered nor captured of.
 const LINES: &[u8] = b"a-b.png\na-b.svg\nthe-longest-line-of-these.png\n\xff-.png\nx-.png";

@@ -7,7 +7,7 @@ use std::io::{Read, Write};
 use std::process::Abort;
 use std::test::*;
 use wax::{Counted, LinesError, capture_lines, filter_lines};
-use wax_streams::{Interrupted, Narrow, Slow};
+use wax_test_kit::streams::{Interrupted, Narrow, Slow};
 
 /// What is read.
 pub const NAMES: &[u8] = b"logo.png\nlogo.svg\na/b.png\nx.png";

@@ -13,7 +13,7 @@ use std::test::*;
 use wax::{
     CandidatePath, Counted, LinesError, MatchedText, NoMemory, Program, capture_lines, filter_lines,
 };
-use wax_streams::{Asked, Slow};
+use wax_test_kit::streams::{Asked, Slow};
 
 /// What the filter writes of the names.
 const WRITTEN: &[u8] = b"logo.png\na/b.png\nx.png\n";

@@ -9,7 +9,7 @@ use wax_directory::folders::Folders;
 use wax_directory::starving::Starving;
 use wax_directory::tally::Tally;
 use wax_directory::tree::{DuplicateName, Node, Tree};
-use wax_plans::entry;
+use wax_test_kit::plans::entry;
 use wax_query::diagnostics::{NoMemory, Refusal};
 
 /// A directory of which nothing is claimed.

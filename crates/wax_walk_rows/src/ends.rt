@@ -9,7 +9,7 @@ use wax_directory::directory::Directory;
 use wax_directory::failing::Failing;
 use wax_directory::starving::Starving;
 use wax_directory::tree::Tree;
-use wax_plans::PROJECT;
+use wax_test_kit::plans::PROJECT;
 use wax_tree::{PathExt, Range, WalkTree};
 
 fn project(alloc: Global) -> io::Result<Tree> {

@@ -8,7 +8,7 @@ use std::alloc::Global;
 use std::io;
 use wax_directory::tree::Tree;
 use wax_filter::filter::CancelWalk;
-use wax_plans::PROJECT;
+use wax_test_kit::plans::PROJECT;
 use wax_query::diagnostics::NoMemory;
 use wax_tree::{PathExt, TreeFeed, WalkTree};
 use wax_walk::{Entry, EntryResidue, FileIterator, Rule, TreeEntry};

@@ -3,7 +3,7 @@
 use std::alloc::Global;
 use std::io;
 use wax_directory::tree::Tree;
-use wax_plans::ROOT;
+use wax_test_kit::plans::ROOT;
 
 /// A folder that can't be listed, and then a file.
 pub const SEALED: &str = "a# x";
@@ -22,5 +22,5 @@ pub const ALL_KINDS: &str = "all/ doc/ x ; file ! link@ ? ..# a/b ;";
 
 /// The tree whose working folder has this plan.
 pub fn tree_of(alloc: Global, plan: &str) -> io::Result<Tree> {
-    wax_plans::tree_of(alloc, plan, ROOT)
+    wax_test_kit::plans::tree_of(alloc, plan, ROOT)
 }

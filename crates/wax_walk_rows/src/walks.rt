@@ -5,7 +5,7 @@ use crate::trees::{FAULTY, ODD, SEALED, tree_of};
 use std::alloc::{AllocError, Global};
 use std::io;
 use wax_directory::tree::{Node, Tree, TreeItem};
-use wax_plans::{PROJECT, ROOT, tree_with};
+use wax_test_kit::plans::{PROJECT, ROOT, tree_with};
 use wax_tree::{
     DepthBehavior, DepthMax, DepthMin, DepthMinMax, PathExt, Range, WalkBehavior, WalkTree, entries,
 };

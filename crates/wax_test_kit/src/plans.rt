@@ -4,7 +4,6 @@
 //! `a#` a folder that can't be listed, `!` an item that can't be read and `?` one whose name isn't text. Any
 //! other word is a file; `''` is one with an empty name. An item whose name stands in its folder already is
 //! left out.
-#![tactic(auto)]
 
 use std::alloc::{AllocError, Global};
 use std::io::{self, ErrorKind};

@@ -1,5 +1,4 @@
 //! Readers and writers for tests, that fail, are interrupted, or count what they are asked.
-#![tactic(auto)]
 
 ghost use Rattle.std.specs.Prelude.{◌≡◌, Some, []};
 
