@@ -1,0 +1,96 @@
+//! Walks that are filtered by one call.
+
+ghost use Rattle.std.specs.Iterator.{IsFinite};
+
+use crate::row::{Directories, Row, Unanswered, list_of, parted, words};
+use crate::walked;
+use std::alloc::Global;
+use wax::walk::{FileIterator, FileIteratorExt, without_ignored, without_meant};
+use wax::{Pattern, any};
+
+/// Puts what comes of a walk at the end of the text, without what the named call excludes.
+pub fn push_called<I>(
+    alloc: Global,
+    row: Row<'_>,
+    walk: I,
+    call: &str,
+    text: &mut String,
+) -> Result<(), Unanswered>
+where
+    I: FileIterator<Directory = Directories>,
+    requires can { I.can_feed walk }
+    requires ends { IsFinite (I.left walk) }
+{
+    match parted(call) {
+        ("not", pattern) => push_not(alloc, row, walk, pattern, text),
+        ("not_any", patterns) => push_not_any(alloc, row, walk, patterns, text),
+        ("without_meant", pattern) => push_without_meant(alloc, row, walk, pattern, text),
+        ("ignore", list) => {
+            let list = list_of(alloc, list)?;
+            walked::push(alloc, row, walk.ignore(alloc, list), text)
+        }
+        ("without_ignored", list) => {
+            let list = list_of(alloc, list)?;
+            walked::push(alloc, row, without_ignored(alloc, walk, list), text)
+        }
+        _ => Err(Unanswered::NotBuilt),
+    }
+}
+
+/// Excludes what a pattern or a set matches.
+fn push_not<I, P>(
+    alloc: Global,
+    row: Row<'_>,
+    walk: I,
+    pattern: P,
+    text: &mut String,
+) -> Result<(), Unanswered>
+where
+    I: FileIterator<Directory = Directories>,
+    P: Pattern,
+    requires can { I.can_feed walk }
+    requires ends { IsFinite (I.left walk) }
+{
+    match walk.not(alloc, pattern) {
+        Ok(walk) => walked::push(alloc, row, walk, text),
+        Err(_) => Err(Unanswered::NotBuilt),
+    }
+}
+
+/// Excludes what a set of patterns with spaces between matches.
+fn push_not_any<I>(
+    alloc: Global,
+    row: Row<'_>,
+    walk: I,
+    patterns: &str,
+    text: &mut String,
+) -> Result<(), Unanswered>
+where
+    I: FileIterator<Directory = Directories>,
+    requires can { I.can_feed walk }
+    requires ends { IsFinite (I.left walk) }
+{
+    let patterns = words(alloc, patterns)?;
+    let Ok(set) = any(alloc, patterns) else {
+        return Err(Unanswered::NotBuilt);
+    };
+    push_not(alloc, row, walk, set, text)
+}
+
+fn push_without_meant<I>(
+    alloc: Global,
+    row: Row<'_>,
+    walk: I,
+    pattern: &str,
+    text: &mut String,
+) -> Result<(), Unanswered>
+where
+    I: FileIterator<Directory = Directories>,
+    requires can { I.can_feed walk }
+    requires ends { IsFinite (I.left walk) }
+{
+    match without_meant(alloc, walk, pattern) {
+        Ok(walk) => walked::push(alloc, row, walk, text),
+        Err(_) => Err(Unanswered::NotBuilt),
+    }
+}

@@ -1,0 +1,165 @@
+//! Calls of directories.
+
+use crate::nowhere::Nowhere;
+use crate::row::{Row, Unanswered, number, parted, push_gap};
+use std::alloc::{AllocError, Global};
+use std::{fs, io};
+use wax::walk::{Directory, Folders, Node, Tally, Tree, TreeItem};
+use wax::{NoMemory, Refusal};
+
+/// Puts what the calls of a row return, one after another, and then what the directory has counted:
+/// failures, misses, items, and how many folders were opened.
+pub fn push(rt: &HostRuntime, row: Row<'_>, text: &mut String) -> Result<(), Unanswered> {
+    let (alloc, calls) = (rt.alloc(), row.field(2));
+    match row.field(1) {
+        "nowhere" => {
+            let tally = Tally::none();
+            push_calls(alloc, &mut Nowhere { tally }, calls, text)?;
+        }
+        "system" => {
+            let Ok(()) = push_system(rt, calls, text) else {
+                return Err(Unanswered::NotBuilt);
+            };
+        }
+        _ => push_tree(alloc, row, text)?,
+    }
+    Ok(())
+}
+
+fn push_tree(alloc: Global, row: Row<'_>, text: &mut String) -> Result<(), Unanswered> {
+    let mut directory = row.directory(alloc)?;
+    push_calls(alloc, &mut directory, row.field(2), text)?;
+    let (failures, misses) = (directory.failures(), directory.misses());
+    let tree = directory.into_inner().into_inner();
+    let (items, opened) = (tree.asked(), tree.listed().len());
+    text.push_str(format!(in alloc; "\t{failures}\t{misses}\t{items}\t{opened}")?.as_str())?;
+    Ok(())
+}
+
+/// Makes a folder with one file in the working folder, calls the real system, and removes both.
+fn push_system(rt: &HostRuntime, calls: &str, text: &mut String) -> io::Result<()> {
+    fs::create_dir(rt, "listed")?;
+    fs::write(rt, "listed/a", "")?;
+    push_calls(rt.alloc(), &mut Folders::new(*rt), calls, text)?;
+    fs::remove_file(rt, "listed/a")?;
+    fs::remove_dir(rt, "listed")
+}
+
+fn push_calls<D: Directory>(
+    alloc: Global,
+    directory: &mut D,
+    calls: &str,
+    text: &mut String,
+) -> Result<(), AllocError> {
+    for call in calls.split("; ") {
+        push_call(alloc, directory, call, text)?;
+    }
+    Ok(())
+}
+
+fn push_call<D: Directory>(
+    alloc: Global,
+    directory: &mut D,
+    call: &str,
+    text: &mut String,
+) -> Result<(), AllocError> {
+    if !text.is_empty() {
+        text.push_str("; ")?;
+    }
+    match parted(call) {
+        ("open", path) => push_opened(alloc, directory, path, text),
+        ("items", path) => push_items(alloc, directory, path, text),
+        ("list", path) => push_list(alloc, directory, path, text),
+        (_, path) => push_kind(alloc, directory, path, text),
+    }
+}
+
+/// Puts what is at the path, and how often nothing was there and how often a call failed till then.
+fn push_kind<D: Directory>(
+    alloc: Global,
+    directory: &mut D,
+    path: &str,
+    text: &mut String,
+) -> Result<(), AllocError> {
+    let kind = directory.kind(alloc, path);
+    let (misses, failures) = (directory.misses(), directory.failures());
+    text.push_str(format!(in alloc; "{kind:?} {misses} {failures}")?.as_str())
+}
+
+fn push_opened<D: Directory>(
+    alloc: Global,
+    directory: &mut D,
+    path: &str,
+    text: &mut String,
+) -> Result<(), AllocError> {
+    match directory.open(alloc, path) {
+        Ok(_) => text.push_str("opened"),
+        Err(fault) => text.push_str(format!(in alloc; "{fault:?}")?.as_str()),
+    }
+}
+
+/// Puts the first items of a folder, as many as the number before its path says, or why there are none.
+fn push_list<D: Directory>(
+    alloc: Global,
+    directory: &mut D,
+    argument: &str,
+    text: &mut String,
+) -> Result<(), AllocError> {
+    let (most, path) = parted(argument);
+    match directory.list(alloc, path, number(most, 0)) {
+        Ok(items) => text.push_str(format!(in alloc; "{items:?}")?.as_str()),
+        Err(fault) => text.push_str(format!(in alloc; "{fault}")?.as_str()),
+    }
+}
+
+/// Puts the items of a folder one by one, also after a want of memory.
+fn push_items<D: Directory>(
+    alloc: Global,
+    directory: &mut D,
+    path: &str,
+    text: &mut String,
+) -> Result<(), AllocError> {
+    let Ok(mut cursor) = directory.open(alloc, path) else {
+        return text.push_str("closed");
+    };
+    for _ in 0..100 {
+        let item = match directory.next(alloc, &mut cursor) {
+            Ok(Some(item)) => format!(in alloc; "{item:?}")?,
+            Ok(None) => break,
+            Err(NoMemory) => String::from_str(alloc, "NoMemory")?,
+        };
+        push_gap(text)?;
+        text.push_str(item.as_str())?;
+    }
+    Ok(())
+}
+
+/// Returns a folder with an item that can't be read as text, and a link twice.
+fn twice(alloc: Global) -> Result<Node, AllocError> {
+    let mut items = Vec::new(alloc);
+    for _ in 0..2u8 {
+        items.push(TreeItem::Entry(String::from_str(alloc, "a")?, Node::Link))?;
+    }
+    items.push(TreeItem::NotText)?;
+    let mut outer = Vec::new(alloc);
+    let name = String::from_str(alloc, "b")?;
+    outer.push(TreeItem::Entry(name, Node::Folder(items)))?;
+    Ok(Node::Folder(outer))
+}
+
+/// Puts whether a copy of a folder is the same, and whether it is a file; and whether a folder below which
+/// a name stands twice is refused.
+pub fn push_nodes(alloc: Global, text: &mut String) -> Result<(), Unanswered> {
+    push_copied(alloc, &twice(alloc)?, text)?;
+    let tree = Tree::new(alloc, twice(alloc)?, Node::File);
+    let is_refused = matches!(tree, Err(Refusal::Refused(_)));
+    text.push_str(if is_refused { "true" } else { "false" })?;
+    Ok(())
+}
+
+fn push_copied(alloc: Global, node: &Node, text: &mut String) -> Result<(), Unanswered> {
+    let copy = node.try_clone(alloc)?;
+    let (is_same, is_file) = (copy == *node, copy == Node::File);
+    text.push_str(format!(in alloc; "{is_same} {is_file} ")?.as_str())?;
+    Ok(())
+}

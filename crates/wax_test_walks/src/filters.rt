@@ -1,0 +1,63 @@
+//! What is excluded from walks.
+
+use crate::row::{Row, Unanswered, list_of, number, residue_of};
+use std::alloc::Global;
+use wax::NoMemory;
+use wax::walk::{Entry, EntryResidue, Exclusion, IgnoreList, Rule, exclusion_of};
+
+/// What one rule excludes.
+#[derive(Drop)]
+pub enum Filter {
+    Nothing,
+    Not(Exclusion),
+    Ignore(IgnoreList),
+    /// The entries from a depth on.
+    From(usize, EntryResidue),
+}
+
+impl Rule for Filter {
+    ghost use Rattle.wax_test_walks.specs.Filters.{rule_by};
+
+    ghost rule = { rule_by ⟦<Exclusion as Rule>⟧.rule ⟦<IgnoreList as Rule>⟧.rule };
+
+    fn residue<E: Entry>(
+        &self,
+        alloc: Global,
+        entry: &E,
+    ) -> Result<Option<EntryResidue>, NoMemory> {
+        match self {
+            Filter::Nothing => Ok(None),
+            Filter::Not(exclusion) => exclusion.residue(alloc, entry),
+            Filter::Ignore(list) => list.residue(alloc, entry),
+            Filter::From(depth, residue) => {
+                if entry.depth() < *depth {
+                    return Ok(None);
+                }
+                Ok(Some(*residue))
+            }
+        }
+    }
+}
+
+/// Options that are rules.
+pub const RULES: &str = "not ignore file_from tree_from";
+
+/// Returns the rule of the option at the index among those that are rules.
+pub fn filter_of(alloc: Global, row: Row<'_>, index: usize) -> Result<Filter, Unanswered> {
+    match row.nth_option(RULES, index) {
+        None => Ok(Filter::Nothing),
+        Some(("not", pattern)) => Ok(Filter::Not(exclusion(alloc, pattern)?)),
+        Some(("ignore", list)) => Ok(Filter::Ignore(list_of(alloc, list)?)),
+        Some((word, depth)) => {
+            let depth = usize::try_from(number(depth, 0)).unwrap_or(0);
+            Ok(Filter::From(depth, residue_of(word)))
+        }
+    }
+}
+
+fn exclusion(alloc: Global, pattern: &str) -> Result<Exclusion, Unanswered> {
+    match exclusion_of(alloc, pattern) {
+        Ok(exclusion) => Ok(exclusion),
+        Err(_) => Err(Unanswered::NotBuilt),
+    }
+}

@@ -1,0 +1,84 @@
+//! Walks of globs.
+
+ghost use Rattle.std.specs.Iterator.{IsFinite};
+
+use crate::row::{Directories, Row, Unanswered, behavior_of, push_gap};
+use crate::stacked;
+use std::alloc::Global;
+use wax::walk::{FileIterator, GlobEntry, WalkError, collect};
+use wax::{CandidatePath, Glob, Program};
+
+/// Puts what comes of the walk of a glob at the end of the text, and then whether the glob matches the path
+/// of the option `then`.
+pub fn push(alloc: Global, row: Row<'_>, text: &mut String) -> Result<(), Unanswered> {
+    let Ok(glob) = Glob::new(alloc, row.expression()) else {
+        return Err(Unanswered::NotBuilt);
+    };
+    push_glob(alloc, row, &glob, text)
+}
+
+fn push_glob(
+    alloc: Global,
+    row: Row<'_>,
+    glob: &Glob<'_>,
+    text: &mut String,
+) -> Result<(), Unanswered> {
+    let directory = row.directory(alloc)?;
+    push_walk(alloc, row, glob, directory, text)?;
+    let Some(path) = row.option("then") else {
+        return Ok(());
+    };
+    let is_match = glob.is_match(alloc, &CandidatePath::from(path))?;
+    text.push_str(if is_match {
+        "\tmatched"
+    } else {
+        "\tnot matched"
+    })?;
+    Ok(())
+}
+
+/// Takes the walk of a glob. A function that names the type of such a walk takes long to prove, so no other
+/// does.
+fn push_walk(
+    alloc: Global,
+    row: Row<'_>,
+    glob: &Glob<'_>,
+    directory: Directories,
+    text: &mut String,
+) -> Result<(), Unanswered> {
+    let walk = match behavior_of(row.range()) {
+        None => glob.walk(alloc, directory, row.start()),
+        Some(behavior) => glob.walk_with_behavior(alloc, directory, row.start(), behavior),
+    };
+    push_any(alloc, row, walk, text)
+}
+
+fn push_any<I>(alloc: Global, row: Row<'_>, walk: I, text: &mut String) -> Result<(), Unanswered>
+where
+    I: FileIterator<Entry = GlobEntry, Directory = Directories>,
+    requires can { I.can_feed walk }
+    requires ends { IsFinite (I.left walk) }
+{
+    if row.kind() != "captured" {
+        return stacked::push(alloc, row, walk, text);
+    }
+    let Ok((items, _)) = collect(alloc, walk) else {
+        return Err(Unanswered::Memory);
+    };
+    for item in &items {
+        push_captured(text, item)?;
+    }
+    Ok(())
+}
+
+/// Puts what the first token captured of an entry's candidate.
+fn push_captured(text: &mut String, item: &Result<GlobEntry, WalkError>) -> Result<(), Unanswered> {
+    let Ok(entry) = item else {
+        return Err(Unanswered::Memory);
+    };
+    push_gap(text)?;
+    text.push('"')?;
+    text.push_str(entry.matched().get(1).unwrap_or("none"))?;
+    text.push('"')?;
+    Ok(())
+}

@@ -1,0 +1,94 @@
+//! Remakes rows of walks, and shows those that come to something else than they have to.
+//!
+//! Each word of the arguments is a file of rows, or `separations`. Then each line of the standard input is a
+//! row without its answer, and is shown with it.
+#![tactic(auto)]
+
+mod called;
+mod depths;
+mod directories;
+mod draws;
+mod filters;
+mod globs;
+mod lists;
+mod nowhere;
+mod plain;
+mod random;
+mod row;
+mod separations;
+mod stacked;
+mod walked;
+
+use crate::row::{Row, Unanswered};
+use std::{env, fs, io};
+
+fn main(rt: HostRuntime) -> io::Result<()> {
+    for name in env::args(&rt)?.skip(1) {
+        if name.as_str() == "separations" {
+            separations::print_rows(&rt)?;
+        } else {
+            compare(&rt, &name)?;
+        }
+    }
+    for line in rt.lines(rt.alloc()) {
+        show(&rt, line?.as_str())?;
+    }
+    Ok(())
+}
+
+/// Prints each row of a file that is other here, and how many are the same.
+fn compare(rt: &HostRuntime, name: &str) -> io::Result<()> {
+    let (mut same, mut other) = (0u64, 0u64);
+    for line in fs::read_to_string(rt, name)?.lines() {
+        if line.is_empty() || line.starts_with("# ") {
+            continue;
+        }
+        if is_same(rt, Row { line })? {
+            same = same.saturating_add(1);
+        } else {
+            other = other.saturating_add(1);
+        }
+    }
+    println!(rt; "{name}: {same} the same, {other} other")
+}
+
+/// Returns whether a row comes to its answer, and prints it if it doesn't.
+fn is_same(rt: &HostRuntime, row: Row<'_>) -> io::Result<bool> {
+    let made = made(rt, row)?;
+    let is_same = row.has_answer(made.as_str());
+    if !is_same {
+        println!(rt; "{}\n  made: {made}", row.line)?;
+    }
+    Ok(is_same)
+}
+
+/// Prints a row with its answer.
+fn show(rt: &HostRuntime, line: &str) -> io::Result<()> {
+    let made = made(rt, Row { line })?;
+    println!(rt; "{line}\t{made}")
+}
+
+/// Returns what the row comes to: its answer, or a beginning of it and why there is no more.
+fn made(rt: &HostRuntime, row: Row<'_>) -> io::Result<String> {
+    let mut text = String::new(rt.alloc());
+    match push_answer(rt, row, &mut text) {
+        Ok(()) => {}
+        Err(Unanswered::Memory) => text.push_str(" no memory")?,
+        Err(Unanswered::NotBuilt) => text.push_str(" not built")?,
+    }
+    Ok(text)
+}
+
+fn push_answer(rt: &HostRuntime, row: Row<'_>, text: &mut String) -> Result<(), Unanswered> {
+    let alloc = rt.alloc();
+    match row.kind() {
+        "depth" => depths::push(alloc, row.field(1), text),
+        "list" => lists::push_error(alloc, row.field(1), text),
+        "ignores" => lists::push_ignored(alloc, row.field(1), row.field(2), text),
+        "random" => random::push(alloc, row.field(1), text),
+        "nodes" => directories::push_nodes(alloc, text),
+        "ask" => directories::push(rt, row, text),
+        _ if row.is_plain() => plain::push(alloc, row, text),
+        _ => globs::push(alloc, row, text),
+    }
+}

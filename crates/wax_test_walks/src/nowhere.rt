@@ -1,0 +1,56 @@
+//! A directory that claims nothing.
+
+use std::alloc::Global;
+use wax::NoMemory;
+use wax::walk::{Directory, DirectoryFault, FileType, ListItem, Tally};
+
+/// A directory in which nothing is, and of which nothing is claimed.
+#[derive(Drop)]
+pub struct Nowhere {
+    pub tally: Tally,
+}
+
+impl Directory for Nowhere {
+    ghost use Rattle.std.specs.Prelude.{⊤, []};
+
+    type Cursor = ();
+
+    ghost law = { record {
+      shows = λ _ _ _. ⊥;
+      holds = λ _ _ _. ⊥;
+      tells = λ _ _. ⊤;
+      tally = λ s. s.tally;
+    } };
+
+    fn kind(&mut self, _alloc: Global, _path: &str) -> Result<Option<FileType>, DirectoryFault> {
+        let answer = Ok(None);
+        self.tally.add(Tally::of_kind(&answer));
+        answer
+    }
+
+    fn open(&mut self, _alloc: Global, _path: &str) -> Result<(), DirectoryFault> {
+        let answer = Err(DirectoryFault::Memory);
+        self.tally.add(Tally::of_opening(&answer));
+        answer
+    }
+
+    fn next(&mut self, _alloc: Global, _cursor: &mut ()) -> Result<Option<ListItem>, NoMemory> {
+        Ok(None)
+    }
+
+    fn tally(&self) -> Tally {
+        self.tally
+    }
+
+    ghost tells_some = { λ d. ([], tt) };
+
+    ghost none_open = { λ d path s h. elim h [ ] };
+
+    ghost dropped = { λ d cursors ls cursor l h. elim h [ ] };
+
+    ghost inner = { λ d path l h. elim h [ ] };
+
+    ghost child = { λ d path x s h p. elim h [ ] };
+
+    ghost distinct = { λ d path s h. elim h [ ] };
+}

@@ -1,0 +1,165 @@
+//! Plain walks.
+
+use crate::row::{Directories, Row, Unanswered, behavior_of, list_of};
+use crate::stacked;
+use crate::walked::{push_directory, push_item, push_items};
+use std::alloc::{AllocError, Global};
+use wax::filter::CancelWalk;
+use wax::walk::{
+    Entry, EntryResidue, FileIterator, PathExt, TreeEntry, WalkBehavior, WalkError, WalkTree,
+    collect, entries,
+};
+use wax::{CandidatePath, Glob, NoMemory, Program};
+
+/// Puts what comes of a plain walk at the end of the text: for `ends` also after its end, for `entries` and
+/// `unignored` by one call, for `matching` how many entries a glob matches.
+pub fn push(alloc: Global, row: Row<'_>, text: &mut String) -> Result<(), Unanswered> {
+    match row.kind() {
+        "entries" => push_entries(alloc, row, text),
+        "unignored" => push_unignored(alloc, row, text),
+        "matching" => push_matching(alloc, row, text),
+        _ => match row.option("to") {
+            Some(path) => push_to(alloc, row, names_of(alloc, path)?, text),
+            None => push_from(alloc, row, row.directory(alloc)?, text),
+        },
+    }
+}
+
+/// Takes the walk from the start.
+fn push_from(
+    alloc: Global,
+    row: Row<'_>,
+    directory: Directories,
+    text: &mut String,
+) -> Result<(), Unanswered> {
+    let start = row.start();
+    match behavior_of(row.range()) {
+        None => push_walk(alloc, row, start.walk(alloc, directory), text),
+        Some(behavior) => {
+            let walk = start.walk_with_behavior(alloc, directory, behavior);
+            push_walk(alloc, row, walk, text)
+        }
+    }
+}
+
+/// Takes the walk to the place of these names below the start.
+fn push_to(
+    alloc: Global,
+    row: Row<'_>,
+    names: Vec<String>,
+    text: &mut String,
+) -> Result<(), Unanswered> {
+    let (start, range) = (row.start(), row.range());
+    let root = row.option("root").unwrap_or(start);
+    let candidate = row.option("candidate").unwrap_or("");
+    let directory = row.directory(alloc)?;
+    let walk = WalkTree::to_place(alloc, directory, root, start, candidate, names, range);
+    push_walk(alloc, row, walk, text)
+}
+
+fn push_walk(
+    alloc: Global,
+    row: Row<'_>,
+    walk: WalkTree<Directories>,
+    text: &mut String,
+) -> Result<(), Unanswered> {
+    if row.kind() == "ends" {
+        push_ends(alloc, row, walk, text)
+    } else {
+        stacked::push(alloc, row, walk, text)
+    }
+}
+
+/// Returns the names of a path, the last of them first.
+fn names_of(alloc: Global, path: &str) -> Result<Vec<String>, AllocError> {
+    let mut names = Vec::new(alloc);
+    for name in path.rsplit('/') {
+        names.push(String::from_str(alloc, name)?)?;
+    }
+    Ok(names)
+}
+
+/// Puts the items of a walk at the end of the text, and a dot for each of two times that no more comes. What
+/// is below the path of the option `cancel` is cancelled twice.
+fn push_ends(
+    alloc: Global,
+    row: Row<'_>,
+    mut walk: WalkTree<Directories>,
+    text: &mut String,
+) -> Result<(), Unanswered> {
+    while let Some(item) = walk.next() {
+        if is_at(&item, row.option("cancel")) {
+            walk.cancel_walk_tree();
+            walk.cancel_walk_tree();
+        }
+        push_item(alloc, "ends", &item, text)?;
+    }
+    for _ in 0..2u8 {
+        match walk.next() {
+            None => text.push('.')?,
+            Some(item) => push_item(alloc, "ends", &item, text)?,
+        }
+    }
+    Ok(())
+}
+
+fn is_at(item: &Result<TreeEntry, WalkError>, path: Option<&str>) -> bool {
+    match (item, path) {
+        (Ok(entry), Some(path)) => entry.path() == path,
+        _ => false,
+    }
+}
+
+fn push_entries(alloc: Global, row: Row<'_>, text: &mut String) -> Result<(), Unanswered> {
+    let behavior = behavior_of(row.range()).unwrap_or(WalkBehavior::default());
+    let directory = row.directory(alloc)?;
+    let (items, directory) = entries(alloc, directory, row.start(), behavior)?;
+    push_items(alloc, "entries", items.as_slice(), text)?;
+    push_directory(alloc, "entries", directory, text)
+}
+
+/// Puts how many entries no line of a list ignores, and how many folders were listed.
+fn push_unignored(alloc: Global, row: Row<'_>, text: &mut String) -> Result<(), Unanswered> {
+    let list = list_of(alloc, row.option("ignore").unwrap_or(""))?;
+    let directory = row.directory(alloc)?;
+    let walked = list.entries(alloc, directory, row.start(), WalkBehavior::default());
+    let Ok((items, directory)) = walked else {
+        return Err(Unanswered::Memory);
+    };
+    push_items(alloc, "count", items.as_slice(), text)?;
+    push_directory(alloc, "count", directory, text)
+}
+
+/// Puts how many entries of the walk the glob matches.
+fn push_matching(alloc: Global, row: Row<'_>, text: &mut String) -> Result<(), Unanswered> {
+    let Ok(glob) = Glob::new(alloc, row.expression()) else {
+        return Err(Unanswered::NotBuilt);
+    };
+    let excluded = row.option("tree").unwrap_or("");
+    let walk = row.start().walk(alloc, row.directory(alloc)?);
+    let walk = walk.filter_entry(|entry| (entry.path() == excluded).then_some(EntryResidue::Tree));
+    let Ok((items, _)) = collect(alloc, walk) else {
+        return Err(Unanswered::Memory);
+    };
+    let count = matched(alloc, &glob, items.as_slice())?;
+    text.push_str(format!(in alloc; "{count}")?.as_str())?;
+    Ok(())
+}
+
+/// Returns how many entries the glob matches.
+fn matched(
+    alloc: Global,
+    glob: &Glob<'_>,
+    items: &[Result<TreeEntry, WalkError>],
+) -> Result<usize, NoMemory> {
+    let mut count: usize = 0;
+    for item in items {
+        let Ok(entry) = item else {
+            continue;
+        };
+        if glob.is_match(alloc, &CandidatePath::from(entry.path()))? {
+            count = count.saturating_add(1);
+        }
+    }
+    Ok(count)
+}

@@ -1,0 +1,348 @@
+//! Random walks, beside the whole walk of which what is wanted is kept.
+
+use crate::draws::Draws;
+use crate::row::{Unanswered, behavior_of, number};
+use std::alloc::{AllocError, Global};
+use wax::walk::{
+    Entry, GlobEntry, IgnoreList, Range, Tree, TreeEntry, WalkBehavior, WalkError, WalkFilter,
+    entries,
+};
+use wax::{CandidatePath, Glob, NoMemory, Program};
+use wax_test_kit::plans;
+
+/// What is drawn for a walk.
+#[derive(Drop)]
+struct Drawn {
+    plan: String,
+    expression: String,
+    /// Patterns, one a line.
+    nots: String,
+    /// The text of an ignore list.
+    list: String,
+    start: &'static str,
+    range: Range,
+}
+
+/// How many walks differ, what they gave, and how many folders they didn't list.
+#[derive(Drop)]
+struct Counts {
+    different: usize,
+    entries: usize,
+    unlisted: usize,
+}
+
+/// A candidate of the whole walk, and what is known of it so far.
+#[derive(Drop)]
+struct Candidate {
+    path: String,
+    is_wanted: bool,
+    is_ignored: bool,
+}
+
+/// What a glob decides of the candidates that it matches.
+#[derive(Clone, Copy)]
+enum Says {
+    /// Others aren't wanted.
+    Wants,
+    Excludes,
+    Ignores,
+    TakesBack,
+}
+
+/// Puts, for walks without and with ignore lists, what comes of as many as the numbers say.
+pub fn push(alloc: Global, numbers: &str, text: &mut String) -> Result<(), Unanswered> {
+    let mut draws = Draws::new();
+    let (walks, listed) = numbers.split_once(' ').unwrap_or((numbers, ""));
+    push_counts(alloc, &mut draws, number(walks, 0), false, text)?;
+    text.push('\t')?;
+    push_counts(alloc, &mut draws, number(listed, 0), true, text)
+}
+
+fn push_counts(
+    alloc: Global,
+    draws: &mut Draws,
+    walks: u64,
+    has_lists: bool,
+    text: &mut String,
+) -> Result<(), Unanswered> {
+    let mut counts = Counts {
+        different: 0,
+        entries: 0,
+        unlisted: 0,
+    };
+    for _ in 0..walks {
+        let drawn = draw_walk(alloc, draws, has_lists)?;
+        compare(alloc, &drawn, &mut counts, text)?;
+    }
+    let (different, entries, unlisted) = (counts.different, counts.entries, counts.unlisted);
+    let line = format!(in alloc;
+        "{different} differ; {entries} entries, {unlisted} folders not listed"
+    )?;
+    text.push_str(line.as_str())?;
+    Ok(())
+}
+
+fn draw_walk(alloc: Global, draws: &mut Draws, has_list: bool) -> Result<Drawn, AllocError> {
+    let plan = draws.plan(alloc)?;
+    let expression = draws.expression(alloc)?;
+    let nots = draw_nots(alloc, draws)?;
+    let min = draws.below(7).saturating_sub(4);
+    let max = match draws.below(4) {
+        0 => min.saturating_add(draws.below(4)),
+        _ => usize::MAX,
+    };
+    let list = draw_list(alloc, draws, has_list)?;
+    Ok(Drawn {
+        plan,
+        expression,
+        nots,
+        list,
+        start: draws.start(),
+        range: Range {
+            min,
+            max,
+            budget: u32::MAX,
+        },
+    })
+}
+
+/// Draws up to three patterns.
+fn draw_nots(alloc: Global, draws: &mut Draws) -> Result<String, AllocError> {
+    let mut nots = String::new(alloc);
+    for _ in 0..draws.below(6).saturating_sub(2) {
+        nots.push_str(draws.expression(alloc)?.as_str())?;
+        nots.push('\n')?;
+    }
+    Ok(nots)
+}
+
+/// Draws a list of up to five lines, a third of which take back.
+fn draw_list(alloc: Global, draws: &mut Draws, has_list: bool) -> Result<String, AllocError> {
+    let mut list = String::new(alloc);
+    if !has_list {
+        return Ok(list);
+    }
+    for _ in 0..draws.below(6) {
+        if draws.below(3) == 0 {
+            list.push('!')?;
+        }
+        list.push_str(draws.expression(alloc)?.as_str())?;
+        list.push('\n')?;
+    }
+    Ok(list)
+}
+
+/// Compares one walk that is drawn with what is wanted of the whole walk.
+fn compare(
+    alloc: Global,
+    drawn: &Drawn,
+    counts: &mut Counts,
+    text: &mut String,
+) -> Result<(), Unanswered> {
+    let mut walked = String::new(alloc);
+    let walked_tree = push_walked(alloc, drawn, counts, &mut walked)?;
+    let mut wanted = String::new(alloc);
+    let whole_tree = push_wanted(alloc, drawn, &mut wanted)?;
+    let (listed, whole) = (walked_tree.listed(), whole_tree.listed());
+    if walked.as_str() != wanted.as_str() || !are_among(listed, whole) {
+        counts.different = counts.different.saturating_add(1);
+        push_drawn(alloc, drawn, text)?;
+    }
+    let unlisted = whole.len().saturating_sub(listed.len());
+    counts.unlisted = counts.unlisted.saturating_add(unlisted);
+    Ok(())
+}
+
+/// Returns whether each folder that was listed is one of these.
+fn are_among(listed: &[String], whole: &[String]) -> bool {
+    listed.iter().all(|path| whole.iter().any(|other| other.as_str() == path.as_str()))
+}
+
+fn push_drawn(alloc: Global, drawn: &Drawn, text: &mut String) -> Result<(), AllocError> {
+    let (expression, start, plan) = (&drawn.expression, drawn.start, &drawn.plan);
+    let walk = format!(in alloc; "\"{expression}\" from \"{start}\" in \"{plan}\"")?;
+    let (nots, list) = (&drawn.nots, &drawn.list);
+    let range = format!(in alloc;
+        ", {} to {}, not {nots:?}, ignore {list:?}; ",
+        drawn.range.min, drawn.range.max
+    )?;
+    text.push_str(walk.as_str())?;
+    text.push_str(range.as_str())
+}
+
+fn tree_of(alloc: Global, drawn: &Drawn) -> Result<Tree, Unanswered> {
+    match plans::tree_of(alloc, drawn.plan.as_str(), drawn.plan.as_str()) {
+        Ok(tree) => Ok(tree),
+        Err(_) => Err(Unanswered::NotBuilt),
+    }
+}
+
+/// Puts what the walk of the glob gives without what is excluded, and returns the tree.
+fn push_walked(
+    alloc: Global,
+    drawn: &Drawn,
+    counts: &mut Counts,
+    text: &mut String,
+) -> Result<Tree, Unanswered> {
+    let Ok(glob) = Glob::new(alloc, drawn.expression.as_str()) else {
+        return Err(Unanswered::NotBuilt);
+    };
+    push_glob(alloc, drawn, &glob, counts, text)
+}
+
+fn push_glob(
+    alloc: Global,
+    drawn: &Drawn,
+    glob: &Glob<'_>,
+    counts: &mut Counts,
+    text: &mut String,
+) -> Result<Tree, Unanswered> {
+    let filters = filters_of(alloc, drawn)?;
+    let behavior = behavior_of(drawn.range).unwrap_or(WalkBehavior::default());
+    let tree = tree_of(alloc, drawn)?;
+    let Ok((items, tree)) = glob.collect_less(alloc, tree, drawn.start, behavior, filters) else {
+        return Err(Unanswered::Memory);
+    };
+    push_entries(items.as_slice(), counts, text)?;
+    Ok(tree)
+}
+
+/// Returns what is excluded: what each pattern matches, and what the list ignores.
+fn filters_of(alloc: Global, drawn: &Drawn) -> Result<Vec<WalkFilter>, Unanswered> {
+    let mut filters = Vec::new(alloc);
+    for not in drawn.nots.lines() {
+        match WalkFilter::not(alloc, not) {
+            Ok(filter) => push_filter(&mut filters, filter)?,
+            Err(_) => return Err(Unanswered::NotBuilt),
+        }
+    }
+    match IgnoreList::parse(alloc, drawn.list.as_str()) {
+        Ok(list) => push_filter(&mut filters, WalkFilter::ignore(list))?,
+        Err(_) => return Err(Unanswered::NotBuilt),
+    }
+    Ok(filters)
+}
+
+fn push_filter(filters: &mut Vec<WalkFilter>, filter: WalkFilter) -> Result<(), AllocError> {
+    filters.push(filter)?;
+    Ok(())
+}
+
+fn push_entries(
+    items: &[Result<GlobEntry, WalkError>],
+    counts: &mut Counts,
+    text: &mut String,
+) -> Result<(), AllocError> {
+    for item in items {
+        if let Ok(entry) = item {
+            text.push_str(entry.root_relative_paths().1)?;
+            text.push('\n')?;
+            counts.entries = counts.entries.saturating_add(1);
+        }
+    }
+    Ok(())
+}
+
+/// Puts what is wanted of the whole walk, and returns the tree.
+fn push_wanted(alloc: Global, drawn: &Drawn, text: &mut String) -> Result<Tree, Unanswered> {
+    let is_rooted = drawn.expression.starts_with('/');
+    let start = if is_rooted { "/" } else { drawn.start };
+    let tree = tree_of(alloc, drawn)?;
+    let (items, tree) = entries(alloc, tree, start, WalkBehavior::default())?;
+    let mut candidates = candidates_of(alloc, drawn, is_rooted, items.as_slice())?;
+    decide_all(alloc, drawn, &mut candidates)?;
+    for candidate in &candidates {
+        if candidate.is_wanted && !candidate.is_ignored {
+            text.push_str(candidate.path.as_str())?;
+            text.push('\n')?;
+        }
+    }
+    Ok(tree)
+}
+
+/// Returns the candidates of the entries whose depth is in range.
+fn candidates_of(
+    alloc: Global,
+    drawn: &Drawn,
+    is_rooted: bool,
+    items: &[Result<TreeEntry, WalkError>],
+) -> Result<Vec<Candidate>, AllocError> {
+    let mut candidates = Vec::new(alloc);
+    for item in items {
+        let Ok(entry) = item else {
+            continue;
+        };
+        if entry.depth() < drawn.range.min || entry.depth() > drawn.range.max {
+            continue;
+        }
+        let path = if is_rooted {
+            entry.path()
+        } else {
+            entry.root_relative_paths().1
+        };
+        candidates.push(Candidate {
+            path: String::from_str(alloc, path)?,
+            is_wanted: true,
+            is_ignored: false,
+        })?;
+    }
+    Ok(candidates)
+}
+
+/// Decides by the glob, by each pattern, and by each line of the list, of which the last one decides.
+fn decide_all(
+    alloc: Global,
+    drawn: &Drawn,
+    candidates: &mut [Candidate],
+) -> Result<(), Unanswered> {
+    decide(alloc, drawn.expression.as_str(), Says::Wants, candidates)?;
+    for not in drawn.nots.lines() {
+        decide(alloc, not, Says::Excludes, candidates)?;
+    }
+    decide_by_list(alloc, drawn.list.as_str(), candidates)
+}
+
+fn decide_by_list(
+    alloc: Global,
+    list: &str,
+    candidates: &mut [Candidate],
+) -> Result<(), Unanswered> {
+    for line in list.lines() {
+        let (line, says) = match line.strip_prefix('!') {
+            Some(line) => (line, Says::TakesBack),
+            None => (line, Says::Ignores),
+        };
+        decide(alloc, line, says, candidates)?;
+    }
+    Ok(())
+}
+
+fn decide(
+    alloc: Global,
+    expression: &str,
+    says: Says,
+    candidates: &mut [Candidate],
+) -> Result<(), Unanswered> {
+    match Glob::new(alloc, expression) {
+        Ok(glob) => Ok(decide_by(alloc, &glob, says, candidates)?),
+        Err(_) => Err(Unanswered::NotBuilt),
+    }
+}
+
+fn decide_by(
+    alloc: Global,
+    glob: &Glob<'_>,
+    says: Says,
+    candidates: &mut [Candidate],
+) -> Result<(), NoMemory> {
+    for candidate in candidates {
+        let is_match = glob.is_match(alloc, &CandidatePath::from(candidate.path.as_str()))?;
+        match says {
+            Says::Wants => candidate.is_wanted = is_match,
+            Says::Excludes => candidate.is_wanted = candidate.is_wanted && !is_match,
+            Says::Ignores => candidate.is_ignored = candidate.is_ignored || is_match,
+            Says::TakesBack => candidate.is_ignored = candidate.is_ignored && !is_match,
+        }
+    }
+    Ok(())
+}

@@ -1,0 +1,253 @@
+//! Rows, and what stands in their fields.
+
+use std::alloc::{AllocError, Global};
+use wax::NoMemory;
+use wax::walk::{
+    DepthMax, DepthMin, DepthMinMax, EntryResidue, Failing, IgnoreList, Node, Range, Starving,
+    Tree, TreeItem, WalkBehavior,
+};
+use wax_test_kit::plans::{self, PROJECT, ROOT};
+
+/// Why a row has no answer.
+#[derive(Clone, Copy)]
+pub enum Unanswered {
+    /// A tree, an expression, a pattern or a list of the row isn't built.
+    NotBuilt,
+    Memory,
+}
+
+impl From<NoMemory> for Unanswered {
+    fn from(_: NoMemory) -> Self {
+        Unanswered::Memory
+    }
+}
+
+impl From<AllocError> for Unanswered {
+    fn from(_: AllocError) -> Self {
+        Unanswered::Memory
+    }
+}
+
+/// A tree in memory of which one call may fail and one may lack memory.
+pub type Directories = Failing<Starving<Tree>>;
+
+/// A line: a kind, its inputs, and its answer.
+#[derive(Clone, Copy)]
+pub struct Row<'r> {
+    pub line: &'r str,
+}
+
+/// Returns the word at the head of an option, and what follows it.
+pub fn parted(option: &str) -> (&str, &str) {
+    match option.split_once(' ') {
+        Some(parts) => parts,
+        None => (option, ""),
+    }
+}
+
+fn is_one_of(words: &str, word: &str) -> bool {
+    words.split(' ').any(|other| other == word)
+}
+
+impl<'r> Row<'r> {
+    /// Returns the field at the index, or no text.
+    pub fn field(self, index: usize) -> &'r str {
+        self.line.split('\t').nth(index).unwrap_or("")
+    }
+
+    pub fn kind(self) -> &'r str {
+        self.field(0)
+    }
+
+    /// Returns how many fields stand between the kind and the answer.
+    fn inputs(self) -> usize {
+        match self.kind() {
+            "depth" | "list" | "random" | "nodes" => 1,
+            "ignores" => 2,
+            "ask" => 3,
+            _ => 4,
+        }
+    }
+
+    /// Returns whether the row's answer is this, or its first fields are.
+    pub fn has_answer(self, made: &str) -> bool {
+        let mut wanted = self.line;
+        for _ in 0..=self.inputs() {
+            let Some((_, rest)) = wanted.split_once('\t') else {
+                return false;
+            };
+            wanted = rest;
+        }
+        match made.strip_prefix(wanted) {
+            Some(rest) => rest.is_empty() || rest.starts_with('\t'),
+            None => false,
+        }
+    }
+
+    pub fn start(self) -> &'r str {
+        self.field(2)
+    }
+
+    pub fn expression(self) -> &'r str {
+        self.field(3)
+    }
+
+    /// Returns whether the plain walk is taken.
+    pub fn is_plain(self) -> bool {
+        self.expression() == "-" || self.kind() == "matching"
+    }
+
+    /// Returns the option at the index among those that begin with one of the words, which have spaces between.
+    pub fn nth_option(self, words: &str, index: usize) -> Option<(&'r str, &'r str)> {
+        let mut left = index;
+        for option in self.field(self.inputs()).split("; ") {
+            let (word, argument) = parted(option);
+            if is_one_of(words, word) {
+                if left == 0 {
+                    return Some((word, argument));
+                }
+                left = left.saturating_sub(1);
+            }
+        }
+        None
+    }
+
+    /// Returns the argument of an option.
+    pub fn option(self, word: &str) -> Option<&'r str> {
+        match self.nth_option(word, 0) {
+            Some((_, argument)) => Some(argument),
+            None => None,
+        }
+    }
+
+    fn number(self, word: &str, default: u64) -> u64 {
+        match self.option(word) {
+            Some(digits) => number(digits, default),
+            None => default,
+        }
+    }
+
+    pub fn range(self) -> Range {
+        Range {
+            min: usize::try_from(self.number("min", 0)).unwrap_or(0),
+            max: usize::try_from(self.number("max", u64::MAX)).unwrap_or(usize::MAX),
+            budget: u32::try_from(self.number("budget", u64::MAX)).unwrap_or(u32::MAX),
+        }
+    }
+
+    /// Returns the directory that is walked.
+    pub fn directory(self, alloc: Global) -> Result<Directories, Unanswered> {
+        let tree = tree_of(alloc, self.field(1))?;
+        let starving = Starving::new(tree, self.number("starving", u64::MAX));
+        Ok(Failing::new(starving, self.number("failing", u64::MAX)))
+    }
+}
+
+/// Returns how a walk goes that has a bound.
+pub fn behavior_of(range: Range) -> Option<WalkBehavior> {
+    let Range { min, max, budget } = range;
+    let behavior = match (min, max, budget) {
+        (0, usize::MAX, u32::MAX) => return None,
+        (0, usize::MAX, _) => WalkBehavior::default(),
+        (_, usize::MAX, _) => WalkBehavior::from(DepthMin::from_min_or_unbounded(min)),
+        (0, _, _) => WalkBehavior::default().with_depth(DepthMax(max)),
+        _ => WalkBehavior::from(DepthMinMax::from_depths_or_max(min, max)),
+    };
+    Some(behavior.with_budget(budget))
+}
+
+/// Returns the number of these digits.
+pub fn number(digits: &str, default: u64) -> u64 {
+    match digits.parse::<u64>() {
+        Ok(number) => number,
+        Err(_) => default,
+    }
+}
+
+/// Returns what is excluded by an option that is `file` or `tree`, or begins with one.
+pub fn residue_of(word: &str) -> EntryResidue {
+    if word.starts_with("tree") {
+        EntryResidue::Tree
+    } else {
+        EntryResidue::File
+    }
+}
+
+/// Returns the tree that a field describes.
+pub fn tree_of(alloc: Global, field: &str) -> Result<Tree, Unanswered> {
+    if let Some(count) = field.strip_prefix("files ") {
+        return tree_with(alloc, files(alloc, number(count, 0))?);
+    }
+    if let Some(paths) = field.strip_prefix("paths ") {
+        return tree_of_paths(alloc, paths);
+    }
+    let plan = if field == "project" { PROJECT } else { field };
+    tree_with(alloc, plans::folder_of(alloc, plan)?)
+}
+
+fn tree_with(alloc: Global, working: Node) -> Result<Tree, Unanswered> {
+    match plans::tree_with(alloc, working, ROOT) {
+        Ok(tree) => Ok(tree),
+        Err(_) => Err(Unanswered::NotBuilt),
+    }
+}
+
+fn tree_of_paths(alloc: Global, paths: &str) -> Result<Tree, Unanswered> {
+    Ok(Tree::from_paths(alloc, words(alloc, paths)?.as_slice())?)
+}
+
+/// Returns the words of a text with spaces between.
+pub fn words(alloc: Global, text: &str) -> Result<Vec<&str>, AllocError> {
+    let mut all = Vec::new(alloc);
+    for word in text.split(' ') {
+        all.push(word)?;
+    }
+    Ok(all)
+}
+
+/// Returns a folder of so many files, whose names are numbers.
+fn files(alloc: Global, count: u64) -> Result<Node, AllocError> {
+    let mut items = Vec::new(alloc);
+    for number in 0..count {
+        let name = format!(in alloc; "{number}")?;
+        items.push(TreeItem::Entry(name, Node::File))?;
+    }
+    Ok(Node::Folder(items))
+}
+
+/// Returns the text that a field stands for: `␊`, `␍` and `␉` are characters that it can't hold.
+pub fn unescaped(alloc: Global, field: &str) -> Result<String, AllocError> {
+    let mut text = String::new(alloc);
+    for character in field.chars() {
+        text.push(match character {
+            '␊' => '\n',
+            '␍' => '\r',
+            '␉' => '\t',
+            other => other,
+        })?;
+    }
+    Ok(text)
+}
+
+/// Returns the ignore list of a field.
+pub fn list_of(alloc: Global, field: &str) -> Result<IgnoreList, Unanswered> {
+    let text = unescaped(alloc, field)?;
+    match IgnoreList::parse(alloc, text.as_str()) {
+        Ok(list) => Ok(list),
+        Err(_) => Err(Unanswered::NotBuilt),
+    }
+}
+
+/// Puts a space at the end of the text, unless a field or a gap ends there.
+pub fn push_gap(text: &mut String) -> Result<(), AllocError> {
+    if text.is_empty() || text.ends_with('\t') || text.ends_with(' ') {
+        return Ok(());
+    }
+    text.push(' ')
+}
+
+pub fn push_quoted(text: &mut String, path: &str) -> Result<(), AllocError> {
+    text.push('"')?;
+    text.push_str(path)?;
+    text.push('"')
+}

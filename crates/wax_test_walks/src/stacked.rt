@@ -1,0 +1,130 @@
+//! Walks with filters over filters.
+
+ghost use Rattle.std.specs.Iterator.{IsFinite};
+
+use crate::called::push_called;
+use crate::filters::{RULES, filter_of};
+use crate::row::{Directories, Row, Unanswered, residue_of};
+use crate::walked;
+use std::alloc::Global;
+use wax::walk::{Entry, EntryResidue, FileIterator, TreeEntry};
+
+/// Options that are closures.
+const CLOSURES: &str = "file tree";
+
+/// Puts what comes of a walk without what the row excludes at the end of the text.
+pub fn push<I>(alloc: Global, row: Row<'_>, walk: I, text: &mut String) -> Result<(), Unanswered>
+where
+    I: FileIterator<Directory = Directories>,
+    requires can { I.can_feed walk }
+    requires ends { IsFinite (I.left walk) }
+{
+    if let Some(call) = row.option("call") {
+        return push_called(alloc, row, walk, call, text);
+    }
+    let has_closures = row.nth_option(CLOSURES, 0).is_some();
+    if has_closures || row.nth_option(RULES, 0).is_some() {
+        push_filtered(alloc, row, walk, text)
+    } else {
+        walked::push(alloc, row, walk, text)
+    }
+}
+
+/// Excludes by a first closure.
+fn push_filtered<I>(
+    alloc: Global,
+    row: Row<'_>,
+    walk: I,
+    text: &mut String,
+) -> Result<(), Unanswered>
+where
+    I: FileIterator<Directory = Directories>,
+    requires can { I.can_feed walk }
+    requires ends { IsFinite (I.left walk) }
+{
+    let (path, residue) = excluded(row, 0);
+    let walk = walk.filter_entry(move |entry| residue_at(entry, path, residue));
+    push_filtered_again(alloc, row, walk, text)
+}
+
+/// Excludes by a second closure.
+fn push_filtered_again<I>(
+    alloc: Global,
+    row: Row<'_>,
+    walk: I,
+    text: &mut String,
+) -> Result<(), Unanswered>
+where
+    I: FileIterator<Directory = Directories>,
+    requires can { I.can_feed walk }
+    requires ends { IsFinite (I.left walk) }
+{
+    let (path, residue) = excluded(row, 1);
+    let walk = walk.filter_entry(move |entry| residue_at(entry, path, residue));
+    push_ruled(alloc, row, walk, text)
+}
+
+/// Returns the path of the closure at the index, and what it excludes there, if the row has it.
+fn excluded(row: Row<'_>, index: usize) -> (&str, Option<EntryResidue>) {
+    match row.nth_option(CLOSURES, index) {
+        Some((word, path)) => (path, Some(residue_of(word))),
+        None => ("", None),
+    }
+}
+
+fn residue_at(
+    entry: &TreeEntry,
+    path: &str,
+    residue: Option<EntryResidue>,
+) -> Option<EntryResidue> {
+    if entry.path() == path { residue } else { None }
+}
+
+/// Excludes by a first rule.
+fn push_ruled<I>(alloc: Global, row: Row<'_>, walk: I, text: &mut String) -> Result<(), Unanswered>
+where
+    I: FileIterator<Directory = Directories>,
+    requires can { I.can_feed walk }
+    requires ends { IsFinite (I.left walk) }
+{
+    match filter_of(alloc, row, 0) {
+        Ok(filter) => push_ruled_again(alloc, row, walk.without(alloc, filter), text),
+        Err(error) => Err(error),
+    }
+}
+
+/// Excludes by a second rule.
+fn push_ruled_again<I>(
+    alloc: Global,
+    row: Row<'_>,
+    walk: I,
+    text: &mut String,
+) -> Result<(), Unanswered>
+where
+    I: FileIterator<Directory = Directories>,
+    requires can { I.can_feed walk }
+    requires ends { IsFinite (I.left walk) }
+{
+    match filter_of(alloc, row, 1) {
+        Ok(filter) => push_ruled_thrice(alloc, row, walk.without(alloc, filter), text),
+        Err(error) => Err(error),
+    }
+}
+
+/// Excludes by a third rule.
+fn push_ruled_thrice<I>(
+    alloc: Global,
+    row: Row<'_>,
+    walk: I,
+    text: &mut String,
+) -> Result<(), Unanswered>
+where
+    I: FileIterator<Directory = Directories>,
+    requires can { I.can_feed walk }
+    requires ends { IsFinite (I.left walk) }
+{
+    match filter_of(alloc, row, 2) {
+        Ok(filter) => walked::push(alloc, row, walk.without(alloc, filter), text),
+        Err(error) => Err(error),
+    }
+}

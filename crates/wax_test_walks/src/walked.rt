@@ -1,0 +1,178 @@
+//! The answers of walks.
+
+ghost use Rattle.std.specs.Iterator.{IsFinite};
+
+use crate::row::{Directories, Row, Unanswered, push_gap, push_quoted};
+use std::alloc::{AllocError, Global};
+use wax::filter::{Feed, Separation, TreeResidue};
+use wax::walk::{Directory, Entry, FileIterator, Tree, WalkError, collect, collect_feed};
+
+/// Puts what comes of a walk at the end of the text, as the row's kind says: the items that are kept; for
+/// `feed` also those that are excluded; for `steps` one after another.
+pub fn push<I>(alloc: Global, row: Row<'_>, walk: I, text: &mut String) -> Result<(), Unanswered>
+where
+    I: FileIterator<Directory = Directories>,
+    requires can { I.can_feed walk }
+    requires ends { IsFinite (I.left walk) }
+{
+    match row.kind() {
+        "feed" => push_feed(alloc, walk, text),
+        "steps" => push_steps(alloc, walk, text),
+        kind => push_kept(alloc, kind, walk, text),
+    }
+}
+
+fn push_kept<I>(alloc: Global, kind: &str, walk: I, text: &mut String) -> Result<(), Unanswered>
+where
+    I: FileIterator<Directory = Directories>,
+    requires can { I.can_feed walk }
+    requires ends { IsFinite (I.left walk) }
+{
+    let Ok((items, directory)) = collect(alloc, walk) else {
+        return Err(Unanswered::Memory);
+    };
+    push_items(alloc, kind, items.as_slice(), text)?;
+    push_directory(alloc, kind, directory, text)
+}
+
+fn push_feed<I>(alloc: Global, walk: I, text: &mut String) -> Result<(), Unanswered>
+where
+    I: FileIterator<Directory = Directories>,
+    requires can { I.can_feed walk }
+    requires ends { IsFinite (I.left walk) }
+{
+    let Ok((items, directory)) = collect_feed(alloc, walk) else {
+        return Err(Unanswered::Memory);
+    };
+    for item in &items {
+        push_separation(alloc, item, text)?;
+    }
+    push_directory(alloc, "feed", directory, text)
+}
+
+fn push_steps<I>(alloc: Global, mut walk: I, text: &mut String) -> Result<(), Unanswered>
+where
+    I: FileIterator<Directory = Directories>,
+    requires can { I.can_feed walk }
+    requires ends { IsFinite (I.left walk) }
+{
+    while let Some(item) = walk.feed() {
+        if let Separation::Filtrate(filtrate) = item {
+            push_item(alloc, "steps", filtrate.get(), text)?;
+        }
+    }
+    Ok(())
+}
+
+/// Puts an item behind a `-` if it is excluded, and behind `--` if all below it is, too.
+fn push_separation<T, R, F>(
+    alloc: Global,
+    item: &Separation<F>,
+    text: &mut String,
+) -> Result<(), AllocError>
+where
+    T: Entry,
+    R: Entry,
+    F: Feed<Filtrate = Result<T, WalkError>, Residue = TreeResidue<R>>,
+{
+    let residue = match item {
+        Separation::Filtrate(filtrate) => return push_item(alloc, "feed", filtrate.get(), text),
+        Separation::Residue(residue) => residue.get(),
+    };
+    push_gap(text)?;
+    text.push_str(match residue {
+        TreeResidue::Node(_) => "- ",
+        TreeResidue::Tree(_) => "-- ",
+    })?;
+    push_quoted(text, residue.get().path())
+}
+
+/// Puts the items at the end of the text, or of `count` how many they are.
+pub fn push_items<E: Entry>(
+    alloc: Global,
+    kind: &str,
+    items: &[Result<E, WalkError>],
+    text: &mut String,
+) -> Result<(), AllocError> {
+    if kind == "count" {
+        return text.push_str(format!(in alloc; "{}", items.len())?.as_str());
+    }
+    if items.is_empty() {
+        return text.push_str("none");
+    }
+    for item in items {
+        push_item(alloc, kind, item, text)?;
+    }
+    Ok(())
+}
+
+/// Puts an entry at the end of the text, or an error in brackets with its depth.
+pub fn push_item<E: Entry>(
+    alloc: Global,
+    kind: &str,
+    item: &Result<E, WalkError>,
+    text: &mut String,
+) -> Result<(), AllocError> {
+    push_gap(text)?;
+    match item {
+        Ok(entry) => push_entry(alloc, kind, entry, text),
+        Err(error) => { text.push_str(format!(in alloc; "[{error}; {}]", error.depth())?.as_str()) }
+    }
+}
+
+fn push_entry<E: Entry>(
+    alloc: Global,
+    kind: &str,
+    entry: &E,
+    text: &mut String,
+) -> Result<(), AllocError> {
+    let (root, candidate) = entry.root_relative_paths();
+    match kind {
+        "candidates" => push_quoted(text, candidate),
+        "places" => {
+            push_all_quoted(text, &[entry.path(), root, candidate])?;
+            let (depth, kind) = (entry.depth(), entry.file_type());
+            text.push_str(format!(in alloc; "{depth} {kind:?};")?.as_str())
+        }
+        _ => push_quoted(text, entry.path()),
+    }
+}
+
+fn push_all_quoted(text: &mut String, paths: &[&str]) -> Result<(), AllocError> {
+    for path in paths {
+        push_quoted(text, path)?;
+        text.push(' ')?;
+    }
+    Ok(())
+}
+
+/// Puts fields at the end of the text: the folders that were listed, how many items they had, and all that
+/// the directory counted; for `count` how many folders were listed.
+pub fn push_directory(
+    alloc: Global,
+    kind: &str,
+    directory: Directories,
+    text: &mut String,
+) -> Result<(), Unanswered> {
+    let tally = directory.tally();
+    let tree = directory.into_inner().into_inner();
+    text.push('\t')?;
+    if kind == "count" {
+        text.push_str(format!(in alloc; "{}", tree.listed().len())?.as_str())?;
+        return Ok(());
+    }
+    push_listed(&tree, text)?;
+    text.push_str(format!(in alloc; "\t{}\t{tally:?}", tree.asked())?.as_str())?;
+    Ok(())
+}
+
+fn push_listed(tree: &Tree, text: &mut String) -> Result<(), AllocError> {
+    if tree.listed().is_empty() {
+        return text.push_str("none");
+    }
+    for path in tree.listed() {
+        push_gap(text)?;
+        push_quoted(text, path.as_str())?;
+    }
+    Ok(())
+}
