@@ -30,8 +30,8 @@ impl Read for Bytes<'_> {
     }
 }
 
-/// Adds the lines that are written of the row's lines; then, each behind `=`, how the call ended and whether the
-/// glob matches the row's path after it.
+/// Adds the lines that are written of the row's lines; then, each behind `=`, how the call ended and whether
+/// the glob matches the row's path after it.
 pub fn add_lines(
     alloc: Global,
     glob: &Glob<'_>,

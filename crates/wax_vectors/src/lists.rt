@@ -6,8 +6,8 @@ use std::alloc::Global;
 use wax::walk::{IgnoreError, IgnoreList};
 use wax::{CandidatePath, NoMemory};
 
-/// Adds whether the list ignores a path; of a text that is no list, the number of the refusal, that of the line,
-/// and why.
+/// Adds whether the list ignores a path; of a text that is no list, the number of the refusal, that of the
+/// line, and why.
 pub fn answer(alloc: Global, row: &Row<'_>, made: &mut Answer) -> Result<(), NoMemory> {
     match IgnoreList::parse(alloc, row.input(0)) {
         Ok(list) if row.kind() == "ignored_twice" => {

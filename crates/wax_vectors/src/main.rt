@@ -1,5 +1,6 @@
-//! Shows facts of expressions and paths. Each word names a file of rows, whose answers are made anew and compared
-//! with those that are wanted; each line of standard input is a row without its answer, which is shown.
+//! Shows facts of expressions and paths. Each word names a file of rows, whose answers are made anew and
+//! compared with those that are wanted; each line of standard input is a row without its answer, which is
+//! shown.
 #![tactic(auto)]
 
 mod answer;

@@ -30,7 +30,8 @@ fn add_meta(text: &str, made: &mut Answer) {
     }
 }
 
-/// Adds whether copies of the path equal it, whether the row's other path does, and a path that owns its text.
+/// Adds whether copies of the path equal it, whether the row's other path does, and the path once it owns its
+/// text.
 fn add_copies(alloc: Global, row: &Row<'_>, made: &mut Answer) -> Result<(), NoMemory> {
     let path = CandidatePath::from(row.input(0));
     made.digit(path.clone()? == path);

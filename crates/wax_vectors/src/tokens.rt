@@ -205,8 +205,8 @@ fn add_owned(alloc: Global, tokens: Tokens<'_>, made: &mut Answer) -> Result<(),
     add_text(alloc, owned.as_token(), made)
 }
 
-/// Adds whether a copy equals the tokens, those of the row's other expression do, the copy prints the same, and a
-/// copy of the one token equals it.
+/// Adds whether a copy equals the tokens, those of the row's other expression do, the copy prints the same,
+/// and a copy of the one token equals it.
 fn add_copies(
     alloc: Global,
     row: &Row<'_>,
