@@ -14,11 +14,10 @@ pub fn push(alloc: Global, call: &str, text: &mut String) -> Result<(), Unanswer
 }
 
 fn depth_of(word: &str) -> Option<usize> {
-    match word {
-        "" | "-" => None,
-        "greatest" => Some(usize::MAX),
-        digits => Some(usize::try_from(number(digits, 0)).unwrap_or(0)),
+    if word == "-" {
+        return None;
     }
+    Some(usize::try_from(number(word, u64::MAX)).unwrap_or(usize::MAX))
 }
 
 fn push_call(

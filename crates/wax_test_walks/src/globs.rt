@@ -65,7 +65,14 @@ where
     let Ok((items, _)) = collect(alloc, walk) else {
         return Err(Unanswered::Memory);
     };
-    for item in &items {
+    push_all_captured(text, items.as_slice())
+}
+
+fn push_all_captured(
+    text: &mut String,
+    items: &[Result<GlobEntry, WalkError>],
+) -> Result<(), Unanswered> {
+    for item in items {
         push_captured(text, item)?;
     }
     Ok(())

@@ -6,18 +6,15 @@ use crate::walked::{push_directory, push_item, push_items};
 use std::alloc::{AllocError, Global};
 use wax::filter::CancelWalk;
 use wax::walk::{
-    Entry, EntryResidue, FileIterator, PathExt, TreeEntry, WalkBehavior, WalkError, WalkTree,
-    collect, entries,
+    Entry, IgnoreList, PathExt, TreeEntry, WalkBehavior, WalkError, WalkTree, entries,
 };
-use wax::{CandidatePath, Glob, NoMemory, Program};
 
 /// Puts what comes of a plain walk at the end of the text: for `ends` also after its end, for `entries` and
-/// `unignored` by one call, for `matching` how many entries a glob matches.
+/// `unignored` by one call.
 pub fn push(alloc: Global, row: Row<'_>, text: &mut String) -> Result<(), Unanswered> {
     match row.kind() {
         "entries" => push_entries(alloc, row, text),
         "unignored" => push_unignored(alloc, row, text),
-        "matching" => push_matching(alloc, row, text),
         _ => match row.option("to") {
             Some(path) => push_to(alloc, row, names_of(alloc, path)?, text),
             None => push_from(alloc, row, row.directory(alloc)?, text),
@@ -120,46 +117,24 @@ fn push_entries(alloc: Global, row: Row<'_>, text: &mut String) -> Result<(), Un
 
 /// Puts how many entries no line of a list ignores, and how many folders were listed.
 fn push_unignored(alloc: Global, row: Row<'_>, text: &mut String) -> Result<(), Unanswered> {
-    let list = list_of(alloc, row.option("ignore").unwrap_or(""))?;
     let directory = row.directory(alloc)?;
+    match list_of(alloc, row.option("ignore").unwrap_or("")) {
+        Ok(list) => push_entries_of(alloc, row, list, directory, text),
+        Err(error) => Err(error),
+    }
+}
+
+fn push_entries_of(
+    alloc: Global,
+    row: Row<'_>,
+    list: IgnoreList,
+    directory: Directories,
+    text: &mut String,
+) -> Result<(), Unanswered> {
     let walked = list.entries(alloc, directory, row.start(), WalkBehavior::default());
     let Ok((items, directory)) = walked else {
         return Err(Unanswered::Memory);
     };
     push_items(alloc, "count", items.as_slice(), text)?;
     push_directory(alloc, "count", directory, text)
-}
-
-/// Puts how many entries of the walk the glob matches.
-fn push_matching(alloc: Global, row: Row<'_>, text: &mut String) -> Result<(), Unanswered> {
-    let Ok(glob) = Glob::new(alloc, row.expression()) else {
-        return Err(Unanswered::NotBuilt);
-    };
-    let excluded = row.option("tree").unwrap_or("");
-    let walk = row.start().walk(alloc, row.directory(alloc)?);
-    let walk = walk.filter_entry(|entry| (entry.path() == excluded).then_some(EntryResidue::Tree));
-    let Ok((items, _)) = collect(alloc, walk) else {
-        return Err(Unanswered::Memory);
-    };
-    let count = matched(alloc, &glob, items.as_slice())?;
-    text.push_str(format!(in alloc; "{count}")?.as_str())?;
-    Ok(())
-}
-
-/// Returns how many entries the glob matches.
-fn matched(
-    alloc: Global,
-    glob: &Glob<'_>,
-    items: &[Result<TreeEntry, WalkError>],
-) -> Result<usize, NoMemory> {
-    let mut count: usize = 0;
-    for item in items {
-        let Ok(entry) = item else {
-            continue;
-        };
-        if glob.is_match(alloc, &CandidatePath::from(entry.path()))? {
-            count = count.saturating_add(1);
-        }
-    }
-    Ok(count)
 }

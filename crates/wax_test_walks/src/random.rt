@@ -140,17 +140,28 @@ fn compare(
     text: &mut String,
 ) -> Result<(), Unanswered> {
     let mut walked = String::new(alloc);
-    let walked_tree = push_walked(alloc, drawn, counts, &mut walked)?;
+    let tree = push_walked(alloc, drawn, counts, &mut walked)?;
+    compare_walked(alloc, drawn, walked.as_str(), tree.listed(), counts, text)
+}
+
+fn compare_walked(
+    alloc: Global,
+    drawn: &Drawn,
+    walked: &str,
+    listed: &[String],
+    counts: &mut Counts,
+    text: &mut String,
+) -> Result<(), Unanswered> {
     let mut wanted = String::new(alloc);
-    let whole_tree = push_wanted(alloc, drawn, &mut wanted)?;
-    let (listed, whole) = (walked_tree.listed(), whole_tree.listed());
-    if walked.as_str() != wanted.as_str() || !are_among(listed, whole) {
-        counts.different = counts.different.saturating_add(1);
-        push_drawn(alloc, drawn, text)?;
-    }
+    let tree = push_wanted(alloc, drawn, &mut wanted)?;
+    let whole = tree.listed();
     let unlisted = whole.len().saturating_sub(listed.len());
     counts.unlisted = counts.unlisted.saturating_add(unlisted);
-    Ok(())
+    if walked == wanted.as_str() && are_among(listed, whole) {
+        return Ok(());
+    }
+    counts.different = counts.different.saturating_add(1);
+    Ok(push_drawn(alloc, drawn, text)?)
 }
 
 /// Returns whether each folder that was listed is one of these.
@@ -249,15 +260,30 @@ fn push_wanted(alloc: Global, drawn: &Drawn, text: &mut String) -> Result<Tree, 
     let start = if is_rooted { "/" } else { drawn.start };
     let tree = tree_of(alloc, drawn)?;
     let (items, tree) = entries(alloc, tree, start, WalkBehavior::default())?;
-    let mut candidates = candidates_of(alloc, drawn, is_rooted, items.as_slice())?;
+    push_candidates(alloc, drawn, is_rooted, items.as_slice(), text)?;
+    Ok(tree)
+}
+
+fn push_candidates(
+    alloc: Global,
+    drawn: &Drawn,
+    is_rooted: bool,
+    items: &[Result<TreeEntry, WalkError>],
+    text: &mut String,
+) -> Result<(), Unanswered> {
+    let mut candidates = candidates_of(alloc, drawn, is_rooted, items)?;
     decide_all(alloc, drawn, &mut candidates)?;
-    for candidate in &candidates {
+    Ok(push_unignored(candidates.as_slice(), text)?)
+}
+
+fn push_unignored(candidates: &[Candidate], text: &mut String) -> Result<(), AllocError> {
+    for candidate in candidates {
         if candidate.is_wanted && !candidate.is_ignored {
             text.push_str(candidate.path.as_str())?;
             text.push('\n')?;
         }
     }
-    Ok(tree)
+    Ok(())
 }
 
 /// Returns the candidates of the entries whose depth is in range.

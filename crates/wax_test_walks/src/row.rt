@@ -46,7 +46,12 @@ pub fn parted(option: &str) -> (&str, &str) {
 }
 
 fn is_one_of(words: &str, word: &str) -> bool {
-    words.split(' ').any(|other| other == word)
+    for other in words.split(' ') {
+        if other == word {
+            return true;
+        }
+    }
+    false
 }
 
 impl<'r> Row<'r> {

@@ -5,10 +5,12 @@ ghost use Rattle.std.specs.Iterator.{IsFinite};
 use crate::row::{Directories, Row, Unanswered, push_gap, push_quoted};
 use std::alloc::{AllocError, Global};
 use wax::filter::{Feed, Separation, TreeResidue};
-use wax::walk::{Directory, Entry, FileIterator, Tree, WalkError, collect, collect_feed};
+use wax::walk::{Directory, Entry, FileIterator, Tally, Tree, WalkError, collect, collect_feed};
+use wax::{CandidatePath, Glob, NoMemory, Program};
 
 /// Puts what comes of a walk at the end of the text, as the row's kind says: the items that are kept; for
-/// `feed` also those that are excluded; for `steps` one after another.
+/// `feed` also those that are excluded; for `steps` one after another; for `matching` how many the glob
+/// matches.
 pub fn push<I>(alloc: Global, row: Row<'_>, walk: I, text: &mut String) -> Result<(), Unanswered>
 where
     I: FileIterator<Directory = Directories>,
@@ -18,6 +20,7 @@ where
     match row.kind() {
         "feed" => push_feed(alloc, walk, text),
         "steps" => push_steps(alloc, walk, text),
+        "matching" => push_matching(alloc, row, walk, text),
         kind => push_kept(alloc, kind, walk, text),
     }
 }
@@ -62,6 +65,56 @@ where
         }
     }
     Ok(())
+}
+
+fn push_matching<I>(
+    alloc: Global,
+    row: Row<'_>,
+    walk: I,
+    text: &mut String,
+) -> Result<(), Unanswered>
+where
+    I: FileIterator<Directory = Directories>,
+    requires can { I.can_feed walk }
+    requires ends { IsFinite (I.left walk) }
+{
+    let Ok((items, _)) = collect(alloc, walk) else {
+        return Err(Unanswered::Memory);
+    };
+    push_count(alloc, row.expression(), items.as_slice(), text)
+}
+
+/// Puts how many entries the glob of the expression matches.
+fn push_count<E: Entry>(
+    alloc: Global,
+    expression: &str,
+    items: &[Result<E, WalkError>],
+    text: &mut String,
+) -> Result<(), Unanswered> {
+    let count = match Glob::new(alloc, expression) {
+        Ok(glob) => matched(alloc, &glob, items)?,
+        Err(_) => return Err(Unanswered::NotBuilt),
+    };
+    text.push_str(format!(in alloc; "{count}")?.as_str())?;
+    Ok(())
+}
+
+/// Returns how many entries the glob matches.
+fn matched<E: Entry>(
+    alloc: Global,
+    glob: &Glob<'_>,
+    items: &[Result<E, WalkError>],
+) -> Result<usize, NoMemory> {
+    let mut count: usize = 0;
+    for item in items {
+        let Ok(entry) = item else {
+            continue;
+        };
+        if glob.is_match(alloc, &CandidatePath::from(entry.path()))? {
+            count = count.saturating_add(1);
+        }
+    }
+    Ok(count)
 }
 
 /// Puts an item behind a `-` if it is excluded, and behind `--` if all below it is, too.
@@ -130,20 +183,25 @@ fn push_entry<E: Entry>(
     match kind {
         "candidates" => push_quoted(text, candidate),
         "places" => {
-            push_all_quoted(text, &[entry.path(), root, candidate])?;
+            push_place(text, entry.path(), root, candidate)?;
             let (depth, kind) = (entry.depth(), entry.file_type());
-            text.push_str(format!(in alloc; "{depth} {kind:?};")?.as_str())
+            text.push_str(format!(in alloc; " {depth} {kind:?};")?.as_str())
         }
         _ => push_quoted(text, entry.path()),
     }
 }
 
-fn push_all_quoted(text: &mut String, paths: &[&str]) -> Result<(), AllocError> {
-    for path in paths {
-        push_quoted(text, path)?;
-        text.push(' ')?;
-    }
-    Ok(())
+fn push_place(
+    text: &mut String,
+    path: &str,
+    root: &str,
+    candidate: &str,
+) -> Result<(), AllocError> {
+    push_quoted(text, path)?;
+    text.push(' ')?;
+    push_quoted(text, root)?;
+    text.push(' ')?;
+    push_quoted(text, candidate)
 }
 
 /// Puts fields at the end of the text: the folders that were listed, how many items they had, and all that
@@ -156,14 +214,26 @@ pub fn push_directory(
 ) -> Result<(), Unanswered> {
     let tally = directory.tally();
     let tree = directory.into_inner().into_inner();
-    text.push('\t')?;
     if kind == "count" {
-        text.push_str(format!(in alloc; "{}", tree.listed().len())?.as_str())?;
-        return Ok(());
+        Ok(push_number(alloc, tree.listed().len(), text)?)
+    } else {
+        Ok(push_tree(alloc, &tree, tally, text)?)
     }
-    push_listed(&tree, text)?;
-    text.push_str(format!(in alloc; "\t{}\t{tally:?}", tree.asked())?.as_str())?;
-    Ok(())
+}
+
+fn push_number(alloc: Global, listed: usize, text: &mut String) -> Result<(), AllocError> {
+    text.push_str(format!(in alloc; "\t{listed}")?.as_str())
+}
+
+fn push_tree(
+    alloc: Global,
+    tree: &Tree,
+    tally: Tally,
+    text: &mut String,
+) -> Result<(), AllocError> {
+    text.push('\t')?;
+    push_listed(tree, text)?;
+    text.push_str(format!(in alloc; "\t{}\t{tally:?}", tree.asked())?.as_str())
 }
 
 fn push_listed(tree: &Tree, text: &mut String) -> Result<(), AllocError> {
