@@ -9,9 +9,9 @@ use Rattle.wax_test_walks.specs.declared.filters.Filter.{Filter}
 use Rattle.wax_test_walks.specs.declared.filters.Filter.TheVariants.{Nothing, Not, Ignore, From}
 
 -- what a filter says of an entry, by what patterns and lists say
-abbrev pub rule_by : (List (Tree Span) → Facts → Mark) → (IgnoreList → Facts → Mark) → Filter → Facts → Mark
-rule_by not_rule ignore_rule Nothing facts = kept
-rule_by not_rule ignore_rule (Not alternatives) facts = not_rule alternatives facts
-rule_by not_rule ignore_rule (Ignore list) facts = ignore_rule list facts
-rule_by not_rule ignore_rule (From depth residue) facts =
+abbrev pub rule_of : (List (Tree Span) → Facts → Mark) → (IgnoreList → Facts → Mark) → Filter → Facts → Mark
+rule_of not_rule ignore_rule Nothing facts = kept
+rule_of not_rule ignore_rule (Not alternatives) facts = not_rule alternatives facts
+rule_of not_rule ignore_rule (Ignore list) facts = ignore_rule list facts
+rule_of not_rule ignore_rule (From depth residue) facts =
     cond (nat_lt facts.depth depth) kept (mark_of (Some residue))

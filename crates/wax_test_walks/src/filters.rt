@@ -16,9 +16,9 @@ pub enum Filter {
 }
 
 impl Rule for Filter {
-    ghost use Rattle.wax_test_walks.specs.Filters.{rule_by};
+    ghost use Rattle.wax_test_walks.specs.Filters.{rule_of};
 
-    ghost rule = { rule_by ⟦<Exclusion as Rule>⟧.rule ⟦<IgnoreList as Rule>⟧.rule };
+    ghost rule = { rule_of ⟦<Exclusion as Rule>⟧.rule ⟦<IgnoreList as Rule>⟧.rule };
 
     fn residue<E: Entry>(
         &self,

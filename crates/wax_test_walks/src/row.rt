@@ -102,7 +102,8 @@ impl<'r> Row<'r> {
         self.expression() == "-" || self.kind() == "matching"
     }
 
-    /// Returns the option at the index among those that begin with one of the words, which have spaces between.
+    /// Returns the option at the index among those that begin with one of the words, which have spaces between
+    /// them.
     pub fn nth_option(self, words: &str, index: usize) -> Option<(&'r str, &'r str)> {
         let mut left = index;
         for option in self.field(self.inputs()).split("; ") {
