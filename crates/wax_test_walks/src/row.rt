@@ -102,8 +102,7 @@ impl<'r> Row<'r> {
         self.expression() == "-" || self.kind() == "matching"
     }
 
-    /// Returns the option at the index among those that begin with one of the words, which have spaces between
-    /// them.
+    /// Returns the option at the index among those that begin with one of the words, which are parted by spaces.
     pub fn nth_option(self, words: &str, index: usize) -> Option<(&'r str, &'r str)> {
         let mut left = index;
         for option in self.field(self.inputs()).split("; ") {
