@@ -102,7 +102,7 @@ impl<'r> Row<'r> {
         self.expression() == "-" || self.kind() == "matching"
     }
 
-    /// Returns the option at the index among those that begin with one of the words, which are parted by spaces.
+    /// Returns the option at the index of those that begin with one of the words, which have spaces between.
     pub fn nth_option(self, words: &str, index: usize) -> Option<(&'r str, &'r str)> {
         let mut left = index;
         for option in self.field(self.inputs()).split("; ") {
