@@ -2,7 +2,8 @@
 
 ghost use Rattle.std.specs.Iterator.{IsFinite};
 
-use crate::row::{Directories, Row, Unanswered, list_of, parted, words};
+use crate::faults::Directories;
+use crate::row::{Row, Unanswered, list_of, parted, words};
 use crate::walked;
 use std::alloc::Global;
 use wax::walk::{FileIterator, FileIteratorExt, without_ignored, without_meant};

@@ -30,7 +30,7 @@ fn push_tree(alloc: Global, row: Row<'_>, text: &mut String) -> Result<(), Unans
     let mut directory = row.directory(alloc)?;
     push_calls(alloc, &mut directory, row.field(2), text)?;
     let (failures, misses) = (directory.failures(), directory.misses());
-    let tree = directory.into_inner().into_inner();
+    let tree = directory.into_tree();
     let (items, opened) = (tree.asked(), tree.listed().len());
     text.push_str(format!(in alloc; "\t{failures}\t{misses}\t{items}\t{opened}")?.as_str())?;
     Ok(())

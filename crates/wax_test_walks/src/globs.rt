@@ -2,7 +2,8 @@
 
 ghost use Rattle.std.specs.Iterator.{IsFinite};
 
-use crate::row::{Directories, Row, Unanswered, behavior_of, push_gap};
+use crate::faults::Directories;
+use crate::row::{Row, Unanswered, behavior_of, push_gap};
 use crate::stacked;
 use std::alloc::Global;
 use wax::walk::{FileIterator, GlobEntry, WalkError, collect};

@@ -8,6 +8,7 @@ mod called;
 mod depths;
 mod directories;
 mod draws;
+mod faults;
 mod filters;
 mod globs;
 mod lists;

@@ -1,6 +1,7 @@
 //! Plain walks.
 
-use crate::row::{Directories, Row, Unanswered, behavior_of, list_of};
+use crate::faults::Directories;
+use crate::row::{Row, Unanswered, behavior_of, list_of};
 use crate::stacked;
 use crate::walked::{push_directory, push_item, push_items};
 use std::alloc::{AllocError, Global};

@@ -1,10 +1,11 @@
 //! Rows, and what stands in their fields.
 
+use crate::faults::Directories;
 use std::alloc::{AllocError, Global};
 use wax::NoMemory;
 use wax::walk::{
-    DepthMax, DepthMin, DepthMinMax, EntryResidue, Failing, IgnoreList, Node, Range, Starving,
-    Tree, TreeItem, WalkBehavior,
+    DepthMax, DepthMin, DepthMinMax, EntryResidue, IgnoreList, Node, Range, Starving, Tree,
+    TreeItem, WalkBehavior,
 };
 use wax_test_kit::plans::{self, PROJECT, ROOT};
 
@@ -27,9 +28,6 @@ impl From<AllocError> for Unanswered {
         Unanswered::Memory
     }
 }
-
-/// A tree in memory of which one call may fail and one may lack memory.
-pub type Directories = Failing<Starving<Tree>>;
 
 /// A line: a kind, its inputs, and its answer.
 #[derive(Clone, Copy)]
@@ -143,8 +141,8 @@ impl<'r> Row<'r> {
     /// Returns the directory that is walked.
     pub fn directory(self, alloc: Global) -> Result<Directories, Unanswered> {
         let tree = tree_of(alloc, self.field(1))?;
-        let starving = Starving::new(tree, self.number("starving", u64::MAX));
-        Ok(Failing::new(starving, self.number("failing", u64::MAX)))
+        let failing = self.number("failing", u64::MAX);
+        Ok(Directories::new(tree, failing, self.number("starving", u64::MAX)))
     }
 }
 

@@ -3,8 +3,9 @@
 ghost use Rattle.std.specs.Iterator.{IsFinite};
 
 use crate::called::push_called;
+use crate::faults::Directories;
 use crate::filters::{RULES, filter_of};
-use crate::row::{Directories, Row, Unanswered, residue_of};
+use crate::row::{Row, Unanswered, residue_of};
 use crate::walked;
 use std::alloc::Global;
 use wax::walk::{Entry, EntryResidue, FileIterator, TreeEntry};

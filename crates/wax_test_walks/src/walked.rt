@@ -2,7 +2,8 @@
 
 ghost use Rattle.std.specs.Iterator.{IsFinite};
 
-use crate::row::{Directories, Row, Unanswered, push_gap, push_quoted};
+use crate::faults::Directories;
+use crate::row::{Row, Unanswered, push_gap, push_quoted};
 use std::alloc::{AllocError, Global};
 use wax::filter::{Feed, Separation, TreeResidue};
 use wax::walk::{Directory, Entry, FileIterator, Tally, Tree, WalkError, collect, collect_feed};
@@ -213,7 +214,7 @@ pub fn push_directory(
     text: &mut String,
 ) -> Result<(), Unanswered> {
     let tally = directory.tally();
-    let tree = directory.into_inner().into_inner();
+    let tree = directory.into_tree();
     if kind == "count" {
         Ok(push_number(alloc, tree.listed().len(), text)?)
     } else {
