@@ -1,4 +1,4 @@
-//! Texts that a program is asked for, what it captures of them, and calls that are counted.
+//! Paths, matches and counted calls: what each returns and prints.
 
 use crate::pictures::Pictures;
 use std::alloc::{AllocError, Global};
