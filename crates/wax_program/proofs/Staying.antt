@@ -9,7 +9,7 @@ use Rattle.wax_program.specs.declared.instruction.Instruction.TheVariants.{Check
 use Rattle.wax_program.specs.declared.steady.Steady.{Steady}
 use Rattle.wax_program.specs.declared.steady.Watch.{Watch}
 use Rattle.wax_program.specs.declared.steady.Watch.TheVariants.{Nothing, Place, Lost}
-use Rattle.wax_program.specs.inner.Bits.{places_of}
+use Rattle.wax_program.specs.Bits.{places_of}
 use Rattle.wax_program.specs.Machine.{PassesTest, Moves, AcceptsIn}
 use Rattle.wax_program.specs.inner.Steady.{Alike, Comes, ActsAlike, IsAbsorbing, IsKnown, Lets, Noted, NotedMiss, NotedRepeat}
 use Rattle.wax_program.specs.Threads.{HoldsPlace, Position, IsDone, IsReached, Taken, Followed, Round, Led, AnyOf, Advances}

@@ -33,6 +33,11 @@ pub record Position : Type 0 where
   pub read : List Bool
   pub next : List Bool
 
+-- a set of places of a program of `size` instructions
+pub record Frontier : Type 0 where
+  pub size : ℕ
+  pub places : List Bool
+
 -- only the program's end is left, at most
 abbrev pub IsDone : Position → Type 0
 IsDone p = (k : ℕ) → HoldsPlace p.pending k → p.size ≤ k

@@ -1,6 +1,7 @@
 //! The places that a run has reached, for programs of any length.
-ghost use Rattle.std.specs.Prelude.{◌≡◌, IfOk};
-ghost use Rattle.wax_program.specs.Threads.{IsEmpty};
+ghost use Rattle.std.specs.Prelude.{◌≡◌, ◌+◌, ◌/◌, IfOk, IsTrue, length};
+ghost use Rattle.wax_program.specs.Bits.{bits_of};
+ghost use Rattle.wax_program.specs.Threads.{IsEmpty, Within};
 
 use crate::set::Set;
 use crate::sets::Sets;
@@ -24,13 +25,15 @@ pub struct HeapSets {
 }
 
 impl Model for HeapSets {
+    ghost use Rattle.std.specs.Prelude.{◌≡◌, ◌+◌, ◌*◌, ◌/◌, length};
     ghost use Rattle.wax_program.specs.Threads.{Position, AreSets};
 
     ghost Value = { Position };
 
     ghost view = { λ r. record { size = r.size; pending = r.pending; read = r.read; next = r.next } };
 
-    ghost invariant = { λ r. AreSets r.size r.first r.pending r.read r.next };
+    ghost invariant = { λ r. AreSets r.size r.first r.pending r.read r.next
+        × (length r.pending ≡ 64 * (r.size / 64 + 1)) × (length r.next ≡ 64 * (r.size / 64 + 1)) };
 }
 
 impl HeapSets {
@@ -51,6 +54,41 @@ impl HeapSets {
             read,
             next,
         })
+    }
+}
+
+impl HeapSets {
+    /// The places that are to be read here, 64 a word.
+    #[inline]
+    pub fn row(&self) -> &[u64]
+        ensures same { self.now.pending ≡ bits_of result.now }
+        ensures room { length result.now ≡ self.now.size / 64 + 1 }
+        ensures within { Within (self.now.size + 1) (bits_of result.now) }
+    {
+        let _ = &self.size;
+        self.pending.words()
+    }
+
+    /// Whether no place is to be read here.
+    #[inline]
+    pub fn is_empty(&self) -> bool
+        ensures { IsTrue result → IsEmpty self.now.pending }
+    {
+        self.pending.first_from(0).is_none()
+    }
+
+    /// The places of the words are to be read here, and none was.
+    pub fn load(&mut self, row: &[u64])
+        requires read { IsEmpty self.old.read }
+        requires room { length row.now ≡ self.old.size / 64 + 1 }
+        requires within { Within (self.old.size + 1) (bits_of row.now) }
+        ensures size { self.new.size ≡ self.old.size }
+        ensures pending { self.new.pending ≡ bits_of row.now }
+        ensures read { self.new.read ≡ self.old.read }
+        ensures next { self.new.next ≡ self.old.next }
+    {
+        self.pending.load(row);
+        self.first = 0;
     }
 }
 

@@ -1,7 +1,7 @@
 //! Sets of places, one bit each.
-ghost use Rattle.std.specs.Prelude.{◌≡◌, ◌*◌, ◌^◌, ◌<◌, ◌≤◌, ℕ, Bool, List, IfOk, MatchOption, length};
+ghost use Rattle.std.specs.Prelude.{◌≡◌, ◌+◌, ◌*◌, ◌/◌, ◌^◌, ◌<◌, ◌≤◌, ℕ, Bool, List, IfOk, MatchOption, length};
 ghost use Rattle.std.specs.Prelude.{slice_index_or, slice_set, true, false};
-ghost use Rattle.wax_program.specs.inner.Bits.{bits_of};
+ghost use Rattle.wax_program.specs.Bits.{bits_of};
 ghost use Rattle.wax_program.specs.Threads.{HoldsPlace, IsEmpty};
 
 use std::alloc::{AllocError, Global};
@@ -25,6 +25,7 @@ impl Set {
     /// The empty set, with room for the places up to `last`.
     pub fn new(alloc: Global, last: usize) -> Result<Set, AllocError>
         ensures room { IfOk result (λ s. last < length s) }
+        ensures exact { IfOk result (λ s. length s ≡ 64 * (last / 64 + 1)) }
         ensures empty { IfOk result (λ s. IsEmpty s) }
     {
         let words = vec![in alloc; 0u64; last / 64 + 1]?;
@@ -52,6 +53,23 @@ impl Set {
     {
         let word = self.words[at / 64];
         self.words[at / 64] = word & !(1u64 << (at % 64));
+    }
+
+    /// The set as words.
+    #[inline]
+    pub fn words(&self) -> &[u64]
+        ensures same { self.now ≡ bits_of result.now }
+        ensures room { 64 * length result.now ≡ length self.now }
+    {
+        &self.words
+    }
+
+    /// Takes the places of the words for its own.
+    pub fn load(&mut self, words: &[u64])
+        requires { 64 * length words.now ≡ length self.old }
+        ensures { self.new ≡ bits_of words.now }
+    {
+        self.words.copy_from_slice(words);
     }
 
     /// Removes every place.
