@@ -1,0 +1,89 @@
+-- Caches whose states change.
+use Rattle.std.proofs.Common.{◌≡◌, ◌≤◌, ◌<◌, ℕ, ◌+◌, ◌*◌, ◌/◌, slice_get, set, List, [], ◌∷◌, ◌++◌, Option, Some, None, IfSome, length, replicate, refl, sym, ◌∙◌, ap, subst, arith}
+use Rattle.wax_lazy.specs.declared.cache.Cache.{Cache}
+use Rattle.wax_lazy.specs.declared.table.State.{State}
+use Rattle.wax_lazy.specs.inner.Cached.{IsAdded, IsCacheOf, IsCleared, IsRestarted, IsSameMaker}
+use Rattle.wax_lazy.specs.inner.Table.{BeginsTexts, IsState, IsStatePlace, IsTable, IsTransition, KeepsStates, set_at, set_of}
+use Rattle.wax_lazy.proofs.Tables.{begins_keeps, keeps_append, slice_get_end, table_empty, table_filled, table_push}
+use Rattle.wax_program.specs.Bits.{bits_of}
+use Rattle.wax_program.specs.declared.instruction.Instruction.{Instruction}
+
+pub first_keeps : (code : List Instruction) (old new : List State) (start : ℕ) (first : Option ℕ) → KeepsStates old new
+    → IfSome first (BeginsTexts code old start) → IfSome first (BeginsTexts code new start)
+first_keeps code old new start (Some at) keeps b = begins_keeps old new keeps code start at b
+first_keeps code old new start None keeps b = tt
+
+no_first : (code : List Instruction) (states : List State) (start : ℕ) (first : Option ℕ) → first ≡ None → IfSome first (BeginsTexts code states start)
+no_first code states start first e = subst (λ f. IfSome f (BeginsTexts code states start)) (sym e) tt
+
+module _ (code : List Instruction) (old new : Cache) (held : IsCacheOf code old) where
+  size_same : IsSameMaker old new → new.stepper.size ≡ length code
+  size_same m = ap (λ s. s.size) m.stepper ∙ held.size
+
+  start_same : IsSameMaker old new → new.start ≤ length code
+  start_same m = subst (λ n. n ≤ length code) (sym m.start) held.start
+
+  pub cache_cleared : IsCleared old new → IsCacheOf code new
+  cache_cleared c = record {
+    size = size_same c.maker;
+    start = start_same c.maker;
+    table = subst (λ z. IsTable code z new.table.cells.items) (sym c.states) (subst (IsTable code []) (sym c.cells) (table_empty code));
+    first = no_first code new.table.states.items new.start new.first c.first;
+  }
+
+  pub cache_restarted : (s : State) → IsState code s → IsRestarted old new s → IsCacheOf code new
+  cache_restarted s good c = record {
+    size = size_same c.maker;
+    start = start_same c.maker;
+    table = subst (λ z. IsTable code z new.table.cells.items) (sym c.states) (subst (IsTable code (s ∷ [])) (sym c.cells) (table_push code [] [] (table_empty code) s good));
+    first = no_first code new.table.states.items new.start new.first c.first;
+  }
+
+  pub cache_added : (s : State) (number : ℕ) → IsState code s → IsAdded old new s number → IsCacheOf code new
+  cache_added s number good a = record {
+    size = size_same a.maker;
+    start = start_same a.maker;
+    table = subst (λ z. IsTable code z new.table.cells.items) (sym a.states)
+        (subst (IsTable code (old.table.states.items ++ s ∷ [])) (sym a.cells)
+        (table_push code old.table.states.items old.table.cells.items held.table s good));
+    first = subst (λ z. IfSome z (BeginsTexts code new.table.states.items new.start)) (sym a.first)
+        (subst (λ z. IfSome old.first (BeginsTexts code z new.start)) (sym a.states)
+        (subst (λ z. IfSome old.first (BeginsTexts code (old.table.states.items ++ s ∷ []) z)) (sym a.maker.start)
+        (first_keeps code old.table.states.items (old.table.states.items ++ s ∷ []) old.start old.first (keeps_append old.table.states.items (s ∷ [])) held.first)));
+  }
+
+module _ (old new : Cache) (s : State) (number : ℕ) (a : IsAdded old new s number) where
+  pub added_keeps : KeepsStates old.table.states.items new.table.states.items
+  added_keeps =
+      subst (KeepsStates old.table.states.items) (sym a.states) (keeps_append old.table.states.items (s ∷ []))
+
+  pub added_set : (at : ℕ) → at / 128 ≡ number → set_at new.table.states.items (at / 128) ≡ bits_of s.row.items
+  added_set at e =
+      ap (set_at new.table.states.items) (e ∙ a.numbered)
+      ∙ ap (λ z. set_of (slice_get z (length old.table.states.items))) a.states
+      ∙ ap set_of (slice_get_end old.table.states.items s)
+
+pub cache_filled : (code : List Instruction) (old new : Cache) (at c cell : ℕ) → IsCacheOf code old → IsStatePlace old.table.states.items at
+    → IsTransition code old.table.states.items (set_at old.table.states.items (at / 128)) c cell
+    → new.stepper.size ≡ length code → new.start ≡ old.start → new.first ≡ old.first → new.table.states ≡ old.table.states
+    → (c < 128 → new.table.cells.items ≡ set old.table.cells.items (at + c) cell) → (128 ≤ c → new.table.cells.items ≡ old.table.cells.items)
+    → IsCacheOf code new
+cache_filled code old new at c cell held p says sized start first states filled unfilled = record {
+  size = sized;
+  start = subst (λ n. n ≤ length code) (sym start) held.start;
+  table = subst (λ z. IsTable code z.items new.table.cells.items) (sym states)
+      (table_filled code old.table.states.items old.table.cells.items new.table.cells.items at c cell held.table p says filled unfilled);
+  first = subst (λ z. IfSome z (BeginsTexts code new.table.states.items new.start)) (sym first)
+      (subst (λ z. IfSome old.first (BeginsTexts code z.items new.start)) (sym states)
+      (subst (λ n. IfSome old.first (BeginsTexts code old.table.states.items n)) (sym start) held.first));
+}
+
+module _ (old new : Cache) (s : State) (r : IsRestarted old new s) where
+  pub restarted_one : length new.table.states.items ≡ 1
+  restarted_one = ap length r.states
+
+  pub restarted_place : IsStatePlace new.table.states.items 0
+  restarted_place = record { whole = refl; kept = let one = restarted_one in omega (arith, one) }
+
+  pub restarted_set : (t : ℕ) → slice_get old.table.states.items t ≡ Some s → set_at new.table.states.items 0 ≡ set_at old.table.states.items t
+  restarted_set t e = ap (λ z. set_of (slice_get z 0)) r.states ∙ ap set_of (sym e)

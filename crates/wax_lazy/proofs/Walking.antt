@@ -1,0 +1,22 @@
+-- A text that is followed from state to state.
+use Rattle.std.proofs.Common.{◌≡◌, ℕ, ◌↔◌, Bool, true, false, IsTrue, List, [], ◌∷◌, sym, ◌∙◌, subst, true≢false}
+use Rattle.wax_lazy.specs.inner.Table.{BeginsTexts, IsDead, set_at}
+use Rattle.wax_program.specs.declared.instruction.Instruction.{Instruction}
+use Rattle.wax_program.specs.Machine.{Accepts}
+use Rattle.wax_program.specs.Threads.{AnyOf, Stays}
+
+pub stays_begun : (code : List Instruction) (start : ℕ) (text : List ℕ) (place : List Bool)
+    → ((s : List ℕ) → Accepts code start s ↔ AnyOf code place s) → Stays code start text text place
+stays_begun code start text place b = record { onward = (b text).0; backward = (b text).1 }
+
+-- a dead set accepts nothing that is left
+pub dead_decides : (code : List Instruction) (start : ℕ) (text left rest : List ℕ) (place : List Bool) (c : ℕ) → left ≡ c ∷ rest
+    → Stays code start text left place → IsDead code place c → (IsTrue false ↔ Accepts code start text)
+dead_decides code start text left rest place c e s dead =
+    ((λ h. absurd (true≢false (sym h))), (λ h. absurd (dead rest (subst (AnyOf code place) e (s.onward h)))))
+
+-- at the end the state decides
+pub end_decides : (code : List Instruction) (start : ℕ) (text left : List ℕ) (place : List Bool) (b : Bool) → left ≡ []
+    → Stays code start text left place → (IsTrue b ↔ AnyOf code place []) → (IsTrue b ↔ Accepts code start text)
+end_decides code start text left place b e s d =
+    ((λ h. s.backward (subst (AnyOf code place) (sym e) (d.0 h))), (λ h. d.1 (subst (AnyOf code place) e (s.onward h))))

@@ -1,0 +1,16 @@
+use Rattle.std.proofs.Common.{◌≡◌, ◌/◌, IsUtf8}
+use Rattle.std.specs.Str.{chars}
+use Rattle.std.specs.Str.Iter.{chars_rest}
+use Rattle.wax_lazy.specs.inner.Cached.{IsCacheOf}
+use Rattle.wax_lazy.specs.inner.Table.{IsStatePlace, set_at}
+use Rattle.wax_program.specs.Threads.{Stays}
+use Rattle.wax_lazy.proofs.matcher.walk.Given as goal
+
+abbrev pub invariant-loop-c : goal.invariant-loop-c
+invariant-loop-c l = record {
+  utf8 : IsUtf8 (chars_rest l.left);
+  cache : IsCacheOf l.program.0 l.cache;
+  start : l.cache.start ≡ l.fn.cache.start;
+  placed : IsStatePlace l.cache.table.states.items l.at;
+  stays : Stays l.program.0 l.fn.cache.start (chars l.text) (chars (chars_rest l.left)) (set_at l.cache.table.states.items (l.at / 128));
+}

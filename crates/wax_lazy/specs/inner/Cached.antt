@@ -1,0 +1,40 @@
+-- What is kept between texts.
+use Rattle.std.specs.Prelude.{◌≡◌, ℕ, ◌≤◌, List, [], ◌∷◌, ◌++◌, Option, None, IfSome, length, replicate}
+use Rattle.wax_lazy.specs.declared.cache.Cache.{Cache}
+use Rattle.wax_lazy.specs.declared.table.State.{State}
+use Rattle.wax_lazy.specs.inner.Table.{BeginsTexts, IsTable}
+use Rattle.wax_program.specs.declared.instruction.Instruction.{Instruction}
+
+-- the cache was made for a program of these instructions, and all that it says holds of it
+pub record IsCacheOf (code : List Instruction) (c : Cache) : Type 0 where
+  pub size : c.stepper.size ≡ length code
+  pub start : c.start ≤ length code
+  pub table : IsTable code c.table.states.items c.table.cells.items
+  pub first : IfSome c.first (BeginsTexts code c.table.states.items c.start)
+
+-- what doesn't depend on the states is as it was
+pub record IsSameMaker (old new : Cache) : Type 0 where
+  pub stepper : new.stepper ≡ old.stepper
+  pub start : new.start ≡ old.start
+
+-- no state is left
+pub record IsCleared (old new : Cache) : Type 0 where
+  pub maker : IsSameMaker old new
+  pub states : new.table.states.items ≡ []
+  pub cells : new.table.cells.items ≡ []
+  pub first : new.first ≡ None
+
+-- one state is left, with empty cells
+pub record IsRestarted (old new : Cache) (s : State) : Type 0 where
+  pub maker : IsSameMaker old new
+  pub states : new.table.states.items ≡ s ∷ []
+  pub cells : new.table.cells.items ≡ replicate 128 0
+  pub first : new.first ≡ None
+
+-- the state was added behind the others, with empty cells, under this number
+pub record IsAdded (old new : Cache) (s : State) (number : ℕ) : Type 0 where
+  pub maker : IsSameMaker old new
+  pub numbered : number ≡ length old.table.states.items
+  pub states : new.table.states.items ≡ old.table.states.items ++ s ∷ []
+  pub cells : new.table.cells.items ≡ old.table.cells.items ++ replicate 128 0
+  pub first : new.first ≡ old.first

@@ -1,0 +1,244 @@
+//! What is kept of a program between texts.
+ghost use Rattle.std.specs.Prelude.{◌≡◌, ◌*◌, ◌/◌, ◌<◌, ◌≤◌, ◌↔◌, [], List, IfOk, IsFalse, IsTrue, OnErr, Some};
+ghost use Rattle.std.specs.Prelude.{length, slice_get};
+ghost use Rattle.wax_lazy.specs.declared.table.State.{State};
+ghost use Rattle.wax_lazy.specs.inner.Cached.{IsAdded, IsCacheOf, IsCleared, IsRestarted};
+ghost use Rattle.wax_lazy.specs.inner.Table.{BeginsTexts, IsStatePlace, KeepsStates, Leads, set_at};
+ghost use Rattle.wax_program.specs.declared.instruction.Instruction.{Instruction};
+ghost use Rattle.wax_program.specs.Threads.{AnyOf};
+
+use crate::table::{COLUMNS, DEAD, FIRST, State, Table};
+use std::alloc::{AllocError, Global};
+use wax_program::{Program, Stepper};
+
+/// The states that texts led to so far, and what finds the next ones.
+#[derive(Drop)]
+pub struct Cache {
+    alloc: Global,
+    stepper: Stepper,
+    table: Table,
+    /// The place that texts are begun at.
+    start: usize,
+    /// Where the cells of the state begin that texts are begun in.
+    first: Option<usize>,
+    /// How many states are kept at most.
+    most: u16,
+}
+
+impl Cache {
+    /// Makes an empty cache for texts that are begun at the place `start`.
+    ///
+    /// # Errors
+    /// `AllocError` if allocation fails.
+    pub fn new(
+        alloc: Global,
+        program: &Program,
+        start: usize,
+        most: u16,
+    ) -> Result<Cache, AllocError>
+        requires { start ≤ length program.now.0 }
+        ensures cache { IfOk result (IsCacheOf program.now.0) }
+        ensures start { IfOk result (λ c. c.start ≡ start) }
+    {
+        let stepper = Stepper::new(alloc, program.size())?;
+        let table = Table::new(alloc)?;
+        Ok(Cache {
+            alloc,
+            stepper,
+            table,
+            start,
+            first: None,
+            most,
+        })
+    }
+
+    /// Returns where the cells of the state begin that texts are begun in.
+    ///
+    /// # Errors
+    /// `AllocError` if allocation fails.
+    pub fn begin(&mut self, program: &Program) -> Result<usize, AllocError>
+        requires { IsCacheOf program.now.0 self.old }
+        ensures cache { IsCacheOf program.now.0 self.new }
+        ensures start { self.new.start ≡ self.old.start }
+        ensures begins { IfOk result (BeginsTexts program.now.0 self.new.table.states.items self.old.start) }
+    {
+        if let Some(at) = self.first {
+            return Ok(at);
+        }
+        self.clear();
+        self.stepper.begin(program, self.start);
+        let at = self.intern(program)?;
+        self.first = Some(at);
+        Ok(at)
+    }
+
+    /// Returns where the cells of the state begin that the character leads to, or `None` if no text is
+    /// accepted that goes on by it.
+    ///
+    /// # Errors
+    /// `AllocError` if allocation fails.
+    #[inline]
+    pub fn advance(
+        &mut self,
+        program: &Program,
+        at: usize,
+        c: char,
+    ) -> Result<Option<usize>, AllocError>
+        requires cache { IsCacheOf program.now.0 self.old }
+        requires placed { IsStatePlace self.old.table.states.items at }
+        ensures cache { IsCacheOf program.now.0 self.new }
+        ensures start { self.new.start ≡ self.old.start }
+        ensures leads { let set = set_at self.old.table.states.items (at / 128) in
+            IfOk result (Leads program.now.0 self.new.table.states.items set c) }
+    {
+        if c.is_ascii() {
+            return self.advance_ascii(program, at, c as u8);
+        }
+        self.fill(program, at, c)
+    }
+
+    /// Returns the same for an ASCII character, as its byte. Once its cell is filled, that takes a load and a
+    /// comparison.
+    ///
+    /// # Errors
+    /// `AllocError` if allocation fails.
+    #[inline(always)]
+    pub fn advance_ascii(
+        &mut self,
+        program: &Program,
+        at: usize,
+        c: u8,
+    ) -> Result<Option<usize>, AllocError>
+        requires cache { IsCacheOf program.now.0 self.old }
+        requires placed { IsStatePlace self.old.table.states.items at }
+        requires ascii { c < 128 }
+        ensures cache { IsCacheOf program.now.0 self.new }
+        ensures start { self.new.start ≡ self.old.start }
+        ensures leads { let set = set_at self.old.table.states.items (at / 128) in
+            IfOk result (Leads program.now.0 self.new.table.states.items set c) }
+    {
+        let cell = self.table.cells[at + usize::from(c)];
+        if cell >= FIRST {
+            return Ok(Some((cell - FIRST) as usize));
+        }
+        if cell == DEAD {
+            return Ok(None);
+        }
+        self.fill(program, at, char::from(c))
+    }
+
+    /// Returns the same by a step of the program, and fills the cell of an ASCII character. If the cache is
+    /// full, it forgets all other states before.
+    #[inline(never)]
+    fn fill(&mut self, program: &Program, at: usize, c: char) -> Result<Option<usize>, AllocError>
+        requires cache { IsCacheOf program.now.0 self.old }
+        requires placed { IsStatePlace self.old.table.states.items at }
+        ensures cache { IsCacheOf program.now.0 self.new }
+        ensures start { self.new.start ≡ self.old.start }
+        ensures leads { let set = set_at self.old.table.states.items (at / 128) in
+            IfOk result (Leads program.now.0 self.new.table.states.items set c) }
+    {
+        if self.is_full() {
+            self.restart(at)?;
+            return self.follow(program, 0, c);
+        }
+        self.follow(program, at, c)
+    }
+
+    /// Returns the same while there is room for one more state.
+    fn follow(&mut self, program: &Program, at: usize, c: char) -> Result<Option<usize>, AllocError>
+        requires cache { IsCacheOf program.now.0 self.old }
+        requires placed { IsStatePlace self.old.table.states.items at }
+        requires few { length self.old.table.states.items < 65535 }
+        ensures cache { IsCacheOf program.now.0 self.new }
+        ensures start { self.new.start ≡ self.old.start }
+        ensures leads { let set = set_at self.old.table.states.items (at / 128) in
+            IfOk result (Leads program.now.0 self.new.table.states.items set c) }
+    {
+        self.stepper.step(program, self.table.row(at), c);
+        if self.stepper.is_empty() {
+            self.table.write(at, c, DEAD);
+            return Ok(None);
+        }
+        let next = self.intern(program)?;
+        self.table.write(at, c, next as u32 + FIRST);
+        Ok(Some(next))
+    }
+
+    /// Returns where the cells of the state begin whose set the stepper reached, which is added if it is new.
+    fn intern(&mut self, program: &Program) -> Result<usize, AllocError>
+        requires cache { IsCacheOf program.now.0 self.old }
+        requires few { length self.old.table.states.items < 65535 }
+        ensures cache { IsCacheOf program.now.0 self.new }
+        ensures start { self.new.start ≡ self.old.start }
+        ensures placed { IfOk result (IsStatePlace self.new.table.states.items) }
+        ensures small { IfOk result (λ at. at < 8388480) }
+        ensures set { IfOk result
+            (λ at. set_at self.new.table.states.items (at / 128) ≡ self.old.stepper.places) }
+        ensures kept { IfOk result
+            (λ _. KeepsStates self.old.table.states.items self.new.table.states.items) }
+    {
+        if let Some(number) = self.table.find(self.stepper.row()) {
+            return Ok(number * COLUMNS);
+        }
+        let row = Vec::from_slice(self.alloc, self.stepper.row())?;
+        let accepts = self.stepper.accepts(program, &row);
+        let number = self.keep(State { row, accepts })?;
+        Ok(number * COLUMNS)
+    }
+
+    /// Adds a state and returns its number. If that fails, every state is forgotten.
+    fn keep(&mut self, state: State) -> Result<usize, AllocError>
+        requires few { length self.old.table.states.items < 65535 }
+        requires room { length self.old.table.cells.items ≡ 128 * length self.old.table.states.items }
+        ensures ok { IfOk result (IsAdded self.old self.new state) }
+        ensures err { OnErr result (IsCleared self.old self.new) }
+    {
+        match self.table.push(state) {
+            Ok(number) => Ok(number),
+            Err(error) => {
+                self.clear();
+                Err(error)
+            }
+        }
+    }
+
+    /// Forgets all states but the one whose cells begin at `at`, which is the first one then.
+    fn restart(&mut self, at: usize) -> Result<(), AllocError>
+        requires { at / 128 < length self.old.table.states.items }
+        ensures ok { (s : State) → slice_get self.old.table.states.items (at / 128) ≡ Some s
+            → IfOk result (λ _. IsRestarted self.old self.new s) }
+        ensures err { OnErr result (IsCleared self.old self.new) }
+    {
+        let state = self.table.take(at);
+        self.clear();
+        self.keep(state)?;
+        Ok(())
+    }
+
+    /// Forgets every state.
+    fn clear(&mut self)
+        ensures { IsCleared self.old self.new }
+    {
+        self.table.clear();
+        self.first = None;
+    }
+
+    /// Returns whether no more states are to be kept.
+    #[inline]
+    fn is_full(&self) -> bool
+        ensures { IsFalse result → length self.now.table.states.items < 65535 }
+    {
+        self.table.states.len() >= usize::from(self.most)
+    }
+
+    /// Returns whether the state whose cells begin at `at` accepts the empty text.
+    #[inline]
+    pub fn accepts(&self, at: usize) -> bool
+        requires { IsStatePlace self.now.table.states.items at }
+        ensures { (code : List Instruction) → IsCacheOf code self.now
+            → IsTrue result ↔ AnyOf code (set_at self.now.table.states.items (at / 128)) [] }
+    {
+        self.table.accepts(at)
+    }
+}

@@ -1,0 +1,9 @@
+//! A program that is run over many texts: the sets of places that it reaches are kept, with where each
+//! character leads from them.
+#![tactic(auto)]
+
+mod cache;
+mod matcher;
+mod table;
+
+pub use matcher::Matcher;
