@@ -1,5 +1,5 @@
 -- A text that is followed from state to state.
-use Rattle.std.proofs.Common.{◌≡◌, ℕ, ◌↔◌, Bool, true, false, IsTrue, List, [], ◌∷◌, sym, ◌∙◌, subst, true≢false}
+use Rattle.std.proofs.Common.{◌≡◌, ℕ, suc, ◌+◌, ◌<◌, ◌↔◌, Bool, true, false, IsTrue, List, [], ◌∷◌, length, get_or, drop, sym, ◌∙◌, ap, subst, true≢false, arith, drop-cons}
 use Rattle.wax_lazy.specs.inner.Table.{BeginsTexts, IsDead, set_at}
 use Rattle.wax_program.specs.declared.instruction.Instruction.{Instruction}
 use Rattle.wax_program.specs.Machine.{Accepts}
@@ -20,3 +20,12 @@ pub end_decides : (code : List Instruction) (start : ℕ) (text left : List ℕ)
     → Stays code start text left place → (IsTrue b ↔ AnyOf code place []) → (IsTrue b ↔ Accepts code start text)
 end_decides code start text left place b e s d =
     ((λ h. s.backward (subst (AnyOf code place) (sym e) (d.0 h))), (λ h. d.1 (subst (AnyOf code place) e (s.onward h))))
+
+pub next_of : (text : List ℕ) (i : ℕ) → i < length text → drop i text ≡ get_or text i 0 ∷ drop (i + 1) text
+next_of text i lt =
+    let one : suc i ≡ i + 1 = omega arith in
+    drop-cons text i 0 lt ∙ ap (λ k. get_or text i 0 ∷ drop k text) one
+
+-- what decides a fact decides another that holds exactly where it does
+pub decides_by : (b : Bool) (A B : Type 0) → B ↔ A → (IsTrue b ↔ B) → (IsTrue b ↔ A)
+decides_by b A B e d = ((λ h. e.0 (d.0 h)), (λ a. d.1 (e.1 a)))

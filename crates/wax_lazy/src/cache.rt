@@ -11,6 +11,12 @@ use crate::table::{COLUMNS, DEAD, FIRST, State, Table};
 use std::alloc::{AllocError, Global};
 use wax_program::{Program, Stepper};
 
+/// How many bytes of texts a state has to serve, on average, so that keeping it is worth its making.
+const LEAST_READ: usize = 10;
+
+/// How many bytes a state takes beside its row: those of its cells, and some forty.
+const STATE_BYTES: usize = 552;
+
 /// The states that texts led to so far, and what finds the next ones.
 #[derive(Drop)]
 pub struct Cache {
@@ -23,10 +29,15 @@ pub struct Cache {
     first: Option<usize>,
     /// How many states are kept at most.
     most: u16,
+    /// How many bytes of texts were read since the states were last forgotten.
+    read: usize,
+    /// Whether states were forgotten again before they had served enough text.
+    pub gives_up: bool,
 }
 
 impl Cache {
-    /// Makes an empty cache for texts that are begun at the place `start`.
+    /// Makes an empty cache for texts that are begun at the place `start`, which keeps about so many bytes at
+    /// most.
     ///
     /// # Errors
     /// `AllocError` if allocation fails.
@@ -34,7 +45,7 @@ impl Cache {
         alloc: Global,
         program: &Program,
         start: usize,
-        most: u16,
+        most_bytes: usize,
     ) -> Result<Cache, AllocError>
         requires { start ≤ length program.now.0 }
         ensures cache { IfOk result (IsCacheOf program.now.0) }
@@ -48,20 +59,23 @@ impl Cache {
             table,
             start,
             first: None,
-            most,
+            most: most_states(program.size(), most_bytes),
+            read: 0,
+            gives_up: false,
         })
     }
 
-    /// Returns where the cells of the state begin that texts are begun in.
+    /// Returns where the cells of the state begin that texts are begun in, for a text of `len` bytes.
     ///
     /// # Errors
     /// `AllocError` if allocation fails.
-    pub fn begin(&mut self, program: &Program) -> Result<usize, AllocError>
+    pub fn begin(&mut self, program: &Program, len: usize) -> Result<usize, AllocError>
         requires { IsCacheOf program.now.0 self.old }
         ensures cache { IsCacheOf program.now.0 self.new }
         ensures start { self.new.start ≡ self.old.start }
         ensures begins { IfOk result (BeginsTexts program.now.0 self.new.table.states.items self.old.start) }
     {
+        self.read = self.read.saturating_add(len);
         if let Some(at) = self.first {
             return Ok(at);
         }
@@ -210,6 +224,10 @@ impl Cache {
             → IfOk result (λ _. IsRestarted self.old self.new s) }
         ensures err { OnErr result (IsCleared self.old self.new) }
     {
+        if self.read / LEAST_READ < self.table.states.len() {
+            self.gives_up = true;
+        }
+        self.read = 0;
         let state = self.table.take(at);
         self.clear();
         self.keep(state)?;
@@ -241,4 +259,11 @@ impl Cache {
     {
         self.table.accepts(at)
     }
+}
+
+/// Returns how many states of a program of `size` instructions fit so many bytes, from 16 to 4,096.
+fn most_states(size: usize, bytes: usize) -> u16 {
+    let row = (size / 64 + 1) * 8;
+    let fitting = bytes / (STATE_BYTES + row);
+    fitting.max(16).min(4_096) as u16
 }

@@ -5,5 +5,6 @@
 mod cache;
 mod matcher;
 mod table;
+mod walk;
 
 pub use matcher::Matcher;

@@ -1,12 +1,12 @@
 //! A program that is asked for many texts.
-ghost use Rattle.std.specs.Prelude.{◌≡◌, ◌≤◌, ◌↔◌, IfOk, IsTrue, chars};
-ghost use Rattle.wax_lazy.specs.inner.Cached.{IsCacheOf};
+ghost use Rattle.std.specs.Prelude.{◌≡◌, ◌↔◌, IfOk, IsTrue, chars};
 ghost use Rattle.wax_program.specs.Machine.{Accepts};
 
 use crate::cache::Cache;
-use std::alloc::{AllocError, Global};
+use crate::walk::walk;
+use std::alloc::Global;
 use std::marker::Model;
-use wax_program::{Meter, Program, run};
+use wax_program::{Meter, Program, last_name, reads_last, run};
 use wax_query::diagnostics::NoMemory;
 
 /// How many bytes states and their cells may take.
@@ -17,25 +17,30 @@ const LEAST_SIZE: usize = 64;
 
 /// Decides texts by a program, and keeps for later texts which sets of places earlier ones led to.
 pub struct Matcher<'p> {
+    alloc: Global,
     program: &'p Program,
+    /// Whether only the last component of a text matters.
+    reads_last: bool,
     cache: Cache,
 }
 
 impl Drop for Matcher<'_> {
     fn drop(self) {
         let Matcher {
+            alloc: _,
             program: _,
+            reads_last: _,
             cache: _,
         } = self;
     }
 }
 
 impl<'p> Model for Matcher<'p> {
-    ghost use Rattle.std.specs.Prelude.{◌≡◌, List};
+    ghost use Rattle.std.specs.Prelude.{List};
     ghost use Rattle.std.specs.Coded.{coded_list};
     ghost use Rattle.wax_program.specs.declared.instruction.Instruction.{Instruction};
     ghost use Rattle.wax_program.specs.contracts.instruction.Instruction as instruction;
-    ghost use Rattle.wax_lazy.specs.inner.Cached.{IsCacheOf};
+    ghost use Rattle.wax_lazy.specs.inner.Cached.{IsMatcherOf};
 
     ghost Value = { List Instruction };
 
@@ -43,22 +48,52 @@ impl<'p> Model for Matcher<'p> {
 
     ghost view = { λ m. m.program.now.0 };
 
-    ghost invariant = { λ m. IsCacheOf m.program.now.0 m.cache × (m.cache.start ≡ 0) };
+    ghost invariant = { λ m. IsMatcherOf m.program.now.0 m.reads_last m.cache };
 }
 
 impl<'p> Matcher<'p> {
-    /// Makes a matcher that has seen no text.
+    /// Makes a matcher that has seen no text, and keeps about 2 MiB at most.
     ///
     /// # Errors
     /// `NoMemory` if allocation fails.
     pub fn new(alloc: Global, program: &'p Program) -> Result<Matcher<'p>, NoMemory>
         ensures { IfOk result (λ m. m ≡ program.now.0) }
     {
-        let cache = Cache::new(alloc, program, 0, 4_096)?;
-        Ok(Matcher { program, cache })
+        Matcher::with_most(alloc, program, MOST_BYTES)
     }
 
-    /// Returns whether the program accepts the text.
+    /// Makes a matcher that has seen no text, and keeps about so many bytes at most, though never less than
+    /// 16 states need.
+    ///
+    /// # Errors
+    /// `NoMemory` if allocation fails.
+    pub fn with_most(
+        alloc: Global,
+        program: &'p Program,
+        most_bytes: usize,
+    ) -> Result<Matcher<'p>, NoMemory>
+        ensures { IfOk result (λ m. m ≡ program.now.0) }
+    {
+        if reads_last(program) && program.size() >= LEAST_SIZE {
+            let cache = Cache::new(alloc, program, 2, most_bytes)?;
+            return Ok(Matcher {
+                alloc,
+                program,
+                reads_last: true,
+                cache,
+            });
+        }
+        let cache = Cache::new(alloc, program, 0, most_bytes)?;
+        Ok(Matcher {
+            alloc,
+            program,
+            reads_last: false,
+            cache,
+        })
+    }
+
+    /// Returns whether the program accepts the text. Once the states are known that the text leads to, that
+    /// takes a load and a comparison for each ASCII character, and one round of the program for any other.
     ///
     /// # Errors
     /// `NoMemory` if allocation fails. The matcher is good for further texts then.
@@ -66,24 +101,12 @@ impl<'p> Matcher<'p> {
         ensures decides { IfOk result (λ b. IsTrue b ↔ Accepts self.old 0 (chars text.now)) }
         ensures same { self.new ≡ self.old }
     {
+        if self.program.size() < LEAST_SIZE || self.cache.gives_up {
+            return run(self.alloc, self.program, text, &mut Meter::new());
+        }
+        if self.reads_last {
+            return Ok(walk(self.program, &mut self.cache, last_name(text))?);
+        }
         Ok(walk(self.program, &mut self.cache, text)?)
     }
-}
-
-/// Returns whether the program accepts the text from the place on at which the cache begins texts.
-fn walk(program: &Program, cache: &mut Cache, text: &str) -> Result<bool, AllocError>
-    requires { IsCacheOf program.now.0 cache.old }
-    ensures cache { IsCacheOf program.now.0 cache.new }
-    ensures start { cache.new.start ≡ cache.old.start }
-    ensures decides { IfOk result (λ b. IsTrue b ↔ Accepts program.now.0 cache.old.start (chars text.now)) }
-{
-    let mut at = cache.begin(program)?;
-    let mut left = text.chars();
-    while let Some(c) = left.next() {
-        match cache.advance(program, at, c)? {
-            Some(next) => at = next,
-            None => return Ok(false),
-        }
-    }
-    Ok(cache.accepts(at))
 }

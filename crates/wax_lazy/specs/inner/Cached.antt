@@ -1,9 +1,10 @@
 -- What is kept between texts.
-use Rattle.std.specs.Prelude.{◌≡◌, ℕ, ◌≤◌, List, [], ◌∷◌, ◌++◌, Option, None, IfSome, length, replicate}
+use Rattle.std.specs.Prelude.{◌≡◌, ℕ, ◌≤◌, List, [], ◌∷◌, ◌++◌, Bool, Option, None, IfSome, IsFalse, IsTrue, length, replicate}
 use Rattle.wax_lazy.specs.declared.cache.Cache.{Cache}
 use Rattle.wax_lazy.specs.declared.table.State.{State}
 use Rattle.wax_lazy.specs.inner.Table.{BeginsTexts, IsTable}
 use Rattle.wax_program.specs.declared.instruction.Instruction.{Instruction}
+use Rattle.wax_program.specs.Last.{ReadsLast}
 
 -- the cache was made for a program of these instructions, and all that it says holds of it
 pub record IsCacheOf (code : List Instruction) (c : Cache) : Type 0 where
@@ -38,3 +39,10 @@ pub record IsAdded (old new : Cache) (s : State) (number : ℕ) : Type 0 where
   pub states : new.table.states.items ≡ old.table.states.items ++ s ∷ []
   pub cells : new.table.cells.items ≡ old.table.cells.items ++ replicate 128 0
   pub first : new.first ≡ old.first
+
+-- a matcher of a program of these instructions, which reads the last component alone where the flag says so
+pub record IsMatcherOf (code : List Instruction) (reads_last : Bool) (c : Cache) : Type 0 where
+  pub cache : IsCacheOf code c
+  pub last : IsTrue reads_last → ReadsLast code
+  pub name : IsTrue reads_last → c.start ≡ 2
+  pub whole : IsFalse reads_last → c.start ≡ 0

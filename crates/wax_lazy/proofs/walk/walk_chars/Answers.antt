@@ -7,7 +7,7 @@ use Rattle.wax_lazy.specs.inner.Table.{set_at}
 use Rattle.wax_lazy.proofs.Walking.{dead_decides, end_decides, stays_begun}
 use Rattle.wax_program.specs.Threads.{Stays}
 use Rattle.wax_program.proofs.Advancing.{stays_step}
-use Rattle.wax_lazy.proofs.matcher.walk.Goals as goal
+use Rattle.wax_lazy.proofs.walk.walk_chars.Goals as goal
 
 pub loop-c-init : goal.loop-c-init
 loop-c-init c =

@@ -4,7 +4,7 @@ use Rattle.std.specs.Str.Iter.{chars_rest}
 use Rattle.wax_lazy.specs.inner.Cached.{IsCacheOf}
 use Rattle.wax_lazy.specs.inner.Table.{IsStatePlace, set_at}
 use Rattle.wax_program.specs.Threads.{Stays}
-use Rattle.wax_lazy.proofs.matcher.walk.Given as goal
+use Rattle.wax_lazy.proofs.walk.walk_chars.Given as goal
 
 abbrev pub invariant-loop-c : goal.invariant-loop-c
 invariant-loop-c l = record {

@@ -1,0 +1,63 @@
+//! How a text is followed from state to state.
+ghost use Rattle.std.specs.Prelude.{◌≡◌, ◌↔◌, IfOk, IsTrue, chars};
+ghost use Rattle.std.specs.Str.{IsAscii};
+ghost use Rattle.wax_lazy.specs.inner.Cached.{IsCacheOf};
+ghost use Rattle.wax_program.specs.Machine.{Accepts};
+
+use crate::cache::Cache;
+use std::alloc::AllocError;
+use wax_program::Program;
+
+/// Returns whether the program accepts the text from the place on at which the cache begins texts.
+///
+/// # Errors
+/// `AllocError` if allocation fails.
+pub fn walk(program: &Program, cache: &mut Cache, text: &str) -> Result<bool, AllocError>
+    requires { IsCacheOf program.now.0 cache.old }
+    ensures cache { IsCacheOf program.now.0 cache.new }
+    ensures start { cache.new.start ≡ cache.old.start }
+    ensures decides { IfOk result
+        (λ b. IsTrue b ↔ Accepts program.now.0 cache.old.start (chars text.now)) }
+{
+    if text.is_ascii() {
+        return walk_ascii(program, cache, text.as_bytes());
+    }
+    walk_chars(program, cache, text)
+}
+
+/// Returns the same for the bytes of a text whose characters are all ASCII.
+fn walk_ascii(program: &Program, cache: &mut Cache, text: &[u8]) -> Result<bool, AllocError>
+    requires cache { IsCacheOf program.now.0 cache.old }
+    requires ascii { IsAscii text.now }
+    ensures cache { IsCacheOf program.now.0 cache.new }
+    ensures start { cache.new.start ≡ cache.old.start }
+    ensures decides { IfOk result (λ b. IsTrue b ↔ Accepts program.now.0 cache.old.start text.now) }
+{
+    let mut at = cache.begin(program, text.len())?;
+    for byte in text {
+        match cache.advance_ascii(program, at, *byte)? {
+            Some(next) => at = next,
+            None => return Ok(false),
+        }
+    }
+    Ok(cache.accepts(at))
+}
+
+/// Returns the same for any text.
+fn walk_chars(program: &Program, cache: &mut Cache, text: &str) -> Result<bool, AllocError>
+    requires { IsCacheOf program.now.0 cache.old }
+    ensures cache { IsCacheOf program.now.0 cache.new }
+    ensures start { cache.new.start ≡ cache.old.start }
+    ensures decides { IfOk result
+        (λ b. IsTrue b ↔ Accepts program.now.0 cache.old.start (chars text.now)) }
+{
+    let mut at = cache.begin(program, text.len())?;
+    let mut left = text.chars();
+    while let Some(c) = left.next() {
+        match cache.advance(program, at, c)? {
+            Some(next) => at = next,
+            None => return Ok(false),
+        }
+    }
+    Ok(cache.accepts(at))
+}
