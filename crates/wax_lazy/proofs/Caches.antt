@@ -1,5 +1,5 @@
 -- Caches whose states change.
-use Rattle.std.proofs.Common.{◌≡◌, ◌≤◌, ◌<◌, ℕ, ◌+◌, ◌*◌, ◌/◌, slice_get, set, List, [], ◌∷◌, ◌++◌, Option, Some, None, IfSome, length, replicate, refl, sym, ◌∙◌, ap, subst, arith}
+use Rattle.std.proofs.Common.{◌≡◌, ◌≤◌, ◌<◌, ℕ, ◌+◌, ◌/◌, slice_get, set, List, [], ◌∷◌, ◌++◌, Option, Some, None, IfSome, length, refl, sym, ◌∙◌, ap, subst, arith}
 use Rattle.wax_lazy.specs.declared.cache.Cache.{Cache}
 use Rattle.wax_lazy.specs.declared.table.State.{State}
 use Rattle.wax_lazy.specs.inner.Cached.{IsAdded, IsCacheOf, IsCleared, IsRestarted, IsSameMaker}

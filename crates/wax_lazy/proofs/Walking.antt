@@ -1,6 +1,6 @@
 -- A text that is followed from state to state.
-use Rattle.std.proofs.Common.{◌≡◌, ℕ, suc, ◌+◌, ◌<◌, ◌↔◌, Bool, true, false, IsTrue, List, [], ◌∷◌, length, get_or, drop, sym, ◌∙◌, ap, subst, true≢false, arith, drop-cons}
-use Rattle.wax_lazy.specs.inner.Table.{BeginsTexts, IsDead, set_at}
+use Rattle.std.proofs.Common.{◌≡◌, ℕ, suc, ◌+◌, ◌<◌, ◌↔◌, Bool, false, IsTrue, List, [], ◌∷◌, length, get_or, drop, sym, ◌∙◌, ap, subst, true≢false, arith, drop-cons}
+use Rattle.wax_lazy.specs.inner.Table.{IsDead}
 use Rattle.wax_program.specs.declared.instruction.Instruction.{Instruction}
 use Rattle.wax_program.specs.Machine.{Accepts}
 use Rattle.wax_program.specs.Threads.{AnyOf, Stays}

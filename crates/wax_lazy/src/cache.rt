@@ -1,5 +1,6 @@
 //! What is kept of a program between texts.
-ghost use Rattle.std.specs.Prelude.{◌≡◌, ◌*◌, ◌/◌, ◌<◌, ◌≤◌, ◌↔◌, [], List, IfOk, IsFalse, IsTrue, OnErr, Some};
+ghost use Rattle.std.specs.Prelude.{◌≡◌, ◌*◌, ◌/◌, ◌<◌, ◌≤◌, ◌↔◌, [], List, IfOk, IsFalse, IsTrue, OnErr};
+ghost use Rattle.std.specs.Prelude.{Some};
 ghost use Rattle.std.specs.Prelude.{length, slice_get};
 ghost use Rattle.wax_lazy.specs.declared.table.State.{State};
 ghost use Rattle.wax_lazy.specs.inner.Cached.{IsAdded, IsCacheOf, IsCleared, IsRestarted};

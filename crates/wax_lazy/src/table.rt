@@ -166,7 +166,7 @@ fn slot_at(slots: &[u16], hash: usize, probe: usize) -> u16 {
     }
 }
 
-/// Writes the slot at the first empty place from the hash on. Where no place is empty, nothing is written, and
+/// Writes the slot at the first empty place from the hash on. If no place is empty, nothing is written, and
 /// the state isn't found again.
 fn enter(slots: &mut [u16], hash: usize, slot: u16) {
     for probe in 0..SLOTS {

@@ -1,5 +1,6 @@
 //! Sets of places, one bit each.
-ghost use Rattle.std.specs.Prelude.{◌≡◌, ◌+◌, ◌*◌, ◌/◌, ◌^◌, ◌<◌, ◌≤◌, ℕ, Bool, List, IfOk, MatchOption, length};
+ghost use Rattle.std.specs.Prelude.{◌≡◌, ◌+◌, ◌*◌, ◌/◌, ◌^◌, ◌<◌, ◌≤◌, ℕ, Bool, List, IfOk, MatchOption};
+ghost use Rattle.std.specs.Prelude.{length};
 ghost use Rattle.std.specs.Prelude.{slice_index_or, slice_set, true, false};
 ghost use Rattle.wax_program.specs.Bits.{bits_of};
 ghost use Rattle.wax_program.specs.Threads.{HoldsPlace, IsEmpty};

@@ -1,5 +1,6 @@
 -- Sets of places that were reached, and where characters lead from them.
-use Rattle.std.specs.Prelude.{◌≡◌, ℕ, ◌+◌, ◌*◌, ◌/◌, ◌%◌, ◌<◌, ◌⊎◌, ◌↔◌, Bool, List, [], ◌∷◌, Option, Some, None, IsTrue, length}
+use Rattle.std.specs.Prelude.{◌≡◌, ℕ, ◌+◌, ◌*◌, ◌/◌, ◌%◌, ◌<◌, ◌⊎◌, ◌↔◌, Bool, List, [], ◌∷◌, Option, Some}
+use Rattle.std.specs.Prelude.{None, IsTrue, length}
 use Rattle.std.specs.Prelude.{slice_get, slice_index}
 use Rattle.wax_lazy.specs.declared.table.State.{State}
 use Rattle.wax_program.specs.declared.instruction.Instruction.{Instruction}

@@ -1,4 +1,4 @@
-use Rattle.std.proofs.Common.{◌≡◌, ◌+◌, ◌<◌, ◌∷◌, List, ℕ, length, get_or, drop, ◌∙◌, arith}
+use Rattle.std.proofs.Common.{List, ℕ, ◌∙◌, arith}
 use Rattle.wax_lazy.proofs.Walking.{dead_decides, next_of, stays_begun}
 use Rattle.wax_program.proofs.Advancing.{stays_step}
 use Rattle.wax_lazy.proofs.walk.walk_ascii.Goals as goal

@@ -1,11 +1,9 @@
-use Rattle.std.proofs.Common.{◌≡◌, ◌/◌, ◌∷◌, [], ℕ, List, sym, ◌∙◌, ap, subst}
+use Rattle.std.proofs.Common.{◌≡◌, ◌∷◌, [], ℕ, List, ◌∙◌, ap}
 use Rattle.std.proofs.lemmas.List.{nil_from_length}
 use Rattle.std.proofs.lemmas.Str.{IsUtf8-past_char, chars-nil, chars_past_char}
 use Rattle.std.specs.Str.{chars}
 use Rattle.std.specs.Str.Iter.{chars_rest}
-use Rattle.wax_lazy.specs.inner.Table.{set_at}
 use Rattle.wax_lazy.proofs.Walking.{dead_decides, end_decides, stays_begun}
-use Rattle.wax_program.specs.Threads.{Stays}
 use Rattle.wax_program.proofs.Advancing.{stays_step}
 use Rattle.wax_lazy.proofs.walk.walk_chars.Goals as goal
 

@@ -1,4 +1,4 @@
-use Rattle.std.proofs.Common.{◌≡◌, ◌+◌, ◌<◌, ◌≤◌, ◌/◌, length, get_or, sym, ◌∙◌, ap, subst, arith}
+use Rattle.std.proofs.Common.{◌≡◌, ◌+◌, ◌<◌, ◌/◌, length, get_or, sym, subst}
 use Rattle.std.proofs.lemmas.List.{get_or_read}
 use Rattle.wax_lazy.specs.inner.Table.{IsTransition, set_at}
 use Rattle.wax_lazy.proofs.Tables.{leads_nowhere, leads_on, place_inside, says_at}

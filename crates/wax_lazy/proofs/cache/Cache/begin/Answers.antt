@@ -1,8 +1,6 @@
-use Rattle.std.proofs.Common.{◌≡◌, ◌↔◌, ℕ, List, sym, ◌∙◌, subst}
+use Rattle.std.proofs.Common.{sym, subst}
 use Rattle.wax_lazy.specs.inner.Table.{BeginsTexts}
 use Rattle.wax_lazy.proofs.Tables.{begun}
-use Rattle.wax_program.specs.Machine.{Accepts}
-use Rattle.wax_program.specs.Threads.{AnyOf}
 use Rattle.wax_lazy.proofs.cache.Cache.begin.Goals as goal
 
 pub returns-clause-cache : goal.returns-clause-cache

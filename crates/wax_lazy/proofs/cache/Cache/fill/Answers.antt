@@ -1,4 +1,4 @@
-use Rattle.std.proofs.Common.{◌≡◌, ◌/◌, Some, IfOk, length, refl, sym, ◌∙◌, ap, subst, arith, slice_get}
+use Rattle.std.proofs.Common.{◌/◌, IfOk, ◌∙◌, subst, arith}
 use Rattle.wax_lazy.specs.inner.Table.{Leads}
 use Rattle.wax_lazy.proofs.Caches.{cache_restarted, restarted_one, restarted_place, restarted_set}
 use Rattle.wax_lazy.proofs.Tables.{state_at}

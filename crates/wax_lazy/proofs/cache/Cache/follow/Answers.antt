@@ -1,8 +1,7 @@
-use Rattle.std.proofs.Common.{◌≡◌, ◌+◌, ◌/◌, refl, sym, ◌∙◌, ap, subst, inl, inr, rules}
+use Rattle.std.proofs.Common.{◌+◌, ◌/◌, refl, sym, ◌∙◌, subst, inl, inr, rules}
 use Rattle.wax_lazy.specs.inner.Table.{IsDead, set_at}
 use Rattle.wax_lazy.proofs.Caches.{cache_filled}
 use Rattle.wax_lazy.proofs.Tables.{dead_of_empty, led, placed_keeps, row_set, set_keeps}
-use Rattle.wax_program.specs.Bits.{bits_of}
 use Rattle.wax_program.specs.Threads.{IsEmpty}
 use Rattle.wax_lazy.proofs.cache.Cache.follow.Goals as goal
 

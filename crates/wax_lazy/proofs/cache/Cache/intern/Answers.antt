@@ -1,7 +1,5 @@
-use Rattle.std.proofs.Common.{◌≡◌, ◌*◌, ◌/◌, ◌↔◌, [], ℕ, IsTrue, refl, sym, ◌∙◌, ap, subst, arith}
-use Rattle.wax_lazy.specs.declared.table.State.{State}
-use Rattle.wax_lazy.specs.inner.Cached.{IsAdded, IsCacheOf}
-use Rattle.wax_lazy.specs.inner.Table.{IsState}
+use Rattle.std.proofs.Common.{◌≡◌, ◌*◌, ◌/◌, ◌↔◌, [], IsTrue, sym, ◌∙◌, ap, subst, arith}
+use Rattle.wax_lazy.specs.inner.Cached.{IsCacheOf}
 use Rattle.wax_lazy.proofs.Caches.{added_keeps, added_set, cache_added}
 use Rattle.wax_lazy.proofs.Tables.{state_good}
 use Rattle.wax_program.specs.Bits.{bits_of}

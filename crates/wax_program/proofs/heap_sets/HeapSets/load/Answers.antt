@@ -1,6 +1,6 @@
-use Rattle.std.proofs.Common.{◌≡◌, ◌+◌, ◌*◌, ◌/◌, ◌<◌, ℕ, length, ap, subst, sym, ◌∙◌, arith}
+use Rattle.std.proofs.Common.{◌≡◌, ◌+◌, ◌*◌, ◌/◌, length, ap, subst, sym, arith}
 use Rattle.wax_program.specs.Bits.{bits_of}
-use Rattle.wax_program.specs.Threads.{HoldsPlace, IsEmpty, Within}
+use Rattle.wax_program.specs.Threads.{IsEmpty, Within}
 use Rattle.wax_program.proofs.Bits.{length-bits_of}
 use Rattle.wax_program.proofs.heap_sets.HeapSets.load.Goals as goal
 
