@@ -6,7 +6,7 @@ use crate::cache::Cache;
 use crate::walk::walk;
 use std::alloc::Global;
 use std::marker::Model;
-use wax_program::{Meter, Program, last_name, reads_last, run};
+use wax_program::{Meter, Program, last_name, reads_last, run_known};
 use wax_query::diagnostics::NoMemory;
 
 /// How many bytes states and their cells may take.
@@ -74,7 +74,7 @@ impl<'p> Matcher<'p> {
     ) -> Result<Matcher<'p>, NoMemory>
         ensures { IfOk result (λ m. m ≡ program.now.0) }
     {
-        if reads_last(program) && program.size() >= LEAST_SIZE {
+        if reads_last(program) && program.size() >= 2 {
             let cache = Cache::new(alloc, program, 2, most_bytes)?;
             return Ok(Matcher {
                 alloc,
@@ -102,7 +102,8 @@ impl<'p> Matcher<'p> {
         ensures same { self.new ≡ self.old }
     {
         if self.program.size() < LEAST_SIZE || self.cache.gives_up {
-            return run(self.alloc, self.program, text, &mut Meter::new());
+            let mut meter = Meter::new();
+            return run_known(self.alloc, self.program, self.reads_last, text, &mut meter);
         }
         if self.reads_last {
             return Ok(walk(self.program, &mut self.cache, last_name(text))?);
