@@ -1,57 +1,30 @@
 //! Answers of rows, by their kinds.
 
 use crate::answer::Answer;
+use crate::kinds::Kind;
 use crate::row::Row;
 use crate::{checked, globs, lists, parts, paths, programs, sets, spans, tokens};
 use std::alloc::Global;
 use wax::NoMemory;
 
 /// Adds the answer of a row.
-pub fn answer(alloc: Global, row: &Row<'_>, made: &mut Answer) -> Result<(), NoMemory> {
+pub fn answer(alloc: Global, row: &Row, made: &mut Answer) -> Result<(), NoMemory> {
     match row.kind() {
-        "depth"
-        | "root"
-        | "exhaustive"
-        | "size"
-        | "text"
-        | "casing"
-        | "tokens"
-        | "components"
-        | "literals"
-        | "token_prefix"
-        | "token_alternatives"
-        | "token_copies"
-        | "owned_tokens"
-        | "alternatives"
-        | "checked_parts"
-        | "owned_checked"
-        | "owned_error" => { tokens::answer(alloc, row, made) }
-        "checked_any" => checked::add_any(alloc, row, made),
-        "length" | "program" | "program_visits" => programs::answer(alloc, row, made),
-        "set"
-        | "sets"
-        | "set_of_globs"
-        | "meant"
-        | "set_is_match"
-        | "sets_is_match"
-        | "set_facts"
-        | "set_length"
-        | "nested_length"
-        | "empty_set"
-        | "empty_length" => { sets::answer(alloc, row, made) }
-        "ignored" | "ignored_twice" | "bad_line" => lists::answer(alloc, row, made),
-        "escape" | "folded" | "meta" | "path_copies" | "empty_glob" | "tree_glob" => {
-            paths::answer(alloc, row, made)
+        Kind::Token(fact) => tokens::answer(alloc, fact, row, made),
+        Kind::Tokens(fact) => tokens::answer_whole(alloc, fact, row, made),
+        Kind::CheckedAny => checked::add_any(alloc, row, made),
+        Kind::Program(fact) => programs::answer(alloc, fact, row, made),
+        Kind::Set(fact) => sets::answer(alloc, fact, row, made),
+        Kind::Ignored => lists::answer(alloc, false, row, made),
+        Kind::IgnoredTwice => lists::answer(alloc, true, row, made),
+        Kind::Path(fact) => paths::answer(alloc, fact, row, made),
+        Kind::Spans(fact) => spans::answer(alloc, fact, row, made),
+        Kind::Diagnosed => parts::add_diagnosed(alloc, row, made),
+        Kind::Glob(fact) => globs::answer(alloc, fact, row, made),
+        Kind::Unknown => {
+            made.add("no such kind");
+            Ok(())
         }
-        "union"
-        | "piece"
-        | "branch_labels"
-        | "place_labels"
-        | "span_labels"
-        | "split_labels"
-        | "printed_refusals" => spans::answer(alloc, row, made),
-        "diagnosed" => parts::add_diagnosed(alloc, row, made),
-        _ => globs::answer(alloc, row, made),
     }
 }
 

@@ -2,6 +2,7 @@
 
 use crate::answer::Answer;
 use crate::answers::push;
+use crate::kinds::CheckedFact;
 use crate::row::Row;
 use crate::tokens::{add_text, add_texts};
 use std::alloc::Global;
@@ -11,15 +12,15 @@ use wax::{NoMemory, Refusal};
 
 type CheckedTokens<'t> = Checked<Tokenized<'t, ExpressionMetadata>>;
 
-/// Adds what the row asks of an expression once it is checked.
+/// Adds a fact of tokens once they are checked.
 pub fn answer(
     alloc: Global,
-    row: &Row<'_>,
+    fact: CheckedFact,
     tokens: Tokenized<'_, ExpressionMetadata>,
     made: &mut Answer,
 ) -> Result<(), NoMemory> {
     match check(alloc, tokens) {
-        Ok(checked) => of_checked(alloc, row, checked, made),
+        Ok(checked) => of_checked(alloc, fact, checked, made),
         Err(Refusal::Refused(error)) => {
             made.add("broken ");
             made.add(error.into_owned(alloc)?.expression());
@@ -31,14 +32,14 @@ pub fn answer(
 
 fn of_checked(
     alloc: Global,
-    row: &Row<'_>,
+    fact: CheckedFact,
     checked: CheckedTokens<'_>,
     made: &mut Answer,
 ) -> Result<(), NoMemory> {
-    match row.kind() {
-        "alternatives" => add_alternatives(alloc, checked, made),
-        "checked_parts" => add_parts(alloc, checked, made),
-        _ => add_owned(alloc, checked, made),
+    match fact {
+        CheckedFact::Alternatives => add_alternatives(alloc, checked, made),
+        CheckedFact::Parts => add_parts(alloc, checked, made),
+        CheckedFact::Owned => add_owned(alloc, checked, made),
     }
 }
 
@@ -88,7 +89,7 @@ fn add_owned_token(
 }
 
 /// Adds the span and the branches of the alternation of the row's expressions, which have spaces between.
-pub fn add_any(alloc: Global, row: &Row<'_>, made: &mut Answer) -> Result<(), NoMemory> {
+pub fn add_any(alloc: Global, row: &Row, made: &mut Answer) -> Result<(), NoMemory> {
     let joined = Checked::any(alloc, checked_each(alloc, row.input(0))?)?;
     made.span(joined.as_ref().annotation().span());
     made.tab();

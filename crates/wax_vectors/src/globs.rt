@@ -2,6 +2,7 @@
 
 use crate::answer::Answer;
 use crate::answers::add_within;
+use crate::kinds::GlobFact;
 use crate::row::Row;
 use crate::{copies, lines, memoryless, parts, refusals};
 use std::alloc::Global;
@@ -9,76 +10,71 @@ use wax::diagnostics::{LocatedError, Warning};
 use wax::query::{DepthVariance, When};
 use wax::{CandidatePath, Glob, MatchedText, NoMemory, Program};
 
-/// Adds what the row asks of an expression.
-pub fn answer(alloc: Global, row: &Row<'_>, made: &mut Answer) -> Result<(), NoMemory> {
+/// Adds a fact of the expression's glob, or of why it isn't built.
+pub fn answer(alloc: Global, fact: GlobFact, row: &Row, made: &mut Answer) -> Result<(), NoMemory> {
     match Glob::new(alloc, row.input(0)) {
-        Ok(glob) => of_built(alloc, row, glob, made),
-        Err(error) => refusals::answer(alloc, row, &error, made),
+        Ok(glob) => of_built(alloc, fact, row, glob, made),
+        Err(error) => refusals::answer(alloc, fact, row, &error, made),
     }
 }
 
 fn of_built(
     alloc: Global,
-    row: &Row<'_>,
+    fact: GlobFact,
+    row: &Row,
     glob: Glob<'_>,
     made: &mut Answer,
 ) -> Result<(), NoMemory> {
-    match row.kind() {
-        "partition"
-        | "prefix"
-        | "rest_or_empty"
-        | "rest_or_tree"
-        | "rest"
-        | "again"
-        | "owned_glob" => parts::answer(alloc, row, glob, made),
-        _ => of_glob(alloc, row, &glob, made),
+    match fact {
+        GlobFact::Part(fact) => parts::answer(alloc, fact, row, glob, made),
+        _ => of_glob(alloc, fact, row, &glob, made),
     }
 }
 
 fn of_glob(
     alloc: Global,
-    row: &Row<'_>,
+    fact: GlobFact,
+    row: &Row,
     glob: &Glob<'_>,
     made: &mut Answer,
 ) -> Result<(), NoMemory> {
-    match row.kind() {
-        "match" => add_match(alloc, glob, row.input(1), made),
-        "is_match" => add_is_match(alloc, glob, row.input(1), made),
-        "is_match_twice" | "match_twice" => {
-            add_twice(alloc, glob, row, made);
-            Ok(())
-        }
-        "visits" => add_visits(alloc, glob, row, made),
-        "captures" => add_captures(alloc, glob, made),
-        "semantic" => add_semantic(alloc, glob, made),
-        "warnings" => add_warnings(alloc, glob, made),
-        "path" => add_path(alloc, glob, made),
-        "glob_text" => add_text(alloc, glob, made),
-        "facts" => add_facts(alloc, glob, made),
-        "match_copies" => copies::add_matches(alloc, glob, row.input(1), made),
-        "glob_copies" => copies::add_globs(alloc, glob, row.input(1), made),
-        "filter_lines" | "capture_lines" => lines::add_lines(alloc, glob, row, made),
-        "memoryless" | "prepared" => memoryless::add_facts(alloc, glob, row, made),
+    match fact {
+        GlobFact::Match => add_match(alloc, glob, row.input(1), made),
+        GlobFact::IsMatch => add_is_match(alloc, glob, row.input(1), made),
+        GlobFact::Visits => add_visits(alloc, glob, row, made),
+        GlobFact::Captures => add_captures(alloc, glob, made),
+        GlobFact::Semantic => add_semantic(alloc, glob, made),
+        GlobFact::Warnings => add_warnings(alloc, glob, made),
+        GlobFact::Path => add_path(alloc, glob, made),
+        GlobFact::Text => add_text(alloc, glob, made),
+        GlobFact::Facts => add_facts(alloc, glob, made),
+        GlobFact::MatchCopies => copies::add_matches(alloc, glob, row.input(1), made),
+        GlobFact::Copies => copies::add_globs(alloc, glob, row.input(1), made),
+        GlobFact::Lines(call) => lines::add_lines(alloc, call, glob, row, made),
+        GlobFact::Memoryless(extent) => memoryless::add_facts(alloc, extent, glob, row, made),
         _ => {
-            add_built(row, glob, made);
+            add_built(alloc, fact, row, glob, made);
             Ok(())
         }
     }
 }
 
-/// Adds what is known of a glob once it is built.
-fn add_built(row: &Row<'_>, glob: &Glob<'_>, made: &mut Answer) {
-    match row.kind() {
-        "builds" | "labels" | "error_labels" => made.add("0"),
-        "accept" => made.add("0\t-\t-"),
-        "location" | "error" | "picture" => made.add("no error"),
-        "printed" => {
-            made.show(glob);
-            made.tab();
-            made.debug(glob);
-        }
-        _ => made.add("no such kind"),
+/// Adds what needs no request for memory, or makes two calls of which each may lack it.
+fn add_built(alloc: Global, fact: GlobFact, row: &Row, glob: &Glob<'_>, made: &mut Answer) {
+    match fact {
+        GlobFact::IsMatchTwice => add_is_match_twice(alloc, glob, row.input(1), made),
+        GlobFact::MatchTwice => add_match_twice(alloc, glob, row.input(1), made),
+        GlobFact::Accept => made.add("0\t-\t-"),
+        GlobFact::Location | GlobFact::Error | GlobFact::Picture => made.add("no error"),
+        GlobFact::Printed => add_printed(glob, made),
+        _ => made.add("0"),
     }
+}
+
+fn add_printed(glob: &Glob<'_>, made: &mut Answer) {
+    made.show(glob);
+    made.tab();
+    made.debug(glob);
 }
 
 /// Adds whether the program matches the path.
@@ -110,13 +106,18 @@ pub fn add_match<P: Program>(
     Ok(())
 }
 
-/// Adds what one of these calls returns, made twice of the same glob.
-fn add_twice(alloc: Global, glob: &Glob<'_>, row: &Row<'_>, made: &mut Answer) {
+/// Adds whether the glob matches the path, twice.
+fn add_is_match_twice(alloc: Global, glob: &Glob<'_>, path: &str, made: &mut Answer) {
     for _ in 0..2 {
-        let call = match row.kind() {
-            "is_match_twice" => add_is_match(alloc, glob, row.input(1), made),
-            _ => add_match(alloc, glob, row.input(1), made),
-        };
+        let call = add_is_match(alloc, glob, path, made);
+        made.end(call);
+    }
+}
+
+/// Adds what the glob matches of the path, twice.
+fn add_match_twice(alloc: Global, glob: &Glob<'_>, path: &str, made: &mut Answer) {
+    for _ in 0..2 {
+        let call = add_match(alloc, glob, path, made);
         made.end(call);
     }
 }
@@ -135,7 +136,7 @@ pub fn add_texts(matched: &MatchedText<'_>, separator: &str, made: &mut Answer) 
 fn add_visits(
     alloc: Global,
     glob: &Glob<'_>,
-    row: &Row<'_>,
+    row: &Row,
     made: &mut Answer,
 ) -> Result<(), NoMemory> {
     let path = CandidatePath::from(row.input(1));

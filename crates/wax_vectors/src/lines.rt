@@ -1,6 +1,7 @@
 //! Lines that are read one byte at a time, filtered or captured of.
 
 use crate::answer::Answer;
+use crate::kinds::LinesCall;
 use crate::row::Row;
 use std::alloc::{AllocError, Global};
 use std::io::{self, Cursor, Read};
@@ -34,17 +35,17 @@ impl Read for Bytes<'_> {
 /// the glob matches the row's path after it.
 pub fn add_lines(
     alloc: Global,
+    call: LinesCall,
     glob: &Glob<'_>,
-    row: &Row<'_>,
+    row: &Row,
     made: &mut Answer,
 ) -> Result<(), NoMemory> {
     let bytes = bytes_of(alloc, row.input(1))?;
     let mut input = Counted::new(Bytes { left: &bytes });
     let mut output = Counted::new(Cursor::new([0; ROOM]));
-    let ended = if row.kind() == "filter_lines" {
-        filter_lines(alloc, &mut input, &mut output, glob)
-    } else {
-        capture_lines(alloc, &mut input, &mut output, glob)
+    let ended = match call {
+        LinesCall::Filter => filter_lines(alloc, &mut input, &mut output, glob),
+        LinesCall::Capture => capture_lines(alloc, &mut input, &mut output, glob),
     };
     add_written(&output.into_inner(), made);
     add_end(ended, made);

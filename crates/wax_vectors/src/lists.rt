@@ -6,11 +6,11 @@ use std::alloc::Global;
 use wax::walk::{IgnoreError, IgnoreList};
 use wax::{CandidatePath, NoMemory};
 
-/// Adds whether the list ignores a path; of a text that is no list, the number of the refusal, that of the
-/// line, and why.
-pub fn answer(alloc: Global, row: &Row<'_>, made: &mut Answer) -> Result<(), NoMemory> {
+/// Adds whether the list ignores a path, or the same twice; of a text that is no list, the number of the
+/// refusal, that of the line, and why.
+pub fn answer(alloc: Global, is_twice: bool, row: &Row, made: &mut Answer) -> Result<(), NoMemory> {
     match IgnoreList::parse(alloc, row.input(0)) {
-        Ok(list) if row.kind() == "ignored_twice" => {
+        Ok(list) if is_twice => {
             for _ in 0..2 {
                 let call = add_ignored(alloc, &list, row.input(1), made);
                 made.end(call);

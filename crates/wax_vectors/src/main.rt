@@ -8,6 +8,7 @@ mod answers;
 mod checked;
 mod copies;
 mod globs;
+mod kinds;
 mod lines;
 mod lists;
 mod memoryless;
@@ -69,7 +70,7 @@ fn is_same(rt: &HostRuntime, line: &str, made: &mut Answer) -> io::Result<bool> 
 }
 
 /// Makes the answer of the row.
-fn make<'m>(rt: &HostRuntime, row: &Row<'_>, made: &'m mut Answer) -> &'m str {
+fn make<'m>(rt: &HostRuntime, row: &Row, made: &'m mut Answer) -> &'m str {
     made.clear();
     match answer(rt.alloc(), row, made) {
         Ok(()) => made.text().unwrap_or("no memory"),

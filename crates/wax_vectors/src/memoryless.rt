@@ -2,6 +2,7 @@
 
 use crate::answer::Answer;
 use crate::globs::when;
+use crate::kinds::Extent;
 use crate::row::Row;
 use std::alloc::Global;
 use wax::encode::compile;
@@ -16,8 +17,9 @@ use wax::{
 /// Adds what these calls return of the glob, or only that all is made that they need.
 pub fn add_facts(
     alloc: Global,
+    extent: Extent,
     glob: &Glob<'_>,
-    row: &Row<'_>,
+    row: &Row,
     made: &mut Answer,
 ) -> Result<(), NoMemory> {
     let path = CandidatePath::from(row.input(1));
@@ -31,7 +33,7 @@ pub fn add_facts(
         return Err(NoMemory);
     };
     made.add("prepared");
-    if row.kind() == "memoryless" {
+    if let Extent::Called = extent {
         add_glob(glob, made);
         add_match(&matched, made);
         add_tokens(&tokenized, &program, made);

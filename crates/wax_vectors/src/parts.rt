@@ -2,73 +2,108 @@
 
 use crate::answer::Answer;
 use crate::globs::add_is_match;
+use crate::kinds::{GlobFact, PartFact};
 use crate::refusals;
 use crate::row::Row;
 use std::alloc::Global;
 use wax::{Glob, NoMemory};
 
-/// Adds what the row asks of a glob that is taken apart.
+/// Adds a fact of a glob that is taken apart or owned.
 pub fn answer(
     alloc: Global,
-    row: &Row<'_>,
+    fact: PartFact,
+    row: &Row,
     glob: Glob<'_>,
     made: &mut Answer,
 ) -> Result<(), NoMemory> {
-    match row.kind() {
-        "rest_or_tree" => add_both(glob.partition_or_tree(alloc)?, made),
-        "rest_or_empty" => add_both(glob.partition_or_empty(alloc)?, made),
-        "rest" => {
-            let (_, rest) = glob.partition_or_empty(alloc)?;
-            return add_is_match(alloc, &rest, row.input(1), made);
-        }
-        "again" => {
-            let (_, rest) = glob.partition_or_empty(alloc)?;
-            add_both(rest.partition_or_empty(alloc)?, made);
-        }
-        "owned_glob" => return add_owned(alloc, row, glob, made),
-        _ => add_partition(row, glob.partition(alloc)?, made),
+    match fact {
+        PartFact::Partition => add_partition(alloc, glob, made),
+        PartFact::Prefix => add_prefix(alloc, glob, made),
+        PartFact::RestOrEmpty => add_both(glob.partition_or_empty(alloc), made),
+        PartFact::RestOrTree => add_both(glob.partition_or_tree(alloc), made),
+        PartFact::Rest => add_rest(alloc, row, glob, made),
+        PartFact::Again => add_again(alloc, glob, made),
+        PartFact::Owned => add_owned(alloc, row, glob, made),
     }
-    Ok(())
 }
 
 /// Adds a prefix and a rest.
-fn add_both(parts: (String, Glob<'_>), made: &mut Answer) {
-    made.add(parts.0.as_str());
+fn add_both(
+    parts: Result<(String, Glob<'_>), NoMemory>,
+    made: &mut Answer,
+) -> Result<(), NoMemory> {
+    let Ok((prefix, rest)) = parts else {
+        return Err(NoMemory);
+    };
+    made.add(prefix.as_str());
     made.tab();
-    made.show(&parts.1);
+    made.show(&rest);
+    Ok(())
 }
 
-/// Adds the prefix, and the rest if the row asks for it.
-fn add_partition(row: &Row<'_>, parts: (String, Option<Glob<'_>>), made: &mut Answer) {
-    made.add(parts.0.as_str());
-    if row.kind() == "prefix" {
-        return;
-    }
-    match &parts.1 {
+/// Adds the prefix, and the rest or that there is none.
+fn add_partition(alloc: Global, glob: Glob<'_>, made: &mut Answer) -> Result<(), NoMemory> {
+    let Ok((prefix, rest)) = glob.partition(alloc) else {
+        return Err(NoMemory);
+    };
+    made.add(prefix.as_str());
+    match &rest {
         Some(rest) => {
             made.add("\trest ");
             made.show(rest);
         }
         None => made.add("\tno rest"),
     }
+    Ok(())
+}
+
+/// Adds the prefix.
+fn add_prefix(alloc: Global, glob: Glob<'_>, made: &mut Answer) -> Result<(), NoMemory> {
+    let Ok((prefix, _rest)) = glob.partition(alloc) else {
+        return Err(NoMemory);
+    };
+    made.add(prefix.as_str());
+    Ok(())
+}
+
+/// Adds whether the rest matches the path.
+fn add_rest(alloc: Global, row: &Row, glob: Glob<'_>, made: &mut Answer) -> Result<(), NoMemory> {
+    let Ok((_prefix, rest)) = glob.partition_or_empty(alloc) else {
+        return Err(NoMemory);
+    };
+    add_is_match(alloc, &rest, row.input(1), made)
+}
+
+/// Adds the prefix and the rest of the rest.
+fn add_again(alloc: Global, glob: Glob<'_>, made: &mut Answer) -> Result<(), NoMemory> {
+    let Ok((_prefix, rest)) = glob.partition_or_empty(alloc) else {
+        return Err(NoMemory);
+    };
+    add_both(rest.partition_or_empty(alloc), made)
 }
 
 /// Adds whether the glob with texts of its own matches the path, and its expression.
-fn add_owned(
+fn add_owned(alloc: Global, row: &Row, glob: Glob<'_>, made: &mut Answer) -> Result<(), NoMemory> {
+    let Ok(owned) = glob.into_owned(alloc) else {
+        return Err(NoMemory);
+    };
+    add_expression(alloc, row, &owned, made)
+}
+
+fn add_expression(
     alloc: Global,
-    row: &Row<'_>,
-    glob: Glob<'_>,
+    row: &Row,
+    owned: &Glob<'_>,
     made: &mut Answer,
 ) -> Result<(), NoMemory> {
-    let owned = glob.into_owned(alloc)?;
-    add_is_match(alloc, &owned, row.input(1), made)?;
+    add_is_match(alloc, owned, row.input(1), made)?;
     made.tab();
     made.add(owned.expression());
     Ok(())
 }
 
 /// Adds what a glob prints that is built with its warnings, and how many these are.
-pub fn add_diagnosed(alloc: Global, row: &Row<'_>, made: &mut Answer) -> Result<(), NoMemory> {
+pub fn add_diagnosed(alloc: Global, row: &Row, made: &mut Answer) -> Result<(), NoMemory> {
     match Glob::diagnosed(alloc, row.input(0)) {
         Ok((glob, warnings)) => {
             made.show(&glob);
@@ -76,6 +111,6 @@ pub fn add_diagnosed(alloc: Global, row: &Row<'_>, made: &mut Answer) -> Result<
             made.show(&warnings.len());
             Ok(())
         }
-        Err(error) => refusals::answer(alloc, row, &error, made),
+        Err(error) => refusals::answer(alloc, GlobFact::Printed, row, &error, made),
     }
 }

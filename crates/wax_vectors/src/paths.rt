@@ -2,21 +2,22 @@
 
 use crate::answer::Answer;
 use crate::globs::add_is_match;
+use crate::kinds::PathFact;
 use crate::row::Row;
 use std::alloc::Global;
 use wax::encode::case_folded_eq;
 use wax::{CandidatePath, Glob, NoMemory, escape, is_contextual_meta_character, is_meta_character};
 
 /// Adds what the row asks of a text or a path.
-pub fn answer(alloc: Global, row: &Row<'_>, made: &mut Answer) -> Result<(), NoMemory> {
+pub fn answer(alloc: Global, fact: PathFact, row: &Row, made: &mut Answer) -> Result<(), NoMemory> {
     let text = row.input(0);
-    match row.kind() {
-        "escape" => made.add(&escape(alloc, text)?),
-        "folded" => made.digit(case_folded_eq(alloc, text, row.input(1))?),
-        "meta" => add_meta(text, made),
-        "path_copies" => return add_copies(alloc, row, made),
-        "empty_glob" => return add_glob(alloc, &Glob::empty(alloc)?, text, made),
-        _ => return add_glob(alloc, &Glob::tree(alloc)?, text, made),
+    match fact {
+        PathFact::Escape => made.add(&escape(alloc, text)?),
+        PathFact::Folded => made.digit(case_folded_eq(alloc, text, row.input(1))?),
+        PathFact::Meta => add_meta(text, made),
+        PathFact::Copies => return add_copies(alloc, row, made),
+        PathFact::EmptyGlob => return add_glob(alloc, &Glob::empty(alloc)?, text, made),
+        PathFact::TreeGlob => return add_glob(alloc, &Glob::tree(alloc)?, text, made),
     }
     Ok(())
 }
@@ -32,7 +33,7 @@ fn add_meta(text: &str, made: &mut Answer) {
 
 /// Adds whether copies of the path equal it, whether the row's other path does, and the path once it owns its
 /// text.
-fn add_copies(alloc: Global, row: &Row<'_>, made: &mut Answer) -> Result<(), NoMemory> {
+fn add_copies(alloc: Global, row: &Row, made: &mut Answer) -> Result<(), NoMemory> {
     let path = CandidatePath::from(row.input(0));
     made.digit(path.clone()? == path);
     made.digit(path.to_owned(alloc)? == path);

@@ -2,6 +2,7 @@
 
 use crate::answer::Answer;
 use crate::answers::add_within;
+use crate::kinds::ProgramFact;
 use crate::row::Row;
 use std::alloc::Global;
 use wax::encode::{Meter, Program, compile, run};
@@ -9,21 +10,27 @@ use wax::token::{ExpressionMetadata, Tokenized, parse};
 use wax::{NoMemory, Refusal};
 
 /// Adds what the row asks of the program of an expression.
-pub fn answer(alloc: Global, row: &Row<'_>, made: &mut Answer) -> Result<(), NoMemory> {
+pub fn answer(
+    alloc: Global,
+    fact: ProgramFact,
+    row: &Row,
+    made: &mut Answer,
+) -> Result<(), NoMemory> {
     match parse(alloc, row.input(0)) {
-        Ok(tokens) => of_tokens(alloc, row, &tokens, made),
+        Ok(tokens) => of_tokens(alloc, fact, row, &tokens, made),
         Err(_) => Err(NoMemory),
     }
 }
 
 fn of_tokens(
     alloc: Global,
-    row: &Row<'_>,
+    fact: ProgramFact,
+    row: &Row,
     tokens: &Tokenized<'_, ExpressionMetadata>,
     made: &mut Answer,
 ) -> Result<(), NoMemory> {
     match compile(alloc, tokens.concatenation(), false, false) {
-        Ok(program) => of_program(alloc, row, &program, made),
+        Ok(program) => of_program(alloc, fact, row, &program, made),
         Err(Refusal::Memory) => Err(NoMemory),
         Err(Refusal::Refused(error)) => {
             made.show(&error);
@@ -34,17 +41,18 @@ fn of_tokens(
 
 fn of_program(
     alloc: Global,
-    row: &Row<'_>,
+    fact: ProgramFact,
+    row: &Row,
     program: &Program,
     made: &mut Answer,
 ) -> Result<(), NoMemory> {
-    if row.kind() == "length" {
+    if let ProgramFact::Length = fact {
         made.show(&program.len());
         return Ok(());
     }
     let mut meter = Meter::new();
     made.digit(run(alloc, program, row.input(1), &mut meter)?);
-    if row.kind() == "program_visits" {
+    if let ProgramFact::Visits = fact {
         made.tab();
         add_within(made, meter.ticks(), row.input(2));
     }

@@ -1,38 +1,55 @@
 //! Why an expression isn't built.
 
 use crate::answer::Answer;
+use crate::kinds::GlobFact;
 use crate::row::Row;
 use std::alloc::Global;
 use wax::diagnostics::{LocatedError, Span};
 use wax::rule::RuleErrorKind;
 use wax::{BuildError, NoMemory};
 
-/// Adds what the row asks of an expression that isn't built.
+/// Adds a fact of an expression that isn't built.
 pub fn answer(
     alloc: Global,
-    row: &Row<'_>,
+    fact: GlobFact,
+    row: &Row,
     error: &BuildError,
     made: &mut Answer,
 ) -> Result<(), NoMemory> {
-    match row.kind() {
-        _ if number(error) == 10 => return Err(NoMemory),
-        "builds" => made.show(&number(error)),
-        "accept" => add_span(error, made),
-        "labels" => return add_rule_labels(alloc, error, made),
-        "error_labels" => {
-            made.show(&number(error));
-            add_labels(&error.labels(alloc)?, made);
-        }
-        "location" => add_location(error, made),
-        "error" => made.show(error),
-        "picture" => {
-            made.show(error);
-            made.add("\n");
-            made.add(error.picture(alloc, row.input(0))?.as_str());
-        }
-        "is_match" | "match" | "visits" => made.add("?"),
+    if let BuildError::Memory = error {
+        return Err(NoMemory);
+    }
+    match fact {
+        GlobFact::Builds => made.show(&number(error)),
+        GlobFact::Accept => add_span(error, made),
+        GlobFact::Labels => return add_rule_labels(alloc, error, made),
+        GlobFact::ErrorLabels => return add_error_labels(alloc, error, made),
+        GlobFact::Location => add_location(error, made),
+        GlobFact::Error => made.show(error),
+        GlobFact::Picture => return add_picture(alloc, row.input(0), error, made),
+        GlobFact::IsMatch | GlobFact::Match | GlobFact::Visits => made.add("?"),
         _ => made.add("not built"),
     }
+    Ok(())
+}
+
+/// Adds what is printed, and the picture under it.
+fn add_picture(
+    alloc: Global,
+    expression: &str,
+    error: &BuildError,
+    made: &mut Answer,
+) -> Result<(), NoMemory> {
+    made.show(error);
+    made.add("\n");
+    made.add(error.picture(alloc, expression)?.as_str());
+    Ok(())
+}
+
+/// Adds the number, and each label.
+fn add_error_labels(alloc: Global, error: &BuildError, made: &mut Answer) -> Result<(), NoMemory> {
+    made.show(&number(error));
+    add_labels(&error.labels(alloc)?, made);
     Ok(())
 }
 

@@ -1,83 +1,55 @@
 //! Rows: a kind, the inputs that it takes, and the answer that is wanted.
 
+use crate::kinds::{Kind, find};
 use std::alloc::{AllocError, Global};
 
-/// A row with its stand-ins replaced.
-pub struct Row<'r> {
-    kind: &'r str,
-    inputs: Vec<String>,
-    wanted: String,
+/// A row with its stand-ins replaced: its fields are its name, its inputs and the answer that is wanted.
+#[derive(Drop)]
+pub struct Row {
+    kind: Kind,
+    inputs: usize,
+    fields: Vec<String>,
 }
 
-impl Drop for Row<'_> {
-    fn drop(self) {
-        let Row {
-            kind: _,
-            inputs: _,
-            wanted: _,
-        } = self;
-    }
-}
-
-impl<'r> Row<'r> {
+impl Row {
     /// Reads the row of a line.
-    pub fn read(alloc: Global, line: &'r str) -> Result<Row<'r>, AllocError> {
-        let kind = line.split('\t').next().unwrap_or("");
-        let count = input_count(kind);
-        let mut inputs = Vec::new(alloc);
-        let mut wanted = String::new(alloc);
-        for (index, field) in line.split('\t').skip(1).enumerate() {
-            if index < count {
-                inputs.push(plain(alloc, field)?)?;
-                continue;
-            }
-            if index > count {
-                wanted.push('\t')?;
-            }
-            push_plain(field, &mut wanted)?;
+    pub fn read(alloc: Global, line: &str) -> Result<Row, AllocError> {
+        let (inputs, kind) = find(line.split('\t').next().unwrap_or(""));
+        let mut fields = Vec::new(alloc);
+        for field in line.splitn(inputs.saturating_add(2), '\t') {
+            fields.push(plain(alloc, field)?)?;
         }
         Ok(Row {
             kind,
             inputs,
-            wanted,
+            fields,
         })
     }
 
     /// Returns what the row asks.
-    pub fn kind(&self) -> &str {
+    pub fn kind(&self) -> Kind {
         self.kind
     }
 
     /// Returns the input at the index; no text if the row has fewer.
     pub fn input(&self, index: usize) -> &str {
-        match self.inputs.get(index) {
-            Some(input) => input.as_str(),
-            None => "",
+        if index < self.inputs {
+            self.field(index.saturating_add(1))
+        } else {
+            ""
         }
     }
 
     /// Returns the answer that is wanted.
     pub fn wanted(&self) -> &str {
-        self.wanted.as_str()
+        self.field(self.inputs.saturating_add(1))
     }
-}
 
-/// Returns how many inputs a row of the kind has.
-fn input_count(kind: &str) -> usize {
-    match kind {
-        "visits" | "program_visits" | "branch_labels" | "filter_lines" | "capture_lines" => 3,
-        "is_match"
-        | "match"
-        | "is_match_twice"
-        | "match_twice"
-        | "match_copies"
-        | "glob_copies"
-        | "owned_glob"
-        | "rest" => 2,
-        "memoryless" | "prepared" | "folded" | "path_copies" => 2,
-        "meant" | "set_is_match" | "sets_is_match" => 2,
-        "program" | "token_copies" | "ignored" | "ignored_twice" | "union" | "split_labels" => 2,
-        _ => 1,
+    fn field(&self, index: usize) -> &str {
+        match self.fields.get(index) {
+            Some(field) => field.as_str(),
+            None => "",
+        }
     }
 }
 

@@ -3,6 +3,7 @@
 use crate::answer::Answer;
 use crate::answers::push;
 use crate::globs::{add_facts, add_is_match, add_match};
+use crate::kinds::SetFact;
 use crate::refusals::number;
 use crate::row::Row;
 use std::alloc::Global;
@@ -16,21 +17,23 @@ type Set = Any<'static>;
 type Part = Checked<Token<'static, ExpressionMetadata>>;
 
 /// Adds what the row asks of a set.
-pub fn answer(alloc: Global, row: &Row<'_>, made: &mut Answer) -> Result<(), NoMemory> {
-    match built(alloc, row.kind(), row.input(0)) {
-        Ok(set) => of_set(alloc, row, set, made),
+pub fn answer(alloc: Global, fact: SetFact, row: &Row, made: &mut Answer) -> Result<(), NoMemory> {
+    match built(alloc, fact, row.input(0)) {
+        Ok(set) => of_set(alloc, fact, row, set, made),
         Err(error) => add_error(&error, made),
     }
 }
 
-fn built(alloc: Global, kind: &str, patterns: &str) -> Result<Set, BuildError> {
-    match kind {
-        "sets" | "sets_is_match" => set_of_sets(alloc, patterns),
-        "set_of_globs" => set_of_globs(alloc, patterns),
-        "set_length" => set_of_parts(alloc, patterns),
-        "nested_length" => set_of_set(alloc, patterns),
-        "empty_set" | "empty_length" => set_of_none(alloc),
-        _ => set_of(alloc, patterns),
+fn built(alloc: Global, fact: SetFact, patterns: &str) -> Result<Set, BuildError> {
+    match fact {
+        SetFact::Sets | SetFact::SetsIsMatch => set_of_sets(alloc, patterns),
+        SetFact::Globs => set_of_globs(alloc, patterns),
+        SetFact::Length => set_of_parts(alloc, patterns),
+        SetFact::NestedLength => set_of_set(alloc, patterns),
+        SetFact::Empty | SetFact::EmptyLength => set_of_none(alloc),
+        SetFact::Patterns | SetFact::Match | SetFact::IsMatch | SetFact::Facts => {
+            set_of(alloc, patterns)
+        }
     }
 }
 
@@ -42,19 +45,33 @@ fn add_error(error: &BuildError, made: &mut Answer) -> Result<(), NoMemory> {
     Ok(())
 }
 
-fn of_set(alloc: Global, row: &Row<'_>, set: Set, made: &mut Answer) -> Result<(), NoMemory> {
-    match row.kind() {
-        "set_length" | "nested_length" | "empty_length" => add_length(alloc, set, made),
-        _ => of_lent(alloc, row, &set, made),
+fn of_set(
+    alloc: Global,
+    fact: SetFact,
+    row: &Row,
+    set: Set,
+    made: &mut Answer,
+) -> Result<(), NoMemory> {
+    match fact {
+        SetFact::Length | SetFact::NestedLength | SetFact::EmptyLength => {
+            add_length(alloc, set, made)
+        }
+        _ => of_lent(alloc, fact, row, &set, made),
     }
 }
 
-fn of_lent(alloc: Global, row: &Row<'_>, set: &Set, made: &mut Answer) -> Result<(), NoMemory> {
-    match row.kind() {
-        "meant" => add_match(alloc, set, row.input(1), made),
-        "set_is_match" | "sets_is_match" => add_is_match(alloc, set, row.input(1), made),
-        "empty_set" => add_is_match(alloc, set, row.input(0), made),
-        "set_facts" => {
+fn of_lent(
+    alloc: Global,
+    fact: SetFact,
+    row: &Row,
+    set: &Set,
+    made: &mut Answer,
+) -> Result<(), NoMemory> {
+    match fact {
+        SetFact::Match => add_match(alloc, set, row.input(1), made),
+        SetFact::IsMatch | SetFact::SetsIsMatch => add_is_match(alloc, set, row.input(1), made),
+        SetFact::Empty => add_is_match(alloc, set, row.input(0), made),
+        SetFact::Facts => {
             made.debug(set);
             made.tab();
             add_facts(alloc, set, made)

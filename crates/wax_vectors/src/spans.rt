@@ -1,6 +1,7 @@
 //! Spans, labelled places, and what refusals print.
 
 use crate::answer::Answer;
+use crate::kinds::SpansFact;
 use crate::refusals::add_labels;
 use crate::row::Row;
 use std::alloc::Global;
@@ -31,16 +32,24 @@ impl Spanned for Piece {
 }
 
 /// Adds what the row asks of spans, each written as start and length.
-pub fn answer(alloc: Global, row: &Row<'_>, made: &mut Answer) -> Result<(), NoMemory> {
+pub fn answer(
+    alloc: Global,
+    fact: SpansFact,
+    row: &Row,
+    made: &mut Answer,
+) -> Result<(), NoMemory> {
     let span = span_of(row.input(0));
-    match row.kind() {
-        "union" => add_span(span.union(span_of(row.input(1))), made),
-        "piece" => add_piece(span, made),
-        "branch_labels" => return add_branch(alloc, row, made),
-        "place_labels" => add_labels(&CompositeSpan::spanned("here", span).labels(alloc)?, made),
-        "span_labels" => add_labels(&CorrelatedSpan::from(span).labels(alloc)?, made),
-        "split_labels" => add_labels(&split(row, 0).labels(alloc)?, made),
-        _ => add_printed(made),
+    match fact {
+        SpansFact::Union => add_span(span.union(span_of(row.input(1))), made),
+        SpansFact::Piece => add_piece(span, made),
+        SpansFact::BranchLabels => return add_branch(alloc, row, made),
+        SpansFact::PlaceLabels => add_labels(
+            &CompositeSpan::spanned("here", span).labels(alloc)?,
+            made,
+        ),
+        SpansFact::SpanLabels => add_labels(&CorrelatedSpan::from(span).labels(alloc)?, made),
+        SpansFact::SplitLabels => add_labels(&split(row, 0).labels(alloc)?, made),
+        SpansFact::PrintedRefusals => add_printed(made),
     }
     Ok(())
 }
@@ -56,7 +65,7 @@ fn number(written: &str) -> usize {
 }
 
 /// Returns the places of two inputs, of which the left one may be `-` for none.
-fn split(row: &Row<'_>, index: usize) -> CorrelatedSpan {
+fn split(row: &Row, index: usize) -> CorrelatedSpan {
     let right = span_of(row.input(index.saturating_add(1)));
     let left = match row.input(index) {
         "-" => None,
@@ -85,7 +94,7 @@ fn add_piece(span: Span, made: &mut Answer) {
 }
 
 /// Adds the span of a branch of two places, what it prints, and its labels.
-fn add_branch(alloc: Global, row: &Row<'_>, made: &mut Answer) -> Result<(), NoMemory> {
+fn add_branch(alloc: Global, row: &Row, made: &mut Answer) -> Result<(), NoMemory> {
     let span = span_of(row.input(0));
     let branch = CompositeSpan::correlated("in this alternation", span, split(row, 1));
     made.span(branch.span());

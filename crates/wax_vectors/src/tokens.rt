@@ -3,63 +3,87 @@
 use crate::answer::Answer;
 use crate::checked;
 use crate::globs::{add_depth, when};
+use crate::kinds::{TokenFact, TokensFact};
 use crate::row::Row;
 use std::alloc::Global;
 use std::fmt::Debug;
 use wax::token::{
-    Component, ExpressionMetadata, LeafKind, Token, TokenFacts, Tokenized, Topology, components,
-    depth, into_alternatives, literals, parse, size,
+    Component, ExpressionMetadata, LeafKind, ParseError, Token, TokenFacts, Tokenized, Topology,
+    components, depth, into_alternatives, literals, parse, size,
 };
 use wax::{NoMemory, Refusal};
 
 type Tokens<'t> = Tokenized<'t, ExpressionMetadata>;
 
-/// Adds what the row asks of an expression's tokens.
-pub fn answer(alloc: Global, row: &Row<'_>, made: &mut Answer) -> Result<(), NoMemory> {
+/// Adds a fact of the expression's token.
+pub fn answer(
+    alloc: Global,
+    fact: TokenFact,
+    row: &Row,
+    made: &mut Answer,
+) -> Result<(), NoMemory> {
     match parse(alloc, row.input(0)) {
-        Ok(tokens) => of_parsed(alloc, row, tokens, made),
-        Err(Refusal::Memory) => Err(NoMemory),
-        Err(Refusal::Refused(_)) => {
+        Ok(tokens) => of_token(alloc, fact, tokens.as_token(), made),
+        Err(refusal) => add_refusal(&refusal, made),
+    }
+}
+
+/// Adds that the expression was not parsed.
+fn add_refusal(refusal: &Refusal<ParseError>, made: &mut Answer) -> Result<(), NoMemory> {
+    match refusal {
+        Refusal::Memory => Err(NoMemory),
+        Refusal::Refused(_) => {
             made.add("not parsed");
             Ok(())
         }
     }
 }
 
-fn of_parsed(
+/// Adds a fact of the expression's tokens, which are taken apart, copied or checked.
+pub fn answer_whole(
     alloc: Global,
-    row: &Row<'_>,
+    fact: TokensFact,
+    row: &Row,
+    made: &mut Answer,
+) -> Result<(), NoMemory> {
+    match parse(alloc, row.input(0)) {
+        Ok(tokens) => of_tokens(alloc, fact, row, tokens, made),
+        Err(refusal) => add_refusal(&refusal, made),
+    }
+}
+
+fn of_tokens(
+    alloc: Global,
+    fact: TokensFact,
+    row: &Row,
     tokens: Tokens<'_>,
     made: &mut Answer,
 ) -> Result<(), NoMemory> {
-    match row.kind() {
-        "token_alternatives" => add_alternatives(alloc, tokens, made),
-        "owned_tokens" => add_owned(alloc, tokens, made),
-        "token_copies" => add_copies(alloc, row, tokens, made),
-        "alternatives" | "checked_parts" | "owned_checked" | "owned_error" => {
-            checked::answer(alloc, row, tokens, made)
-        }
-        _ => of_token(alloc, row, tokens.as_token(), made),
+    match fact {
+        TokensFact::Alternatives => add_alternatives(alloc, tokens, made),
+        TokensFact::Owned => add_owned(alloc, tokens, made),
+        TokensFact::Copies => add_copies(alloc, row, tokens, made),
+        TokensFact::Checked(fact) => checked::answer(alloc, fact, tokens, made),
     }
 }
 
 fn of_token(
     alloc: Global,
-    row: &Row<'_>,
+    fact: TokenFact,
     token: &Token<'_, ExpressionMetadata>,
     made: &mut Answer,
 ) -> Result<(), NoMemory> {
-    match row.kind() {
-        "depth" => add_depth(depth(token), made),
-        "root" => made.add(when(token.has_root())),
-        "exhaustive" => made.add(when(token.is_exhaustive())),
-        "casing" => add_casing(token, made),
-        "tokens" => add_tokens(token, made),
-        "size" => return add_size(alloc, token, made),
-        "text" => return add_text(alloc, token, made),
-        "components" => return add_components(alloc, token, made),
-        "literals" => return add_literals(alloc, token, made),
-        _ => return add_prefix(alloc, token, made),
+    match fact {
+        TokenFact::Depth => add_depth(depth(token), made),
+        TokenFact::Root => made.add(when(token.has_root())),
+        TokenFact::Exhaustive => made.add(when(token.is_exhaustive())),
+        TokenFact::Casing => add_casing(token, made),
+        TokenFact::Tokens => add_tokens(token, made),
+        TokenFact::Size => return add_size(alloc, token, made),
+        TokenFact::Text => return add_text(alloc, token, made),
+        TokenFact::Components => return add_components(alloc, token, made),
+        TokenFact::Literals => return add_literals(alloc, token, made),
+        TokenFact::Prefix => return add_prefix(alloc, token, made),
     }
     Ok(())
 }
@@ -209,7 +233,7 @@ fn add_owned(alloc: Global, tokens: Tokens<'_>, made: &mut Answer) -> Result<(),
 /// and a copy of the one token equals it.
 fn add_copies(
     alloc: Global,
-    row: &Row<'_>,
+    row: &Row,
     tokens: Tokens<'_>,
     made: &mut Answer,
 ) -> Result<(), NoMemory> {

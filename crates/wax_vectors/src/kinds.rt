@@ -1,0 +1,299 @@
+//! Kinds of rows: what each asks, and how many inputs it has.
+
+/// What a row asks.
+#[derive(Clone, Copy)]
+pub enum Kind {
+    Token(TokenFact),
+    Tokens(TokensFact),
+    CheckedAny,
+    Program(ProgramFact),
+    Set(SetFact),
+    Ignored,
+    IgnoredTwice,
+    Path(PathFact),
+    Spans(SpansFact),
+    Diagnosed,
+    Glob(GlobFact),
+    Unknown,
+}
+
+/// A fact of the token of an expression.
+#[derive(Clone, Copy)]
+pub enum TokenFact {
+    Depth,
+    Root,
+    Exhaustive,
+    Size,
+    Text,
+    Casing,
+    Tokens,
+    Components,
+    Literals,
+    Prefix,
+}
+
+/// A fact of tokens that are taken apart, copied or checked.
+#[derive(Clone, Copy)]
+pub enum TokensFact {
+    Alternatives,
+    Copies,
+    Owned,
+    Checked(CheckedFact),
+}
+
+/// A fact of tokens that were checked against the rules.
+#[derive(Clone, Copy)]
+pub enum CheckedFact {
+    Alternatives,
+    Parts,
+    Owned,
+}
+
+/// A fact of a program.
+#[derive(Clone, Copy)]
+pub enum ProgramFact {
+    Length,
+    Accepts,
+    Visits,
+}
+
+/// A fact of a set, and of what the set is made.
+#[derive(Clone, Copy)]
+pub enum SetFact {
+    Patterns,
+    Sets,
+    Globs,
+    Match,
+    IsMatch,
+    SetsIsMatch,
+    Facts,
+    Length,
+    NestedLength,
+    Empty,
+    EmptyLength,
+}
+
+/// A fact of a text or a path.
+#[derive(Clone, Copy)]
+pub enum PathFact {
+    Escape,
+    Folded,
+    Meta,
+    Copies,
+    EmptyGlob,
+    TreeGlob,
+}
+
+/// A fact of spans, labels or what refusals print.
+#[derive(Clone, Copy)]
+pub enum SpansFact {
+    Union,
+    Piece,
+    BranchLabels,
+    PlaceLabels,
+    SpanLabels,
+    SplitLabels,
+    PrintedRefusals,
+}
+
+/// A fact of a glob, or of why it isn't built.
+#[derive(Clone, Copy)]
+pub enum GlobFact {
+    Builds,
+    Accept,
+    Labels,
+    ErrorLabels,
+    Location,
+    Error,
+    Picture,
+    IsMatch,
+    Match,
+    IsMatchTwice,
+    MatchTwice,
+    Visits,
+    Captures,
+    Semantic,
+    Warnings,
+    Path,
+    Text,
+    Facts,
+    Printed,
+    Copies,
+    MatchCopies,
+    Lines(LinesCall),
+    Memoryless(Extent),
+    Part(PartFact),
+}
+
+/// A call of lines.
+#[derive(Clone, Copy)]
+pub enum LinesCall {
+    Filter,
+    Capture,
+}
+
+/// How much is done of what requests no memory.
+#[derive(Clone, Copy)]
+pub enum Extent {
+    Prepared,
+    Called,
+}
+
+/// A fact of a glob that is taken apart or owned.
+#[derive(Clone, Copy)]
+pub enum PartFact {
+    Partition,
+    Prefix,
+    RestOrEmpty,
+    RestOrTree,
+    Rest,
+    Again,
+    Owned,
+}
+
+/// Each kind: its name, how many inputs it has, and what it asks.
+static KINDS: &[(&str, usize, Kind)] = &[
+    ("builds", 1, Kind::Glob(GlobFact::Builds)),
+    ("accept", 1, Kind::Glob(GlobFact::Accept)),
+    ("labels", 1, Kind::Glob(GlobFact::Labels)),
+    ("error_labels", 1, Kind::Glob(GlobFact::ErrorLabels)),
+    ("location", 1, Kind::Glob(GlobFact::Location)),
+    ("error", 1, Kind::Glob(GlobFact::Error)),
+    ("picture", 1, Kind::Glob(GlobFact::Picture)),
+    ("is_match", 2, Kind::Glob(GlobFact::IsMatch)),
+    ("match", 2, Kind::Glob(GlobFact::Match)),
+    ("is_match_twice", 2, Kind::Glob(GlobFact::IsMatchTwice)),
+    ("match_twice", 2, Kind::Glob(GlobFact::MatchTwice)),
+    ("visits", 3, Kind::Glob(GlobFact::Visits)),
+    ("captures", 1, Kind::Glob(GlobFact::Captures)),
+    ("semantic", 1, Kind::Glob(GlobFact::Semantic)),
+    ("warnings", 1, Kind::Glob(GlobFact::Warnings)),
+    ("path", 1, Kind::Glob(GlobFact::Path)),
+    ("glob_text", 1, Kind::Glob(GlobFact::Text)),
+    ("facts", 1, Kind::Glob(GlobFact::Facts)),
+    ("printed", 1, Kind::Glob(GlobFact::Printed)),
+    ("glob_copies", 2, Kind::Glob(GlobFact::Copies)),
+    ("match_copies", 2, Kind::Glob(GlobFact::MatchCopies)),
+    (
+        "filter_lines",
+        3,
+        Kind::Glob(GlobFact::Lines(LinesCall::Filter)),
+    ),
+    (
+        "capture_lines",
+        3,
+        Kind::Glob(GlobFact::Lines(LinesCall::Capture)),
+    ),
+    (
+        "memoryless",
+        2,
+        Kind::Glob(GlobFact::Memoryless(Extent::Called)),
+    ),
+    (
+        "prepared",
+        2,
+        Kind::Glob(GlobFact::Memoryless(Extent::Prepared)),
+    ),
+    (
+        "partition",
+        1,
+        Kind::Glob(GlobFact::Part(PartFact::Partition)),
+    ),
+    ("prefix", 1, Kind::Glob(GlobFact::Part(PartFact::Prefix))),
+    (
+        "rest_or_empty",
+        1,
+        Kind::Glob(GlobFact::Part(PartFact::RestOrEmpty)),
+    ),
+    (
+        "rest_or_tree",
+        1,
+        Kind::Glob(GlobFact::Part(PartFact::RestOrTree)),
+    ),
+    ("rest", 2, Kind::Glob(GlobFact::Part(PartFact::Rest))),
+    ("again", 1, Kind::Glob(GlobFact::Part(PartFact::Again))),
+    ("owned_glob", 2, Kind::Glob(GlobFact::Part(PartFact::Owned))),
+    ("diagnosed", 1, Kind::Diagnosed),
+    ("depth", 1, Kind::Token(TokenFact::Depth)),
+    ("root", 1, Kind::Token(TokenFact::Root)),
+    ("exhaustive", 1, Kind::Token(TokenFact::Exhaustive)),
+    ("size", 1, Kind::Token(TokenFact::Size)),
+    ("text", 1, Kind::Token(TokenFact::Text)),
+    ("casing", 1, Kind::Token(TokenFact::Casing)),
+    ("tokens", 1, Kind::Token(TokenFact::Tokens)),
+    ("components", 1, Kind::Token(TokenFact::Components)),
+    ("literals", 1, Kind::Token(TokenFact::Literals)),
+    ("token_prefix", 1, Kind::Token(TokenFact::Prefix)),
+    (
+        "token_alternatives",
+        1,
+        Kind::Tokens(TokensFact::Alternatives),
+    ),
+    ("token_copies", 2, Kind::Tokens(TokensFact::Copies)),
+    ("owned_tokens", 1, Kind::Tokens(TokensFact::Owned)),
+    (
+        "alternatives",
+        1,
+        Kind::Tokens(TokensFact::Checked(CheckedFact::Alternatives)),
+    ),
+    (
+        "checked_parts",
+        1,
+        Kind::Tokens(TokensFact::Checked(CheckedFact::Parts)),
+    ),
+    (
+        "owned_checked",
+        1,
+        Kind::Tokens(TokensFact::Checked(CheckedFact::Owned)),
+    ),
+    (
+        "owned_error",
+        1,
+        Kind::Tokens(TokensFact::Checked(CheckedFact::Owned)),
+    ),
+    ("checked_any", 1, Kind::CheckedAny),
+    ("length", 1, Kind::Program(ProgramFact::Length)),
+    ("program", 2, Kind::Program(ProgramFact::Accepts)),
+    ("program_visits", 3, Kind::Program(ProgramFact::Visits)),
+    ("set", 1, Kind::Set(SetFact::Patterns)),
+    ("sets", 1, Kind::Set(SetFact::Sets)),
+    ("set_of_globs", 1, Kind::Set(SetFact::Globs)),
+    ("meant", 2, Kind::Set(SetFact::Match)),
+    ("set_is_match", 2, Kind::Set(SetFact::IsMatch)),
+    ("sets_is_match", 2, Kind::Set(SetFact::SetsIsMatch)),
+    ("set_facts", 1, Kind::Set(SetFact::Facts)),
+    ("set_length", 1, Kind::Set(SetFact::Length)),
+    ("nested_length", 1, Kind::Set(SetFact::NestedLength)),
+    ("empty_set", 1, Kind::Set(SetFact::Empty)),
+    ("empty_length", 1, Kind::Set(SetFact::EmptyLength)),
+    ("escape", 1, Kind::Path(PathFact::Escape)),
+    ("folded", 2, Kind::Path(PathFact::Folded)),
+    ("meta", 1, Kind::Path(PathFact::Meta)),
+    ("path_copies", 2, Kind::Path(PathFact::Copies)),
+    ("empty_glob", 1, Kind::Path(PathFact::EmptyGlob)),
+    ("tree_glob", 1, Kind::Path(PathFact::TreeGlob)),
+    ("ignored", 2, Kind::Ignored),
+    ("ignored_twice", 2, Kind::IgnoredTwice),
+    ("bad_line", 1, Kind::Ignored),
+    ("union", 2, Kind::Spans(SpansFact::Union)),
+    ("piece", 1, Kind::Spans(SpansFact::Piece)),
+    ("branch_labels", 3, Kind::Spans(SpansFact::BranchLabels)),
+    ("place_labels", 1, Kind::Spans(SpansFact::PlaceLabels)),
+    ("span_labels", 1, Kind::Spans(SpansFact::SpanLabels)),
+    ("split_labels", 2, Kind::Spans(SpansFact::SplitLabels)),
+    (
+        "printed_refusals",
+        1,
+        Kind::Spans(SpansFact::PrintedRefusals),
+    ),
+];
+
+/// Returns how many inputs a row of the kind has, and what it asks.
+pub fn find(name: &str) -> (usize, Kind) {
+    for (other, inputs, kind) in KINDS {
+        if *other == name {
+            return (*inputs, *kind);
+        }
+    }
+    (1, Kind::Unknown)
+}
