@@ -23,7 +23,7 @@ test:
 	tests/wrong-bodies
 
 bench: globs
-	cd crates/wax_bench && rt run </dev/null
+	cd crates/wax_vectors && rt run </dev/null
 	bench/instructions
 	bench/run
 	bench/walk

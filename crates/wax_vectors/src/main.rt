@@ -1,6 +1,6 @@
 //! Shows facts of expressions and paths. Each word names a file of rows, whose answers are made anew and
 //! compared with those that are wanted; each line of standard input is a row without its answer, which is
-//! shown.
+//! shown. With `time` as the first word the others say what is timed.
 #![tactic(auto)]
 
 mod answer;
@@ -19,6 +19,7 @@ mod refusals;
 mod row;
 mod sets;
 mod spans;
+mod timings;
 mod tokens;
 
 use answer::Answer;
@@ -27,6 +28,9 @@ use row::Row;
 use std::{env, fs, io};
 
 fn main(rt: HostRuntime) -> io::Result<()> {
+    if env::args(&rt)?.nth(1).as_deref() == Some("time") {
+        return timings::time_words(rt);
+    }
     let mut made = Answer::new(rt.alloc())?;
     for name in env::args(&rt)?.skip(1) {
         compare_rows(&rt, &name, &mut made)?;

@@ -1,0 +1,157 @@
+//! Times matches, captures, builds and walks. `time match EXPR..` matches each line of standard input, `time
+//! captures EXPR..` captures of each, `time new EXPR..` builds each glob many times, `time build -` builds
+//! one glob of all of standard input but its line break and asks for its depth, and `time walk FOLDER..` walks
+//! folders of the real system. Prints a line for each expression or folder, with tabs between: nanoseconds
+//! and visits a line, and lines that match; nanoseconds a glob, and how many were built; or entries, errors
+//! and milliseconds. Of a build it prints how it ended, and milliseconds.
+
+use std::alloc::{AllocError, Global};
+use std::time::Instant;
+use std::{env, io};
+use wax::walk::{Folders, PathExt};
+use wax::{CandidatePath, Glob, NoMemory, Program};
+
+/// How often each glob is built.
+const BUILDS: u64 = 1_000;
+
+/// What the matches of some lines came to.
+#[derive(Drop)]
+struct Matches {
+    matched: u64,
+    visits: u128,
+}
+
+/// What is timed of an expression.
+#[derive(Clone, Copy)]
+enum Timed {
+    Matches,
+    Captures,
+}
+
+/// Times what the words behind `time` ask for.
+pub fn time_words(rt: HostRuntime) -> io::Result<()> {
+    let given = io::read_to_string(rt.alloc(), rt.stdin())?;
+    let mut words = env::args(&rt)?.skip(2);
+    let Some(job) = words.next() else {
+        return Ok(());
+    };
+    for word in words {
+        time_word(rt, &job, &word, &given)?;
+    }
+    Ok(())
+}
+
+fn time_word(rt: HostRuntime, job: &str, word: &str, given: &str) -> io::Result<()> {
+    match job {
+        "match" => time_lines(rt, Timed::Matches, word, given),
+        "captures" => time_lines(rt, Timed::Captures, word, given),
+        "new" => time_new(rt, word),
+        "build" => time_build(rt, given.trim_end()),
+        _ => time_walk(rt, word),
+    }
+}
+
+fn time_lines(rt: HostRuntime, timed: Timed, expression: &str, given: &str) -> io::Result<()> {
+    let lines = lines_of(rt.alloc(), given)?;
+    let Ok(glob) = Glob::new(rt.alloc(), expression) else {
+        return println!(rt; "{expression}\trefused");
+    };
+    let start = Instant::now(&rt)?;
+    let answer = match timed {
+        Timed::Matches => match_lines(rt.alloc(), &glob, &lines),
+        Timed::Captures => capture_lines(rt.alloc(), &glob, &lines),
+    };
+    let Ok(matches) = answer else {
+        return println!(rt; "{expression}\tno memory");
+    };
+    let time = start.elapsed(&rt)?;
+    let count = (lines.len() as u128).max(1);
+    let (nanoseconds, visits) = (time.as_nanos() / count, matches.visits / count);
+    println!(rt;
+        "{expression}\t{nanoseconds}\t{visits}\t{}",
+        matches.matched
+    )
+}
+
+fn lines_of(alloc: Global, text: &str) -> Result<Vec<&str>, AllocError> {
+    text.lines().collect(alloc)
+}
+
+/// Matches each line.
+fn match_lines(alloc: Global, glob: &Glob<'_>, lines: &[&str]) -> Result<Matches, NoMemory> {
+    let mut matched: u64 = 0;
+    let mut visits: u128 = 0;
+    for line in lines {
+        let answer = glob.is_match_counted(alloc, &CandidatePath::from(*line))?;
+        matched = matched.saturating_add(answer.0 as u64);
+        visits = visits.saturating_add(answer.1);
+    }
+    Ok(Matches { matched, visits })
+}
+
+/// Captures of each line.
+fn capture_lines(alloc: Global, glob: &Glob<'_>, lines: &[&str]) -> Result<Matches, NoMemory> {
+    let mut matched: u64 = 0;
+    let mut visits: u128 = 0;
+    for line in lines {
+        let path = CandidatePath::from(*line);
+        let answer = glob.matched_counted(alloc, &path)?;
+        matched = matched.saturating_add(answer.0.is_some() as u64);
+        visits = visits.saturating_add(answer.1);
+    }
+    Ok(Matches { matched, visits })
+}
+
+fn time_new(rt: HostRuntime, expression: &str) -> io::Result<()> {
+    let start = Instant::now(&rt)?;
+    let count = built(rt.alloc(), expression);
+    let nanoseconds = start.elapsed(&rt)?.as_nanos() / (BUILDS as u128);
+    println!(rt; "{expression}\t{nanoseconds}\t{count}")
+}
+
+/// Returns how many of so many builds of the expression succeed.
+fn built(alloc: Global, expression: &str) -> u64 {
+    let mut count: u64 = 0;
+    for _ in 0..BUILDS {
+        if Glob::new(alloc, expression).is_ok() {
+            count = count.saturating_add(1);
+        }
+    }
+    count
+}
+
+fn time_build(rt: HostRuntime, expression: &str) -> io::Result<()> {
+    let start = Instant::now(&rt)?;
+    let came_to = build(rt.alloc(), expression);
+    println!(rt; "{came_to}\t{}", start.elapsed(&rt)?.as_millis())
+}
+
+/// Builds the glob and asks for its depth.
+fn build(alloc: Global, expression: &str) -> &'static str {
+    match Glob::new(alloc, expression) {
+        Ok(glob) => {
+            let _depth = glob.depth();
+            "built"
+        }
+        Err(_) => "refused",
+    }
+}
+
+fn time_walk(rt: HostRuntime, start: &str) -> io::Result<()> {
+    let begun = Instant::now(&rt)?;
+    let (entries, errors) = walked(rt, start);
+    let milliseconds = begun.elapsed(&rt)?.as_millis();
+    println!(rt; "{start}\t{entries}\t{errors}\t{milliseconds}")
+}
+
+/// Returns how many entries and errors the walk from a path yields.
+fn walked(rt: HostRuntime, start: &str) -> (u64, u64) {
+    let (mut entries, mut errors) = (0u64, 0u64);
+    for item in start.walk(rt.alloc(), Folders::new(rt)) {
+        match item {
+            Ok(_) => entries = entries.saturating_add(1),
+            Err(_) => errors = errors.saturating_add(1),
+        }
+    }
+    (entries, errors)
+}
