@@ -10,6 +10,8 @@ use wax::rule::{Checked, check};
 use wax::token::{ExpressionMetadata, Partitioned, Token, Tokenized, parse};
 use wax::{NoMemory, Refusal};
 
+type CheckedToken<'t> = Checked<Token<'t, ExpressionMetadata>>;
+
 type CheckedTokens<'t> = Checked<Tokenized<'t, ExpressionMetadata>>;
 
 /// Adds a fact of tokens once they are checked.
@@ -49,7 +51,18 @@ fn add_alternatives(
     checked: CheckedTokens<'_>,
     made: &mut Answer,
 ) -> Result<(), NoMemory> {
-    for alternative in &checked.into_alternatives(alloc)? {
+    match checked.into_alternatives(alloc) {
+        Ok(alternatives) => add_each(alloc, &alternatives, made),
+        Err(_) => Err(NoMemory),
+    }
+}
+
+fn add_each(
+    alloc: Global,
+    alternatives: &[CheckedToken<'_>],
+    made: &mut Answer,
+) -> Result<(), NoMemory> {
+    for alternative in alternatives {
         add_text(alloc, alternative.as_ref(), made)?;
         made.add("|");
     }
@@ -58,7 +71,9 @@ fn add_alternatives(
 
 /// Adds the prefix, and the expression of the rest.
 fn add_parts(alloc: Global, checked: CheckedTokens<'_>, made: &mut Answer) -> Result<(), NoMemory> {
-    let (prefix, rest) = checked.partition(alloc)?;
+    let Ok((prefix, rest)) = checked.partition(alloc) else {
+        return Err(NoMemory);
+    };
     made.add(prefix.as_str());
     match &rest {
         Some(rest) => {
@@ -72,28 +87,47 @@ fn add_parts(alloc: Global, checked: CheckedTokens<'_>, made: &mut Answer) -> Re
 
 /// Adds the expression and the one text of its token, each with texts of its own.
 fn add_owned(alloc: Global, checked: CheckedTokens<'_>, made: &mut Answer) -> Result<(), NoMemory> {
-    let owned = checked.into_owned(alloc)?;
-    made.add(owned.as_ref().expression());
-    made.tab();
-    add_text(alloc, owned.as_ref().as_token(), made)?;
-    made.tab();
-    add_owned_token(alloc, owned.into_token(), made)
+    match checked.into_owned(alloc) {
+        Ok(owned) => {
+            made.add(owned.as_ref().expression());
+            made.tab();
+            add_token(alloc, owned.into_token(), made)
+        }
+        Err(_) => Err(NoMemory),
+    }
 }
 
-fn add_owned_token(
-    alloc: Global,
-    token: Checked<Token<'_, ExpressionMetadata>>,
-    made: &mut Answer,
-) -> Result<(), NoMemory> {
-    add_text(alloc, token.into_owned(alloc)?.as_ref(), made)
+/// Adds the one text of the token, and that of the token with texts of its own.
+fn add_token(alloc: Global, token: CheckedToken<'_>, made: &mut Answer) -> Result<(), NoMemory> {
+    if add_text(alloc, token.as_ref(), made).is_err() {
+        return Err(NoMemory);
+    }
+    made.tab();
+    match token.into_owned(alloc) {
+        Ok(owned) => add_text(alloc, owned.as_ref(), made),
+        Err(_) => Err(NoMemory),
+    }
 }
 
 /// Adds the span and the branches of the alternation of the row's expressions, which have spaces between.
 pub fn add_any(alloc: Global, row: &Row, made: &mut Answer) -> Result<(), NoMemory> {
-    let joined = Checked::any(alloc, checked_each(alloc, row.input(0))?)?;
-    made.span(joined.as_ref().annotation().span());
+    let Ok(all) = checked_each(alloc, row.input(0)) else {
+        return Err(NoMemory);
+    };
+    match Checked::any(alloc, all) {
+        Ok(joined) => add_joined(alloc, joined.as_ref(), made),
+        Err(_) => Err(NoMemory),
+    }
+}
+
+fn add_joined(
+    alloc: Global,
+    joined: &Token<'_, ExpressionMetadata>,
+    made: &mut Answer,
+) -> Result<(), NoMemory> {
+    made.span(joined.annotation().span());
     made.tab();
-    match joined.as_ref().as_alternation() {
+    match joined.as_alternation() {
         Some(alternation) => add_texts(alloc, alternation.tokens(), made),
         None => Err(NoMemory),
     }
@@ -102,18 +136,22 @@ pub fn add_any(alloc: Global, row: &Row, made: &mut Answer) -> Result<(), NoMemo
 fn checked_each(alloc: Global, expressions: &str) -> Result<Vec<CheckedTokens<'_>>, NoMemory> {
     let mut all = Vec::new(alloc);
     for expression in expressions.split(' ') {
-        push(&mut all, checked_of(alloc, expression)?)?;
+        push_checked(alloc, &mut all, expression)?;
     }
     Ok(all)
 }
 
-/// Returns the checked tokens of an expression that keeps the rules.
-fn checked_of(alloc: Global, expression: &str) -> Result<CheckedTokens<'_>, NoMemory> {
+/// Pushes the checked tokens of an expression that keeps the rules.
+fn push_checked<'e>(
+    alloc: Global,
+    all: &mut Vec<CheckedTokens<'e>>,
+    expression: &'e str,
+) -> Result<(), NoMemory> {
     let Ok(tokens) = parse(alloc, expression) else {
         return Err(NoMemory);
     };
     match check(alloc, tokens) {
-        Ok(checked) => Ok(checked),
+        Ok(checked) => push(all, checked),
         Err(_) => Err(NoMemory),
     }
 }

@@ -21,9 +21,25 @@ pub fn add_matches(
 }
 
 fn add_copies(alloc: Global, matched: MatchedText<'_>, made: &mut Answer) -> Result<(), NoMemory> {
+    if add_borrowed(alloc, &matched, made).is_err() {
+        return Err(NoMemory);
+    }
+    match matched.into_owned(alloc) {
+        Ok(owned) => {
+            add_clone(&owned, made);
+            Ok(())
+        }
+        Err(_) => Err(NoMemory),
+    }
+}
+
+fn add_borrowed(
+    alloc: Global,
+    matched: &MatchedText<'_>,
+    made: &mut Answer,
+) -> Result<(), NoMemory> {
     add_clone(&matched.clone()?, made);
     add_clone(&matched.to_owned(alloc)?, made);
-    add_clone(&matched.into_owned(alloc)?, made);
     Ok(())
 }
 

@@ -96,14 +96,18 @@ pub fn add_match<P: Program>(
     made: &mut Answer,
 ) -> Result<(), NoMemory> {
     let path = CandidatePath::from(path);
-    match program.matched(alloc, &path)? {
-        Some(matched) => {
+    match program.matched(alloc, &path) {
+        Ok(Some(matched)) => {
             made.add("1");
             add_texts(&matched, "\t", made);
+            Ok(())
         }
-        None => made.add("0"),
+        Ok(None) => {
+            made.add("0");
+            Ok(())
+        }
+        Err(error) => Err(error),
     }
-    Ok(())
 }
 
 /// Adds whether the glob matches the path, twice.

@@ -11,14 +11,18 @@ use wax::{CandidatePath, NoMemory};
 pub fn answer(alloc: Global, is_twice: bool, row: &Row, made: &mut Answer) -> Result<(), NoMemory> {
     match IgnoreList::parse(alloc, row.input(0)) {
         Ok(list) if is_twice => {
-            for _ in 0..2 {
-                let call = add_ignored(alloc, &list, row.input(1), made);
-                made.end(call);
-            }
+            add_twice(alloc, &list, row.input(1), made);
             Ok(())
         }
         Ok(list) => add_ignored(alloc, &list, row.input(1), made),
         Err(error) => add_error(&error, made),
+    }
+}
+
+fn add_twice(alloc: Global, list: &IgnoreList, path: &str, made: &mut Answer) {
+    for _ in 0..2 {
+        let call = add_ignored(alloc, list, path, made);
+        made.end(call);
     }
 }
 

@@ -12,13 +12,31 @@ use wax::{CandidatePath, Glob, NoMemory, escape, is_contextual_meta_character, i
 pub fn answer(alloc: Global, fact: PathFact, row: &Row, made: &mut Answer) -> Result<(), NoMemory> {
     let text = row.input(0);
     match fact {
-        PathFact::Escape => made.add(&escape(alloc, text)?),
-        PathFact::Folded => made.digit(case_folded_eq(alloc, text, row.input(1))?),
-        PathFact::Meta => add_meta(text, made),
-        PathFact::Copies => return add_copies(alloc, row, made),
-        PathFact::EmptyGlob => return add_glob(alloc, &Glob::empty(alloc)?, text, made),
-        PathFact::TreeGlob => return add_glob(alloc, &Glob::tree(alloc)?, text, made),
+        PathFact::Escape => add_escaped(alloc, text, made),
+        PathFact::Folded => add_folded(alloc, text, row.input(1), made),
+        PathFact::Meta => {
+            add_meta(text, made);
+            Ok(())
+        }
+        PathFact::Copies => add_copies(alloc, row, made),
+        PathFact::EmptyGlob => add_glob(alloc, Glob::empty(alloc), text, made),
+        PathFact::TreeGlob => add_glob(alloc, Glob::tree(alloc), text, made),
     }
+}
+
+fn add_escaped(alloc: Global, text: &str, made: &mut Answer) -> Result<(), NoMemory> {
+    match escape(alloc, text) {
+        Ok(escaped) => {
+            made.add(&escaped);
+            Ok(())
+        }
+        Err(error) => Err(error),
+    }
+}
+
+/// Adds whether the texts are the same in any case.
+fn add_folded(alloc: Global, left: &str, right: &str, made: &mut Answer) -> Result<(), NoMemory> {
+    made.digit(case_folded_eq(alloc, left, right)?);
     Ok(())
 }
 
@@ -35,17 +53,42 @@ fn add_meta(text: &str, made: &mut Answer) {
 /// text.
 fn add_copies(alloc: Global, row: &Row, made: &mut Answer) -> Result<(), NoMemory> {
     let path = CandidatePath::from(row.input(0));
-    made.digit(path.clone()? == path);
-    made.digit(path.to_owned(alloc)? == path);
-    made.digit(CandidatePath::from(row.input(1)) == path);
+    if add_comparisons(alloc, &path, row.input(1), made).is_err() {
+        return Err(NoMemory);
+    }
     made.tab();
-    made.add(path.into_owned(alloc)?.as_str());
+    match path.into_owned(alloc) {
+        Ok(owned) => {
+            made.add(owned.as_str());
+            Ok(())
+        }
+        Err(error) => Err(error),
+    }
+}
+
+fn add_comparisons(
+    alloc: Global,
+    path: &CandidatePath<'_>,
+    other: &str,
+    made: &mut Answer,
+) -> Result<(), NoMemory> {
+    made.digit(path.clone()? == *path);
+    made.digit(path.to_owned(alloc)? == *path);
+    made.digit(CandidatePath::from(other) == *path);
     Ok(())
 }
 
 /// Adds whether the glob is empty, and whether it matches the path.
-fn add_glob(alloc: Global, glob: &Glob<'_>, path: &str, made: &mut Answer) -> Result<(), NoMemory> {
+fn add_glob(
+    alloc: Global,
+    glob: Result<Glob<'_>, NoMemory>,
+    path: &str,
+    made: &mut Answer,
+) -> Result<(), NoMemory> {
+    let Ok(glob) = glob else {
+        return Err(NoMemory);
+    };
     made.digit(glob.is_empty());
     made.tab();
-    add_is_match(alloc, glob, path, made)
+    add_is_match(alloc, &glob, path, made)
 }

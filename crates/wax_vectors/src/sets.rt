@@ -101,9 +101,25 @@ fn set_of_none(alloc: Global) -> Result<Set, BuildError> {
 fn set_of_globs(alloc: Global, patterns: &str) -> Result<Set, BuildError> {
     let mut all: Vec<Glob<'static>> = Vec::new(alloc);
     for pattern in patterns.split(' ') {
-        push(&mut all, Glob::new(alloc, pattern)?.into_owned(alloc)?)?;
+        push_glob(alloc, &mut all, pattern)?;
     }
     any(alloc, all)
+}
+
+/// Pushes the glob of the pattern, with texts of its own.
+fn push_glob(
+    alloc: Global,
+    globs: &mut Vec<Glob<'static>>,
+    pattern: &str,
+) -> Result<(), BuildError> {
+    let glob = match Glob::new(alloc, pattern) {
+        Ok(glob) => glob.into_owned(alloc),
+        Err(error) => return Err(error),
+    };
+    match glob {
+        Ok(glob) => Ok(push(globs, glob)?),
+        Err(_) => Err(BuildError::Memory),
+    }
 }
 
 /// Builds the set of sets.
@@ -119,18 +135,32 @@ fn set_of_sets(alloc: Global, sets: &str) -> Result<Set, BuildError> {
 fn set_of_parts(alloc: Global, patterns: &str) -> Result<Set, BuildError> {
     let mut parts: Vec<Part> = Vec::new(alloc);
     for pattern in patterns.split(' ') {
-        push(&mut parts, pattern.into_checked(alloc)?)?;
+        push_part(&mut parts, pattern.into_checked(alloc))?;
     }
     any(alloc, parts)
+}
+
+fn push_part(parts: &mut Vec<Part>, part: Result<Part, BuildError>) -> Result<(), BuildError> {
+    match part {
+        Ok(part) => Ok(push(parts, part)?),
+        Err(error) => Err(error),
+    }
 }
 
 /// Builds the set of the checked tokens of a set, before the semicolon, and of the pattern after it.
 fn set_of_set(alloc: Global, patterns: &str) -> Result<Set, BuildError> {
     let (set, pattern) = patterns.split_once(';').unwrap_or((patterns, ""));
     let mut parts: Vec<Part> = Vec::new(alloc);
-    push(&mut parts, set_of(alloc, set)?.into_checked(alloc)?)?;
-    push(&mut parts, pattern.into_checked(alloc)?)?;
+    push_part(&mut parts, checked_set(alloc, set))?;
+    push_part(&mut parts, pattern.into_checked(alloc))?;
     any(alloc, parts)
+}
+
+fn checked_set(alloc: Global, patterns: &str) -> Result<Part, BuildError> {
+    match set_of(alloc, patterns) {
+        Ok(set) => set.into_checked(alloc),
+        Err(error) => Err(error),
+    }
 }
 
 /// Adds how long the program of the set's token is.

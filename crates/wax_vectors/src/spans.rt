@@ -43,14 +43,27 @@ pub fn answer(
         SpansFact::Union => add_span(span.union(span_of(row.input(1))), made),
         SpansFact::Piece => add_piece(span, made),
         SpansFact::BranchLabels => return add_branch(alloc, row, made),
-        SpansFact::PlaceLabels => add_labels(
-            &CompositeSpan::spanned("here", span).labels(alloc)?,
-            made,
-        ),
-        SpansFact::SpanLabels => add_labels(&CorrelatedSpan::from(span).labels(alloc)?, made),
-        SpansFact::SplitLabels => add_labels(&split(row, 0).labels(alloc)?, made),
+        SpansFact::PlaceLabels => {
+            return add_composite(alloc, &CompositeSpan::spanned("here", span), made);
+        }
+        SpansFact::SpanLabels => return add_correlated(alloc, &CorrelatedSpan::from(span), made),
+        SpansFact::SplitLabels => return add_correlated(alloc, &split(row, 0), made),
         SpansFact::PrintedRefusals => add_printed(made),
     }
+    Ok(())
+}
+
+fn add_composite(alloc: Global, place: &CompositeSpan, made: &mut Answer) -> Result<(), NoMemory> {
+    add_labels(&place.labels(alloc)?, made);
+    Ok(())
+}
+
+fn add_correlated(
+    alloc: Global,
+    place: &CorrelatedSpan,
+    made: &mut Answer,
+) -> Result<(), NoMemory> {
+    add_labels(&place.labels(alloc)?, made);
     Ok(())
 }
 
@@ -100,8 +113,7 @@ fn add_branch(alloc: Global, row: &Row, made: &mut Answer) -> Result<(), NoMemor
     made.span(branch.span());
     made.tab();
     made.show(&branch);
-    add_labels(&branch.labels(alloc)?, made);
-    Ok(())
+    add_composite(alloc, &branch, made)
 }
 
 /// Adds what a refusal prints, what refused memory prints, and whether that has no place.

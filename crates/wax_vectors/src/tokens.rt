@@ -221,12 +221,18 @@ fn add_alternatives(alloc: Global, tokens: Tokens<'_>, made: &mut Answer) -> Res
 
 /// Adds the expression, how many tokens it has, and its one text, once it has texts of its own.
 fn add_owned(alloc: Global, tokens: Tokens<'_>, made: &mut Answer) -> Result<(), NoMemory> {
-    let owned = tokens.into_owned(alloc)?;
-    made.add(owned.expression());
+    match tokens.into_owned(alloc) {
+        Ok(owned) => add_whole(alloc, &owned, made),
+        Err(error) => Err(error),
+    }
+}
+
+fn add_whole(alloc: Global, tokens: &Tokens<'_>, made: &mut Answer) -> Result<(), NoMemory> {
+    made.add(tokens.expression());
     made.tab();
-    made.show(&owned.concatenation().len());
+    made.show(&tokens.concatenation().len());
     made.tab();
-    add_text(alloc, owned.as_token(), made)
+    add_text(alloc, tokens.as_token(), made)
 }
 
 /// Adds whether a copy equals the tokens, those of the row's other expression do, the copy prints the same,
@@ -237,20 +243,55 @@ fn add_copies(
     tokens: Tokens<'_>,
     made: &mut Answer,
 ) -> Result<(), NoMemory> {
-    let tokens = tokens.into_owned(alloc)?;
-    let copy = tokens.to_owned(alloc)?;
-    made.digit(copy == tokens);
-    made.digit(owned(alloc, row.input(1))? == tokens);
-    made.digit(print_the_same(alloc, &copy, &tokens)?);
-    made.digit(tokens.as_token().to_owned(alloc)? == *copy.as_token());
+    match tokens.into_owned(alloc) {
+        Ok(owned) => add_copy(alloc, row.input(1), &owned, made),
+        Err(error) => Err(error),
+    }
+}
+
+fn add_copy(
+    alloc: Global,
+    other: &str,
+    tokens: &Tokens<'_>,
+    made: &mut Answer,
+) -> Result<(), NoMemory> {
+    match tokens.to_owned(alloc) {
+        Ok(copy) => add_comparisons(alloc, other, &copy, tokens, made),
+        Err(error) => Err(error),
+    }
+}
+
+fn add_comparisons(
+    alloc: Global,
+    other: &str,
+    copy: &Tokens<'_>,
+    tokens: &Tokens<'_>,
+    made: &mut Answer,
+) -> Result<(), NoMemory> {
+    made.digit(*copy == *tokens);
+    made.digit(spells(alloc, other, tokens)?);
+    made.digit(print_the_same(alloc, copy, tokens)?);
+    made.digit(has_equal_copy(alloc, tokens.as_token(), copy.as_token())?);
     Ok(())
 }
 
-/// Returns the tokens of an expression, with texts of their own.
-fn owned(alloc: Global, expression: &str) -> Result<Tokens<'static>, NoMemory> {
+/// Returns whether the expression spells the tokens.
+fn spells(alloc: Global, expression: &str, tokens: &Tokens<'_>) -> Result<bool, NoMemory> {
     match parse(alloc, expression) {
-        Ok(tokens) => tokens.into_owned(alloc),
+        Ok(others) => Ok(others == *tokens),
         Err(_) => Err(NoMemory),
+    }
+}
+
+/// Returns whether a copy of the token equals the other.
+fn has_equal_copy(
+    alloc: Global,
+    token: &Token<'_, ExpressionMetadata>,
+    other: &Token<'_, ExpressionMetadata>,
+) -> Result<bool, NoMemory> {
+    match token.to_owned(alloc) {
+        Ok(copy) => Ok(copy == *other),
+        Err(error) => Err(error),
     }
 }
 
