@@ -1,9 +1,9 @@
 //! Times matches, captures, builds and walks. `time match EXPR..` matches each line of standard input, `time
-//! captures EXPR..` captures of each, `time new EXPR..` builds each glob many times, `time build -` builds
-//! one glob of all of standard input but its line break and asks for its depth, and `time walk FOLDER..` walks
-//! folders of the real system. Prints a line for each expression or folder, with tabs between: nanoseconds
-//! and visits a line, and lines that match; nanoseconds a glob, and how many were built; or entries, errors
-//! and milliseconds. Of a build it prints how it ended, and milliseconds.
+//! captures EXPR..` captures of each, `time new EXPR..` builds each glob many times, and `time build -`
+//! builds one glob of all of standard input but its line break and asks for its depth. `time walk FOLDER..`
+//! walks folders of the real system. Prints a line for each expression or folder, with tabs between:
+//! nanoseconds and visits a line, and lines that match; nanoseconds a glob, and how many were built; or
+//! entries, errors and milliseconds. Of a build it prints how it ended, and milliseconds.
 
 use std::alloc::{AllocError, Global};
 use std::time::Instant;
