@@ -252,7 +252,7 @@ fn add_copies(
 fn add_copy(
     alloc: Global,
     other: &str,
-    tokens: &Tokens<'_>,
+    tokens: &Tokens<'static>,
     made: &mut Answer,
 ) -> Result<(), NoMemory> {
     match tokens.to_owned(alloc) {
@@ -264,8 +264,8 @@ fn add_copy(
 fn add_comparisons(
     alloc: Global,
     other: &str,
-    copy: &Tokens<'_>,
-    tokens: &Tokens<'_>,
+    copy: &Tokens<'static>,
+    tokens: &Tokens<'static>,
     made: &mut Answer,
 ) -> Result<(), NoMemory> {
     made.digit(*copy == *tokens);
@@ -276,9 +276,17 @@ fn add_comparisons(
 }
 
 /// Returns whether the expression spells the tokens.
-fn spells(alloc: Global, expression: &str, tokens: &Tokens<'_>) -> Result<bool, NoMemory> {
-    match parse(alloc, expression) {
+fn spells(alloc: Global, expression: &str, tokens: &Tokens<'static>) -> Result<bool, NoMemory> {
+    match owned(alloc, expression) {
         Ok(others) => Ok(others == *tokens),
+        Err(error) => Err(error),
+    }
+}
+
+/// Returns the tokens of an expression, with texts of their own.
+fn owned(alloc: Global, expression: &str) -> Result<Tokens<'static>, NoMemory> {
+    match parse(alloc, expression) {
+        Ok(tokens) => tokens.into_owned(alloc),
         Err(_) => Err(NoMemory),
     }
 }
@@ -286,8 +294,8 @@ fn spells(alloc: Global, expression: &str, tokens: &Tokens<'_>) -> Result<bool, 
 /// Returns whether a copy of the token equals the other.
 fn has_equal_copy(
     alloc: Global,
-    token: &Token<'_, ExpressionMetadata>,
-    other: &Token<'_, ExpressionMetadata>,
+    token: &Token<'static, ExpressionMetadata>,
+    other: &Token<'static, ExpressionMetadata>,
 ) -> Result<bool, NoMemory> {
     match token.to_owned(alloc) {
         Ok(copy) => Ok(copy == *other),
