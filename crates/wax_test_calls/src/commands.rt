@@ -1,7 +1,8 @@
 //! Runs of the commands over trees in memory and streams that fail.
 
-use crate::rows::{bytes_of, field, push_bytes};
-use crate::streams::{number_after, push_counts, reader, writer};
+use crate::answer::Answer;
+use crate::rows::{bytes_of, field};
+use crate::streams::{add_counts, number_after, reader, writer};
 use std::alloc::{AllocError, Global};
 use std::env::FillError;
 use std::rt::Env;
@@ -27,33 +28,39 @@ fn plan_of(name: &str) -> &str {
     }
 }
 
-/// Pushes the status of a run, how often it reads and writes, what is written, and what is told.
-pub fn push_run(alloc: Global, row: &str, text: &mut String) -> Result<(), NoMemory> {
-    let words = words_of(alloc, field(row, 1))?;
-    let bytes = bytes_of(alloc, field(row, 3))?;
-    let Ok(tree) = tree_of(alloc, plan_of(field(row, 4)), ROOT) else {
-        return Ok(text.push_str("no tree")?);
+/// Adds the status of a run, how often it reads and writes, what is written, and what is told.
+pub fn add_run(alloc: Global, row: &str, made: &mut Answer) -> Result<(), NoMemory> {
+    let Ok(words) = words_of(alloc, field(row, 1)) else {
+        return Err(NoMemory);
     };
-    let calls = number_after(field(row, 2), "starving").unwrap_or(u64::MAX);
-    push_ran(
-        alloc,
-        field(row, 2),
-        &words,
-        &bytes,
-        Starving::new(tree, calls),
-        text,
-    )?;
-    Ok(())
+    match bytes_of(alloc, field(row, 3)) {
+        Ok(bytes) => {
+            add_run_of(alloc, row, &words, &bytes, made);
+            Ok(())
+        }
+        Err(_) => Err(NoMemory),
+    }
 }
 
-fn push_ran<D: Directory>(
+fn add_run_of(alloc: Global, row: &str, words: &[Option<String>], bytes: &[u8], made: &mut Answer) {
+    let calls = number_after(field(row, 2), "starving").unwrap_or(u64::MAX);
+    match tree_of(alloc, plan_of(field(row, 4)), ROOT) {
+        Ok(tree) => {
+            let directory = Starving::new(tree, calls);
+            add_ran(alloc, field(row, 2), words, bytes, directory, made);
+        }
+        Err(_) => made.add("no tree"),
+    }
+}
+
+fn add_ran<D: Directory>(
     alloc: Global,
     streams: &str,
     words: &[Option<String>],
     bytes: &[u8],
     directory: D,
-    text: &mut String,
-) -> Result<(), AllocError> {
+    made: &mut Answer,
+) {
     let mut input = reader(streams, bytes);
     let mut output = writer(alloc, streams);
     let room = if streams == "untold" { 0 } else { usize::MAX };
@@ -67,11 +74,11 @@ fn push_ran<D: Directory>(
         directory,
         |file| { held(alloc, file) },
     );
-    text.push_str(format!(in alloc; "{status}")?.as_str())?;
-    push_counts(alloc, &input, &output, text)?;
-    push_bytes(text, &output.into_inner().inner.taken)?;
-    text.push('\t')?;
-    push_bytes(text, &told.taken)
+    made.show(&status);
+    add_counts(&input, &output, made);
+    made.bytes(&output.into_inner().inner.taken);
+    made.add("\t");
+    made.bytes(&told.taken);
 }
 
 /// Returns the words of a command: `''` is an empty one, and `¿` one that isn't text.
@@ -133,15 +140,20 @@ impl Env for Called<'_> {
     }
 }
 
-/// Pushes the words of this program.
-pub fn push_words(alloc: Global, text: &mut String) -> Result<(), NoMemory> {
-    let long = vec![in alloc; b'a'; 300]?;
-    for word in &words(&Called { long: &long }, alloc)? {
+/// Adds the words of this program.
+pub fn add_words(alloc: Global, made: &mut Answer) -> Result<(), NoMemory> {
+    let Ok(long) = vec![in alloc; b'a'; 300] else {
+        return Err(NoMemory);
+    };
+    let Ok(words) = words(&Called { long: &long }, alloc) else {
+        return Err(NoMemory);
+    };
+    for word in &words {
         match word {
-            Some(word) => text.push_str(word.as_str())?,
-            None => text.push_str("not text")?,
+            Some(word) => made.add(word.as_str()),
+            None => made.add("not text"),
         }
-        text.push(';')?;
+        made.add(";");
     }
     Ok(())
 }

@@ -9,7 +9,8 @@ ghost use Rattle.wax_token.specs.View.{leaf_of};
 ghost use Rattle.wax_fold.specs.Mapped.{Mapping, mapped};
 ghost use Rattle.wax_test_calls.specs.Folders.{finding, marking};
 
-use std::alloc::{AllocError, Global};
+use crate::answer::Answer;
+use std::alloc::Global;
 use std::borrow::CowStr;
 use wax::NoMemory;
 use wax::token::walk::{
@@ -146,12 +147,12 @@ fn marked<'t>(alloc: Global, token: Token<'t, u8>) -> Result<Option<Token<'t, u8
     fold_map(alloc, token, &mut Marker)
 }
 
-/// Pushes what a fold or a walk gives of the tokens of `a{?,**}</:1,>`.
-pub fn push_tokens(alloc: Global, kind: &str, text: &mut String) -> Result<(), NoMemory> {
+/// Adds what a fold or a walk gives of the tokens of `a{?,**}</:1,>`.
+pub fn add_tokens(alloc: Global, kind: &str, made: &mut Answer) -> Result<(), NoMemory> {
     if kind == "marked" {
-        return push_marked(alloc, text);
+        return add_marked(alloc, made);
     }
-    push_walked(alloc, kind, &sample(alloc), text)
+    add_walked(alloc, kind, &sample(alloc), made)
 }
 
 /// Returns the tokens of `a{?,**}</:1,>`, or fewer if allocation fails.
@@ -188,80 +189,77 @@ fn with_copies<'t>(alloc: Global, tokens: Vec<Token<'t, u8>>) -> Vec<Token<'t, u
     }
 }
 
-/// Pushes the annotation of each token once all are marked.
-fn push_marked(alloc: Global, text: &mut String) -> Result<(), NoMemory> {
+/// Adds the annotation of each token once all are marked.
+fn add_marked(alloc: Global, made: &mut Answer) -> Result<(), NoMemory> {
     let Ok(Some(token)) = marked(alloc, sample(alloc)) else {
         return Err(NoMemory);
     };
-    push_annotations(alloc, &token, text)
+    add_annotations(alloc, &token, made)
 }
 
-fn push_annotations(
+fn add_annotations(
     alloc: Global,
     token: &Token<'_, u8>,
-    text: &mut String,
+    made: &mut Answer,
 ) -> Result<(), NoMemory> {
-    let mut is_pushed = true;
+    let mut is_whole = true;
     for entry in forward(alloc, token) {
-        is_pushed &= match entry {
-            Ok(entry) => push_number(alloc, *entry.token.annotation() as usize, text).is_ok(),
-            Err(_) => false,
-        };
+        match entry {
+            Ok(entry) => add_number(*entry.token.annotation() as usize, made),
+            Err(_) => is_whole = false,
+        }
     }
-    if is_pushed { Ok(()) } else { Err(NoMemory) }
+    if is_whole { Ok(()) } else { Err(NoMemory) }
 }
 
-fn push_walked(
+fn add_walked(
     alloc: Global,
     kind: &str,
     token: &Token<'_, u8>,
-    text: &mut String,
+    made: &mut Answer,
 ) -> Result<(), NoMemory> {
     match kind {
-        "forward" => push_depths(alloc, forward(alloc, token), text),
-        "starting" => push_depths(alloc, starting(alloc, token), text),
-        "ending" => push_depths(alloc, ending(alloc, token), text),
-        "cancelled" => push_cancelled(alloc, token, text),
-        _ => push_found(alloc, token, text),
+        "forward" => add_depths(forward(alloc, token), made),
+        "starting" => add_depths(starting(alloc, token), made),
+        "ending" => add_depths(ending(alloc, token), made),
+        "cancelled" => add_cancelled(alloc, token, made),
+        _ => add_found(alloc, token, made),
     }
 }
 
-/// Pushes whether there is a `**`.
-fn push_found(alloc: Global, token: &Token<'_, u8>, text: &mut String) -> Result<(), NoMemory> {
+/// Adds whether there is a `**`.
+fn add_found(alloc: Global, token: &Token<'_, u8>, made: &mut Answer) -> Result<(), NoMemory> {
     let found = holds_tree(alloc, token)?;
-    text.push_str(if found { "found" } else { "not found" })?;
+    made.add(if found { "found" } else { "not found" });
     Ok(())
 }
 
-/// Pushes the depth of each token that a walk gives.
-fn push_depths<S: Sequencer + Drop>(
-    alloc: Global,
+/// Adds the depth of each token that a walk yields.
+fn add_depths<S: Sequencer + Drop>(
     walk: Walk<'_, '_, u8, S>,
-    text: &mut String,
+    made: &mut Answer,
 ) -> Result<(), NoMemory> {
-    let mut is_pushed = true;
+    let mut is_whole = true;
     for entry in walk {
-        is_pushed &= match entry {
-            Ok(entry) => push_number(alloc, entry.position().depth.conjunctive, text).is_ok(),
-            Err(_) => false,
-        };
+        match entry {
+            Ok(entry) => add_number(entry.position().depth.conjunctive, made),
+            Err(_) => is_whole = false,
+        }
     }
-    if is_pushed { Ok(()) } else { Err(NoMemory) }
+    if is_whole { Ok(()) } else { Err(NoMemory) }
 }
 
-/// Pushes the depths of the tokens behind the third, below whose branch nothing more is given.
-fn push_cancelled(alloc: Global, token: &Token<'_, u8>, text: &mut String) -> Result<(), NoMemory> {
+/// Adds the depths of the tokens behind the third, below whose branch nothing more is given.
+fn add_cancelled(alloc: Global, token: &Token<'_, u8>, made: &mut Answer) -> Result<(), NoMemory> {
     let mut walk = forward(alloc, token);
     for _ in 0..3 {
         let _ = walk.next();
     }
     walk.cancel_walk_tree();
-    push_depths(alloc, walk, text)
+    add_depths(walk, made)
 }
 
-fn push_number(alloc: Global, number: usize, text: &mut String) -> Result<(), AllocError> {
-    if !text.ends_with('\t') {
-        text.push(' ')?;
-    }
-    text.push_str(format!(in alloc; "{number}")?.as_str())
+fn add_number(number: usize, made: &mut Answer) {
+    made.separate(" ");
+    made.show(&number);
 }

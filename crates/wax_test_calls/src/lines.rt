@@ -1,62 +1,55 @@
 //! The two calls of lines, over readers and writers that fail or are interrupted.
 
+use crate::answer::Answer;
 use crate::pictures::Pictures;
-use crate::rows::{bytes_of, field, push_bytes};
-use crate::streams::{Writer, push_counts, reader, writer};
+use crate::rows::{bytes_of, field};
+use crate::streams::{Writer, add_counts, reader, writer};
 use std::alloc::Global;
 use std::io::{Read, Write};
 use wax::{Counted, Glob, LinesError, NoMemory, capture_lines, filter_lines};
 
-/// Pushes how a call of lines ends, how often it reads and writes, and what is written. What follows it is
+/// Adds how a call of lines ends, how often it reads and writes, and what is written. What follows it is
 /// another call with the same streams (`again`), a write of nothing and a flush (`flush`), or a call whose
 /// input is the field.
-pub fn push_lines(alloc: Global, row: &str, text: &mut String) -> Result<(), NoMemory> {
-    let bytes = bytes_of(alloc, field(row, 3))?;
+pub fn add_lines(alloc: Global, row: &str, made: &mut Answer) -> Result<(), NoMemory> {
+    let Ok(bytes) = bytes_of(alloc, field(row, 3)) else {
+        return Err(NoMemory);
+    };
     let streams = field(row, 2);
     let mut output = writer(alloc, streams);
     if streams.starts_with("whole") {
-        push_calls(
-            alloc,
-            row,
-            &mut Counted::new(bytes.as_slice()),
-            &mut output,
-            text,
-        )?;
+        let mut input = Counted::new(bytes.as_slice());
+        add_calls(alloc, row, &mut input, &mut output, made);
     } else {
-        push_calls(alloc, row, &mut reader(streams, &bytes), &mut output, text)?;
+        add_calls(alloc, row, &mut reader(streams, &bytes), &mut output, made);
     }
-    push_bytes(text, &output.into_inner().inner.taken)?;
+    made.bytes(&output.into_inner().inner.taken);
     Ok(())
 }
 
-fn push_calls<R: Read>(
+fn add_calls<R: Read>(
     alloc: Global,
     row: &str,
     input: &mut Counted<R>,
     output: &mut Writer,
-    text: &mut String,
-) -> Result<(), NoMemory> {
-    push_call(alloc, row, input, output, text)?;
+    made: &mut Answer,
+) {
+    add_call(alloc, row, input, output, made);
     match field(row, 4) {
         "-" => {}
-        "again" => push_call(alloc, row, input, output, text)?,
+        "again" => add_call(alloc, row, input, output, made),
         "flush" => write_nothing(output),
-        next => push_next(alloc, row, next, output, text)?,
+        next => add_next(alloc, row, next, output, made),
     }
-    push_counts(alloc, input, output, text)?;
-    Ok(())
+    add_counts(input, output, made);
 }
 
-/// Pushes how a call with another input ends.
-fn push_next(
-    alloc: Global,
-    row: &str,
-    next: &str,
-    output: &mut Writer,
-    text: &mut String,
-) -> Result<(), NoMemory> {
-    let bytes = bytes_of(alloc, next)?;
-    push_call(alloc, row, &mut reader("", &bytes), output, text)
+/// Adds how a call with another input ends.
+fn add_next(alloc: Global, row: &str, next: &str, output: &mut Writer, made: &mut Answer) {
+    match bytes_of(alloc, next) {
+        Ok(bytes) => add_call(alloc, row, &mut reader("", &bytes), output, made),
+        Err(_) => made.add("no memory"),
+    }
 }
 
 /// Writes nothing, which succeeds, and flushes, which fails: both are counted.
@@ -65,23 +58,19 @@ fn write_nothing(output: &mut Writer) {
     let _ = output.flush();
 }
 
-/// Pushes how a call ends: with how many lines that aren't text, or an error.
-fn push_call<R: Read, W: Write>(
+/// Adds how a call ends: with how many lines that aren't text, or an error.
+fn add_call<R: Read, W: Write>(
     alloc: Global,
     row: &str,
     input: &mut Counted<R>,
     output: &mut Counted<W>,
-    text: &mut String,
-) -> Result<(), NoMemory> {
-    if !text.ends_with('\t') {
-        text.push_str("; ")?;
+    made: &mut Answer,
+) {
+    made.separate("; ");
+    match call_lines(alloc, row, input, output) {
+        Ok(count) => made.show(&count),
+        Err(error) => made.show(&error),
     }
-    let answer = match call_lines(alloc, row, input, output) {
-        Ok(count) => format!(in alloc; "{count}")?,
-        Err(error) => format!(in alloc; "{error}")?,
-    };
-    text.push_str(answer.as_str())?;
-    Ok(())
 }
 
 fn call_lines<R: Read, W: Write>(
@@ -109,20 +98,19 @@ fn captured<R: Read, W: Write>(
     capture_lines(alloc, input, output, &glob)
 }
 
-/// Pushes how the filter ends of a line that begins with so many letters and a short one, and whether it
+/// Adds how the filter ends of a line that begins with so many letters and a short one, and whether it
 /// writes both.
-pub fn push_long_line(alloc: Global, count: &str, text: &mut String) -> Result<(), NoMemory> {
-    let mut bytes = vec![in alloc; b'a'; count.parse().unwrap_or(0)]?;
-    bytes.extend_from_slice(b".png\nb.png\n")?;
+pub fn add_long_line(alloc: Global, count: &str, made: &mut Answer) -> Result<(), NoMemory> {
+    let Ok(mut bytes) = vec![in alloc; b'a'; count.parse().unwrap_or(0)] else {
+        return Err(NoMemory);
+    };
+    if bytes.extend_from_slice(b".png\nb.png\n").is_err() {
+        return Err(NoMemory);
+    }
+    let mut input = Counted::new(bytes.as_slice());
     let mut output = writer(alloc, "");
-    push_call(
-        alloc,
-        "filter",
-        &mut Counted::new(bytes.as_slice()),
-        &mut output,
-        text,
-    )?;
+    add_call(alloc, "filter", &mut input, &mut output, made);
     let is_whole = output.into_inner().inner.taken.as_slice() == bytes.as_slice();
-    text.push_str(if is_whole { " both" } else { " not both" })?;
+    made.add(if is_whole { " both" } else { " not both" });
     Ok(())
 }

@@ -3,6 +3,7 @@
 //! with it.
 #![tactic(auto)]
 
+mod answer;
 mod commands;
 mod folds;
 mod lines;
@@ -11,6 +12,7 @@ mod pictures;
 mod rows;
 mod streams;
 
+use answer::Answer;
 use std::{fs, io};
 
 fn main(rt: HostRuntime) -> io::Result<()> {
@@ -19,8 +21,9 @@ fn main(rt: HostRuntime) -> io::Result<()> {
     compare(&rt, "values.tsv", 2)?;
     let asked = io::read_to_string(rt.alloc(), rt.stdin())?;
     for row in asked.lines() {
-        let made = rows::made(rt.alloc(), row, usize::MAX)?;
-        println!(rt; "{made}")?;
+        let mut made = Answer::new(rt.alloc());
+        rows::make(rt.alloc(), row, usize::MAX, &mut made);
+        println!(rt; "{}", made.text())?;
     }
     Ok(())
 }
@@ -46,10 +49,11 @@ fn compare(rt: &HostRuntime, name: &str, given: usize) -> io::Result<()> {
 
 /// Returns whether a row comes to what it says, and prints both if it doesn't.
 fn is_same(rt: &HostRuntime, row: &str, given: usize) -> io::Result<bool> {
-    let made = rows::made(rt.alloc(), row, given)?;
-    if made.as_str() == row {
-        return Ok(true);
+    let mut made = Answer::new(rt.alloc());
+    rows::make(rt.alloc(), row, given, &mut made);
+    let is_same = made.text() == row;
+    if !is_same {
+        println!(rt; "wanted {row}\nmade   {}", made.text())?;
     }
-    println!(rt; "wanted {row}\nmade   {made}")?;
-    Ok(false)
+    Ok(is_same)
 }

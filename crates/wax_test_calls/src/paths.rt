@@ -1,85 +1,93 @@
 //! Paths, matches and counted calls: what each returns and prints.
 
+use crate::answer::Answer;
 use crate::pictures::Pictures;
-use std::alloc::{AllocError, Global};
+use std::alloc::Global;
 use std::convert::AsStr;
 use std::io::{Read, Write};
 use wax::{CandidatePath, Counted, MatchedText, NoMemory, Program};
 use wax_test_kit::streams::Asked;
 
-/// Pushes what a path prints, whether it is a picture's and by how many visits, and its copy.
-pub fn push_path(alloc: Global, path: &str, text: &mut String) -> Result<(), NoMemory> {
+/// Adds what a path prints, whether it is a picture's and by how many visits, and its copy.
+pub fn add_path(alloc: Global, path: &str, made: &mut Answer) -> Result<(), NoMemory> {
     let path = CandidatePath::from(path);
-    push_texts(alloc, &path, text)?;
-    push_answers(alloc, &path, text)?;
+    add_texts(&path, made);
+    if add_answers(alloc, &path, made).is_err() {
+        return Err(NoMemory);
+    }
     match path.into_owned(alloc) {
-        Ok(owned) => Ok(text.push_str(owned.as_str())?),
+        Ok(owned) => {
+            made.add(owned.as_str());
+            Ok(())
+        }
         Err(error) => Err(error),
     }
 }
 
-fn push_texts(
-    alloc: Global,
-    path: &CandidatePath<'_>,
-    text: &mut String,
-) -> Result<(), AllocError> {
-    push_part(text, path.as_str())?;
-    push_part(text, AsStr::as_str(path))?;
-    push_part(text, format!(in alloc; "{path}")?.as_str())?;
-    push_part(text, format!(in alloc; "{path:?}")?.as_str())
+fn add_texts(path: &CandidatePath<'_>, made: &mut Answer) {
+    add_part(made, path.as_str());
+    add_part(made, AsStr::as_str(path));
+    made.show(path);
+    made.add(" ");
+    made.debug(path);
+    made.add(" ");
 }
 
-fn push_answers(
-    alloc: Global,
-    path: &CandidatePath<'_>,
-    text: &mut String,
-) -> Result<(), NoMemory> {
+fn add_answers(alloc: Global, path: &CandidatePath<'_>, made: &mut Answer) -> Result<(), NoMemory> {
     let is_match = Pictures.is_match(alloc, path)?;
     let (is_counted, visits) = Pictures.is_match_counted(alloc, path)?;
-    let answers = format!(in alloc; "{is_match} {is_counted} {visits}")?;
-    push_part(text, answers.as_str())?;
+    made.show(&is_match);
+    made.add(" ");
+    made.show(&is_counted);
+    made.add(" ");
+    made.show(&visits);
+    made.add(" ");
     Ok(())
 }
 
-fn push_part(text: &mut String, part: &str) -> Result<(), AllocError> {
-    text.push_str(part)?;
-    text.push(' ')
+fn add_part(made: &mut Answer, part: &str) {
+    made.add(part);
+    made.add(" ");
 }
 
-/// Pushes what is captured of a path.
-pub fn push_match(alloc: Global, path: &str, text: &mut String) -> Result<(), NoMemory> {
-    let path = CandidatePath::from(path);
-    let Some(matched) = Pictures.matched(alloc, &path)? else {
-        return Ok(text.push_str("no match")?);
-    };
-    push_captures(&matched, text)?;
-    Ok(())
-}
-
-/// Pushes what is captured of a path, and by how many visits.
-pub fn push_counted_match(alloc: Global, path: &str, text: &mut String) -> Result<(), NoMemory> {
-    let path = CandidatePath::from(path);
-    let (matched, visits) = Pictures.matched_counted(alloc, &path)?;
-    if let Some(matched) = matched {
-        push_captures(&matched, text)?;
+/// Adds what is captured of a path.
+pub fn add_match(alloc: Global, path: &str, made: &mut Answer) -> Result<(), NoMemory> {
+    match Pictures.matched(alloc, &CandidatePath::from(path)) {
+        Ok(Some(matched)) => {
+            add_captures(&matched, made);
+            Ok(())
+        }
+        Ok(None) => {
+            made.add("no match");
+            Ok(())
+        }
+        Err(error) => Err(error),
     }
-    push_visits(alloc, visits, text)?;
+}
+
+/// Adds what is captured of a path, and by how many visits.
+pub fn add_counted_match(alloc: Global, path: &str, made: &mut Answer) -> Result<(), NoMemory> {
+    let path = CandidatePath::from(path);
+    let Ok((matched, visits)) = Pictures.matched_counted(alloc, &path) else {
+        return Err(NoMemory);
+    };
+    if let Some(matched) = &matched {
+        add_captures(matched, made);
+    }
+    made.add(" ");
+    made.show(&visits);
     Ok(())
 }
 
-fn push_visits(alloc: Global, visits: u128, text: &mut String) -> Result<(), AllocError> {
-    text.push_str(format!(in alloc; " {visits}")?.as_str())
+fn add_captures(matched: &MatchedText<'_>, made: &mut Answer) {
+    add_part(made, matched.complete());
+    add_part(made, matched.get(0).unwrap_or("-"));
+    add_part(made, matched.get(1).unwrap_or("-"));
+    made.add(matched.to_candidate_path().as_str());
 }
 
-fn push_captures(matched: &MatchedText<'_>, text: &mut String) -> Result<(), AllocError> {
-    push_part(text, matched.complete())?;
-    push_part(text, matched.get(0).unwrap_or("-"))?;
-    push_part(text, matched.get(1).unwrap_or("-"))?;
-    text.push_str(matched.to_candidate_path().as_str())
-}
-
-/// Pushes how many of six calls are counted, how many failed, and how many of each kind are forwarded.
-pub fn push_counted(alloc: Global, text: &mut String) -> Result<(), NoMemory> {
+/// Adds how many of six calls are counted, how many failed, and how many of each kind are forwarded.
+pub fn add_counted(made: &mut Answer) {
     let mut counted = Counted::new(Asked {
         reads: 0,
         writes: 0,
@@ -92,18 +100,17 @@ pub fn push_counted(alloc: Global, text: &mut String) -> Result<(), NoMemory> {
     for _ in 0..3 {
         let _ = counted.flush();
     }
-    push_counts(alloc, counted, text)?;
-    Ok(())
+    made.show(&counted.calls());
+    made.add(" ");
+    made.show(&counted.failures());
+    add_asked(&counted.into_inner(), made);
 }
 
-fn push_counts(
-    alloc: Global,
-    counted: Counted<Asked>,
-    text: &mut String,
-) -> Result<(), AllocError> {
-    let (calls, failures) = (counted.calls(), counted.failures());
-    let asked = counted.into_inner();
-    let (reads, writes, flushes) = (asked.reads, asked.writes, asked.flushes);
-    let counts = format!(in alloc; "{calls} {failures} {reads} {writes} {flushes}")?;
-    text.push_str(counts.as_str())
+fn add_asked(asked: &Asked, made: &mut Answer) {
+    made.add(" ");
+    made.show(&asked.reads);
+    made.add(" ");
+    made.show(&asked.writes);
+    made.add(" ");
+    made.show(&asked.flushes);
 }

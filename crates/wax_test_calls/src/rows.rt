@@ -1,9 +1,10 @@
 //! Rows: their fields, what stands for characters that a field can't hold, and their answers.
 
-use crate::commands::{push_run, push_words};
-use crate::folds::push_tokens;
-use crate::lines::{push_lines, push_long_line};
-use crate::paths::{push_counted, push_counted_match, push_match, push_path};
+use crate::answer::Answer;
+use crate::commands::{add_run, add_words};
+use crate::folds::add_tokens;
+use crate::lines::{add_lines, add_long_line};
+use crate::paths::{add_counted, add_counted_match, add_match, add_path};
 use std::alloc::{AllocError, Global};
 use wax::NoMemory;
 
@@ -35,56 +36,36 @@ fn push_character(bytes: &mut Vec<u8>, character: char) -> Result<(), AllocError
     Ok(())
 }
 
-/// Pushes bytes as a field shows them.
-pub fn push_bytes(text: &mut String, bytes: &[u8]) -> Result<(), AllocError> {
-    let Ok(shown) = str::from_utf8(bytes) else {
-        return text.push_str("not text");
-    };
-    for character in shown.chars() {
-        text.push(stand_in(character))?;
-    }
-    Ok(())
-}
-
-fn stand_in(character: char) -> char {
-    match character {
-        '\n' => '␊',
-        '\r' => '␍',
-        '\t' => '␉',
-        _ => character,
-    }
-}
-
-/// Returns the fields of a row that are given, and its answer.
-pub fn made(alloc: Global, row: &str, given: usize) -> Result<String, AllocError> {
-    let mut text = String::new(alloc);
+/// Adds the fields of a row that are given, and its answer.
+pub fn make(alloc: Global, row: &str, given: usize, made: &mut Answer) {
     for part in row.split('\t').take(given) {
-        text.push_str(part)?;
-        text.push('\t')?;
+        made.add(part);
+        made.add("\t");
     }
-    if push_answer(alloc, row, &mut text).is_err() {
-        text.push_str("no memory")?;
+    if add_answer(alloc, row, made).is_err() {
+        made.add("no memory");
     }
-    Ok(text)
 }
 
-fn push_answer(alloc: Global, row: &str, text: &mut String) -> Result<(), NoMemory> {
+fn add_answer(alloc: Global, row: &str, made: &mut Answer) -> Result<(), NoMemory> {
     match field(row, 0) {
-        "filter" => push_lines(alloc, row, text),
-        "capture" => push_lines(alloc, row, text),
-        "run" => push_run(alloc, row, text),
-        kind => push_value(alloc, kind, field(row, 1), text),
+        "filter" | "capture" => add_lines(alloc, row, made),
+        "run" => add_run(alloc, row, made),
+        kind => add_value(alloc, kind, field(row, 1), made),
     }
 }
 
-fn push_value(alloc: Global, kind: &str, given: &str, text: &mut String) -> Result<(), NoMemory> {
+fn add_value(alloc: Global, kind: &str, given: &str, made: &mut Answer) -> Result<(), NoMemory> {
     match kind {
-        "path" => push_path(alloc, given, text),
-        "match" => push_match(alloc, given, text),
-        "counted match" => push_counted_match(alloc, given, text),
-        "calls" => push_counted(alloc, text),
-        "words" => push_words(alloc, text),
-        "long line" => push_long_line(alloc, given, text),
-        _ => push_tokens(alloc, given, text),
+        "path" => add_path(alloc, given, made),
+        "match" => add_match(alloc, given, made),
+        "counted match" => add_counted_match(alloc, given, made),
+        "calls" => {
+            add_counted(made);
+            Ok(())
+        }
+        "words" => add_words(alloc, made),
+        "long line" => add_long_line(alloc, given, made),
+        _ => add_tokens(alloc, given, made),
     }
 }

@@ -1,6 +1,7 @@
 //! The streams of a row, and what was asked of them.
 
-use std::alloc::{AllocError, Global};
+use crate::answer::Answer;
+use std::alloc::Global;
 use wax::Counted;
 use wax_test_kit::streams::{Interrupted, Narrow, Slow};
 
@@ -44,15 +45,15 @@ pub fn number_after(streams: &str, word: &str) -> Option<u64> {
     None
 }
 
-/// Pushes how many reads and writes there were, and how many of each failed.
-pub fn push_counts<R, W>(
-    alloc: Global,
-    input: &Counted<R>,
-    output: &Counted<W>,
-    text: &mut String,
-) -> Result<(), AllocError> {
-    let (reads, failed_reads) = (input.calls(), input.failures());
-    let (writes, failed_writes) = (output.calls(), output.failures());
-    let counts = format!(in alloc; "\t{reads} {failed_reads} {writes} {failed_writes}\t")?;
-    text.push_str(counts.as_str())
+/// Adds how many reads and writes there were, and how many of each failed.
+pub fn add_counts<R, W>(input: &Counted<R>, output: &Counted<W>, made: &mut Answer) {
+    made.add("\t");
+    made.show(&input.calls());
+    made.add(" ");
+    made.show(&input.failures());
+    made.add(" ");
+    made.show(&output.calls());
+    made.add(" ");
+    made.show(&output.failures());
+    made.add("\t");
 }
