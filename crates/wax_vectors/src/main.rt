@@ -28,20 +28,41 @@ use row::Row;
 use std::{env, fs, io};
 
 fn main(rt: HostRuntime) -> io::Result<()> {
-    if env::args(&rt)?.nth(1).as_deref() == Some("time") {
+    if is_timing(&rt)? {
         return timings::time_words(rt);
     }
     let mut made = Answer::new(rt.alloc())?;
-    for name in env::args(&rt)?.skip(1) {
-        compare_rows(&rt, &name, &mut made)?;
+    compare_files(&rt, &mut made)?;
+    show_rows(&rt, &mut made)
+}
+
+/// Returns whether the first word is `time`.
+fn is_timing(rt: &HostRuntime) -> io::Result<bool> {
+    match env::args(rt)?.nth(1) {
+        Some(word) => Ok(word.as_str() == "time"),
+        None => Ok(false),
     }
-    for line in rt.lines(rt.alloc()) {
-        let line = line?;
-        let row = Row::read(rt.alloc(), &line)?;
-        let answer = make(&rt, &row, &mut made);
-        println!(rt; "{line}\t{answer}")?;
+}
+
+fn compare_files(rt: &HostRuntime, made: &mut Answer) -> io::Result<()> {
+    for name in env::args(rt)?.skip(1) {
+        compare_rows(rt, &name, made)?;
     }
     Ok(())
+}
+
+/// Prints each line of standard input with its answer.
+fn show_rows(rt: &HostRuntime, made: &mut Answer) -> io::Result<()> {
+    for line in rt.lines(rt.alloc()) {
+        show_row(rt, line?.as_str(), made)?;
+    }
+    Ok(())
+}
+
+fn show_row(rt: &HostRuntime, line: &str, made: &mut Answer) -> io::Result<()> {
+    let row = Row::read(rt.alloc(), line)?;
+    let answer = make(rt, &row, made);
+    println!(rt; "{line}\t{answer}")
 }
 
 /// Prints each row of the file whose answer is another, and how many are the same.

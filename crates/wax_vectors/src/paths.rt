@@ -72,10 +72,24 @@ fn add_comparisons(
     other: &str,
     made: &mut Answer,
 ) -> Result<(), NoMemory> {
-    made.digit(path.clone()? == *path);
-    made.digit(path.to_owned(alloc)? == *path);
+    made.digit(is_clone_equal(path)?);
+    made.digit(is_copy_equal(alloc, path)?);
     made.digit(CandidatePath::from(other) == *path);
     Ok(())
+}
+
+fn is_clone_equal(path: &CandidatePath<'_>) -> Result<bool, NoMemory> {
+    match path.clone() {
+        Ok(clone) => Ok(clone == *path),
+        Err(_) => Err(NoMemory),
+    }
+}
+
+fn is_copy_equal(alloc: Global, path: &CandidatePath<'_>) -> Result<bool, NoMemory> {
+    match path.to_owned(alloc) {
+        Ok(copy) => Ok(copy == *path),
+        Err(_) => Err(NoMemory),
+    }
 }
 
 /// Adds whether the glob is empty, and whether it matches the path.

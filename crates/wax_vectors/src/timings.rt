@@ -53,18 +53,23 @@ fn time_word(rt: HostRuntime, job: &str, word: &str, given: &str) -> io::Result<
 
 fn time_lines(rt: HostRuntime, timed: Timed, expression: &str, given: &str) -> io::Result<()> {
     let lines = lines_of(rt.alloc(), given)?;
-    let Ok(glob) = Glob::new(rt.alloc(), expression) else {
-        return println!(rt; "{expression}\trefused");
-    };
+    match Glob::new(rt.alloc(), expression) {
+        Ok(glob) => time_glob(rt, timed, &glob, &lines),
+        Err(_) => println!(rt; "{expression}\trefused"),
+    }
+}
+
+fn time_glob(rt: HostRuntime, timed: Timed, glob: &Glob<'_>, lines: &[&str]) -> io::Result<()> {
+    let expression = glob.expression();
     let start = Instant::now(&rt)?;
     let answer = match timed {
-        Timed::Matches => match_lines(rt.alloc(), &glob, &lines),
-        Timed::Captures => capture_lines(rt.alloc(), &glob, &lines),
+        Timed::Matches => match_lines(rt.alloc(), glob, lines),
+        Timed::Captures => capture_lines(rt.alloc(), glob, lines),
     };
+    let time = start.elapsed(&rt)?;
     let Ok(matches) = answer else {
         return println!(rt; "{expression}\tno memory");
     };
-    let time = start.elapsed(&rt)?;
     let count = (lines.len() as u128).max(1);
     let (nanoseconds, visits) = (time.as_nanos() / count, matches.visits / count);
     println!(rt;
