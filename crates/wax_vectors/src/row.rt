@@ -3,7 +3,7 @@
 use crate::kinds::{Kind, find};
 use std::alloc::{AllocError, Global};
 
-/// A row with its stand-ins replaced: its fields are its name, its inputs and the answer that is wanted.
+/// A row with its stand-ins replaced: its fields are its inputs and the answer that is wanted.
 #[derive(Drop)]
 pub struct Row {
     kind: Kind,
@@ -16,7 +16,7 @@ impl Row {
     pub fn read(alloc: Global, line: &str) -> Result<Row, AllocError> {
         let (inputs, kind) = find(line.split('\t').next().unwrap_or(""));
         let mut fields = Vec::new(alloc);
-        for field in line.splitn(inputs.saturating_add(2), '\t') {
+        for field in line.splitn(inputs.saturating_add(2), '\t').skip(1) {
             fields.push(plain(alloc, field)?)?;
         }
         Ok(Row {
@@ -34,7 +34,7 @@ impl Row {
     /// Returns the input at the index; no text if the row has fewer.
     pub fn input(&self, index: usize) -> &str {
         if index < self.inputs {
-            self.field(index.saturating_add(1))
+            self.field(index)
         } else {
             ""
         }
@@ -42,7 +42,7 @@ impl Row {
 
     /// Returns the answer that is wanted.
     pub fn wanted(&self) -> &str {
-        self.field(self.inputs.saturating_add(1))
+        self.field(self.inputs)
     }
 
     fn field(&self, index: usize) -> &str {
