@@ -4,5 +4,6 @@ pub mod Exclusions
 pub mod GlobView
 pub mod GlobWalks
 pub mod Ignoring
+pub mod Matching
 pub mod Partition
 pub mod Patterns

@@ -19,11 +19,13 @@ ghost use Rattle.wax_query.specs.Outcome.{MatchBuild};
 ghost use Rattle.wax.specs.GlobView.{HasCaptures, IsKept, IsMeant};
 ghost use Rattle.wax.specs.Partition.{as_glob};
 
+mod matcher;
 mod parts;
 mod pattern;
 mod values;
 mod walking;
 
+pub use matcher::GlobMatcher;
 use std::alloc::Global;
 use std::borrow::CowStr;
 use std::fmt;

@@ -17,7 +17,7 @@ pub mod token;
 pub mod walk;
 mod walk_filter;
 
-pub use glob::Glob;
+pub use glob::{Glob, GlobMatcher};
 pub use pattern::{Pattern, any};
 pub use set::Any;
 pub use wax_candidate::{CandidatePath, MatchedText, Program};
