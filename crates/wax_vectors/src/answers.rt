@@ -3,7 +3,7 @@
 use crate::answer::Answer;
 use crate::kinds::Kind;
 use crate::row::Row;
-use crate::{checked, globs, lists, parts, paths, programs, sets, spans, tokens};
+use crate::{checked, globs, lists, matchers, parts, paths, programs, sets, spans, tokens};
 use std::alloc::Global;
 use wax::NoMemory;
 
@@ -20,6 +20,7 @@ pub fn answer(alloc: Global, row: &Row, made: &mut Answer) -> Result<(), NoMemor
         Kind::Path(fact) => paths::answer(alloc, fact, row, made),
         Kind::Spans(fact) => spans::answer(alloc, fact, row, made),
         Kind::Diagnosed => parts::add_diagnosed(alloc, row, made),
+        Kind::Matcher => matchers::add_comparison(alloc, row, made),
         Kind::Glob(fact) => globs::answer(alloc, fact, row, made),
         Kind::Unknown => {
             made.add("no such kind");

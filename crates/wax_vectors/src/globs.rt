@@ -4,7 +4,7 @@ use crate::answer::Answer;
 use crate::answers::add_within;
 use crate::kinds::GlobFact;
 use crate::row::Row;
-use crate::{copies, lines, memoryless, parts, refusals};
+use crate::{copies, lines, matchers, memoryless, parts, refusals};
 use std::alloc::Global;
 use wax::diagnostics::{LocatedError, Warning};
 use wax::query::{DepthVariance, When};
@@ -41,6 +41,7 @@ fn of_glob(
     match fact {
         GlobFact::Match => add_match(alloc, glob, row.input(1), made),
         GlobFact::IsMatch => add_is_match(alloc, glob, row.input(1), made),
+        GlobFact::Matcher => matchers::add_answers(alloc, glob, row.input(1), made),
         GlobFact::Visits => add_visits(alloc, glob, row, made),
         GlobFact::Captures => add_captures(alloc, glob, made),
         GlobFact::Semantic => add_semantic(alloc, glob, made),

@@ -11,6 +11,7 @@ mod globs;
 mod kinds;
 mod lines;
 mod lists;
+mod matchers;
 mod memoryless;
 mod parts;
 mod paths;

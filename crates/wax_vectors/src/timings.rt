@@ -1,9 +1,10 @@
 //! Times matches, captures, builds and walks. `time match EXPR..` matches each line of standard input, `time
-//! captures EXPR..` captures of each, `time new EXPR..` builds each glob many times, and `time build -`
-//! builds one glob of all of standard input but its line break and asks for its depth. `time walk FOLDER..`
-//! walks folders of the real system. Prints a line for each expression or folder, with tabs between:
-//! nanoseconds and visits a line, and lines that match; nanoseconds a glob, and how many were built; or
-//! entries, errors and milliseconds. Of a build it prints how it ended, and milliseconds.
+//! matcher EXPR..` does so by one matcher, `time captures EXPR..` captures of each, `time new EXPR..` builds
+//! each glob many times, and `time build -` builds one glob of all of standard input but its line break and
+//! asks for its depth. `time walk FOLDER..` walks folders of the real system. Prints a line for each
+//! expression or folder, with tabs between: nanoseconds and visits a line (a matcher counts none), and lines
+//! that match; nanoseconds a glob, and how many were built; or entries, errors and milliseconds. Of a build
+//! it prints how it ended, and milliseconds.
 
 use std::alloc::{AllocError, Global};
 use std::time::Instant;
@@ -25,6 +26,7 @@ struct Matches {
 #[derive(Clone, Copy)]
 enum Timed {
     Matches,
+    Matcher,
     Captures,
 }
 
@@ -44,6 +46,7 @@ pub fn time_words(rt: HostRuntime) -> io::Result<()> {
 fn time_word(rt: HostRuntime, job: &str, word: &str, given: &str) -> io::Result<()> {
     match job {
         "match" => time_lines(rt, Timed::Matches, word, given),
+        "matcher" => time_lines(rt, Timed::Matcher, word, given),
         "captures" => time_lines(rt, Timed::Captures, word, given),
         "new" => time_new(rt, word),
         "build" => time_build(rt, given.trim_end()),
@@ -64,6 +67,7 @@ fn time_glob(rt: HostRuntime, timed: Timed, glob: &Glob<'_>, lines: &[&str]) -> 
     let start = Instant::now(&rt)?;
     let answer = match timed {
         Timed::Matches => match_lines(rt.alloc(), glob, lines),
+        Timed::Matcher => match_by_matcher(rt.alloc(), glob, lines),
         Timed::Captures => capture_lines(rt.alloc(), glob, lines),
     };
     let time = start.elapsed(&rt)?;
@@ -92,6 +96,17 @@ fn match_lines(alloc: Global, glob: &Glob<'_>, lines: &[&str]) -> Result<Matches
         visits = visits.saturating_add(answer.1);
     }
     Ok(Matches { matched, visits })
+}
+
+/// Matches each line by one matcher.
+fn match_by_matcher(alloc: Global, glob: &Glob<'_>, lines: &[&str]) -> Result<Matches, NoMemory> {
+    let mut matched: u64 = 0;
+    let mut matcher = glob.matcher(alloc)?;
+    for line in lines {
+        let answer = matcher.is_match(&CandidatePath::from(*line))?;
+        matched = matched.saturating_add(answer as u64);
+    }
+    Ok(Matches { matched, visits: 0 })
 }
 
 /// Captures of each line.
