@@ -26,4 +26,5 @@ bench: globs
 	cd crates/wax_vectors && rt run </dev/null
 	bench/instructions
 	bench/run
+	bench/families
 	bench/walk
