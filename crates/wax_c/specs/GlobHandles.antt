@@ -1,0 +1,38 @@
+-- How calls of handles of globs end.
+use Rattle.std.specs.Prelude.{◌≡◌, ℕ, ℤ, List, Option, Some, None, Result, Ok, Err}
+use Rattle.wax.specs.GlobView.{GlobView}
+use Rattle.wax_error.specs.Locations.{location_of}
+use Rattle.wax_query.specs.Labels.{Label}
+use Rattle.wax_c.specs.Numbers.{status_number}
+use Rattle.wax_c.specs.Outcomes.{IsGlobOf, IsNoGlob}
+use Rattle.wax_c.specs.declared.error.CallError.{CallError}
+use Rattle.wax_c.specs.declared.error.CallError.TheVariants.{Build, NotText, NoRoom}
+use Rattle.wax_c.specs.declared.handle.GlobHandle.{GlobHandle}
+use Rattle.wax_c.specs.declared.globs.WaxSpan.{WaxSpan}
+use denote.RawPtr.{null_ptr}
+
+abbrev pub no_span : WaxSpan
+no_span = record { start = 0; length = 0 }
+
+-- the span of a place, if there is one
+abbrev pub span_at : Option Label → WaxSpan
+span_at None = no_span
+span_at (Some label) = record { start = label.1.0; length = label.1.1 }
+
+-- where a build was refused
+abbrev pub span_of : Result (Unit {0}) CallError → WaxSpan
+span_of (Ok done) = no_span
+span_of (Err (Build error)) = span_at (location_of error)
+span_of (Err NotText) = no_span
+span_of (Err NoRoom) = no_span
+
+-- the handle has a glob of these bytes, or it is null for this error
+abbrev pub HasGlob : List ℕ → GlobHandle → Result (Unit {0}) CallError → Type 0
+HasGlob e handle (Ok done) = (g : GlobView) × (handle.held ≡ Some g) × IsGlobOf e g
+HasGlob e handle (Err error) = (handle.held ≡ None) × (handle.at ≡ null_ptr) × IsNoGlob e error
+
+-- so it is, with the place and the number of the error
+abbrev pub IsGlobHandle : List ℕ → GlobHandle → WaxSpan → ℤ → Type 0
+IsGlobHandle e handle span number =
+    (outcome : Result (Unit {0}) CallError) × HasGlob e handle outcome
+    × (span ≡ span_of outcome) × (number ≡ status_number outcome)

@@ -1,0 +1,83 @@
+//! What calls do, in terms of results.
+ghost use Rattle.std.specs.Prelude.{◌≡◌, IfErr, IfOk, MatchResult, OnErr};
+ghost use Rattle.wax_c.specs.Outcomes.{AreLines, Decides, Fills, IsGlobOf, IsNoGlob};
+
+use crate::error::CallError;
+use std::alloc::Global;
+use wax::{BuildError, CandidatePath, Counted, Glob, Program, filter_lines};
+
+/// Builds the glob of an expression.
+///
+/// # Errors
+///
+/// `NotText` (20) if the bytes aren't UTF-8, and else as `Glob::new`.
+pub(crate) fn build<'e>(alloc: Global, expression: &'e [u8]) -> Result<Glob<'e>, CallError>
+    ensures { MatchResult result (IsGlobOf expression.now) (IsNoGlob expression.now) }
+{
+    let Ok(text) = str::from_utf8(expression) else {
+        return Err(CallError::NotText);
+    };
+    match Glob::new(alloc, text) {
+        Ok(glob) => Ok(glob),
+        Err(error) => Err(CallError::Build(error)),
+    }
+}
+
+/// Returns whether the glob matches the path.
+///
+/// # Errors
+///
+/// `NotText` (20) if the path isn't UTF-8, `Build(Memory)` (10) if an allocation fails.
+pub(crate) fn decide(alloc: Global, glob: &Glob<'_>, path: &[u8]) -> Result<bool, CallError>
+    ensures { Decides glob.now path.now result }
+{
+    let Ok(path) = str::from_utf8(path) else {
+        return Err(CallError::NotText);
+    };
+    match glob.is_match(alloc, &CandidatePath::from(path)) {
+        Ok(answer) => Ok(answer),
+        Err(_) => Err(CallError::Build(BuildError::Memory)),
+    }
+}
+
+/// Writes the lines of the input that the glob matches to the beginning of the output, and how many bytes
+/// they take to `written`.
+///
+/// # Errors
+///
+/// `NoRoom` (21) if they take more bytes than the output has: then `written` is how many. `Build(Memory)`
+/// (10) if an allocation fails: then it is 0. In both cases the output is unchanged.
+pub(crate) fn fill(
+    alloc: Global,
+    glob: &Glob<'_>,
+    input: &[u8],
+    output: &mut [u8],
+    written: &mut usize,
+) -> Result<(), CallError>
+    ensures fills { Fills glob.now input.now (record { bytes = output.new; written = written.new }) result }
+    ensures unchanged { OnErr result (output.new ≡ output.old) }
+    ensures nothing { IfErr result (λ error. (error ≡ CallError.NoRoom → ⊥) → written.new ≡ 0) }
+{
+    *written = 0;
+    let lines = lines_of(alloc, glob, input)?;
+    *written = lines.len();
+    if lines.len() > output.len() {
+        return Err(CallError::NoRoom);
+    }
+    let (room, _) = output.split_at_mut(lines.len());
+    room.copy_from_slice(&lines);
+    Ok(())
+}
+
+// The lines of the input that the glob matches.
+fn lines_of(alloc: Global, glob: &Glob<'_>, input: &[u8]) -> Result<Vec<u8>, CallError>
+    ensures ok { IfOk result (λ out. AreLines glob.now input.now out.items) }
+    ensures err { IfErr result (λ error. error ≡ CallError.Build BuildError.Memory) }
+{
+    let mut lines = Counted::new(input);
+    let mut matched = Counted::new(Vec::new(alloc));
+    match filter_lines(alloc, &mut lines, &mut matched, glob) {
+        Ok(_) => Ok(matched.into_inner()),
+        Err(_) => Err(CallError::Build(BuildError::Memory)),
+    }
+}

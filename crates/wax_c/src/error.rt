@@ -1,0 +1,76 @@
+//! Why a call fails, and the numbers that calls return.
+ghost use Rattle.std.specs.Prelude.{◌≡◌};
+ghost use Rattle.wax_c.specs.Numbers.{answer_number, build_number, error_number, rule_number, status_number};
+
+use wax::BuildError;
+use wax::rule::RuleErrorKind;
+
+/// Why a call fails.
+#[derive(Drop)]
+pub enum CallError {
+    /// The expression isn't built (1 to 9), or an allocation fails (10).
+    Build(BuildError),
+    /// Bytes that should be text aren't UTF-8 (20).
+    NotText,
+    /// The output is too small (21).
+    NoRoom,
+}
+
+/// Returns 1 or 0 for a yes or a no, and minus the number of an error.
+pub(crate) fn answer_of(outcome: &Result<bool, CallError>) -> i32
+    ensures { result ≡ answer_number outcome.now }
+{
+    match outcome {
+        Ok(true) => 1,
+        Ok(false) => 0,
+        Err(error) => -number_of(error),
+    }
+}
+
+/// Returns 0 for a success, and minus the number of an error.
+pub(crate) fn status_of(outcome: &Result<(), CallError>) -> i32
+    ensures { result ≡ status_number outcome.now }
+{
+    match outcome {
+        Ok(()) => 0,
+        Err(error) => -number_of(error),
+    }
+}
+
+// The number of an error.
+fn number_of(error: &CallError) -> i32
+    ensures { result ≡ error_number error.now }
+{
+    match error {
+        CallError::Build(error) => number_of_build(error),
+        CallError::NotText => 20,
+        CallError::NoRoom => 21,
+    }
+}
+
+// The number of a refusal to build.
+fn number_of_build(error: &BuildError) -> i32
+    ensures { result ≡ build_number error.now }
+{
+    match error {
+        BuildError::Parse(_) => 1,
+        BuildError::Rule(error) => number_of_rule(error.kind()),
+        BuildError::Compile(_) => 9,
+        BuildError::Memory => 10,
+    }
+}
+
+// The number of a broken rule.
+fn number_of_rule(kind: RuleErrorKind) -> i32
+    ensures { result ≡ rule_number kind }
+{
+    match kind {
+        RuleErrorKind::AdjacentBoundary => 2,
+        RuleErrorKind::IncompatibleBounds => 3,
+        RuleErrorKind::SingularTree => 4,
+        RuleErrorKind::AdjacentZeroOrMore => 5,
+        RuleErrorKind::RootedSubGlob => 6,
+        RuleErrorKind::SingularZeroOrMore => 7,
+        RuleErrorKind::OversizedInvariant => 8,
+    }
+}

@@ -1,0 +1,165 @@
+//! Calls that make, use and free handles of globs.
+ghost use Rattle.std.specs.Prelude.{◌≡◌, MatchResult, Option};
+ghost use Rattle.wax.specs.GlobView.{GlobView};
+ghost use Rattle.wax_c.specs.GlobHandles.{HasGlob, IsGlobHandle, span_of};
+ghost use Rattle.wax_c.specs.GlobOwned.{glob_at, maybe_glob_at};
+ghost use Rattle.wax_c.specs.Outcomes.{DecidesAs, FillsAs, IsGlobOf, IsNoGlob};
+ghost use types.Logic.{sem};
+
+use crate::calls::{build, decide, fill};
+use crate::error::{CallError, answer_of, status_of};
+use crate::handle::{GlobHandle, HeldGlob};
+use crate::loose::Loose;
+use std::alloc::Global;
+use wax::BuildError;
+use wax::diagnostics::LocatedError;
+
+/// A part of an expression, in bytes.
+#[repr(C)]
+#[derive(Clone, Copy)]
+pub struct WaxSpan {
+    pub start: usize,
+    pub length: usize,
+}
+
+// What a call that makes a handle gives.
+struct Opening {
+    outcome: Result<(), CallError>,
+    handle: GlobHandle,
+}
+
+/// Makes a handle of the glob of an expression. Returns 0.
+///
+/// # Errors
+///
+/// -1 to -9 if the expression isn't built, -10 if an allocation fails, -20 if it isn't UTF-8. Then the
+/// handle is null, and after -1 to -8 `span` is the place in the expression; else it is empty, at 0.
+#[unsafe(no_mangle)]
+pub extern "C" fn wax_glob_new(
+    alloc: Global,
+    expression: &[u8],
+    out: &mut GlobHandle,
+    span: &mut WaxSpan,
+) -> i32
+    ensures { IsGlobHandle expression.now out.new span.new result }
+{
+    let Opening { outcome, handle } = open(alloc, expression);
+    *out = handle;
+    *span = place_of(&outcome);
+    status_of(&outcome)
+}
+
+/// Returns 1 if the glob matches the path and 0 if not.
+///
+/// # Errors
+///
+/// -10 if an allocation fails, -20 if the path isn't UTF-8.
+#[unsafe(no_mangle)]
+pub unsafe extern "C" fn wax_glob_is_match(alloc: Global, glob: *const u8, path: &[u8]) -> i32
+    ghost held: { GlobView }
+    requires* { sem 𝓛 (glob_at alloc glob held) }
+    ensures* back { sem 𝓛 (glob_at alloc glob held) }
+    ensures answer { DecidesAs held path.now result }
+{
+    answer_held(alloc, &*(glob as *const HeldGlob), path)
+}
+
+/// Writes the lines of the input that the glob matches to the beginning of the output, as `wax_filter`
+/// does.
+///
+/// # Errors
+///
+/// -10 and -21, as of `wax_filter`.
+#[unsafe(no_mangle)]
+pub unsafe extern "C" fn wax_glob_filter(
+    alloc: Global,
+    glob: *const u8,
+    input: &[u8],
+    output: &mut [u8],
+    written: &mut usize,
+) -> i32
+    ghost held: { GlobView }
+    requires* { sem 𝓛 (glob_at alloc glob held) }
+    ensures* back { sem 𝓛 (glob_at alloc glob held) }
+    ensures fills { FillsAs held input.now output.old
+        (record { bytes = output.new; written = written.new }) result }
+{
+    fill_held(alloc, &*(glob as *const HeldGlob), input, output, written)
+}
+
+/// Frees what the handle points to. Does nothing if it is null.
+#[unsafe(no_mangle)]
+pub unsafe extern "C" fn wax_glob_free(alloc: Global, glob: *mut u8)
+    ghost held: { Option GlobView }
+    requires* { sem 𝓛 (maybe_glob_at alloc glob held) }
+{
+    if glob.is_null() {
+        return;
+    }
+    drop_glob(Box::from_raw(alloc, glob as *mut HeldGlob));
+}
+
+fn open(alloc: Global, expression: &[u8]) -> Opening
+    ensures { HasGlob expression.now result.handle result.outcome }
+{
+    match boxed(alloc, expression) {
+        Ok(held) => Opening {
+            outcome: Ok(()),
+            handle: GlobHandle::of(Loose::of(held)),
+        },
+        Err(error) => Opening {
+            outcome: Err(error),
+            handle: GlobHandle::null(alloc),
+        },
+    }
+}
+
+fn boxed(alloc: Global, expression: &[u8]) -> Result<Box<HeldGlob>, CallError>
+    ensures { MatchResult result (λ made. IsGlobOf expression.now made.value.glob) (IsNoGlob expression.now) }
+{
+    let glob = build(alloc, expression)?;
+    let Ok(glob) = glob.into_owned(alloc) else {
+        return Err(CallError::Build(BuildError::Memory));
+    };
+    match Box::new(alloc, HeldGlob { glob }) {
+        Ok(made) => Ok(made),
+        Err(_) => Err(CallError::Build(BuildError::Memory)),
+    }
+}
+
+// Where in the expression a build was refused.
+fn place_of(outcome: &Result<(), CallError>) -> WaxSpan
+    ensures { result ≡ span_of outcome.now }
+{
+    if let Err(CallError::Build(error)) = outcome {
+        if let Some(location) = error.locations() {
+            let (start, length) = location.span();
+            return WaxSpan { start, length };
+        }
+    }
+    WaxSpan {
+        start: 0,
+        length: 0,
+    }
+}
+
+fn answer_held(alloc: Global, held: &HeldGlob, path: &[u8]) -> i32
+    ensures { DecidesAs held.now.glob path.now result }
+{
+    answer_of(&decide(alloc, &held.glob, path))
+}
+
+fn fill_held(
+    alloc: Global,
+    held: &HeldGlob,
+    input: &[u8],
+    output: &mut [u8],
+    written: &mut usize,
+) -> i32
+    ensures { FillsAs held.now.glob input.now output.old
+        (record { bytes = output.new; written = written.new }) result }
+{
+    status_of(&fill(alloc, &held.glob, input, output, written))
+}
+
+fn drop_glob(_held: Box<HeldGlob>) {}

@@ -1,0 +1,54 @@
+//! Handles.
+ghost use Rattle.std.specs.Prelude.{◌≡◌, None, Option, Some};
+ghost use Rattle.std.specs.Coded.{coded_option};
+ghost use Rattle.wax.specs.GlobView.{GlobView, glob_code};
+ghost use denote.RawPtr.{null_ptr};
+
+use crate::loose::Loose;
+use std::alloc::Global;
+use std::marker::Model;
+use wax::Glob;
+
+/// What a handle points to.
+#[derive(Drop)]
+pub struct HeldGlob {
+    pub glob: Glob<'static>,
+}
+
+/// A handle: a pointer to a glob that it owns, or a pointer that owns nothing.
+#[repr(C)]
+#[derive(Drop)]
+pub struct GlobHandle {
+    pub at: *mut u8,
+    pub alloc: Global,
+    pub ghost held: { Option GlobView } by { coded_option glob_code },
+}
+
+impl Model for GlobHandle {
+    ghost use Rattle.wax_c.specs.GlobOwned.{owned_glob_at};
+
+    ghost also_owns = { λ handle. owned_glob_at handle.alloc handle.at handle.held };
+}
+
+impl GlobHandle {
+    /// Makes a handle of what a box held.
+    pub(crate) fn of(loose: Loose<HeldGlob, Global>) -> GlobHandle
+        ensures { result.held ≡ Some loose.value.glob }
+    {
+        let Loose { at, alloc } = loose;
+        GlobHandle {
+            at: at as *mut u8,
+            alloc,
+        }
+    }
+
+    /// Makes a handle of nothing.
+    pub(crate) fn null(alloc: Global) -> GlobHandle
+        ensures { (result.held ≡ None) × (result.at ≡ null_ptr) }
+    {
+        GlobHandle {
+            at: std::ptr::null_mut(),
+            alloc,
+        }
+    }
+}

@@ -1,0 +1,129 @@
+//! Calls that make, use and free handles of ignore lists.
+ghost use Rattle.std.specs.Prelude.{◌≡◌, MatchResult, Option};
+ghost use Rattle.wax.specs.declared.ignoring.IgnoreList.{IgnoreList};
+ghost use Rattle.wax_c.specs.ListHandles.{HasList, Ignores, IgnoresAs, IsListHandle};
+ghost use Rattle.wax_c.specs.ListHandles.{IsListOfBytes, IsUnlistedAt};
+ghost use Rattle.wax_c.specs.ListOwned.{list_at, maybe_list_at};
+ghost use types.Logic.{sem};
+
+use crate::error::{CallError, answer_of, status_of};
+use crate::list_handle::ListHandle;
+use crate::loose::Loose;
+use std::alloc::Global;
+use wax::walk::{IgnoreError, IgnoreList};
+use wax::{BuildError, CandidatePath};
+
+// What a call that makes a handle gives: of an error also the number of the line, or 0.
+struct ListOpening {
+    outcome: Result<(), CallError>,
+    line: usize,
+    handle: ListHandle,
+}
+
+/// Makes a handle of the ignore list of a text. Returns 0.
+///
+/// # Errors
+///
+/// -1 to -9 if the glob of a line isn't built: then `line` is the number of the first such line, from 1,
+/// and else it is 0. -10 if an allocation fails, -20 if the text isn't UTF-8. Then the handle is null.
+#[unsafe(no_mangle)]
+pub extern "C" fn wax_ignore_new(
+    alloc: Global,
+    text: &[u8],
+    out: &mut ListHandle,
+    line: &mut usize,
+) -> i32
+    ensures { IsListHandle text.now out.new line.new result }
+{
+    let ListOpening {
+        outcome,
+        line: number,
+        handle,
+    } = open_list(alloc, text);
+    *out = handle;
+    *line = number;
+    status_of(&outcome)
+}
+
+/// Returns 1 if the list ignores the path and 0 if not.
+///
+/// # Errors
+///
+/// -10 if an allocation fails, -20 if the path isn't UTF-8.
+#[unsafe(no_mangle)]
+pub unsafe extern "C" fn wax_ignore_is_ignored(alloc: Global, list: *const u8, path: &[u8]) -> i32
+    ghost held: { IgnoreList }
+    requires* { sem 𝓛 (list_at alloc list held) }
+    ensures* back { sem 𝓛 (list_at alloc list held) }
+    ensures answer { IgnoresAs held path.now result }
+{
+    answer_list(alloc, &*(list as *const IgnoreList), path)
+}
+
+/// Frees what the handle points to. Does nothing if it is null.
+#[unsafe(no_mangle)]
+pub unsafe extern "C" fn wax_ignore_free(alloc: Global, list: *mut u8)
+    ghost held: { Option IgnoreList }
+    requires* { sem 𝓛 (maybe_list_at alloc list held) }
+{
+    if list.is_null() {
+        return;
+    }
+    drop_list(Box::from_raw(alloc, list as *mut IgnoreList));
+}
+
+fn open_list(alloc: Global, text: &[u8]) -> ListOpening
+    ensures { HasList text.now result.handle result.line result.outcome }
+{
+    match boxed_list(alloc, text) {
+        Ok(held) => ListOpening {
+            outcome: Ok(()),
+            line: 0,
+            handle: ListHandle::of(Loose::of(held)),
+        },
+        Err((error, line)) => ListOpening {
+            outcome: Err(error),
+            line,
+            handle: ListHandle::null(alloc),
+        },
+    }
+}
+
+// The list of the text, or why there is none and the number of the line, or 0.
+fn boxed_list(alloc: Global, text: &[u8]) -> Result<Box<IgnoreList>, (CallError, usize)>
+    ensures { MatchResult result (λ made. IsListOfBytes text.now made.value)
+        (λ error. IsUnlistedAt text.now error.1 error.0) }
+{
+    let Ok(text) = str::from_utf8(text) else {
+        return Err((CallError::NotText, 0));
+    };
+    match IgnoreList::parse(alloc, text) {
+        Ok(list) => match Box::new(alloc, list) {
+            Ok(made) => Ok(made),
+            Err(_) => Err((CallError::Build(BuildError::Memory), 0)),
+        },
+        Err(IgnoreError::BadLine { line, error }) => Err((CallError::Build(error), line)),
+        Err(IgnoreError::Memory) => Err((CallError::Build(BuildError::Memory), 0)),
+    }
+}
+
+fn answer_list(alloc: Global, list: &IgnoreList, path: &[u8]) -> i32
+    ensures { IgnoresAs list.now path.now result }
+{
+    let outcome = is_ignored(alloc, list, path);
+    answer_of(&outcome)
+}
+
+fn is_ignored(alloc: Global, list: &IgnoreList, path: &[u8]) -> Result<bool, CallError>
+    ensures { Ignores list.now path.now result }
+{
+    let Ok(path) = str::from_utf8(path) else {
+        return Err(CallError::NotText);
+    };
+    match list.is_ignored(alloc, &CandidatePath::from(path)) {
+        Ok(answer) => Ok(answer),
+        Err(_) => Err(CallError::Build(BuildError::Memory)),
+    }
+}
+
+fn drop_list(_held: Box<IgnoreList>) {}

@@ -1,0 +1,72 @@
+//! Calls that take an expression.
+ghost use Rattle.std.specs.Prelude.{◌≡◌, IfErr, OnErr, neg_ℤ, pos};
+ghost use Rattle.wax_c.specs.Outcomes.{AnswersAs, Decides, Ends, Fills, OfExpression};
+
+use crate::calls::{build, decide, fill};
+use crate::error::{CallError, answer_of, status_of};
+use std::alloc::Global;
+
+/// Returns 1 if the expression matches the path and 0 if not.
+///
+/// # Errors
+///
+/// -1 to -9 if the expression isn't built, -10 if an allocation fails, -20 if one of them isn't UTF-8.
+#[unsafe(no_mangle)]
+pub extern "C" fn wax_is_match(alloc: Global, expression: &[u8], path: &[u8]) -> i32
+    ensures { AnswersAs expression.now (λ glob. Decides glob path.now) result }
+{
+    answer_of(&is_match(alloc, expression, path))
+}
+
+/// Writes the lines of the input that the expression matches to the beginning of the output, each with a
+/// line feed, and how many bytes they take to `written`. Lines that aren't UTF-8 are left out. Returns 0.
+/// The length of the input plus 1 is always room enough.
+///
+/// # Errors
+///
+/// -1 to -9 if the expression isn't built, -10 if an allocation fails, -20 if the expression isn't UTF-8:
+/// then `written` is 0. -21 if the lines take more bytes than the output has: then `written` is how many.
+/// The output is unchanged in all these cases.
+#[unsafe(no_mangle)]
+pub extern "C" fn wax_filter(
+    alloc: Global,
+    expression: &[u8],
+    input: &[u8],
+    output: &mut [u8],
+    written: &mut usize,
+) -> i32
+    ensures fills { Ends expression.now (λ glob. Fills glob input.now
+        (record { bytes = output.new; written = written.new })) result }
+    ensures unchanged { (result ≡ pos 0 → ⊥) → output.new ≡ output.old }
+    ensures nothing { (result ≡ pos 0 → ⊥) → (result ≡ neg_ℤ (pos 21) → ⊥) → written.new ≡ 0 }
+{
+    status_of(&filter(alloc, expression, input, output, written))
+}
+
+fn is_match(alloc: Global, expression: &[u8], path: &[u8]) -> Result<bool, CallError>
+    ensures { OfExpression expression.now (λ glob. Decides glob path.now) result }
+{
+    match build(alloc, expression) {
+        Ok(glob) => decide(alloc, &glob, path),
+        Err(error) => Err(error),
+    }
+}
+
+fn filter(
+    alloc: Global,
+    expression: &[u8],
+    input: &[u8],
+    output: &mut [u8],
+    written: &mut usize,
+) -> Result<(), CallError>
+    ensures fills { OfExpression expression.now (λ glob. Fills glob input.now
+        (record { bytes = output.new; written = written.new })) result }
+    ensures unchanged { OnErr result (output.new ≡ output.old) }
+    ensures nothing { IfErr result (λ error. (error ≡ CallError.NoRoom → ⊥) → written.new ≡ 0) }
+{
+    *written = 0;
+    match build(alloc, expression) {
+        Ok(glob) => fill(alloc, &glob, input, output, written),
+        Err(error) => Err(error),
+    }
+}
