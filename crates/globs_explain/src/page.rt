@@ -1,0 +1,121 @@
+//! What is to be printed.
+
+use std::alloc::Global;
+use std::fmt::Display;
+use wax::NoMemory;
+
+/// A text that remembers whether memory ran out for it.
+#[derive(Drop)]
+pub struct Page {
+    text: String,
+    is_lost: bool,
+}
+
+impl Page {
+    /// Makes an empty page.
+    pub fn new(alloc: Global) -> Page {
+        Page {
+            text: String::new(alloc),
+            is_lost: false,
+        }
+    }
+
+    /// Returns the text; none if memory ran out.
+    pub fn text(&self) -> Option<&str> {
+        if self.is_lost {
+            None
+        } else {
+            Some(self.text.as_str())
+        }
+    }
+
+    /// Records that memory ran out.
+    pub fn lose(&mut self) {
+        self.is_lost = true;
+    }
+
+    /// Records that memory ran out if it did.
+    pub fn lose_unless(&mut self, call: Result<(), NoMemory>) {
+        if call.is_err() {
+            self.lose();
+        }
+    }
+
+    /// Adds a text.
+    pub fn add(&mut self, text: &str) {
+        if self.text.push_str(text).is_err() {
+            self.lose();
+        }
+    }
+
+    /// Adds another page.
+    pub fn add_page(&mut self, page: &Page) {
+        match page.text() {
+            Some(text) => self.add(text),
+            None => self.lose(),
+        }
+    }
+
+    /// Adds what a value prints.
+    pub fn show<T: Display>(&mut self, value: &T) {
+        if write!(self.text, "{value}").is_err() {
+            self.lose();
+        }
+    }
+
+    fn push(&mut self, character: char) {
+        if self.text.push(character).is_err() {
+            self.lose();
+        }
+    }
+
+    /// Adds the character; `?` if it is a control character.
+    fn draw(&mut self, character: char) {
+        if character < ' ' || ('\u{7f}' <= character && character <= '\u{9f}') {
+            self.push('?');
+        } else {
+            self.push(character);
+        }
+    }
+
+    /// Adds the characters of the text that begin in these bytes.
+    pub fn part(&mut self, text: &str, start: usize, end: usize) {
+        let mut at: usize = 0;
+        for character in text.chars() {
+            if start <= at && at < end {
+                self.draw(character);
+            }
+            at = at.saturating_add(character.len_utf8());
+        }
+    }
+
+    /// Adds the same for a text in double quotes, with a backslash before a quote and a backslash.
+    pub fn quoted_part(&mut self, text: &str, start: usize, end: usize) {
+        let mut at: usize = 0;
+        for character in text.chars() {
+            if start <= at && at < end {
+                if character == '"' || character == '\\' {
+                    self.push('\\');
+                }
+                self.draw(character);
+            }
+            at = at.saturating_add(character.len_utf8());
+        }
+    }
+
+    /// Adds a `^` under each character of the text that begins in these bytes; one if there is none.
+    pub fn marks(&mut self, text: &str, start: usize, end: usize) {
+        let mut at: usize = 0;
+        for character in text.chars() {
+            if at < start {
+                self.push(' ');
+            } else if at < end {
+                self.push('^');
+            }
+            at = at.saturating_add(character.len_utf8());
+        }
+        if start >= end {
+            self.push('^');
+        }
+    }
+}
