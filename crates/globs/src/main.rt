@@ -6,8 +6,8 @@ use std::io::ErrorKind;
 use std::process::ExitCode;
 use wax::Counted;
 use wax::walk::Folders;
+use wax_command_line::words;
 use wax_commands::{FileFault, run_globs};
-use wax_words::words;
 
 fn main(rt: HostRuntime) -> ExitCode {
     let alloc = rt.alloc();

@@ -4,16 +4,16 @@ use Rattle.std.specs.Prelude.{Result, Ok, Err, OnOk, chars, codes}
 use Rattle.std.proofs.lemmas.List.{map-append}
 use Rattle.wax.specs.Exclusions.{IsNotRule}
 use Rattle.wax.specs.Patterns.{Spells}
-use Rattle.wax_collect.specs.Trips.{AreRulesOf, IsRuleOf}
+use Rattle.wax_exclude.specs.Trips.{AreRulesOf, IsRuleOf}
 use Rattle.wax_token.specs.Reads.{Span}
 use Rattle.wax_token.specs.Syntax.{Tree}
 use Rattle.wax_walk.specs.Given.{Facts, Mark}
-use Rattle.wax_wanted.specs.Ignored.{Line}
-use Rattle.wax_wanted.specs.Wanted.{Filter, not_ignored, not_meant}
-use Rattle.wax_words.specs.Commands.{WalkOption, without, ignoring, at_least, at_most, IsOption}
+use Rattle.wax_exclude.specs.Ignored.{Line}
+use Rattle.wax_exclude.specs.Wanted.{Filter, not_ignored, not_meant}
+use Rattle.wax_command_line.specs.Commands.{WalkOption, without, ignoring, at_least, at_most, IsOption}
 use Rattle.wax_commands.specs.Files.{FileAnswers, IsListIn}
 use Rattle.wax_commands.specs.Walked.{AreAskedBy, IsNotOf}
-use Rattle.wax_words.proofs.OptionWords.{same_option}
+use Rattle.wax_command_line.proofs.OptionWords.{same_option}
 
 map_on_ok : {A E P Q : Type 0} → (P → Q) → (r : Result A E) → OnOk r P → OnOk r Q
 map_on_ok f (Ok a) h = f h

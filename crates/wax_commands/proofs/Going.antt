@@ -1,9 +1,9 @@
 -- What a walk writes, from the builds on.
 use Rattle.std.proofs.Common.{◌≡◌, ℕ, ◌-◌, ◌^◌, true, false, ◌++◌, List, [], refl, sym, ap, subst, ◌∙◌}
 use Rattle.std.specs.Prelude.{Option, chars}
-use Rattle.wax.specs.Build.{IsGlob}
+use Rattle.wax.specs.Headline.{IsGlob}
 use Rattle.wax.specs.GlobView.{GlobView}
-use Rattle.wax_collect.specs.Trips.{AreRulesOf, KeepsWanted, Trip, goes, trip_walk}
+use Rattle.wax_exclude.specs.Trips.{AreRulesOf, KeepsWanted, Trip, goes, trip_walk}
 use Rattle.wax_directory.specs.Law.{Law}
 use Rattle.wax_directory.specs.Shown.{Shown}
 use Rattle.wax_token.specs.Reads.{Span}
@@ -12,19 +12,19 @@ use Rattle.wax_tree.specs.Depths.{behavior_at}
 use Rattle.wax_tree.specs.declared.behavior.WalkBehavior.{WalkBehavior}
 use Rattle.wax_walk.specs.Given.{Facts, Mark}
 use Rattle.wax_walk.specs.View.{WalkView}
-use Rattle.wax_wanted.specs.Wanted.{Filter}
+use Rattle.wax_exclude.specs.Wanted.{Filter}
 use Rattle.wax.specs.GlobWalks.{BeginsGlob, trip_of}
 use Rattle.wax.proofs.GlobWalks.{comes_glob}
 use Rattle.wax_walk.specs.Forest.{preorder}
-use Rattle.wax_walk_lines.specs.Candidates.{candidate_lines}
+use Rattle.wax_command_line.specs.Candidates.{candidate_lines}
 use Rattle.wax_commands.specs.Files.{FileAnswers}
-use Rattle.wax_words.specs.Commands.{SayEach, WalkOption, WalkRequest}
+use Rattle.wax_command_line.specs.Commands.{SayEach, WalkOption, WalkRequest}
 use Rattle.wax_commands.specs.Refused.{IsRefused}
 use Rattle.wax_commands.specs.Walked.{AreAskedByAll, AreBuilt, Ground, HasRefused, OnWalk, WalkEnds, WalkGlobs, done, faulty, no_filter, no_glob}
 use Rattle.wax_commands.specs.Walked.{range_in, refused, stopped}
-use Rattle.wax_words.specs.declared.walk_words.WalkWords.{WalkWords}
-use Rattle.wax_walk_lines.specs.Wanted.{OnTrips, WroteFirst, WroteWanted}
-use Rattle.wax_words.specs.WalkWords.{IsRead}
+use Rattle.wax_command_line.specs.declared.walk_words.WalkWords.{WalkWords}
+use Rattle.wax_command_line.specs.Wanted.{OnTrips, WroteFirst, WroteWanted}
+use Rattle.wax_command_line.specs.WalkWords.{IsRead}
 
 module _ {D C : Type 0} (law : Law D C) (d : D) (asked : WalkRequest) (globs : WalkGlobs) (view : WalkView D) where
   -- what holds on the trips of the walk holds on the walk

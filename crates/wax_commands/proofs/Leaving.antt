@@ -2,15 +2,15 @@
 use Rattle.std.proofs.Common.{◌≡◌, ℕ, List, [], ◌∷◌, ◌++◌, refl, sym, ap, subst, ◌∙◌, append_assoc}
 use Rattle.std.specs.Prelude.{Option, Some, None, String}
 use Rattle.std.proofs.lemmas.List.{append-nil}
-use Rattle.wax_collect.specs.Trips.{AreRulesOf}
+use Rattle.wax_exclude.specs.Trips.{AreRulesOf}
 use Rattle.wax_token.specs.Reads.{Span}
 use Rattle.wax_walk.specs.Given.{Facts, Mark}
-use Rattle.wax_wanted.specs.Wanted.{Filter}
-use Rattle.wax_words.specs.Commands.{WalkOption, IsOption, SayEach}
+use Rattle.wax_exclude.specs.Wanted.{Filter}
+use Rattle.wax_command_line.specs.Commands.{WalkOption, IsOption, SayEach}
 use Rattle.wax_commands.specs.Files.{FileAnswers}
 use Rattle.wax_commands.specs.Walked.{AreAskedBy, AreAskedByAll, HasRefused, IsRefusedOption}
-use Rattle.wax_words.specs.WalkWords.{HasNoNext, IsNext}
-use Rattle.wax_words.proofs.OptionWords.{next_says}
+use Rattle.wax_command_line.specs.WalkWords.{HasNoNext, IsNext}
+use Rattle.wax_command_line.proofs.OptionWords.{next_says}
 
 rules_more : (xs ys : List (Filter Span)) (rules others : List (Facts → Mark)) → AreRulesOf xs rules → AreRulesOf ys others → AreRulesOf (xs ++ ys) (rules ++ others)
 rules_more [] ys [] others h k = k

@@ -4,9 +4,9 @@ use Rattle.std.specs.List.{AllZip}
 use Rattle.std.specs.Str.{IsUtf8}
 use Rattle.wax.specs.Ignoring.{IsNoList, IsReadAs}
 use Rattle.wax.specs.declared.ignoring.IgnoreError.{IgnoreError}
-use Rattle.wax_ignore.specs.Lines.{written_lines}
+use Rattle.wax_exclude.specs.Lines.{written_lines}
 use Rattle.wax_token.specs.Reads.{Span}
-use Rattle.wax_wanted.specs.Ignored.{Line}
+use Rattle.wax_exclude.specs.Ignored.{Line}
 use Rattle.wax_commands.specs.declared.files.FileFault.{FileFault}
 
 -- what may be answered of a file, by its name

@@ -1,6 +1,6 @@
 -- How a run of `match` or of `captures` can end.
 use Rattle.std.specs.Prelude.{◌≡◌, ◌≢◌, ℕ, List, Option, chars}
-use Rattle.wax.specs.Build.{IsGlob}
+use Rattle.wax.specs.Headline.{IsGlob}
 use Rattle.wax.specs.GlobView.{GlobView, HasCaptures, IsMeant}
 use Rattle.wax_lines.specs.Lines.{Filtered, Stopped, WritesCaptures, WritesMeant}
 use Rattle.wax_lines.specs.declared.lines.LinesError.{LinesError}

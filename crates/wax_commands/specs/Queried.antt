@@ -1,7 +1,7 @@
 -- How a run of `query` can end.
 use Rattle.std.specs.Prelude.{◌≡◌, ℕ, List, Option, chars}
 use Rattle.std.specs.Io.KnownBytes.{Appends}
-use Rattle.wax.specs.Build.{IsGlob}
+use Rattle.wax.specs.Headline.{IsGlob}
 use Rattle.wax.specs.GlobView.{GlobView}
 use Rattle.wax_commands.specs.Refused.{IsRefused}
 

@@ -2,14 +2,14 @@
 use Rattle.std.specs.Prelude.{◌≡◌, ℕ, ◌-◌, ◌^◌, true, false, ⊤, List, [], ◌∷◌, ◌++◌, Option, chars}
 use Rattle.std.specs.Io.KnownBytes.{Appends}
 use Rattle.std.specs.List.{list_any}
-use Rattle.wax.specs.Build.{IsGlob}
+use Rattle.wax.specs.Headline.{IsGlob}
 use Rattle.wax.specs.Exclusions.{FitsAlone, NoExclusion}
 use Rattle.wax.specs.GlobView.{GlobView}
 use Rattle.wax.specs.GlobWalks.{Beginning, trip_of, way_from}
 use Rattle.wax.specs.Patterns.{Refuses, Spells}
 use Rattle.wax_error.specs.declared.build_error.BuildError.{BuildError}
-use Rattle.wax_collect.specs.Trips.{KeepsWanted, Trip, trip_walk}
-use Rattle.wax_depth.specs.Depth.{Depth}
+use Rattle.wax_exclude.specs.Trips.{KeepsWanted, Trip, trip_walk}
+use Rattle.wax_components.specs.Depth.{Depth}
 use Rattle.wax_directory.specs.Law.{Law}
 use Rattle.wax_directory.specs.Shown.{Shown}
 use Rattle.wax_query.specs.Ranges.{Bounds}
@@ -20,10 +20,10 @@ use Rattle.wax_tree.specs.Prefix.{ArePlain}
 use Rattle.wax_tree.specs.declared.steps.Range.{Range}
 use Rattle.wax_walk.specs.Forest.{preorder}
 use Rattle.wax_walk.specs.Given.{Given}
-use Rattle.wax_walk_lines.specs.Candidates.{candidate_lines, is_error}
-use Rattle.wax_wanted.specs.Wanted.{Filter, not_meant, not_ignored}
-use Rattle.wax_words.specs.Commands.{WalkOption, without, ignoring, at_least, at_most, WalkRequest}
-use Rattle.wax_words.specs.Commands.{greatest_in, least_in}
+use Rattle.wax_command_line.specs.Candidates.{candidate_lines, is_error}
+use Rattle.wax_exclude.specs.Wanted.{Filter, not_meant, not_ignored}
+use Rattle.wax_command_line.specs.Commands.{WalkOption, without, ignoring, at_least, at_most, WalkRequest}
+use Rattle.wax_command_line.specs.Commands.{greatest_in, least_in}
 use Rattle.wax_commands.specs.Files.{FileAnswers, IsListIn, IsUnlisted}
 use Rattle.wax_commands.specs.Refused.{IsRefused}
 

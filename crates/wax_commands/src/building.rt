@@ -2,16 +2,16 @@
 ghost use Rattle.std.specs.Fn.{FnReturnsAt};
 ghost use Rattle.std.specs.Prelude.{◌≡◌, ◌∷◌, ◌++◌, [], List, chars, map};
 ghost use Rattle.std.specs.Prelude.{IfSome, IfNone, IfOk, OnOk, OnErr, IsSome};
-ghost use Rattle.wax.specs.Build.{IsGlob};
+ghost use Rattle.wax.specs.Headline.{IsGlob};
 ghost use Rattle.wax.specs.Exclusions.{NoExclusion};
 ghost use Rattle.wax.specs.Patterns.{Refuses, Spells};
-ghost use Rattle.wax_collect.specs.Trips.{AreRulesOf};
+ghost use Rattle.wax_exclude.specs.Trips.{AreRulesOf};
 ghost use Rattle.wax_token.specs.Reads.{Span};
 ghost use Rattle.wax_token.specs.Syntax.{Tree};
 ghost use Rattle.wax_walk.specs.Given.{Facts, Mark};
-ghost use Rattle.wax_wanted.specs.Ignored.{Line};
-ghost use Rattle.wax_wanted.specs.Wanted.{Filter, not_ignored, not_meant};
-ghost use Rattle.wax_words.specs.Commands.{SayEach, IsOption, WalkOption};
+ghost use Rattle.wax_exclude.specs.Ignored.{Line};
+ghost use Rattle.wax_exclude.specs.Wanted.{Filter, not_ignored, not_meant};
+ghost use Rattle.wax_command_line.specs.Commands.{SayEach, IsOption, WalkOption};
 ghost use Rattle.wax_commands.specs.Files.{IsListIn, IsUnlisted};
 ghost use Rattle.wax_commands.specs.Refused.{IsRefused};
 ghost use Rattle.wax_commands.specs.Walked.{AreAskedBy, AreAskedByAll, HasRefused, IsNotOf};
@@ -23,8 +23,8 @@ use std::io::Write;
 use thiserror::Error;
 use wax::walk::WalkFilter;
 use wax::{BuildError, Glob};
+use wax_command_line::next_option;
 use wax_walk::Rule;
-use wax_words::next_option;
 
 /// Why something isn't built that is left out of a walk.
 #[derive(Debug, Drop, Error)]

@@ -3,7 +3,7 @@ ghost use Rattle.std.specs.Fn.{FnReturnsAt};
 ghost use Rattle.std.specs.Prelude.{IfOk, List, OnErr};
 ghost use Rattle.wax.specs.Ignoring.{HoldsLines};
 ghost use Rattle.wax_token.specs.Reads.{Span};
-ghost use Rattle.wax_wanted.specs.Ignored.{Line};
+ghost use Rattle.wax_exclude.specs.Ignored.{Line};
 ghost use Rattle.wax_commands.specs.Files.{IsListIn, IsUnlisted};
 
 use crate::building::FilterFault;

@@ -2,8 +2,8 @@
 ghost use Rattle.std.specs.Fn.{FnReturnsAt};
 ghost use Rattle.std.specs.Prelude.{◌≡◌, ℕ, List, IfOk, IfErr, IfSome, IfNone};
 ghost use Rattle.wax_lines.specs.Lines.{Filtered, Stopped};
-ghost use Rattle.wax_words.specs.Commands.{Asks, AsksMatch, AsksCaptures, AsksQuery, AsksWalk};
-ghost use Rattle.wax_words.specs.Commands.{HasNoCommand, WalkRequest};
+ghost use Rattle.wax_command_line.specs.Commands.{Asks, AsksMatch, AsksCaptures, AsksQuery, AsksWalk};
+ghost use Rattle.wax_command_line.specs.Commands.{HasNoCommand, WalkRequest};
 ghost use Rattle.wax_commands.specs.LineCommands.{LinesEnd, captures_of, match_command};
 ghost use Rattle.wax_commands.specs.Queried.{QueryEnds, Writes};
 ghost use Rattle.wax_commands.specs.Walked.{WalkEnds};
@@ -18,8 +18,8 @@ use std::alloc::Global;
 use std::io::{Read, Write};
 use wax::walk::Directory;
 use wax::{Counted, Glob, capture_lines, filter_lines};
+use wax_command_line::read_walk;
 use wax_lines::{LinesError, write_whole};
-use wax_words::read_walk;
 
 const USAGE: &str = "\
 usage: globs match EXPR

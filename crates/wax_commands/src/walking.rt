@@ -1,9 +1,9 @@
 //! A walk of a glob, less what other expressions mean and a list ignores.
 ghost use Rattle.std.specs.Fn.{FnReturnsAt};
 ghost use Rattle.std.specs.Prelude.{◌≡◌};
-ghost use Rattle.wax_words.specs.Commands.{WalkRequest};
+ghost use Rattle.wax_command_line.specs.Commands.{WalkRequest};
 ghost use Rattle.wax_commands.specs.Walked.{WalkEnds};
-ghost use Rattle.wax_words.specs.WalkWords.{IsRead};
+ghost use Rattle.wax_command_line.specs.WalkWords.{IsRead};
 
 use crate::building::{built, built_filters};
 use crate::files::FileFault;
@@ -12,8 +12,7 @@ use std::alloc::Global;
 use std::io::Write;
 use wax::Counted;
 use wax::walk::Directory;
-use wax_walk_lines::write_wanted;
-use wax_words::WalkWords;
+use wax_command_line::{WalkWords, write_wanted};
 
 /// Builds the glob, then what is left out, in the order of the words, and then writes the candidates of the
 /// walk over the directory. Errors of the walk are told where they come.

@@ -1,7 +1,9 @@
-pub mod TopLevel
-pub mod Parts
-pub mod Levels
+pub mod Bounds
 pub mod Capturing
+pub mod Depth
+pub mod Levels
+pub mod Parts
+pub mod TopLevel
 pub mod Views
 pub mod Warnings
 pub mod inner

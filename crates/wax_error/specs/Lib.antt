@@ -1,2 +1,4 @@
+pub mod Drawn
 pub mod Locations
+pub mod Numbers
 pub mod Refusals

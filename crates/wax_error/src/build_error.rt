@@ -2,14 +2,16 @@
 ghost use Rattle.std.specs.Prelude.{◌≡◌, IfOk, chars, string_bytes};
 ghost use Rattle.wax_error.specs.Refusals.{IsRuleRefusal};
 ghost use Rattle.wax_error.specs.Locations.{error_labels};
-ghost use Rattle.wax_picture.specs.Drawn.{picture as picture_of};
+ghost use Rattle.wax_error.specs.Numbers.{build_number, rule_number};
+ghost use Rattle.wax_error.specs.Drawn.{picture as picture_of};
 ghost use Rattle.wax_query.specs.Labels.{AreLabels};
 
+use crate::drawing::picture;
 use std::alloc::Global;
 use thiserror::Error;
+use wax_break::RuleErrorKind;
 use wax_match::encode::CompileError;
 use wax_parse::parse::ParseError;
-use wax_picture::picture;
 use wax_query::diagnostics::{CompositeSpan, NoMemory, Refusal, Span};
 use wax_rule::rule::RuleError;
 
@@ -31,6 +33,18 @@ pub enum BuildError {
 }
 
 impl BuildError {
+    /// Returns the number of the refusal, from 1 to 10.
+    pub fn number(&self) -> u8
+        ensures { result ≡ build_number self.now }
+    {
+        match self {
+            BuildError::Parse(_) => 1,
+            BuildError::Rule(error) => number_of_rule(error.kind()),
+            BuildError::Compile(_) => 9,
+            BuildError::Memory => 10,
+        }
+    }
+
     /// What is told of the refusal, each with its span in the expression: `unexpected expression` where it
     /// can't be read; of a broken rule the label of its place, then `here` for each place that explains it.
     /// The refusals 9 and 10 tell nothing. Refused with 10 where memory is.
@@ -56,6 +70,21 @@ impl BuildError {
     {
         let labels = self.labels(alloc)?;
         picture(alloc, expression, labels.as_slice())
+    }
+}
+
+// The number of a broken rule.
+fn number_of_rule(kind: RuleErrorKind) -> u8
+    ensures { result ≡ rule_number kind }
+{
+    match kind {
+        RuleErrorKind::AdjacentBoundary => 2,
+        RuleErrorKind::IncompatibleBounds => 3,
+        RuleErrorKind::SingularTree => 4,
+        RuleErrorKind::AdjacentZeroOrMore => 5,
+        RuleErrorKind::RootedSubGlob => 6,
+        RuleErrorKind::SingularZeroOrMore => 7,
+        RuleErrorKind::OversizedInvariant => 8,
     }
 }
 

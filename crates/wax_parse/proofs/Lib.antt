@@ -1,7 +1,11 @@
 pub mod Bounds
 pub mod Classes
+pub mod Escaped
+pub mod EscapedTrees
 pub mod Flags
 pub mod Leaves
+pub mod Literals
+pub mod Meant
 pub mod Outcomes
 pub mod Places
 pub mod Readings

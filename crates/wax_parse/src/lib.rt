@@ -1,4 +1,7 @@
 //! The parser of expressions.
 #![tactic(auto)]
 
+mod meta;
 pub mod parse;
+
+pub use meta::{escape, is_contextual_meta_character, is_meta_character};

@@ -1,14 +1,11 @@
 -- A fold that finds a `**` finds it wherever it is.
 use Rattle.std.proofs.Common.{◌≡◌, Bool, true, false, ◌||◌, Some, [], ◌∷◌, ◌++◌, map, suc, refl, ◌∙◌, ap, append-nil}
 use Rattle.std.specs.List.{flat_map, list_any}
-use Rattle.wax_token.specs.Cost.{holds_tree, some_holds_tree}
-use Rattle.wax_token.specs.Syntax.{Tree, leaf, alternation, concatenation, repetition, Trees, none, more}
-use Rattle.wax_fold.specs.Branches.{picked}
-use Rattle.wax_token.specs.Words.{listed}
-use Rattle.wax_fold.specs.Folded.{Folding, listed_term, folded, folded_each}
-use Rattle.wax_fold.specs.Sequences.{forward_chosen, places}
 use Rattle.wax_test_calls.specs.Folders.{finding}
-use Rattle.wax_fold.proofs.Picking.{all_picked}
+use Rattle.wax.proofs.Lemmas.{all_picked}
+use Rattle.wax.specs.Language.{alternation, concatenation, folded, folded_each, Folding, forward_chosen}
+use Rattle.wax.specs.Language.{holds_tree, leaf, listed, listed_term, more, none, picked, places, repetition}
+use Rattle.wax.specs.Language.{some_holds_tree, Tree, Trees}
 
 same_places : {A T : Type 0} (f : Folding A T) (ts : Trees A) → places (listed ts) ≡ places (folded_each forward_chosen f ts)
 same_places f none = refl

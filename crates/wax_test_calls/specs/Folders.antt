@@ -1,11 +1,7 @@
 -- What the folders of the tests answer.
 use Rattle.std.specs.Prelude.{ℕ, Bool, Some, None}
 use Rattle.std.specs.List.{list_any}
-use Rattle.wax_token.specs.Cost.{is_tree}
-use Rattle.wax_token.specs.Syntax.{Tree, leaf}
-use Rattle.wax_fold.specs.Branches.{composed}
-use Rattle.wax_fold.specs.Folded.{Folding}
-use Rattle.wax_fold.specs.Mapped.{Mapping}
+use Rattle.wax.specs.Language.{composed, Folding, is_tree, leaf, Mapping, Tree}
 
 -- whether a `**` is found
 abbrev pub finding : {A : Type 0} → Folding A Bool

@@ -8,10 +8,10 @@ use std::env::FillError;
 use std::rt::Env;
 use wax::NoMemory;
 use wax::walk::{Directory, Starving};
+use wax_command_line::words;
 use wax_commands::{FileFault, run_globs};
 use wax_test_kit::plans::{ROOT, tree_of};
 use wax_test_kit::streams::Narrow;
-use wax_words::words;
 
 /// `src` with two files and the folder `a` with one, and `target` with one; no fault.
 const PROJECT: &str = "src/ lib.rs notes.md a/ mod.rs ; ; target/ lib.rs ;";

@@ -1,13 +1,8 @@
 //! Folds and walks of the tokens of `a{?,**}</:1,>`.
 ghost use Rattle.std.specs.Prelude.{◌≡◌, ℕ, Bool, IfOk};
 ghost use Rattle.std.specs.List.{list_any};
-ghost use Rattle.wax_token.specs.Syntax.{Tree};
-ghost use Rattle.wax_fold.specs.Branches.{composed};
-ghost use Rattle.wax_fold.specs.Folded.{Folding};
-ghost use Rattle.wax_token.specs.Cost.{holds_tree, is_tree};
-ghost use Rattle.wax_token.specs.View.{leaf_of};
-ghost use Rattle.wax_fold.specs.Mapped.{Mapping, mapped};
 ghost use Rattle.wax_test_calls.specs.Folders.{finding, marking};
+ghost use Rattle.wax.specs.Language.{composed, Folding, holds_tree, is_tree, leaf_of, mapped, Mapping, Tree};
 
 use crate::answer::Answer;
 use std::alloc::Global;

@@ -3,7 +3,7 @@ ghost use Rattle.std.specs.Prelude.{◌≡◌, ◌==◌, [], nat_eq, true, codes
 ghost use Rattle.std.specs.List.{ends_with};
 
 use std::alloc::Global;
-use wax::{CandidatePath, MatchedText, NoMemory, Program};
+use wax::{BuildMatcher, CandidatePath, MatchedText, NoMemory, Program, ProgramMatcher};
 
 /// Matches the texts that end in `.png`. It finds no memory for the text `starve`.
 pub struct Pictures;
@@ -42,5 +42,16 @@ impl Program for Pictures {
             return Ok((None, visits));
         }
         Ok((Some(MatchedText::whole(alloc, path.as_str())), visits))
+    }
+}
+
+impl<'p> BuildMatcher<'p> for Pictures {
+    type Matcher = ProgramMatcher<'p, Pictures>;
+
+    fn build_matcher(&'p self, alloc: Global) -> Result<ProgramMatcher<'p, Pictures>, NoMemory> {
+        Ok(ProgramMatcher {
+            alloc,
+            program: self,
+        })
     }
 }

@@ -1,12 +1,10 @@
 -- What the filters of rows exclude.
 use Rattle.std.specs.Prelude.{cond, nat_lt, List, Some}
-use Rattle.wax_token.specs.Reads.{Span}
-use Rattle.wax_token.specs.Syntax.{Tree}
-use Rattle.wax_walk.specs.Given.{Facts, Mark, kept}
-use Rattle.wax_walk.specs.Said.{mark_of}
 use Rattle.wax.specs.declared.ignoring.IgnoreList.{IgnoreList}
 use Rattle.wax_test_walks.specs.declared.filters.Filter.{Filter}
 use Rattle.wax_test_walks.specs.declared.filters.Filter.TheVariants.{Nothing, Not, Ignore, From}
+use Rattle.wax.specs.Language.{Span, Tree}
+use Rattle.wax.specs.Walks.{Facts, kept, Mark, mark_of}
 
 -- what a filter says of an entry, by what patterns and lists say
 abbrev pub rule_of : (List (Tree Span) → Facts → Mark) → (IgnoreList → Facts → Mark) → Filter → Facts → Mark

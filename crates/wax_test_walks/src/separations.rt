@@ -4,9 +4,8 @@ ghost use Rattle.std.specs.Prelude.{◌≡◌, Some, fold, length, true};
 ghost use Rattle.std.specs.Iterator.{IsFinite, at_most};
 ghost use Rattle.std.proofs.Common.{ap, ◌∙◌};
 ghost use Rattle.std.proofs.Math.Nat.{le_of_eq};
-ghost use Rattle.wax_filter.specs.inner.Walking.{separated_entry};
-ghost use Rattle.wax_filter.specs.Feeding.{AtMostCancels};
 ghost use Rattle.std.specs.Hash.DefaultHasher as sip;
+ghost use Rattle.wax.specs.Walks.{AtMostCancels, separated_entry};
 
 use std::hash::{DefaultHasher, Hash, Hasher};
 use std::io;

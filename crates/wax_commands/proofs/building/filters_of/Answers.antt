@@ -1,9 +1,9 @@
 use Rattle.std.proofs.Common.{List}
 use Rattle.std.specs.Fn.{FnReturnsAt}
-use Rattle.wax_words.specs.Commands.{SayEach, WalkOption}
+use Rattle.wax_command_line.specs.Commands.{SayEach, WalkOption}
 use Rattle.wax_commands.specs.Walked.{HasRefused}
 use Rattle.wax_commands.proofs.Leaving.{so_far_all, so_far_more, so_far_none, so_far_refused}
-use Rattle.wax_walk_lines.proofs.Lines.{err_holds}
+use Rattle.wax_command_line.proofs.Lines.{err_holds}
 use Rattle.wax_commands.proofs.building.filters_of.Goals as goal
 
 pub loop-name-init : goal.loop-name-init

@@ -1,7 +1,7 @@
 use Rattle.std.proofs.Common.{rules, subst, ◌≡◌}
 use Rattle.std.specs.List.{AllZip}
 use Rattle.wax.specs.Ignoring.{IsReadAs}
-use Rattle.wax_ignore.specs.Lines.{written_lines}
+use Rattle.wax_exclude.specs.Lines.{written_lines}
 use Rattle.wax_commands.proofs.files.list_in.Goals as goal
 
 pub returns-in-Ok-parse-clause-ok : goal.returns-in-Ok-parse-clause-ok

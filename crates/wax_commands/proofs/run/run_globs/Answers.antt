@@ -1,10 +1,10 @@
 use Rattle.std.proofs.Common.{◌≡◌, ◌∙◌, List, [], ◌∷◌, ℕ, Option, Some, None, subst, sym}
 use Rattle.std.specs.Prelude.{String}
-use Rattle.wax_words.specs.Commands.{Asks}
+use Rattle.wax_command_line.specs.Commands.{Asks}
 use Rattle.wax_commands.specs.LineCommands.{LinesEnd, match_command, captures_of}
 use Rattle.wax_commands.specs.Queried.{QueryEnds}
-use Rattle.wax_words.specs.WalkWords.{IsRead}
-use Rattle.wax_words.proofs.OptionWords.{same_walk}
+use Rattle.wax_command_line.specs.WalkWords.{IsRead}
+use Rattle.wax_command_line.proofs.OptionWords.{same_walk}
 use Rattle.wax_commands.proofs.run.run_globs.Goals as goal
 
 -- the words ask for one expression at most

@@ -1,7 +1,7 @@
 use Rattle.std.proofs.Common.{◌≡◌, subst}
 use Rattle.std.specs.Fn.{FnReturnsAt}
 use Rattle.wax_tree.specs.Depths.{behavior_at}
-use Rattle.wax_walk_lines.specs.Wanted.{WroteWanted}
+use Rattle.wax_command_line.specs.Wanted.{WroteWanted}
 use Rattle.wax_commands.proofs.Going.{ends_done, ends_faulty, ends_stopped, ground}
 use Rattle.wax_commands.proofs.walking.run_walk.Goals as goal
 

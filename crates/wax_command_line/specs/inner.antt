@@ -1,0 +1,2 @@
+pub mod OptionWords
+pub mod Written

@@ -1,0 +1,31 @@
+-- What is written of a walk. Only private functions cite this file.
+use Rattle.std.specs.Prelude.{◌≡◌, ℕ, Bool, List, ◌++◌, Option}
+use Rattle.std.specs.Io.KnownBytes.{Appends}
+use Rattle.std.specs.List.{list_any}
+use Rattle.wax_directory.specs.Law.{Law}
+use Rattle.wax_walk.specs.Collected.{Took}
+use Rattle.wax_walk.specs.Forest.{Pending, all_pending, preorder}
+use Rattle.wax_walk.specs.Given.{Given}
+use Rattle.wax_walk.specs.View.{WalkView}
+use Rattle.wax_command_line.specs.Candidates.{candidate_lines, is_error}
+
+-- of what waits and a line, some bytes were written, and the others wait. `held` is what the writer holds,
+-- before and after.
+abbrev pub MovesBytes : (held held' : Option (List ℕ)) → (waiting waiting' line : List ℕ) → Type 0
+MovesBytes held held' waiting waiting' line =
+    (bytes : List ℕ) × Appends held held' bytes × (bytes ++ waiting' ≡ waiting ++ line)
+
+-- the walk was taken to its end, and the lines of its items were written
+pub record WroteAll {D C : Type 0} (law : Law D C) (walk : WalkView D) (held held' : Option (List ℕ))
+    (has_errors : Bool) : Type 0 where
+  pub directory : D
+  pub given : List Given
+  pub took : Took law walk directory given
+  pub writes : Appends held held' (candidate_lines given)
+  pub errors : has_errors ≡ list_any is_error given
+
+-- a beginning of the lines of all that was to come was written
+abbrev pub WroteSome : {D : Type 0} → WalkView D → Option (List ℕ) → Option (List ℕ) → Type 0
+WroteSome walk held held' = (bytes : List ℕ) × Appends held held' bytes
+    × ((p : Pending Given) → walk.to_come p
+    → (unwritten : List ℕ) × (bytes ++ unwritten ≡ candidate_lines (preorder (all_pending p))))

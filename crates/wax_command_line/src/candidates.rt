@@ -1,0 +1,175 @@
+//! The candidates of a walk, as lines.
+ghost use Rattle.std.specs.Prelude.{◌≡◌, ◌∷◌, ◌++◌, [], IfOk, IfErr, OnOk, OnErr, false, map};
+ghost use Rattle.std.specs.Iterator.{IsFinite};
+ghost use Rattle.wax_command_line.specs.Wanted.{WroteFirst};
+ghost use Rattle.wax_command_line.specs.inner.Written.{MovesBytes, WroteAll, WroteSome};
+ghost use Rattle.wax_command_line.specs.Wanted.{WroteWanted};
+ghost use Rattle.wax_command_line.specs.Candidates.{candidate_line, is_error};
+ghost use Rattle.wax_lines.specs.Written.{WritesPart};
+ghost use Rattle.wax_walk.specs.Entries.{given_of};
+
+use std::alloc::{AllocError, Global};
+use std::io::Write;
+use wax_candidate::Program;
+use wax_directory::directory::Directory;
+use wax_exclude::law_of_walks;
+use wax_filter::filter::{Feed, SeparatingFilter, Separation, TreeResidue};
+use wax_glob_walk::{FilterAny, GlobWalk, NameTest};
+use wax_lines::{Counted, LinesError, write_whole};
+use wax_walk::{Entry, FileIterator, Rule, WalkError};
+
+/// How many bytes of lines wait at most before they are written.
+const CHUNK: usize = 8192;
+
+/// Writes the candidates of the entries of a glob's walk less what these rules leave out, one a line, and
+/// answers whether some item was an error. Each error is told where it comes.
+pub fn write_wanted<'g, D, P, C, R, W, F>(
+    alloc: Global,
+    walk: GlobWalk<'g, D, P, C>,
+    rules: Vec<R>,
+    output: &mut Counted<W>,
+    faults: &mut F,
+) -> Result<bool, LinesError>
+where
+    D: Directory,
+    P: Program,
+    C: NameTest,
+    R: Rule,
+    W: Write,
+    F: Write,
+    requires can { ⟦<GlobWalk<'g, D, P, C> as SeparatingFilter>⟧.can_feed walk }
+    requires ends { IsFinite (⟦<GlobWalk<'g, D, P, C> as SeparatingFilter>⟧.left walk) }
+    ensures done { IfOk result (WroteWanted D.law
+        (⟦<GlobWalk<'g, D, P, C> as FileIterator>⟧.view walk.entry) (map R.rule rules.items)
+        (W.contents output.old.inner) (W.contents output.new.inner)) }
+    ensures stopped { OnErr result (WroteFirst D.law
+        (⟦<GlobWalk<'g, D, P, C> as FileIterator>⟧.view walk.entry) (map R.rule rules.items)
+        (W.contents output.old.inner) (W.contents output.new.inner)) }
+    ensures quiet { IfOk result (λ has_errors. has_errors ≡ false → faults.new ≡ faults.old) }
+{
+    write_less(alloc, walk, rules, output, faults)
+}
+
+// The same of any walk.
+fn write_less<I, R, W, F>(
+    alloc: Global,
+    walk: I,
+    rules: Vec<R>,
+    output: &mut Counted<W>,
+    faults: &mut F,
+) -> Result<bool, LinesError>
+where
+    I: FileIterator,
+    R: Rule,
+    W: Write,
+    F: Write,
+    requires can { I.can_feed walk }
+    requires ends { IsFinite (I.left walk) }
+    ensures done { IfOk result (WroteWanted I.Directory.law (I.view walk) (map R.rule rules.items)
+        (W.contents output.old.inner) (W.contents output.new.inner)) }
+    ensures stopped { OnErr result (WroteFirst I.Directory.law (I.view walk) (map R.rule rules.items)
+        (W.contents output.old.inner) (W.contents output.new.inner)) }
+    ensures quiet { IfOk result (λ has_errors. has_errors ≡ false → faults.new ≡ faults.old) }
+{
+    law_of_walks();
+    let kept = walk.without(alloc, FilterAny::new(rules));
+    write_candidates(alloc, kept, output, faults)
+}
+
+// Writes the candidate of each entry that is kept, one a line, and answers whether some item was an error.
+fn write_candidates<I, W, F>(
+    alloc: Global,
+    mut walk: I,
+    output: &mut Counted<W>,
+    faults: &mut F,
+) -> Result<bool, LinesError>
+where
+    I: FileIterator,
+    W: Write,
+    F: Write,
+    requires can { I.can_feed walk }
+    requires ends { IsFinite (I.left walk) }
+    ensures done { IfOk result (WroteAll I.Directory.law (I.view walk)
+        (W.contents output.old.inner) (W.contents output.new.inner)) }
+    ensures stopped { OnErr result (WroteSome (I.view walk)
+        (W.contents output.old.inner) (W.contents output.new.inner)) }
+    ensures quiet { IfOk result (λ has_errors. has_errors ≡ false → faults.new ≡ faults.old) }
+{
+    let mut lines = Vec::new(alloc);
+    let mut has_errors = false;
+    while let Some(item) = walk.feed() {
+        has_errors |= write_item(item, &mut lines, output, faults)?;
+    }
+    write_whole(output, &lines)?;
+    Ok(has_errors)
+}
+
+// Adds what an item gives to the lines that wait, and answers whether it was an error, which is told.
+fn write_item<T, R, S, W, F>(
+    separation: Separation<S>,
+    lines: &mut Vec<u8>,
+    output: &mut Counted<W>,
+    faults: &mut F,
+) -> Result<bool, LinesError>
+where
+    T: Entry,
+    R: Entry,
+    S: Feed<Filtrate = Result<T, WalkError>, Residue = TreeResidue<R>>,
+    W: Write,
+    F: Write,
+    ensures ok { OnOk result (MovesBytes (W.contents output.old.inner) (W.contents output.new.inner)
+        lines.old.items lines.new.items (candidate_line (given_of T.facts R.facts separation))) }
+    ensures error { IfOk result (λ was. was ≡ is_error (given_of T.facts R.facts separation)) }
+    ensures err { OnErr result (WritesPart (W.contents output.old.inner) (W.contents output.new.inner)
+        (lines.old.items ++ candidate_line (given_of T.facts R.facts separation))) }
+    ensures quiet { IfOk result (λ was. was ≡ false → faults.new ≡ faults.old) }
+{
+    match separation {
+        Separation::Filtrate(filtrate) => match filtrate.into_inner() {
+            Ok(entry) => {
+                write_candidate(&entry, lines, output)?;
+                Ok(false)
+            }
+            Err(error) => {
+                let _ = writeln!(faults, "globs: {error}");
+                Ok(true)
+            }
+        },
+        Separation::Residue(_) => Ok(false),
+    }
+}
+
+// Adds a candidate and a line feed to the lines that wait, and writes these once they are many.
+fn write_candidate<E: Entry, W: Write>(
+    entry: &E,
+    lines: &mut Vec<u8>,
+    output: &mut Counted<W>,
+) -> Result<(), LinesError>
+    ensures ok { OnOk result (MovesBytes (W.contents output.old.inner) (W.contents output.new.inner)
+        lines.old.items lines.new.items ((E.facts entry.now).candidate ++ 10 ∷ [])) }
+    ensures err { OnErr result (WritesPart (W.contents output.old.inner) (W.contents output.new.inner)
+        (lines.old.items ++ ((E.facts entry.now).candidate ++ 10 ∷ []))) }
+{
+    let (_, candidate) = entry.root_relative_paths();
+    let Ok(()) = add_line(candidate, lines) else {
+        write_whole(output, lines)?;
+        return Err(LinesError::Memory);
+    };
+    if lines.len() >= CHUNK {
+        write_whole(output, lines)?;
+        lines.clear();
+    }
+    Ok(())
+}
+
+// Adds a text and a line feed, or nothing where memory is refused.
+fn add_line(text: &str, lines: &mut Vec<u8>) -> Result<(), AllocError>
+    ensures ok { OnOk result (lines.new.items ≡ lines.old.items ++ (text.now ++ 10 ∷ [])) }
+    ensures err { OnErr result (lines.new.items ≡ lines.old.items) }
+{
+    let line = text.as_bytes();
+    lines.reserve(line.len() + 1)?;
+    lines.extend_from_slice(line)?;
+    lines.push(b'\n')?;
+    Ok(())
+}

@@ -1,0 +1,10 @@
+//! The command line of `globs`: what its words ask for, and the candidates of a walk as lines.
+#![tactic(auto)]
+
+mod arguments;
+mod candidates;
+mod walk_words;
+
+pub use arguments::words;
+pub use candidates::write_wanted;
+pub use walk_words::{WalkWords, next_option, read_walk};

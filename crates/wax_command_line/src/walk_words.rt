@@ -1,0 +1,168 @@
+//! The words of a walk.
+ghost use Rattle.std.specs.Prelude.{◌≡◌, ◌≤◌, ◌+◌, ◌++◌, ◌∷◌, [], ℕ, List, length, unwrap_or};
+ghost use Rattle.std.specs.Prelude.{IfSome, IfNone, MatchOption};
+ghost use Rattle.wax_command_line.specs.Commands.{AreBounds, AsksWalk, IsNumber, IsOption, SayEach};
+ghost use Rattle.wax_command_line.specs.Commands.{WalkOption, WalkRequest};
+ghost use Rattle.wax_command_line.specs.Commands.{count_lists, greatests_in, leasts_in};
+ghost use Rattle.wax_tree.specs.Depths.{greatest, least};
+ghost use Rattle.wax_command_line.specs.inner.OptionWords.{AreDoubled, AreMore, AreSaidBy, HasNoFirst};
+ghost use Rattle.wax_command_line.specs.WalkWords.{HasNoNext, IsNext, IsRead};
+ghost use Rattle.wax_command_line.specs.inner.OptionWords.{IsDoubled, IsFirstWord};
+ghost use Rattle.wax_command_line.specs.inner.OptionWords.{all_in, one_if};
+
+use wax_tree::{DepthBehavior, DepthMax, DepthMin, DepthMinMax};
+
+/// What the words of a walk ask for.
+#[derive(Clone, Copy)]
+pub struct WalkWords<'w> {
+    pub start: &'w str,
+    pub expression: &'w str,
+    /// The options, each a name and a word.
+    pub options: &'w [Option<String>],
+    /// The depths that the options say.
+    pub depth: DepthBehavior,
+}
+
+// The depths that options say, and whether one names an ignore list.
+#[derive(Clone, Copy)]
+struct OptionWords {
+    lower: Option<usize>,
+    upper: Option<usize>,
+    has_list: bool,
+}
+
+/// The walk that the words ask for, if they ask for one.
+pub fn read_walk<'w>(words: &'w [Option<String>]) -> Option<WalkWords<'w>>
+    ensures some { IfSome result (λ walk. (asked : WalkRequest) × AsksWalk words.now asked
+        × IsRead walk asked) }
+    ensures none { IfNone result ((asked : WalkRequest) → AsksWalk words.now asked → ⊥) }
+{
+    let (command, after) = first_word(words)?;
+    let (start, rest) = first_word(after)?;
+    let (expression, options) = first_word(rest)?;
+    if command != "walk" {
+        return None;
+    }
+    let depth = depths_of(read_options(options)?)?;
+    Some(WalkWords {
+        start,
+        expression,
+        options,
+        depth,
+    })
+}
+
+// The depths within the bounds; none where the least is above the greatest.
+fn depths_of(bounds: OptionWords) -> Option<DepthBehavior>
+    ensures some { IfSome result (λ depth. AreBounds (all_in bounds.lower) (all_in bounds.upper)
+        × (least depth ≡ unwrap_or bounds.lower 0) × (greatest depth ≡ bounds.upper)) }
+    ensures none { IfNone result (AreBounds (all_in bounds.lower) (all_in bounds.upper) → ⊥) }
+{
+    match (bounds.lower, bounds.upper) {
+        (None, None) => Some(DepthBehavior::Unbounded),
+        (None, Some(upper)) => Some(DepthBehavior::Max(DepthMax(upper))),
+        (Some(lower), None) => Some(DepthMin::from_min_or_unbounded(lower)),
+        (Some(lower), Some(upper)) if lower <= upper => {
+            Some(DepthMinMax::from_depths_or_max(lower, upper))
+        }
+        _ => None,
+    }
+}
+
+// What the words of options say, each depth and a list at most once.
+fn read_options(words: &[Option<String>]) -> Option<OptionWords>
+    ensures some { IfSome result (λ bounds. (options : List WalkOption) × SayEach words.now options
+        × AreSaidBy bounds options) }
+    ensures none { IfNone result ((options : List WalkOption) → SayEach words.now options
+        → AreDoubled options) }
+{
+    let mut bounds = OptionWords {
+        lower: None,
+        upper: None,
+        has_list: false,
+    };
+    let mut rest = words;
+    while let Some((name, word, after)) = next_option(rest) {
+        bounds = with_option(bounds, name, word)?;
+        rest = after;
+    }
+    if rest.is_empty() { Some(bounds) } else { None }
+}
+
+/// The first two words, and the others.
+pub fn next_option<'w>(
+    words: &'w [Option<String>],
+) -> Option<(&'w str, &'w str, &'w [Option<String>])>
+    ensures some { IfSome result (λ r. IsNext words.now r.0.now r.1.now r.2.now) }
+    ensures none { IfNone result (HasNoNext words.now) }
+{
+    let (name, after) = first_word(words)?;
+    let (word, rest) = first_word(after)?;
+    Some((name, word, rest))
+}
+
+// The first word, if it is text, and the others.
+fn first_word<'w>(words: &'w [Option<String>]) -> Option<(&'w str, &'w [Option<String>])>
+    ensures some { IfSome result (λ r. IsFirstWord words.now r.0.now r.1.now) }
+    ensures none { IfNone result (HasNoFirst words.now) }
+{
+    let (word, rest) = words.split_first()?;
+    match word {
+        Some(word) => Some((word.as_str(), rest)),
+        None => None,
+    }
+}
+
+// The same with one more option.
+fn with_option(bounds: OptionWords, name: &str, word: &str) -> Option<OptionWords>
+    ensures some { IfSome result (λ more. (o : WalkOption) × IsOption name.now word.now o
+        × AreMore bounds o more) }
+    ensures none { IfNone result ((o : WalkOption) → IsOption name.now word.now o → IsDoubled
+        (all_in bounds.lower ++ leasts_in (o ∷ [])) (all_in bounds.upper ++ greatests_in (o ∷ []))
+        (one_if bounds.has_list + count_lists (o ∷ []))) }
+{
+    if name == "not" {
+        return Some(bounds);
+    }
+    if name == "ignore" {
+        if bounds.has_list {
+            return None;
+        }
+        return Some(OptionWords {
+            has_list: true,
+            ..bounds
+        });
+    }
+    if name == "min" {
+        let lower = said_once(bounds.lower, word)?;
+        return Some(OptionWords { lower, ..bounds });
+    }
+    if name == "max" {
+        let upper = said_once(bounds.upper, word)?;
+        return Some(OptionWords { upper, ..bounds });
+    }
+    None
+}
+
+// The number that the word says, where none was said before.
+fn said_once(before: Option<usize>, word: &str) -> Option<Option<usize>>
+    ensures some { IfSome result (λ said. (n : ℕ) × IsNumber word.now n
+        × (all_in said ≡ all_in before ++ n ∷ [])) }
+    ensures none { IfNone result ((n : ℕ) → IsNumber word.now n → 2 ≤ length (all_in before ++ n ∷ [])) }
+{
+    let number = number_of(word)?;
+    match before {
+        None => Some(Some(number)),
+        Some(_) => None,
+    }
+}
+
+// The number that the digits write.
+fn number_of(word: &str) -> Option<usize>
+    ensures { MatchOption result ((n : ℕ) → IsNumber word.now n → ⊥) (IsNumber word.now) }
+{
+    if word.as_bytes().first() == Some(&b'+') {
+        return None;
+    }
+    word.parse().ok()
+}

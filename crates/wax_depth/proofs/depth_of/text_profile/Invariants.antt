@@ -1,9 +1,0 @@
-use Rattle.std.proofs.Common.{◌≡◌}
-use Rattle.wax_query.specs.Components.{slashes}
-use Rattle.wax_depth.specs.inner.Profiles.{single}
-use Rattle.wax_depth.specs.inner.Saturation.{saturated}
-use Rattle.wax_depth.specs.inner.Shapes.{shape}
-use Rattle.wax_depth.proofs.depth_of.text_profile.Given as goal
-
-abbrev pub invariant-loop-c : goal.invariant-loop-c
-invariant-loop-c l = saturated l.profile ≡ saturated (single (shape l.yielded) (slashes l.yielded))

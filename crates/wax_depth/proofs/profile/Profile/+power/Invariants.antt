@@ -1,4 +1,0 @@
-use Rattle.wax_depth.proofs.profile.Profile.+power.Given as goal
-
-abbrev pub decreases-power : goal.decreases-power
-decreases-power l = l.copies

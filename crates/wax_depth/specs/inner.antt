@@ -1,5 +1,0 @@
-pub mod Intervals
-pub mod Profiles
-pub mod Saturation
-pub mod Shapes
-pub mod TreeProfiles

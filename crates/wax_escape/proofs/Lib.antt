@@ -1,4 +1,0 @@
-pub mod Escaped
-pub mod Literals
-pub mod Meant
-pub mod Trees

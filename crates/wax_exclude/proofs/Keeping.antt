@@ -1,0 +1,61 @@
+-- What is kept of a plain walk less what lines ignore.
+use Rattle.std.proofs.Common.{◌∙◌, ◌+◌, ◌≤◌, ℕ, false, List, filter, refl, ap, arith, subst}
+use Rattle.wax_directory.specs.Law.{Law}
+use Rattle.wax_directory.specs.Shown.{Shown}
+use Rattle.wax_tree.specs.Begins.{Begins}
+use Rattle.wax_tree.specs.Plain.{count_shown}
+use Rattle.wax_walk.specs.Collected.{GaveAll, whole, lacks_memory, over_budget}
+use Rattle.wax_walk.specs.declared.error.FaultKind.TheVariants.{Budget}
+use Rattle.wax_walk.specs.Forest.{Pending, nothing, pending}
+use Rattle.wax_walk.specs.Given.{kept, Given, fault, no_memory, is_kept}
+use Rattle.wax_walk.specs.Ruled.{ruled_view}
+use Rattle.wax_walk.specs.View.{WalkView, IsSeenAs}
+use Rattle.wax_exclude.proofs.KeptItems.{cut_kept, kept_entries}
+use Rattle.wax_exclude.specs.Ignored.{ignore_mark}
+use Rattle.wax_exclude.specs.Unignored.{GivesUnignored, LosesIgnored}
+use Rattle.wax_exclude.specs.Marks.{of_candidate}
+use Rattle.wax_exclude.specs.Premises.{IsPlainShown}
+use Rattle.wax_exclude.specs.Wanted.{is_kept_entry}
+use Rattle.wax_exclude.proofs.ListingLines.{says_lines}
+use Rattle.wax_exclude.specs.Held.{HasLines}
+use Rattle.wax_exclude.specs.Kept as K
+use Rattle.wax_exclude.specs.Kept.{KeepsUnignored, Tour, tour_plain, tour_walk}
+use Rattle.wax_exclude.specs.declared.rules.IgnoreRule.{IgnoreRule}
+use Rattle.wax_exclude.specs.inner.Listed.{listed_mark}
+
+-- ---- what comes
+
+abbrev tour_pending : Tour → Shown → List (List ℕ) → Pending Given
+tour_pending tour s listed = pending nothing (tour_walk tour s) listed (count_shown s)
+
+module _ {D C : Type 0} (law : Law D C) (d : D) (tour : Tour) (rule : IgnoreRule) (v u : WalkView D)
+    (held : HasLines rule tour.lines) (begins : Begins law d tour.start tour.range v)
+    (seen : IsSeenAs (ruled_view v (λ f. listed_mark rule.lines.items f) false) u) where
+  comes : (s : Shown) (listed : List (List ℕ)) → law.shows d tour.start s → law.tells d listed → u.to_come (tour_pending tour s listed)
+  comes s listed shows told =
+      let ignoring : IsSeenAs (ruled_view v (of_candidate (ignore_mark tour.lines)) false) u = subst (λ r. IsSeenAs (ruled_view v r false) u) (says_lines rule tour.lines held) seen in
+      ignoring.to_come (tour_pending tour s listed) (
+        refl,
+        (pending nothing (tour_plain tour s) listed (count_shown s), begins.shown s listed shows told, refl),
+      )
+
+  pub tour_gave : (tells : List (List ℕ) → Type 0) (s : Shown) (listed : List (List ℕ)) (xs : List Given) → law.shows d tour.start s → law.tells d listed
+      → ((p : Pending Given) → u.to_come p → GaveAll tells u.listings_left p xs) → GaveAll tells (tour.range.budget + 1) (tour_pending tour s listed) xs
+  tour_gave tells s listed xs shows told all =
+      subst (λ n. GaveAll tells n (tour_pending tour s listed) xs) (seen.listings_left ∙ begins.listings)
+      (all (tour_pending tour s listed) (comes s listed shows told))
+
+-- ---- what is kept
+
+module _ (gives_unignored : GivesUnignored) (loses_ignored : LosesIgnored) where
+  pub keeps_unignored : (tells : List (List ℕ) → Type 0) (tour : Tour) (s : Shown) (listed : List (List ℕ)) (xs : List Given) → IsPlainShown s
+      → GaveAll tells (tour.range.budget + 1) (tour_pending tour s listed) xs → KeepsUnignored tells tour s listed (filter is_kept xs)
+  keeps_unignored tells tour s listed xs plain (whole e t) =
+      K.gives (ap (filter is_kept) e)
+      (kept_entries xs ∙ (ap (filter is_kept_entry) e ∙ gives_unignored tour.lines tour.range tour.start s plain)) t
+      (loses_ignored tour.lines tour.range tour.start s plain)
+  keeps_unignored tells tour s listed xs plain (lacks_memory c) =
+      K.lacks_memory (cut_kept _ no_memory xs refl c)
+  keeps_unignored tells tour s listed xs plain (over_budget path depth few contains c) =
+      let l : tour.range.budget + 1 ≤ count_shown s = few in
+      K.over_budget path depth (omega (arith, l)) (cut_kept _ (fault Budget path depth) xs refl c)

@@ -1,0 +1,160 @@
+-- What lines say that are held by their alternatives.
+use Rattle.std.proofs.Common.{◌≡◌, ℕ, Bool, true, false, ◌&&◌, ◌||◌, not, cond, List, [], ◌∷◌, Option, Some, None, refl, sym, ap, ◌∙◌, map, drop, length, get_or, ◌+◌, ◌<◌, ◌≤◌, chars}
+use Rattle.std.specs.Option.{is_some}
+use Rattle.std.proofs.lemmas.Bool.{false≢true}
+use Rattle.std.proofs.lemmas.List.{drop_all, drop_more}
+use Rattle.wax_alternatives.proofs.Means.{means_one_of}
+use Rattle.wax_alternatives.specs.Alternatives.{alternatives}
+use Rattle.wax_exclude.proofs.Excluding.{some_is_pattern}
+use Rattle.wax_exclude.specs.Excluded.{excluded_mark, some_test}
+use Rattle.wax_token.specs.Decided.{holds_truly, means_test, some_decided}
+use Rattle.wax_token.specs.Reads.{Span}
+use Rattle.wax_token.specs.Words.{trees}
+use Rattle.wax_walk.specs.declared.iterator.EntryResidue.{EntryResidue}
+use Rattle.wax_walk.specs.declared.iterator.EntryResidue.TheVariants.{File, Tree}
+use Rattle.wax_walk.specs.Given.{Facts, Mark, kept, alone, with_tree}
+use Rattle.wax_walk.specs.Said.{mark_of}
+use Rattle.wax_exclude.proofs.Descending.{covers_some_meant}
+use Rattle.wax_exclude.proofs.Ignored.{ignore_keeps}
+use Rattle.wax_exclude.proofs.Tests.{covers_tested}
+use Rattle.wax_exclude.specs.Candidates.{Candidate, candidate_of}
+use Rattle.wax_exclude.specs.Covers.{covers_test}
+use Rattle.wax_exclude.specs.Ignored.{Line, all_ignore, below_test, ignored_after, ignore_mark, is_ignored}
+use Rattle.wax_exclude.specs.inner.Stacks.{keeps}
+use Rattle.wax_exclude.specs.Marks.{covered_mark, of_candidate}
+use Rattle.wax_exclude.specs.Held.{HasLines, line_of}
+use Rattle.wax_exclude.specs.declared.rules.IgnoreLine.{IgnoreLine}
+use Rattle.wax_exclude.specs.declared.rules.IgnoreRule.{IgnoreRule}
+use Rattle.wax_exclude.specs.inner.Listed.{below_by, ignored_by, listed_mark, mark_after, none_takes_back}
+
+-- ---- the lines of globs
+
+all_held : (lines : List (Line Span)) → none_takes_back (map line_of lines) ≡ all_ignore lines
+all_held [] = refl
+all_held (line ∷ lines) = ap (λ b. line.ignores && b) (all_held lines)
+
+below_held : (lines : List (Line Span)) (c : Candidate) → below_by (map line_of lines) c ≡ below_test lines c
+below_held [] c = refl
+below_held (line ∷ lines) c =
+    λ i. (line.ignores && (all_held lines i && covers_test (alternatives line.glob) c)) || below_held lines c i
+
+ignored_held : (lines : List (Line Span)) (was : Bool) (s : List ℕ) → ignored_by was (map line_of lines) s ≡ ignored_after was lines s
+ignored_held [] was s = refl
+ignored_held (line ∷ lines) was s =
+    let same : some_test (alternatives line.glob) s ≡ means_test line.glob false false s = some_is_pattern line.glob (means_one_of line.glob (alternatives line.glob) refl) s in
+    ap (λ b. ignored_by (cond b line.ignores was) (map line_of lines) s) same ∙ ignored_held lines (cond (means_test line.glob false false s) line.ignores was) s
+
+held_mark : (lines : List (Line Span)) (f : Facts) → listed_mark (map line_of lines) f ≡ ignore_mark lines (candidate_of f)
+held_mark lines f =
+    let c = candidate_of f in
+    λ i. covered_mark (below_held lines c i) (ignored_held lines false c.text i)
+
+-- what the rule of these lines says
+pub says_lines : (rule : IgnoreRule) (lines : List (Line Span)) → HasLines rule lines → (λ f. listed_mark rule.lines.items f) ≡ of_candidate (ignore_mark lines)
+says_lines rule lines h = λ i f. (ap (λ ls. listed_mark ls f) h ∙ held_mark lines f) i
+
+-- ---- line after line
+
+-- it is left out; and that with what lies below it
+abbrev is_out : Mark → Bool
+is_out m = not (keeps m)
+
+abbrev is_below : Mark → Bool
+is_below kept = false
+is_below alone = false
+is_below with_tree = true
+
+-- what is said where this was said before the lines
+abbrev pub mark_from : Mark → List IgnoreLine → Facts → Mark
+mark_from before lines f =
+    let c = candidate_of f in
+    covered_mark ((is_below before && none_takes_back lines) || below_by lines c) (ignored_by (is_out before) lines c.text)
+
+pub from_start : (lines : List IgnoreLine) (f : Facts) → mark_from kept lines f ≡ listed_mark lines f
+from_start lines f = refl
+
+at_end : (before : Mark) (f : Facts) → mark_from before [] f ≡ before
+at_end kept f = refl
+at_end alone f = refl
+at_end with_tree f = refl
+
+-- what is covered is meant
+covered_meant : (line : IgnoreLine) (c : Candidate) → covers_test line.exclusion c ≡ true → some_test line.exclusion c.text ≡ true
+covered_meant line c h =
+    (holds_truly (some_decided (trees line.exclusion) false false c.text)).1 (covers_some_meant line.exclusion c ((covers_tested line.exclusion c).0 h))
+
+-- one line: it covers the text, it means it, no later line takes back, and a later line covers it
+module _ (k : Bool → Bool) where
+  abbrev Agrees : Bool → Mark → Bool → Bool → Bool → Bool → Type 0
+  Agrees ignores before covers means all below =
+      covered_mark ((is_below before && (ignores && all)) || ((ignores && (all && covers)) || below)) (k (cond means ignores (is_out before)))
+      ≡ covered_mark ((is_below (mark_after ignores before (covered_mark covers means)) && all) || below) (k (is_out (mark_after ignores before (covered_mark covers means))))
+
+  one_line : (ignores : Bool) (before : Mark) (covers means all below : Bool) → (covers ≡ true → means ≡ true) → Agrees ignores before covers means all below
+  one_line ignores before true false all below h = absurd (false≢true (h refl))
+  one_line true kept true true true below h = refl
+  one_line true kept true true false below h = refl
+  one_line true kept false true true below h = refl
+  one_line true kept false true false below h = refl
+  one_line true kept false false true below h = refl
+  one_line true kept false false false below h = refl
+  one_line true alone true true true below h = refl
+  one_line true alone true true false below h = refl
+  one_line true alone false true true below h = refl
+  one_line true alone false true false below h = refl
+  one_line true alone false false true below h = refl
+  one_line true alone false false false below h = refl
+  one_line true with_tree true true true below h = refl
+  one_line true with_tree true true false below h = refl
+  one_line true with_tree false true true below h = refl
+  one_line true with_tree false true false below h = refl
+  one_line true with_tree false false true below h = refl
+  one_line true with_tree false false false below h = refl
+  one_line false kept true true all below h = refl
+  one_line false kept false true all below h = refl
+  one_line false kept false false all below h = refl
+  one_line false alone true true all below h = refl
+  one_line false alone false true all below h = refl
+  one_line false alone false false all below h = refl
+  one_line false with_tree true true all below h = refl
+  one_line false with_tree false true all below h = refl
+  one_line false with_tree false false all below h = refl
+
+after_line : (before : Mark) (line : IgnoreLine) (lines : List IgnoreLine) (f : Facts) →
+    mark_from before (line ∷ lines) f ≡ mark_from (mark_after line.ignores before (excluded_mark line.exclusion f)) lines f
+after_line before line lines f =
+    let c = candidate_of f in
+    one_line (λ b. ignored_by b lines c.text) line.ignores before (covers_test line.exclusion c) (some_test line.exclusion c.text) (none_takes_back lines) (below_by lines c) (covered_meant line c)
+
+pub next_said : (before after said whole : Mark) (lines : List IgnoreLine) (i : ℕ) (line : IgnoreLine) (f : Facts) → i < length lines → line ≡ get_or lines i line →
+    said ≡ excluded_mark line.exclusion f → after ≡ mark_after line.ignores before said →
+    mark_from before (drop i lines) f ≡ whole → mark_from after (drop (i + 1) lines) f ≡ whole
+next_said before after said whole lines i line f in' here s a h =
+    let split : drop i lines ≡ line ∷ drop (i + 1) lines = drop_more lines i line in' ∙ ap (λ l. l ∷ drop (i + 1) lines) (sym here) in
+    ap (λ m. mark_from m (drop (i + 1) lines) f) (a ∙ ap (mark_after line.ignores before) s)
+    ∙ sym (after_line before line (drop (i + 1) lines) f)
+    ∙ ap (λ ls. mark_from before ls f) (sym split) ∙ h
+
+pub last_said : (residue : Option EntryResidue) (lines all : List IgnoreLine) (i : ℕ) (f : Facts) → length lines ≤ i → lines ≡ all →
+    mark_from (mark_of residue) (drop i lines) f ≡ listed_mark lines f → mark_of residue ≡ listed_mark all f
+last_said residue lines all i f over same h =
+    let none : mark_of residue ≡ mark_from (mark_of residue) (drop i lines) f = sym (ap (λ ls. mark_from (mark_of residue) ls f) (drop_all i lines over) ∙ at_end (mark_of residue) f) in
+    none ∙ h ∙ ap (λ ls. listed_mark ls f) same
+
+-- ---- paths
+
+kept_or_out : (r : Option EntryResidue) → is_some r ≡ not (keeps (mark_of r))
+kept_or_out None = refl
+kept_or_out (Some File) = refl
+kept_or_out (Some Tree) = refl
+
+twice : (b : Bool) → not (not b) ≡ b
+twice true = refl
+twice false = refl
+
+-- what is left out of an entry is ignored
+pub out_ignored : (rule : IgnoreRule) (r : Option EntryResidue) (f : Facts) (path : List ℕ) → mark_of r ≡ listed_mark rule.lines.items f → chars f.candidate ≡ path →
+    (lines : List (Line Span)) → HasLines rule lines → is_some r ≡ is_ignored lines path
+out_ignored rule r f path says same lines h =
+    let m : mark_of r ≡ ignore_mark lines (candidate_of f) = says ∙ ap (λ ls. listed_mark ls f) h ∙ held_mark lines f in
+    kept_or_out r ∙ ap (λ v. not (keeps v)) m ∙ ap not (ignore_keeps lines (candidate_of f)) ∙ twice (is_ignored lines (chars f.candidate)) ∙ ap (is_ignored lines) same

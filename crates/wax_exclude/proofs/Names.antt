@@ -1,0 +1,207 @@
+-- Candidates as bytes and as characters.
+use Rattle.std.proofs.Common.{◌≡◌, ◌≢◌, ℕ, suc, Bool, true, false, cond, List, [], ◌∷◌, ◌++◌, map, length}
+use Rattle.std.proofs.Common.{refl, sym, ap, subst, ◌∙◌, arith, append_assoc, append-nil, nat_eq}
+use Rattle.std.proofs.Common.{length-append}
+use Rattle.std.proofs.Common.{chars, encode_utf8_all, inl, inr}
+use Rattle.std.specs.List.{Contains, slice_split, onto_first}
+use Rattle.std.specs.Prelude.{filter, ◌==◌}
+use Rattle.std.specs.Str.{IsUtf8}
+use Rattle.std.proofs.lemmas.Bool.{eqb-true, cases_Bool}
+use Rattle.std.proofs.lemmas.List.Elements.{Contains-append_right}
+use Rattle.std.proofs.lemmas.Str.{chars-append, encodes-chars, encodes-append, chars-nil, chars-encodes}
+use Rattle.wax_directory.specs.Names.{is_some_name, names_in_path}
+use Rattle.wax_directory.specs.Shown.{is_open, join, IsPlain}
+use Rattle.wax_token.specs.Meaning.{HasNoSlash}
+use Rattle.wax_tree.specs.Plain.{Spot}
+use Rattle.wax_tree.specs.Prefix.{ArePlain}
+use Rattle.wax_exclude.specs.Candidates.{slashed, joined_names, base, text_at, AreNames, Candidate}
+use Rattle.wax_exclude.specs.Candidates.{candidate_at}
+use Rattle.wax_exclude.specs.inner.Descents.{At, child_spot}
+
+abbrev candidate_from : List (List ℕ) → List ℕ → ℕ → Candidate
+candidate_from names text depth = record { names = names; text = text; depth = depth }
+
+-- what is seen of an entry at a spot
+abbrev pub seen_at : Spot → Candidate
+seen_at at = candidate_from (map chars (names_in_path at.candidate)) (chars at.candidate) at.depth
+
+differ : (c d : ℕ) → c ≢ d → nat_eq c d ≡ false
+differ c d n = elim (cases_Bool (nat_eq c d)) [ inl e ↦ absurd (n (eqb-true c d e)) | inr e ↦ e ]
+
+pub no_slash_in : (x : List ℕ) → ¬ (Contains x 47) → HasNoSlash x
+no_slash_in [] h = tt
+no_slash_in (c ∷ x) h = (
+  λ e. h (0, omega arith, e),
+  no_slash_in x
+      (λ i. h (suc i.0, omega (arith, i.1), i.2)),
+)
+
+-- ---- paths that no name may follow at once
+
+open_append : (xs : List ℕ) (y : ℕ) (ys : List ℕ) → is_open (xs ++ y ∷ ys) ≡ is_open (y ∷ ys)
+open_append [] y ys = refl
+open_append (x ∷ []) y ys = refl
+open_append (x ∷ z ∷ xs) y ys = open_append (z ∷ xs) y ys
+
+closed_name : (n : List ℕ) → ¬ (n ≡ []) → HasNoSlash n → is_open n ≡ false
+closed_name [] h k = absurd (h refl)
+closed_name (c ∷ []) h k = differ c 47 k.0
+closed_name (c ∷ d ∷ n) h k = closed_name (d ∷ n) (λ e. (cc)) k.1
+
+closed_names : (n : List ℕ) (names : List (List ℕ)) → AreNames (n ∷ names)
+    → is_open (n ++ slashed names) ≡ false
+closed_names n [] h = ap is_open (append-nil n) ∙ closed_name n h.0 h.1
+closed_names n (m ∷ names) h = open_append n 47 (m ++ slashed names)
+    ∙ after m names h.2 (closed_names m names h.2) where
+      after : (m : List ℕ) (names : List (List ℕ)) → AreNames (m ∷ names)
+          → is_open (m ++ slashed names) ≡ false
+          → is_open (47 ∷ (m ++ slashed names)) ≡ false
+      after [] names h e = absurd (h.0 refl)
+      after (c ∷ m) names h e = e
+
+base_open : (rooted : Bool) → is_open (base rooted) ≡ true
+base_open true = refl
+base_open false = refl
+
+closed_after : (rooted : Bool) (n : List ℕ) (names : List (List ℕ)) → AreNames (n ∷ names)
+    → is_open (base rooted ++ (n ++ slashed names)) ≡ false
+closed_after false n names h = closed_names n names h
+closed_after true [] names h = absurd (h.0 refl)
+closed_after true (c ∷ n) names h = closed_names (c ∷ n) names h
+
+slashed_last : (names : List (List ℕ)) (x : List ℕ) → slashed (names ++ x ∷ []) ≡ slashed names ++ 47 ∷ x
+slashed_last [] x = ap (λ v. 47 ∷ v) (append-nil x)
+slashed_last (n ∷ names) x = ap (λ v. 47 ∷ v)
+    (ap (λ v. n ++ v) (slashed_last names x) ∙ sym (append_assoc n (slashed names) (47 ∷ x)))
+
+-- the candidate of one name more
+pub join_names : (rooted : Bool) (names : List (List ℕ)) (x : List ℕ) → AreNames names
+    → join (base rooted ++ joined_names names) x ≡ base rooted ++ joined_names (names ++ x ∷ [])
+join_names false [] x h = sym (append-nil x)
+join_names true [] x h = ap (λ v. 47 ∷ v) (sym (append-nil x))
+join_names rooted (n ∷ names) x h =
+    let p = base rooted ++ (n ++ slashed names) in
+    ap (λ b. cond b (p ++ x) (p ++ 47 ∷ x)) (closed_after rooted n names h)
+    ∙ append_assoc (base rooted) (n ++ slashed names) (47 ∷ x)
+    ∙ ap (λ v. base rooted ++ v) (append_assoc n (slashed names) (47 ∷ x)
+    ∙ ap (λ v. n ++ v) (sym (slashed_last names x)))
+
+-- ---- characters
+
+slash_text : IsUtf8 (47 ∷ [])
+unfolding lib.Utf8.encode
+slash_text = (47 ∷ [], (refl, refl))
+
+slash_bytes : encode_utf8_all (47 ∷ []) ≡ 47 ∷ []
+unfolding lib.Utf8.encode
+slash_bytes = refl
+
+slash_chars : chars (47 ∷ []) ≡ 47 ∷ []
+slash_chars = ap chars (sym slash_bytes) ∙ chars-encodes (47 ∷ []) refl
+
+pub chars_slash : (s : List ℕ) → chars (47 ∷ s) ≡ 47 ∷ chars s
+chars_slash s = chars-append (47 ∷ []) s slash_text ∙ ap (λ v. v ++ chars s) slash_chars
+
+pub chars_slashed : (names : List (List ℕ)) → ArePlain names
+    → chars (slashed names) ≡ slashed (map chars names)
+chars_slashed [] h = chars-nil
+chars_slashed (n ∷ names) h = chars_slash (n ++ slashed names)
+    ∙ ap (λ v. 47 ∷ v) (chars-append n (slashed names) h.0.text
+    ∙ ap (λ v. chars n ++ v) (chars_slashed names h.1))
+
+pub chars_joined : (rooted : Bool) (names : List (List ℕ)) → ArePlain names
+    → chars (base rooted ++ joined_names names) ≡ base rooted ++ joined_names (map chars names)
+chars_joined false [] h = chars-nil
+chars_joined true [] h = slash_chars
+chars_joined false (n ∷ names) h = chars-append n (slashed names) h.0.text
+    ∙ ap (λ v. chars n ++ v) (chars_slashed names h.1)
+chars_joined true (n ∷ names) h = chars_slashed (n ∷ names) h
+
+no_slash_spelled : (cs : List ℕ) → ¬ (Contains (encode_utf8_all cs) 47) → HasNoSlash cs
+no_slash_spelled [] h = tt
+no_slash_spelled (c ∷ cs) h = (
+  λ e. h (subst (λ v. Contains v 47) (sym (ap (λ v. encode_utf8_all (v ∷ cs)) e ∙ encodes-append (47 ∷ []) cs
+      ∙ ap (λ v. v ++ encode_utf8_all cs) slash_bytes)) (0, omega arith, refl)),
+  no_slash_spelled cs (λ i. h (subst (λ v. Contains v 47) (sym (encodes-append (c ∷ []) cs))
+      (Contains-append_right (encode_utf8_all (c ∷ [])) (encode_utf8_all cs) 47 i))),
+)
+
+some_chars : (n : List ℕ) → IsUtf8 n → ¬ (n ≡ []) → ¬ (chars n ≡ [])
+some_chars n u h e = h (sym (encodes-chars n u) ∙ ap encode_utf8_all e)
+
+-- the names of entries, as characters and as bytes
+pub names_chars : (names : List (List ℕ)) → ArePlain names → AreNames (map chars names)
+names_chars [] h = tt
+names_chars (n ∷ names) h = (
+  some_chars n h.0.text h.0.not_empty,
+  no_slash_spelled (chars n) (λ i. h.0.one_name (subst (λ v. Contains v 47) (encodes-chars n h.0.text) i)),
+  names_chars names h.1,
+)
+
+pub names_bytes : (names : List (List ℕ)) → ArePlain names → AreNames names
+names_bytes [] h = tt
+names_bytes (n ∷ names) h = (h.0.not_empty, no_slash_in n h.0.one_name, names_bytes names h.1)
+
+plain_last : (names : List (List ℕ)) (x : List ℕ) → ArePlain names → IsPlain x → ArePlain (names ++ x ∷ [])
+plain_last [] x h k = (k, tt)
+plain_last (n ∷ names) x h k = (h.0, plain_last names x h.1 k)
+
+-- an entry in a folder
+pub at_join : (rooted : Bool) (at : Spot) (names : List (List ℕ)) (x : List ℕ) → At rooted at names
+    → IsPlain x
+    → At rooted (child_spot at x) (names ++ x ∷ [])
+at_join rooted at names x h k = record {
+  candidate_is = ap (λ v. join v x) h.candidate_is
+      ∙ join_names rooted names x (names_bytes names h.are_plain);
+  depth_is = let n = length-append names (x ∷ []) in omega (arith, h.depth_is, n);
+  are_plain = plain_last names x h.are_plain k;
+}
+
+pub length_names : (names : List (List ℕ)) → length (map chars names) ≡ length names
+length_names [] = refl
+length_names (n ∷ names) = ap (λ v. suc v) (length_names names)
+
+-- ---- names of a path
+
+parts_after : (names : List (List ℕ)) → slice_split (λ c. c == 47) (slashed names) ≡ [] ∷ names → (n : List ℕ)
+    → HasNoSlash n → slice_split (λ c. c == 47) (n ++ slashed names) ≡ n ∷ names
+parts_after names e [] h = e
+parts_after names e (c ∷ n) h = ap (λ b. cond b ([] ∷ slice_split (λ c. c == 47) (n ++ slashed names))
+    (onto_first c (slice_split (λ c. c == 47) (n ++ slashed names)))) (differ c 47 h.0)
+    ∙ ap (onto_first c) (parts_after names e n h.1)
+
+parts_slashed : (names : List (List ℕ)) → AreNames names
+    → slice_split (λ c. c == 47) (slashed names) ≡ [] ∷ names
+parts_slashed [] h = refl
+parts_slashed (n ∷ names) h = ap (λ v. [] ∷ v) (parts_after names (parts_slashed names h.2) n h.1)
+
+some_name : (n : List ℕ) → ¬ (n ≡ []) → is_some_name n ≡ true
+some_name [] h = absurd (h refl)
+some_name (c ∷ n) h = refl
+
+all_some : (names : List (List ℕ)) → AreNames names → filter is_some_name names ≡ names
+all_some [] h = refl
+all_some (n ∷ names) h = ap (λ b. cond b (n ∷ filter is_some_name names) (filter is_some_name names))
+    (some_name n h.0) ∙ ap (λ v. n ∷ v) (all_some names h.2)
+
+pub names_in_joined : (rooted : Bool) (names : List (List ℕ)) → AreNames names
+    → names_in_path (base rooted ++ joined_names names) ≡ names
+names_in_joined false [] h = refl
+names_in_joined false (n ∷ names) h = ap (filter is_some_name)
+    (parts_after names (parts_slashed names h.2) n h.1) ∙ all_some (n ∷ names) h
+names_in_joined true [] h = refl
+names_in_joined true (n ∷ names) h = ap (filter is_some_name) (parts_slashed (n ∷ names) h)
+    ∙ all_some (n ∷ names) h
+
+-- what a rule sees of it
+pub at_sees : (rooted : Bool) (at : Spot) (names : List (List ℕ)) → At rooted at names
+    → seen_at at ≡ candidate_at rooted (map chars names)
+at_sees rooted at names h =
+    let ns : names_in_path at.candidate ≡ names = ap names_in_path h.candidate_is
+    ∙ names_in_joined rooted names (names_bytes names h.are_plain) in
+    let cs : chars at.candidate ≡ text_at rooted (map chars names) = ap chars h.candidate_is
+    ∙ chars_joined rooted names h.are_plain in
+    ap (λ v. candidate_from (map chars v) (chars at.candidate) at.depth) ns
+    ∙ ap (λ v. candidate_from (map chars names) v at.depth) cs
+    ∙ ap (λ v. candidate_from (map chars names) (text_at rooted (map chars names)) v)
+    (h.depth_is ∙ sym (length_names names))

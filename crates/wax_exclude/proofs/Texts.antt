@@ -1,0 +1,65 @@
+-- Names as bytes and as characters.
+use Rattle.std.proofs.Common.{◌≡◌, ◌+◌, ℕ, suc, Bool, true, false, List, [], ◌∷◌, ◌++◌, map, length, get_or, refl, sym, ap, subst, ◌∙◌, arith, length-append, chars, encode_utf8_all}
+use Rattle.std.specs.Str.{IsUtf8}
+use Rattle.std.proofs.Math.Seq.{take-append_seam}
+use Rattle.std.proofs.lemmas.Str.{chars-append, encodes-chars, encodes-append, chars-nil, IsUtf8-append, IsUtf8-nil, IsUtf8-take, IsCharBoundary-before_ascii}
+use Rattle.wax_tree.specs.Prefix.{ArePlain}
+use Rattle.wax_exclude.specs.Candidates.{slashed, text_at}
+use Rattle.wax_exclude.proofs.Names.{chars_joined, chars_slash}
+use Rattle.wax_exclude.specs.Prefix.{HasEmptyName}
+
+slash_text : IsUtf8 (47 ∷ [])
+unfolding lib.Utf8.encode
+slash_text = (47 ∷ [], (refl, refl))
+
+slash_bytes : encode_utf8_all (47 ∷ []) ≡ 47 ∷ []
+unfolding lib.Utf8.encode
+slash_bytes = refl
+
+slash_chars : chars (47 ∷ []) ≡ 47 ∷ []
+slash_chars = chars_slash [] ∙ ap (λ v. 47 ∷ v) chars-nil
+
+slashed_text : (names : List (List ℕ)) → ArePlain names → IsUtf8 (slashed names)
+slashed_text [] h = IsUtf8-nil
+slashed_text (n ∷ names) h = IsUtf8-append (47 ∷ []) (n ++ slashed names) slash_text (IsUtf8-append n (slashed names) h.0.text (slashed_text names h.1))
+
+joined_text : (rooted : Bool) (names : List (List ℕ)) → ArePlain names → IsUtf8 (text_at rooted names)
+joined_text false [] h = IsUtf8-nil
+joined_text true [] h = slash_text
+joined_text false (n ∷ names) h = IsUtf8-append n (slashed names) h.0.text (slashed_text names h.1)
+joined_text true (n ∷ names) h = slashed_text (n ∷ names) h
+
+-- with a `/` at the end
+pub chars_ended : (rooted : Bool) (names : List (List ℕ)) → ArePlain names → chars (text_at rooted names ++ 47 ∷ []) ≡ text_at rooted (map chars names) ++ 47 ∷ []
+chars_ended rooted names h =
+    chars-append (text_at rooted names) (47 ∷ []) (joined_text rooted names h)
+    ∙ ap (λ v. v ++ chars (47 ∷ [])) (chars_joined rooted names h) ∙ ap (λ v. text_at rooted (map chars names) ++ v) slash_chars
+
+-- two `/` side by side
+front_text : (x y : List ℕ) → IsUtf8 (x ++ 47 ∷ y) → IsUtf8 x
+front_text x y u =
+    let at : get_or (x ++ 47 ∷ y) (length x) 0 ≡ 47 = here x in
+    let n : length (x ++ 47 ∷ y) ≡ length x + suc (length y) = length-append x (47 ∷ y) in
+    subst IsUtf8 (take-append_seam x (47 ∷ y)) (IsUtf8-take (x ++ 47 ∷ y) (length x) u (IsCharBoundary-before_ascii (x ++ 47 ∷ y) (length x) (omega (arith, n)) (omega (arith, at))))
+  where
+    here : (x : List ℕ) → get_or (x ++ 47 ∷ y) (length x) 0 ≡ 47
+    here [] = refl
+    here (c ∷ x) = here x
+
+pub empty_chars : (p : List ℕ) → IsUtf8 p → HasEmptyName p → HasEmptyName (chars p)
+empty_chars p u h =
+    let v : IsUtf8 (h.0 ++ 47 ∷ 47 ∷ h.1) = subst IsUtf8 h.2 u in (
+      chars h.0,
+      chars h.1,
+      ap chars h.2 ∙ chars-append h.0 (47 ∷ 47 ∷ h.1) (front_text h.0 (47 ∷ h.1) v)
+          ∙ ap (λ w. chars h.0 ++ w) (chars_slash (47 ∷ h.1) ∙ ap (λ w. 47 ∷ w) (chars_slash h.1)),
+    )
+
+pub empty_bytes : (p : List ℕ) → IsUtf8 p → HasEmptyName (chars p) → HasEmptyName p
+empty_bytes p u h = (
+  encode_utf8_all h.0,
+  encode_utf8_all h.1,
+  sym (encodes-chars p u) ∙ ap encode_utf8_all h.2 ∙ encodes-append h.0 (47 ∷ 47 ∷ h.1)
+      ∙ ap (λ v. encode_utf8_all h.0 ++ v) (encodes-append (47 ∷ []) (47 ∷ h.1) ∙ ap (λ v. v ++ encode_utf8_all (47 ∷ h.1)) slash_bytes
+      ∙ ap (λ v. 47 ∷ v) (encodes-append (47 ∷ []) h.1 ∙ ap (λ v. v ++ encode_utf8_all h.1) slash_bytes)),
+)

@@ -1,0 +1,5 @@
+use Rattle.wax_exclude.proofs.ListingLines.{says_lines}
+use Rattle.wax_exclude.proofs.rules.IgnoreRule.new.Goals as goal
+
+pub returns-clause-says : goal.returns-clause-says
+returns-clause-says c = λ lines held. says_lines (record { lines = c.args.lines }) lines held

@@ -1,0 +1,35 @@
+use Rattle.std.proofs.Common.{map, subst}
+use Rattle.std.specs.Prelude.{◌≤◌, length}
+use Rattle.std.specs.Iterator.{size}
+use Rattle.wax_walk.proofs.Collecting.{map_ok}
+use Rattle.wax_walk.proofs.Knowing.{all_before}
+use Rattle.wax_exclude.specs.Trips.{trip_less}
+use Rattle.wax_exclude.proofs.Wanting.{filters_come, took_less}
+use Rattle.wax_exclude.proofs.wanted.collect_less.Goals as goal
+
+pub returns-clause-took : goal.returns-clause-took
+returns-clause-took g c =
+    let law = g.I.Directory.Directory.law in
+    let rules = map g.R.Rule.rule c.args.rules.items in
+    let seen = c.without-kept.ensures.view in
+    map_ok (λ r h. (
+      h.0,
+      took_less law rules _ _ _ r.1 h.0 c.new.ensures seen h.1,
+      subst (λ n. length h.0 ≤ size n) c.without-kept.ensures.ends h.2,
+      h.3,
+    ))
+    c.collect_wanted.result c.collect_wanted.ensures.took
+
+pub returns-clause-known : goal.returns-clause-known
+returns-clause-known g c =
+    map_ok (λ r h. all_before (g.I.FileIterator.known c.args.walk) _ r.0.items c.without-kept.ensures.known h)
+    c.collect_wanted.result c.collect_wanted.ensures.known
+
+pub returns-clause-wanted : goal.returns-clause-wanted
+returns-clause-wanted g c =
+    map_ok (λ r h d trip filters s listed comes are can shows told.
+    h d (trip_less trip filters) s listed
+    (filters_come g.I.Directory.Directory.law d trip filters (map g.R.Rule.rule c.args.rules.items) _ _ _ are
+    c.new.ensures comes c.without-kept.ensures.view)
+    can shows told)
+    c.collect_wanted.result c.collect_wanted.ensures.wanted

@@ -1,0 +1,45 @@
+-- Lists of lines that ignore or take back, as filters.
+use Rattle.std.specs.Prelude.{◌≡◌, ℕ, Bool, true, false, ◌&&◌, ◌||◌, if◌then◌else◌, ◌⊎◌, List, [], ◌∷◌}
+use Rattle.wax_alternatives.specs.Alternatives.{alternatives}
+use Rattle.wax_token.specs.Decided.{means_test}
+use Rattle.wax_token.specs.Syntax.{Tree}
+use Rattle.wax_walk.specs.Given.{Mark}
+use Rattle.wax_exclude.specs.Candidates.{Candidate}
+use Rattle.wax_exclude.specs.Covers.{CoversSome, covers_test}
+use Rattle.wax_exclude.specs.Marks.{covered_mark}
+
+-- a line: whether it ignores what the glob means, or takes it back
+pub record Line (A : Type 0) : Type 0 where
+  pub ignores : Bool
+  pub glob : Tree A
+
+-- the last line that means the text decides; where there is none, it is as it was
+abbrev pub ignored_after : {A : Type 0} → Bool → List (Line A) → List ℕ → Bool
+ignored_after was [] s = was
+ignored_after was (line ∷ lines) s =
+    ignored_after (if means_test line.glob false false s then line.ignores else was) lines s
+
+abbrev pub is_ignored : {A : Type 0} → List (Line A) → List ℕ → Bool
+is_ignored lines s = ignored_after false lines s
+
+-- no line takes back
+abbrev pub all_ignore : {A : Type 0} → List (Line A) → Bool
+all_ignore [] = true
+all_ignore (line ∷ lines) = line.ignores && all_ignore lines
+
+-- a line that ignores covers it, and no line that takes back stands after that
+abbrev pub IgnoresBelow : {A : Type 0} → List (Line A) → Candidate → Type 0
+IgnoresBelow [] c = ⊥
+IgnoresBelow (line ∷ lines) c =
+    ((line.ignores ≡ true) × (all_ignore lines ≡ true) × CoversSome (alternatives line.glob) c)
+    ⊎ IgnoresBelow lines c
+
+-- whether it is so
+abbrev pub below_test : {A : Type 0} → List (Line A) → Candidate → Bool
+below_test [] c = false
+below_test (line ∷ lines) c =
+    (line.ignores && (all_ignore lines && covers_test (alternatives line.glob) c)) || below_test lines c
+
+-- what a list ignores is left out, with what lies below it where no line can take anything of it back
+abbrev pub ignore_mark : {A : Type 0} → List (Line A) → Candidate → Mark
+ignore_mark lines c = covered_mark (below_test lines c) (is_ignored lines c.text)

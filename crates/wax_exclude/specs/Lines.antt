@@ -1,0 +1,58 @@
+-- The lines of an ignore list's text.
+use Rattle.std.specs.Prelude.{ℕ, ◌+◌, ◌==◌, Bool, true, false, if◌then◌else◌, List, [], ◌∷◌, ◌++◌, drop}
+use Rattle.std.specs.List.{slice_split}
+use Rattle.wax_exclude.specs.declared.lines.WrittenLine.{WrittenLine}
+
+-- a line that isn't skipped: its number from 1, where lines that are skipped count; whether it ignores what
+-- its glob means or takes it back; and the glob's expression, as bytes
+pub record Written : Type 0 where
+  pub number : ℕ
+  pub ignores : Bool
+  pub expression : List ℕ
+
+abbrev pub written_of : WrittenLine → Written
+written_of line = record {
+  number = line.number;
+  ignores = line.ignores;
+  expression = line.expression.now;
+}
+
+-- the parts of a text between its line feeds
+abbrev pub between_feeds : List ℕ → List (List ℕ)
+between_feeds text = slice_split (λ b. b == 10) text
+
+-- without one carriage return at the end
+abbrev pub without_return : List ℕ → List ℕ
+without_return [] = []
+without_return (b ∷ []) = if b == 13 then [] else b ∷ []
+without_return (b ∷ c ∷ line) = b ∷ without_return (c ∷ line)
+
+-- a line that is empty or begins with `#`
+abbrev pub is_skipped : List ℕ → Bool
+is_skipped [] = true
+is_skipped (b ∷ line) = b == 35
+
+-- one that begins with `!`
+abbrev pub takes_back : List ℕ → Bool
+takes_back [] = false
+takes_back (b ∷ line) = b == 33
+
+-- what a line of this number says, where it isn't skipped
+abbrev pub said_at : ℕ → List ℕ → Written
+said_at number line =
+    if takes_back line then record { number = number; ignores = false; expression = drop 1 line }
+    else record { number = number; ignores = true; expression = line }
+
+-- what is said between two line feeds: a line, or nothing
+abbrev pub line_at : ℕ → List ℕ → List Written
+line_at number part =
+    let line = without_return part in if is_skipped line then [] else said_at number line ∷ []
+
+-- what such parts say, the first of which has this number
+abbrev pub lines_from : ℕ → List (List ℕ) → List Written
+lines_from number [] = []
+lines_from number (part ∷ parts) = line_at number part ++ lines_from (number + 1) parts
+
+-- the lines of a list's text that aren't skipped
+abbrev pub written_lines : List ℕ → List Written
+written_lines text = lines_from 1 (between_feeds text)

@@ -1,0 +1,57 @@
+-- What is asked of a glob and its queries, and of what is shown, so that its walk gives what is wanted.
+use Rattle.std.specs.Prelude.{◌≡◌, ℕ, ◌≤◌, ◌⊎◌, ◌++◌, Bool, false, ⊤, List, length, map, chars}
+use Rattle.wax_directory.specs.Shown.{Items, end, leaf, folder, sealed, misnamed, unread, not_text, Shown}
+use Rattle.wax_directory.specs.Shown.{a_folder, IsPlain, IsDistinct}
+use Rattle.wax_token.specs.Meaning.{Means}
+use Rattle.wax_token.specs.Spelled.{LiteralsHaveNoSlash}
+use Rattle.wax_token.specs.Syntax.{Tree}
+use Rattle.wax_tree.specs.Begins.{Way}
+use Rattle.wax_tree.specs.declared.steps.Range.{Range}
+use Rattle.wax_tree.specs.Prefix.{ArePlain}
+use Rattle.wax_exclude.specs.Candidates.{AreNames, base, text_at}
+use Rattle.wax_exclude.specs.Wanted.{Wanted}
+
+-- each candidate that is meant has at most so many names
+abbrev pub BoundsNames : {A : Type 0} → Bool → Tree A → ℕ → Type 0
+BoundsNames rooted t upper = (names : List (List ℕ)) → AreNames names
+    → Means t false false (text_at rooted names) → length names ≤ upper
+
+-- the names of each candidate that is meant begin with these
+abbrev pub BeginsWith : {A : Type 0} → Bool → Tree A → List (List ℕ) → Type 0
+BeginsWith rooted t prefix = (names : List (List ℕ)) → AreNames names
+    → Means t false false (text_at rooted names) → (rest : List (List ℕ)) × (names ≡ prefix ++ rest)
+
+-- no candidate is meant
+abbrev pub IsUnmeant : {A : Type 0} → Bool → Tree A → Type 0
+IsUnmeant rooted t = (names : List (List ℕ)) → AreNames names → Means t false false (text_at rooted names) → ⊥
+
+-- The glob's walk may go this way, to the greatest depth of the range walked, where another range is asked
+-- for: each candidate that is meant begins with the names of the way, and none has more names than that
+-- depth, where it isn't the one asked for.
+pub record CanWalk {A : Type 0} (w : Wanted A) (asked walked : Range) (way : Way) : Type 0 where
+  pub spelled : LiteralsHaveNoSlash w.glob
+  pub least : walked.min ≡ asked.min
+  pub greatest : (walked.max ≡ asked.max)
+      ⊎ ((walked.max ≤ asked.max) × BoundsNames w.rooted w.glob walked.max)
+  pub candidate : way.candidate ≡ base w.rooted
+  pub begins : BeginsWith w.rooted w.glob (map chars way.names)
+  pub plain : ArePlain way.names
+
+-- the names of the entries, at whatever depth, are plain
+abbrev pub ArePlainItems : Items → Type 0
+ArePlainItems end = ⊤
+ArePlainItems (leaf x link rest) = IsPlain x × ArePlainItems rest
+ArePlainItems (folder x inner rest) = IsPlain x × ArePlainItems inner × ArePlainItems rest
+ArePlainItems (sealed x rest) = IsPlain x × ArePlainItems rest
+ArePlainItems (misnamed x kind rest) = ArePlainItems rest
+ArePlainItems (unread rest) = ArePlainItems rest
+ArePlainItems (not_text rest) = ArePlainItems rest
+
+abbrev pub IsPlainShown : Shown → Type 0
+IsPlainShown (a_folder l) = ArePlainItems l
+IsPlainShown s = ⊤
+
+-- as a lawful directory shows it: the names are plain, and those in each folder are distinct
+pub record IsWellNamed (s : Shown) : Type 0 where
+  pub plain : IsPlainShown s
+  pub distinct : IsDistinct s

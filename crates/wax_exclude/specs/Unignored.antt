@@ -1,0 +1,48 @@
+-- The law of plain walks that a list of lines filters.
+use Rattle.std.specs.Prelude.{◌≡◌, ℕ, Bool, false, ◌&&◌, not, ◌⊎◌, List, [], ◌∷◌, ◌++◌, All, chars, filter}
+use Rattle.std.specs.Prelude.{map}
+use Rattle.std.specs.List.{Contains}
+use Rattle.wax_directory.specs.Shown.{Shown}
+use Rattle.wax_token.specs.Reads.{Span}
+use Rattle.wax_tree.specs.Begins.{scope_in}
+use Rattle.wax_tree.specs.declared.steps.Range.{Range}
+use Rattle.wax_tree.specs.Plain.{plain}
+use Rattle.wax_tree.specs.Whole.{is_in, whole}
+use Rattle.wax_walk.specs.Forest.{preorder, listings}
+use Rattle.wax_walk.specs.Given.{Facts, Mark, kept, alone, with_tree, Given, entry, fault, no_memory}
+use Rattle.wax_exclude.specs.Candidates.{candidate_at}
+use Rattle.wax_exclude.specs.Ignored.{Line, is_ignored, IgnoresBelow, ignore_mark}
+use Rattle.wax_exclude.specs.Marks.{of_candidate}
+use Rattle.wax_exclude.specs.Premises.{IsPlainShown}
+use Rattle.wax_exclude.specs.Walked.{path_from}
+use Rattle.wax_exclude.specs.Wanted.{is_kept_entry, stacked}
+
+-- an entry that is kept and not ignored
+abbrev pub is_unignored : {A : Type 0} → List (Line A) → Given → Bool
+is_unignored lines (entry kept f) = not (is_ignored lines (chars f.candidate))
+is_unignored lines (entry alone f) = false
+is_unignored lines (entry with_tree f) = false
+is_unignored lines (fault kind path depth) = false
+is_unignored lines no_memory = false
+
+-- the filter of a list
+abbrev pub ignore_rules : {A : Type 0} → List (Line A) → List (Facts → Mark)
+ignore_rules lines = of_candidate (ignore_mark lines) ∷ []
+
+-- the entries of the plain walk that are kept after a list's filter are those of the whole walk in range that
+-- it doesn't ignore, in order
+abbrev pub GivesUnignored : Type 0
+GivesUnignored = (lines : List (Line Span)) (range : Range) (start : List ℕ) (s : Shown) → IsPlainShown s
+    → filter is_kept_entry (preorder (stacked (ignore_rules lines) (plain (scope_in range start) s)))
+    ≡ filter (λ x. is_in range x && is_unignored lines x) (whole start s)
+
+-- the path is that of some names, the first of which lead to what is ignored with all that lies below it
+abbrev pub IsIgnoredBelow : {A : Type 0} → List (Line A) → List ℕ → List ℕ → Type 0
+IsIgnoredBelow lines start path = (front back : List (List ℕ)) × (path ≡ path_from start (front ++ back))
+    × IgnoresBelow lines (candidate_at false (map chars front))
+
+-- each folder that the plain walk lists is listed, unless it is or lies below such an entry
+abbrev pub LosesIgnored : Type 0
+LosesIgnored = (lines : List (Line Span)) (range : Range) (start : List ℕ) (s : Shown) → IsPlainShown s
+    → All (λ path. Contains (listings (stacked (ignore_rules lines) (plain (scope_in range start) s))) path
+    ⊎ IsIgnoredBelow lines start path) (listings (plain (scope_in range start) s))

@@ -1,0 +1,66 @@
+-- The entries that a glob means and no filter leaves out.
+use Rattle.std.specs.Prelude.{ℕ, Bool, true, false, ◌&&◌, not, List, [], ◌∷◌, chars}
+use Rattle.wax_token.specs.Decided.{means_test}
+use Rattle.wax_token.specs.Syntax.{Tree}
+use Rattle.wax_walk.specs.Forest.{Forest, filtered}
+use Rattle.wax_walk.specs.Given.{Facts, Mark, kept, alone, with_tree, Given, entry, fault, no_memory}
+use Rattle.wax_walk.specs.Given.{changed_by, cut_by}
+use Rattle.wax_exclude.specs.Candidates.{Candidate}
+use Rattle.wax_exclude.specs.Ignored.{Line, is_ignored, ignore_mark}
+use Rattle.wax_exclude.specs.Marks.{glob_mark, not_mark, of_candidate}
+
+-- a filter of a walk: it leaves out what a pattern means, or what a list of lines ignores
+pub data Filter (A : Type 0) : Type 0 where
+  not_meant : Tree A → Filter A
+  not_ignored : List (Line A) → Filter A
+
+-- what is wanted of a walk, from the root or not: what the glob means and no filter leaves out
+pub record Wanted (A : Type 0) : Type 0 where
+  pub rooted : Bool
+  pub glob : Tree A
+  pub filters : List (Filter A)
+
+abbrev pub leaves_out : {A : Type 0} → Filter A → List ℕ → Bool
+leaves_out (not_meant t) s = means_test t false false s
+leaves_out (not_ignored lines) s = is_ignored lines s
+
+-- none of them leaves the text out
+abbrev pub none_leaves_out : {A : Type 0} → List (Filter A) → List ℕ → Bool
+none_leaves_out [] s = true
+none_leaves_out (x ∷ filters) s = not (leaves_out x s) && none_leaves_out filters s
+
+abbrev pub is_wanted : {A : Type 0} → Wanted A → Given → Bool
+is_wanted w (entry kept f) =
+    means_test w.glob false false (chars f.candidate) && none_leaves_out w.filters (chars f.candidate)
+is_wanted w (entry alone f) = false
+is_wanted w (entry with_tree f) = false
+is_wanted w (fault kind path depth) = false
+is_wanted w no_memory = false
+
+-- an entry that is kept
+abbrev pub is_kept_entry : Given → Bool
+is_kept_entry (entry kept f) = true
+is_kept_entry (entry alone f) = false
+is_kept_entry (entry with_tree f) = false
+is_kept_entry (fault kind path depth) = false
+is_kept_entry no_memory = false
+
+-- ---- filters one after another
+
+-- what is to come after all these filters
+abbrev pub stacked : List (Facts → Mark) → Forest Given → Forest Given
+stacked [] f = f
+stacked (rule ∷ rules) f = stacked rules (filtered (changed_by rule) (cut_by rule) f)
+
+-- what a filter says of a candidate
+abbrev pub filter_mark : {A : Type 0} → Filter A → Candidate → Mark
+filter_mark (not_meant t) c = not_mark t c
+filter_mark (not_ignored lines) c = ignore_mark lines c
+
+abbrev pub filter_rules : {A : Type 0} → List (Filter A) → List (Facts → Mark)
+filter_rules [] = []
+filter_rules (x ∷ filters) = of_candidate (filter_mark x) ∷ filter_rules filters
+
+-- the glob's walk first, and each filter after it
+abbrev pub rules_of : {A : Type 0} → Wanted A → List (Facts → Mark)
+rules_of w = of_candidate (glob_mark w.rooted w.glob) ∷ filter_rules w.filters

@@ -1,0 +1,3 @@
+pub mod Descents
+pub mod Listed
+pub mod Stacks

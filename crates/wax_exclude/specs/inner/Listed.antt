@@ -1,0 +1,37 @@
+-- What lines say that are held by their alternatives.
+use Rattle.std.specs.Prelude.{ℕ, Bool, true, false, ◌&&◌, ◌||◌, if◌then◌else◌, List, [], ◌∷◌}
+use Rattle.wax_exclude.specs.Excluded.{some_test}
+use Rattle.wax_walk.specs.Given.{Facts, Mark, kept, alone, combined_mark}
+use Rattle.wax_exclude.specs.Candidates.{Candidate}
+use Rattle.wax_exclude.specs.Covers.{covers_test}
+use Rattle.wax_exclude.specs.Marks.{covered_mark, of_candidate}
+use Rattle.wax_exclude.specs.declared.rules.IgnoreLine.{IgnoreLine}
+
+-- the last line that means the text decides; where there is none, it is as it was
+abbrev pub ignored_by : Bool → List IgnoreLine → List ℕ → Bool
+ignored_by was [] s = was
+ignored_by was (line ∷ lines) s =
+    ignored_by (if some_test line.exclusion s then line.ignores else was) lines s
+
+-- no line takes back
+abbrev pub none_takes_back : List IgnoreLine → Bool
+none_takes_back [] = true
+none_takes_back (line ∷ lines) = line.ignores && none_takes_back lines
+
+-- a line that ignores covers the candidate, and no line that takes back stands after that
+abbrev pub below_by : List IgnoreLine → Candidate → Bool
+below_by [] c = false
+below_by (line ∷ lines) c =
+    (line.ignores && (none_takes_back lines && covers_test line.exclusion c)) || below_by lines c
+
+-- what the lines say
+abbrev pub listed_mark : List IgnoreLine → Facts → Mark
+listed_mark lines = of_candidate (λ c. covered_mark (below_by lines c) (ignored_by false lines c.text))
+
+-- what is said after one more line: whether it ignores, what was said before, and what its glob would leave
+-- out
+abbrev pub mark_after : Bool → Mark → Mark → Mark
+mark_after true before said = combined_mark before said
+mark_after false kept said = kept
+mark_after false before kept = alone
+mark_after false before said = kept

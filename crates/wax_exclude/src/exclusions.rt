@@ -1,0 +1,182 @@
+//! What patterns that are left out of a walk say of entries.
+ghost use Rattle.std.specs.Prelude.{◌≡◌, ◌↔◌, ◌<◌, ◌≤◌, IfOk, IsTrue, chars};
+ghost use Rattle.std.specs.List.{All, list_any};
+ghost use Rattle.wax_alternatives.specs.Alternatives.{alternatives};
+ghost use Rattle.wax_query.specs.Outcome.{MatchBuild};
+ghost use Rattle.wax_token.specs.Cost.{cost, program_length};
+ghost use Rattle.wax_token.specs.Words.{members};
+ghost use Rattle.wax_exclude.specs.Covers.{ends_wild, is_everything, is_unrooted, some_everything};
+ghost use Rattle.wax_exclude.specs.Compiled.{CoverAll, SomeAccepts};
+
+use crate::programs::{accepts, program_of};
+use std::alloc::Global;
+use std::marker::Model;
+use wax_alternatives::into_alternatives;
+use wax_match::encode;
+use wax_match::encode::{CompileError, Program};
+use wax_query::diagnostics::{NoMemory, Refusal};
+use wax_token::token::{ExpressionMetadata, LeafKind, Token, Wildcard};
+use wax_walk::{Entry, EntryResidue, Rule};
+
+/// A pattern that is left out of a walk: each entry that it means, with all that lies below it where an
+/// alternative covers it, else alone. A tree wildcard alone that isn't rooted covers everything; an
+/// alternative that ends with a tree wildcard covers what it means but for the start of the walk. Contracts
+/// see the alternatives.
+pub struct Exclusion {
+    alternatives: Vec<Token<'static, ExpressionMetadata>>,
+    /// Accepts what one of them means.
+    whole: Program,
+    /// Of each alternative that ends with a tree wildcard.
+    covering: Vec<Program>,
+    /// An alternative is a tree wildcard alone that isn't rooted.
+    covers_all: bool,
+}
+
+// Written out, so that a crate that drops these needn't prove again how their tokens are dropped.
+impl Drop for Exclusion {
+    fn drop(self) {
+        let Exclusion {
+            alternatives: _,
+            whole: _,
+            covering: _,
+            covers_all: _,
+        } = self;
+    }
+}
+
+impl Model for Exclusion {
+    ghost use Rattle.std.specs.Prelude.{List};
+    ghost use Rattle.wax_token.specs.Reads.{Span};
+    ghost use Rattle.wax_token.specs.Syntax.{Tree};
+    ghost use Rattle.wax_exclude.specs.Compiled.{IsExclusion, row_code};
+
+    ghost Value = { List (Tree Span) };
+
+    ghost coded = { row_code };
+
+    ghost view = { λ e. e.alternatives.items };
+
+    ghost invariant = { λ e. IsExclusion e.alternatives.items e.whole e.covering.items e.covers_all };
+}
+
+impl Exclusion {
+    ghost use Rattle.wax_exclude.specs.Marks.{not_mark, of_candidate};
+
+    /// What is left out of a pattern's tokens. Refused with 9 where their cost plus 1 is above 1,048,576, and
+    /// with 10 where memory is. It takes time and memory of the order of the tokens and their cost.
+    pub fn new(
+        alloc: Global,
+        pattern: Token<'static, ExpressionMetadata>,
+    ) -> Result<Exclusion, Refusal<CompileError>>
+        ensures alternatives { IfOk result (λ e. e ≡ alternatives pattern.entry) }
+        ensures says { IfOk result (λ e.
+            ⟦<Exclusion as Rule>⟧.rule e ≡ of_candidate (not_mark pattern.entry)) }
+        ensures fits { MatchBuild result (λ _. program_length pattern.entry ≤ 1048576)
+            (λ _. 1048576 < program_length pattern.entry) }
+    {
+        let whole = encode::compile(alloc, pattern.concatenation(), false, false)?;
+        let alternatives = into_alternatives(alloc, pattern)?;
+        let covering = covering_programs(alloc, alternatives.as_slice())?;
+        let covers_all = some_everything(alternatives.as_slice());
+        Ok(Exclusion {
+            alternatives,
+            whole,
+            covering,
+            covers_all,
+        })
+    }
+}
+
+impl Rule for Exclusion {
+    ghost use Rattle.wax_exclude.specs.Excluded.{excluded_mark};
+
+    ghost rule = { λ e f. excluded_mark e f };
+
+    fn residue<E: Entry>(
+        &self,
+        alloc: Global,
+        entry: &E,
+    ) -> Result<Option<EntryResidue>, NoMemory> {
+        if self.covers_all {
+            return Ok(Some(EntryResidue::Tree));
+        }
+        let (_, candidate) = entry.root_relative_paths();
+        if !accepts(alloc, &self.whole, candidate)? {
+            return Ok(None);
+        }
+        if entry.depth() > 0 && some_accepts(alloc, self.covering.as_slice(), candidate)? {
+            return Ok(Some(EntryResidue::Tree));
+        }
+        Ok(Some(EntryResidue::File))
+    }
+}
+
+// The programs of the alternatives that end with a tree wildcard.
+fn covering_programs<'t>(
+    alloc: Global,
+    alternatives: &[Token<'t, ExpressionMetadata>],
+) -> Result<Vec<Program>, NoMemory>
+    requires { All (λ t. cost t < 1048576) alternatives.now }
+    ensures { IfOk result (λ programs. CoverAll programs.items alternatives.now) }
+{
+    let mut programs = Vec::new(alloc);
+    for token in alternatives {
+        if ends_wild(token) {
+            let program = program_of(alloc, token.concatenation())?;
+            if programs.push(program).is_err() {
+                return Err(NoMemory);
+            }
+        }
+    }
+    Ok(programs)
+}
+
+// Whether one of the programs accepts the text.
+fn some_accepts(alloc: Global, programs: &[Program], text: &str) -> Result<bool, NoMemory>
+    ensures { IfOk result (λ answer. IsTrue answer ↔ SomeAccepts programs.now (chars text.now)) }
+{
+    for program in programs {
+        if accepts(alloc, program, text)? {
+            return Ok(true);
+        }
+    }
+    Ok(false)
+}
+
+// Whether the last token is a tree wildcard.
+fn ends_wild<'t>(token: &Token<'t, ExpressionMetadata>) -> bool
+    ensures { result ≡ ends_wild (members token.now) }
+{
+    match token.concatenation().last() {
+        Some(last) => last.is_tree_wildcard(),
+        None => false,
+    }
+}
+
+// Whether one of the alternatives is a tree wildcard alone that isn't rooted.
+fn some_everything<'t>(alternatives: &[Token<'t, ExpressionMetadata>]) -> bool
+    ensures { result ≡ some_everything alternatives.now }
+{
+    alternatives.iter().any(|token| is_everything(token))
+}
+
+// Whether the token is a tree wildcard alone that isn't rooted.
+fn is_everything<'t>(token: &Token<'t, ExpressionMetadata>) -> bool
+    ensures { result ≡ is_everything (members token.now) }
+{
+    match token.concatenation() {
+        [only] => is_unrooted(only),
+        _ => false,
+    }
+}
+
+fn is_unrooted<'t>(token: &Token<'t, ExpressionMetadata>) -> bool
+    ensures { result ≡ is_unrooted token.now }
+{
+    match token.as_leaf() {
+        Some(LeafKind::Wildcard(wildcard)) => {
+            matches!(wildcard, Wildcard::Tree { has_root: false })
+        }
+        _ => false,
+    }
+}

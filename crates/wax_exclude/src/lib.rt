@@ -1,0 +1,21 @@
+//! What a glob's walk is to give and to list, and the law that it does.
+#![tactic(auto)]
+
+mod exclusions;
+mod kept;
+mod law;
+mod lines;
+mod parts;
+mod prefixes;
+mod programs;
+mod rules;
+mod wanted;
+
+pub use exclusions::Exclusion;
+pub use kept::collect_unignored;
+pub use law::{law_of_ignoring, law_of_walks};
+pub use lines::{WrittenLine, written_lines};
+pub use parts::{Component, leading};
+pub use prefixes::{Way, way_of};
+pub use rules::{IgnoreLine, IgnoreRule};
+pub use wanted::{collect_less, collect_wanted, collect_wanted_feed};

@@ -1,0 +1,113 @@
+//! Leading components of globs.
+ghost use Rattle.std.specs.Prelude.{◌≡◌, ◌↔◌, ◌<◌, ◌≤◌, IfOk, IsTrue, chars, false};
+ghost use Rattle.std.specs.List.{list_any};
+ghost use Rattle.wax_token.specs.Cost.{costs, program_length};
+ghost use Rattle.wax_token.specs.Kinds.{has_boundary};
+ghost use Rattle.wax_token.specs.Meaning.{MeansEach};
+ghost use Rattle.wax_token.specs.Words.{trees};
+ghost use Rattle.wax_components.specs.TopLevel.{tokens_of};
+ghost use Rattle.wax_exclude.specs.Leading.{begins_with_separator, component_test, leading_of};
+
+use crate::programs::{accepts, program_of};
+use std::alloc::Global;
+use std::marker::Model;
+use wax_components::components;
+use wax_glob_walk::NameTest;
+use wax_match::encode::Program;
+use wax_query::diagnostics::NoMemory;
+use wax_token::token::{ExpressionMetadata, Token};
+
+/// A component of a glob, as a program of its own. Contracts see its tokens.
+#[derive(Drop)]
+pub struct Component<'g, 't> {
+    tokens: &'g [Token<'t, ExpressionMetadata>],
+    program: Program,
+}
+
+impl<'g, 't> Model for Component<'g, 't> {
+    ghost use Rattle.std.specs.Prelude.{List};
+    ghost use Rattle.wax_token.specs.Reads.{Span};
+    ghost use Rattle.wax_token.specs.Syntax.{Tree};
+    ghost use Rattle.wax_exclude.specs.Compiled.{AcceptsEach, row_code};
+
+    ghost Value = { List (Tree Span) };
+
+    ghost coded = { row_code };
+
+    ghost view = { λ c. c.tokens.now };
+
+    ghost invariant = { λ c. AcceptsEach c.program c.tokens.now };
+}
+
+impl<'g, 't> NameTest for Component<'g, 't> {
+    ghost use Rattle.wax_exclude.specs.Leading.{component_test};
+
+    ghost decides = { λ component name. component_test component name };
+
+    /// Whether the component means the name, with nothing around it. Refused with 10 where memory is.
+    fn is_match(&self, alloc: Global, name: &str) -> Result<bool, NoMemory>
+        ensures decides { IfOk result (λ answer. answer ≡ component_test self.now (chars name.now)) }
+        ensures means { IfOk result (λ answer.
+            IsTrue answer ↔ MeansEach (trees self.now) false false (chars name.now)) }
+    {
+        accepts(alloc, &self.program, name)
+    }
+}
+
+// The tokens with their program.
+fn compiled<'g, 't>(
+    alloc: Global,
+    tokens: &'g [Token<'t, ExpressionMetadata>],
+) -> Result<Component<'g, 't>, NoMemory>
+    requires { costs (trees tokens.now) < 1048576 }
+    ensures { IfOk result (λ c. c ≡ tokens.now) }
+{
+    let program = program_of(alloc, tokens)?;
+    Ok(Component { tokens, program })
+}
+
+// Whether one of the tokens is a boundary or holds one.
+fn hold_boundary<'t>(tokens: &[Token<'t, ExpressionMetadata>]) -> bool
+    ensures { result ≡ list_any has_boundary tokens.now }
+{
+    tokens.iter().any(|token| token.has_boundary())
+}
+
+// Whether a `/` comes first among the tokens of a glob.
+fn begins_with_separator<'t>(token: &Token<'t, ExpressionMetadata>) -> bool
+    ensures { result ≡ begins_with_separator (tokens_of token.now) }
+{
+    match token.concatenation().first() {
+        Some(first) => first.is_separator(),
+        None => false,
+    }
+}
+
+/// The components of a glob that fits, up to the first one that holds a boundary anywhere, which is left
+/// out, each as a program. Where the walk is from the root and the first token isn't `/`, there are none.
+/// Refused with 10 where memory is. It takes the time and memory of the tokens and their cost.
+pub fn leading<'g, 't>(
+    alloc: Global,
+    token: &'g Token<'t, ExpressionMetadata>,
+    is_rooted: bool,
+) -> Result<Vec<Component<'g, 't>>, NoMemory>
+    requires { program_length token.now ≤ 1048576 }
+    ensures { IfOk result (λ leading. leading.items ≡ leading_of is_rooted token.now) }
+{
+    let mut leading = Vec::new(alloc);
+    if is_rooted && !begins_with_separator(token) {
+        return Ok(leading);
+    }
+    let components = components(alloc, token)?;
+    for component in &components {
+        let tokens = component.tokens();
+        if hold_boundary(tokens) {
+            break;
+        }
+        let component = compiled(alloc, tokens)?;
+        if leading.push(component).is_err() {
+            return Err(NoMemory);
+        }
+    }
+    Ok(leading)
+}

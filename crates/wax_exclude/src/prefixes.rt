@@ -1,0 +1,97 @@
+//! Prefixes of globs, as names.
+ghost use Rattle.std.specs.Prelude.{◌≡◌, ◌↔◌, ℕ, Bool, IfOk, IsTrue, List, MatchOption, chars, map};
+ghost use Rattle.wax_directory.specs.Names.{is_rooted, names_in_path};
+ghost use Rattle.wax_facts.specs.Orderly.{Full};
+ghost use Rattle.wax_facts.specs.Prefix.{Prefix};
+ghost use Rattle.wax_tree.specs.Prefix.{ArePlain, from_last};
+ghost use Rattle.wax_exclude.specs.Premises.{BeginsWith, IsUnmeant};
+ghost use Rattle.wax_exclude.specs.Prefix.{HasEmptyName, IsPrefixWay, IsWay};
+
+use std::alloc::{AllocError, Global};
+use wax_facts::invariant_text_prefix;
+use wax_query::diagnostics::NoMemory;
+use wax_token::token::{ExpressionMetadata, Token};
+
+/// Where the walk of a glob begins: whether below the root, and the names of its prefix, the first of them
+/// last.
+#[derive(Drop)]
+pub struct Way {
+    pub is_rooted: bool,
+    pub names: Vec<String>,
+}
+
+/// The way to the prefix of a glob, which is rooted where the prefix begins with `/`: each path that the glob
+/// means begins with its names. None where two `/` stand side by side in the prefix: then no path of names is
+/// meant. Refused with 10 where memory is. It takes the time and memory of the tokens' texts.
+pub fn way_of<'t>(
+    alloc: Global,
+    token: &Token<'t, ExpressionMetadata>,
+) -> Result<Option<Way>, NoMemory>
+    ensures names { IfOk result (λ way. (n : ℕ) (p : List ℕ) → Prefix token.now n p
+        → MatchOption way (HasEmptyName p) (λ w. IsPrefixWay p w.is_rooted (from_last w.names.items))) }
+    ensures meant { Full token.now → IfOk result (λ way. MatchOption way
+        ((rooted : Bool) → IsUnmeant rooted token.now) (λ w. ArePlain (from_last w.names.items)
+        → BeginsWith w.is_rooted token.now (map chars (from_last w.names.items)))) }
+{
+    let (_, prefix) = invariant_text_prefix(alloc, token)?;
+    way_in(alloc, prefix.as_str())
+}
+
+// The names of a prefix, and whether it is rooted; none where two `/` stand side by side.
+fn way_in(alloc: Global, prefix: &str) -> Result<Option<Way>, NoMemory>
+    ensures { IfOk result (λ way. MatchOption way (HasEmptyName prefix.now)
+        (λ w. ¬ (HasEmptyName prefix.now) × IsWay prefix.now w.is_rooted (from_last w.names.items))) }
+{
+    if has_empty_name(prefix.as_bytes()) {
+        return Ok(None);
+    }
+    Ok(Some(Way {
+        is_rooted: begins_with_slash(prefix.as_bytes()),
+        names: names_from_last(alloc, prefix)?,
+    }))
+}
+
+// Whether two `/` stand side by side.
+fn has_empty_name(text: &[u8]) -> bool
+    ensures { IsTrue result ↔ HasEmptyName text.now }
+{
+    let mut rest = text;
+    while let Some((first, others)) = rest.split_first() {
+        if *first == b'/' && begins_with_slash(others) {
+            return true;
+        }
+        rest = others;
+    }
+    false
+}
+
+fn begins_with_slash(bytes: &[u8]) -> bool
+    ensures { result ≡ is_rooted bytes.now }
+{
+    match bytes {
+        [first, ..] => *first == b'/',
+        [] => false,
+    }
+}
+
+// The names of a path.
+fn names_in(alloc: Global, path: &str) -> Result<Vec<&str>, AllocError>
+    ensures { IfOk result (λ v. map (λ x. x.now) v.items ≡ names_in_path path.now) }
+{
+    path.split('/')
+        .filter(|name| !name.is_empty())
+        .collect(alloc)
+}
+
+// The names of a path, the last one first.
+fn names_from_last(alloc: Global, path: &str) -> Result<Vec<String>, AllocError>
+    ensures { IfOk result (λ names. from_last names.items ≡ names_in_path path.now) }
+{
+    let names = names_in(alloc, path)?;
+    let mut copies = Vec::with_capacity(alloc, names.len())?;
+    for name in &names {
+        copies.push(String::from_str(alloc, name)?)?;
+    }
+    copies.reverse();
+    Ok(copies)
+}

@@ -1,0 +1,103 @@
+//! What is wanted of a walk.
+
+ghost use Rattle.std.specs.Prelude.{◌≡◌, ◌+◌, ◌≤◌, All, List, ℕ, IfOk, false, filter, length, map};
+ghost use Rattle.std.specs.Iterator.{IsFinite, size};
+ghost use Rattle.wax_directory.specs.Shown.{Shown};
+ghost use Rattle.wax_glob_walk.specs.Programs.{any_mark};
+ghost use Rattle.wax_exclude.specs.Trips.{AreRulesOf, ComesWanted, KeepsWanted, MayGo, Trip};
+ghost use Rattle.wax_exclude.specs.Trips.{trip_less, trip_pending};
+ghost use Rattle.wax_token.specs.Reads.{Span};
+ghost use Rattle.wax_walk.specs.Collected.{GaveAll, Took};
+ghost use Rattle.wax_walk.specs.Entries.{given_of, given_outcome};
+ghost use Rattle.wax_walk.specs.Given.{Given, is_kept};
+ghost use Rattle.wax_walk.specs.Known.{KnownItem, KnownOutcome};
+ghost use Rattle.wax_walk.specs.Ruled.{ruled_view};
+ghost use Rattle.wax_exclude.specs.Wanted.{Filter};
+
+use crate::law::law_of_walks;
+use std::alloc::Global;
+use wax_filter::filter::Separation;
+use wax_glob_walk::FilterAny;
+use wax_query::diagnostics::NoMemory;
+use wax_walk::{Entry, FileIterator, Rule, WalkError, collect, collect_feed};
+
+/// The items that are kept of a walk, in order, errors among them, and the directory. What is known of the
+/// walk's entries holds of each. Where the walk is that of a glob less what patterns mean, its entries are
+/// those of the plain walk that the glob means and no pattern means. Where memory is refused for the list
+/// itself, nothing is answered.
+pub fn collect_wanted<I>(
+    alloc: Global,
+    walk: I,
+) -> Result<(Vec<Result<I::Entry, WalkError>>, I::Directory), NoMemory>
+where
+    I: FileIterator,
+    requires can { I.can_feed walk }
+    requires ends { IsFinite (I.left walk) }
+    ensures took { IfOk result (λ r. (xs : List Given) × Took I.Directory.law (I.view walk) r.1 xs
+        × (length xs ≤ size (I.left walk))
+        × (map (given_outcome I.Entry.facts I.Residue.facts) r.0.items ≡ filter is_kept xs)) }
+    ensures known { IfOk result (λ r. All (KnownOutcome (I.known walk)) r.0.items) }
+    ensures wanted { IfOk result (λ r. (d : I.Directory) (trip : Trip) (s : Shown) (listed : List (List ℕ))
+        → ComesWanted I.Directory.law d trip (I.view walk)
+        → MayGo trip
+        → I.Directory.law.shows d trip.way.path s → I.Directory.law.tells d listed
+        → KeepsWanted (I.Directory.law.tells r.1) trip s listed
+        (map (given_outcome I.Entry.facts I.Residue.facts) r.0.items)) }
+{
+    law_of_walks();
+    collect(alloc, walk)
+}
+
+/// All items of the feed of a walk in order, kept or left out, errors among those that are kept, and the
+/// directory. What is known of the walk's entries holds of those that are kept. Where the walk is that of a
+/// glob less what patterns mean, this is what comes of it. Where memory is refused for the list itself,
+/// nothing is answered.
+pub fn collect_wanted_feed<I>(
+    alloc: Global,
+    walk: I,
+) -> Result<(Vec<Separation<I::Feed>>, I::Directory), NoMemory>
+where
+    I: FileIterator,
+    requires can { I.can_feed walk }
+    requires ends { IsFinite (I.left walk) }
+    ensures took { IfOk result (λ r. Took I.Directory.law (I.view walk) r.1
+        (map (given_of I.Entry.facts I.Residue.facts) r.0.items)) }
+    ensures few { IfOk result (λ r. length r.0.items ≤ size (I.left walk)) }
+    ensures known { IfOk result (λ r. All (KnownItem (I.known walk)) r.0.items) }
+    ensures wanted { IfOk result (λ r. (d : I.Directory) (trip : Trip) (s : Shown) (listed : List (List ℕ))
+        → ComesWanted I.Directory.law d trip (I.view walk)
+        → I.Directory.law.shows d trip.way.path s → I.Directory.law.tells d listed
+        → GaveAll (I.Directory.law.tells r.1) (trip.walked.budget + 1) (trip_pending trip s listed)
+        (map (given_of I.Entry.facts I.Residue.facts) r.0.items)) }
+{
+    collect_feed(alloc, walk)
+}
+
+/// The items that are kept of a walk less what these rules leave out, in order, errors among them, and the
+/// directory, as `collect_wanted` gives them. Where the walk is that of a glob and the rules are those of
+/// filters, its entries are those of the plain walk that the glob means and no filter leaves out.
+pub fn collect_less<I, R>(
+    alloc: Global,
+    walk: I,
+    rules: Vec<R>,
+) -> Result<(Vec<Result<I::Entry, WalkError>>, I::Directory), NoMemory>
+where
+    I: FileIterator,
+    R: Rule,
+    requires can { I.can_feed walk }
+    requires ends { IsFinite (I.left walk) }
+    ensures took { IfOk result (λ r. (xs : List Given)
+        × Took I.Directory.law (ruled_view (I.view walk) (any_mark (map R.rule rules.items)) false) r.1 xs
+        × (length xs ≤ size (I.left walk))
+        × (map (given_outcome I.Entry.facts I.Residue.facts) r.0.items ≡ filter is_kept xs)) }
+    ensures known { IfOk result (λ r. All (KnownOutcome (I.known walk)) r.0.items) }
+    ensures wanted { IfOk result (λ r. (d : I.Directory) (trip : Trip) (filters : List (Filter Span))
+        (s : Shown) (listed : List (List ℕ)) → ComesWanted I.Directory.law d trip (I.view walk)
+        → AreRulesOf filters (map R.rule rules.items) → MayGo (trip_less trip filters)
+        → I.Directory.law.shows d trip.way.path s → I.Directory.law.tells d listed
+        → KeepsWanted (I.Directory.law.tells r.1) (trip_less trip filters) s listed
+        (map (given_outcome I.Entry.facts I.Residue.facts) r.0.items)) }
+{
+    let kept = walk.without(alloc, FilterAny::new(rules));
+    collect_wanted(alloc, kept)
+}

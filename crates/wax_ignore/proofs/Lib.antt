@@ -1,4 +1,0 @@
-pub mod Keeping
-pub mod Listing
-pub mod Worked
-pub mod Written

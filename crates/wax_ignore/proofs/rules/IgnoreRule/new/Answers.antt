@@ -1,5 +1,0 @@
-use Rattle.wax_ignore.proofs.Listing.{says_lines}
-use Rattle.wax_ignore.proofs.rules.IgnoreRule.new.Goals as goal
-
-pub returns-clause-says : goal.returns-clause-says
-returns-clause-says c = λ lines held. says_lines (record { lines = c.args.lines }) lines held

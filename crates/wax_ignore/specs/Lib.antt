@@ -1,4 +1,0 @@
-pub mod Held
-pub mod Kept
-pub mod Lines
-pub mod inner

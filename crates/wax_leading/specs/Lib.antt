@@ -1,3 +1,0 @@
-pub mod Compiled
-pub mod Excluded
-pub mod Prefix

@@ -1,0 +1,85 @@
+//! Meta characters, and texts in which they are escaped.
+ghost use Rattle.std.specs.Prelude.{◌≡◌, ◌++◌, ◌↔◌, ℕ, IfOk, IsOkAnd, List, OnOk, false};
+ghost use Rattle.std.specs.Prelude.{chars, codes, encode_utf8_all, string_bytes};
+ghost use Rattle.std.specs.Cow.{IsBorrowedStr, cow_str_bytes};
+ghost use Rattle.std.specs.List.{list_any};
+ghost use Rattle.wax_token.specs.Meaning.{Means};
+ghost use Rattle.wax_token.specs.Reads.{Reads, Span, all_spelled, escapable, is_one_of, spelled};
+ghost use Rattle.wax_token.specs.Syntax.{Tree};
+ghost use Rattle.wax_parse.specs.Backslash.{HasNoBackslash};
+
+use std::alloc::{AllocError, Global};
+use std::borrow::CowStr;
+use wax_query::diagnostics::NoMemory;
+
+/// Whether the character belongs to a literal only where a backslash stands before it.
+pub fn is_meta_character(character: char) -> bool
+    ensures { result ≡ is_one_of escapable character }
+{
+    matches!(
+        character,
+        '?' | '*' | '$' | ':' | '<' | '>' | '(' | ')' | '[' | ']' | '{' | '}' | ','
+    )
+}
+
+/// Whether the character belongs to a literal as it stands, but has a meaning of its own inside a class
+/// and a flag group.
+pub fn is_contextual_meta_character(character: char) -> bool
+    ensures { result ≡ is_one_of (codes "-") character }
+{
+    character == '-'
+}
+
+/// The text with a backslash before each meta character, borrowed where it has none. This is an
+/// expression that means the text and nothing else, unless the text holds a backslash: those can't be
+/// escaped, and then it is no expression at all. Refused with 10 where memory is, and never where the
+/// text is borrowed. It takes two passes over the text, and memory for one copy.
+pub fn escape<'t>(alloc: Global, text: &'t str) -> Result<CowStr<'t>, NoMemory>
+    ensures exact { IfOk result (λ e. chars (cow_str_bytes e) ≡ all_spelled escapable (chars text.now)) }
+    ensures means { IfOk result (λ e. (t : Tree Span) → Reads (chars (cow_str_bytes e)) t
+        → (s : List ℕ) → Means t false false s ↔ (s ≡ chars text.now)) }
+    ensures spells { IfOk result (λ e. ((t : Tree Span) × Reads (chars (cow_str_bytes e)) t)
+        ↔ HasNoBackslash (chars text.now)) }
+    ensures borrowed { list_any (is_one_of escapable) (chars text.now) ≡ false
+        → IsOkAnd result IsBorrowedStr }
+{
+    if !has_meta_character(text) {
+        return Ok(CowStr::Borrowed(text));
+    }
+    let escaped = with_backslashes(alloc, text)?;
+    Ok(CowStr::Owned(escaped))
+}
+
+/// Whether a character of the text is a meta character.
+fn has_meta_character(text: &str) -> bool
+    ensures { result ≡ list_any (is_one_of escapable) (chars text.now) }
+{
+    for character in text.chars() {
+        if is_meta_character(character) {
+            return true;
+        }
+    }
+    false
+}
+
+/// A copy of the text with a backslash before each meta character.
+fn with_backslashes(alloc: Global, text: &str) -> Result<String, AllocError>
+    ensures { IfOk result (λ e. chars (string_bytes e) ≡ all_spelled escapable (chars text.now)) }
+{
+    let mut escaped = String::new(alloc);
+    for character in text.chars() {
+        push_escaped(&mut escaped, character)?;
+    }
+    Ok(escaped)
+}
+
+/// Pushes the character, after a backslash if it is a meta character.
+fn push_escaped(escaped: &mut String, character: char) -> Result<(), AllocError>
+    ensures { OnOk result (string_bytes escaped.new
+        ≡ string_bytes escaped.old ++ encode_utf8_all (spelled escapable character)) }
+{
+    if is_meta_character(character) {
+        escaped.push('\\')?;
+    }
+    escaped.push(character)
+}

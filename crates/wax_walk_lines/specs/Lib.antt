@@ -1,3 +1,0 @@
-pub mod Candidates
-pub mod Wanted
-pub mod inner
