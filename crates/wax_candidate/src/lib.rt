@@ -3,8 +3,10 @@
 
 mod candidate;
 mod matched;
+mod matcher;
 mod program;
 
 pub use candidate::CandidatePath;
 pub use matched::MatchedText;
+pub use matcher::{BuildMatcher, PathMatcher, ProgramMatcher};
 pub use program::Program;

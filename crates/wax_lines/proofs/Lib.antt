@@ -2,4 +2,5 @@ pub mod Cuts
 pub mod Sifting
 pub mod Counting
 pub mod Runs
+pub mod Same
 pub mod Tabs

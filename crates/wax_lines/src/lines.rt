@@ -8,7 +8,7 @@ use crate::counted::Counted;
 use std::alloc::{AllocError, Global};
 use std::io::{Read, Write};
 use thiserror::Error;
-use wax_candidate::Program;
+use wax_candidate::BuildMatcher;
 use wax_query::diagnostics::NoMemory;
 
 mod line_writer;
@@ -64,12 +64,12 @@ impl From<AllocError> for LinesError {
 /// a read: the output of all lines that were read whole was written. Refused with 10 where memory is:
 /// so it was, but for lines that end in the last read, of at most 65,536 bytes. Refused with 19 where a
 /// write fails or takes nothing: a beginning of the output of such lines was written. Takes memory for
-/// the longest line and a few chunks of 65,536 bytes.
-pub fn filter_lines<R: Read, W: Write, P: Program>(
+/// the longest line, a few chunks of 65,536 bytes and a matcher of the program, for all lines.
+pub fn filter_lines<'p, R: Read, W: Write, P: BuildMatcher<'p>>(
     alloc: Global,
     input: &mut Counted<R>,
     output: &mut Counted<W>,
-    program: &P,
+    program: &'p P,
 ) -> Result<u64, LinesError>
     ensures done { IfOk result (Filtered (WritesMeant (P.means program.now))
         (R.remaining input.old.inner) (R.remaining input.new.inner)
@@ -82,7 +82,8 @@ pub fn filter_lines<R: Read, W: Write, P: Program>(
     ensures write_failed { IsErrOf result LinesError.Write →
         (output.old.failures < output.new.failures) ⊎ (output.new.failures ≡ greatest_count) }
 {
-    sift_lines(alloc, input, output, &MeantLines { program })
+    let matcher = program.build_matcher(alloc)?;
+    sift_lines(alloc, input, output, &mut MeantLines { matcher })
 }
 
 /// Writes for each line of the input that is text and that the program means the line and each of its
@@ -91,13 +92,13 @@ pub fn filter_lines<R: Read, W: Write, P: Program>(
 /// empty, at the end of the input.
 ///
 /// Refused with 18, 10 and 19 where `filter_lines` is, and what is then written is told in the same way:
-/// of a line for which memory is refused no part is. Takes memory for the longest line with its captures
-/// and a few chunks of 65,536 bytes.
-pub fn capture_lines<R: Read, W: Write, P: Program>(
+/// of a line for which memory is refused no part is. Takes memory for the longest line with its captures, a
+/// few chunks of 65,536 bytes and one matcher of the program: only lines that it matches are captured from.
+pub fn capture_lines<'p, R: Read, W: Write, P: BuildMatcher<'p>>(
     alloc: Global,
     input: &mut Counted<R>,
     output: &mut Counted<W>,
-    program: &P,
+    program: &'p P,
 ) -> Result<u64, LinesError>
     ensures done { IfOk result (Filtered (WritesCaptures (P.means program.now) (P.captured program.now))
         (R.remaining input.old.inner) (R.remaining input.new.inner)
@@ -110,7 +111,13 @@ pub fn capture_lines<R: Read, W: Write, P: Program>(
     ensures write_failed { IsErrOf result LinesError.Write →
         (output.old.failures < output.new.failures) ⊎ (output.new.failures ≡ greatest_count) }
 {
-    sift_lines(alloc, input, output, &CapturedLines { program })
+    let matcher = program.build_matcher(alloc)?;
+    let mut line_writer = CapturedLines {
+        alloc,
+        program,
+        matcher,
+    };
+    sift_lines(alloc, input, output, &mut line_writer)
 }
 
 // Writes what the writer of lines gives of each line of the input.
@@ -118,12 +125,12 @@ fn sift_lines<R: Read, W: Write, L: LineWriter>(
     alloc: Global,
     input: &mut Counted<R>,
     output: &mut Counted<W>,
-    line_writer: &L,
+    line_writer: &mut L,
 ) -> Result<u64, LinesError>
-    ensures done { IfOk result (Filtered (L.writes line_writer.now)
+    ensures done { IfOk result (Filtered (L.writes (L.view line_writer.old))
         (R.remaining input.old.inner) (R.remaining input.new.inner)
         (W.contents output.old.inner) (W.contents output.new.inner)) }
-    ensures stopped { IfErr result (Stopped (L.writes line_writer.now)
+    ensures stopped { IfErr result (Stopped (L.writes (L.view line_writer.old))
         (R.remaining input.old.inner) (R.remaining input.new.inner)
         (W.contents output.old.inner) (W.contents output.new.inner)) }
     ensures read_failed { IsErrOf result LinesError.Read →
@@ -133,7 +140,7 @@ fn sift_lines<R: Read, W: Write, L: LineWriter>(
 {
     let mut chunk = vec![in alloc; 0u8; CHUNK]?;
     let mut sieve = Sieve::new(alloc);
-    let taken = take_all(alloc, input, output, line_writer, &mut chunk, &mut sieve);
+    let taken = take_all(input, output, line_writer, &mut chunk, &mut sieve);
     sieve.write_out(output)?;
     taken?;
     Ok(sieve.not_text())
@@ -141,19 +148,18 @@ fn sift_lines<R: Read, W: Write, L: LineWriter>(
 
 // Takes the whole input into the sieve, and writes what waits once it is long.
 fn take_all<R: Read, W: Write, L: LineWriter>(
-    alloc: Global,
     input: &mut Counted<R>,
     output: &mut Counted<W>,
-    line_writer: &L,
+    line_writer: &mut L,
     chunk: &mut [u8],
     sieve: &mut Sieve,
 ) -> Result<(), LinesError>
     requires room { length chunk.old ≡ CHUNK }
-    requires fresh { SieveSifted (L.writes line_writer.now) [] [] sieve.old }
-    ensures done { OnOk result (Finished (L.writes line_writer.now)
+    requires fresh { SieveSifted (L.writes (L.view line_writer.old)) [] [] sieve.old }
+    ensures done { OnOk result (Finished (L.writes (L.view line_writer.old))
         (R.remaining input.old.inner) (R.remaining input.new.inner)
         (W.contents output.old.inner) (W.contents output.new.inner) sieve.new) }
-    ensures stopped { IfErr result (Halted (L.writes line_writer.now)
+    ensures stopped { IfErr result (Halted (L.writes (L.view line_writer.old))
         (R.remaining input.old.inner) (R.remaining input.new.inner)
         (W.contents output.old.inner) (W.contents output.new.inner) sieve.new) }
     ensures read_failed { IsErrOf result LinesError.Read →
@@ -161,16 +167,17 @@ fn take_all<R: Read, W: Write, L: LineWriter>(
     ensures write_failed { IsErrOf result LinesError.Write →
         (output.old.failures < output.new.failures) ⊎ (output.new.failures ≡ greatest_count) }
     ensures steady { output.old.failures ≤ output.new.failures }
+    ensures same { L.view line_writer.new ≡ L.view line_writer.old }
 {
     while input.calls() < u64::MAX {
         let Ok(count) = input.read(chunk) else {
             return Err(LinesError::Read);
         };
         if count == 0 {
-            sieve.take_last(alloc, line_writer)?;
+            sieve.take_last(line_writer)?;
             return Ok(());
         }
-        sieve.take(alloc, line_writer, &chunk[..count])?;
+        sieve.take(line_writer, &chunk[..count])?;
         if sieve.waiting() >= CHUNK {
             sieve.write_out(output)?;
         }

@@ -1,62 +1,92 @@
 //! What is written for a line that is text.
-ghost use Rattle.std.specs.Prelude.{◌≡◌, ℕ, List, [], ◌∷◌, ◌++◌, OnOk, OnErr, chars};
+ghost use Rattle.std.specs.Prelude.{◌≡◌, ℕ, Bool, List, [], ◌∷◌, ◌++◌, OnOk, OnErr, chars};
 ghost use Rattle.wax_candidate.specs.Matched.{texts};
 ghost use Rattle.wax_lines.specs.Lines.{WritesMeant, WritesCaptures, tabbed};
+ghost use Rattle.wax_lines.specs.inner.Matching.{IsMatchedBy, IsMatchedByBoth};
 
 use std::alloc::{AllocError, Global};
-use wax_candidate::{CandidatePath, MatchedText, Program};
+use wax_candidate::{CandidatePath, MatchedText, PathMatcher, Program};
 use wax_query::diagnostics::NoMemory;
 
 /// Writes what a line gives.
 pub trait LineWriter {
+    // What contracts see of it.
+    ghost View: { Type 0 };
+
+    ghost view: { Self → View };
+
     // The bytes that may be written for a text, as its characters.
-    ghost writes: { Self → List ℕ → List ℕ → Type 0 };
+    ghost writes: { View → List ℕ → List ℕ → Type 0 };
 
     /// What the line gives is added, or nothing where memory is refused.
-    fn write_line(&self, alloc: Global, line: &str, out: &mut Vec<u8>) -> Result<(), NoMemory>
-        ensures ok { OnOk result ((added : List ℕ) × writes self.now (chars line.now) added
+    fn write_line(&mut self, line: &str, out: &mut Vec<u8>) -> Result<(), NoMemory>
+        ensures ok { OnOk result ((added : List ℕ) × writes (view self.old) (chars line.now) added
             × (out.new.items ≡ out.old.items ++ added)) }
-        ensures err { OnErr result (out.new.items ≡ out.old.items) };
+        ensures err { OnErr result (out.new.items ≡ out.old.items) }
+        ensures same { view self.new ≡ view self.old };
 }
 
-/// Writes each line that a program means, with a line feed.
-#[derive(Clone, Copy)]
-pub struct MeantLines<'p, P> {
-    pub program: &'p P,
+/// Writes each line that a matcher means, with a line feed.
+#[derive(Drop)]
+pub struct MeantLines<M> {
+    pub matcher: M,
 }
 
-impl<P: Program> LineWriter for MeantLines<'_, P> {
-    ghost writes = { λ lines. WritesMeant (P.means lines.program.now) };
+impl<M: PathMatcher> LineWriter for MeantLines<M> {
+    ghost View = { List ℕ → Bool };
 
-    fn write_line(&self, alloc: Global, line: &str, out: &mut Vec<u8>) -> Result<(), NoMemory> {
-        if self.program.is_match(alloc, &CandidatePath::from(line))? {
+    ghost view = { λ lines. M.decides lines.matcher };
+
+    ghost writes = { λ decides. WritesMeant (IsMatchedBy decides) };
+
+    fn write_line(&mut self, line: &str, out: &mut Vec<u8>) -> Result<(), NoMemory> {
+        if self.matcher.is_match(&CandidatePath::from(line))? {
             add_whole(line.as_bytes(), out)?;
         }
         Ok(())
     }
 }
 
-/// Writes each line that a program means with what is captured of it, a tab between, and a line feed.
-#[derive(Clone, Copy)]
-pub struct CapturedLines<'p, P> {
+/// Writes each line that both a matcher and a program mean, with what the program captures of it, a tab
+/// between, and a line feed.
+#[derive(Drop)]
+pub struct CapturedLines<'p, P, M> {
+    pub alloc: Global,
     pub program: &'p P,
+    pub matcher: M,
 }
 
-impl<P: Program> LineWriter for CapturedLines<'_, P> {
-    ghost writes = { λ lines. WritesCaptures (P.means lines.program.now) (P.captured lines.program.now) };
+impl<P: Program, M: PathMatcher> LineWriter for CapturedLines<'_, P, M> {
+    ghost View = { (List ℕ → Bool) × P };
 
-    fn write_line(&self, alloc: Global, line: &str, out: &mut Vec<u8>) -> Result<(), NoMemory> {
+    ghost view = { λ lines. (M.decides lines.matcher, lines.program.now) };
+
+    ghost writes = { λ v. WritesCaptures (IsMatchedByBoth v.0 (P.means v.1)) (P.captured v.1) };
+
+    fn write_line(&mut self, line: &str, out: &mut Vec<u8>) -> Result<(), NoMemory> {
         let path = CandidatePath::from(line);
-        let Some(matched) = self.program.matched(alloc, &path)? else {
+        if !self.matcher.is_match(&path)? {
+            return Ok(());
+        }
+        let Some(matched) = self.program.matched(self.alloc, &path)? else {
             return Ok(());
         };
-        let old_len = out.len();
-        let Ok(()) = add_texts(&matched, out) else {
-            out.truncate(old_len);
-            return Err(NoMemory);
-        };
+        add_matched(&matched, out)?;
         Ok(())
     }
+}
+
+// The text, its captures and a line feed, or nothing.
+fn add_matched(matched: &MatchedText<'_>, out: &mut Vec<u8>) -> Result<(), NoMemory>
+    ensures ok { OnOk result (out.new.items ≡ out.old.items ++ (tabbed (texts matched.now) ++ 10 ∷ [])) }
+    ensures err { OnErr result (out.new.items ≡ out.old.items) }
+{
+    let old_len = out.len();
+    let Ok(()) = add_texts(matched, out) else {
+        out.truncate(old_len);
+        return Err(NoMemory);
+    };
+    Ok(())
 }
 
 // A line and a line feed, or nothing.

@@ -32,24 +32,20 @@ pub struct Sieve {
 
 impl Kept {
     // One line, without its line feed.
-    fn add_line<L: LineWriter>(
-        &mut self,
-        alloc: Global,
-        line_writer: &L,
-        line: &[u8],
-    ) -> Result<(), NoMemory>
+    fn add_line<L: LineWriter>(&mut self, line_writer: &mut L, line: &[u8]) -> Result<(), NoMemory>
         ensures ok { OnOk result ((out : List ℕ) × (bad : ℕ)
-            × Gives (L.writes line_writer.now) line.now out bad
+            × Gives (L.writes (L.view line_writer.old)) line.now out bad
             × (self.new.bytes.items ≡ self.old.bytes.items ++ out)
             × CountsMore self.old.not_text self.new.not_text bad) }
         ensures bytes { OnErr result (self.new.bytes.items ≡ self.old.bytes.items) }
         ensures not_text { OnErr result (self.new.not_text ≡ self.old.not_text) }
+        ensures same { L.view line_writer.new ≡ L.view line_writer.old }
     {
         let Ok(text) = str::from_utf8(line) else {
             self.not_text = self.not_text.saturating_add(1);
             return Ok(());
         };
-        line_writer.write_line(alloc, text, &mut self.bytes)
+        line_writer.write_line(text, &mut self.bytes)
     }
 }
 
@@ -84,93 +80,88 @@ impl Sieve {
     }
 
     /// Takes the next bytes of the input, or a beginning of them where memory is refused.
-    pub fn take<L: LineWriter>(
-        &mut self,
-        alloc: Global,
-        line_writer: &L,
-        chunk: &[u8],
-    ) -> Result<(), NoMemory>
-        ensures ok { OnOk result (TakesIn (L.writes line_writer.now) chunk.now self.old self.new) }
-        ensures err { OnErr result (TakesInPart (L.writes line_writer.now) chunk.now self.old self.new) }
+    pub fn take<L: LineWriter>(&mut self, line_writer: &mut L, chunk: &[u8]) -> Result<(), NoMemory>
+        ensures ok { OnOk result (TakesIn (L.writes (L.view line_writer.old)) chunk.now self.old self.new) }
+        ensures err { OnErr result (TakesInPart (L.writes (L.view line_writer.old))
+            chunk.now self.old self.new) }
+        ensures same { L.view line_writer.new ≡ L.view line_writer.old }
     {
         let Some((end, after)) = split_line(chunk) else {
             self.carry.extend_from_slice(chunk)?;
             return Ok(());
         };
-        self.take_line(alloc, line_writer, end)?;
-        self.take_after(alloc, line_writer, after)
+        self.take_line(line_writer, end)?;
+        self.take_after(line_writer, after)
     }
 
     // Takes bytes at the beginning of a line: as one text, if what comes before the last line feed is text.
     fn take_after<L: LineWriter>(
         &mut self,
-        alloc: Global,
-        line_writer: &L,
+        line_writer: &mut L,
         bytes: &[u8],
     ) -> Result<(), NoMemory>
         requires { self.old.carry.items ≡ [] }
-        ensures ok { OnOk result (TakesIn (L.writes line_writer.now) bytes.now self.old self.new) }
-        ensures err { OnErr result (TakesInPart (L.writes line_writer.now) bytes.now self.old self.new) }
+        ensures ok { OnOk result (TakesIn (L.writes (L.view line_writer.old)) bytes.now self.old self.new) }
+        ensures err { OnErr result (TakesInPart (L.writes (L.view line_writer.old))
+            bytes.now self.old self.new) }
+        ensures same { L.view line_writer.new ≡ L.view line_writer.old }
     {
         let Some((text, open)) = split_text(bytes) else {
-            return self.take_bytes(alloc, line_writer, bytes);
+            return self.take_bytes(line_writer, bytes);
         };
-        self.take_text(alloc, line_writer, text)?;
+        self.take_text(line_writer, text)?;
         self.carry.extend_from_slice(open)?;
         Ok(())
     }
 
     // Takes a text and a line feed at the beginning of a line.
-    fn take_text<L: LineWriter>(
-        &mut self,
-        alloc: Global,
-        line_writer: &L,
-        text: &str,
-    ) -> Result<(), NoMemory>
+    fn take_text<L: LineWriter>(&mut self, line_writer: &mut L, text: &str) -> Result<(), NoMemory>
         requires { self.old.carry.items ≡ [] }
-        ensures ok { OnOk result (TakesIn (L.writes line_writer.now)
+        ensures ok { OnOk result (TakesIn (L.writes (L.view line_writer.old))
             (text.now ++ 10 ∷ []) self.old self.new) }
-        ensures err { OnErr result (TakesInPart (L.writes line_writer.now)
+        ensures err { OnErr result (TakesInPart (L.writes (L.view line_writer.old))
             (text.now ++ 10 ∷ []) self.old self.new) }
+        ensures same { L.view line_writer.new ≡ L.view line_writer.old }
     {
         let mut rest = text;
         while let Some((line, after)) = split_at_feed(rest) {
-            self.take_text_line(alloc, line_writer, line)?;
+            self.take_text_line(line_writer, line)?;
             rest = after;
         }
-        self.take_text_line(alloc, line_writer, rest)
+        self.take_text_line(line_writer, rest)
     }
 
     // A line that is text, without its line feed.
     fn take_text_line<L: LineWriter>(
         &mut self,
-        alloc: Global,
-        line_writer: &L,
+        line_writer: &mut L,
         line: &str,
     ) -> Result<(), NoMemory>
         requires carry { self.old.carry.items ≡ [] }
         requires line { HasNoFeed line.now }
         ensures carry { self.new.carry.items ≡ [] }
-        ensures ok { OnOk result (TakesIn (L.writes line_writer.now)
+        ensures ok { OnOk result (TakesIn (L.writes (L.view line_writer.old))
             (line.now ++ 10 ∷ []) self.old self.new) }
-        ensures err { OnErr result (TakesIn (L.writes line_writer.now) [] self.old self.new) }
+        ensures err { OnErr result (TakesIn (L.writes (L.view line_writer.old)) [] self.old self.new) }
+        ensures same { L.view line_writer.new ≡ L.view line_writer.old }
     {
-        line_writer.write_line(alloc, line, &mut self.kept.bytes)
+        line_writer.write_line(line, &mut self.kept.bytes)
     }
 
     // Takes the next bytes of the input line by line, each checked by itself.
     fn take_bytes<L: LineWriter>(
         &mut self,
-        alloc: Global,
-        line_writer: &L,
+        line_writer: &mut L,
         bytes: &[u8],
     ) -> Result<(), NoMemory>
-        ensures ok { OnOk result (TakesIn (L.writes line_writer.now) bytes.now self.old self.new) }
-        ensures err { OnErr result (TakesInPart (L.writes line_writer.now) bytes.now self.old self.new) }
+        ensures ok { OnOk result (TakesIn (L.writes (L.view line_writer.old)) bytes.now self.old self.new) }
+        ensures err { OnErr result (TakesInPart (L.writes (L.view line_writer.old))
+            bytes.now self.old self.new) }
+        ensures same { L.view line_writer.new ≡ L.view line_writer.old }
     {
         let mut rest = bytes;
         while let Some((line, after)) = split_line(rest) {
-            self.take_line(alloc, line_writer, line)?;
+            self.take_line(line_writer, line)?;
             rest = after;
         }
         self.carry.extend_from_slice(rest)?;
@@ -178,39 +169,34 @@ impl Sieve {
     }
 
     // The end of a line, without its line feed.
-    fn take_line<L: LineWriter>(
-        &mut self,
-        alloc: Global,
-        line_writer: &L,
-        end: &[u8],
-    ) -> Result<(), NoMemory>
+    fn take_line<L: LineWriter>(&mut self, line_writer: &mut L, end: &[u8]) -> Result<(), NoMemory>
         requires { HasNoFeed end.now }
         ensures carry { OnOk result (self.new.carry.items ≡ []) }
-        ensures ok { OnOk result (TakesIn (L.writes line_writer.now) (end.now ++ 10 ∷ []) self.old self.new) }
-        ensures err { OnErr result (TakesInPart (L.writes line_writer.now) end.now self.old self.new) }
+        ensures ok { OnOk result (TakesIn (L.writes (L.view line_writer.old))
+            (end.now ++ 10 ∷ []) self.old self.new) }
+        ensures err { OnErr result (TakesInPart (L.writes (L.view line_writer.old))
+            end.now self.old self.new) }
+        ensures same { L.view line_writer.new ≡ L.view line_writer.old }
     {
         if self.carry.is_empty() {
-            return self.kept.add_line(alloc, line_writer, end);
+            return self.kept.add_line(line_writer, end);
         }
         self.carry.extend_from_slice(end)?;
-        self.kept.add_line(alloc, line_writer, &self.carry)?;
+        self.kept.add_line(line_writer, &self.carry)?;
         self.carry.clear();
         Ok(())
     }
 
     /// The end of the input: the rest is a line too, if there is one.
-    pub fn take_last<L: LineWriter>(
-        &mut self,
-        alloc: Global,
-        line_writer: &L,
-    ) -> Result<(), NoMemory>
-        ensures ok { OnOk result (TakesLast (L.writes line_writer.now) self.old self.new) }
-        ensures err { OnErr result (TakesIn (L.writes line_writer.now) [] self.old self.new) }
+    pub fn take_last<L: LineWriter>(&mut self, line_writer: &mut L) -> Result<(), NoMemory>
+        ensures ok { OnOk result (TakesLast (L.writes (L.view line_writer.old)) self.old self.new) }
+        ensures err { OnErr result (TakesIn (L.writes (L.view line_writer.old)) [] self.old self.new) }
+        ensures same { L.view line_writer.new ≡ L.view line_writer.old }
     {
         if self.carry.is_empty() {
             return Ok(());
         }
-        self.kept.add_line(alloc, line_writer, &self.carry)
+        self.kept.add_line(line_writer, &self.carry)
     }
 
     /// Writes what waits, which then waits no more. Refused with 19 where a write fails or takes nothing:

@@ -1,5 +1,6 @@
-use Rattle.std.proofs.Common.{[], ◌∷◌, ◌++◌, ap, ◌∙◌, append_assoc}
+use Rattle.std.proofs.Common.{[], ◌∷◌, ◌++◌, ap, ◌∙◌, subst, append_assoc}
 use Rattle.std.proofs.lemmas.Result.{on_err_weaker}
+use Rattle.wax_lines.specs.inner.Progress.{TakesIn}
 use Rattle.wax_lines.proofs.Sifting.{TakesIn-then, on_err}
 use Rattle.wax_lines.proofs.lines.sieve.Sieve.take.Goals as goal
 
@@ -22,6 +23,7 @@ returns-clause-err g c =
       (end ++ 10 ∷ []) ++ part,
       rest,
       cut ∙ ap (λ z. end ++ 10 ∷ z) parts ∙ simp append_assoc,
-      TakesIn-then (g.L.LineWriter.writes c.args.line_writer.now) c.args.self.now c.take_line.new.self c.take_after.new.self
-          (end ++ 10 ∷ []) part c.in_ok-take_line.ensures.ok more,
+      TakesIn-then (g.L.LineWriter.writes (g.L.LineWriter.view c.args.line_writer.now)) c.args.self.now c.take_line.new.self c.take_after.new.self
+          (end ++ 10 ∷ []) part c.in_ok-take_line.ensures.ok
+          (subst (λ v. TakesIn (g.L.LineWriter.writes v) part c.take_line.new.self c.take_after.new.self) c.take_line.ensures.same more),
     )) c.take_after.ensures.err

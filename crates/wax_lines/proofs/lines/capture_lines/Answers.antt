@@ -1,0 +1,25 @@
+use Rattle.std.proofs.Common.{sym, subst}
+use Rattle.std.proofs.lemmas.Result.{IfOk-weaker, IfErr-weaker}
+use Rattle.wax_lines.specs.Lines.{Stopped, WritesCaptures}
+use Rattle.wax_lines.proofs.Runs.{stopped_at_once}
+use Rattle.wax_lines.proofs.Same.{filtered_as, stopped_as, captured_as}
+use Rattle.wax_lines.proofs.Sifting.{if_err}
+use Rattle.wax_lines.proofs.lines.capture_lines.Goals as goal
+
+pub returns-in_err-matcher-clause-stopped : goal.returns-in_err-matcher-clause-stopped
+returns-in_err-matcher-clause-stopped g c =
+    let left = g.R.Read.remaining c.args.input.now.inner in
+    let held = g.W.Write.contents c.args.output.now.inner in
+    let Writes = WritesCaptures (g.P.Program.means c.args.program.now) (g.P.Program.captured c.args.program.now) in
+    if_err _ c.from_residual.result c.from_residual.ensures.1
+    (λ e q. subst (Stopped Writes left left held held) (sym q) (stopped_at_once Writes left held))
+
+pub returns-clause-done : goal.returns-clause-done
+returns-clause-done g c =
+    let alike = captured_as _ _ (g.P.Program.means c.args.program.now) c.in_ok-matcher.ensures (g.met.P.Program.is_decided c.args.program.now) (g.P.Program.captured c.args.program.now) in
+    IfOk-weaker c.sift_lines.result _ _ (λ answer h. filtered_as _ _ alike _ _ _ _ answer h) c.sift_lines.ensures.done
+
+pub returns-clause-stopped : goal.returns-clause-stopped
+returns-clause-stopped g c =
+    let alike = captured_as _ _ (g.P.Program.means c.args.program.now) c.in_ok-matcher.ensures (g.met.P.Program.is_decided c.args.program.now) (g.P.Program.captured c.args.program.now) in
+    IfErr-weaker c.sift_lines.result _ _ (λ error h. stopped_as _ _ alike _ _ _ _ error h) c.sift_lines.ensures.stopped
