@@ -3,13 +3,13 @@ use Rattle.std.proofs.Common.{◌≡◌, ◌∙◌, ◌≤◌, ◌<◌, ◌+◌,
 use Rattle.std.specs.Str.{IsUtf8}
 use Rattle.std.proofs.lemmas.Bool.{ltb-false, ltb-true}
 use Rattle.std.proofs.lemmas.Str.{encodes-chars}
-use Rattle.wax_collect.specs.Trips.{ComesWanted, is_beyond}
+use Rattle.wax_exclude.specs.Trips.{ComesWanted, is_beyond}
 use Rattle.wax_directory.specs.Names.{is_rooted, names_in_path}
 use Rattle.wax_glob_walk.specs.Programs.{leading_mark, leads, means_mark}
-use Rattle.wax_depth.specs.Depth.{Depth}
+use Rattle.wax_components.specs.Depth.{Depth}
 use Rattle.wax_directory.specs.Law.{Law}
 use Rattle.wax_facts.specs.Prefix.{Prefix}
-use Rattle.wax_leading.specs.Prefix.{HasEmptyName, IsPrefixWay}
+use Rattle.wax_exclude.specs.Prefix.{HasEmptyName, IsPrefixWay}
 use Rattle.wax_query.specs.Ranges.{Bounds}
 use Rattle.wax_tree.specs.Begins.{BeginsAt, HasEnded, LacksMemory}
 use Rattle.wax_tree.specs.declared.steps.Range.{Range}
@@ -17,16 +17,16 @@ use Rattle.wax_tree.specs.Plain.{count_shown}
 use Rattle.wax_walk.specs.Ruled.{ruled_view}
 use Rattle.wax_walk.specs.View.{IsSeenAs, WalkView}
 use Rattle.wax_tree.specs.Prefix.{ArePlain}
-use Rattle.wax_wanted.specs.Wanted.{Filter}
-use Rattle.wax_wanted.specs.Premises.{CanWalk}
-use Rattle.wax_wanted.specs.Walked.{glob_walk, way_walk}
+use Rattle.wax_exclude.specs.Wanted.{Filter}
+use Rattle.wax_exclude.specs.Premises.{CanWalk}
+use Rattle.wax_exclude.specs.Walked.{glob_walk, way_walk}
 use Rattle.wax_token.specs.Decided.{means_test}
 use Rattle.wax_token.specs.Reads.{Span}
 use Rattle.wax_token.specs.Syntax.{Tree}
 use Rattle.wax_walk.specs.Forest.{Forest, nothing, item, lists, filtered, filtered_pending, pending}
 use Rattle.wax_walk.specs.Given.{Facts, Given, Mark, alone, changed_by, combined_mark, cut_by, entry, fault, is_cut, kept, no_memory, with_tree}
-use Rattle.wax_wanted.specs.Leading.{component_test, lead_test, leading_of}
-use Rattle.wax_wanted.specs.Marks.{glob_mark, led_mark, of_candidate}
+use Rattle.wax_exclude.specs.Leading.{component_test, lead_test, leading_of}
+use Rattle.wax_exclude.specs.Marks.{glob_mark, led_mark, of_candidate}
 use Rattle.wax.specs.GlobView.{GlobView}
 use Rattle.wax.proofs.GoingAlong.{names_are}
 use Rattle.wax.specs.GlobWalks.{Beginning, BeginsGlob, IsPlan, trip_of, wants, way_from, within}

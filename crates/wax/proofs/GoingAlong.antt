@@ -4,7 +4,7 @@ use Rattle.std.specs.List.{list_any}
 use Rattle.std.proofs.lemmas.Bool.{cases_lt, or_parts}
 use Rattle.wax_facts.specs.Orderly.{Worded, WordedEach, WordedLeaf}
 use Rattle.wax_facts.specs.Prefix.{Prefix}
-use Rattle.wax_leading.proofs.Beginnings.{begins_with, bounds_names}
+use Rattle.wax_exclude.proofs.Beginnings.{begins_with, bounds_names}
 use Rattle.wax_query.specs.Components.{component_total}
 use Rattle.wax_query.specs.Ranges.{AtMost, Bounds}
 use Rattle.wax_token.specs.Meaning.{HasNoSlash, Means}
@@ -13,9 +13,9 @@ use Rattle.wax_token.specs.Spelled.{AllHaveNoSlash, LeafHasNoSlash, LiteralsHave
 use Rattle.wax_token.specs.Syntax.{Leaf, literal, class, separator, one, zero_or_more, tree, Tree, Trees, leaf, alternation, concatenation, repetition, none, more}
 use Rattle.wax_tree.specs.Prefix.{ArePlain}
 use Rattle.wax_tree.specs.declared.steps.Range.{Range}
-use Rattle.wax_wanted.specs.Candidates.{base}
-use Rattle.wax_wanted.specs.Wanted.{Filter}
-use Rattle.wax_wanted.specs.Premises.{BeginsWith, BoundsNames, CanWalk}
+use Rattle.wax_exclude.specs.Candidates.{base}
+use Rattle.wax_exclude.specs.Wanted.{Filter}
+use Rattle.wax_exclude.specs.Premises.{BeginsWith, BoundsNames, CanWalk}
 use Rattle.wax.specs.GlobView.{IsKept}
 use Rattle.wax.specs.GlobWalks.{Beginning, up_to, wants, way_from, within}
 use Rattle.wax.proofs.Parts.{full}

@@ -3,19 +3,19 @@ use Rattle.std.proofs.Common.{◌≡◌, ◌∙◌, ◌<◌, ◌≤◌, ◌+◌,
 use Rattle.std.specs.List.{AllZip}
 use Rattle.std.proofs.lemmas.List.{map-append, take_more, drop_more, take_all, take-append-drop}
 use Rattle.wax_directory.specs.Law.{Law}
-use Rattle.wax_ignore.proofs.Listing.{says_lines}
-use Rattle.wax_ignore.specs.Held.{HasLines, line_of}
-use Rattle.wax_ignore.specs.Lines.{Written, written_lines, written_of}
-use Rattle.wax_ignore.specs.declared.lines.WrittenLine.{WrittenLine}
-use Rattle.wax_ignore.specs.declared.rules.IgnoreLine.{IgnoreLine}
-use Rattle.wax_ignore.specs.declared.rules.IgnoreRule.{IgnoreRule}
-use Rattle.wax_ignore.specs.inner.Listed.{listed_mark}
+use Rattle.wax_exclude.proofs.ListingLines.{says_lines}
+use Rattle.wax_exclude.specs.Held.{HasLines, line_of}
+use Rattle.wax_exclude.specs.Lines.{Written, written_lines, written_of}
+use Rattle.wax_exclude.specs.declared.lines.WrittenLine.{WrittenLine}
+use Rattle.wax_exclude.specs.declared.rules.IgnoreLine.{IgnoreLine}
+use Rattle.wax_exclude.specs.declared.rules.IgnoreRule.{IgnoreRule}
+use Rattle.wax_exclude.specs.inner.Listed.{listed_mark}
 use Rattle.wax_token.specs.Reads.{Span}
 use Rattle.wax_tree.specs.Begins.{Begins, behavior_range}
 use Rattle.wax_tree.specs.declared.behavior.WalkBehavior.{WalkBehavior}
 use Rattle.wax_walk.specs.Ruled.{ruled_view}
 use Rattle.wax_walk.specs.View.{IsSeenAs, WalkView}
-use Rattle.wax_wanted.specs.Ignored.{Line}
+use Rattle.wax_exclude.specs.Ignored.{Line}
 use Rattle.wax.specs.Ignoring.{AreReadAs, IsFirstUnread, IsNoList, IsReadAs, IsUnread, IsWalkIgnoring, refused_at}
 use Rattle.wax_error.specs.declared.build_error.BuildError.{BuildError}
 use Rattle.wax_error.specs.declared.build_error.BuildError.TheVariants.{Parse, Rule, Compile, Memory}

@@ -3,6 +3,8 @@ pub mod Globs
 pub mod GoingAlong
 pub mod IgnoreLines
 pub mod Kept
+pub mod Lemmas
+pub mod Matchers
 pub mod Parts
 pub mod Patterns
 pub mod Sets

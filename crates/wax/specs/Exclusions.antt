@@ -1,14 +1,14 @@
 -- Patterns that are left out of walks.
 use Rattle.std.specs.Prelude.{◌≡◌, ◌<◌, ◌≤◌, ◌⊎◌, false, List, ⊤}
-use Rattle.wax_collect.specs.Trips.{IsRuleOf}
+use Rattle.wax_exclude.specs.Trips.{IsRuleOf}
 use Rattle.wax_token.specs.Cost.{program_length}
 use Rattle.wax_token.specs.Reads.{Span}
 use Rattle.wax_token.specs.Syntax.{Tree}
 use Rattle.wax_walk.specs.Given.{Facts, Mark}
 use Rattle.wax_walk.specs.Ruled.{ruled_view}
 use Rattle.wax_walk.specs.View.{IsSeenAs, WalkView}
-use Rattle.wax_wanted.specs.Marks.{not_mark, of_candidate}
-use Rattle.wax_wanted.specs.Wanted.{not_meant}
+use Rattle.wax_exclude.specs.Marks.{not_mark, of_candidate}
+use Rattle.wax_exclude.specs.Wanted.{not_meant}
 use Rattle.wax.specs.Patterns.{IsOnly}
 use Rattle.wax_error.specs.declared.build_error.BuildError.{BuildError}
 use Rattle.wax_error.specs.declared.build_error.BuildError.TheVariants.{Parse, Rule, Compile, Memory}

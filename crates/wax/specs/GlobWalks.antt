@@ -2,13 +2,13 @@
 use Rattle.std.specs.Prelude.{◌≡◌, ℕ, ◌+◌, ◌*◌, ◌<◌, ◌≤◌, Bool, true, false, List, [], ◌∷◌, length, min}
 use Rattle.std.specs.Prelude.{Option, Some, None}
 use Rattle.std.specs.List.{Contains}
-use Rattle.wax_collect.specs.Trips.{Trip}
-use Rattle.wax_depth.specs.Depth.{Depth}
+use Rattle.wax_exclude.specs.Trips.{Trip}
+use Rattle.wax_components.specs.Depth.{Depth}
 use Rattle.wax_directory.specs.Counting.{grown}
 use Rattle.wax_directory.specs.Law.{Law}
 use Rattle.wax_directory.specs.Shown.{Shown}
 use Rattle.wax_facts.specs.Prefix.{Prefix}
-use Rattle.wax_leading.specs.Prefix.{HasEmptyName, IsPrefixWay}
+use Rattle.wax_exclude.specs.Prefix.{HasEmptyName, IsPrefixWay}
 use Rattle.wax_query.specs.Ranges.{Bounds}
 use Rattle.wax_token.specs.Reads.{Span}
 use Rattle.wax_token.specs.Syntax.{Tree}
@@ -21,10 +21,10 @@ use Rattle.wax_walk.specs.declared.error.FaultKind.TheVariants.{Budget}
 use Rattle.wax_walk.specs.Forest.{pending, nothing}
 use Rattle.wax_walk.specs.Given.{Given, fault, no_memory}
 use Rattle.wax_walk.specs.View.{CountsFaults, WalkView}
-use Rattle.wax_wanted.specs.Leading.{leading_of}
-use Rattle.wax_wanted.specs.Premises.{CanWalk}
-use Rattle.wax_wanted.specs.Walked.{glob_walk}
-use Rattle.wax_wanted.specs.Wanted.{Filter, Wanted}
+use Rattle.wax_exclude.specs.Leading.{leading_of}
+use Rattle.wax_exclude.specs.Premises.{CanWalk}
+use Rattle.wax_exclude.specs.Walked.{glob_walk}
+use Rattle.wax_exclude.specs.Wanted.{Filter, Wanted}
 
 -- the lesser of a greatest depth and the greatest number of components
 abbrev pub up_to : ℕ → Option ℕ → ℕ

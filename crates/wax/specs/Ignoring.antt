@@ -1,14 +1,12 @@
 -- Ignore lists.
 use Rattle.std.specs.Prelude.{◌≡◌, ℕ, false, ◌++◌, List, ◌∷◌, chars, map, ⊤}
 use Rattle.std.specs.List.{AllZip}
-use Rattle.wax_ignore.specs.Held.{HasLines, line_of}
-use Rattle.wax_ignore.specs.Lines.{Written, written_lines}
-use Rattle.wax_ignore.specs.declared.rules.IgnoreLine.{IgnoreLine}
+use Rattle.wax_exclude.specs.Lines.{Written}
+use Rattle.wax_exclude.specs.declared.rules.IgnoreLine.{IgnoreLine}
 use Rattle.wax_token.specs.Reads.{Span}
 use Rattle.wax_walk.specs.Ruled.{ruled_view}
 use Rattle.wax_walk.specs.View.{IsSeenAs, WalkView}
-use Rattle.wax_wanted.specs.Ignored.{Line, ignore_mark}
-use Rattle.wax_wanted.specs.Marks.{of_candidate}
+use Rattle.wax_exclude.specs.Marks.{of_candidate}
 use Rattle.wax.specs.Exclusions.{FitsAlone, NoExclusion}
 use Rattle.wax.specs.Patterns.{Refuses, Spells}
 use Rattle.wax_error.specs.declared.build_error.BuildError.{BuildError}
@@ -16,6 +14,11 @@ use Rattle.wax_error.specs.declared.build_error.BuildError.TheVariants as build
 use Rattle.wax.specs.declared.ignoring.IgnoreError.{IgnoreError}
 use Rattle.wax.specs.declared.ignoring.IgnoreError.TheVariants.{BadLine, Memory}
 use Rattle.wax.specs.declared.ignoring.IgnoreList.{IgnoreList}
+pub use Rattle.wax_exclude.specs.Held.{HasLines, line_of}
+pub use Rattle.wax_exclude.specs.Ignored.{Line, ignore_mark, is_ignored}
+pub use Rattle.wax_exclude.specs.Kept.{KeepsUnignored, Tour}
+pub use Rattle.wax_exclude.specs.Lines.{written_lines, written_of}
+pub use Rattle.wax_exclude.specs.Unignored.{GivesUnignored, LosesIgnored}
 
 -- The line that is written so: its glob is the only tree that its expression spells, which fits.
 pub record IsReadAs (written : Written) (line : Line Span) : Type 0 where

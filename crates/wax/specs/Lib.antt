@@ -3,7 +3,11 @@ pub mod Build
 pub mod Exclusions
 pub mod GlobView
 pub mod GlobWalks
+pub mod Headline
 pub mod Ignoring
+pub mod Language
 pub mod Matching
 pub mod Partition
 pub mod Patterns
+pub mod Queries
+pub mod Walks

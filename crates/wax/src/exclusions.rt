@@ -4,7 +4,7 @@ ghost use Rattle.wax_token.specs.Reads.{Span};
 ghost use Rattle.wax_walk.specs.Known.{StaysKnown};
 ghost use Rattle.wax_walk.specs.Ruled.{ruled_view};
 ghost use Rattle.wax_walk.specs.View.{IsSeenAs};
-ghost use Rattle.wax_wanted.specs.Ignored.{Line};
+ghost use Rattle.wax_exclude.specs.Ignored.{Line};
 ghost use Rattle.wax.specs.Exclusions.{IsLeftOut, IsWalkWithout, NoExclusion};
 ghost use Rattle.wax.specs.Ignoring.{HoldsLines, IsWalkIgnoring};
 
@@ -12,8 +12,8 @@ use crate::ignoring::IgnoreList;
 use crate::pattern::Pattern;
 use std::alloc::Global;
 use wax_error::BuildError;
+use wax_exclude::Exclusion;
 use wax_filter::filter::SeparatingFilter;
-use wax_leading::Exclusion;
 use wax_query::diagnostics::Refusal;
 use wax_walk::{FileIterator, Rule, Without};
 

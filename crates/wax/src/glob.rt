@@ -4,7 +4,7 @@ ghost use Rattle.std.specs.Prelude.{IfSome};
 ghost use Rattle.std.specs.Prelude.{MatchOption, Some, chars, encode_utf8_all, length, false};
 ghost use Rattle.wax_components.specs.Capturing.{captures};
 ghost use Rattle.wax_components.specs.Warnings.{has_semantic_literals, warnings};
-ghost use Rattle.wax_depth.specs.Depth.{Depth};
+ghost use Rattle.wax_components.specs.Depth.{Depth};
 ghost use Rattle.wax_facts.specs.Exhaustive.{exhaustive};
 ghost use Rattle.wax_facts.specs.InvariantText.{Text, Variant};
 ghost use Rattle.wax_facts.specs.Root.{root};
@@ -33,8 +33,7 @@ use std::marker::Model;
 pub use walking::GlobWalk;
 use wax_candidate::{CandidatePath, MatchedText, Program};
 use wax_capture::Pieces;
-use wax_components::{Warning, captures, diagnose, has_semantic_literals};
-use wax_depth::depth;
+use wax_components::{Warning, captures, depth, diagnose, has_semantic_literals};
 use wax_error::{BuildError, rule_refused};
 use wax_facts::{has_root, is_exhaustive, text};
 use wax_match::encode;
@@ -86,14 +85,17 @@ impl<'t> Model for Glob<'t> {
 }
 
 impl<'t> Glob<'t> {
-    ghost use Rattle.wax.specs.Build.{IsEmptyGlob, IsTreeGlob, MatchGlob, build_of};
+    ghost use Rattle.wax.specs.Build.{IsEmptyGlob, IsTreeGlob, build_of};
+    ghost use Rattle.wax.specs.Headline.{MatchGlob};
+    ghost use Rattle.wax_token.specs.Spelled.{LiesBetween};
     ghost use Rattle.wax.specs.GlobView.{empty_tree};
 
     /// The glob of an expression. Refused with 1 where the expression isn't one of the language, with
     /// 2 to 8 where it breaks a rule, with 9 where its cost plus 1 is above 1,048,576, and with 10
     /// where memory is.
     pub fn new(alloc: Global, expression: &'t str) -> Result<Glob<'t>, BuildError>
-        ensures { MatchGlob (chars expression.now) result }
+        ensures build { MatchGlob (chars expression.now) result }
+        ensures spans { IfOk result (λ glob. LiesBetween 0 (length expression.now) glob.tree) }
     {
         let tokenized = parse(alloc, expression)?;
         let tokenized = match check(alloc, tokenized) {

@@ -1,13 +1,13 @@
 //! Ignore lists: texts whose lines say what is left out of walks.
 ghost use Rattle.std.specs.Prelude.{◌≡◌, ◌++◌, ◌∷◌, [], ℕ, List, IfOk, MatchResult, map};
 ghost use Rattle.wax_directory.specs.Shown.{Shown};
-ghost use Rattle.wax_ignore.specs.Held.{line_of};
-ghost use Rattle.wax_ignore.specs.Kept.{KeepsUnignored};
-ghost use Rattle.wax_ignore.specs.Lines.{written_of};
+ghost use Rattle.wax_exclude.specs.Held.{line_of};
+ghost use Rattle.wax_exclude.specs.Kept.{KeepsUnignored};
+ghost use Rattle.wax_exclude.specs.Lines.{written_of};
 ghost use Rattle.wax_token.specs.Reads.{Span};
 ghost use Rattle.wax_tree.specs.Begins.{behavior_range};
 ghost use Rattle.wax_walk.specs.Entries.{given_outcome};
-ghost use Rattle.wax_wanted.specs.Ignored.{Line, is_ignored};
+ghost use Rattle.wax_exclude.specs.Ignored.{Line, is_ignored};
 ghost use Rattle.wax.specs.Ignoring.{HoldsLines, IsListOf, IsNoList, IsReadAs, IsUnread};
 ghost use Rattle.wax.specs.Ignoring.{refusal_number, refused_at};
 
@@ -17,7 +17,7 @@ use thiserror::Error;
 use wax_candidate::CandidatePath;
 use wax_directory::directory::Directory;
 use wax_error::BuildError;
-use wax_ignore::{IgnoreLine, IgnoreRule, WrittenLine, collect_unignored, written_lines};
+use wax_exclude::{IgnoreLine, IgnoreRule, WrittenLine, collect_unignored, written_lines};
 use wax_query::diagnostics::NoMemory;
 use wax_tree::{PathExt, WalkBehavior};
 use wax_walk::{Entry, EntryResidue, Rule, TreeEntry, WalkError};

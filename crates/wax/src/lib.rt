@@ -19,9 +19,11 @@ mod walk_filter;
 
 pub use glob::{Glob, GlobMatcher};
 pub use pattern::{Pattern, any};
-pub use set::Any;
-pub use wax_candidate::{CandidatePath, MatchedText, Program};
+pub use set::{Any, AnyMatcher};
+pub use wax_candidate::{
+    BuildMatcher, CandidatePath, MatchedText, PathMatcher, Program, ProgramMatcher,
+};
 pub use wax_error::{BuildError, ErrorLocation, GlobError};
-pub use wax_escape::{escape, is_contextual_meta_character, is_meta_character};
 pub use wax_lines::{Counted, LinesError, capture_lines, filter_lines};
+pub use wax_parse::{escape, is_contextual_meta_character, is_meta_character};
 pub use wax_query::diagnostics::{NoMemory, Refusal};

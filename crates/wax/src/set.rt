@@ -1,7 +1,7 @@
 //! A set of patterns: the alternation of their tokens, with its program and its pieces.
-ghost use Rattle.std.specs.Prelude.{◌≡◌, ◌≤◌, ◌<◌, ◌++◌, ◌∷◌, ℕ, List, chars, false};
+ghost use Rattle.std.specs.Prelude.{◌≡◌, ◌≤◌, ◌<◌, ◌++◌, ◌∷◌, ℕ, List, IsTrue, chars, false};
 ghost use Rattle.std.specs.Prelude.{IfOk, IfSome, MatchOption, Some, codes};
-ghost use Rattle.wax_depth.specs.Depth.{Depth};
+ghost use Rattle.wax_components.specs.Depth.{Depth};
 ghost use Rattle.wax_facts.specs.Exhaustive.{exhaustive};
 ghost use Rattle.wax_facts.specs.InvariantText.{Text, Variant};
 ghost use Rattle.wax_facts.specs.Root.{root};
@@ -15,14 +15,17 @@ ghost use Rattle.wax_token.specs.Decided.{means_test, means_tested};
 ghost use Rattle.wax.specs.AnyView.{IsAlternation, IsWhole, MeansText};
 ghost use Rattle.wax.specs.Patterns.{LacksMemory};
 
+mod matcher;
+
 use crate::pattern::Pattern;
+pub use matcher::AnyMatcher;
 use std::alloc::Global;
 use std::borrow::CowStr;
 use std::fmt;
 use std::marker::Model;
 use wax_candidate::{CandidatePath, MatchedText, Program};
 use wax_capture::Pieces;
-use wax_depth::depth;
+use wax_components::depth;
 use wax_error::BuildError;
 use wax_facts::{has_root, is_exhaustive, text};
 use wax_match::encode;
@@ -90,6 +93,15 @@ pub(crate) fn compiled<'t>(
     })
 }
 
+impl Any<'_> {
+    /// Returns whether a pattern may match the text, by what is looked at before a text is followed.
+    fn may_match(&self, text: &str) -> bool
+        ensures { MeansText self.now (chars text.now) → IsTrue result }
+    {
+        self.prefilter.may_match(text)
+    }
+}
+
 /// Prints `Any { .. }`: a set has no expression.
 impl fmt::Debug for Any<'_> {
     ghost debug_output = { λ _. Some (codes "Any { .. }") };
@@ -116,7 +128,7 @@ impl Program for Any<'_> {
         path: &CandidatePath<'_>,
     ) -> Result<(bool, u128), NoMemory> {
         let text = path.as_str();
-        if !self.prefilter.may_match(text) {
+        if !self.may_match(text) {
             return Ok((false, 0));
         }
         let mut meter = Meter::new();
@@ -130,7 +142,7 @@ impl Program for Any<'_> {
         path: &'p CandidatePath<'_>,
     ) -> Result<(Option<MatchedText<'p>>, u128), NoMemory> {
         let text = path.as_str();
-        if !self.prefilter.may_match(text) {
+        if !self.may_match(text) {
             return Ok((None, 0));
         }
         self.pieces.matched_counted(alloc, text)

@@ -4,9 +4,8 @@ pub mod walk;
 
 pub use wax_alternatives::into_alternatives;
 pub use wax_components::{
-    Component, LiteralSequence, capture_count, captures, components, literals,
+    Component, LiteralSequence, capture_count, captures, components, depth, literals,
 };
-pub use wax_depth::depth;
 pub use wax_facts::{TokenFacts, has_variant_casing};
 pub use wax_fold::walk::{fold, fold_map};
 pub use wax_parse::parse::{ErrorEntry, ParseError, parse};

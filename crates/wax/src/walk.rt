@@ -12,8 +12,8 @@ pub use wax_directory::folders::Folders;
 pub use wax_directory::starving::Starving;
 pub use wax_directory::tally::Tally;
 pub use wax_directory::tree::{DuplicateName, Node, Tree, TreeItem};
+pub use wax_exclude::{Component, Exclusion};
 pub use wax_glob_walk::{FilterAny, GlobEntry, GlobFeed};
-pub use wax_leading::{Component, Exclusion};
 pub use wax_tree::{
     DepthBehavior, DepthMax, DepthMin, DepthMinMax, LinkBehavior, PathExt, Range, TreeFeed,
     WalkBehavior, WalkTree, entries,

@@ -1,9 +1,9 @@
 //! Filters of walks: patterns and ignore lists.
 ghost use Rattle.std.specs.Prelude.{◌≡◌, List, MatchResult};
-ghost use Rattle.wax_collect.specs.Trips.{IsRuleOf};
+ghost use Rattle.wax_exclude.specs.Trips.{IsRuleOf};
 ghost use Rattle.wax_token.specs.Reads.{Span};
-ghost use Rattle.wax_wanted.specs.Ignored.{Line};
-ghost use Rattle.wax_wanted.specs.Wanted.{not_ignored};
+ghost use Rattle.wax_exclude.specs.Ignored.{Line};
+ghost use Rattle.wax_exclude.specs.Wanted.{not_ignored};
 ghost use Rattle.wax.specs.Exclusions.{IsNotRule, NoExclusion};
 ghost use Rattle.wax.specs.Ignoring.{HoldsLines};
 
@@ -12,7 +12,7 @@ use crate::ignoring::IgnoreList;
 use crate::pattern::Pattern;
 use std::alloc::Global;
 use wax_error::BuildError;
-use wax_leading::Exclusion;
+use wax_exclude::Exclusion;
 use wax_query::diagnostics::NoMemory;
 use wax_walk::{Entry, EntryResidue, Rule};
 

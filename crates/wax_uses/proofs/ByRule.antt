@@ -1,17 +1,10 @@
 -- What a walk keeps of which a closure leaves something out that depends on the entry alone.
 use Rattle.std.proofs.Common.{◌≡◌, List, [], ◌∷◌, Option, filter, refl, subst}
 use denote.Ref.{Bor}
-use Rattle.wax_directory.specs.Law.{Law}
-use Rattle.wax_walk.specs.Collected.{GaveAll, Took}
-use Rattle.wax_walk.specs.Entries.{facts_of}
-use Rattle.wax_walk.specs.Forest.{Pending, filtered_pending}
-use Rattle.wax_walk.specs.Given.{Facts, Given, Mark, changed_by, cut_by, is_kept}
-use Rattle.wax_walk.specs.Said.{mark_of}
-use Rattle.wax_walk.specs.Says.{SaysByRule, closure_view}
-use Rattle.wax_walk.specs.View.{IsSeenAs, WalkView}
-use Rattle.wax_walk.specs.declared.entry.TreeEntry.{TreeEntry}
-use Rattle.wax_walk.specs.declared.iterator.EntryResidue.{EntryResidue}
 use Rattle.wax_uses.specs.Walks.{KeepsByRule}
+use Rattle.wax.specs.Walks.{changed_by, closure_view, cut_by, EntryResidue, Facts, facts_of, filtered_pending}
+use Rattle.wax.specs.Walks.{GaveAll, Given, is_kept, IsSeenAs, Law, Mark, mark_of, Pending, SaysByRule, Took}
+use Rattle.wax.specs.Walks.{TreeEntry, WalkView}
 
 module _ {F : Type 0} (step : F → Bor TreeEntry → Option EntryResidue → F → Type 0) (rule : Facts → Mark) where
   -- in whatever state, the closure answers what the rule says

@@ -7,40 +7,18 @@ use Rattle.std.proofs.lemmas.List.Elements.{All-same, All-tail, All-weaker}
 use Rattle.wax.specs.Exclusions.{IsNotRule}
 use Rattle.wax.specs.GlobView.{GlobView, HasCaptures, IsMeant}
 use Rattle.wax.specs.GlobWalks.{Beginning, trip_of, way_from}
-use Rattle.wax_alternatives.specs.Alternatives.{alternatives}
-use Rattle.wax_collect.specs.Trips.{AreRulesOf, IsRuleOf, KeepsWanted, Trip, gives, is_beyond, lacks_memory}
-use Rattle.wax_collect.specs.Trips.{over_budget, trip_walk}
-use Rattle.wax_depth.specs.Depth.{Depth}
-use Rattle.wax_directory.specs.Law.{Law}
-use Rattle.wax_directory.specs.Shown.{Shown}
-use Rattle.wax_glob_walk.specs.Matches.{IsMatchedEntry, glob_facts}
-use Rattle.wax_glob_walk.specs.declared.entry.GlobEntry.{GlobEntry}
-use Rattle.wax_query.specs.Ranges.{Bounds}
-use Rattle.wax_token.specs.Decided.{means_test, means_tested}
-use Rattle.wax_token.specs.Meaning.{Means}
-use Rattle.wax_token.specs.Reads.{Span}
-use Rattle.wax_token.specs.Syntax.{Tree}
-use Rattle.wax_tree.specs.Begins.{behavior_range}
-use Rattle.wax_tree.specs.Depths.{behavior_at}
-use Rattle.wax_tree.specs.Prefix.{ArePlain}
-use Rattle.wax_tree.specs.declared.behavior.DepthBehavior.TheVariants.{Unbounded}
-use Rattle.wax_tree.specs.declared.steps.Range.{Range}
-use Rattle.wax_walk.specs.Collected.{IsCutShort}
-use Rattle.wax_walk.specs.Entries.{given_outcome}
-use Rattle.wax_walk.specs.Forest.{Forest, filtered, item, lists, nothing, preorder}
-use Rattle.wax_walk.specs.Given.{Facts, Given, Mark, alone, changed_by, combined_mark, cut_by, entry, fault}
-use Rattle.wax_walk.specs.Given.{is_kept, kept, no_memory, with_tree}
-use Rattle.wax_walk.specs.Known.{KnownOutcome}
-use Rattle.wax_walk.specs.declared.entry.TreeEntry.{TreeEntry}
-use Rattle.wax_walk.specs.declared.error.FaultKind.TheVariants.{Budget}
-use Rattle.wax_walk.specs.declared.error.WalkError.{WalkError}
-use Rattle.wax_wanted.specs.Candidates.{candidate_of}
-use Rattle.wax_wanted.specs.Covers.{covers_test}
-use Rattle.wax_wanted.specs.Marks.{covered_mark, glob_mark, of_candidate}
-use Rattle.wax_wanted.specs.Walked.{glob_walk, wanted_entries, way_walk}
-use Rattle.wax_wanted.specs.Wanted.{Filter, filter_mark, is_kept_entry, not_meant}
 use Rattle.wax_uses.specs.Less.{AreEntriesLess, IsCutOff, IsKnownFrom, IsMeantEntry, IsUnmeantEntry}
 use Rattle.wax_uses.specs.Less as cut
+use Rattle.wax.specs.Language.{alternatives, Means, means_test, means_tested, Span, Tree}
+use Rattle.wax.specs.Queries.{Bounds, Depth}
+use Rattle.wax.specs.Walks.{alone, ArePlain, AreRulesOf, behavior_at, behavior_range, Budget, candidate_of}
+use Rattle.wax.specs.Walks.{changed_by, combined_mark, covered_mark, covers_test, cut_by, entry, Facts, fault}
+use Rattle.wax.specs.Walks.{Filter, filter_mark, filtered, Forest, Given, given_outcome, gives, glob_facts}
+use Rattle.wax.specs.Walks.{glob_mark, glob_walk, GlobEntry, is_beyond, is_kept, is_kept_entry, IsCutShort}
+use Rattle.wax.specs.Walks.{IsMatchedEntry, IsRuleOf, item, KeepsWanted, kept, KnownOutcome, lacks_memory}
+use Rattle.wax.specs.Walks.{Law, lists, Mark, no_memory, not_meant, nothing, of_candidate, over_budget}
+use Rattle.wax.specs.Walks.{preorder, Range, Shown, TreeEntry, Trip, trip_walk, Unbounded, WalkError}
+use Rattle.wax.specs.Walks.{wanted_entries, way_walk, with_tree}
 
 -- ---- what the last rule says of what is left
 

@@ -1,13 +1,12 @@
 -- What an expression means, by its only tree.
 use Rattle.std.proofs.Common.{◌↔◌, ℕ, false, List, subst}
 use Rattle.std.specs.Prelude.{Result, Ok, Err, IfOk}
-use Rattle.wax.specs.Build.{IsGlob, MatchGlob}
+use Rattle.wax.specs.Headline.{IsGlob, MatchGlob}
 use Rattle.wax.specs.GlobView.{GlobView, IsMeant}
-use Rattle.wax_error.specs.declared.build_error.BuildError.{BuildError}
-use Rattle.wax_token.specs.Meaning.{HasNoSlash, Means}
-use Rattle.wax_wanted.proofs.Unslashed.{unslashed}
+use Rattle.wax.proofs.Lemmas.{unslashed}
 use Rattle.wax_uses.specs.Names.{IsMeantBy, IsOneComponent}
 use Rattle.wax_uses.proofs.OneComponents.{one_component}
+use Rattle.wax.specs.Language.{BuildError, HasNoSlash, Means}
 
 pub through : {A B C : Type 0} → A ↔ B → B ↔ C → A ↔ C
 through f g = (λ a. g.0 (f.0 a), λ c. f.1 (g.1 c))

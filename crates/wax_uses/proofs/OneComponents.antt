@@ -2,16 +2,14 @@
 use Rattle.std.proofs.Common.{◌≡◌, ◌==◌, ◌||◌, ◌∙◌, ℕ, Bool, true, false, List, [], ◌∷◌, ◌++◌, codes}
 use Rattle.std.proofs.Common.{ap, refl, sym, subst}
 use Rattle.std.specs.List.{list_any}
-use Rattle.wax_token.specs.Kinds.{has_boundary, is_boundary_leaf, some_has_boundary}
-use Rattle.wax_token.specs.Meaning.{HasNoSlash}
-use Rattle.wax_token.specs.Reads.{Around, Flags, Past, Place, Reads, ReadsBranches, ReadsGlob, ReadsLeaf}
-use Rattle.wax_token.specs.Reads.{ReadsToken, ReadsTokens, Span, group, in_alternation, in_repetition}
-use Rattle.wax_token.specs.Reads.{all_spelled, class_text, escapable, evaluation_text, is_one_of, no_flags}
-use Rattle.wax_token.specs.Reads.{start, toggles_text, utf8_len, whole}
-use Rattle.wax_token.specs.Spelled.{AllHaveNoSlash, LeafHasNoSlash, LiteralsHaveNoSlash}
-use Rattle.wax_token.specs.Syntax.{Leaf, literal, class, separator, one, zero_or_more, tree, Tree, leaf}
-use Rattle.wax_token.specs.Syntax.{alternation, concatenation, repetition, Trees, none, more}
 use Rattle.wax_uses.specs.Names.{IsOneComponent}
+use Rattle.wax.specs.Language.{all_spelled, AllHaveNoSlash, alternation, Around, class, class_text}
+use Rattle.wax.specs.Language.{concatenation, escapable, evaluation_text, Flags, group, has_boundary}
+use Rattle.wax.specs.Language.{HasNoSlash, in_alternation, in_repetition, is_boundary_leaf, is_one_of, Leaf}
+use Rattle.wax.specs.Language.{leaf, LeafHasNoSlash, literal, LiteralsHaveNoSlash, more, no_flags, none, one}
+use Rattle.wax.specs.Language.{Past, Place, Reads, ReadsBranches, ReadsGlob, ReadsLeaf, ReadsToken}
+use Rattle.wax.specs.Language.{ReadsTokens, repetition, separator, some_has_boundary, Span, start}
+use Rattle.wax.specs.Language.{toggles_text, Tree, tree, Trees, utf8_len, whole, zero_or_more}
 
 -- ---- what is still to be read
 

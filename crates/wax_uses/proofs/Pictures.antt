@@ -2,12 +2,10 @@
 use Rattle.std.proofs.Common.{◌≡◌, ◌↔◌, ◌∙◌, ℕ, false, List, [], ◌∷◌, ◌++◌, codes}
 use Rattle.std.proofs.Common.{ap, arith, refl, sym, subst}
 use Rattle.std.specs.Str.{chars}
-use Rattle.wax_token.specs.declared.token.Evaluation.TheVariants.{Eager}
-use Rattle.wax_token.specs.Meaning.{Means, SameText}
-use Rattle.wax_token.specs.Reads.{Flags, NoWildcardFollows, Place, Reads, Span, no_flags, group, start}
-use Rattle.wax_token.specs.Reads.{starts_with_one_of}
-use Rattle.wax_token.specs.Syntax.{Tree, leaf, literal, zero_or_more, concatenation, none, more}
 use Rattle.wax_uses.specs.Names.{IsPictureName}
+use Rattle.wax.specs.Language.{concatenation, Eager, Flags, group, leaf, literal, Means, more, no_flags, none}
+use Rattle.wax.specs.Language.{NoWildcardFollows, Place, Reads, SameText, Span, start, starts_with_one_of}
+use Rattle.wax.specs.Language.{Tree, zero_or_more}
 
 -- ---- the tree
 

@@ -1,8 +1,7 @@
 -- A bare text of one component is a single name.
 use Rattle.std.proofs.Common.{◌≡◌, ◌≢◌, ◌==◌, ◌≤◌, ℕ, false, List, [], ◌∷◌, ap, arith, refl, rules, subst}
-use Rattle.wax_query.specs.Components.{Bare, EndsWithSlash, component_total, last_slash, slash}
-use Rattle.wax_query.specs.Components.{slashes}
-use Rattle.wax_token.specs.Meaning.{HasNoSlash}
+use Rattle.wax.specs.Language.{HasNoSlash}
+use Rattle.wax.specs.Queries.{Bare, component_total, EndsWithSlash, last_slash, slash, slashes}
 
 not_slash : (c : ℕ) → c ≢ 47 → (c == 47) ≡ false
 not_slash c e = search rules

@@ -4,14 +4,10 @@ use Rattle.std.proofs.Common.{ap, sym, subst}
 use Rattle.std.proofs.lemmas.List.{take-append-drop}
 use Rattle.std.specs.Prelude.{None, Option, Some, slice_get}
 use Rattle.std.specs.Str.{chars}
-use Rattle.wax_candidate.specs.Matched.{IsMatchOf, MatchedView, texts}
-use Rattle.wax_capture.specs.Captures.{Captured, First}
-use Rattle.wax_token.specs.Meaning.{HasNoSlash}
-use Rattle.wax_token.specs.Reads.{Reads, Span}
-use Rattle.wax_token.specs.Syntax.{Tree}
-use Rattle.wax_token.specs.Words.{members}
 use Rattle.wax_uses.specs.Names.{HasStem}
 use Rattle.wax_uses.proofs.Pictures.{picture_only, picture_tree, same_to}
+use Rattle.wax.specs.Language.{HasNoSlash, members, Reads, Span, Tree}
+use Rattle.wax.specs.Matching.{Captured, First, IsMatchOf, MatchedView, texts}
 
 first_is : (M : Type 0) (k : ℕ) → First M k → M
 first_is M zero h = h

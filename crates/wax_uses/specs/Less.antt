@@ -2,18 +2,9 @@
 use Rattle.std.specs.Prelude.{◌≡◌, ◌⊎◌, ℕ, List, [], ◌∷◌, ◌++◌, chars, filter}
 use Rattle.wax.specs.GlobView.{GlobView, IsMeant}
 use Rattle.wax.specs.GlobWalks.{Beginning, wants, way_from}
-use Rattle.wax_directory.specs.Law.{Law}
-use Rattle.wax_directory.specs.Shown.{Shown}
-use Rattle.wax_glob_walk.specs.Matches.{glob_facts}
-use Rattle.wax_glob_walk.specs.declared.entry.GlobEntry.{GlobEntry}
-use Rattle.wax_tree.specs.Begins.{behavior_range}
-use Rattle.wax_tree.specs.Depths.{behavior_at}
-use Rattle.wax_tree.specs.Prefix.{ArePlain}
-use Rattle.wax_tree.specs.declared.behavior.DepthBehavior.TheVariants.{Unbounded}
-use Rattle.wax_walk.specs.Given.{Given, fault, no_memory}
-use Rattle.wax_walk.specs.declared.error.FaultKind.TheVariants.{Budget}
-use Rattle.wax_wanted.specs.Walked.{wanted_entries}
-use Rattle.wax_wanted.specs.Wanted.{is_kept_entry, not_meant}
+use Rattle.wax.specs.Walks.{ArePlain, behavior_at, behavior_range, Budget, fault, Given, glob_facts}
+use Rattle.wax.specs.Walks.{GlobEntry, is_kept_entry, Law, no_memory, not_meant, Shown, Unbounded}
+use Rattle.wax.specs.Walks.{wanted_entries}
 
 -- the path of the entry from the start, as characters
 abbrev pub path_of : GlobEntry → List ℕ

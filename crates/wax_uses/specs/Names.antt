@@ -1,8 +1,6 @@
 -- Names of files, as a caller speaks of them.
 use Rattle.std.specs.Prelude.{◌≡◌, ℕ, false, List, ◌++◌, codes}
-use Rattle.wax_token.specs.Meaning.{HasNoSlash, Means}
-use Rattle.wax_token.specs.Reads.{Reads, Span}
-use Rattle.wax_token.specs.Syntax.{Tree}
+use Rattle.wax.specs.Language.{HasNoSlash, Means, Reads, Span, Tree}
 
 -- the expression spells a tree that means the text
 abbrev pub IsMeantBy : List ℕ → List ℕ → Type 0

@@ -1,10 +1,7 @@
 -- What is kept of a walk by a rule, and a rule that leaves out links.
 use Rattle.std.specs.Prelude.{◌≡◌, ℕ, List, filter}
-use Rattle.wax_directory.specs.declared.directory.FileType.{FileType}
-use Rattle.wax_directory.specs.declared.directory.FileType.TheVariants.{File, Link, Folder}
-use Rattle.wax_walk.specs.Collected.{GaveAll}
-use Rattle.wax_walk.specs.Forest.{Pending, filtered_pending}
-use Rattle.wax_walk.specs.Given.{Facts, Given, Mark, alone, changed_by, cut_by, is_kept, kept}
+use Rattle.wax.specs.Walks.{alone, changed_by, cut_by, Facts, File, FileType, filtered_pending, Folder}
+use Rattle.wax.specs.Walks.{GaveAll, Given, is_kept, kept, Link, Mark, Pending}
 
 abbrev pub kind_mark : FileType → Mark
 kind_mark File = kept

@@ -1,9 +1,9 @@
 //! Globs of one component.
 ghost use Rattle.std.specs.Prelude.{ℕ, List, IfOk, chars};
-ghost use Rattle.wax.specs.Build.{MatchGlob};
+ghost use Rattle.wax.specs.Headline.{MatchGlob};
 ghost use Rattle.wax.specs.GlobView.{IsMeant};
-ghost use Rattle.wax_token.specs.Meaning.{HasNoSlash};
 ghost use Rattle.wax_uses.specs.Names.{IsOneComponent};
+ghost use Rattle.wax.specs.Language.{HasNoSlash};
 
 use std::alloc::Global;
 use wax::{BuildError, Glob};

@@ -2,9 +2,8 @@
 ghost use Rattle.std.specs.List.{AllZip};
 ghost use Rattle.std.specs.Prelude.{◌≡◌, List, IfOk, chars};
 ghost use Rattle.wax.specs.Ignoring.{IsReadAs};
-ghost use Rattle.wax_ignore.specs.Lines.{written_lines};
-ghost use Rattle.wax_token.specs.Reads.{Span};
-ghost use Rattle.wax_wanted.specs.Ignored.{Line, is_ignored};
+ghost use Rattle.wax.specs.Ignoring.{is_ignored, Line, written_lines};
+ghost use Rattle.wax.specs.Language.{Span};
 
 use std::alloc::Global;
 use wax::CandidatePath;

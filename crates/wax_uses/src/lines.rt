@@ -1,7 +1,7 @@
 //! Lines of a text in memory.
 ghost use Rattle.std.specs.Prelude.{ℕ, IfOk};
 ghost use Rattle.wax.specs.GlobView.{IsMeant};
-ghost use Rattle.wax_lines.specs.Lines.{Filters, WritesMeant, lines};
+ghost use Rattle.wax.specs.Matching.{Filters, lines, WritesMeant};
 
 use std::alloc::Global;
 use wax::{Counted, Glob, LinesError, filter_lines};

@@ -1,8 +1,8 @@
 //! Work that can be left undone, by what is known of a glob.
 ghost use Rattle.std.specs.Prelude.{◌≤◌, ◌++◌, ◌∷◌, ℕ, List, IfOk, IsTrue};
 ghost use Rattle.wax.specs.GlobView.{IsMeant};
-ghost use Rattle.wax_query.specs.Components.{Bare, component_total};
-ghost use Rattle.wax_token.specs.Meaning.{HasNoSlash};
+ghost use Rattle.wax.specs.Language.{HasNoSlash};
+ghost use Rattle.wax.specs.Queries.{Bare, component_total};
 
 use std::alloc::Global;
 use wax::{CandidatePath, Glob, NoMemory, Program};

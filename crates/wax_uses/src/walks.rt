@@ -1,13 +1,9 @@
 //! Walks that leave something out.
 ghost use Rattle.std.specs.Iterator.{IsFinite};
 ghost use Rattle.std.specs.Prelude.{◌≡◌, All, IfOk, map};
-ghost use Rattle.wax_walk.specs.Entries.{facts_of, given_outcome};
-ghost use Rattle.wax_walk.specs.Forest.{Pending};
-ghost use Rattle.wax_walk.specs.Given.{Given};
-ghost use Rattle.wax_walk.specs.Known.{KnownOutcome};
-ghost use Rattle.wax_walk.specs.Said.{mark_of};
 ghost use Rattle.wax_uses.specs.Less.{AreEntriesLess, IsKnownFrom, IsMeantEntry, IsUnmeantEntry};
 ghost use Rattle.wax_uses.specs.Walks.{KeepsByRule, link_mark};
+ghost use Rattle.wax.specs.Walks.{facts_of, Given, given_outcome, KnownOutcome, mark_of, Pending};
 
 use std::alloc::Global;
 use wax::walk::{

@@ -1,11 +1,11 @@
-//! Matchers: of a glob, and of programs beside `run`, over expressions and texts that are drawn at random.
+//! Matchers: of a glob or a set, and of programs beside `run`, over expressions and texts drawn at random.
 
 use crate::answer::Answer;
 use crate::row::Row;
 use std::alloc::{AllocError, Global};
 use wax::encode::{Matcher, Meter, Program, compile, run};
 use wax::token::{ExpressionMetadata, Tokenized, parse};
-use wax::{CandidatePath, Glob, NoMemory};
+use wax::{BuildMatcher, CandidatePath, NoMemory, PathMatcher};
 
 /// Letters of words and of texts. One of them is past ASCII.
 const LETTERS: &[&str] = &["a", "b", "c", "é"];
@@ -75,14 +75,14 @@ impl Draws {
     }
 }
 
-/// Adds which of the paths one matcher of the glob matches. The paths have spaces between.
-pub fn add_answers(
+/// Adds which of the paths one matcher of the glob or the set matches. The paths have spaces between.
+pub fn add_answers<'p, P: BuildMatcher<'p>>(
     alloc: Global,
-    glob: &Glob<'_>,
+    program: &'p P,
     paths: &str,
     made: &mut Answer,
 ) -> Result<(), NoMemory> {
-    let mut matcher = glob.matcher(alloc)?;
+    let mut matcher = program.build_matcher(alloc)?;
     for path in paths.split(' ') {
         made.digit(matcher.is_match(&CandidatePath::from(path))?);
     }

@@ -5,7 +5,6 @@ use crate::kinds::GlobFact;
 use crate::row::Row;
 use std::alloc::Global;
 use wax::diagnostics::{LocatedError, Span};
-use wax::rule::RuleErrorKind;
 use wax::{BuildError, NoMemory};
 
 /// Adds a fact of an expression that isn't built.
@@ -20,7 +19,7 @@ pub fn answer(
         return Err(NoMemory);
     }
     match fact {
-        GlobFact::Builds => made.show(&number(error)),
+        GlobFact::Builds => made.show(&error.number()),
         GlobFact::Accept => add_span(error, made),
         GlobFact::Labels => return add_rule_labels(alloc, error, made),
         GlobFact::ErrorLabels => return add_error_labels(alloc, error, made),
@@ -48,27 +47,9 @@ fn add_picture(
 
 /// Adds the number, and each label.
 fn add_error_labels(alloc: Global, error: &BuildError, made: &mut Answer) -> Result<(), NoMemory> {
-    made.show(&number(error));
+    made.show(&error.number());
     add_labels(&error.labels(alloc)?, made);
     Ok(())
-}
-
-/// Returns the number of a refusal.
-pub fn number(error: &BuildError) -> u8 {
-    match error {
-        BuildError::Parse(_) => 1,
-        BuildError::Rule(error) => match error.kind() {
-            RuleErrorKind::AdjacentBoundary => 2,
-            RuleErrorKind::IncompatibleBounds => 3,
-            RuleErrorKind::SingularTree => 4,
-            RuleErrorKind::AdjacentZeroOrMore => 5,
-            RuleErrorKind::RootedSubGlob => 6,
-            RuleErrorKind::SingularZeroOrMore => 7,
-            RuleErrorKind::OversizedInvariant => 8,
-        },
-        BuildError::Compile(_) => 9,
-        BuildError::Memory => 10,
-    }
 }
 
 /// Returns the span of a broken rule.
@@ -81,7 +62,7 @@ fn rule_span(error: &BuildError) -> Option<Span> {
 
 /// Adds the number, and start and length of a broken rule.
 fn add_span(error: &BuildError, made: &mut Answer) {
-    made.show(&number(error));
+    made.show(&error.number());
     let Some((start, len)) = rule_span(error) else {
         return made.add("\t-\t-");
     };
@@ -93,7 +74,7 @@ fn add_span(error: &BuildError, made: &mut Answer) {
 
 /// Adds the number, and each label of a broken rule.
 fn add_rule_labels(alloc: Global, error: &BuildError, made: &mut Answer) -> Result<(), NoMemory> {
-    made.show(&number(error));
+    made.show(&error.number());
     if let BuildError::Rule(broken) = error {
         for place in broken.locations() {
             add_labels(&place.labels(alloc)?, made);

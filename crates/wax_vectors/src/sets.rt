@@ -4,7 +4,7 @@ use crate::answer::Answer;
 use crate::answers::push;
 use crate::globs::{add_facts, add_is_match, add_match};
 use crate::kinds::SetFact;
-use crate::refusals::number;
+use crate::matchers::add_answers;
 use crate::row::Row;
 use std::alloc::Global;
 use wax::encode::compile;
@@ -31,9 +31,8 @@ fn built(alloc: Global, fact: SetFact, patterns: &str) -> Result<Set, BuildError
         SetFact::Length => set_of_parts(alloc, patterns),
         SetFact::NestedLength => set_of_set(alloc, patterns),
         SetFact::Empty | SetFact::EmptyLength => set_of_none(alloc),
-        SetFact::Patterns | SetFact::Match | SetFact::IsMatch | SetFact::Facts => {
-            set_of(alloc, patterns)
-        }
+        SetFact::Patterns | SetFact::Match | SetFact::IsMatch | SetFact::Matcher | SetFact::Facts =>
+            set_of(alloc, patterns),
     }
 }
 
@@ -41,7 +40,7 @@ fn add_error(error: &BuildError, made: &mut Answer) -> Result<(), NoMemory> {
     if let BuildError::Memory = error {
         return Err(NoMemory);
     }
-    made.show(&number(error));
+    made.show(&error.number());
     Ok(())
 }
 
@@ -70,6 +69,7 @@ fn of_lent(
     match fact {
         SetFact::Match => add_match(alloc, set, row.input(1), made),
         SetFact::IsMatch | SetFact::SetsIsMatch => add_is_match(alloc, set, row.input(1), made),
+        SetFact::Matcher => add_answers(alloc, set, row.input(1), made),
         SetFact::Empty => add_is_match(alloc, set, row.input(0), made),
         SetFact::Facts => {
             made.debug(set);

@@ -1,9 +1,9 @@
 //! Walks of globs.
 ghost use Rattle.std.specs.Prelude.{◌≡◌, ◌≤◌, ◌+◌, ◌*◌, ℕ, List, IfOk, MatchOption, map};
-ghost use Rattle.wax_depth.specs.Depth.{Depth};
+ghost use Rattle.wax_components.specs.Depth.{Depth};
 ghost use Rattle.wax_facts.specs.Prefix.{Prefix};
 ghost use Rattle.wax_glob_walk.specs.Matches.{IsMatchedEntry};
-ghost use Rattle.wax_leading.specs.Prefix.{HasEmptyName};
+ghost use Rattle.wax_exclude.specs.Prefix.{HasEmptyName};
 ghost use Rattle.wax_query.specs.Components.{component_total};
 ghost use Rattle.wax_query.specs.Ranges.{AtMost, Bounds};
 ghost use Rattle.wax_tree.specs.Begins.{EndsWithin, BeginsAt, behavior_range};
@@ -17,11 +17,10 @@ ghost use Rattle.wax.specs.GlobWalks.{BeginsGlob, IsPlan, way_from, within};
 use crate::glob::Glob;
 use std::alloc::Global;
 use wax_candidate::Program;
-use wax_collect::collect_less;
 use wax_directory::directory::Directory;
+use wax_exclude::{Component, Way, collect_less, leading, way_of};
 use wax_filter::filter::SeparatingFilter;
 use wax_glob_walk::{GlobEntry, walk_of};
-use wax_leading::{Component, Way, leading, way_of};
 use wax_query::diagnostics::NoMemory;
 use wax_tree::{Range, WalkBehavior, WalkTree};
 use wax_walk::{Entry, FileIterator, Rule, TreeEntry, WalkError};
@@ -174,14 +173,14 @@ fn walk_in<'g, 't, D: Directory>(
 
 impl<'t> Glob<'t> {
     ghost use Rattle.std.specs.Prelude.{All, filter};
-    ghost use Rattle.wax_collect.specs.Trips.{AreRulesOf, KeepsWanted};
+    ghost use Rattle.wax_exclude.specs.Trips.{AreRulesOf, KeepsWanted};
     ghost use Rattle.wax_directory.specs.Shown.{Shown};
     ghost use Rattle.wax_token.specs.Reads.{Span};
     ghost use Rattle.wax_tree.specs.Prefix.{ArePlain};
     ghost use Rattle.wax_walk.specs.Entries.{given_outcome};
     ghost use Rattle.wax_walk.specs.Given.{Given, is_kept};
     ghost use Rattle.wax_walk.specs.Known.{KnownOutcome};
-    ghost use Rattle.wax_wanted.specs.Wanted.{Filter};
+    ghost use Rattle.wax_exclude.specs.Wanted.{Filter};
     ghost use Rattle.wax.specs.GlobWalks.{Beginning, GaveWithin, KeepsNothing, trip_of};
 
     /// The items that are kept of the walk of the glob less what these rules leave out, in order, errors

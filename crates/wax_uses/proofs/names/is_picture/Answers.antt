@@ -10,4 +10,4 @@ returns c =
     let means : IsTrue c.in_ok-is_match.field-0 ↔ IsMeant c.in_ok-glob.glob s =
     subst (λ v. IsTrue c.in_ok-is_match.field-0 ↔ IsMeant c.in_ok-glob.glob v) c.from.ensures
     c.in_ok-is_match.ensures.means in
-    through means (is_picture c.in_ok-glob.glob.tree c.in_ok-glob.ensures.only s)
+    through means (is_picture c.in_ok-glob.glob.tree c.in_ok-glob.ensures.build.only s)

@@ -1,8 +1,7 @@
 use Rattle.std.proofs.Common.{ap, map}
-use Rattle.wax_tree.specs.Begins.{behavior_range}
-use Rattle.wax_walk.specs.Entries.{facts_of}
 use Rattle.wax_uses.proofs.LessMeant.{all_meant, items_less, items_unmeant}
 use Rattle.wax_uses.proofs.walks.meant_less.Goals as goal
+use Rattle.wax.specs.Walks.{behavior_range, facts_of}
 
 pub returns-clause-meant : goal.returns-clause-meant
 returns-clause-meant g c =

@@ -1,5 +1,5 @@
 use Rattle.std.proofs.Common.{[], refl, subst, arith}
-use Rattle.wax_collect.specs.Trips.{goes}
+use Rattle.wax_exclude.specs.Trips.{goes}
 use Rattle.wax_tree.specs.Begins.{behavior_range}
 use Rattle.wax_walk.proofs.Collecting.{map_ok}
 use Rattle.wax_walk.proofs.Knowing.{all_before}

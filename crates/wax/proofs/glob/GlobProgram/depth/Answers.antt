@@ -1,5 +1,5 @@
 use Rattle.std.proofs.Common.{◌≡◌, ◌≤◌, arith, ap, subst}
-use Rattle.wax_depth.specs.Depth.{Depth}
+use Rattle.wax_components.specs.Depth.{Depth}
 use Rattle.wax_query.specs.Ranges.{bounds}
 use Rattle.wax_token.specs.Cost.{cost}
 use Rattle.wax.proofs.glob.GlobProgram.depth.Goals as goal

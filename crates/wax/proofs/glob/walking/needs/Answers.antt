@@ -1,8 +1,8 @@
 use Rattle.std.proofs.Common.{◌≡◌, ◌∙◌, MatchOption, ap, subst, sym}
 use Rattle.wax_facts.specs.Prefix.{Prefix}
-use Rattle.wax_leading.specs.Prefix.{HasEmptyName, IsPrefixWay}
+use Rattle.wax_exclude.specs.Prefix.{HasEmptyName, IsPrefixWay}
 use Rattle.wax_tree.specs.Prefix.{from_last}
-use Rattle.wax_wanted.specs.Leading.{leading_of}
+use Rattle.wax_exclude.specs.Leading.{leading_of}
 use Rattle.wax.proofs.glob.walking.needs.Goals as goal
 
 pub returns-in_ok-leading-in-Some : goal.returns-in_ok-leading-in-Some

@@ -1,7 +1,7 @@
 use Rattle.std.proofs.Common.{◌≡◌, ◌∙◌, MatchOption, ap, subst}
 use Rattle.wax_tree.specs.Begins.{behavior_range}
 use Rattle.wax_tree.specs.Prefix.{from_last}
-use Rattle.wax_leading.specs.Prefix.{HasEmptyName}
+use Rattle.wax_exclude.specs.Prefix.{HasEmptyName}
 use Rattle.wax.specs.GlobWalks.{IsPlan, within}
 use Rattle.wax.proofs.GlobWalks.{begins_along, begins_ended, begins_refused}
 use Rattle.wax.proofs.GoingAlong.{can_walk}

@@ -1,5 +1,5 @@
 use Rattle.std.proofs.Common.{◌≡◌, ◌∙◌, ap, map, subst, sym}
-use Rattle.wax_ignore.specs.Lines.{written_lines, written_of}
+use Rattle.wax_exclude.specs.Lines.{written_lines, written_of}
 use Rattle.wax.specs.Ignoring.{IsNoList}
 use Rattle.wax.proofs.IgnoreLines.{all_read, first_unread, next_read, none_read}
 use Rattle.wax.proofs.ignoring.IgnoreList.parse.Goals as goal

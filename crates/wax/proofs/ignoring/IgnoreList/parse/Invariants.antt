@@ -1,5 +1,5 @@
 use Rattle.std.proofs.Common.{map, take}
-use Rattle.wax_ignore.specs.Lines.{written_of}
+use Rattle.wax_exclude.specs.Lines.{written_of}
 use Rattle.wax.specs.Ignoring.{AreReadAs}
 use Rattle.wax.proofs.ignoring.IgnoreList.parse.Given as goal
 

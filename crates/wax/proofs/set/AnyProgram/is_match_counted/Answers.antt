@@ -1,6 +1,6 @@
-use Rattle.std.proofs.Common.{false, chars, IsTrue, length, sym, ap, subst, arith, rules}
-use Rattle.wax_token.specs.Meaning.{Means}
+use Rattle.std.proofs.Common.{chars, IsTrue, length, sym, ap, subst, arith, rules}
 use Rattle.wax_prefilter.proofs.Lengths.{chars_short}
+use Rattle.wax.specs.AnyView.{MeansText}
 use Rattle.wax.proofs.set.AnyProgram.is_match_counted.Goals as goal
 
 pub returns-clause-below : goal.returns-clause-below
@@ -12,9 +12,6 @@ pub returns-then-not-may_match-clause-decides : goal.returns-then-not-may_match-
 returns-then-not-may_match-clause-decides c = (
   λ no. absurd (search rules),
   λ meant.
-      let text = chars c.as_str-text.result.now in
-      let same : Means c.self.inside.token false false text =
-      subst (λ t. Means t false false text) (sym c.self.view_is) (subst (λ s. Means c.args.self.now false false s) (sym c.as_str-text.ensures) meant) in
-      let passes : IsTrue c.may_match.result = c.may_match.ensures (c.self.invariant.passes text same) in
+      let passes : IsTrue c.may_match.result = c.may_match.ensures (subst (MeansText c.args.self.now) (sym c.as_str-text.ensures) meant) in
       absurd (search (rules, passes)),
 )

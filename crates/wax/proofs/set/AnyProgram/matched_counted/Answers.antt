@@ -1,8 +1,7 @@
-use Rattle.std.proofs.Common.{false, chars, IfOk, IsTrue, sym, subst, rules}
+use Rattle.std.proofs.Common.{chars, IfOk, IsTrue, sym, subst, rules}
 use Rattle.std.proofs.lemmas.Result.{IfOk-weaker}
 use Rattle.wax_candidate.specs.Matched.{IsMatchOf}
 use Rattle.wax_capture.specs.Matched.{IsMatched}
-use Rattle.wax_token.specs.Meaning.{Means}
 use Rattle.wax_token.specs.Words.{members}
 use Rattle.wax.specs.AnyView.{IsWhole, MeansText}
 use Rattle.wax.proofs.Sets.{any_match}
@@ -10,10 +9,7 @@ use Rattle.wax.proofs.set.AnyProgram.matched_counted.Goals as goal
 
 pub returns-then-not-may_match-clause-matched : goal.returns-then-not-may_match-clause-matched
 returns-then-not-may_match-clause-matched c meant =
-    let text = chars c.as_str-text.result.now in
-    let same : Means c.self.inside.token false false text =
-    subst (λ t. Means t false false text) (sym c.self.view_is) (subst (λ s. Means c.args.self.now false false s) (sym c.as_str-text.ensures) meant) in
-    let passes : IsTrue c.may_match.result = c.may_match.ensures (c.self.invariant.passes text same) in
+    let passes : IsTrue c.may_match.result = c.may_match.ensures (subst (MeansText c.args.self.now) (sym c.as_str-text.ensures) meant) in
     absurd (search (rules, passes))
 
 -- the alternation captures the whole text

@@ -1,5 +1,5 @@
 use Rattle.std.proofs.Common.{ap}
-use Rattle.wax_ignore.proofs.Listing.{says_lines}
+use Rattle.wax_exclude.proofs.ListingLines.{says_lines}
 use Rattle.wax.proofs.walk_filter.WalkFilter.ignore.Goals as goal
 
 pub returns : goal.returns

@@ -1,7 +1,7 @@
-use Rattle.std.proofs.Common.{◌↔◌, IfOk, IsTrue, chars, sym, subst, rules}
+use Rattle.std.proofs.Common.{◌↔◌, IfOk, IsTrue, chars, false, sym, subst, rules}
 use Rattle.wax.specs.GlobView.{IsMeant}
-use Rattle.wax.specs.Matching.{AcceptsMeant}
-use Rattle.wax_program.proofs.LastNames.{same_answer}
+use Rattle.wax_token.specs.Decided.{means_tested}
+use Rattle.wax.proofs.Matchers.{decided_alike, same_truth}
 use Rattle.wax.proofs.glob.matcher.GlobMatcher.is_match.Goals as goal
 
 pub returns-then-not-may_match-clause-means : goal.returns-then-not-may_match-clause-means
@@ -14,12 +14,14 @@ returns-then-not-may_match-clause-means c = (
       absurd (search (rules, passes)),
 )
 
-pub invariant_of-self : goal.invariant_of-self
-invariant_of-self c = subst (λ code. AcceptsMeant code c.self.inside.glob.now) (sym c.is_match.ensures.same) c.self.invariant
+pub returns-then-not-may_match-clause-decides : goal.returns-then-not-may_match-clause-decides
+returns-then-not-may_match-clause-decides c =
+    same_truth false _ (returns-then-not-may_match-clause-means c) (means_tested c.args.self.now.tree false false c.args.path.now)
 
 pub returns-clause-means : goal.returns-clause-means
 returns-clause-means c =
-    let text = chars c.as_str-text.result.now in
-    let here = same_answer c.is_match.result _ _ (c.self.invariant text) c.is_match.ensures.decides in
-    let there = subst (λ g. IfOk c.is_match.result (λ b. IsTrue b ↔ IsMeant g text)) c.self.view_is here in
-    subst (λ z. IfOk c.is_match.result (λ b. IsTrue b ↔ IsMeant c.args.self.now z)) c.as_str-text.ensures there
+    subst (λ z. IfOk c.follow.result (λ b. IsTrue b ↔ IsMeant c.args.self.now z)) c.as_str-text.ensures c.follow.ensures.means
+
+pub returns-clause-decides : goal.returns-clause-decides
+returns-clause-decides c =
+    decided_alike c.follow.result _ (means_tested c.args.self.now.tree false false c.args.path.now) (returns-clause-means c)

@@ -1,0 +1,53 @@
+-- What is proved of globs, on one page: which expressions are accepted, which texts are matched, and what is
+-- kept of a walk. Public clauses of `Glob` cite these words.
+use Rattle.std.specs.Prelude.{◌≡◌, ◌<◌, ◌≤◌, ℕ, List, [], Result, Ok, Err, ⊤}
+use Rattle.wax_error.specs.declared.build_error.BuildError.{BuildError}
+use Rattle.wax_error.specs.declared.build_error.BuildError.TheVariants.{Parse, Rule, Compile, Memory}
+use Rattle.wax_parse.specs.Accepted.{IsPlace}
+use Rattle.wax_rule.specs.FirstBreak.{TellsFirst}
+use Rattle.wax_token.specs.Syntax.{Tree}
+-- ---- Kept (`Glob::collect_less`): of the whole walk over what a lawful directory shows (`whole_at`), the
+-- entries in range (`is_in`) that the glob means and that no pattern means and no list ignores (`is_wanted`),
+-- all of them and in order (`wanted_entries`). So no folder that was skipped hides a match. `KeepsWanted`
+-- says how such a walk ends, and `MayList` which folders it may list.
+pub use Rattle.wax_directory.specs.Law.{Law}
+pub use Rattle.wax_exclude.specs.Ignored.{is_ignored}
+pub use Rattle.wax_exclude.specs.Trips.{KeepsWanted}
+pub use Rattle.wax_exclude.specs.Walked.{MayList, wanted_entries}
+pub use Rattle.wax_exclude.specs.Wanted.{Wanted, is_wanted}
+pub use Rattle.wax_tree.specs.Whole.{is_in, whole_at}
+-- ---- Matched (`Glob::is_match`): exactly the texts that the tree means (`IsMeant`, by `Means` of trees).
+-- `is_match_counted` visits at most `program_length` instructions a character, and as many once more. What
+-- `matched` captures is what `HasCaptures` says.
+pub use Rattle.wax.specs.GlobView.{GlobView, HasCaptures, IsMeant}
+pub use Rattle.wax_token.specs.Meaning.{Means}
+-- ---- Accepted (`Glob::new`): exactly the expressions that spell a tree (`Reads`) which breaks no rule
+-- (`broken`) and fits (`program_length`).
+pub use Rattle.wax_break.specs.Rules.{broken}
+pub use Rattle.wax_token.specs.Cost.{program_length}
+pub use Rattle.wax_token.specs.Reads.{Reads, Span}
+
+-- a glob of the expression e, and of the one tree that it spells
+pub record IsGlob (e : List ℕ) (g : GlobView) : Type 0 where
+  pub expression : g.expression ≡ e
+  pub spells : Reads e g.tree
+  pub only : (t : Tree Span) → Reads e t → t ≡ g.tree
+  pub keeps_rules : broken g.tree ≡ []
+  pub fits : program_length g.tree ≤ 1048576
+
+-- a tree of the expression e that breaks no rule costs too much
+pub record IsOversized (e : List ℕ) : Type 0 where
+  pub tree : Tree Span
+  pub spells : Reads e tree
+  pub keeps_rules : broken tree ≡ []
+  pub oversized : 1048576 < program_length tree
+
+-- what a build of the expression e answers: a glob, or the first reason against one; nothing is said where
+-- memory was refused
+abbrev pub MatchGlob : List ℕ → Result GlobView BuildError → Type 0
+MatchGlob e (Ok g) = IsGlob e g
+MatchGlob e (Err (Parse place)) = ((t : Tree Span) → Reads e t → ⊥) × IsPlace e place
+MatchGlob e (Err (Rule error)) =
+    (t : Tree Span) × Reads e t × TellsFirst (broken t) error × (error.expression ≡ e)
+MatchGlob e (Err (Compile _)) = IsOversized e
+MatchGlob e (Err Memory) = ⊤

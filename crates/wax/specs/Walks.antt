@@ -1,0 +1,75 @@
+-- Words of contracts on walks: directories, their listings, filters, and what is kept.
+pub use Rattle.wax_directory.specs.Answers.{KindIs, ListIs}
+pub use Rattle.wax_directory.specs.Calls.{Nexts, OpensAt, TellsOpened}
+pub use Rattle.wax_directory.specs.Copies.{IsCopy}
+pub use Rattle.wax_directory.specs.Counting.{Counts, after_counting, item_counts, kind_counts, next_counts}
+pub use Rattle.wax_directory.specs.Counting.{no_counts, opening_counts}
+pub use Rattle.wax_directory.specs.Law.{HoldsLast, HoldsSame, Law, ShowsSame}
+pub use Rattle.wax_directory.specs.Listing.{CountsListed, HeldWhereShown, TellsListed}
+pub use Rattle.wax_directory.specs.Names.{is_plain, is_rooted}
+pub use Rattle.wax_directory.specs.Nodes.{HasDistinctNames, HasDuplicateName}
+pub use Rattle.wax_directory.specs.Routes.{StandsBy, routes_to}
+pub use Rattle.wax_directory.specs.Shown.{IsDistinct, IsPlain, Items, Shown, ShowsIn, a_folder, child_shown}
+pub use Rattle.wax_directory.specs.Shown.{join}
+pub use Rattle.wax_directory.specs.Starved.{starved_law}
+pub use Rattle.wax_directory.specs.TreeCursors.{last_dropped}
+pub use Rattle.wax_directory.specs.TreeLaw.{tree_child, tree_distinct, tree_inner}
+pub use Rattle.wax_directory.specs.Trees.{shown_in, tree_law}
+pub use Rattle.wax_directory.specs.Turns.{failing_inside, fails_after, starves_after, starving_inside}
+pub use Rattle.wax_directory.specs.declared.directory.FileType.{FileType}
+pub use Rattle.wax_directory.specs.declared.directory.FileType.TheVariants.{File, Folder, Link}
+pub use Rattle.wax_exclude.specs.Candidates.{candidate_of}
+pub use Rattle.wax_exclude.specs.Covers.{covers_test}
+pub use Rattle.wax_exclude.specs.Excluded.{excluded_mark}
+pub use Rattle.wax_exclude.specs.Law.{GivesWanted, ListsFew, WantsNothing}
+pub use Rattle.wax_exclude.specs.Leading.{leading_of}
+pub use Rattle.wax_exclude.specs.Marks.{covered_mark, glob_mark, not_mark, of_candidate}
+pub use Rattle.wax_exclude.specs.Prefix.{HasEmptyName, IsPrefixWay}
+pub use Rattle.wax_exclude.specs.Premises.{BeginsWith, IsUnmeant}
+pub use Rattle.wax_exclude.specs.Trips.{AreRulesOf, ComesWanted, IsRuleOf, KeepsWanted, MayGo, Trip, gives}
+pub use Rattle.wax_exclude.specs.Trips.{is_beyond, lacks_memory, over_budget, trip_less, trip_pending}
+pub use Rattle.wax_exclude.specs.Trips.{trip_walk}
+pub use Rattle.wax_exclude.specs.Walked.{glob_walk, wanted_entries, way_walk}
+pub use Rattle.wax_exclude.specs.Wanted.{Filter, filter_mark, is_kept_entry, not_ignored, not_meant}
+pub use Rattle.wax_filter.specs.Feeding.{AtMostCancels, ByEntry, ByItem, Feeds, NextFiltrate, OnlyCancels}
+pub use Rattle.wax_filter.specs.Feeding.{entry_layer}
+pub use Rattle.wax_filter.specs.Leaving.{MapsResidue, residue_item, shows_residue}
+pub use Rattle.wax_filter.specs.Separating.{Answers, AtFiltrate, AtResidue, CancelsBy, CancelsTree, LeavesOut}
+pub use Rattle.wax_filter.specs.Separating.{LeavesOutNode, LeavesOutTree, MapsFiltrate, MapsLeftOut, RefersTo}
+pub use Rattle.wax_filter.specs.Separating.{SaysOf, SeparatesBy, filtrate_of}
+pub use Rattle.wax_filter.specs.Transposing.{Transposes, TransposesOk}
+pub use Rattle.wax_filter.specs.declared.filter.separation.Separation.{Separation}
+pub use Rattle.wax_filter.specs.declared.filter.separation.Separation.TheVariants.{Filtrate, Residue}
+pub use Rattle.wax_filter.specs.declared.filter.tree_residue.TreeResidue.TheVariants.{Node, Tree}
+pub use Rattle.wax_filter.specs.inner.Walking.{separated_entry}
+pub use Rattle.wax_glob_walk.specs.Matches.{IsMatchedEntry, glob_facts, match_of, tree_entry}
+pub use Rattle.wax_glob_walk.specs.Programs.{any_mark, leading_mark}
+pub use Rattle.wax_glob_walk.specs.declared.entry.GlobEntry.{GlobEntry}
+pub use Rattle.wax_tree.specs.Begins.{Begins, BeginsAt, EndsWithin, HasEnded, LacksMemory, behavior_range}
+pub use Rattle.wax_tree.specs.Depths.{HasBounds, IsUnbounded, IsUnboundedAt, behavior_at, greatest, least}
+pub use Rattle.wax_tree.specs.Depths.{no_bound, raised}
+pub use Rattle.wax_tree.specs.Lacking.{gives_at_most, tree_view}
+pub use Rattle.wax_tree.specs.Prefix.{ArePlain, from_last}
+pub use Rattle.wax_tree.specs.WalkLaws.{cancel_law, comes_told}
+pub use Rattle.wax_tree.specs.Whole.{EntriesAre, plain_pending}
+pub use Rattle.wax_tree.specs.declared.behavior.DepthBehavior.TheVariants.{MinMax, Unbounded}
+pub use Rattle.wax_tree.specs.declared.behavior.WalkBehavior.{WalkBehavior}
+pub use Rattle.wax_tree.specs.declared.steps.Range.{Range}
+pub use Rattle.wax_walk.specs.Collected.{GaveAll, IsCutShort, Took}
+pub use Rattle.wax_walk.specs.Entries.{answer_of, error_depth, error_kind, error_path, facts_of, given_of}
+pub use Rattle.wax_walk.specs.Entries.{given_outcome, kind_of_fault}
+pub use Rattle.wax_walk.specs.Forest.{Forest, Pending, filtered, filtered_pending, item, lists, nothing}
+pub use Rattle.wax_walk.specs.Forest.{preorder}
+pub use Rattle.wax_walk.specs.Given.{Facts, Given, Mark, alone, changed_by, combined_mark, cut_by, entry}
+pub use Rattle.wax_walk.specs.Given.{fault, is_kept, kept, no_memory, with_tree}
+pub use Rattle.wax_walk.specs.Known.{KeepsKnown, KnownItem, KnownOutcome, StaysKnown}
+pub use Rattle.wax_walk.specs.Laws.{closure_cancelling, closure_telling, nothing_known, ruled_cancelling}
+pub use Rattle.wax_walk.specs.Laws.{ruled_telling}
+pub use Rattle.wax_walk.specs.Ruled.{ruled_view}
+pub use Rattle.wax_walk.specs.Said.{mark_of}
+pub use Rattle.wax_walk.specs.Says.{SaysByRule, closure_view}
+pub use Rattle.wax_walk.specs.View.{CancelStep, FeedStep, IsSeenAs, WalkView}
+pub use Rattle.wax_walk.specs.declared.entry.TreeEntry.{TreeEntry}
+pub use Rattle.wax_walk.specs.declared.error.FaultKind.TheVariants.{Budget}
+pub use Rattle.wax_walk.specs.declared.error.WalkError.{WalkError}
+pub use Rattle.wax_walk.specs.declared.iterator.EntryResidue.{EntryResidue}
