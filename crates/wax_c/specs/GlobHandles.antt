@@ -1,8 +1,6 @@
 -- How calls of handles of globs end.
 use Rattle.std.specs.Prelude.{◌≡◌, ℕ, ℤ, List, Option, Some, None, Result, Ok, Err}
 use Rattle.wax.specs.GlobView.{GlobView}
-use Rattle.wax_error.specs.Locations.{location_of}
-use Rattle.wax_query.specs.Labels.{Label}
 use Rattle.wax_c.specs.Numbers.{status_number}
 use Rattle.wax_c.specs.Outcomes.{IsGlobOf, IsNoGlob}
 use Rattle.wax_c.specs.declared.error.CallError.{CallError}
@@ -10,6 +8,8 @@ use Rattle.wax_c.specs.declared.error.CallError.TheVariants.{Build, NotText, NoR
 use Rattle.wax_c.specs.declared.handle.GlobHandle.{GlobHandle}
 use Rattle.wax_c.specs.declared.globs.WaxSpan.{WaxSpan}
 use denote.RawPtr.{null_ptr}
+use Rattle.wax.specs.Language.{location_of}
+use Rattle.wax.specs.Queries.{Label}
 
 abbrev pub no_span : WaxSpan
 no_span = record { start = 0; length = 0 }

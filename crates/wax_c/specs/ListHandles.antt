@@ -2,15 +2,13 @@
 use Rattle.std.specs.Prelude.{◌≡◌, ℕ, ℤ, Bool, List, Some, None, Result, Ok, Err, IsUtf8, chars}
 use Rattle.wax.specs.Ignoring.{HoldsLines, IsFirstUnread, IsListOf}
 use Rattle.wax.specs.declared.ignoring.IgnoreList.{IgnoreList}
-use Rattle.wax_error.specs.declared.build_error.BuildError.{BuildError}
-use Rattle.wax_error.specs.declared.build_error.BuildError.TheVariants.{Memory}
-use Rattle.wax_token.specs.Reads.{Span}
-use Rattle.wax_wanted.specs.Ignored.{Line, is_ignored}
 use Rattle.wax_c.specs.Numbers.{answer_number, status_number}
 use Rattle.wax_c.specs.declared.error.CallError.{CallError}
 use Rattle.wax_c.specs.declared.error.CallError.TheVariants.{Build, NotText, NoRoom}
 use Rattle.wax_c.specs.declared.list_handle.ListHandle.{ListHandle}
 use denote.RawPtr.{null_ptr}
+use Rattle.wax.specs.Ignoring.{is_ignored, Line}
+use Rattle.wax.specs.Language.{BuildError, Memory, Span}
 
 -- a list of these bytes, which are text
 abbrev pub IsListOfBytes : List ℕ → IgnoreList → Type 0

@@ -1,14 +1,15 @@
 -- How calls end.
-use Rattle.std.specs.Prelude.{◌≡◌, ◌↔◌, ◌<◌, ◌≤◌, ℕ, ℤ, Bool, IsTrue, List, length, take, IsUtf8, chars}
+use Rattle.std.specs.Prelude.{◌≡◌, ◌↔◌, ◌<◌, ◌≤◌, ℕ, ℤ, Bool, IsTrue, List, length, drop, take}
+use Rattle.std.specs.Prelude.{IsUtf8, chars}
 use Rattle.std.specs.Prelude.{Result, Ok, Err}
 use Rattle.std.specs.Prelude.{IfErr, OnErr}
-use Rattle.wax.specs.Build.{IsGlob, MatchGlob}
+use Rattle.wax.specs.Headline.{IsGlob, MatchGlob}
 use Rattle.wax.specs.GlobView.{GlobView, IsMeant}
-use Rattle.wax_error.specs.declared.build_error.BuildError.TheVariants.{Memory}
-use Rattle.wax_lines.specs.Lines.{Filters, WritesMeant, lines}
 use Rattle.wax_c.specs.Numbers.{answer_number, status_number}
 use Rattle.wax_c.specs.declared.error.CallError.{CallError}
 use Rattle.wax_c.specs.declared.error.CallError.TheVariants.{Build, NotText, NoRoom}
+use Rattle.wax.specs.Language.{Memory}
+use Rattle.wax.specs.Matching.{Filters, lines, WritesMeant}
 
 -- a glob of these bytes, which are text
 abbrev pub IsGlobOf : List ℕ → GlobView → Type 0
@@ -42,15 +43,16 @@ pub record Output : Type 0 where
   pub bytes : List ℕ
   pub written : ℕ
 
--- the output begins with the lines that the glob matches, or these are too long for it
-abbrev pub Fills : GlobView → List ℕ → Output → Result (Unit {0}) CallError → Type 0
-Fills g input output (Ok done) =
+-- the output begins with the lines that the glob matches, and goes on as before; or these are too long for it
+abbrev pub Fills : GlobView → List ℕ → List ℕ → Output → Result (Unit {0}) CallError → Type 0
+Fills g input before output (Ok done) =
     AreLines g input (take output.written output.bytes) × (output.written ≤ length output.bytes)
-Fills g input output (Err NoRoom) =
+    × (drop output.written output.bytes ≡ drop output.written before)
+Fills g input before output (Err NoRoom) =
     (out : List ℕ) × AreLines g input out × (output.written ≡ length out)
     × (length output.bytes < output.written)
-Fills g input output (Err (Build error)) = error ≡ Memory
-Fills g input output (Err NotText) = ⊥
+Fills g input before output (Err (Build error)) = error ≡ Memory
+Fills g input before output (Err NotText) = ⊥
 
 -- the number is that of an outcome that this says of a glob of the expression, or that there is none
 abbrev pub AnswersAs : List ℕ → (GlobView → Result Bool CallError → Type 0) → ℤ → Type 0
@@ -69,7 +71,7 @@ DecidesAs g path number =
 -- the output has the lines that the glob matches, or it is as before; and the number is that of this outcome
 abbrev pub FillsAs : GlobView → List ℕ → List ℕ → Output → ℤ → Type 0
 FillsAs g input before output number =
-    (outcome : Result (Unit {0}) CallError) × Fills g input output outcome
+    (outcome : Result (Unit {0}) CallError) × Fills g input before output outcome
     × OnErr outcome (output.bytes ≡ before)
     × IfErr outcome (λ error. (error ≡ NoRoom → ⊥) → output.written ≡ 0)
     × (number ≡ status_number outcome)

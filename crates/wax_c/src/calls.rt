@@ -54,7 +54,8 @@ pub(crate) fn fill(
     output: &mut [u8],
     written: &mut usize,
 ) -> Result<(), CallError>
-    ensures fills { Fills glob.now input.now (record { bytes = output.new; written = written.new }) result }
+    ensures fills { Fills glob.now input.now output.old
+        (record { bytes = output.new; written = written.new }) result }
     ensures unchanged { OnErr result (output.new ≡ output.old) }
     ensures nothing { IfErr result (λ error. (error ≡ CallError.NoRoom → ⊥) → written.new ≡ 0) }
 {

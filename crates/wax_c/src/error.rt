@@ -1,9 +1,8 @@
 //! Why a call fails, and the numbers that calls return.
 ghost use Rattle.std.specs.Prelude.{◌≡◌};
-ghost use Rattle.wax_c.specs.Numbers.{answer_number, build_number, error_number, rule_number, status_number};
+ghost use Rattle.wax_c.specs.Numbers.{answer_number, error_number, status_number};
 
 use wax::BuildError;
-use wax::rule::RuleErrorKind;
 
 /// Why a call fails.
 #[derive(Drop)]
@@ -42,35 +41,8 @@ fn number_of(error: &CallError) -> i32
     ensures { result ≡ error_number error.now }
 {
     match error {
-        CallError::Build(error) => number_of_build(error),
+        CallError::Build(error) => i32::from(error.number()),
         CallError::NotText => 20,
         CallError::NoRoom => 21,
-    }
-}
-
-// The number of a refusal to build.
-fn number_of_build(error: &BuildError) -> i32
-    ensures { result ≡ build_number error.now }
-{
-    match error {
-        BuildError::Parse(_) => 1,
-        BuildError::Rule(error) => number_of_rule(error.kind()),
-        BuildError::Compile(_) => 9,
-        BuildError::Memory => 10,
-    }
-}
-
-// The number of a broken rule.
-fn number_of_rule(kind: RuleErrorKind) -> i32
-    ensures { result ≡ rule_number kind }
-{
-    match kind {
-        RuleErrorKind::AdjacentBoundary => 2,
-        RuleErrorKind::IncompatibleBounds => 3,
-        RuleErrorKind::SingularTree => 4,
-        RuleErrorKind::AdjacentZeroOrMore => 5,
-        RuleErrorKind::RootedSubGlob => 6,
-        RuleErrorKind::SingularZeroOrMore => 7,
-        RuleErrorKind::OversizedInvariant => 8,
     }
 }

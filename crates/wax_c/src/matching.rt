@@ -35,7 +35,7 @@ pub extern "C" fn wax_filter(
     output: &mut [u8],
     written: &mut usize,
 ) -> i32
-    ensures fills { Ends expression.now (λ glob. Fills glob input.now
+    ensures fills { Ends expression.now (λ glob. Fills glob input.now output.old
         (record { bytes = output.new; written = written.new })) result }
     ensures unchanged { (result ≡ pos 0 → ⊥) → output.new ≡ output.old }
     ensures nothing { (result ≡ pos 0 → ⊥) → (result ≡ neg_ℤ (pos 21) → ⊥) → written.new ≡ 0 }
@@ -59,7 +59,7 @@ fn filter(
     output: &mut [u8],
     written: &mut usize,
 ) -> Result<(), CallError>
-    ensures fills { OfExpression expression.now (λ glob. Fills glob input.now
+    ensures fills { OfExpression expression.now (λ glob. Fills glob input.now output.old
         (record { bytes = output.new; written = written.new })) result }
     ensures unchanged { OnErr result (output.new ≡ output.old) }
     ensures nothing { IfErr result (λ error. (error ≡ CallError.NoRoom → ⊥) → written.new ≡ 0) }
