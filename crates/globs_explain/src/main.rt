@@ -107,7 +107,7 @@ fn draw(alloc: Global, expression: &str, page: &mut Page) -> u8 {
             page.lose_unless(added);
             0
         }
-        Err(_) => explain(alloc, expression, None, page),
+        Err(refusal) => refuse(alloc, expression, &BuildError::from(refusal), page),
     }
 }
 
