@@ -27,6 +27,7 @@ library:
 
 test:
 	tests/house
+	tests/calling
 	rt ci
 	./quick crates/globs/out/globs.unproved
 	tests/commands
@@ -38,6 +39,8 @@ test:
 	tests/completions
 	tests/pipelines
 	tests/explain
+	tests/examples
+	tests/comparison
 	tests/repository
 	tests/wrong-bodies
 
