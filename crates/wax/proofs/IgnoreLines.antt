@@ -8,7 +8,6 @@ use Rattle.wax_exclude.specs.Held.{HasLines, line_of}
 use Rattle.wax_exclude.specs.Lines.{Written, written_lines, written_of}
 use Rattle.wax_exclude.specs.declared.lines.WrittenLine.{WrittenLine}
 use Rattle.wax_exclude.specs.declared.rules.IgnoreLine.{IgnoreLine}
-use Rattle.wax_exclude.specs.declared.rules.IgnoreRule.{IgnoreRule}
 use Rattle.wax_exclude.specs.inner.Listed.{listed_mark}
 use Rattle.wax_token.specs.Reads.{Span}
 use Rattle.wax_tree.specs.Begins.{Begins, behavior_range}
@@ -85,9 +84,9 @@ all_read text all i held held' whole over same read =
 -- ---- walks
 
 -- a walk that the rule of these lines filters
-pub seen_ignoring : {D : Type 0} (inner outer : WalkView D) (rule : IgnoreRule) (lines : List (Line Span)) → HasLines rule lines →
-    IsSeenAs (ruled_view inner (λ f. listed_mark rule.lines.items f) false) outer → IsWalkIgnoring lines inner outer
-seen_ignoring inner outer rule lines held seen = subst (λ r. IsSeenAs (ruled_view inner r false) outer) (says_lines rule lines held) seen
+pub seen_ignoring : {D : Type 0} (inner outer : WalkView D) (held : List IgnoreLine) (lines : List (Line Span)) → HasLines held lines →
+    IsSeenAs (ruled_view inner (λ f. listed_mark held f) false) outer → IsWalkIgnoring lines inner outer
+seen_ignoring inner outer held lines has seen = subst (λ r. IsSeenAs (ruled_view inner r false) outer) (says_lines held lines has) seen
 
 pub begins_so : {D C : Type 0} (law : Law D C) (d : D) (start : List ℕ) (b behavior : WalkBehavior) (view : WalkView D) → b ≡ behavior →
     Begins law d start (behavior_range b) view → Begins law d start (behavior_range behavior) view

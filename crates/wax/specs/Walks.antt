@@ -66,7 +66,7 @@ pub use Rattle.wax_walk.specs.Known.{KeepsKnown, KnownItem, KnownOutcome, StaysK
 pub use Rattle.wax_walk.specs.Laws.{closure_cancelling, closure_telling, nothing_known, ruled_cancelling}
 pub use Rattle.wax_walk.specs.Laws.{ruled_telling}
 pub use Rattle.wax_walk.specs.Ruled.{ruled_view}
-pub use Rattle.wax_walk.specs.Said.{mark_of}
+pub use Rattle.wax_walk.specs.Said.{RuleStep, mark_of}
 pub use Rattle.wax_walk.specs.Says.{SaysByRule, closure_view}
 pub use Rattle.wax_walk.specs.View.{CancelStep, FeedStep, IsSeenAs, WalkView}
 pub use Rattle.wax_walk.specs.declared.entry.TreeEntry.{TreeEntry}

@@ -80,7 +80,7 @@ impl IgnoreList {
                 Err(error) => return Err(refused(line.number, error)),
             }
         }
-        let rule = IgnoreRule::new(lines);
+        let rule = IgnoreRule::new(alloc, lines)?;
         Ok(IgnoreList { rule })
     }
 
@@ -119,7 +119,7 @@ impl Rule for IgnoreList {
     ghost rule = { λ list. ⟦<IgnoreRule as Rule>⟧.rule list.rule };
 
     fn residue<E: Entry>(
-        &self,
+        &mut self,
         alloc: Global,
         entry: &E,
     ) -> Result<Option<EntryResidue>, NoMemory> {

@@ -49,7 +49,7 @@ impl Rule for WalkFilter {
     ghost rule = { rule_by ⟦<Exclusion as Rule>⟧.rule ⟦<IgnoreList as Rule>⟧.rule };
 
     fn residue<E: Entry>(
-        &self,
+        &mut self,
         alloc: Global,
         entry: &E,
     ) -> Result<Option<EntryResidue>, NoMemory> {

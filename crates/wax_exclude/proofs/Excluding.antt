@@ -6,6 +6,7 @@ use Rattle.std.proofs.lemmas.Bool.{and_from, and_parts, and_right, false≢true,
 use Rattle.std.proofs.lemmas.List.Elements.{filter-append}
 use Rattle.wax_alternatives.specs.Alternatives.{alternatives, MeansOneOf}
 use Rattle.wax_program.specs.Machine.{Accepts}
+use Rattle.wax_program.specs.declared.instruction.Instruction.{Instruction}
 use Rattle.wax_token.specs.Decided.{holds_truly, means_test, means_tested, some_decided}
 use Rattle.wax_token.specs.Meaning.{Means, MeansEach, MeansSome}
 use Rattle.wax_token.specs.Reads.{Span}
@@ -100,7 +101,7 @@ cover_past programs ts t h e =
 
 -- ---- what is said of an entry
 
-not_truly : (b : Bool) → (b ≡ true → ⊥) → b ≡ false
+pub not_truly : (b : Bool) → (b ≡ true → ⊥) → b ≡ false
 not_truly true n = absurd (n refl)
 not_truly false n = refl
 
@@ -110,36 +111,37 @@ whole_of t ts program one means s = (
   (λ m. (means s).1 ((members_mean t s).1 ((one false false s).1 m))),
 )
 
-module _ (ts : List (Tree Span)) (program : Instructions) (covering : List Instructions) (covers_all : Bool) (x : IsExclusion ts program covering covers_all) (f : Facts) where
-  abbrev text : List ℕ
-  text = chars f.candidate
+module _ (ts : List (Tree Span)) (code : List Instruction) (covering : List Instructions) (covers_all : Bool) (x : IsExclusion ts code covering covers_all) where
+  -- what the program decides
+  pub decides_some : (b : Bool) (s : List ℕ) → (IsTrue b ↔ Accepts code 0 s) → b ≡ some_test ts s
+  decides_some b s h =
+      let d = holds_truly (some_decided (trees ts) false false s) in
+      same_truth b (some_test ts s) ((λ e. d.1 ((x.whole s).0 (h.0 e))), (λ e. h.1 ((x.whole s).1 (d.0 e))))
 
-  said : (everything below meant : Bool) → some_everything ts ≡ everything → (nat_lt 0 f.depth && wild_test ts text) ≡ below → some_test ts text ≡ meant → covered_mark (everything || below) meant ≡ excluded_mark ts f
-  said everything below meant p q r = λ i. covered_mark (sym p i || sym q i) (sym r i)
+  module _ (f : Facts) where
+    abbrev text : List ℕ
+    text = chars f.candidate
 
-  some_true : Accepts program.0 0 text → some_test ts text ≡ true
-  some_true a = (holds_truly (some_decided (trees ts) false false text)).1 ((x.whole text).0 a)
+    said : (everything below meant : Bool) → some_everything ts ≡ everything → (nat_lt 0 f.depth && wild_test ts text) ≡ below → some_test ts text ≡ meant → covered_mark (everything || below) meant ≡ excluded_mark ts f
+    said everything below meant p q r = λ i. covered_mark (sym p i || sym q i) (sym r i)
 
-  some_false : (Accepts program.0 0 text → ⊥) → some_test ts text ≡ false
-  some_false n = not_truly (some_test ts text) (λ e. n ((x.whole text).1 ((holds_truly (some_decided (trees ts) false false text)).0 e)))
+    uncovered : some_test ts text ≡ false → wild_test ts text ≡ false
+    uncovered n = not_truly (wild_test ts text) (λ e. false≢true (sym n ∙ (holds_truly (some_decided (trees ts) false false text)).1 (wild_means ts text e)))
 
-  uncovered : (Accepts program.0 0 text → ⊥) → wild_test ts text ≡ false
-  uncovered n = not_truly (wild_test ts text) (λ e. n ((x.whole text).1 (wild_means ts text e)))
+    pub says_kept : covers_all ≡ false → some_test ts text ≡ false → kept ≡ excluded_mark ts f
+    says_kept e n = said false false false (sym x.all ∙ e) (and_right (nat_lt 0 f.depth) (wild_test ts text) (uncovered n)) n
 
-  pub says_kept : covers_all ≡ false → (Accepts program.0 0 text → ⊥) → kept ≡ excluded_mark ts f
-  says_kept e n = said false false false (sym x.all ∙ e) (and_right (nat_lt 0 f.depth) (wild_test ts text) (uncovered n)) (some_false n)
+    pub says_tree : covers_all ≡ false → nat_lt 0 f.depth ≡ true → SomeAccepts covering text → with_tree ≡ excluded_mark ts f
+    says_tree e d a =
+        let w : (nat_lt 0 f.depth && wild_test ts text) ≡ true = and_from (nat_lt 0 f.depth) (wild_test ts text) d ((wild_accepts text ts covering x.covers).0 a) in
+        said false true (some_test ts text) (sym x.all ∙ e) w refl
 
-  pub says_tree : covers_all ≡ false → nat_lt 0 f.depth ≡ true → SomeAccepts covering text → with_tree ≡ excluded_mark ts f
-  says_tree e d a =
-      let w : (nat_lt 0 f.depth && wild_test ts text) ≡ true = and_from (nat_lt 0 f.depth) (wild_test ts text) d ((wild_accepts text ts covering x.covers).0 a) in
-      said false true (some_test ts text) (sym x.all ∙ e) w refl
-
-  pub says_alone : covers_all ≡ false → Accepts program.0 0 text → (nat_lt 0 f.depth ≡ true → SomeAccepts covering text → ⊥) → alone ≡ excluded_mark ts f
-  says_alone e a n =
-      said false false true (sym x.all ∙ e)
-      (not_truly (nat_lt 0 f.depth && wild_test ts text) (λ q. (
-      let p = and_parts (nat_lt 0 f.depth) (wild_test ts text) q in n p.0 ((wild_accepts text ts covering x.covers).1 p.1))))
-      (some_true a)
+    pub says_alone : covers_all ≡ false → some_test ts text ≡ true → (nat_lt 0 f.depth ≡ true → SomeAccepts covering text → ⊥) → alone ≡ excluded_mark ts f
+    says_alone e a n =
+        said false false true (sym x.all ∙ e)
+        (not_truly (nat_lt 0 f.depth && wild_test ts text) (λ q. (
+        let p = and_parts (nat_lt 0 f.depth) (wild_test ts text) q in n p.0 ((wild_accepts text ts covering x.covers).1 p.1))))
+        a
 
 pub accepts_tree : (t : Tree Span) (ts : Trees Span) (program : Instructions) → ts ≡ members t → ((s : List ℕ) → Accepts program.0 0 s ↔ MeansEach ts false false s) → AcceptsTree program t
 accepts_tree t ts program e means s =

@@ -20,7 +20,7 @@ use Rattle.wax_exclude.proofs.ListingLines.{says_lines}
 use Rattle.wax_exclude.specs.Held.{HasLines}
 use Rattle.wax_exclude.specs.Kept as K
 use Rattle.wax_exclude.specs.Kept.{KeepsUnignored, Tour, tour_plain, tour_walk}
-use Rattle.wax_exclude.specs.declared.rules.IgnoreRule.{IgnoreRule}
+use Rattle.wax_exclude.specs.declared.rules.IgnoreLine.{IgnoreLine}
 use Rattle.wax_exclude.specs.inner.Listed.{listed_mark}
 
 -- ---- what comes
@@ -28,9 +28,9 @@ use Rattle.wax_exclude.specs.inner.Listed.{listed_mark}
 abbrev tour_pending : Tour → Shown → List (List ℕ) → Pending Given
 tour_pending tour s listed = pending nothing (tour_walk tour s) listed (count_shown s)
 
-module _ {D C : Type 0} (law : Law D C) (d : D) (tour : Tour) (rule : IgnoreRule) (v u : WalkView D)
+module _ {D C : Type 0} (law : Law D C) (d : D) (tour : Tour) (rule : List IgnoreLine) (v u : WalkView D)
     (held : HasLines rule tour.lines) (begins : Begins law d tour.start tour.range v)
-    (seen : IsSeenAs (ruled_view v (λ f. listed_mark rule.lines.items f) false) u) where
+    (seen : IsSeenAs (ruled_view v (λ f. listed_mark rule f) false) u) where
   comes : (s : Shown) (listed : List (List ℕ)) → law.shows d tour.start s → law.tells d listed → u.to_come (tour_pending tour s listed)
   comes s listed shows told =
       let ignoring : IsSeenAs (ruled_view v (of_candidate (ignore_mark tour.lines)) false) u = subst (λ r. IsSeenAs (ruled_view v r false) u) (says_lines rule tour.lines held) seen in

@@ -16,6 +16,7 @@ pub mod Listing
 pub mod ListingLines
 pub mod Losing
 pub mod Names
+pub mod Passed
 pub mod Passing
 pub mod Reaching
 pub mod Rows

@@ -1,8 +1,6 @@
 -- What lines say that are held by their alternatives.
-use Rattle.std.proofs.Common.{◌≡◌, ℕ, Bool, true, false, ◌&&◌, ◌||◌, not, cond, List, [], ◌∷◌, Option, Some, None, refl, sym, ap, ◌∙◌, map, drop, length, get_or, ◌+◌, ◌<◌, ◌≤◌, chars}
-use Rattle.std.specs.Option.{is_some}
+use Rattle.std.proofs.Common.{◌≡◌, ℕ, Bool, true, false, ◌&&◌, ◌||◌, not, cond, List, [], ◌∷◌, refl, ap, ◌∙◌, map}
 use Rattle.std.proofs.lemmas.Bool.{false≢true}
-use Rattle.std.proofs.lemmas.List.{drop_all, drop_more}
 use Rattle.wax_alternatives.proofs.Means.{means_one_of}
 use Rattle.wax_alternatives.specs.Alternatives.{alternatives}
 use Rattle.wax_exclude.proofs.Excluding.{some_is_pattern}
@@ -10,12 +8,8 @@ use Rattle.wax_exclude.specs.Excluded.{excluded_mark, some_test}
 use Rattle.wax_token.specs.Decided.{holds_truly, means_test, some_decided}
 use Rattle.wax_token.specs.Reads.{Span}
 use Rattle.wax_token.specs.Words.{trees}
-use Rattle.wax_walk.specs.declared.iterator.EntryResidue.{EntryResidue}
-use Rattle.wax_walk.specs.declared.iterator.EntryResidue.TheVariants.{File, Tree}
 use Rattle.wax_walk.specs.Given.{Facts, Mark, kept, alone, with_tree}
-use Rattle.wax_walk.specs.Said.{mark_of}
 use Rattle.wax_exclude.proofs.Descending.{covers_some_meant}
-use Rattle.wax_exclude.proofs.Ignored.{ignore_keeps}
 use Rattle.wax_exclude.proofs.Tests.{covers_tested}
 use Rattle.wax_exclude.specs.Candidates.{Candidate, candidate_of}
 use Rattle.wax_exclude.specs.Covers.{covers_test}
@@ -24,7 +18,6 @@ use Rattle.wax_exclude.specs.inner.Stacks.{keeps}
 use Rattle.wax_exclude.specs.Marks.{covered_mark, of_candidate}
 use Rattle.wax_exclude.specs.Held.{HasLines, line_of}
 use Rattle.wax_exclude.specs.declared.rules.IgnoreLine.{IgnoreLine}
-use Rattle.wax_exclude.specs.declared.rules.IgnoreRule.{IgnoreRule}
 use Rattle.wax_exclude.specs.inner.Listed.{below_by, ignored_by, listed_mark, mark_after, none_takes_back}
 
 -- ---- the lines of globs
@@ -50,8 +43,12 @@ held_mark lines f =
     λ i. covered_mark (below_held lines c i) (ignored_held lines false c.text i)
 
 -- what the rule of these lines says
-pub says_lines : (rule : IgnoreRule) (lines : List (Line Span)) → HasLines rule lines → (λ f. listed_mark rule.lines.items f) ≡ of_candidate (ignore_mark lines)
-says_lines rule lines h = λ i f. (ap (λ ls. listed_mark ls f) h ∙ held_mark lines f) i
+pub says_lines : (held : List IgnoreLine) (lines : List (Line Span)) → HasLines held lines → (λ f. listed_mark held f) ≡ of_candidate (ignore_mark lines)
+says_lines held lines h = λ i f. (ap (λ ls. listed_mark ls f) h ∙ held_mark lines f) i
+
+-- which texts they ignore
+pub ignores_lines : (held : List IgnoreLine) (lines : List (Line Span)) (s : List ℕ) → HasLines held lines → ignored_by false held s ≡ is_ignored lines s
+ignores_lines held lines s h = ap (λ ls. ignored_by false ls s) h ∙ ignored_held lines false s
 
 -- ---- line after line
 
@@ -70,10 +67,7 @@ mark_from before lines f =
     let c = candidate_of f in
     covered_mark ((is_below before && none_takes_back lines) || below_by lines c) (ignored_by (is_out before) lines c.text)
 
-pub from_start : (lines : List IgnoreLine) (f : Facts) → mark_from kept lines f ≡ listed_mark lines f
-from_start lines f = refl
-
-at_end : (before : Mark) (f : Facts) → mark_from before [] f ≡ before
+pub at_end : (before : Mark) (f : Facts) → mark_from before [] f ≡ before
 at_end kept f = refl
 at_end alone f = refl
 at_end with_tree f = refl
@@ -120,41 +114,8 @@ module _ (k : Bool → Bool) where
   one_line false with_tree false true all below h = refl
   one_line false with_tree false false all below h = refl
 
-after_line : (before : Mark) (line : IgnoreLine) (lines : List IgnoreLine) (f : Facts) →
+pub after_line : (before : Mark) (line : IgnoreLine) (lines : List IgnoreLine) (f : Facts) →
     mark_from before (line ∷ lines) f ≡ mark_from (mark_after line.ignores before (excluded_mark line.exclusion f)) lines f
 after_line before line lines f =
     let c = candidate_of f in
     one_line (λ b. ignored_by b lines c.text) line.ignores before (covers_test line.exclusion c) (some_test line.exclusion c.text) (none_takes_back lines) (below_by lines c) (covered_meant line c)
-
-pub next_said : (before after said whole : Mark) (lines : List IgnoreLine) (i : ℕ) (line : IgnoreLine) (f : Facts) → i < length lines → line ≡ get_or lines i line →
-    said ≡ excluded_mark line.exclusion f → after ≡ mark_after line.ignores before said →
-    mark_from before (drop i lines) f ≡ whole → mark_from after (drop (i + 1) lines) f ≡ whole
-next_said before after said whole lines i line f in' here s a h =
-    let split : drop i lines ≡ line ∷ drop (i + 1) lines = drop_more lines i line in' ∙ ap (λ l. l ∷ drop (i + 1) lines) (sym here) in
-    ap (λ m. mark_from m (drop (i + 1) lines) f) (a ∙ ap (mark_after line.ignores before) s)
-    ∙ sym (after_line before line (drop (i + 1) lines) f)
-    ∙ ap (λ ls. mark_from before ls f) (sym split) ∙ h
-
-pub last_said : (residue : Option EntryResidue) (lines all : List IgnoreLine) (i : ℕ) (f : Facts) → length lines ≤ i → lines ≡ all →
-    mark_from (mark_of residue) (drop i lines) f ≡ listed_mark lines f → mark_of residue ≡ listed_mark all f
-last_said residue lines all i f over same h =
-    let none : mark_of residue ≡ mark_from (mark_of residue) (drop i lines) f = sym (ap (λ ls. mark_from (mark_of residue) ls f) (drop_all i lines over) ∙ at_end (mark_of residue) f) in
-    none ∙ h ∙ ap (λ ls. listed_mark ls f) same
-
--- ---- paths
-
-kept_or_out : (r : Option EntryResidue) → is_some r ≡ not (keeps (mark_of r))
-kept_or_out None = refl
-kept_or_out (Some File) = refl
-kept_or_out (Some Tree) = refl
-
-twice : (b : Bool) → not (not b) ≡ b
-twice true = refl
-twice false = refl
-
--- what is left out of an entry is ignored
-pub out_ignored : (rule : IgnoreRule) (r : Option EntryResidue) (f : Facts) (path : List ℕ) → mark_of r ≡ listed_mark rule.lines.items f → chars f.candidate ≡ path →
-    (lines : List (Line Span)) → HasLines rule lines → is_some r ≡ is_ignored lines path
-out_ignored rule r f path says same lines h =
-    let m : mark_of r ≡ ignore_mark lines (candidate_of f) = says ∙ ap (λ ls. listed_mark ls f) h ∙ held_mark lines f in
-    kept_or_out r ∙ ap (λ v. not (keeps v)) m ∙ ap not (ignore_keeps lines (candidate_of f)) ∙ twice (is_ignored lines (chars f.candidate)) ∙ ap (is_ignored lines) same

@@ -42,8 +42,8 @@ CoverAll programs ts = AllZip AcceptsTree programs (wild ts)
 
 -- These are the programs of the alternatives, and of those that end with a tree wildcard, and whether one
 -- covers everything.
-pub record IsExclusion (ts : List (Tree Span)) (program : Instructions) (covering : List Instructions)
+pub record IsExclusion (ts : List (Tree Span)) (code : List Instruction) (covering : List Instructions)
     (covers_all : Bool) : Type 0 where
-  pub whole : (s : List ℕ) → Accepts program.0 0 s ↔ MeansSome (trees ts) false false s
+  pub whole : (s : List ℕ) → Accepts code 0 s ↔ MeansSome (trees ts) false false s
   pub covers : CoverAll covering ts
   pub all : covers_all ≡ some_everything ts

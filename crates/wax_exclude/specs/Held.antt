@@ -4,12 +4,11 @@ use Rattle.wax_alternatives.specs.Alternatives.{alternatives}
 use Rattle.wax_token.specs.Reads.{Span}
 use Rattle.wax_exclude.specs.Ignored.{Line}
 use Rattle.wax_exclude.specs.declared.rules.IgnoreLine.{IgnoreLine}
-use Rattle.wax_exclude.specs.declared.rules.IgnoreRule.{IgnoreRule}
 
 -- a line as it is held: its glob by the alternatives
 abbrev pub line_of : Line Span → IgnoreLine
 line_of line = record { ignores = line.ignores; exclusion = alternatives line.glob }
 
--- the rule holds exactly these lines
-abbrev pub HasLines : IgnoreRule → List (Line Span) → Type 0
-HasLines rule lines = rule.lines.items ≡ map line_of lines
+-- these are exactly these lines, as they are held
+abbrev pub HasLines : List IgnoreLine → List (Line Span) → Type 0
+HasLines held lines = held ≡ map line_of lines

@@ -1,3 +1,4 @@
+pub mod Blocks
 pub mod Descents
 pub mod Listed
 pub mod Stacks

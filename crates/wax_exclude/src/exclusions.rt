@@ -7,16 +7,21 @@ ghost use Rattle.wax_token.specs.Cost.{cost, program_length};
 ghost use Rattle.wax_token.specs.Words.{members};
 ghost use Rattle.wax_exclude.specs.Covers.{ends_wild, is_everything, is_unrooted, some_everything};
 ghost use Rattle.wax_exclude.specs.Compiled.{CoverAll, SomeAccepts};
+ghost use Rattle.wax_walk.specs.Said.{mark_of};
 
 use crate::programs::{accepts, program_of};
 use std::alloc::Global;
 use std::marker::Model;
 use wax_alternatives::into_alternatives;
+use wax_lazy::OwnedMatcher;
 use wax_match::encode;
 use wax_match::encode::{CompileError, Program};
 use wax_query::diagnostics::{NoMemory, Refusal};
 use wax_token::token::{ExpressionMetadata, LeafKind, Token, Wildcard};
 use wax_walk::{Entry, EntryResidue, Rule};
+
+/// How many bytes may be kept of earlier texts.
+const MOST_BYTES: usize = 2_097_152;
 
 /// A pattern that is left out of a walk: each entry that it means, with all that lies below it where an
 /// alternative covers it, else alone. A tree wildcard alone that isn't rooted covers everything; an
@@ -25,7 +30,7 @@ use wax_walk::{Entry, EntryResidue, Rule};
 pub struct Exclusion {
     alternatives: Vec<Token<'static, ExpressionMetadata>>,
     /// Accepts what one of them means.
-    whole: Program,
+    whole: OwnedMatcher,
     /// Of each alternative that ends with a tree wildcard.
     covering: Vec<Program>,
     /// An alternative is a tree wildcard alone that isn't rooted.
@@ -74,16 +79,84 @@ impl Exclusion {
         ensures fits { MatchBuild result (λ _. program_length pattern.entry ≤ 1048576)
             (λ _. 1048576 < program_length pattern.entry) }
     {
-        let whole = encode::compile(alloc, pattern.concatenation(), false, false)?;
+        let program = encode::compile(alloc, pattern.concatenation(), false, false)?;
         let alternatives = into_alternatives(alloc, pattern)?;
         let covering = covering_programs(alloc, alternatives.as_slice())?;
         let covers_all = some_everything(alternatives.as_slice());
         Ok(Exclusion {
             alternatives,
-            whole,
+            whole: OwnedMatcher::new(alloc, program, MOST_BYTES),
             covering,
             covers_all,
         })
+    }
+}
+
+impl Exclusion {
+    ghost use Rattle.wax_exclude.specs.Excluded.{excluded_mark, some_test};
+
+    /// Returns its alternatives.
+    pub(crate) fn alternatives(&self) -> &[Token<'static, ExpressionMetadata>]
+        ensures { result.now ≡ self.now }
+    {
+        self.alternatives.as_slice()
+    }
+
+    /// Returns whether an alternative means the text.
+    ///
+    /// # Errors
+    /// `NoMemory` if allocation fails.
+    pub(crate) fn means(&self, alloc: Global, text: &str) -> Result<bool, NoMemory>
+        ensures { IfOk result (λ answer. answer ≡ some_test self.now (chars text.now)) }
+    {
+        accepts(alloc, self.whole.program(), text)
+    }
+
+    /// Returns the same by what is kept of earlier texts.
+    fn means_again(&mut self, text: &str) -> Result<bool, NoMemory>
+        ensures decides { IfOk result (λ answer. answer ≡ some_test self.old (chars text.now)) }
+        ensures same { self.new ≡ self.old }
+    {
+        self.whole.is_match(text)
+    }
+
+    /// Returns what is left out of an entry whose candidate an alternative means or not.
+    fn left_out<E: Entry>(
+        &self,
+        alloc: Global,
+        entry: &E,
+        is_meant: bool,
+    ) -> Result<Option<EntryResidue>, NoMemory>
+        requires { is_meant ≡ some_test self.now (chars (E.facts entry.now).candidate) }
+        ensures { IfOk result (λ r. mark_of r ≡ excluded_mark self.now (E.facts entry.now)) }
+    {
+        if self.covers_all {
+            return Ok(Some(EntryResidue::Tree));
+        }
+        if !is_meant {
+            return Ok(None);
+        }
+        let (_, candidate) = entry.root_relative_paths();
+        if entry.depth() > 0 && some_accepts(alloc, self.covering.as_slice(), candidate)? {
+            return Ok(Some(EntryResidue::Tree));
+        }
+        Ok(Some(EntryResidue::File))
+    }
+
+    /// Returns what is left out of an entry, and keeps nothing for later ones.
+    ///
+    /// # Errors
+    /// `NoMemory` if allocation fails.
+    pub(crate) fn residue_once<E: Entry>(
+        &self,
+        alloc: Global,
+        entry: &E,
+    ) -> Result<Option<EntryResidue>, NoMemory>
+        ensures { IfOk result (λ r. mark_of r ≡ excluded_mark self.now (E.facts entry.now)) }
+    {
+        let (_, candidate) = entry.root_relative_paths();
+        let is_meant = self.means(alloc, candidate)?;
+        self.left_out(alloc, entry, is_meant)
     }
 }
 
@@ -93,21 +166,13 @@ impl Rule for Exclusion {
     ghost rule = { λ e f. excluded_mark e f };
 
     fn residue<E: Entry>(
-        &self,
+        &mut self,
         alloc: Global,
         entry: &E,
     ) -> Result<Option<EntryResidue>, NoMemory> {
-        if self.covers_all {
-            return Ok(Some(EntryResidue::Tree));
-        }
         let (_, candidate) = entry.root_relative_paths();
-        if !accepts(alloc, &self.whole, candidate)? {
-            return Ok(None);
-        }
-        if entry.depth() > 0 && some_accepts(alloc, self.covering.as_slice(), candidate)? {
-            return Ok(Some(EntryResidue::Tree));
-        }
-        Ok(Some(EntryResidue::File))
+        let is_meant = self.means_again(candidate)?;
+        self.left_out(alloc, entry, is_meant)
     }
 }
 

@@ -1,6 +1,7 @@
 //! What a glob's walk is to give and to list, and the law that it does.
 #![tactic(auto)]
 
+mod blocks;
 mod exclusions;
 mod kept;
 mod law;

@@ -1,5 +1,6 @@
 //! What the lines of an ignore list say of entries and paths.
-ghost use Rattle.std.specs.Prelude.{◌≡◌, ◌<◌, ◌≤◌, List, IfOk, chars};
+ghost use Rattle.std.specs.Prelude.{◌≡◌, ◌<◌, ◌≤◌, List, IfOk, chars, false, length};
+ghost use Rattle.std.specs.List.{All};
 ghost use Rattle.wax_query.specs.Outcome.{MatchBuild};
 ghost use Rattle.wax_token.specs.Cost.{program_length};
 ghost use Rattle.wax_token.specs.Reads.{Span};
@@ -7,22 +8,24 @@ ghost use Rattle.wax_walk.specs.Said.{mark_of};
 ghost use Rattle.wax_exclude.specs.Ignored.{Line, ignore_mark, is_ignored};
 ghost use Rattle.wax_exclude.specs.Marks.{of_candidate};
 ghost use Rattle.wax_exclude.specs.Held.{HasLines, line_of};
-ghost use Rattle.wax_exclude.specs.inner.Listed.{mark_after};
+ghost use Rattle.wax_exclude.specs.inner.Blocks.{IsBlockOf, left_to_say, mark_passed, marks_after};
+ghost use Rattle.wax_exclude.specs.inner.Listed.{ignored_by, listed_mark, mark_after};
 
+use crate::blocks::{Block, blocks_of};
 use crate::exclusions::Exclusion;
 use std::alloc::Global;
+use std::marker::Model;
 use wax_candidate::CandidatePath;
-use wax_directory::directory::FileType;
 use wax_match::encode::CompileError;
 use wax_query::diagnostics::{NoMemory, Refusal};
 use wax_token::token::{ExpressionMetadata, Token};
-use wax_walk::{Entry, EntryResidue, Rule, TreeEntry};
+use wax_walk::{Entry, EntryResidue, Rule};
 
 /// A line of an ignore list: whether it ignores what its glob means, or takes it back.
 #[derive(Drop)]
 pub struct IgnoreLine {
-    ignores: bool,
-    exclusion: Exclusion,
+    pub(crate) ignores: bool,
+    pub(crate) exclusion: Exclusion,
 }
 
 impl IgnoreLine {
@@ -45,51 +48,175 @@ impl IgnoreLine {
 
 /// What the lines of an ignore list say. An entry is left out where the last line that means its candidate
 /// ignores; together with all that lies below it where an alternative of a line that ignores covers it and no
-/// line that takes back stands after that line. Each line is asked at most once, in order.
+/// line that takes back stands after that line. Contracts see the lines.
+///
+/// Up to 256 lines are passed over at once, and up to 16 of them, if an automaton over them finds that none
+/// of them means an entry. Of earlier entries it keeps about 1 MiB at most for each 256 lines, and 64 KiB
+/// for each 16.
 #[derive(Drop)]
 pub struct IgnoreRule {
     lines: Vec<IgnoreLine>,
+    /// Lines that are passed over at once if none of them means an entry.
+    blocks: Vec<Block>,
+}
+
+impl Model for IgnoreRule {
+    ghost use Rattle.std.specs.Prelude.{List};
+    ghost use Rattle.std.specs.Coded.{coded_list};
+    ghost use Rattle.std.specs.List.{All};
+    ghost use Rattle.wax_exclude.specs.declared.rules.IgnoreLine.{IgnoreLine};
+    ghost use Rattle.wax_exclude.specs.contracts.rules.IgnoreLine as line;
+    ghost use Rattle.wax_exclude.specs.inner.Blocks.{IsBlockOf};
+
+    ghost Value = { List IgnoreLine };
+
+    ghost coded = { coded_list line.the_row.coded };
+
+    ghost view = { λ r. r.lines.items };
+
+    ghost invariant = { λ r. All (IsBlockOf r.lines.items) r.blocks.items };
 }
 
 impl IgnoreRule {
-    /// The rule of these lines.
-    pub fn new(lines: Vec<IgnoreLine>) -> IgnoreRule
-        ensures lines { result.lines ≡ lines }
-        ensures says { (ls : List (Line Span)) → HasLines result ls
-            → ⟦<IgnoreRule as Rule>⟧.rule result ≡ of_candidate (ignore_mark ls) }
+    /// Makes the rule of these lines. It takes time and memory of the order of their tokens and their cost.
+    ///
+    /// # Errors
+    /// `NoMemory` if allocation fails.
+    pub fn new(alloc: Global, lines: Vec<IgnoreLine>) -> Result<IgnoreRule, NoMemory>
+        ensures lines { IfOk result (λ rule. rule ≡ lines.items) }
+        ensures says { IfOk result (λ rule. (ls : List (Line Span)) → HasLines rule ls
+            → ⟦<IgnoreRule as Rule>⟧.rule rule ≡ of_candidate (ignore_mark ls)) }
     {
-        IgnoreRule { lines }
+        let blocks = blocks_of(alloc, lines.as_slice())?;
+        Ok(IgnoreRule { lines, blocks })
     }
 
-    /// Whether the last line that means the path ignores; false where none means it. Refused with 10 where
-    /// memory is.
+    /// Returns whether the last line that means the path ignores, and `false` if none means it.
+    ///
+    /// # Errors
+    /// `NoMemory` if allocation fails.
     pub fn is_ignored(&self, alloc: Global, path: &CandidatePath<'_>) -> Result<bool, NoMemory>
         ensures { IfOk result (λ answer. (ls : List (Line Span)) → HasLines self.now ls
             → answer ≡ is_ignored ls path.now) }
     {
-        let entry = entry_at(alloc, path)?;
-        let residue = self.residue(alloc, &entry)?;
-        Ok(residue.is_some())
+        is_ignored_by(alloc, self.lines.as_slice(), path.as_str())
     }
 }
 
 impl Rule for IgnoreRule {
     ghost use Rattle.wax_exclude.specs.inner.Listed.{listed_mark};
 
-    ghost rule = { λ rule f. listed_mark rule.lines.items f };
+    ghost rule = { λ rule f. listed_mark rule f };
 
     fn residue<E: Entry>(
-        &self,
+        &mut self,
         alloc: Global,
         entry: &E,
     ) -> Result<Option<EntryResidue>, NoMemory> {
-        let mut residue = None;
-        for line in &self.lines {
-            let said = line.exclusion.residue(alloc, entry)?;
-            residue = residue_after(line.ignores, residue, said);
-        }
-        Ok(residue)
+        residue_by(alloc, self.lines.as_slice(), &mut self.blocks, entry)
     }
+}
+
+// Whether the last of the lines that means the text ignores.
+fn is_ignored_by(alloc: Global, lines: &[IgnoreLine], text: &str) -> Result<bool, NoMemory>
+    ensures { IfOk result (λ answer. answer ≡ ignored_by false lines.now (chars text.now)) }
+{
+    let mut is_ignored = false;
+    for line in lines {
+        if line.exclusion.means(alloc, text)? {
+            is_ignored = line.ignores;
+        }
+    }
+    Ok(is_ignored)
+}
+
+// What the lines say of an entry.
+fn residue_by<E: Entry>(
+    alloc: Global,
+    lines: &[IgnoreLine],
+    blocks: &mut Vec<Block>,
+    entry: &E,
+) -> Result<Option<EntryResidue>, NoMemory>
+    requires { All (IsBlockOf lines.now) blocks.old.items }
+    ensures says { IfOk result (λ r. mark_of r ≡ listed_mark lines.now (E.facts entry.now)) }
+    ensures same { blocks.new.items ≡ blocks.old.items }
+{
+    let mut said = Said {
+        at: 0,
+        residue: None,
+    };
+    for at in 0..blocks.len() {
+        said = after_block(alloc, lines, &mut blocks[at], entry, said)?;
+    }
+    after_lines(alloc, &lines[said.at..], entry, said.residue)
+}
+
+// What the lines before a place say of an entry.
+#[derive(Clone, Copy)]
+struct Said {
+    at: usize,
+    residue: Option<EntryResidue>,
+}
+
+// What is said at the block's end if none of its lines means the entry, and else at its beginning. A block
+// that begins before the place is skipped.
+fn after_block<E: Entry>(
+    alloc: Global,
+    lines: &[IgnoreLine],
+    block: &mut Block,
+    entry: &E,
+    said: Said,
+) -> Result<Said, NoMemory>
+    requires block { IsBlockOf lines.now block.old }
+    requires within { said.at ≤ length lines.now }
+    ensures same { block.new ≡ block.old }
+    ensures within { IfOk result (λ next. next.at ≤ length lines.now) }
+    ensures left { IfOk result (λ next. left_to_say lines.now next (E.facts entry.now)
+        ≡ left_to_say lines.now said (E.facts entry.now)) }
+{
+    if block.start < said.at {
+        return Ok(said);
+    }
+    let residue = after_lines(alloc, &lines[said.at..block.start], entry, said.residue)?;
+    let (_, candidate) = entry.root_relative_paths();
+    if block.is_passed(candidate)? {
+        return Ok(Said {
+            at: block.end,
+            residue: passed(block.takes_back, residue),
+        });
+    }
+    Ok(Said {
+        at: block.start,
+        residue,
+    })
+}
+
+// What is said after lines none of which means the entry.
+fn passed(takes_back: bool, residue: Option<EntryResidue>) -> Option<EntryResidue>
+    ensures { mark_of result ≡ mark_passed takes_back (mark_of residue) }
+{
+    match (takes_back, residue) {
+        (true, Some(_)) => Some(EntryResidue::File),
+        (_, _) => residue,
+    }
+}
+
+// What is said after each of the lines was asked.
+fn after_lines<E: Entry>(
+    alloc: Global,
+    lines: &[IgnoreLine],
+    entry: &E,
+    before: Option<EntryResidue>,
+) -> Result<Option<EntryResidue>, NoMemory>
+    ensures { IfOk result
+        (λ r. mark_of r ≡ marks_after (mark_of before) lines.now (E.facts entry.now)) }
+{
+    let mut residue = before;
+    for line in lines {
+        let said = line.exclusion.residue_once(alloc, entry)?;
+        residue = residue_after(line.ignores, residue, said);
+    }
+    Ok(residue)
 }
 
 // What is left out after a line, of which the exclusion says this.
@@ -107,13 +234,4 @@ fn residue_after(
         (false, Some(_), None) => Some(EntryResidue::File),
         (false, _, _) => None,
     }
-}
-
-// An entry whose candidate is the path.
-fn entry_at(alloc: Global, path: &CandidatePath<'_>) -> Result<TreeEntry, NoMemory>
-    ensures { IfOk result (λ entry. chars (⟦<TreeEntry as Entry>⟧.facts entry).candidate ≡ path.now) }
-{
-    let candidate = String::from_str(alloc, path.as_str())?;
-    let (path, root) = (String::new(alloc), String::new(alloc));
-    Ok(TreeEntry::new(path, root, candidate, 1, FileType::File))
 }

@@ -1,6 +1,6 @@
 -- Two rules one after the other are one.
 use Rattle.std.proofs.Common.{◌≡◌, Bool, cond, refl, ap, ◌∙◌}
-use Rattle.wax_walk.specs.Forest.{Forest, nothing, item, lists, filtered, Pending, filtered_pending, pending}
+use Rattle.wax_walk.specs.Forest.{Forest, nothing, item, lists, filtered}
 use Rattle.wax_walk.specs.Given.{Facts, Mark, kept, alone, with_tree, Given, entry, fault, no_memory}
 use Rattle.wax_walk.specs.Given.{combined_mark, mark_by, with_mark, is_cut, changed_by, cut_by}
 
@@ -67,11 +67,3 @@ filtered_twice first second (item x below after) =
     (filtered_twice first second below)
     ∙ ap (item (changed_by one x) (cond (cut_by one x) nothing (ruled one below)))
     (filtered_twice first second after)))
-
-pub pending_twice : (first second : Facts → Mark) (p : Pending Given)
-    → filtered_pending (changed_by second) (cut_by second) (filtered_pending (changed_by first) (cut_by first) p)
-    ≡ filtered_pending (changed_by (one_of first second)) (cut_by (one_of first second)) p
-pending_twice first second p =
-    ap (λ b. pending b (ruled second (ruled first p.after)) p.listed p.items) (filtered_twice first second p.below)
-    ∙ ap (λ a. pending (ruled (one_of first second) p.below) a p.listed p.items)
-    (filtered_twice first second p.after)

@@ -1,6 +1,6 @@
 -- Several rules, one after the other.
 use Rattle.std.proofs.Common.{◌≡◌, ℕ, ◌+◌, ◌<◌, suc, Bool, true, false, List, ◌∷◌, length, get_or, drop}
-use Rattle.std.proofs.Common.{drop-cons, map, refl, sym, ap, ◌∙◌, arith}
+use Rattle.std.proofs.Common.{drop-cons, map, refl, sym, ap, ◌∙◌, arith, Result, Ok, Err, IfOk, IsErrAnd}
 use Rattle.std.specs.Prelude.{if◌then◌else◌}
 use Rattle.wax_walk.specs.Given.{Facts, Mark, kept, alone, with_tree, combined_mark}
 use Rattle.wax_glob_walk.specs.Programs.{any_mark}
@@ -50,3 +50,8 @@ module _ {R : Type 0} (rule : R → Facts → Mark) (f : Facts) (xs : List R) (i
         now : (c : Bool) → with_tree ≡ combined_mark (so_far c) with_tree
         now true = refl
         now false = refl
+
+-- of an error nothing is said that a success promises
+pub if_ok_of_err : {T E : Type 0} (P : T → Type 0) (Q : E → Type 0) (r : Result T E) → IsErrAnd r Q → IfOk r P
+if_ok_of_err P Q (Ok x) h = absurd h
+if_ok_of_err P Q (Err e) h = tt

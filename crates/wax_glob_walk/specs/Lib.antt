@@ -1,2 +1,3 @@
 pub mod Programs
 pub mod Matches
+pub mod Laws

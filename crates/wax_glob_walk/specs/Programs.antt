@@ -15,15 +15,12 @@ leads decides (c ∷ cs) (n ∷ names) = decides c n && leads decides cs names
 abbrev pub lead_to : {C : Type 0} → (C → List ℕ → Bool) → List C → Facts → Bool
 lead_to decides cs f = leads decides cs (map chars (names_in_path f.candidate))
 
--- an entry one of whose names isn't meant by its component is left out with what lies below it
-abbrev pub led_by_programs : {C : Type 0} → (C → List ℕ → Bool) → List C → Facts → Mark
-led_by_programs decides cs f = if lead_to decides cs f then kept else with_tree
-
 -- an entry that isn't meant is left out alone
 abbrev pub means_mark : {P : Type 0} → (P → List ℕ → Bool) → P → Facts → Mark
 means_mark decides p f = if decides p (chars f.candidate) then kept else alone
 
--- what a glob's walk says, of the programs of the leading components and of the glob
+-- what a glob's walk says, of the programs of the leading components and of the glob: an entry one of whose
+-- names isn't meant by its component is left out with what lies below it
 abbrev pub leading_mark : {C P : Type 0} → (C → List ℕ → Bool) → List C → (P → List ℕ → Bool) → P → Facts
     → Mark
 leading_mark tests cs decides p f = if lead_to tests cs f then means_mark decides p f else with_tree

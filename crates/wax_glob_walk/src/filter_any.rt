@@ -27,13 +27,13 @@ impl<R: Rule> Rule for FilterAny<R> {
     ghost rule = { λ s. any_mark (map R.rule s.rules.items) };
 
     fn residue<E: Entry>(
-        &self,
+        &mut self,
         alloc: Global,
         entry: &E,
     ) -> Result<Option<EntryResidue>, NoMemory> {
         let mut is_left_out = false;
-        for rule in &self.rules {
-            match rule.residue(alloc, entry)? {
+        for at in 0..self.rules.len() {
+            match self.rules[at].residue(alloc, entry)? {
                 None => {}
                 Some(EntryResidue::File) => is_left_out = true,
                 Some(EntryResidue::Tree) => return Ok(Some(EntryResidue::Tree)),

@@ -5,15 +5,15 @@ ghost use Rattle.std.specs.Iterator.{IsFinite};
 ghost use Rattle.wax_candidate.specs.Matched.{IsMatchOf};
 ghost use Rattle.wax_filter.specs.Feeding.{NextFiltrate};
 ghost use Rattle.wax_glob_walk.specs.Matches.{IsMatchedEntry, glob_facts, shown_entry};
-ghost use Rattle.wax_glob_walk.specs.Programs.{leading_mark, means_mark};
+ghost use Rattle.wax_glob_walk.specs.Programs.{leading_mark};
 ghost use Rattle.wax_walk.specs.Entries.{given_of, facts_of};
-ghost use Rattle.wax_walk.specs.Given.{changed_by};
+ghost use Rattle.wax_walk.specs.Given as G;
 ghost use Rattle.wax_walk.specs.Known.{KnownItem, StaysKnown};
 ghost use Rattle.wax_walk.specs.Ruled.{ruled_view};
 ghost use Rattle.wax_walk.specs.View.{IsSeenAs};
 
 use crate::entry::GlobEntry;
-use crate::leading::{Leading, NameTest};
+use crate::leading::{NameTest, lead};
 use std::alloc::Global;
 use wax_candidate::{CandidatePath, MatchedText, Program};
 use wax_directory::directory::Directory;
@@ -22,7 +22,7 @@ use wax_filter::filter::{
 };
 use wax_query::diagnostics::NoMemory;
 use wax_tree::WalkTree;
-use wax_walk::{Entry, FileIterator, TreeEntry, WalkError, Without};
+use wax_walk::{Entry, FileIterator, TreeEntry, WalkError};
 
 /// What a glob's walk and each filter over it give.
 pub struct GlobFeed;
@@ -66,50 +66,105 @@ fn captured<P: Program>(
     }
 }
 
-// The item after what a program says of it.
-fn separated<P, F>(
+// What becomes of an entry that wasn't left out before, and whether what lies below it is cancelled.
+fn separated_entry<P, C>(
     alloc: Global,
     program: &P,
-    separation: Separation<F>,
-) -> Result<Separation<GlobFeed>, NoMemory>
+    leading: &[C],
+    entry: TreeEntry,
+) -> Result<(Separation<GlobFeed>, bool), NoMemory>
 where
     P: Program,
-    F: Feed<Filtrate = Result<TreeEntry, WalkError>, Residue = TreeResidue<TreeEntry>>,
-    ensures gives { IfOk result (λ r. given_of glob_facts facts_of r
-        ≡ changed_by (means_mark P.decides program.now) (given_of facts_of facts_of separation)) }
+    C: NameTest,
+    ensures gives { IfOk result (λ r. given_of glob_facts facts_of r.0
+        ≡ G.changed_by (leading_mark C.decides leading.now P.decides program.now) (G.entry G.kept (facts_of entry))) }
+    ensures cuts { IfOk result (λ r. r.1
+        ≡ G.cut_by (leading_mark C.decides leading.now P.decides program.now) (G.entry G.kept (facts_of entry))) }
     ensures matches { IfOk result
-        (KnownItem (IsMatchedEntry (P.means program.now) (P.captured program.now))) }
+        (λ r. KnownItem (IsMatchedEntry (P.means program.now) (P.captured program.now)) r.0) }
 {
-    match separation {
-        Separation::Filtrate(filtrate) => match filtrate.into_inner() {
-            Ok(entry) => match captured(alloc, program, &entry)? {
-                Some(matched) => {
-                    let entry = GlobEntry::new(entry, matched);
-                    Ok(Separation::Filtrate(Product::new(Ok(entry))))
-                }
-                None => Ok(Separation::Residue(Product::new(TreeResidue::Node(entry)))),
-            },
-            Err(error) => Ok(Separation::Filtrate(Product::new(Err(error)))),
-        },
-        Separation::Residue(residue) => {
-            Ok(Separation::Residue(Product::new(residue.into_inner())))
+    if !lead(alloc, leading, &entry)? {
+        return Ok((
+            Separation::Residue(Product::new(TreeResidue::Tree(entry))),
+            true,
+        ));
+    }
+    match captured(alloc, program, &entry)? {
+        Some(matched) => {
+            let entry = GlobEntry::new(entry, matched);
+            Ok((Separation::Filtrate(Product::new(Ok(entry))), false))
         }
+        None => Ok((
+            Separation::Residue(Product::new(TreeResidue::Node(entry))),
+            false,
+        )),
     }
 }
 
-/// A walk of which a program leaves out what it doesn't mean, each entry alone. The others are kept, each
-/// with what is captured of its candidate. Each entry is matched at most once.
+// What becomes of an item, and whether what lies below it is cancelled.
+fn separated<P, C, F>(
+    alloc: Global,
+    program: &P,
+    leading: &[C],
+    separation: Separation<F>,
+) -> Result<(Separation<GlobFeed>, bool), NoMemory>
+where
+    P: Program,
+    C: NameTest,
+    F: Feed<Filtrate = Result<TreeEntry, WalkError>, Residue = TreeResidue<TreeEntry>>,
+    ensures gives { IfOk result (λ r. given_of glob_facts facts_of r.0
+        ≡ G.changed_by (leading_mark C.decides leading.now P.decides program.now)
+        (given_of facts_of facts_of separation)) }
+    ensures cuts { IfOk result (λ r. r.1
+        ≡ G.cut_by (leading_mark C.decides leading.now P.decides program.now)
+        (given_of facts_of facts_of separation)) }
+    ensures matches { IfOk result
+        (λ r. KnownItem (IsMatchedEntry (P.means program.now) (P.captured program.now)) r.0) }
+{
+    match separation {
+        Separation::Filtrate(filtrate) => match filtrate.into_inner() {
+            Ok(entry) => separated_entry(alloc, program, leading, entry),
+            Err(error) => Ok((Separation::Filtrate(Product::new(Err(error))), false)),
+        },
+        Separation::Residue(residue) => match residue.into_inner() {
+            TreeResidue::Node(entry) => {
+                if lead(alloc, leading, &entry)? {
+                    Ok((
+                        Separation::Residue(Product::new(TreeResidue::Node(entry))),
+                        false,
+                    ))
+                } else {
+                    Ok((
+                        Separation::Residue(Product::new(TreeResidue::Tree(entry))),
+                        true,
+                    ))
+                }
+            }
+            TreeResidue::Tree(entry) => {
+                Ok((
+                    Separation::Residue(Product::new(TreeResidue::Tree(entry))),
+                    false,
+                ))
+            }
+        },
+    }
+}
+
+/// A walk of the entries of another that a program means, each with what is captured of its candidate. An
+/// entry one of whose names isn't meant by the leading component at its place is left out with all that lies
+/// below it, which is cancelled; any other that isn't meant is left out alone. Each entry is matched at most
+/// once.
 #[derive(Drop)]
-pub struct Matching<'g, I, P> {
+pub struct Matching<'g, I, P, C> {
     alloc: Global,
     input: I,
     program: &'g P,
+    leading: Vec<C>,
     has_ended: bool,
 }
 
-/// The walk of a glob. An entry one of whose names isn't meant by the leading component at its place is
-/// left out with all that lies below it, which is cancelled; any other that isn't meant is left out alone.
-pub type GlobWalk<'g, D, P, C> = Matching<'g, Without<WalkTree<D>, Leading<C>>, P>;
+/// The walk of a glob.
+pub type GlobWalk<'g, D, P, C> = Matching<'g, WalkTree<D>, P, C>;
 
 /// The walk of the glob of this program and these leading components, of what a plain walk gives. Of each
 /// entry that is kept it is known that what was captured of it is what the program captures of its candidate.
@@ -134,16 +189,18 @@ where
 {
     Matching {
         alloc,
-        input: walk.without(alloc, Leading::new(leading)),
+        input: walk,
         program,
+        leading,
         has_ended: false,
     }
 }
 
-impl<I, P> SeparatingFilter for Matching<'_, I, P>
+impl<I, P, C> SeparatingFilter for Matching<'_, I, P, C>
 where
     I: FileIterator<Entry = TreeEntry, Residue = TreeEntry>,
     P: Program,
+    C: NameTest,
 {
     ghost use Rattle.wax_glob_walk.specs.Matches.{IsMatchedEntry, glob_facts};
     ghost use Rattle.wax_walk.specs.Entries.{answer_of, facts_of};
@@ -155,9 +212,11 @@ where
     ghost can_feed = { λ s. I.can_feed s.input };
 
     ghost feeds = { λ s r t. FeedStep I.Directory.law
-        (ruled_view (I.view s.input) (means_mark P.decides s.program.now) s.has_ended)
+        (ruled_view (I.view s.input)
+        (leading_mark C.decides s.leading.items P.decides s.program.now) s.has_ended)
         (answer_of glob_facts facts_of r)
-        (ruled_view (I.view t.input) (means_mark P.decides t.program.now) t.has_ended)
+        (ruled_view (I.view t.input)
+        (leading_mark C.decides t.leading.items P.decides t.program.now) t.has_ended)
         × KeepsKnown (IsMatchedEntry (P.means s.program.now) (P.captured s.program.now)) r
         (IsMatchedEntry (P.means t.program.now) (P.captured t.program.now)) };
 
@@ -168,44 +227,56 @@ where
             return None;
         }
         let separation = self.input.feed()?;
-        let Ok(separation) = separated(self.alloc, self.program, separation) else {
+        let Ok((separation, cuts)) = separated(self.alloc, self.program, &self.leading, separation)
+        else {
             self.has_ended = true;
             return Some(Separation::Filtrate(Product::new(Err(WalkError::Memory))));
         };
+        if cuts {
+            self.input.cancel_walk_tree();
+        }
         Some(separation)
     }
 }
 
-impl<I, P> CancelWalk for Matching<'_, I, P>
+impl<I, P, C> CancelWalk for Matching<'_, I, P, C>
 where
     I: FileIterator<Entry = TreeEntry, Residue = TreeEntry>,
     P: Program,
+    C: NameTest,
 {
     ghost use Rattle.std.proofs.Common.{◌∙◌};
 
     ghost cancels = { λ s t. I.cancels s.input t.input × (t.program ≡ s.program)
-        × (t.has_ended ≡ s.has_ended) };
+        × (t.leading ≡ s.leading) × (t.has_ended ≡ s.has_ended) };
 
     fn cancel_walk_tree(&mut self) {
         self.input.cancel_walk_tree()
     }
 
-    ghost once = { λ s t u a b. (I.once s.input t.input u.input a.0 b.0, b.1 ∙ a.1, b.2 ∙ a.2) };
+    ghost once = { λ s t u a b. (
+      I.once s.input t.input u.input a.0 b.0,
+      b.1 ∙ a.1,
+      b.2 ∙ a.2,
+      b.3 ∙ a.3,
+    ) };
 
     ghost can_go_on = { λ s t h c. I.can_go_on s.input t.input h.0 c };
 
     ghost no_longer = { λ s t h e. I.no_longer s.input t.input h.0 e };
 }
 
-impl<I, P> FileIterator for Matching<'_, I, P>
+impl<I, P, C> FileIterator for Matching<'_, I, P, C>
 where
     I: FileIterator<Entry = TreeEntry, Residue = TreeEntry>,
     P: Program,
+    C: NameTest,
 {
     ghost use Rattle.std.proofs.Common.{ap, subst};
+    ghost use Rattle.wax_glob_walk.specs.Laws.{leading_cancelling};
     ghost use Rattle.wax_glob_walk.specs.Matches.{IsMatchedEntry};
     ghost use Rattle.wax_walk.specs.Entries.{facts_of};
-    ghost use Rattle.wax_walk.specs.Laws.{ruled_telling, ruled_cancelling};
+    ghost use Rattle.wax_walk.specs.Laws.{ruled_telling};
 
     type Entry = GlobEntry;
 
@@ -213,7 +284,8 @@ where
 
     type Directory = I::Directory;
 
-    ghost view = { λ s. ruled_view (I.view s.input) (means_mark P.decides s.program.now) s.has_ended };
+    ghost view = { λ s. ruled_view (I.view s.input)
+        (leading_mark C.decides s.leading.items P.decides s.program.now) s.has_ended };
 
     ghost known = { λ s. IsMatchedEntry (P.means s.program.now) (P.captured s.program.now) };
 
@@ -225,26 +297,28 @@ where
         self.input.into_directory()
     }
 
-    ghost telling = { λ s q i. ruled_telling (I.view s.input) (means_mark P.decides s.program.now)
+    ghost telling = { λ s q i. ruled_telling (I.view s.input)
+        (leading_mark C.decides s.leading.items P.decides s.program.now)
         (I.Directory.law.tells (I.view s.input).directory) (I.telling s.input) q i.1 };
 
     ghost same_facts = { λ e r h. ap facts_of h };
 
     ghost feeding = { λ s t r f. f.0 };
 
-    ghost cancelling = { λ s t h. ruled_cancelling (I.view s.input) (I.view t.input)
-        (λ p. means_mark P.decides p.now) s.program t.program s.has_ended t.has_ended
-        (I.cancelling s.input t.input h.0) h.1 h.2 };
+    ghost cancelling = { λ s t h. leading_cancelling (I.view s.input) (I.view t.input) C.decides P.decides
+        s.leading.items t.leading.items s.program.now t.program.now s.has_ended t.has_ended
+        (I.cancelling s.input t.input h.0) (λ i. (h.2 i).items) (λ i. (h.1 i).now) h.3 };
 
     ghost keeping = { λ s t r f. f.1 };
 
     ghost staying = { λ s t h e k. subst (λ p. IsMatchedEntry (P.means p.now) (P.captured p.now) e) h.1 k };
 }
 
-impl<I, P> Iterator for Matching<'_, I, P>
+impl<I, P, C> Iterator for Matching<'_, I, P, C>
 where
     I: FileIterator<Entry = TreeEntry, Residue = TreeEntry>,
     P: Program,
+    C: NameTest,
 {
     type Item = Result<GlobEntry, WalkError>;
 

@@ -1,12 +1,13 @@
-//! The leading components of a glob, as a filter of its walk.
+//! The leading components of a glob, which the first names of each entry have to match.
 
 ghost use Rattle.std.specs.Prelude.{◌≡◌, ◌∷◌, [], ℕ, Bool, List, IfOk, MatchOption, chars, map};
 ghost use Rattle.wax_directory.specs.Names.{names_in_path};
-ghost use Rattle.wax_glob_walk.specs.Programs.{leads, led_by_programs};
+ghost use Rattle.wax_glob_walk.specs.Programs.{lead_to, leads};
+ghost use Rattle.wax_walk.specs.Entries.{facts_of};
 
 use std::alloc::Global;
 use wax_query::diagnostics::NoMemory;
-use wax_walk::{Entry, EntryResidue, Rule};
+use wax_walk::{Entry, TreeEntry};
 
 /// What a leading component means: a set of names.
 pub trait NameTest: Drop {
@@ -55,34 +56,14 @@ fn are_led<C: NameTest>(alloc: Global, leading: &[C], path: &str) -> Result<bool
     Ok(true)
 }
 
-/// Leaves out each entry one of whose names isn't meant by the component at its place, with all that
-/// lies below it.
-#[derive(Drop)]
-pub struct Leading<C> {
-    components: Vec<C>,
-}
-
-impl<C: NameTest> Leading<C> {
-    /// The filter of these components.
-    pub(crate) fn new(components: Vec<C>) -> Self
-        ensures { result ≡ record { components = components } }
-    {
-        Leading { components }
-    }
-}
-
-impl<C: NameTest> Rule for Leading<C> {
-    ghost rule = { λ s f. led_by_programs C.decides s.components.items f };
-
-    fn residue<E: Entry>(
-        &self,
-        alloc: Global,
-        entry: &E,
-    ) -> Result<Option<EntryResidue>, NoMemory> {
-        let (_, candidate) = entry.root_relative_paths();
-        if are_led(alloc, &self.components, candidate)? {
-            return Ok(None);
-        }
-        Ok(Some(EntryResidue::Tree))
-    }
+// Each name of the entry's candidate is meant by the component at its place.
+pub(crate) fn lead<C: NameTest>(
+    alloc: Global,
+    leading: &[C],
+    entry: &TreeEntry,
+) -> Result<bool, NoMemory>
+    ensures { IfOk result (λ led. led ≡ lead_to C.decides leading.now (facts_of entry.now)) }
+{
+    let (_, candidate) = entry.root_relative_paths();
+    are_led(alloc, leading, candidate)
 }

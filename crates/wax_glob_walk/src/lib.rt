@@ -9,4 +9,4 @@ mod leading;
 pub use entry::GlobEntry;
 pub use filter_any::FilterAny;
 pub use glob_walk::{GlobFeed, GlobWalk, Matching, walk_of};
-pub use leading::{Leading, NameTest};
+pub use leading::NameTest;

@@ -3,8 +3,9 @@
 #![tactic(auto)]
 
 mod cache;
+mod known;
 mod matcher;
 mod table;
 mod walk;
 
-pub use matcher::Matcher;
+pub use matcher::{Matcher, OwnedMatcher};

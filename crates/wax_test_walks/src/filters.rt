@@ -21,7 +21,7 @@ impl Rule for Filter {
     ghost rule = { rule_of ⟦<Exclusion as Rule>⟧.rule ⟦<IgnoreList as Rule>⟧.rule };
 
     fn residue<E: Entry>(
-        &self,
+        &mut self,
         alloc: Global,
         entry: &E,
     ) -> Result<Option<EntryResidue>, NoMemory> {

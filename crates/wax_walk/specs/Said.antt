@@ -1,9 +1,17 @@
-use Rattle.std.specs.Prelude.{Option, Some, None}
+use Rattle.std.specs.Prelude.{◌≡◌, IfOk, Option, Some, None, Result}
+use Rattle.wax_query.specs.declared.diagnostics.NoMemory.{NoMemory}
 use Rattle.wax_walk.specs.declared.iterator.EntryResidue.{EntryResidue}
 use Rattle.wax_walk.specs.declared.iterator.EntryResidue.TheVariants.{File, Tree}
-use Rattle.wax_walk.specs.Given.{Mark, kept, alone, with_tree}
+use Rattle.wax_walk.specs.Given.{Facts, Mark, kept, alone, with_tree}
 
 abbrev pub mark_of : Option EntryResidue → Mark
 mark_of None = kept
 mark_of (Some File) = alone
 mark_of (Some Tree) = with_tree
+
+-- A rule was called for an entry with these facts: it returns what it says of the entry, unless allocation
+-- fails, and it says the same of all entries as before.
+pub record RuleStep {A : Type 0} (rule : A → Facts → Mark) (old new : A) (facts : Facts)
+    (outcome : Result (Option EntryResidue) NoMemory) : Type 0 where
+  pub says : IfOk outcome (λ r. mark_of r ≡ rule old facts)
+  pub same : rule new ≡ rule old

@@ -7,7 +7,7 @@ ghost use Rattle.wax_filter.specs.Separating.{AtFiltrate};
 ghost use Rattle.wax_walk.specs.Entries.{given_of, given_outcome};
 ghost use Rattle.wax_walk.specs.Given.{Facts, Mark, mark_by, is_cut, with_mark};
 ghost use Rattle.wax_walk.specs.Known.{KeepsKnown, KeepsOnly};
-ghost use Rattle.wax_walk.specs.Said.{mark_of};
+ghost use Rattle.wax_walk.specs.Said.{RuleStep, mark_of};
 
 use crate::entry::Entry;
 use crate::error::WalkError;
@@ -23,15 +23,22 @@ pub trait Rule: Drop {
     /// What it says of an entry.
     ghost rule: { Self → Facts → Mark };
 
-    /// What it says of an entry, unless memory is refused.
-    fn residue<E: Entry>(&self, alloc: Global, entry: &E) -> Result<Option<EntryResidue>, NoMemory>
-        ensures { IfOk result (λ r. mark_of r ≡ rule self.now (E.facts entry.now)) };
+    /// Returns what it says of an entry. What it says of others stays the same, also after an error.
+    ///
+    /// # Errors
+    /// `NoMemory` if allocation fails.
+    fn residue<E: Entry>(
+        &mut self,
+        alloc: Global,
+        entry: &E,
+    ) -> Result<Option<EntryResidue>, NoMemory>
+        ensures { RuleStep rule self.old self.new (E.facts entry.now) result };
 }
 
 // What a rule says of an item.
 fn residue_of<T, R, F, P>(
     alloc: Global,
-    rule: &P,
+    rule: &mut P,
     separation: &Separation<F>,
 ) -> Result<Option<EntryResidue>, NoMemory>
 where
@@ -39,8 +46,9 @@ where
     R: Entry,
     P: Rule,
     F: Feed<Filtrate = Result<T, WalkError>, Residue = TreeResidue<R>>,
-    ensures { IfOk result
-        (λ r. mark_of r ≡ mark_by (P.rule rule.now) (given_of T.facts R.facts separation.now)) }
+    ensures says { IfOk result
+        (λ r. mark_of r ≡ mark_by (P.rule rule.old) (given_of T.facts R.facts separation.now)) }
+    ensures same { P.rule rule.new ≡ P.rule rule.old }
 {
     match separation {
         Separation::Filtrate(filtrate) => match filtrate.get() {
@@ -175,7 +183,7 @@ where
             return None;
         }
         let separation = self.input.feed()?;
-        let Ok(residue) = residue_of(self.alloc, &self.rule, &separation) else {
+        let Ok(residue) = residue_of(self.alloc, &mut self.rule, &separation) else {
             self.has_ended = true;
             return Some(Separation::Filtrate(Product::new(Err(WalkError::Memory))));
         };

@@ -2,6 +2,7 @@
 use Rattle.std.specs.Prelude.{◌≡◌, ℕ, ◌≤◌, List, [], ◌∷◌, ◌++◌, Bool, None, IfSome, IsFalse, IsTrue, length}
 use Rattle.std.specs.Prelude.{replicate}
 use Rattle.wax_lazy.specs.declared.cache.Cache.{Cache}
+use Rattle.wax_lazy.specs.declared.known.Known.{Known}
 use Rattle.wax_lazy.specs.declared.table.State.{State}
 use Rattle.wax_lazy.specs.inner.Table.{BeginsTexts, IsTable}
 use Rattle.wax_program.specs.declared.instruction.Instruction.{Instruction}
@@ -41,9 +42,15 @@ pub record IsAdded (old new : Cache) (s : State) (number : ℕ) : Type 0 where
   pub cells : new.table.cells.items ≡ old.table.cells.items ++ replicate 128 0
   pub first : new.first ≡ old.first
 
--- a matcher of a program of these instructions, which reads the last component alone where the flag says so
-pub record IsMatcherOf (code : List Instruction) (reads_last : Bool) (c : Cache) : Type 0 where
+-- the cache of a program of these instructions, for texts of which the last component alone is read where the
+-- flag says so
+pub record IsKeptFor (code : List Instruction) (reads_last : Bool) (c : Cache) : Type 0 where
   pub cache : IsCacheOf code c
-  pub last : IsTrue reads_last → ReadsLast code
   pub name : IsTrue reads_last → c.start ≡ 2
   pub whole : IsFalse reads_last → c.start ≡ 0
+
+-- this is known of a program of these instructions
+pub record IsKnownOf (code : List Instruction) (k : Known) : Type 0 where
+  pub last : IsTrue k.reads_last → ReadsLast code
+  pub long : IsTrue k.reads_last → 2 ≤ length code
+  pub cache : IfSome k.cache (IsKeptFor code k.reads_last)

@@ -21,5 +21,5 @@ returns-in-Err c =
 pub returns : goal.returns
 returns c =
     let whole : map written_of c.deref-line-items.result.now ≡ written_lines c.args.text.now = ap (map written_of) c.deref-line-items.ensures.value ∙ c.in_ok-written.ensures in
-    all_read c.args.text.now c.deref-line-items.result.now c.loop-line.line-index c.loop-line.lines.items c.new-rule.result.lines.items whole c.loop-line-test.false
-    (ap (λ lines. lines.items) c.new-rule.ensures.lines) c.loop-line.invariant
+    all_read c.args.text.now c.deref-line-items.result.now c.loop-line.line-index c.loop-line.lines.items c.in_ok-rule.rule whole c.loop-line-test.false
+    c.in_ok-rule.ensures.lines c.loop-line.invariant

@@ -1,12 +1,16 @@
-use Rattle.std.proofs.Common.{◌≡◌, map, drop}
+use Rattle.std.proofs.Common.{◌≡◌, map, drop, length}
 use Rattle.wax_walk.specs.Given.{combined_mark}
 use Rattle.wax_glob_walk.specs.Programs.{any_mark}
 use Rattle.wax_glob_walk.proofs.Rules.{so_far}
 use Rattle.wax_glob_walk.proofs.filter_any.FilterAnyRule.residue.Given as goal
 
 -- what was said so far, and what the other rules say
-abbrev pub invariant-loop-rule : goal.invariant-loop-rule
-invariant-loop-rule g l =
+abbrev pub invariant-loop-at : goal.invariant-loop-at
+invariant-loop-at g l =
     let facts = g.E.Entry.facts l.entry in
-    combined_mark (so_far l.is_left_out) (any_mark (map g.R.Rule.rule (drop l.rule-index l.rule-items)) facts)
-    ≡ any_mark (map g.R.Rule.rule l.self.rules.items) facts
+    record {
+      says : combined_mark (so_far l.is_left_out) (any_mark (map g.R.Rule.rule (drop l.at l.self.rules.items)) facts)
+          ≡ any_mark (map g.R.Rule.rule l.fn.self.rules.items) facts;
+      many : length l.self.rules.items ≡ length l.fn.self.rules.items;
+      same : map g.R.Rule.rule l.self.rules.items ≡ map g.R.Rule.rule l.fn.self.rules.items;
+    }

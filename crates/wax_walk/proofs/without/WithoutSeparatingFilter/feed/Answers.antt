@@ -28,19 +28,19 @@ returns-clause-steps g c =
     let keeps = g.met.I.FileIterator.keeping c.args.self.now.input c.feed.new.self
     (Some c.in_ok-separation.separation) c.in_ok-separation.ensures.steps in
     elim c.if-cuts.branch [
-      | then-cuts w ↦ rw w.self-is (
+      | then-cuts w ↦ rw (w.self-is, c.residue_of.ensures.same) (
         ruled_cuts law rule (view c.args.self.now.input) (view c.feed.new.self)
             (view w.cancel_walk_tree.new.self) c.args.self.now.has_ended c.if-self.false x y _ fed
-            c.in-Ok.ensures c.separated.ensures.given w.if-cuts.ensures
+            c.in-Ok.ensures.says c.separated.ensures.given w.if-cuts.ensures
             (g.met.I.FileIterator.cancelling c.feed.new.self w.cancel_walk_tree.new.self
             w.cancel_walk_tree.ensures),
         keeps_cut _ _ _ _ _ keeps c.separated.ensures.kept
             (g.met.I.FileIterator.staying c.feed.new.self w.cancel_walk_tree.new.self
             w.cancel_walk_tree.ensures),
       )
-      | else-cuts w ↦ rw w.self-is (
+      | else-cuts w ↦ rw (w.self-is, c.residue_of.ensures.same) (
         ruled_passes law rule (view c.args.self.now.input) (view c.feed.new.self)
-            c.args.self.now.has_ended c.if-self.false x y _ fed c.in-Ok.ensures
+            c.args.self.now.has_ended c.if-self.false x y _ fed c.in-Ok.ensures.says
             c.separated.ensures.given w.if-cuts.ensures,
         keeps_passed _ _ _ _ keeps c.separated.ensures.kept,
       )

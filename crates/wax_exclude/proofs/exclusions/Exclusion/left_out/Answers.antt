@@ -1,22 +1,20 @@
 use Rattle.std.proofs.Common.{◌≡◌, ◌∙◌, ap, arith, chars, subst, sym, true}
 use Rattle.std.specs.Prelude.{nat_lt}
 use Rattle.std.proofs.lemmas.Bool.{false≢true, lt-ltb, ltb-true}
-use Rattle.wax_program.specs.Machine.{Accepts}
 use Rattle.wax_walk.specs.Given.{alone, kept, with_tree}
 use Rattle.wax_exclude.specs.Compiled.{SomeAccepts}
-use Rattle.wax_exclude.specs.Excluded.{excluded_mark}
+use Rattle.wax_exclude.specs.Excluded.{excluded_mark, some_test}
 use Rattle.wax_exclude.proofs.Excluding.{says_alone, says_kept, says_tree}
-use Rattle.wax_exclude.proofs.exclusions.ExclusionRule.residue.Goals as goal
-use Rattle.wax_exclude.proofs.exclusions.ExclusionRule.residue.Goals.{else-depth-gt0-via-then-depth-gt0+in_ok-some_accepts+else-branch, else-depth-gt0-via-else-depth-gt0}
+use Rattle.wax_exclude.proofs.exclusions.Exclusion.left_out.Goals as goal
+use Rattle.wax_exclude.proofs.exclusions.Exclusion.left_out.Goals.{else-depth-gt0-via-then-depth-gt0+in_ok-some_accepts+else-branch, else-depth-gt0-via-else-depth-gt0}
 
-pub returns-then-not-branch : goal.returns-then-not-branch
-returns-then-not-branch g c =
+pub returns-then-not-is_meant : goal.returns-then-not-is_meant
+returns-then-not-is_meant g c =
     let inside = c.self.inside in
     let f = g.E.Entry.facts c.args.entry.now in
-    let same = c.root_relative_paths.ensures.candidate in
     subst (λ ts. kept ≡ excluded_mark ts f) c.self.view_is
     (says_kept inside.alternatives.items inside.whole inside.covering.items inside.covers_all c.self.invariant f c.if-self.false
-    (λ a. false≢true (sym c.if-not-branch.true ∙ c.in_ok-accepts.ensures.1 (subst (λ z. Accepts inside.whole.0 0 (chars z)) (sym same) a))))
+    (ap (λ ts. some_test ts (chars f.candidate)) c.self.view_is ∙ sym c.requires ∙ c.if-not-is_meant.true))
 
 pub returns-then-branch : goal.returns-then-branch
 returns-then-branch g c =
@@ -34,9 +32,9 @@ returns g c =
     let inside = c.self.inside in
     let f = g.E.Entry.facts c.args.entry.now in
     let same = c.root_relative_paths.ensures.candidate in
-    let accepted = subst (λ z. Accepts inside.whole.0 0 (chars z)) same (c.in_ok-accepts.ensures.0 c.if-not-branch.false) in
     subst (λ ts. alone ≡ excluded_mark ts f) c.self.view_is
-    (says_alone inside.alternatives.items inside.whole inside.covering.items inside.covers_all c.self.invariant f c.if-self.false accepted
+    (says_alone inside.alternatives.items inside.whole inside.covering.items inside.covers_all c.self.invariant f c.if-self.false
+    (ap (λ ts. some_test ts (chars f.candidate)) c.self.view_is ∙ sym c.requires ∙ c.if-not-is_meant.false)
     (λ d a. elim c.else-depth-gt0.branch [
       | else-depth-gt0-via-then-depth-gt0+in_ok-some_accepts+else-branch w ↦ false≢true (sym w.if-branch.false ∙ w.in_ok-some_accepts.ensures.1
           (subst (λ z. SomeAccepts z (chars c.root_relative_paths.result.1.now)) (sym w.as_slice.ensures.value) (subst (λ z. SomeAccepts inside.covering.items (chars z)) (sym same) a)))

@@ -1,0 +1,66 @@
+-- Lines that are passed over at once.
+use Rattle.std.specs.Prelude.{◌≡◌, ℕ, ◌-◌, ◌≤◌, Bool, true, false, not, ◌⊎◌, List, [], ◌∷◌, length, take}
+use Rattle.std.specs.Prelude.{drop}
+use Rattle.std.specs.List.{flat_map, list_any}
+use Rattle.wax_program.specs.Machine.{Accepts}
+use Rattle.wax_program.specs.declared.instruction.Instruction.{Instruction}
+use Rattle.wax_token.specs.Meaning.{MeansSome}
+use Rattle.wax_token.specs.Reads.{Span}
+use Rattle.wax_token.specs.Syntax.{Tree}
+use Rattle.wax_token.specs.Words.{trees}
+use Rattle.wax_walk.specs.Given.{Facts, Mark, kept, alone, with_tree}
+use Rattle.wax_walk.specs.Said.{mark_of}
+use Rattle.wax_exclude.specs.Excluded.{excluded_mark}
+use Rattle.wax_exclude.specs.declared.blocks.Block.{Block}
+use Rattle.wax_exclude.specs.declared.rules.IgnoreLine.{IgnoreLine}
+use Rattle.wax_exclude.specs.declared.rules.Said.{Said}
+use Rattle.wax_exclude.specs.inner.Listed.{mark_after}
+
+-- ---- what lines mean
+
+-- an alternative of one of the lines means the text
+abbrev pub SomeMeans : List IgnoreLine → List ℕ → Type 0
+SomeMeans [] s = ⊥
+SomeMeans (line ∷ lines) s = MeansSome (trees line.exclusion) false false s ⊎ SomeMeans lines s
+
+-- the alternatives of all lines
+abbrev pub alternatives_in : List IgnoreLine → List (Tree Span)
+alternatives_in lines = flat_map (λ line. line.exclusion) lines
+
+-- the instructions accept what one of the lines means
+abbrev pub AcceptsLines : List Instruction → List IgnoreLine → Type 0
+AcceptsLines code lines = (s : List ℕ) → SomeMeans lines s → Accepts code 0 s
+
+-- one of the lines takes back
+abbrev pub some_takes_back : List IgnoreLine → Bool
+some_takes_back lines = list_any (λ line. not line.ignores) lines
+
+-- the lines from a place to another
+abbrev pub lines_between : ℕ → ℕ → List IgnoreLine → List IgnoreLine
+lines_between start end lines = take (end - start) (drop start lines)
+
+-- a block of these lines
+pub record IsBlockOf (lines : List IgnoreLine) (block : Block) : Type 0 where
+  pub forward : block.start ≤ block.end
+  pub within : block.end ≤ length lines
+  pub takes_back : block.takes_back ≡ some_takes_back (lines_between block.start block.end lines)
+  pub accepts : AcceptsLines block.matcher (lines_between block.start block.end lines)
+
+-- ---- what lines say
+
+-- what is said after each of the lines was asked, where this was said before
+abbrev pub marks_after : Mark → List IgnoreLine → Facts → Mark
+marks_after before [] f = before
+marks_after before (line ∷ lines) f =
+    marks_after (mark_after line.ignores before (excluded_mark line.exclusion f)) lines f
+
+-- what is said after lines none of which means the entry: one that takes back might mean what lies below it
+abbrev pub mark_passed : Bool → Mark → Mark
+mark_passed true kept = kept
+mark_passed true alone = alone
+mark_passed true with_tree = alone
+mark_passed false before = before
+
+-- what is said after the lines that are left
+abbrev pub left_to_say : List IgnoreLine → Said → Facts → Mark
+left_to_say lines said f = marks_after (mark_of said.residue) (drop said.at lines) f

@@ -1,0 +1,144 @@
+//! What is known of a program between texts.
+ghost use Rattle.std.specs.Prelude.{◌≡◌, ◌≤◌, ◌↔◌, IfOk, IsFalse, IsTrue, chars, length};
+ghost use Rattle.wax_lazy.specs.inner.Cached.{IsKeptFor, IsKnownOf};
+ghost use Rattle.wax_program.specs.Last.{ReadsLast};
+ghost use Rattle.wax_program.specs.Machine.{Accepts};
+
+use crate::cache::Cache;
+use crate::walk::walk;
+use std::alloc::{AllocError, Global};
+use wax_program::{Meter, Program, last_name, reads_last, run_known};
+use wax_query::diagnostics::NoMemory;
+
+/// How many instructions a program has at least, so that keeping what it reaches is faster than running it.
+const LEAST_SIZE: usize = 64;
+
+/// Holds what was found out of a program, and what earlier texts led to.
+#[derive(Drop)]
+pub struct Known {
+    /// Whether only the last component of a text matters.
+    reads_last: bool,
+    /// How many bytes the cache may take.
+    most_bytes: usize,
+    /// What texts led to, if the program is large enough.
+    cache: Option<Cache>,
+}
+
+impl Known {
+    /// Returns what is known of a program before the first text, with room for about so many bytes at most.
+    /// It allocates nothing.
+    pub fn new(program: &Program, most_bytes: usize) -> Known
+        ensures { IsKnownOf program.now.0 result }
+    {
+        Known {
+            reads_last: reads_only_name(program),
+            most_bytes,
+            cache: None,
+        }
+    }
+
+    /// Makes the cache, unless there is one or the program is too small.
+    ///
+    /// # Errors
+    /// `AllocError` if allocation fails.
+    pub fn prepare(&mut self, alloc: Global, program: &Program) -> Result<(), AllocError>
+        requires { IsKnownOf program.now.0 self.old }
+        ensures { IsKnownOf program.now.0 self.new }
+    {
+        if self.cache.is_none() && program.size() >= LEAST_SIZE {
+            let cache = empty_cache(alloc, program, self.reads_last, self.most_bytes)?;
+            self.cache = Some(cache);
+        }
+        Ok(())
+    }
+
+    /// Returns whether the program accepts the text.
+    ///
+    /// # Errors
+    /// `NoMemory` if allocation fails. What is known holds then too.
+    pub fn is_match(
+        &mut self,
+        alloc: Global,
+        program: &Program,
+        text: &str,
+    ) -> Result<bool, NoMemory>
+        requires { IsKnownOf program.now.0 self.old }
+        ensures known { IsKnownOf program.now.0 self.new }
+        ensures decides { IfOk result (λ b. IsTrue b ↔ Accepts program.now.0 0 (chars text.now)) }
+    {
+        self.prepare(alloc, program)?;
+        match &mut self.cache {
+            Some(cache) => decide(alloc, program, self.reads_last, cache, text),
+            None => decide_once(alloc, program, self.reads_last, text),
+        }
+    }
+
+    /// Returns whether states were forgotten again before they had served enough text.
+    pub fn gives_up(&self) -> bool {
+        match &self.cache {
+            Some(cache) => cache.gives_up,
+            None => false,
+        }
+    }
+}
+
+/// Returns whether it is known that only the last component of a text matters to the program.
+fn reads_only_name(program: &Program) -> bool
+    ensures last { IsTrue result → ReadsLast program.now.0 }
+    ensures long { IsTrue result → 2 ≤ length program.now.0 }
+{
+    reads_last(program) && program.size() >= 2
+}
+
+/// Makes a cache for texts of which the last component alone is read, or all.
+fn empty_cache(
+    alloc: Global,
+    program: &Program,
+    reads_last: bool,
+    most_bytes: usize,
+) -> Result<Cache, AllocError>
+    requires last { IsTrue reads_last → ReadsLast program.now.0 }
+    requires long { IsTrue reads_last → 2 ≤ length program.now.0 }
+    ensures { IfOk result (IsKeptFor program.now.0 reads_last) }
+{
+    if reads_last {
+        return Cache::new(alloc, program, 2, most_bytes);
+    }
+    Cache::new(alloc, program, 0, most_bytes)
+}
+
+/// Decides a text by the cache, while its states serve enough text.
+fn decide(
+    alloc: Global,
+    program: &Program,
+    reads_last: bool,
+    cache: &mut Cache,
+    text: &str,
+) -> Result<bool, NoMemory>
+    requires cache { IsKeptFor program.now.0 reads_last cache.old }
+    requires last { IsTrue reads_last → ReadsLast program.now.0 }
+    ensures cache { IsKeptFor program.now.0 reads_last cache.new }
+    ensures decides { IfOk result (λ b. IsTrue b ↔ Accepts program.now.0 0 (chars text.now)) }
+{
+    if cache.gives_up {
+        return decide_once(alloc, program, reads_last, text);
+    }
+    if reads_last {
+        return Ok(walk(program, cache, last_name(text))?);
+    }
+    Ok(walk(program, cache, text)?)
+}
+
+/// Decides a text by the program itself.
+fn decide_once(
+    alloc: Global,
+    program: &Program,
+    reads_last: bool,
+    text: &str,
+) -> Result<bool, NoMemory>
+    requires { IsTrue reads_last → ReadsLast program.now.0 }
+    ensures { IfOk result (λ b. IsTrue b ↔ Accepts program.now.0 0 (chars text.now)) }
+{
+    let mut meter = Meter::new();
+    run_known(alloc, program, reads_last, text, &mut meter)
+}
