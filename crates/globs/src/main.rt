@@ -31,7 +31,7 @@ fn main(rt: HostRuntime) -> ExitCode {
     ExitCode::from(status)
 }
 
-// The bytes of a file.
+// Reads a file. Running out of memory is another error than a read that failed.
 fn bytes_of(rt: &HostRuntime, file: &str) -> Result<Vec<u8>, FileFault> {
     match fs::read(rt, file) {
         Ok(bytes) => Ok(bytes),

@@ -1,14 +1,15 @@
 //! A path with what a glob captures of it.
 //!
-//! A match returns the texts that are captured. Where they begin follows from the tokens: each takes what it
-//! captures, but for a literal, a separator, and a `/` that a tree wildcard takes and doesn't capture.
+//! A match returns the texts that are captured, but not where they are. Their places follow from
+//! the tokens: each takes what it captures, except for a literal, a separator, and a `/` that a
+//! tree wildcard takes and doesn't capture.
 
 use crate::page::Page;
 use std::alloc::{AllocError, Global};
 use wax::token::{ExpressionMetadata, Token, parse};
 use wax::{CandidatePath, Glob, MatchedText, NoMemory, Program};
 
-/// Where in a path a capture begins and ends, and the span of its token.
+/// Where a capture begins and ends in the path, in bytes, and the span of its token.
 #[derive(Clone, Copy)]
 struct Place {
     start: usize,
@@ -16,7 +17,11 @@ struct Place {
     token: (usize, usize),
 }
 
-/// Adds whether the glob matches the path, and what is captured of it.
+/// Adds whether the glob matches the path, and its captures.
+///
+/// # Errors
+///
+/// Returns `NoMemory` if allocation fails for the match.
 pub fn add_match(
     alloc: Global,
     glob: &Glob<'_>,
@@ -40,7 +45,6 @@ pub fn add_match(
     }
 }
 
-/// Adds a line for each capture.
 fn add_captures(alloc: Global, expression: &str, matched: &MatchedText<'_>, page: &mut Page) {
     match parse(alloc, expression) {
         Ok(tokens) => {
@@ -72,8 +76,8 @@ fn add_places(expression: &str, path: &str, places: &[Place], page: &mut Page) {
     }
 }
 
-/// Returns the places of the captures. A tree wildcard at the beginning that captures nothing may have taken
-/// a `/`: it has where the tokens then end with the path.
+/// Returns the places of the captures. A tree wildcard at the beginning that captures nothing may
+/// have taken a `/`: it has if the tokens end with the path then.
 fn places<'t>(
     alloc: Global,
     tokens: &[Token<'t, ExpressionMetadata>],
@@ -129,7 +133,7 @@ fn is_placed<'t>(
     Ok(is_whole && at == path.len())
 }
 
-/// Returns the place behind so many characters.
+/// Returns the place of the byte after this many characters.
 fn after_characters(path: &[u8], from: usize, count: usize) -> usize {
     let mut left = count;
     for at in from..path.len() {

@@ -8,6 +8,10 @@ use wax::NoMemory;
 use wax::token::{ExpressionMetadata, Token};
 
 /// Adds the graph: the expression above its tokens, and each token above those in it.
+///
+/// # Errors
+///
+/// Returns `NoMemory` if allocation fails for the list of tokens.
 pub fn add_graph(
     alloc: Global,
     expression: &str,
@@ -26,7 +30,7 @@ pub fn add_graph(
     Ok(())
 }
 
-/// Adds a token, and the line that leads to it.
+/// Adds a token, and the edge that leads to it.
 fn add_node(expression: &str, index: usize, visit: &Visit<'_, '_>, page: &mut Page) {
     let (start, len) = visit.token.annotation().span();
     page.add("  ");

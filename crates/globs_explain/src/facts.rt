@@ -5,7 +5,11 @@ use std::alloc::Global;
 use wax::query::{DepthVariance, When};
 use wax::{Glob, NoMemory, Program};
 
-/// Adds the depth, the one text, the root and the exhaustiveness, each on a line.
+/// Adds the depth, the only text, the root and the exhaustiveness, each on a line.
+///
+/// # Errors
+///
+/// Returns `NoMemory` if allocation fails for the text.
 pub fn add_facts(alloc: Global, glob: &Glob<'_>, page: &mut Page) -> Result<(), NoMemory> {
     add_depth(glob.depth(), page);
     page.add("text        ");
@@ -59,7 +63,7 @@ pub fn add_parts(alloc: Global, glob: Glob<'_>, page: &mut Page) {
     page.add("\n");
 }
 
-/// Adds the text; the other words if it is empty.
+/// Adds a text, or `empty` in place of an empty one.
 fn add_text(text: &str, empty: &str, page: &mut Page) {
     if text.is_empty() {
         page.add(empty);

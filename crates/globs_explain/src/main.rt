@@ -1,5 +1,5 @@
-//! The program `globs_explain`: shows how an expression is read, what is known of it, and what it captures of
-//! a path; or why it is refused.
+//! The program `globs_explain`: shows how an expression is read, what is known of it, and what it
+//! captures of a path; or its error.
 #![tactic(auto)]
 
 mod captured;
@@ -29,7 +29,7 @@ fn main(rt: HostRuntime) -> ExitCode {
     }
 }
 
-/// Does what the arguments ask, and returns the exit status.
+/// Does what the arguments ask for, and returns the exit status.
 fn run(rt: &HostRuntime) -> io::Result<u8> {
     let mut words = Vec::new(rt.alloc());
     for word in env::args(rt)?.skip(1) {
@@ -53,8 +53,8 @@ fn run(rt: &HostRuntime) -> io::Result<u8> {
     Ok(status)
 }
 
-/// Adds the tokens of the expression, what is known of it, and a match of the path if there is one. Returns
-/// the status.
+/// Adds the tokens of the expression, what is known of it, and a match of the path if there is one.
+/// Returns the status.
 fn explain(alloc: Global, expression: &str, path: Option<&str>, page: &mut Page) -> u8 {
     match Glob::new(alloc, expression) {
         Ok(glob) => {
@@ -69,7 +69,7 @@ fn explain(alloc: Global, expression: &str, path: Option<&str>, page: &mut Page)
     }
 }
 
-/// Adds the expression with its tokens and facts; and to the second page the path.
+/// Adds the expression with its tokens and facts to the first page, and the path to the second.
 fn look(
     alloc: Global,
     glob: &Glob<'_>,
@@ -111,7 +111,7 @@ fn draw(alloc: Global, expression: &str, page: &mut Page) -> u8 {
     }
 }
 
-/// Adds why the expression is refused, with the picture of it. Returns the status.
+/// Adds the error of the expression, with a picture. Returns the status.
 fn refuse(alloc: Global, expression: &str, error: &BuildError, page: &mut Page) -> u8 {
     page.show(error);
     page.add("\n");

@@ -1,10 +1,10 @@
-//! What is to be printed.
+//! The text to be printed.
 
 use std::alloc::Global;
 use std::fmt::Display;
 use wax::NoMemory;
 
-/// A text that remembers whether memory ran out for it.
+/// A text that remembers whether memory ran out for it, so that callers need not propagate that.
 #[derive(Drop)]
 pub struct Page {
     text: String,
@@ -12,7 +12,7 @@ pub struct Page {
 }
 
 impl Page {
-    /// Makes an empty page.
+    /// Builds an empty page.
     pub fn new(alloc: Global) -> Page {
         Page {
             text: String::new(alloc),
@@ -20,7 +20,7 @@ impl Page {
         }
     }
 
-    /// Returns the text; none if memory ran out.
+    /// Returns the text, or `None` if memory ran out.
     pub fn text(&self) -> Option<&str> {
         if self.is_lost {
             None
@@ -34,7 +34,7 @@ impl Page {
         self.is_lost = true;
     }
 
-    /// Records that memory ran out if it did.
+    /// Records that memory ran out if a call returned that.
     pub fn lose_unless(&mut self, call: Result<(), NoMemory>) {
         if call.is_err() {
             self.lose();
@@ -89,7 +89,8 @@ impl Page {
         }
     }
 
-    /// Adds the same for a text in double quotes, with a backslash before a quote and a backslash.
+    /// Adds the characters of the text that begin in these bytes, as a part of a text in double
+    /// quotes: with a backslash before a quote and before a backslash.
     pub fn quoted_part(&mut self, text: &str, start: usize, end: usize) {
         let mut at: usize = 0;
         for character in text.chars() {
@@ -103,7 +104,8 @@ impl Page {
         }
     }
 
-    /// Adds a `^` under each character of the text that begins in these bytes; one if there is none.
+    /// Adds a `^` under each character of the text that begins in these bytes, or one `^` if there
+    /// is none.
     pub fn marks(&mut self, text: &str, start: usize, end: usize) {
         let mut at: usize = 0;
         for character in text.chars() {

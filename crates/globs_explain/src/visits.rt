@@ -3,19 +3,24 @@
 use std::alloc::{AllocError, Global};
 use wax::token::{ExpressionMetadata, Token};
 
-/// A token with what is above it.
+/// A token with its place in the tree.
 #[derive(Clone, Copy)]
 pub struct Visit<'v, 't> {
     pub token: &'v Token<'t, ExpressionMetadata>,
-    /// How many tokens are around it.
+    /// The number of tokens around it.
     pub depth: usize,
     /// The index of the token around it, from 1; 0 if there is none.
     pub parent: usize,
-    /// The number of its capture; 0 if it isn't captured.
+    /// The number of its capture, from 1; 0 if it doesn't capture.
     pub capture: usize,
 }
 
-/// Returns each token before those in it, from left to right. The whole isn't among them if it is a sequence.
+/// Lists each token before those in it, from left to right. The whole isn't among them if it is a
+/// sequence.
+///
+/// # Errors
+///
+/// Returns `AllocError` if allocation fails.
 pub fn visits<'v, 't>(
     alloc: Global,
     whole: &'v Token<'t, ExpressionMetadata>,
@@ -38,7 +43,7 @@ pub fn visits<'v, 't>(
     Ok(found)
 }
 
-/// Pushes the tokens in a token, the last one first.
+/// Pushes the tokens in a token, the last one first, so that the first is popped first.
 fn push_below<'v, 't>(
     left: &mut Vec<Visit<'v, 't>>,
     token: &'v Token<'t, ExpressionMetadata>,
@@ -69,7 +74,7 @@ fn push_all<'v, 't>(
     Ok(())
 }
 
-/// Pushes a token, or the only one of a sequence.
+/// Pushes a token; of a sequence with only one token, that one.
 fn push<'v, 't>(
     left: &mut Vec<Visit<'v, 't>>,
     token: &'v Token<'t, ExpressionMetadata>,

@@ -1,4 +1,4 @@
-//! What is captured of a text that a glob means.
+//! What a match captures.
 
 pub use wax_candidate::MatchedText;
 pub use wax_capture::Pieces;

@@ -1,4 +1,4 @@
-//! Places in an expression, pictures of them, and how a build can end.
+//! Places in an expression, pictures of them, and errors of a build.
 
 pub use wax_components::{SemanticLiteralWarning, TerminatingSeparatorWarning, Warning};
 pub use wax_error::picture;

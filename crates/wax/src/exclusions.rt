@@ -1,4 +1,4 @@
-//! Patterns that are left out of walks.
+//! Walks without what patterns match or lists ignore.
 ghost use Rattle.std.specs.Prelude.{◌≡◌, IfOk, List, MatchResult};
 ghost use Rattle.wax_token.specs.Reads.{Span};
 ghost use Rattle.wax_walk.specs.Known.{StaysKnown};
@@ -17,14 +17,18 @@ use wax_filter::filter::SeparatingFilter;
 use wax_query::diagnostics::Refusal;
 use wax_walk::{FileIterator, Rule, Without};
 
-/// A walk less what a pattern means.
+/// A walk without what a pattern matches.
 pub type Not<I> = Without<I, Exclusion>;
 
-/// A walk less what a list ignores.
+/// A walk without what an ignore list ignores.
 pub type Ignore<I> = Without<I, IgnoreList>;
 
-/// What is left out of a walk where a pattern is. The pattern is refused as `Pattern::into_checked` refuses
-/// it; else with 9 where the cost of its token plus 1 is above 1,048,576, and with 10 where memory is.
+/// Builds the rule that excludes what the pattern matches from a walk.
+///
+/// # Errors
+///
+/// Returns the errors of `Pattern::into_checked`, and `Compile` (9) if the program of the pattern
+/// would have more than 1,048,576 instructions.
 pub fn exclusion_of<P: Pattern>(alloc: Global, pattern: P) -> Result<Exclusion, BuildError>
     ensures { MatchResult result (λ e. IsLeftOut (P.spells pattern) (⟦<Exclusion as Rule>⟧.rule e))
         (NoExclusion (P.spells pattern) (P.refuses pattern)) }
@@ -40,9 +44,13 @@ pub fn exclusion_of<P: Pattern>(alloc: Global, pattern: P) -> Result<Exclusion, 
     }
 }
 
-/// The walk less what the pattern means: with all that lies below it where an alternative of the pattern
-/// covers it, which is cancelled, else alone. Refused as `exclusion_of` refuses the pattern; the walk is gone
-/// then.
+/// Excludes from a walk what the pattern matches. If an alternative of the pattern covers an entry,
+/// everything below the entry is excluded with it, and isn't even listed. An entry that matches in
+/// another way is excluded by itself.
+///
+/// # Errors
+///
+/// Returns the errors of `exclusion_of`. The walk is dropped then.
 pub fn without_meant<I, P>(alloc: Global, walk: I, pattern: P) -> Result<Not<I>, BuildError>
 where
     I: FileIterator,
@@ -60,8 +68,9 @@ where
     }
 }
 
-/// The walk less what the list ignores: with all that lies below it, which is cancelled, where an alternative
-/// of a line that ignores covers it and no line that takes back stands after that line; else alone.
+/// Excludes from a walk what the list ignores. If an alternative of a line that ignores covers an
+/// entry, and no line after it stops ignoring, everything below the entry is excluded with it, and
+/// isn't even listed. An entry that is ignored in another way is excluded by itself.
 pub fn without_ignored<I: FileIterator>(alloc: Global, walk: I, list: IgnoreList) -> Ignore<I>
     ensures view { (lines : List (Line Span)) → HoldsLines list lines
         → IsWalkIgnoring lines (I.view walk) (⟦<Ignore<I> as FileIterator>⟧.view result) }
@@ -72,9 +81,27 @@ pub fn without_ignored<I: FileIterator>(alloc: Global, walk: I, list: IgnoreList
     walk.without(alloc, list)
 }
 
-/// Walks that patterns can be left out of.
+/// Walks from which patterns and ignore lists can be excluded.
 pub trait FileIteratorExt: FileIterator {
-    /// The walk less what the pattern means, as `without_meant` says.
+    /// Excludes what the pattern matches, as `without_meant` does.
+    ///
+    /// ```
+    /// use wax::walk::{Tree, collect};
+    ///
+    /// let tree = Tree::from_paths(alloc, &["src/lib.rs", "target/lib.rs"])?;
+    /// let walk = "".walk(alloc, tree).not(alloc, "target/**")?;
+    /// let (items, _) = collect(alloc, walk)?;
+    /// for item in &items {
+    ///     match item {
+    ///         Ok(entry) => println!(rt; "{:?}", entry.path())?, // "", "src", "src/lib.rs"
+    ///         Err(error) => println!(rt; "{error}")?,
+    ///     }
+    /// }
+    /// ```
+    ///
+    /// # Errors
+    ///
+    /// Returns the errors of `exclusion_of`. The walk is dropped then.
     final fn not<P: Pattern>(self, alloc: Global, pattern: P) -> Result<Not<Self>, BuildError>
     where
         Self: Sized,
@@ -90,7 +117,16 @@ pub trait FileIteratorExt: FileIterator {
         without_meant(alloc, self, pattern)
     }
 
-    /// The walk less what the list ignores, as `without_ignored` says.
+    /// Excludes what the list ignores, as `without_ignored` does.
+    ///
+    /// ```
+    /// use wax::walk::{Tree, collect};
+    ///
+    /// let tree = Tree::from_paths(alloc, &["src/lib.rs", "src/lib.o"])?;
+    /// let list = IgnoreList::parse(alloc, "**/*.o\n")?;
+    /// let (items, _) = collect(alloc, "".walk(alloc, tree).ignore(alloc, list))?;
+    /// println!(rt; "{}", items.len())?; // 3: the start, src and src/lib.rs
+    /// ```
     final fn ignore(self, alloc: Global, list: IgnoreList) -> Ignore<Self>
     where
         Self: Sized,

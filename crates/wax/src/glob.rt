@@ -1,4 +1,4 @@
-//! A glob: an expression with its tokens, its program and the pieces by which it captures.
+//! Globs: an expression with its tokens, its program and the pieces by which it captures.
 ghost use Rattle.std.specs.Prelude.{◌≡◌, ◌<◌, ◌≤◌, ◌↔◌, ◌+◌, ◌*◌, ◌++◌, ◌∷◌, [], ℕ, List, IsTrue, IfOk};
 ghost use Rattle.std.specs.Prelude.{IfSome};
 ghost use Rattle.std.specs.Prelude.{MatchOption, Some, chars, encode_utf8_all, length, false};
@@ -45,7 +45,17 @@ use wax_query::query::{CapturingToken, DepthVariance, TextVariance, Variance, Wh
 use wax_rule::rule::check;
 use wax_token::token::{ExpressionMetadata, LeafKind, Tokenized};
 
-/// A glob. Contracts see the characters of its expression and its tree.
+/// A glob, built from an expression by `Glob::new`. It implements `Program`, which has the calls
+/// that match. Contracts see the characters of its expression and its tree.
+///
+/// ```
+/// let glob = Glob::new(alloc, "src/**/*.{c,rs}")?;
+/// let path = CandidatePath::from("src/net/tcp.c");
+/// println!(rt; "{}", glob.is_match(alloc, &path)?)?; // true
+/// if let Some(matched) = glob.matched(alloc, &path)? {
+///     println!(rt; "{:?}", matched.get(2))?; // Some("tcp")
+/// }
+/// ```
 pub struct Glob<'t> {
     tokenized: Tokenized<'t, ExpressionMetadata>,
     program: encode::Program,
@@ -90,9 +100,21 @@ impl<'t> Glob<'t> {
     ghost use Rattle.wax_token.specs.Spelled.{LiesBetween};
     ghost use Rattle.wax.specs.GlobView.{empty_tree};
 
-    /// The glob of an expression. Refused with 1 where the expression isn't one of the language, with
-    /// 2 to 8 where it breaks a rule, with 9 where its cost plus 1 is above 1,048,576, and with 10
-    /// where memory is.
+    /// Builds a glob from an expression.
+    ///
+    /// ```
+    /// let glob = Glob::new(alloc, "src/**/*.{c,rs}")?;
+    /// println!(rt; "{}", glob.is_match(alloc, &CandidatePath::from("src/net/tcp.c"))?)?; // true
+    /// if let Err(error) = Glob::new(alloc, "src//*.rs") {
+    ///     println!(rt; "{}: {error}", error.number())?; // 2: malformed glob expression: ..
+    /// }
+    /// ```
+    ///
+    /// # Errors
+    ///
+    /// Returns a `BuildError`: `Parse` (1) if the expression doesn't spell a glob, `Rule` (2 to 8)
+    /// if it breaks a rule, `Compile` (9) if its program would have more than 1,048,576
+    /// instructions, and `Memory` (10) if allocation fails.
     pub fn new(alloc: Global, expression: &'t str) -> Result<Glob<'t>, BuildError>
         ensures build { MatchGlob (chars expression.now) result }
         ensures spans { IfOk result (λ glob. LiesBetween 0 (length expression.now) glob.tree) }
@@ -105,7 +127,11 @@ impl<'t> Glob<'t> {
         Ok(compiled(alloc, tokenized)?)
     }
 
-    /// The glob of an expression, with its warnings. Refused as `new` is.
+    /// Builds a glob from an expression, and returns it with its warnings.
+    ///
+    /// # Errors
+    ///
+    /// Returns the errors of `Glob::new`.
     pub fn diagnosed(
         alloc: Global,
         expression: &'t str,
@@ -118,8 +144,11 @@ impl<'t> Glob<'t> {
         Ok((glob, warnings))
     }
 
-    /// The glob of the empty expression, which means the empty text alone. Refused with 10 where
-    /// memory is.
+    /// Builds the glob of the empty expression, which matches only the empty text.
+    ///
+    /// # Errors
+    ///
+    /// Returns `NoMemory` if allocation fails.
     pub fn empty(alloc: Global) -> Result<Glob<'t>, NoMemory>
         ensures { IfOk result IsEmptyGlob }
     {
@@ -129,7 +158,11 @@ impl<'t> Glob<'t> {
         }
     }
 
-    /// The glob of `**`, which means each text. Refused with 10 where memory is.
+    /// Builds the glob of `**`, which matches every text.
+    ///
+    /// # Errors
+    ///
+    /// Returns `NoMemory` if allocation fails.
     pub fn tree(alloc: Global) -> Result<Glob<'t>, NoMemory>
         ensures { IfOk result IsTreeGlob }
     {
@@ -139,14 +172,15 @@ impl<'t> Glob<'t> {
         }
     }
 
-    /// The expression that it was built from.
+    /// Returns the expression from which the glob was built.
     pub fn expression(&self) -> &str
         ensures { chars result.now ≡ self.now.expression }
     {
         self.tokenized.expression.as_str()
     }
 
-    /// Whether it is that of the empty expression, which means the empty text alone. It takes no memory.
+    /// Returns whether this is the glob of the empty expression, which matches only the empty text.
+    /// It doesn't allocate.
     pub fn is_empty(&self) -> bool
         ensures tree { IsTrue result ↔ (self.now.tree ≡ empty_tree) }
         ensures means { IsTrue result → (s : List ℕ) → IsMeant self.now s ↔ (s ≡ []) }
@@ -157,23 +191,35 @@ impl<'t> Glob<'t> {
         }
     }
 
-    /// The tokens that capture: each class, wildcard, alternation and repetition that isn't in another
-    /// token, numbered from 1, with its span. Refused with 10 where memory is.
+    /// Returns the tokens that capture: each class, wildcard, alternation and repetition that isn't
+    /// inside another token, numbered from 1, with its span in bytes.
+    ///
+    /// # Errors
+    ///
+    /// Returns `NoMemory` if allocation fails.
     pub fn captures(&self, alloc: Global) -> Result<Vec<CapturingToken>, NoMemory>
         ensures { IfOk result (λ tokens. tokens.items ≡ captures self.now.tree) }
     {
         captures(alloc, &self.tokenized.token)
     }
 
-    /// What is to be warned of: each component whose text is `.` or `..`, of the glob and its sub-globs by
-    /// level, and then a separator at the end. Refused with 10 where memory is.
+    /// Returns the warnings: one for each component whose text is `.` or `..`, of the glob and then
+    /// of its sub-globs, level by level, and a last one if the glob ends with a `/`.
+    ///
+    /// # Errors
+    ///
+    /// Returns `NoMemory` if allocation fails.
     pub fn diagnose(&self, alloc: Global) -> Result<Vec<Warning<'_>>, NoMemory>
         ensures { IfOk result (λ ws. ws.items ≡ warnings self.now.expression self.now.tree) }
     {
         diagnose(alloc, self.expression(), &self.tokenized.token)
     }
 
-    /// Whether the text of a component is `.` or `..`. Refused with 10 where memory is.
+    /// Returns whether the text of a component is `.` or `..`.
+    ///
+    /// # Errors
+    ///
+    /// Returns `NoMemory` if allocation fails.
     pub fn has_semantic_literals(&self, alloc: Global) -> Result<bool, NoMemory>
         ensures { IfOk result (λ answer. answer ≡ has_semantic_literals self.now.tree) }
     {
@@ -182,8 +228,9 @@ impl<'t> Glob<'t> {
 }
 
 impl Glob<'_> {
-    /// Whether it may mean the text, by what is looked at before it is matched. Where only the last component
-    /// matters, texts in any case are sought in that alone.
+    /// Returns whether the glob may match the text, by a quick test. If it returns false, the glob
+    /// doesn't. If only the last name matters, texts that are sought in any case are sought in that
+    /// name only.
     fn may_match(&self, text: &str) -> bool
         ensures { IsMeant self.now (chars text.now) → IsTrue result }
     {
@@ -194,7 +241,7 @@ impl Glob<'_> {
     }
 }
 
-// The glob of an expression's tokens, as they stand.
+// Compiles the tokens of an expression that keeps the rules, without reading or checking it again.
 fn compiled<'t>(
     alloc: Global,
     tokenized: Tokenized<'t, ExpressionMetadata>,
@@ -263,8 +310,9 @@ impl Program for Glob<'_> {
         self.pieces.matched_counted(alloc, text)
     }
 
-    /// The least and the greatest number of components of the texts of its tree, where `*`, `$` and a class
-    /// count as one character. It takes no memory, and time in proportion to the tree.
+    /// Returns the least and the greatest number of components of the texts of its tree, where `*`,
+    /// `$` and a class count as one character. It doesn't allocate, and takes time in proportion to
+    /// the tree.
     fn depth(&self) -> DepthVariance
         ensures depth { Depth self.now.tree (bounds result) }
         ensures least { (s : List ℕ) → IsMeant self.now s → Bare s → (bounds result).0 ≤ component_total s }
@@ -273,7 +321,11 @@ impl Program for Glob<'_> {
         depth(&self.tokenized.token)
     }
 
-    /// The one text that it means, where it is written as one. Refused with 10 where memory is.
+    /// Returns the only text that can match, if the expression is written as one text.
+    ///
+    /// # Errors
+    ///
+    /// Returns `NoMemory` if allocation fails.
     fn text(&self, alloc: Global) -> Result<TextVariance<'static>, NoMemory>
         ensures exact { IfOk result (λ text. MatchOption (text_of text) (Variant self.now.tree) (λ t.
             Text self.now.tree (chars t))) }
@@ -286,7 +338,7 @@ impl Program for Glob<'_> {
         })
     }
 
-    /// Whether each text that it means begins with `/`, by its first token.
+    /// Returns whether every match begins with `/`, from the first token.
     fn has_root(&self) -> When
         ensures root { result ≡ root self.now.tree }
         ensures always { result ≡ Always → (s : List ℕ) → IsMeant self.now s → BeginsWithSlash s }
@@ -294,7 +346,7 @@ impl Program for Glob<'_> {
         has_root(&self.tokenized.token)
     }
 
-    /// Whether it means whatever lies below a text that it means, by its last token.
+    /// Returns whether everything below a match matches too, from the last token.
     fn is_exhaustive(&self) -> When
         ensures exhaustive { result ≡ exhaustive self.now.tree }
         ensures always { result ≡ Always → (s r : List ℕ)

@@ -1,4 +1,4 @@
-//! Ignore lists: texts whose lines say what is left out of walks.
+//! Ignore lists: texts whose lines select what to exclude from a walk.
 ghost use Rattle.std.specs.Prelude.{◌≡◌, ◌++◌, ◌∷◌, [], ℕ, List, IfOk, MatchResult, map};
 ghost use Rattle.wax_directory.specs.Shown.{Shown};
 ghost use Rattle.wax_exclude.specs.Held.{line_of};
@@ -22,19 +22,19 @@ use wax_query::diagnostics::NoMemory;
 use wax_tree::{PathExt, WalkBehavior};
 use wax_walk::{Entry, EntryResidue, Rule, TreeEntry, WalkError};
 
-/// Why a text is no ignore list.
+/// Why a text isn't an ignore list.
 #[derive(Debug, Drop, Error)]
 pub enum IgnoreError {
-    /// A line's glob isn't built (refusal 21): the number of the line, from 1, and why.
+    /// The glob of a line has an error (21). `line` is the number of the line, from 1.
     #[error("line {line}: {error}")]
     BadLine { line: usize, error: BuildError },
-    /// Memory was asked for and refused (refusal 10).
+    /// Allocation failed (10).
     #[error("no memory")]
     Memory,
 }
 
 impl IgnoreError {
-    /// The number of the refusal.
+    /// Returns the number of the error: 21 for `BadLine`, 10 for `Memory`.
     pub fn number(&self) -> u8
         ensures { result ≡ refusal_number self.now }
     {
@@ -56,19 +56,32 @@ impl From<NoMemory> for IgnoreError {
     }
 }
 
-/// An ignore list: lines that ignore what a glob means, or take it back. The last line that means a path
-/// decides.
+/// An ignore list: lines of globs, each of which ignores what it matches or stops ignoring it. The
+/// last line that matches a path decides.
 #[derive(Drop)]
 pub struct IgnoreList {
     rule: IgnoreRule,
 }
 
 impl IgnoreList {
-    /// The list of a text. A line ends at a line feed or at the end of the text, and one carriage return at
-    /// its end is dropped. A line that is empty then, or that begins with `#`, is skipped; one that begins
-    /// with `!` takes back what the glob after that means; any other line is a glob that ignores. The first
-    /// line whose glob isn't built is refused with 21. Refused with 10 where memory is. It takes time and
-    /// memory of the order of the text, and of the lines' tokens and their cost.
+    /// Reads an ignore list, one glob per line. Each line ends at a line feed or at the end of the
+    /// text, and one carriage return at its end is dropped. A line that is empty, or that begins
+    /// with `#`, is skipped. If a line begins with `!`, the glob after the `!` stops ignoring what
+    /// it matches. Every other line is a glob that ignores what it matches.
+    ///
+    /// Reading takes time and memory in proportion to the text, and to the lines' tokens and their
+    /// cost.
+    ///
+    /// ```
+    /// let list = IgnoreList::parse(alloc, "# what was built\n**/*.o\n!keep.o\n")?;
+    /// println!(rt; "{}", list.is_ignored(alloc, &CandidatePath::from("a/b.o"))?)?; // true
+    /// println!(rt; "{}", list.is_ignored(alloc, &CandidatePath::from("keep.o"))?)?; // false
+    /// ```
+    ///
+    /// # Errors
+    ///
+    /// Returns `BadLine` (21) for the first line whose glob has an error, and `Memory` (10) if
+    /// allocation fails.
     pub fn parse(alloc: Global, text: &str) -> Result<IgnoreList, IgnoreError>
         ensures { MatchResult result (IsListOf text.now) (IsNoList text.now) }
     {
@@ -84,8 +97,11 @@ impl IgnoreList {
         Ok(IgnoreList { rule })
     }
 
-    /// Whether the last line that means the path ignores; false where none means it. Refused with 10 where
-    /// memory is.
+    /// Returns whether the last line that matches the path ignores it; false if no line matches.
+    ///
+    /// # Errors
+    ///
+    /// Returns `NoMemory` if allocation fails.
     pub fn is_ignored(&self, alloc: Global, path: &CandidatePath<'_>) -> Result<bool, NoMemory>
         ensures { IfOk result (λ answer. (lines : List (Line Span)) → HoldsLines self.now lines
             → answer ≡ is_ignored lines path.now) }
@@ -93,10 +109,15 @@ impl IgnoreList {
         self.rule.is_ignored(alloc, path)
     }
 
-    /// The items that are kept of the plain walk from `start` less what the list ignores, in order, errors
-    /// among them, and the directory: the entries are those of the whole walk, of the depths that the
-    /// behavior has, that the list doesn't ignore. Where memory is refused for the list itself, nothing is
-    /// answered.
+    /// Collects the plain walk from `start` without what the list ignores: returns what is kept, in
+    /// order, errors included, and the directory. Over a lawful directory, the entries are exactly
+    /// those of the whole walk, at the depths of `behavior`, that the list doesn't ignore. If
+    /// memory or the budget runs out, the list is a prefix of that and then one error.
+    ///
+    /// # Errors
+    ///
+    /// Returns `NoMemory` if allocation fails for the list of entries itself. If it fails in the
+    /// walk, the last item is that error.
     pub fn entries<D: Directory>(
         self,
         alloc: Global,
@@ -127,7 +148,6 @@ impl Rule for IgnoreList {
     }
 }
 
-// The line that is written so.
 fn read(alloc: Global, written: &WrittenLine<'_>) -> Result<IgnoreLine, BuildError>
     ensures { MatchResult result
         (λ held. (line : Line Span) × IsReadAs (written_of written.now) line × (held ≡ line_of line))
@@ -137,7 +157,7 @@ fn read(alloc: Global, written: &WrittenLine<'_>) -> Result<IgnoreLine, BuildErr
     Ok(IgnoreLine::new(alloc, written.ignores, checked.release())?)
 }
 
-// A line that isn't read.
+// Adds the number of the line to an error, unless memory ran out: that is no error of the line.
 fn refused(line: usize, error: BuildError) -> IgnoreError
     ensures { result ≡ refused_at line error }
 {

@@ -1,4 +1,25 @@
 //! Globs: path expressions that are read, checked, compiled and matched, and walks through directories.
+//!
+//! ```
+//! use wax::prelude::*;
+//! use wax::{Counted, any, escape, filter_lines};
+//!
+//! // A set matches what one of its patterns matches.
+//! let pictures = any(alloc, vec![in alloc; "**/*.png", "**/*.{jpg,jpeg}"]?)?;
+//! println!(rt; "{}", pictures.is_match(alloc, &CandidatePath::from("a/logo.jpeg"))?)?; // true
+//!
+//! // An escaped text is an expression that matches only this text. A backslash can't be escaped.
+//! let escaped = escape(alloc, "a*.rs")?;
+//! let glob = Glob::new(alloc, escaped.as_str())?;
+//! println!(rt; "{}", glob.is_match(alloc, &CandidatePath::from("ab.rs"))?)?; // false
+//!
+//! // The lines that a glob matches, from any reader to any writer.
+//! let glob = Glob::new(alloc, "**/*.rs")?;
+//! let mut input = Counted::new("src/main.rs\nREADME.md\n".as_bytes());
+//! let mut output = Counted::new(rt.stdout());
+//! let not_text = filter_lines(alloc, &mut input, &mut output, &glob)?; // prints src/main.rs
+//! println!(rt; "{not_text}")?; // 0
+//! ```
 #![tactic(auto)]
 
 pub mod capture;

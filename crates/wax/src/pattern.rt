@@ -1,4 +1,4 @@
-//! What a set can be made of, and how it is.
+//! Patterns, and sets that are built from them.
 ghost use Rattle.std.specs.Prelude.{◌≡◌, ◌++◌, ◌∷◌, [], MatchResult, OnOk, chars};
 ghost use Rattle.wax_token.specs.Reads.{Span};
 ghost use Rattle.wax_token.specs.Syntax.{Tree};
@@ -14,18 +14,22 @@ use wax_query::diagnostics::{NoMemory, Refusal};
 use wax_rule::rule::{Checked, check};
 use wax_token::token::{Alternation, BranchKind, ExpressionMetadata, Token, Tokenized, new_branch};
 
-/// What a set can be made of: an expression, a glob, a set, what was checked, or one of these that may have
-/// been refused.
+/// A pattern of a set: an expression, a glob, a set, tokens that were checked, or a `Result` with
+/// one of these.
 pub trait Pattern: Sized {
-    /// The tree that it spells or holds.
+    /// The trees that the pattern spells or holds.
     ghost spells: { Self → Tree Span → Type 0 };
 
-    /// Why it has none.
+    /// The errors that `into_checked` may return.
     ghost refuses: { Self → BuildError → Type 0 };
 
-    /// Its token, which keeps the rules, with texts of its own. An expression is read and checked, and
-    /// refused with 1 to 8 as `Glob::new` refuses it. What was refused is refused again. All else is taken as
-    /// it is. Refused with 10 where memory is.
+    /// Converts the pattern into a token that keeps the rules and owns its texts. An expression is
+    /// parsed and checked, and an `Err` is returned as it is.
+    ///
+    /// # Errors
+    ///
+    /// Returns the errors 1 to 8 of `Glob::new` for an expression, the error itself for a `Result`
+    /// that is one, and `Memory` (10) if allocation fails.
     fn into_checked(
         self,
         alloc: Global,
@@ -90,10 +94,20 @@ impl<P: Pattern> Pattern for Result<P, BuildError> {
     }
 }
 
-/// The set of the patterns, which means what one of them means; of no patterns, nothing. The first pattern
-/// that is refused decides. Else refused with 9 where 1 and, for each pattern, the cost of its token and 2,
-/// together with 1 for the whole, are above 1,048,576; and with 10 where memory is. It takes time and memory
-/// of the order of the patterns' tokens and their cost.
+/// Builds a set from patterns, which matches what at least one of them matches, and nothing if
+/// there are none. It takes time and memory in proportion to the patterns' tokens and their cost.
+///
+/// ```
+/// use wax::any;
+///
+/// let pictures = any(alloc, vec![in alloc; "**/*.png", "**/*.{jpg,jpeg}"]?)?;
+/// println!(rt; "{}", pictures.is_match(alloc, &CandidatePath::from("a/logo.jpeg"))?)?; // true
+/// ```
+///
+/// # Errors
+///
+/// Returns the error of the first pattern that has one, `Compile` (9) if the program of the set
+/// would have more than 1,048,576 instructions, and `Memory` (10) if allocation fails.
 pub fn any<P: Pattern + Drop>(alloc: Global, patterns: Vec<P>) -> Result<Any<'static>, BuildError>
     ensures { MatchResult result (IsAnyOf P.spells patterns.items)
         (NoSet P.spells P.refuses patterns.items) }
@@ -108,7 +122,6 @@ pub fn any<P: Pattern + Drop>(alloc: Global, patterns: Vec<P>) -> Result<Any<'st
     }
 }
 
-// The token that the expression spells, where it breaks no rule.
 fn parse_and_check<'t>(
     alloc: Global,
     expression: &'t str,
@@ -123,7 +136,7 @@ fn parse_and_check<'t>(
     }
 }
 
-// The token of what was checked, without the expression.
+// Drops the expression of what was checked.
 fn token_of<'t>(
     checked: Checked<Tokenized<'t, ExpressionMetadata>>,
 ) -> Checked<Token<'t, ExpressionMetadata>>
@@ -132,7 +145,7 @@ fn token_of<'t>(
     checked.into_token()
 }
 
-// The token of each pattern.
+// Converts the patterns in order. The first error ends it.
 fn tokens_of<P: Pattern + Drop>(
     alloc: Global,
     patterns: Vec<P>,

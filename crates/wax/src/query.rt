@@ -1,4 +1,4 @@
-//! What static queries answer.
+//! The results of queries.
 
 pub use wax_query::query::{
     Bounded, BoundedVariantRange, Boundedness, CapturingToken, DepthVariance, NaturalRange,

@@ -1,4 +1,4 @@
-//! A set of patterns: the alternation of their tokens, with its program and its pieces.
+//! Sets of patterns: the alternation of their tokens, with its program and its pieces.
 ghost use Rattle.std.specs.Prelude.{◌≡◌, ◌≤◌, ◌<◌, ◌++◌, ◌∷◌, ℕ, List, IsTrue, chars, false};
 ghost use Rattle.std.specs.Prelude.{IfOk, IfSome, MatchOption, Some, codes};
 ghost use Rattle.wax_components.specs.Depth.{Depth};
@@ -36,7 +36,8 @@ use wax_query::query::{DepthVariance, TextVariance, Variance, When};
 use wax_rule::rule::{Checked, already_checked};
 use wax_token::token::{ExpressionMetadata, Token};
 
-/// A set of patterns, which means what one of them means. Contracts see the alternation of their trees.
+/// A set of patterns, which matches a path if one of its patterns does. `any` builds it. Contracts
+/// see the alternation of their trees.
 pub struct Any<'t> {
     token: Token<'t, ExpressionMetadata>,
     program: encode::Program,
@@ -70,8 +71,12 @@ impl<'t> Model for Any<'t> {
     ghost invariant = { λ a. IsCompiledAny a.token a.program a.prefilter a.pieces };
 }
 
-/// The set of an alternation's branches. Refused with 9 where its cost plus 1 is above 1,048,576, and with 10
-/// where memory is.
+/// Compiles an alternation into a set.
+///
+/// # Errors
+///
+/// Returns a `CompileError` (9) if the program would have more than 1,048,576 instructions, and
+/// `Refusal::Memory` (10) if allocation fails.
 pub(crate) fn compiled<'t>(
     alloc: Global,
     token: Token<'t, ExpressionMetadata>,
@@ -94,7 +99,8 @@ pub(crate) fn compiled<'t>(
 }
 
 impl Any<'_> {
-    /// Returns whether a pattern may match the text, by what is looked at before a text is followed.
+    /// Returns whether a pattern may match the text, by a quick test. If it returns false, none
+    /// does.
     fn may_match(&self, text: &str) -> bool
         ensures { MeansText self.now (chars text.now) → IsTrue result }
     {
@@ -102,7 +108,7 @@ impl Any<'_> {
     }
 }
 
-/// Prints `Any { .. }`: a set has no expression.
+/// Prints `Any { .. }`, since a set has no expression.
 impl fmt::Debug for Any<'_> {
     ghost debug_output = { λ _. Some (codes "Any { .. }") };
 
@@ -148,9 +154,9 @@ impl Program for Any<'_> {
         self.pieces.matched_counted(alloc, text)
     }
 
-    /// The least and the greatest number of components of the texts of all its branches, where `*`, `$` and a
-    /// class count as one character; 0 where there is no branch. It takes no memory, and time in proportion
-    /// to the branches.
+    /// Returns the least and the greatest number of components of the texts of all branches, where
+    /// `*`, `$` and a class count as one character; 0 if there is no branch. It doesn't allocate,
+    /// and takes time in proportion to the branches.
     fn depth(&self) -> DepthVariance
         ensures depth { Depth self.now (bounds result) }
         ensures least { (s : List ℕ) → MeansText self.now s → Bare s → (bounds result).0 ≤ component_total s }
@@ -160,8 +166,12 @@ impl Program for Any<'_> {
         depth(&self.token)
     }
 
-    /// The one text that each branch means, where they are written as one; the empty text where there is no
-    /// branch. Refused with 10 where memory is.
+    /// Returns the only text that can match, if every branch is written as this text; the empty
+    /// text if there is no branch.
+    ///
+    /// # Errors
+    ///
+    /// Returns `NoMemory` if allocation fails.
     fn text(&self, alloc: Global) -> Result<TextVariance<'static>, NoMemory>
         ensures exact { IfOk result (λ text. MatchOption (text_of text) (Variant self.now) (λ t.
             Text self.now (chars t))) }
@@ -174,8 +184,8 @@ impl Program for Any<'_> {
         })
     }
 
-    /// Whether each text that a branch means begins with `/`, by their first tokens; never where there is no
-    /// branch.
+    /// Returns whether every match begins with `/`, from the first tokens of the branches; `Never`
+    /// if there is no branch.
     fn has_root(&self) -> When
         ensures root { result ≡ root self.now }
         ensures always { result ≡ Always → (s : List ℕ) → MeansText self.now s → BeginsWithSlash s }
@@ -183,8 +193,8 @@ impl Program for Any<'_> {
         has_root(&self.token)
     }
 
-    /// Whether each branch means whatever lies below a text that it means, by their last tokens; never where
-    /// there is no branch.
+    /// Returns whether everything below a match matches too, from the last tokens of the branches;
+    /// `Never` if there is no branch.
     fn is_exhaustive(&self) -> When
         ensures exhaustive { result ≡ exhaustive self.now }
         ensures always { result ≡ Always → (s r : List ℕ)

@@ -1,4 +1,4 @@
-//! Expressions and the tokens that they spell.
+//! Expressions and their tokens.
 
 pub mod walk;
 

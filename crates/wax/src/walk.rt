@@ -1,4 +1,4 @@
-//! Directories, walks through them, and filters over walks.
+//! Directories, walks through them, and filters of walks.
 
 pub use crate::exclusions::{
     FileIteratorExt, Ignore, Not, exclusion_of, without_ignored, without_meant,

@@ -16,7 +16,7 @@ use wax_exclude::Exclusion;
 use wax_query::diagnostics::NoMemory;
 use wax_walk::{Entry, EntryResidue, Rule};
 
-/// What is left out of a walk: what a pattern means, or what an ignore list ignores.
+/// A filter of a walk: it excludes what a pattern matches, or what an ignore list ignores.
 #[derive(Drop)]
 pub enum WalkFilter {
     Not(Exclusion),
@@ -24,7 +24,11 @@ pub enum WalkFilter {
 }
 
 impl WalkFilter {
-    /// Leaves out what the pattern means. Refused as `exclusion_of` refuses it.
+    /// Builds a filter that excludes what the pattern matches.
+    ///
+    /// # Errors
+    ///
+    /// Returns the errors of `exclusion_of`.
     pub fn not<P: Pattern>(alloc: Global, pattern: P) -> Result<WalkFilter, BuildError>
         ensures { MatchResult result
             (λ filter. IsNotRule (P.spells pattern) (⟦<WalkFilter as Rule>⟧.rule filter))
@@ -34,7 +38,7 @@ impl WalkFilter {
         Ok(WalkFilter::Not(exclusion))
     }
 
-    /// Leaves out what the list ignores.
+    /// Wraps a list as a filter that excludes what the list ignores.
     pub fn ignore(list: IgnoreList) -> WalkFilter
         ensures { (lines : List (Line Span)) → HoldsLines list lines
             → IsRuleOf (not_ignored lines) (⟦<WalkFilter as Rule>⟧.rule result) }

@@ -1,4 +1,4 @@
-//! The alternatives of a token, level by level.
+//! The alternatives of a token, listed level by level.
 ghost use Rattle.std.specs.Prelude.{◌≡◌, ◌+◌, ◌≤◌, ◌++◌, ◌∷◌, [], IfOk, length};
 ghost use Rattle.wax_token.specs.Syntax.{trees_size};
 ghost use Rattle.wax_token.specs.Words.{trees};
@@ -9,11 +9,18 @@ use std::alloc::{AllocError, Global};
 use wax_query::diagnostics::NoMemory;
 use wax_token::token::Token;
 
-/// Tokens of which one or another means each text that the token means. Alternations and concatenations of
-/// one token and repetitions of exactly one are opened first. An alternation gives its branches, opened
-/// likewise, those of nested alternations after the others of their level; any other token gives itself. So
-/// `{{a,b},c}` gives `c`, `a` and `b`. Refused with 10 where memory is. It takes time and memory in
-/// proportion to the tokens.
+/// Splits a token into its alternatives: it matches a path exactly if one of them does.
+///
+/// Alternations and concatenations of one token, and repetitions of exactly one copy, are first
+/// replaced by the token in them. An alternation is then split into its branches, and these in
+/// turn. Branches of a nested alternation follow all others of its level: `{{a,b},c}` becomes `c`,
+/// `a` and `b`. Any other token is its only alternative.
+///
+/// Takes time and memory linear in the tokens.
+///
+/// # Errors
+///
+/// Returns `NoMemory` if allocation fails.
 #[tactic(auto, using(crate::proofs::Means::means_one_of))]
 pub fn into_alternatives<'t, A: Drop>(
     alloc: Global,
@@ -41,7 +48,8 @@ fn alternatives_of<'t, A: Drop>(
     Ok(found)
 }
 
-// Puts the tokens of a level that aren't alternations at the end, and gives the branches of the others.
+// Appends the tokens of a level that aren't alternations to `found`. Returns the branches of the
+// others.
 #[tactic(auto, using(crate::proofs::Levels::still_first))]
 fn next_level<'t, A: Drop>(
     alloc: Global,

@@ -1,4 +1,4 @@
-//! A token as a list of alternatives.
+//! Splitting a token into alternatives.
 #![tactic(auto)]
 
 mod alternatives;

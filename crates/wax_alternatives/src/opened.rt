@@ -1,4 +1,4 @@
-//! Branches that are opened to the one token that they hold.
+//! Replacing branches by the only token in them.
 ghost use Rattle.std.specs.Prelude.{◌≡◌, ◌≢◌, ◌+◌, ◌<◌, ◌≤◌, ◌∷◌, []};
 ghost use Rattle.std.specs.Prelude.{MatchResult, length};
 ghost use Rattle.wax_token.specs.Syntax.{tree_size, trees_size};
@@ -11,7 +11,8 @@ use wax_token::token::{
     Alternation, BranchKind, Concatenation, Token, Topology, new_branch, new_leaf,
 };
 
-/// The token, or the first one inside it that isn't opened to the token that it holds.
+/// Replaces a branch by the only token in it, as long as it contains just one and takes it exactly
+/// once. Returns any other token as it is.
 pub fn opened<'t, A: Drop>(token: Token<'t, A>) -> Token<'t, A>
     ensures levels { own_levels result ≡ levels token.entry }
     ensures size { tree_size result ≤ tree_size token.entry }
@@ -25,7 +26,7 @@ pub fn opened<'t, A: Drop>(token: Token<'t, A>) -> Token<'t, A>
     }
 }
 
-// The one token that the token is opened to, or else the token itself.
+// Replaces a branch once. Returns a token that isn't such a branch as an `Err`.
 fn inner<'t, A: Drop>(token: Token<'t, A>) -> Result<Token<'t, A>, Token<'t, A>>
     ensures levels { MatchResult result (λ t. levels t ≡ levels token.entry)
         (λ t. own_levels t ≡ levels token.entry) }
@@ -42,7 +43,7 @@ fn inner<'t, A: Drop>(token: Token<'t, A>) -> Result<Token<'t, A>, Token<'t, A>>
     }
 }
 
-// The same of a branch.
+// Apart from `inner`, which takes the annotation off and puts it back.
 #[tactic(auto, using(crate::proofs::Opens::own_alternation, crate::proofs::Opens::own_concatenation))]
 fn inner_of_branch<'t, A: Drop>(
     branch: BranchKind<'t, A>,
@@ -71,7 +72,7 @@ fn inner_of_branch<'t, A: Drop>(
     }
 }
 
-// The only item, or else all of them.
+// Returns the only item of the list, or otherwise the list.
 fn only<T: Drop>(mut items: Vec<T>) -> Result<T, Vec<T>>
     ensures { MatchResult result (λ item. items.items ≡ item ∷ [])
         (λ all. (all.items ≡ items.items) × (length all.items ≢ 1)) }
@@ -85,7 +86,11 @@ fn only<T: Drop>(mut items: Vec<T>) -> Result<T, Vec<T>>
     }
 }
 
-/// The branches of an alternation, or else the token.
+/// Returns the branches of an alternation.
+///
+/// # Errors
+///
+/// Returns the token itself if it isn't an alternation.
 pub fn taken_apart<'t, A: Drop>(token: Token<'t, A>) -> Result<Vec<Token<'t, A>>, Token<'t, A>>
     ensures levels { MatchResult result (λ ts. own_levels token.entry ≡ [] ∷ levels_each (trees ts.items))
         (λ t. own_levels token.entry ≡ (t ∷ []) ∷ []) }

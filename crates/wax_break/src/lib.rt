@@ -1,44 +1,46 @@
-//! The breaks of the rules: what they are, and by which definitions a token breaks one.
+//! The rules of expressions: types that name a broken rule and its place, and definitions of all
+//! breaks.
 #![tactic(auto)]
 
 use thiserror::Error;
 use wax_query::diagnostics::{CompositeSpan, CorrelatedSpan, Span};
 
-/// Which rule is broken.
+/// A rule that can be broken. Its `Display` form is the message of the error.
 #[derive(Clone, Copy, Debug, PartialEq, Eq, Error)]
 pub enum RuleErrorKind {
-    /// Refusal 2.
+    /// Error 2: two boundaries are side by side, as in `a//b`.
     #[error("malformed glob expression: adjacent component boundaries `/` or `**`")]
     AdjacentBoundary,
-    /// Refusal 3.
+    /// Error 3: a repetition's upper bound is below its lower one or both are zero, as in
+    /// `<a:2,1>`.
     #[error("malformed glob expression: incompatible repetition bounds")]
     IncompatibleBounds,
-    /// Refusal 4.
+    /// Error 4: a sub-glob is only `**`, as in `{a,**}`.
     #[error("malformed glob expression: singular tree wildcard `**` in branch")]
     SingularTree,
-    /// Refusal 5.
+    /// Error 5: a sub-glob begins or ends with `*` or `$` beside another one, as in `*{a,*}`.
     #[error("malformed glob expression: adjacent zero-or-more wildcards `*` or `$`")]
     AdjacentZeroOrMore,
-    /// Refusal 6.
+    /// Error 6: whether a match begins at the root depends on the branch, as in `{a,/b}`.
     #[error("malformed glob expression: uncertain or overlapping roots in branch")]
     RootedSubGlob,
-    /// Refusal 7.
+    /// Error 7: a repetition of only `*` or `$`, as in `<*:1,>`.
     #[error("malformed glob expression: singular zero-or-more wildcard `*` or `$` in branch")]
     SingularZeroOrMore,
-    /// Refusal 8.
+    /// Error 8: a token has a fixed size of 65,536 bytes or more, as in `<a:65536>`.
     #[error("malformed glob expression: oversized invariant expression")]
     OversizedInvariant,
 }
 
-/// A rule that is broken, and where.
+/// A broken rule, and the place where it is broken.
 #[derive(Drop)]
 pub struct Break {
     pub kind: RuleErrorKind,
     pub location: CompositeSpan,
 }
 
-/// What a token shows to the one beside it: its span, and whether it has a boundary, or a `*` or
-/// `$`, at that side.
+/// One side of a token, as its neighbour sees it: the token's span, and whether it has a boundary,
+/// or a `*` or `$`, at that side.
 #[derive(Clone, Copy)]
 pub struct Side {
     pub span: Span,
@@ -46,7 +48,7 @@ pub struct Side {
     pub has_zero_or_more: bool,
 }
 
-/// The kind of a branch; of a repetition, its lower bound.
+/// The kind of a branch. A repetition comes with its lower bound.
 #[derive(Clone, Copy)]
 pub enum Sort {
     Alternation,
@@ -64,7 +66,8 @@ pub struct Terminal {
     pub is_zero_or_more: bool,
 }
 
-/// A case, whether it holds, and how it is refused: what is broken, and the places that explain it.
+/// One way to break a rule: whether a branch does so, which rule it is, and the places that explain
+/// the error.
 #[derive(Clone, Copy)]
 pub struct Row {
     pub holds: bool,

@@ -1,4 +1,4 @@
-//! What calls do, in terms of results.
+//! What calls do, with `Result`s in place of numbers.
 ghost use Rattle.std.specs.Prelude.{◌≡◌, IfErr, IfOk, MatchResult, OnErr};
 ghost use Rattle.wax_c.specs.Outcomes.{AreLines, Decides, Fills, IsGlobOf, IsNoGlob};
 
@@ -10,7 +10,7 @@ use wax::{BuildError, CandidatePath, Counted, Glob, Program, filter_lines};
 ///
 /// # Errors
 ///
-/// `NotText` (20) if the bytes aren't UTF-8, and else as `Glob::new`.
+/// Returns `NotText` (20) if the bytes aren't UTF-8, and otherwise the errors of `Glob::new`.
 pub(crate) fn build<'e>(alloc: Global, expression: &'e [u8]) -> Result<Glob<'e>, CallError>
     ensures { MatchResult result (IsGlobOf expression.now) (IsNoGlob expression.now) }
 {
@@ -27,7 +27,7 @@ pub(crate) fn build<'e>(alloc: Global, expression: &'e [u8]) -> Result<Glob<'e>,
 ///
 /// # Errors
 ///
-/// `NotText` (20) if the path isn't UTF-8, `Build(Memory)` (10) if an allocation fails.
+/// Returns `NotText` (20) if the path isn't UTF-8, and `Build(Memory)` (10) if allocation fails.
 pub(crate) fn decide(alloc: Global, glob: &Glob<'_>, path: &[u8]) -> Result<bool, CallError>
     ensures { Decides glob.now path.now result }
 {
@@ -40,13 +40,14 @@ pub(crate) fn decide(alloc: Global, glob: &Glob<'_>, path: &[u8]) -> Result<bool
     }
 }
 
-/// Writes the lines of the input that the glob matches to the beginning of the output, and how many bytes
-/// they take to `written`.
+/// Writes the lines of the input that the glob matches to the beginning of the output, and the
+/// number of their bytes to `written`.
 ///
 /// # Errors
 ///
-/// `NoRoom` (21) if they take more bytes than the output has: then `written` is how many. `Build(Memory)`
-/// (10) if an allocation fails: then it is 0. In both cases the output is unchanged.
+/// Returns `NoRoom` (21) if the output is too small; `written` is how many bytes are needed then.
+/// Returns `Build(Memory)` (10) if allocation fails; `written` is 0 then. The output is unchanged
+/// in both cases.
 pub(crate) fn fill(
     alloc: Global,
     glob: &Glob<'_>,
@@ -70,7 +71,7 @@ pub(crate) fn fill(
     Ok(())
 }
 
-// The lines of the input that the glob matches.
+// Collects the lines in memory, so that the output stays unchanged if they don't fit.
 fn lines_of(alloc: Global, glob: &Glob<'_>, input: &[u8]) -> Result<Vec<u8>, CallError>
     ensures ok { IfOk result (λ out. AreLines glob.now input.now out.items) }
     ensures err { IfErr result (λ error. error ≡ CallError.Build BuildError.Memory) }

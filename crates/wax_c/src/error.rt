@@ -1,13 +1,13 @@
-//! Why a call fails, and the numbers that calls return.
+//! Errors of calls, and the numbers that calls return.
 ghost use Rattle.std.specs.Prelude.{◌≡◌};
 ghost use Rattle.wax_c.specs.Numbers.{answer_number, error_number, status_number};
 
 use wax::BuildError;
 
-/// Why a call fails.
+/// Why a call failed.
 #[derive(Drop)]
 pub enum CallError {
-    /// The expression isn't built (1 to 9), or an allocation fails (10).
+    /// The expression isn't built (1 to 9), or allocation failed (10).
     Build(BuildError),
     /// Bytes that should be text aren't UTF-8 (20).
     NotText,
@@ -15,7 +15,7 @@ pub enum CallError {
     NoRoom,
 }
 
-/// Returns 1 or 0 for a yes or a no, and minus the number of an error.
+/// Returns 1 or 0 for yes or no, and minus the number of an error.
 pub(crate) fn answer_of(outcome: &Result<bool, CallError>) -> i32
     ensures { result ≡ answer_number outcome.now }
 {
@@ -26,7 +26,7 @@ pub(crate) fn answer_of(outcome: &Result<bool, CallError>) -> i32
     }
 }
 
-/// Returns 0 for a success, and minus the number of an error.
+/// Returns 0 for success, and minus the number of an error.
 pub(crate) fn status_of(outcome: &Result<(), CallError>) -> i32
     ensures { result ≡ status_number outcome.now }
 {
@@ -36,7 +36,6 @@ pub(crate) fn status_of(outcome: &Result<(), CallError>) -> i32
     }
 }
 
-// The number of an error.
 fn number_of(error: &CallError) -> i32
     ensures { result ≡ error_number error.now }
 {

@@ -1,4 +1,4 @@
-//! Calls that make, use and free handles of globs.
+//! Calls that build, use and free handles of globs.
 ghost use Rattle.std.specs.Prelude.{◌≡◌, MatchResult, Option};
 ghost use Rattle.wax.specs.GlobView.{GlobView};
 ghost use Rattle.wax_c.specs.GlobHandles.{HasGlob, IsGlobHandle, span_of};
@@ -22,18 +22,19 @@ pub struct WaxSpan {
     pub length: usize,
 }
 
-// What a call that makes a handle gives.
+// The result of a call that builds a handle.
 struct Opening {
     outcome: Result<(), CallError>,
     handle: GlobHandle,
 }
 
-/// Makes a handle of the glob of an expression. Returns 0.
+/// Builds a glob from an expression, and writes its handle to `out`. Returns 0.
 ///
 /// # Errors
 ///
-/// -1 to -9 if the expression isn't built, -10 if an allocation fails, -20 if it isn't UTF-8. Then the
-/// handle is null, and after -1 to -8 `span` is the place in the expression; else it is empty, at 0.
+/// Returns -1 to -9 if the expression isn't built, -10 if allocation fails, and -20 if it isn't
+/// UTF-8. The handle is null then. After -1 to -8 `span` is the place in the expression; after
+/// other errors it is 0 bytes at 0.
 #[unsafe(no_mangle)]
 pub extern "C" fn wax_glob_new(
     alloc: Global,
@@ -53,7 +54,7 @@ pub extern "C" fn wax_glob_new(
 ///
 /// # Errors
 ///
-/// -10 if an allocation fails, -20 if the path isn't UTF-8.
+/// Returns -10 if allocation fails, and -20 if the path isn't UTF-8.
 #[unsafe(no_mangle)]
 pub unsafe extern "C" fn wax_glob_is_match(alloc: Global, glob: *const u8, path: &[u8]) -> i32
     ghost held: { GlobView }
@@ -64,12 +65,12 @@ pub unsafe extern "C" fn wax_glob_is_match(alloc: Global, glob: *const u8, path:
     answer_held(alloc, &*(glob as *const HeldGlob), path)
 }
 
-/// Writes the lines of the input that the glob matches to the beginning of the output, as `wax_filter`
-/// does.
+/// Writes the lines of the input that the glob matches to the beginning of the output, as
+/// `wax_filter` does.
 ///
 /// # Errors
 ///
-/// -10 and -21, as of `wax_filter`.
+/// Returns -10 and -21 as `wax_filter` does.
 #[unsafe(no_mangle)]
 pub unsafe extern "C" fn wax_glob_filter(
     alloc: Global,
@@ -87,7 +88,7 @@ pub unsafe extern "C" fn wax_glob_filter(
     fill_held(alloc, &*(glob as *const HeldGlob), input, output, written)
 }
 
-/// Frees what the handle points to. Does nothing if it is null.
+/// Frees what the handle points to. A null handle is ignored.
 #[unsafe(no_mangle)]
 pub unsafe extern "C" fn wax_glob_free(alloc: Global, glob: *mut u8)
     ghost held: { Option GlobView }
@@ -127,7 +128,7 @@ fn boxed(alloc: Global, expression: &[u8]) -> Result<Box<HeldGlob>, CallError>
     }
 }
 
-// Where in the expression a build was refused.
+// Returns the place of an error in the expression, or 0 bytes at 0 if it has none.
 fn place_of(outcome: &Result<(), CallError>) -> WaxSpan
     ensures { result ≡ span_of outcome.now }
 {

@@ -1,4 +1,4 @@
-//! Handles.
+//! Handles of globs.
 ghost use Rattle.std.specs.Prelude.{◌≡◌, None, Option, Some};
 ghost use Rattle.std.specs.Coded.{coded_option};
 ghost use Rattle.wax.specs.GlobView.{GlobView, glob_code};
@@ -31,7 +31,7 @@ impl Model for GlobHandle {
 }
 
 impl GlobHandle {
-    /// Makes a handle of what a box held.
+    /// Converts what a box held into a handle.
     pub(crate) fn of(loose: Loose<HeldGlob, Global>) -> GlobHandle
         ensures { result.held ≡ Some loose.value.glob }
     {
@@ -42,7 +42,7 @@ impl GlobHandle {
         }
     }
 
-    /// Makes a handle of nothing.
+    /// Returns a handle that owns nothing.
     pub(crate) fn null(alloc: Global) -> GlobHandle
         ensures { (result.held ≡ None) × (result.at ≡ null_ptr) }
     {

@@ -26,7 +26,7 @@ impl Model for ListHandle {
 }
 
 impl ListHandle {
-    /// Makes a handle of what a box held.
+    /// Converts what a box held into a handle.
     pub(crate) fn of(loose: Loose<IgnoreList, Global>) -> ListHandle
         ensures { result.held ≡ Some loose.value }
     {
@@ -37,7 +37,7 @@ impl ListHandle {
         }
     }
 
-    /// Makes a handle of nothing.
+    /// Returns a handle that owns nothing.
     pub(crate) fn null(alloc: Global) -> ListHandle
         ensures { (result.held ≡ None) × (result.at ≡ null_ptr) }
     {

@@ -1,4 +1,4 @@
-//! Calls that make, use and free handles of ignore lists.
+//! Calls that build, use and free handles of ignore lists.
 ghost use Rattle.std.specs.Prelude.{◌≡◌, MatchResult, Option};
 ghost use Rattle.wax.specs.declared.ignoring.IgnoreList.{IgnoreList};
 ghost use Rattle.wax_c.specs.ListHandles.{HasList, Ignores, IgnoresAs, IsListHandle};
@@ -13,19 +13,20 @@ use std::alloc::Global;
 use wax::walk::{IgnoreError, IgnoreList};
 use wax::{BuildError, CandidatePath};
 
-// What a call that makes a handle gives: of an error also the number of the line, or 0.
+// The result of a call that builds a handle. `line` is the number of the line with an error, or 0.
 struct ListOpening {
     outcome: Result<(), CallError>,
     line: usize,
     handle: ListHandle,
 }
 
-/// Makes a handle of the ignore list of a text. Returns 0.
+/// Builds an ignore list from a text, and writes its handle to `out`. Returns 0.
 ///
 /// # Errors
 ///
-/// -1 to -9 if the glob of a line isn't built: then `line` is the number of the first such line, from 1,
-/// and else it is 0. -10 if an allocation fails, -20 if the text isn't UTF-8. Then the handle is null.
+/// Returns -1 to -9 if the glob of a line isn't built; `line` is the number of the first such line
+/// then, from 1, and 0 otherwise. Returns -10 if allocation fails, and -20 if the text isn't UTF-8.
+/// The handle is null in all these cases.
 #[unsafe(no_mangle)]
 pub extern "C" fn wax_ignore_new(
     alloc: Global,
@@ -49,7 +50,7 @@ pub extern "C" fn wax_ignore_new(
 ///
 /// # Errors
 ///
-/// -10 if an allocation fails, -20 if the path isn't UTF-8.
+/// Returns -10 if allocation fails, and -20 if the path isn't UTF-8.
 #[unsafe(no_mangle)]
 pub unsafe extern "C" fn wax_ignore_is_ignored(alloc: Global, list: *const u8, path: &[u8]) -> i32
     ghost held: { IgnoreList }
@@ -60,7 +61,7 @@ pub unsafe extern "C" fn wax_ignore_is_ignored(alloc: Global, list: *const u8, p
     answer_list(alloc, &*(list as *const IgnoreList), path)
 }
 
-/// Frees what the handle points to. Does nothing if it is null.
+/// Frees what the handle points to. A null handle is ignored.
 #[unsafe(no_mangle)]
 pub unsafe extern "C" fn wax_ignore_free(alloc: Global, list: *mut u8)
     ghost held: { Option IgnoreList }
@@ -89,7 +90,7 @@ fn open_list(alloc: Global, text: &[u8]) -> ListOpening
     }
 }
 
-// The list of the text, or why there is none and the number of the line, or 0.
+// Builds the list, or returns why there is none, with the number of the line, or 0.
 fn boxed_list(alloc: Global, text: &[u8]) -> Result<Box<IgnoreList>, (CallError, usize)>
     ensures { MatchResult result (λ made. IsListOfBytes text.now made.value)
         (λ error. IsUnlistedAt text.now error.1 error.0) }

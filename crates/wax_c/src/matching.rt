@@ -10,7 +10,8 @@ use std::alloc::Global;
 ///
 /// # Errors
 ///
-/// -1 to -9 if the expression isn't built, -10 if an allocation fails, -20 if one of them isn't UTF-8.
+/// Returns -1 to -9 if the expression isn't built, -10 if allocation fails, and -20 if one of the
+/// texts isn't UTF-8.
 #[unsafe(no_mangle)]
 pub extern "C" fn wax_is_match(alloc: Global, expression: &[u8], path: &[u8]) -> i32
     ensures { AnswersAs expression.now (λ glob. Decides glob path.now) result }
@@ -18,15 +19,15 @@ pub extern "C" fn wax_is_match(alloc: Global, expression: &[u8], path: &[u8]) ->
     answer_of(&is_match(alloc, expression, path))
 }
 
-/// Writes the lines of the input that the expression matches to the beginning of the output, each with a
-/// line feed, and how many bytes they take to `written`. Lines that aren't UTF-8 are left out. Returns 0.
-/// The length of the input plus 1 is always room enough.
+/// Writes the lines of the input that the expression matches to the beginning of the output, each
+/// with a line feed, and the number of their bytes to `written`. Lines that aren't UTF-8 are
+/// excluded. An output of one byte more than the input is always large enough. Returns 0.
 ///
 /// # Errors
 ///
-/// -1 to -9 if the expression isn't built, -10 if an allocation fails, -20 if the expression isn't UTF-8:
-/// then `written` is 0. -21 if the lines take more bytes than the output has: then `written` is how many.
-/// The output is unchanged in all these cases.
+/// Returns -1 to -9 if the expression isn't built, -10 if allocation fails, and -20 if the
+/// expression isn't UTF-8; `written` is 0 then. Returns -21 if the output is too small; `written`
+/// is how many bytes are needed then. The output is unchanged in all these cases.
 #[unsafe(no_mangle)]
 pub extern "C" fn wax_filter(
     alloc: Global,

@@ -24,14 +24,18 @@ impl<'t> Model for CandidatePath<'t> {
 }
 
 impl<'t> CandidatePath<'t> {
-    /// The text.
+    /// Returns the text.
     pub fn as_str(&self) -> &str
         ensures { chars result.now ≡ self.now }
     {
         self.text.as_str()
     }
 
-    /// The same path with a text of its own. Refused with 10 where memory is.
+    /// Converts the path into one that owns its text.
+    ///
+    /// # Errors
+    ///
+    /// Returns `NoMemory` if allocation fails.
     pub fn into_owned(self, alloc: Global) -> Result<CandidatePath<'static>, NoMemory>
         ensures { IfOk result (λ path. path ≡ self.entry) }
     {
@@ -41,7 +45,11 @@ impl<'t> CandidatePath<'t> {
         })
     }
 
-    /// A copy with a text of its own. Refused with 10 where memory is.
+    /// Copies the path into one that owns its text.
+    ///
+    /// # Errors
+    ///
+    /// Returns `NoMemory` if allocation fails.
     pub fn to_owned(&self, alloc: Global) -> Result<CandidatePath<'static>, NoMemory>
         ensures { IfOk result (λ copy. copy ≡ self.now) }
     {
@@ -51,7 +59,7 @@ impl<'t> CandidatePath<'t> {
     }
 }
 
-/// A copy that borrows its text where this path does, and then takes no memory.
+/// Copies the path. A borrowed text is borrowed again, which doesn't allocate.
 impl Clone for CandidatePath<'_> {
     ghost is_clone = { λ path copy. copy ≡ path };
 
@@ -62,7 +70,7 @@ impl Clone for CandidatePath<'_> {
     }
 }
 
-/// Paths are equal where their texts are.
+/// Compares the texts: a path that is written in another way is another path.
 impl PartialEq for CandidatePath<'_> {
     ghost eq = { pointwise nat_eq };
 

@@ -1,4 +1,4 @@
-//! Texts that may be paths, programs that decide which of them they mean, and what is captured of those.
+//! Texts that may be paths, programs that match them, and what a match captures.
 #![tactic(auto)]
 
 mod candidate;

@@ -1,4 +1,4 @@
-//! What was captured of a text.
+//! What a match captures.
 ghost use Rattle.std.specs.Prelude.{◌≡◌, [], MatchOption, IfOk, None, Some, chars, map, slice_get};
 ghost use Rattle.std.specs.List.{All};
 ghost use Rattle.wax_candidate.specs.Matched.{texts};
@@ -10,11 +10,12 @@ use std::borrow::CowStr;
 use std::marker::Model;
 use wax_query::diagnostics::NoMemory;
 
-/// A text and what was captured of it. Contracts see the characters of the text and of the captures.
+/// A text that matched, and its captures. Contracts see the characters of the text and of the
+/// captures.
 #[derive(Debug, Drop)]
 pub struct MatchedText<'t> {
     text: CowStr<'t>,
-    /// Where each capture begins and ends, in bytes.
+    /// The start and the end of each capture, in bytes.
     captures: Vec<(usize, usize)>,
 }
 
@@ -39,8 +40,8 @@ impl<'t> Model for MatchedText<'t> {
 }
 
 impl<'t> MatchedText<'t> {
-    /// The text, with captures by their places in its bytes: of each the place where it begins, and the place
-    /// after its end.
+    /// Builds a match from a text and its captures, each as the place of its first byte and the
+    /// place after its last.
     pub fn new(text: &'t str, captures: Vec<(usize, usize)>) -> MatchedText<'t>
         requires { All (IsPart text.now) captures.items }
         ensures text { result.text ≡ chars text.now }
@@ -52,7 +53,7 @@ impl<'t> MatchedText<'t> {
         }
     }
 
-    /// The text, without captures. It takes no memory.
+    /// Builds a match without captures. It doesn't allocate.
     pub fn whole(alloc: Global, text: &'t str) -> MatchedText<'t>
         ensures text { result.text ≡ chars text.now }
         ensures captures { result.captures ≡ [] }
@@ -60,14 +61,14 @@ impl<'t> MatchedText<'t> {
         MatchedText::new(text, Vec::new(alloc))
     }
 
-    /// The whole text.
+    /// Returns the whole text.
     pub fn complete(&self) -> &str
         ensures { chars result.now ≡ self.now.text }
     {
         self.text.as_str()
     }
 
-    /// The whole text for 0, from 1 on the captures in their order, and None past the last.
+    /// Returns the whole text for 0, the captures in order from 1 on, and `None` after the last.
     pub fn get(&self, index: usize) -> Option<&str>
         ensures { MatchOption result (slice_get (texts self.now) index ≡ None)
             (λ part. slice_get (texts self.now) index ≡ Some (chars part.now)) }
@@ -79,14 +80,18 @@ impl<'t> MatchedText<'t> {
         Some(&self.text.as_str()[start..end])
     }
 
-    /// The whole text as a path.
+    /// Returns the whole text as a path.
     pub fn to_candidate_path(&self) -> CandidatePath<'_>
         ensures { result ≡ self.now.text }
     {
         CandidatePath::from(self.complete())
     }
 
-    /// The same with a text of its own. Refused with 10 where memory is.
+    /// Converts the match into one that owns its text.
+    ///
+    /// # Errors
+    ///
+    /// Returns `NoMemory` if allocation fails.
     pub fn into_owned(self, alloc: Global) -> Result<MatchedText<'static>, NoMemory>
         ensures { IfOk result (λ m. m ≡ self.entry) }
     {
@@ -95,7 +100,11 @@ impl<'t> MatchedText<'t> {
         Ok(MatchedText { text, captures })
     }
 
-    /// A copy with a text of its own. Refused with 10 where memory is.
+    /// Copies the match into one that owns its text.
+    ///
+    /// # Errors
+    ///
+    /// Returns `NoMemory` if allocation fails.
     pub fn to_owned(&self, alloc: Global) -> Result<MatchedText<'static>, NoMemory>
         ensures { IfOk result (λ m. m ≡ self.now) }
     {
@@ -105,7 +114,7 @@ impl<'t> MatchedText<'t> {
     }
 }
 
-/// A copy that borrows its text where this one does.
+/// Copies the match. A borrowed text is borrowed again.
 impl Clone for MatchedText<'_> {
     ghost is_clone = { λ m copy. copy ≡ m };
 

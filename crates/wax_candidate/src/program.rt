@@ -13,23 +13,27 @@ use std::alloc::Global;
 use wax_query::diagnostics::NoMemory;
 use wax_query::query::{DepthVariance, TextVariance, Variance, When};
 
-/// A set of texts, whose membership is decided by a program of instructions.
+/// A set of texts, whose members are decided by a program of instructions.
 pub trait Program {
-    // The texts that it means, each as its characters.
+    // The texts that it matches, each as its characters.
     ghost means: { Self → List ℕ → Type 0 };
 
-    // Whether it means them.
+    // The texts that it matches, as a function to booleans.
     ghost decides: { Self → List ℕ → Bool };
 
-    // What is captured of a text that it means, each capture as its characters.
+    // What is captured of a text that it matches, each capture as its characters.
     ghost captured: { Self → List ℕ → List (List ℕ) → Type 0 };
 
-    // How many instructions it may have.
+    // The greatest number of instructions that it may have.
     ghost program_length: { Self → ℕ };
 
-    /// Whether the path's whole text is meant, and the number of instructions that were visited: at
-    /// most the program's length a character and as many at the end, and where the answer is true at
-    /// least one a character. Refused with 10 where memory was.
+    /// Returns whether the program matches the whole path, and the number of instructions that it
+    /// visited. That number is at most the program's length for each character and once more at the
+    /// end. If the path matches, it is at least the number of characters.
+    ///
+    /// # Errors
+    ///
+    /// Returns `NoMemory` if allocation fails.
     fn is_match_counted(
         &self,
         alloc: Global,
@@ -39,7 +43,11 @@ pub trait Program {
         ensures above { IfOk result (λ answer. answer.1 ≤ program_length self.now * (length path.now + 1)) }
         ensures below { IfOk result (λ answer. IsTrue answer.0 → length path.now ≤ answer.1) };
 
-    /// Whether the path's whole text is meant. Refused with 10 where memory was.
+    /// Returns whether the program matches the whole path.
+    ///
+    /// # Errors
+    ///
+    /// Returns `NoMemory` if allocation fails.
     fn is_match(&self, alloc: Global, path: &CandidatePath<'_>) -> Result<bool, NoMemory>
         ensures means { IfOk result (λ answer. IsTrue answer ↔ means self.now path.now) }
         ensures decides { IfOk result (λ answer. answer ≡ decides self.now path.now) }
@@ -48,9 +56,13 @@ pub trait Program {
         Ok(answer)
     }
 
-    /// The path's text with what is captured of it, or None where the text isn't meant, and the number of
-    /// instructions that were visited: at most 8 times the program's length times the cube of the number of
-    /// characters and one more. Refused with 10 where memory was.
+    /// Matches the whole path. Returns its text with the captures, or `None` if it doesn't match,
+    /// and the number of instructions that were visited: at most 8 times the program's length times
+    /// the cube of one more than the number of characters.
+    ///
+    /// # Errors
+    ///
+    /// Returns `NoMemory` if allocation fails.
     fn matched_counted<'p>(
         &self,
         alloc: Global,
@@ -60,8 +72,11 @@ pub trait Program {
             IsMatchOf (means self.now) (captured self.now) path.now answer.0) }
         ensures above { IfOk result (λ answer. answer.1 ≤ cube_visits (program_length self.now) path.now) };
 
-    /// The path's text with what is captured of it, or None where the text isn't meant. Refused with 10 where
-    /// memory was.
+    /// Matches the whole path. Returns its text with the captures, or `None` if it doesn't match.
+    ///
+    /// # Errors
+    ///
+    /// Returns `NoMemory` if allocation fails.
     fn matched<'p>(
         &self,
         alloc: Global,
@@ -73,8 +88,9 @@ pub trait Program {
         Ok(matched)
     }
 
-    /// How many components the meant texts have: none that isn't empty and has no `/` at its ends has
-    /// fewer than the lower bound, and none has more than the upper one. Any number, where nothing is known.
+    /// Returns bounds for the number of components of the texts that match. None has more than the
+    /// upper bound. None has fewer than the lower one, unless it is empty or has a `/` at an end.
+    /// By default there are no bounds.
     fn depth(&self) -> DepthVariance
         ensures least { (s : List ℕ) → means self.now s → Bare s → (bounds result).0 ≤ component_total s }
         ensures greatest { (s : List ℕ) → means self.now s → AtMost (component_total s) (bounds result).1 }
@@ -82,7 +98,11 @@ pub trait Program {
         DepthVariance::from_closed_and_open(0, None)
     }
 
-    /// The only text that may be meant, where there is one. Refused with 10 where memory is.
+    /// Returns the only text that can match, if there is one and it is known.
+    ///
+    /// # Errors
+    ///
+    /// Returns `NoMemory` if allocation fails.
     fn text(&self, _alloc: Global) -> Result<TextVariance<'static>, NoMemory>
         ensures only { IfOk result (λ text. IfSome (text_of text) (λ t. (s : List ℕ)
             → means self.now s → s ≡ chars t)) }
@@ -90,16 +110,16 @@ pub trait Program {
         Ok(Variance::Variant(()))
     }
 
-    /// Whether the meant texts begin with `/`: each one, where the answer is `Always`; of the other answers
-    /// nothing is claimed.
+    /// Returns `Always` only if every match begins with `/`. Nothing is claimed for `Sometimes` and
+    /// `Never`.
     fn has_root(&self) -> When
         ensures always { result ≡ Always → (s : List ℕ) → means self.now s → BeginsWithSlash s }
     {
         When::Sometimes
     }
 
-    /// Whether what lies below a meant text is meant too: whatever it is, where the answer is `Always`; of
-    /// the other answers nothing is claimed.
+    /// Returns `Always` only if everything below a match matches too. Nothing is claimed for
+    /// `Sometimes` and `Never`.
     fn is_exhaustive(&self) -> When
         ensures always { result ≡ Always → (s r : List ℕ)
             → means self.now s → means self.now (s ++ 47 ∷ r) }
@@ -107,7 +127,7 @@ pub trait Program {
         When::Sometimes
     }
 
-    // What it decides is what it means.
+    // The function agrees with the set.
     ghost is_decided: { (program : Self) (text : List ℕ)
         → IsTrue (decides program text) ↔ means program text };
 }

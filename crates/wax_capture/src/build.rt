@@ -1,4 +1,4 @@
-//! The pieces of tokens.
+//! Building the pieces of tokens.
 ghost use Rattle.std.specs.Prelude.{◌≡◌, ◌+◌, ◌<◌, ◌∷◌, [], ◌++◌, List, OnOk, false, length};
 ghost use Rattle.wax_query.specs.Outcome.{MatchBuild};
 ghost use Rattle.wax_token.specs.Cost.{cost, costs};
@@ -15,7 +15,7 @@ use wax_match::encode::CompileError;
 use wax_query::diagnostics::Refusal;
 use wax_token::token::Token;
 
-/// The piece of a token.
+/// Builds the piece of the token at the index.
 fn piece_of<'t, A>(
     alloc: Global,
     tokens: &[Token<'t, A>],
@@ -47,7 +47,12 @@ fn add_piece(pieces: &mut Vec<Piece>, piece: Piece) -> Result<(), AllocError>
     Ok(())
 }
 
-/// The pieces of tokens that stand one after another.
+/// Builds the pieces of tokens one after another, with nothing around them.
+///
+/// # Errors
+///
+/// Returns `Refusal::Refused` only if the cost of the tokens plus 1 exceeds 1,048,576 (error 9),
+/// and `Refusal::Memory` if allocation fails.
 pub fn pieces_of<'t, A>(
     alloc: Global,
     tokens: &[Token<'t, A>],

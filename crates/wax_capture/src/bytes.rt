@@ -1,4 +1,4 @@
-//! From places in the characters of a text to places in its bytes.
+//! Converting places in the characters of a text to places in its bytes.
 ghost use Rattle.std.specs.Prelude.{◌≡◌, ◌+◌, ◌^◌, ◌<◌, ◌≤◌, IfOk, chars, length, map};
 ghost use Rattle.std.specs.List.{All};
 ghost use Rattle.wax_token.specs.Reads.{utf8_len};
@@ -7,14 +7,18 @@ ghost use Rattle.wax_capture.specs.inner.Parts.{IsWithin};
 
 use std::alloc::{AllocError, Global};
 
-/// The characters of a text.
+/// Returns the characters of a text as a list.
+///
+/// # Errors
+///
+/// Returns `AllocError` if allocation fails.
 pub fn characters(alloc: Global, text: &str) -> Result<Vec<char>, AllocError>
     ensures { IfOk result (λ v. v.items ≡ chars text.now) }
 {
     text.chars().collect(alloc)
 }
 
-/// How many bytes the characters have.
+/// Returns the length of the characters in bytes.
 fn byte_len(text: &[char]) -> usize
     requires { utf8_len text.now < 2 ^ 64 }
     ensures { result ≡ utf8_len text.now }
@@ -26,8 +30,8 @@ fn byte_len(text: &[char]) -> usize
     len
 }
 
-/// How many bytes stand before the place. It counts on from `known`, before which `bytes` stand, or from
-/// the front where the place lies before it.
+/// Returns the number of bytes before a place. Counts on from the place `known`, before which there
+/// are `bytes`, or from the beginning if the place is before `known`.
 fn bytes_before(text: &[char], known: usize, bytes: usize, place: usize) -> usize
     requires known { bytes ≡ byte_at text.now known }
     requires before { known ≤ length text.now }
@@ -41,7 +45,7 @@ fn bytes_before(text: &[char], known: usize, bytes: usize, place: usize) -> usiz
     bytes + byte_len(&text[known..place])
 }
 
-/// The parts by their places in bytes. It takes one pass over the text, where they stand in their order.
+/// Converts the places of parts to bytes. Takes one pass over the text if the parts are in order.
 fn count_bytes(
     alloc: Global,
     text: &[char],
@@ -65,8 +69,12 @@ fn count_bytes(
     Ok(places)
 }
 
-/// The parts of a text by their places in bytes, where `characters` are its characters. They stay as they
-/// are where each character is one byte.
+/// Converts the places of parts of a text to bytes. If each of its characters is one byte, the
+/// parts are returned as they are.
+///
+/// # Errors
+///
+/// Returns `AllocError` if allocation fails.
 pub fn to_bytes(
     alloc: Global,
     text: &str,

@@ -1,4 +1,5 @@
-//! Which part of a text a token takes, where it is known from which places on the further ones take the rest.
+//! Choosing what a piece takes of a text, if it is known from which places on the pieces after it
+//! can take the rest.
 ghost use Rattle.std.specs.Prelude.{◌≡◌, ◌+◌, ◌*◌, ◌≤◌, ◌∷◌, ℕ, List, IfOk, MatchOption, length, drop};
 ghost use Rattle.wax_lengths.specs.Prefers.{Prefers};
 ghost use Rattle.wax_capture.specs.Pieces.{forms_of, size_of};
@@ -10,7 +11,8 @@ use crate::piece::Piece;
 use std::alloc::{AllocError, Global};
 use wax_lengths::{Form, Visits, lengths_of, pick};
 
-/// The best of the lengths from `at` on that the form takes and after which the cell isn't empty.
+/// Returns the best length that the form takes from `at` on, and after which the cell in `next`
+/// isn't empty.
 fn choose_by(
     alloc: Global,
     form: &Form,
@@ -38,7 +40,12 @@ fn choose_by(
     Ok(None)
 }
 
-/// How many characters from `at` on the piece takes, where `next` is the row of the further pieces.
+/// Returns how many characters the piece takes from `at` on. `next` is the row of the pieces after
+/// it.
+///
+/// # Errors
+///
+/// Returns `AllocError` if allocation fails.
 pub fn choose(
     alloc: Global,
     piece: &Piece,

@@ -1,4 +1,4 @@
-//! The forms of leaves.
+//! Building the forms of leaves.
 ghost use Rattle.std.specs.Prelude.{◌≡◌, ◌↔◌, ◌≤◌, ℕ, Bool, List, IfOk, IfSome, chars, length, map};
 ghost use Rattle.unicode.specs.CaseFolding.{simple_fold};
 ghost use Rattle.wax_token.specs.Cost.{cost, leaf_cost};
@@ -13,7 +13,7 @@ use wax_lengths::Form;
 use wax_program::instruction::Test;
 use wax_token::token::{BranchKind, Class, LeafKind, Literal, Token, Topology, Wildcard};
 
-/// The foldings of the characters.
+/// Returns the simple case foldings of the characters.
 fn folded(alloc: Global, characters: &[char]) -> Result<Vec<char>, AllocError>
     ensures { IfOk result (λ v. v.items ≡ map simple_fold characters.now) }
 {
@@ -52,7 +52,12 @@ fn form_of_wildcard(wildcard: &Wildcard, before: bool, after: bool) -> Form
     }
 }
 
-/// The form of a leaf, where `before` and `after` say whether something is around it.
+/// Builds the form of a leaf. `before` and `after` say whether something is written before and
+/// after it.
+///
+/// # Errors
+///
+/// Returns `AllocError` if allocation fails.
 pub fn form_of_leaf(
     alloc: Global,
     leaf: &LeafKind<'_>,
@@ -74,7 +79,8 @@ pub fn form_of_leaf(
     })
 }
 
-/// The leaf that the token is, alone or as a sub-glob.
+/// Returns the leaf that a token consists of: the token itself, or the only token of a
+/// concatenation.
 pub fn lone_leaf<'i, 't, A>(token: &'i Token<'t, A>) -> Option<&'i LeafKind<'t>>
     ensures means { IfSome result (λ leaf. (before after : Bool) (x : List ℕ)
         → LeafMeans (leaf_of leaf.now) before after x ↔ Means token.now before after x) }

@@ -1,4 +1,4 @@
-//! What the tokens of a glob capture of a text that they mean.
+//! What the tokens of a glob capture of a path that they match.
 #![tactic(auto)]
 
 mod build;

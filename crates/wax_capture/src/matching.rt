@@ -1,4 +1,4 @@
-//! Which texts tokens mean, and what they capture of them.
+//! Matching texts with captures.
 ghost use Rattle.std.specs.Prelude.{◌+◌, ◌*◌, ◌<◌, ◌≤◌, false, IfOk, chars};
 ghost use Rattle.wax_query.specs.Outcome.{MatchBuild};
 ghost use Rattle.wax_token.specs.Cost.{costs};
@@ -22,15 +22,17 @@ use wax_match::encode::CompileError;
 use wax_query::diagnostics::{NoMemory, Refusal};
 use wax_token::token::Token;
 
-/// For each top-level token what its pieces are, which of them is chosen and what is captured of it. It holds
-/// no tokens.
+/// What is known of each top-level token of a glob for matching with captures: which pieces of a
+/// text it can take, which of them is chosen, and what is captured of it. Doesn't keep the tokens.
 pub struct Pieces {
     pieces: Vec<Piece>,
-    /// How much they come to.
+    /// The sum of the forms' sizes, or less if 64 bits can't hold it. It bounds the visits of a
+    /// trial.
     size: usize,
 }
 
-// Written out, so that a crate that drops pieces needn't prove again how their programs are dropped.
+// Written out, so that crates that drop pieces don't have to prove again how their programs are
+// dropped.
 impl Drop for Pieces {
     fn drop(self) {
         let Pieces { pieces: _, size: _ } = self;
@@ -53,7 +55,7 @@ impl Model for Pieces {
     ghost invariant = { λ p. p.size ≤ all_sizes p.pieces.items };
 }
 
-/// How often a trial may look at characters of a text of so many.
+/// Returns how many visits a trial may take for a text of `len` characters.
 fn limit(size: usize, len: usize) -> usize
     ensures { result ≤ size * ((len + 1) * (len + 1)) }
 {
@@ -62,9 +64,13 @@ fn limit(size: usize, len: usize) -> usize
 }
 
 impl Pieces {
-    /// The pieces of tokens that stand one after another, with nothing around them. Refused with 9 only where
-    /// their cost plus 1 is above 1,048,576, and with 10 where memory is. It takes time and memory of the
-    /// order of the tokens and their cost.
+    /// Builds the pieces of tokens one after another, with nothing around them. Takes time and
+    /// memory linear in the tokens and their cost.
+    ///
+    /// # Errors
+    ///
+    /// Returns `Refusal::Refused` only if the cost of the tokens plus 1 exceeds 1,048,576 (error
+    /// 9), and `Refusal::Memory` if allocation fails.
     pub fn new<'t, A>(
         alloc: Global,
         tokens: &[Token<'t, A>],
@@ -81,9 +87,12 @@ impl Pieces {
         }
     }
 
-    /// The text with its captures by the chosen split, or None where the tokens don't mean it, and the number
-    /// of instructions that were visited. Refused with 10 where memory is: it takes memory of the order of
-    /// the tokens times the characters.
+    /// Returns the text with its captures, or `None` if the tokens don't match it, and the number
+    /// of visits. Takes memory proportional to the number of tokens times that of characters.
+    ///
+    /// # Errors
+    ///
+    /// Returns `NoMemory` if allocation fails.
     pub fn matched_counted<'p>(
         &self,
         alloc: Global,

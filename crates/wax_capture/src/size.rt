@@ -1,4 +1,4 @@
-//! How much pieces come to: how often a character is looked at by their forms, at most.
+//! Sizes of forms: bounds of how often they look at each character of a text.
 ghost use Rattle.std.specs.Prelude.{◌≡◌, ◌≤◌};
 ghost use Rattle.wax_capture.specs.Pieces.{size_of};
 ghost use Rattle.wax_lengths.specs.Forms.{form_size};
@@ -7,7 +7,7 @@ ghost use Rattle.wax_capture.specs.inner.Splits.{all_sizes};
 use crate::piece::Piece;
 use wax_lengths::Form;
 
-/// Of one form.
+/// Returns the size of a form.
 fn size_of_form(form: &Form) -> usize
     ensures { result ≤ form_size form.now }
 {
@@ -21,7 +21,7 @@ fn size_of_form(form: &Form) -> usize
     }
 }
 
-/// Of the forms, or less, where a number of 64 bits doesn't hold it.
+/// Returns the sum of the forms' sizes, or less if 64 bits can't hold it.
 fn size_of(forms: &[Form]) -> usize
     ensures { result ≤ size_of forms.now }
 {
@@ -32,7 +32,7 @@ fn size_of(forms: &[Form]) -> usize
     size
 }
 
-/// Of all pieces, or less, where a number of 64 bits doesn't hold it.
+/// Returns the sum of the sizes of all pieces' forms, or less if 64 bits can't hold it.
 pub fn size_of_all(pieces: &[Piece]) -> usize
     ensures { result ≤ all_sizes pieces.now }
 {

@@ -1,4 +1,4 @@
-//! The chosen split of a text, from left to right.
+//! The chosen split of a text, and what is captured by it.
 ghost use Rattle.std.specs.Prelude.{◌≡◌, ◌+◌, ◌*◌, ◌≤◌, ◌++◌, IfOk, IfSome, MatchOption, OnOk};
 ghost use Rattle.std.specs.Prelude.{length, drop, take, false};
 ghost use Rattle.std.specs.List.{All};
@@ -13,7 +13,7 @@ use crate::trial::{Trial, split_by_trial};
 use std::alloc::{AllocError, Global};
 use wax_lengths::Visits;
 
-/// Where the part of `n` characters from `at` on ends, or `at` where it is one `/`.
+/// Returns the end of the part of `n` characters from `at` on, or `at` if the part is one `/`.
 fn end_unless_slash(text: &[char], at: usize, n: usize) -> usize
     requires { at + n ≤ length text.now }
     ensures part { part_between text.now (at, result) ≡ tree_capture false false (take n (drop at text.now)) }
@@ -25,8 +25,7 @@ fn end_unless_slash(text: &[char], at: usize, n: usize) -> usize
     at + n
 }
 
-/// Adds what is captured of the `n` characters from `at` on, as the place where it begins and the place
-/// after its end.
+/// Appends what is captured of the `n` characters from `at` on, as its beginning and its end.
 fn add_capture(
     capture: Capture,
     text: &[char],
@@ -49,7 +48,8 @@ fn add_capture(
     Ok(())
 }
 
-/// The captures of pieces of these lengths, each as the place where it begins and the place after its end.
+/// Returns the captures of pieces of these lengths, each as its beginning and its end, in
+/// characters.
 fn captures_of(
     alloc: Global,
     pieces: &[Piece],
@@ -71,8 +71,8 @@ fn captures_of(
     Ok(captures)
 }
 
-/// The lengths of the pieces by the chosen split: by trial, and by a table where that takes too long. None,
-/// where the pieces don't split the text.
+/// Returns the lengths of the pieces by the chosen split, or `None` if the pieces don't split the
+/// text. Tries first, which is usually faster, and builds a table if that takes too long.
 fn lengths_of(
     alloc: Global,
     pieces: &[Piece],
@@ -94,8 +94,12 @@ fn lengths_of(
     }
 }
 
-/// The captures of the pieces by the chosen split, each as the place where it begins and the place after its
-/// end. None, where the pieces don't split the text.
+/// Returns the captures of the pieces by the chosen split, each as its beginning and its end, in
+/// characters. Returns `None` if the pieces don't split the text.
+///
+/// # Errors
+///
+/// Returns `AllocError` if allocation fails.
 pub fn split(
     alloc: Global,
     pieces: &[Piece],

@@ -1,4 +1,4 @@
-//! How many characters each piece takes from each place of a text on.
+//! Splitting a text by a table: how many characters each piece takes from each place on.
 ghost use Rattle.std.specs.Prelude.{◌≡◌, ◌+◌, ◌*◌, ◌≤◌, ◌∷◌, [], ◌++◌, ℕ, List, IfOk, MatchOption, length};
 ghost use Rattle.wax_capture.specs.Pieces.{forms_of, size_of};
 ghost use Rattle.wax_capture.specs.inner.Rows.{ArePieceRows, Row};
@@ -10,7 +10,7 @@ use crate::piece::Piece;
 use std::alloc::{AllocError, Global};
 use wax_lengths::Visits;
 
-/// The row of no piece: it splits what is left at the text's end alone.
+/// Builds the row of no piece, which can split only the empty rest at the text's end.
 fn last_row(alloc: Global, text: &[char]) -> Result<Vec<Option<usize>>, AllocError>
     ensures row { IfOk result (λ r. Row [] text.now r.items) }
     ensures len { IfOk result (λ r. length r.items ≡ length text.now + 1) }
@@ -20,7 +20,7 @@ fn last_row(alloc: Global, text: &[char]) -> Result<Vec<Option<usize>>, AllocErr
     Ok(row)
 }
 
-/// The row of the piece and the further ones, where `next` is that of the further ones.
+/// Builds the row of a piece and all pieces after it, from the row `next` of those after it.
 fn row_before(
     alloc: Global,
     piece: &Piece,
@@ -44,7 +44,7 @@ fn row_before(
     Ok(row)
 }
 
-/// The rows of the last pieces, from that of none on.
+/// Builds the rows of the last pieces: of none, of the last one, of the last two, and so on.
 fn table(
     alloc: Global,
     pieces: &[Piece],
@@ -70,8 +70,13 @@ fn table(
     Ok(rows)
 }
 
-/// The lengths of the pieces by the chosen split, in time of the order of the pieces times the square of the
-/// text's length. None, where the pieces don't split the text.
+/// Returns the lengths of the pieces by the chosen split, in characters, or `None` if the pieces
+/// don't split the text. Takes time proportional to the sizes of the pieces and the square of the
+/// text's length.
+///
+/// # Errors
+///
+/// Returns `AllocError` if allocation fails.
 pub fn split_by_table(
     alloc: Global,
     pieces: &[Piece],

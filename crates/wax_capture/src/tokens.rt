@@ -1,4 +1,4 @@
-//! What is captured of a token's piece, and which piece it takes.
+//! What a token captures of its piece, and which piece it prefers.
 ghost use Rattle.std.specs.Prelude.{◌≡◌, ◌∷◌, [], ℕ, List, IfSome, IsNone, true};
 ghost use Rattle.wax_token.specs.View.{leaf_of, wildcard_leaf};
 ghost use Rattle.wax_token.specs.Words.{is_leaf_tree};
@@ -10,7 +10,8 @@ ghost use Rattle.wax_capture.specs.inner.Ways.{IsTreeToken, is_single};
 use crate::piece::Capture;
 use wax_token::token::{BranchKind, Evaluation, LeafKind, Token, Topology, Wildcard};
 
-/// What a token captures of its piece, where `before` says whether something is before it.
+/// Returns what a token captures of its piece. `before` says whether something is written before
+/// it.
 pub fn capture_of<'t, A>(token: &Token<'t, A>, before: bool) -> Capture
     ensures { (x : List ℕ) → captured_by result x ≡ token_captures token.now before x }
 {
@@ -58,7 +59,7 @@ fn capture_of_tree(before: bool, has_root: bool) -> Capture
     }
 }
 
-/// Whether it is `$`.
+/// Returns whether the token is `$`.
 pub fn is_lazy<'t, A>(token: &Token<'t, A>) -> bool
     ensures { result ≡ is_lazy token.now }
 {
@@ -86,7 +87,7 @@ fn is_lazy_wildcard(wildcard: &Wildcard) -> bool
     }
 }
 
-/// Whether a tree wildcard is rooted, if the token is one.
+/// Returns whether a `/` is written before a `**`, or `None` if the token isn't a `**`.
 pub fn tree_root<'t, A>(token: &Token<'t, A>) -> Option<bool>
     ensures tree { IfSome result (IsTreeToken token.now) }
     ensures single { IsNone result → is_leaf_tree token.now ≡ true → is_single token.now ≡ true }

@@ -1,4 +1,4 @@
-//! The chosen split of a text by trial, from left to right.
+//! Splitting a text by trial, from left to right, with a bound on the time.
 ghost use Rattle.std.specs.Prelude.{◌≡◌, ◌+◌, ◌*◌, ◌<◌, ◌≤◌, ◌∷◌, [], ◌++◌, ℕ, List, IfOk, length, drop};
 ghost use Rattle.std.specs.Bool.{MatchBool};
 ghost use Rattle.wax_capture.specs.Pieces.{forms_of, size_of};
@@ -12,21 +12,21 @@ use std::alloc::{AllocError, Global};
 use std::mem;
 use wax_lengths::{Span, Visits, lengths_of, pick};
 
-/// What a piece takes, as far as it was tried.
+/// The trial of one piece: the length that it takes now, and what is left to be tried.
 #[derive(Drop)]
 pub struct Frame {
-    /// The place where it begins.
+    /// The place where the piece begins.
     at: usize,
-    /// How many characters it takes.
+    /// The number of characters that it takes now.
     n: usize,
-    /// How many of its ways were opened.
+    /// The number of its forms that were tried, the last of them perhaps in part.
     opened: usize,
-    /// The lengths by the last of these that are left to be tried.
+    /// The lengths by the last of these forms that are left to be tried.
     span: Span,
 }
 
 impl Frame {
-    /// Nothing was tried.
+    /// Creates the frame of a piece of which nothing was tried.
     fn new(at: usize) -> Frame
         ensures at { result.at ≡ at }
         ensures opened { result.opened ≡ 0 }
@@ -42,18 +42,18 @@ impl Frame {
     }
 }
 
-/// What a trial came to.
+/// The outcome of a trial.
 #[derive(Drop)]
 pub enum Trial {
-    /// The lengths of the pieces by the chosen split.
+    /// The lengths of the pieces by the chosen split, in characters.
     Chosen(Vec<usize>),
     /// The pieces don't split the text.
     Nothing,
-    /// It took too long.
+    /// The trial took too long.
     Unknown,
 }
 
-/// Takes the best length that is left in the frame's span. Whether there is one.
+/// Takes the best length that is left in the frame's span. Returns whether there was one.
 fn take_left(text: &[char], is_lazy: bool, frame: &mut Frame, visits: &mut Visits) -> bool
     requires { frame.old.at + frame.old.span.end ≤ length text.now + 1 }
     ensures taken { MatchBool result
@@ -75,7 +75,8 @@ fn take_left(text: &[char], is_lazy: bool, frame: &mut Frame, visits: &mut Visit
     }
 }
 
-/// Takes the best length that wasn't tried. Whether there is one.
+/// Takes the best length that wasn't tried, by the current form or the next ones. Returns whether
+/// there was one.
 fn take_next(
     alloc: Global,
     piece: &Piece,
@@ -111,7 +112,7 @@ fn take_next(
     Ok(false)
 }
 
-/// The lengths of the frames, and a last one.
+/// Returns the chosen lengths: one for each frame, and then `last`.
 fn lengths(alloc: Global, frames: &[Frame], last: usize) -> Result<Vec<usize>, AllocError>
     ensures { IfOk result (λ r. r.items ≡ lengths_of frames.now ++ last ∷ []) }
 {
@@ -123,9 +124,13 @@ fn lengths(alloc: Global, frames: &[Frame], last: usize) -> Result<Vec<usize>, A
     Ok(lengths)
 }
 
-/// The lengths of the pieces by the chosen split. The first length that wasn't tried is taken for each piece
-/// in turn, and where there is none, the piece before it has to take another. It gives up once the meter has
-/// counted `limit`.
+/// Finds the lengths of the pieces by the chosen split. Each piece in turn takes the best length
+/// that wasn't tried; if there is none, the piece before it has to take another. Gives up after
+/// about `limit` visits.
+///
+/// # Errors
+///
+/// Returns `AllocError` if allocation fails.
 pub fn split_by_trial(
     alloc: Global,
     pieces: &[Piece],

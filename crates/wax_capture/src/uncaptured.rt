@@ -1,4 +1,4 @@
-//! The pieces of a tree wildcard of which nothing is captured.
+//! The pieces of `**` of which nothing is captured.
 ghost use Rattle.std.specs.Prelude.{◌≡◌, ◌↔◌, ◌≤◌, [], ℕ, List};
 ghost use Rattle.wax_token.specs.Meaning.{TreeMeans};
 ghost use Rattle.wax_capture.specs.Captures.{tree_capture};
@@ -7,7 +7,7 @@ ghost use Rattle.wax_lengths.specs.Forms.{TakenBy, form_size};
 use wax_lengths::Form;
 use wax_program::instruction::Test;
 
-/// The form of the pieces of a tree wildcard of which nothing is captured.
+/// Returns a form that takes exactly the pieces of a `**` whose capture is empty.
 pub fn nothing_captured(before: bool, after: bool, has_root: bool) -> Form
     ensures means { (x : List ℕ) → TakenBy result x
         ↔ (TreeMeans before after has_root x × (tree_capture before has_root x ≡ [])) }

@@ -1,4 +1,4 @@
-//! The forms of the ways of a token to mean a piece.
+//! Building the forms by which a token can take a piece.
 ghost use Rattle.std.specs.Prelude.{◌≡◌, ◌+◌, ◌<◌, ◌≤◌, ◌↔◌, ◌∷◌, [], ◌++◌, ℕ, List, IfOk, OnOk};
 ghost use Rattle.std.specs.Prelude.{length, true};
 ghost use Rattle.wax_query.specs.Outcome.{MatchBuild};
@@ -21,7 +21,6 @@ use wax_match::encode::{CompileError, compile};
 use wax_query::diagnostics::Refusal;
 use wax_token::token::{BranchKind, Token, Topology};
 
-/// Adds a form.
 fn add_form(forms: &mut Vec<Form>, form: Form) -> Result<(), AllocError>
     ensures { OnOk result (forms.new.items ≡ forms.old.items ++ form ∷ []) }
 {
@@ -29,7 +28,7 @@ fn add_form(forms: &mut Vec<Form>, form: Form) -> Result<(), AllocError>
     Ok(())
 }
 
-/// The form of a token: of a leaf without a program.
+/// Builds the form of the token at the index. Only branches need a program.
 fn form_of<'t, A>(
     alloc: Global,
     tokens: &[Token<'t, A>],
@@ -53,7 +52,7 @@ fn form_of<'t, A>(
     }
 }
 
-/// The forms of the branches.
+/// Builds the forms of the branches of an alternation.
 fn branch_ways<'t, A>(
     alloc: Global,
     branches: &[Token<'t, A>],
@@ -76,7 +75,7 @@ fn branch_ways<'t, A>(
     Ok(Ways::Each(forms))
 }
 
-/// The form of a token's one way.
+/// Builds the only form of a token that is neither an alternation nor a `**`.
 fn one_way<'t, A>(
     alloc: Global,
     tokens: &[Token<'t, A>],
@@ -98,7 +97,7 @@ fn one_way<'t, A>(
     }
 }
 
-/// The forms of a tree wildcard's ways.
+/// Builds the two forms of a `**`: pieces of which nothing is captured are preferred to all others.
 fn tree_ways(alloc: Global, before: bool, after: bool, has_root: bool) -> Result<Ways, AllocError>
     ensures ways { IfOk result (λ ways. (k : ℕ) (x : List ℕ)
         → LeafWay (tree has_root) k before after x ↔ WayIn (forms_of ways) k x) }
@@ -115,7 +114,13 @@ fn tree_ways(alloc: Global, before: bool, after: bool, has_root: bool) -> Result
     Ok(Ways::Each(forms))
 }
 
-/// The forms of a token's ways.
+/// Builds the forms of the token at the index. `before` and `after` say whether something is
+/// written before and after it.
+///
+/// # Errors
+///
+/// Returns `Refusal::Refused` only if the token's cost plus 1 exceeds 1,048,576 (error 9), and
+/// `Refusal::Memory` if allocation fails.
 pub fn ways_of<'t, A>(
     alloc: Global,
     tokens: &[Token<'t, A>],

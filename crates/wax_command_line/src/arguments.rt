@@ -1,11 +1,15 @@
-//! The words that the program was called with.
+//! The arguments that the program was called with.
 ghost use Rattle.std.specs.Prelude.{◌≡◌};
 
 use std::alloc::{AllocError, Global};
 use std::env::FillError;
 use std::rt::Env;
 
-/// The words after the program's name, each None where it isn't UTF-8.
+/// Returns the arguments after the program's name, each `None` if it isn't UTF-8.
+///
+/// # Errors
+///
+/// Returns `AllocError` if allocation fails.
 pub fn words(rt: &impl Env, alloc: Global) -> Result<Vec<Option<String>>, AllocError> {
     let mut words = Vec::new(alloc);
     for i in 1..usize::MAX {
@@ -17,7 +21,8 @@ pub fn words(rt: &impl Env, alloc: Global) -> Result<Vec<Option<String>>, AllocE
     Ok(words)
 }
 
-// The bytes of a word, if there are as many.
+// Reads an argument into a buffer that is doubled until it is long enough. Returns `None` after the
+// last one.
 fn word(rt: &impl Env, alloc: Global, i: usize) -> Result<Option<Vec<u8>>, AllocError> {
     let mut bytes = vec![in alloc; 0u8; 256]?;
     for _ in 0..usize::BITS {

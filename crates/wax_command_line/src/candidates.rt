@@ -18,11 +18,17 @@ use wax_glob_walk::{FilterAny, GlobWalk, NameTest};
 use wax_lines::{Counted, LinesError, write_whole};
 use wax_walk::{Entry, FileIterator, Rule, WalkError};
 
-/// How many bytes of lines wait at most before they are written.
+/// Lines are written once that many bytes of them wait.
 const CHUNK: usize = 8192;
 
-/// Writes the candidates of the entries of a glob's walk less what these rules leave out, one a line, and
-/// answers whether some item was an error. Each error is told where it comes.
+/// Writes the candidates of the entries of a glob's walk, one per line, without those that the
+/// rules exclude. Returns whether some item was an error; each error is written to `faults` when it
+/// comes.
+///
+/// # Errors
+///
+/// Returns `Write` if a write fails or takes nothing, and `Memory` if allocation fails for the
+/// lines. If memory runs out in the walk, that is one of its items.
 pub fn write_wanted<'g, D, P, C, R, W, F>(
     alloc: Global,
     walk: GlobWalk<'g, D, P, C>,
@@ -50,7 +56,7 @@ where
     write_less(alloc, walk, rules, output, faults)
 }
 
-// The same of any walk.
+// The generic body of `write_wanted`: at its concrete types the check would be too large.
 fn write_less<I, R, W, F>(
     alloc: Global,
     walk: I,
@@ -76,7 +82,7 @@ where
     write_candidates(alloc, kept, output, faults)
 }
 
-// Writes the candidate of each entry that is kept, one a line, and answers whether some item was an error.
+// Writes a walk that is already filtered.
 fn write_candidates<I, W, F>(
     alloc: Global,
     mut walk: I,
@@ -104,7 +110,7 @@ where
     Ok(has_errors)
 }
 
-// Adds what an item gives to the lines that wait, and answers whether it was an error, which is told.
+// Adds the line of an item, and returns whether it was an error, which goes to `faults`.
 fn write_item<T, R, S, W, F>(
     separation: Separation<S>,
     lines: &mut Vec<u8>,
@@ -139,7 +145,8 @@ where
     }
 }
 
-// Adds a candidate and a line feed to the lines that wait, and writes these once they are many.
+// Adds a candidate and a line feed to the lines that wait, and writes these once they are long. If
+// allocation fails for a line, the earlier ones are still written.
 fn write_candidate<E: Entry, W: Write>(
     entry: &E,
     lines: &mut Vec<u8>,
@@ -162,7 +169,7 @@ fn write_candidate<E: Entry, W: Write>(
     Ok(())
 }
 
-// Adds a text and a line feed, or nothing where memory is refused.
+// Appends a line and a line feed. Reserves the space first, so that it appends all or nothing.
 fn add_line(text: &str, lines: &mut Vec<u8>) -> Result<(), AllocError>
     ensures ok { OnOk result (lines.new.items ≡ lines.old.items ++ (text.now ++ 10 ∷ [])) }
     ensures err { OnErr result (lines.new.items ≡ lines.old.items) }

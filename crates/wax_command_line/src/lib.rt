@@ -1,4 +1,4 @@
-//! The command line of `globs`: what its words ask for, and the candidates of a walk as lines.
+//! The command line of `globs`: what its arguments ask for, and the candidates of a walk as lines.
 #![tactic(auto)]
 
 mod arguments;

@@ -1,4 +1,4 @@
-//! The words of a walk.
+//! The arguments of a walk.
 ghost use Rattle.std.specs.Prelude.{◌≡◌, ◌≤◌, ◌+◌, ◌++◌, ◌∷◌, [], ℕ, List, length, unwrap_or};
 ghost use Rattle.std.specs.Prelude.{IfSome, IfNone, MatchOption};
 ghost use Rattle.wax_command_line.specs.Commands.{AreBounds, AsksWalk, IsNumber, IsOption, SayEach};
@@ -12,18 +12,18 @@ ghost use Rattle.wax_command_line.specs.inner.OptionWords.{all_in, one_if};
 
 use wax_tree::{DepthBehavior, DepthMax, DepthMin, DepthMinMax};
 
-/// What the words of a walk ask for.
+/// What the arguments of a walk ask for.
 #[derive(Clone, Copy)]
 pub struct WalkWords<'w> {
     pub start: &'w str,
     pub expression: &'w str,
-    /// The options, each a name and a word.
+    /// The options, each a name and a value.
     pub options: &'w [Option<String>],
-    /// The depths that the options say.
+    /// The depths that the options set.
     pub depth: DepthBehavior,
 }
 
-// The depths that options say, and whether one names an ignore list.
+// What the options set: the least and the greatest depth, and whether one names an ignore list.
 #[derive(Clone, Copy)]
 struct OptionWords {
     lower: Option<usize>,
@@ -31,7 +31,7 @@ struct OptionWords {
     has_list: bool,
 }
 
-/// The walk that the words ask for, if they ask for one.
+/// Reads the arguments of a walk. Returns `None` if they don't ask for one.
 pub fn read_walk<'w>(words: &'w [Option<String>]) -> Option<WalkWords<'w>>
     ensures some { IfSome result (λ walk. (asked : WalkRequest) × AsksWalk words.now asked
         × IsRead walk asked) }
@@ -52,7 +52,7 @@ pub fn read_walk<'w>(words: &'w [Option<String>]) -> Option<WalkWords<'w>>
     })
 }
 
-// The depths within the bounds; none where the least is above the greatest.
+// Converts the bounds into depths. Returns `None` if the least is above the greatest.
 fn depths_of(bounds: OptionWords) -> Option<DepthBehavior>
     ensures some { IfSome result (λ depth. AreBounds (all_in bounds.lower) (all_in bounds.upper)
         × (least depth ≡ unwrap_or bounds.lower 0) × (greatest depth ≡ bounds.upper)) }
@@ -69,7 +69,7 @@ fn depths_of(bounds: OptionWords) -> Option<DepthBehavior>
     }
 }
 
-// What the words of options say, each depth and a list at most once.
+// Reads all options. Returns `None` if one is malformed, or sets a depth or a list a second time.
 fn read_options(words: &[Option<String>]) -> Option<OptionWords>
     ensures some { IfSome result (λ bounds. (options : List WalkOption) × SayEach words.now options
         × AreSaidBy bounds options) }
@@ -89,7 +89,7 @@ fn read_options(words: &[Option<String>]) -> Option<OptionWords>
     if rest.is_empty() { Some(bounds) } else { None }
 }
 
-/// The first two words, and the others.
+/// Splits off the next option: its name, its value, and the arguments after it.
 pub fn next_option<'w>(
     words: &'w [Option<String>],
 ) -> Option<(&'w str, &'w str, &'w [Option<String>])>
@@ -101,7 +101,7 @@ pub fn next_option<'w>(
     Some((name, word, rest))
 }
 
-// The first word, if it is text, and the others.
+// Splits off the first argument, if it is UTF-8.
 fn first_word<'w>(words: &'w [Option<String>]) -> Option<(&'w str, &'w [Option<String>])>
     ensures some { IfSome result (λ r. IsFirstWord words.now r.0.now r.1.now) }
     ensures none { IfNone result (HasNoFirst words.now) }
@@ -113,7 +113,7 @@ fn first_word<'w>(words: &'w [Option<String>]) -> Option<(&'w str, &'w [Option<S
     }
 }
 
-// The same with one more option.
+// Adds one option. Returns `None` if it is malformed, or sets a depth or a list a second time.
 fn with_option(bounds: OptionWords, name: &str, word: &str) -> Option<OptionWords>
     ensures some { IfSome result (λ more. (o : WalkOption) × IsOption name.now word.now o
         × AreMore bounds o more) }
@@ -144,7 +144,7 @@ fn with_option(bounds: OptionWords, name: &str, word: &str) -> Option<OptionWord
     None
 }
 
-// The number that the word says, where none was said before.
+// Reads a depth, unless it was set before.
 fn said_once(before: Option<usize>, word: &str) -> Option<Option<usize>>
     ensures some { IfSome result (λ said. (n : ℕ) × IsNumber word.now n
         × (all_in said ≡ all_in before ++ n ∷ [])) }
@@ -157,7 +157,7 @@ fn said_once(before: Option<usize>, word: &str) -> Option<Option<usize>>
     }
 }
 
-// The number that the digits write.
+// Reads a number of digits. A `+` before it, which `parse` would accept, is rejected.
 fn number_of(word: &str) -> Option<usize>
     ensures { MatchOption result ((n : ℕ) → IsNumber word.now n → ⊥) (IsNumber word.now) }
 {

@@ -1,4 +1,4 @@
-//! What is built of the words.
+//! Globs and filters that are built from the arguments.
 ghost use Rattle.std.specs.Fn.{FnReturnsAt};
 ghost use Rattle.std.specs.Prelude.{◌≡◌, ◌∷◌, ◌++◌, [], List, chars, map};
 ghost use Rattle.std.specs.Prelude.{IfSome, IfNone, IfOk, OnOk, OnErr, IsSome};
@@ -26,13 +26,13 @@ use wax::{BuildError, Glob};
 use wax_command_line::next_option;
 use wax_walk::Rule;
 
-/// Why something isn't built that is left out of a walk.
+/// Why a filter of a walk wasn't built.
 #[derive(Debug, Drop, Error)]
 pub enum FilterFault<'w> {
-    /// An expression isn't built.
+    /// An expression wasn't built.
     #[error("{0}")]
     Pattern(BuildError),
-    /// A line of an ignore list isn't built (21).
+    /// The glob of a line of an ignore list wasn't built (21).
     #[error("{file}:{line}: {error}")]
     BadLine {
         file: &'w str,
@@ -45,12 +45,12 @@ pub enum FilterFault<'w> {
     /// A file isn't UTF-8 (22).
     #[error("{0}: not text")]
     NotText(&'w str),
-    /// Memory was asked for and refused (10).
+    /// Allocation failed (10).
     #[error("no memory")]
     Memory,
 }
 
-/// The glob of the expression, or none where it is refused; the reason is told.
+/// Builds a glob. If it can't be built, writes the error to `faults` and returns `None`.
 pub fn built<'e, F: Write>(alloc: Global, expression: &'e str, faults: &mut F) -> Option<Glob<'e>>
     ensures some { IfSome result (IsGlob (chars expression.now)) }
     ensures none { IfNone result (IsRefused expression.now) }
@@ -65,7 +65,8 @@ pub fn built<'e, F: Write>(alloc: Global, expression: &'e str, faults: &mut F) -
     }
 }
 
-/// What the options of a walk leave out, in their order, or none where one is refused; the reason is told.
+/// Builds the filters that the options of a walk ask for, in order. If one can't be built, writes
+/// the error to `faults` and returns `None`.
 pub fn built_filters<B, F>(
     alloc: Global,
     options: &[Option<String>],
@@ -92,7 +93,7 @@ where
     }
 }
 
-// What the options leave out, in their order. The first that is refused ends it.
+// Builds the filters in order. The first error ends it.
 fn filters_of<'w, B>(
     alloc: Global,
     options: &'w [Option<String>],
@@ -116,7 +117,7 @@ where
     Ok(filters)
 }
 
-// Adds what an option leaves out, if it leaves out something.
+// Adds the filter of an option. The options that set depths have none.
 fn add_filter<'w, B>(
     alloc: Global,
     name: &str,
@@ -144,7 +145,6 @@ where
     Ok(())
 }
 
-// Adds what leaves out what an expression means.
 fn add_pattern<'w>(
     alloc: Global,
     expression: &'w str,
@@ -163,7 +163,6 @@ fn add_pattern<'w>(
     }
 }
 
-// Adds what leaves out what the list in a file ignores.
 fn add_list<'w, B>(
     alloc: Global,
     file: &'w str,

@@ -1,4 +1,4 @@
-//! Files that hold ignore lists.
+//! Files with ignore lists.
 ghost use Rattle.std.specs.Fn.{FnReturnsAt};
 ghost use Rattle.std.specs.Prelude.{IfOk, List, OnErr};
 ghost use Rattle.wax.specs.Ignoring.{HoldsLines};
@@ -10,16 +10,21 @@ use crate::building::FilterFault;
 use std::alloc::Global;
 use wax::walk::{IgnoreError, IgnoreList};
 
-/// Why the bytes of a file aren't given.
+/// Why a file wasn't read.
 #[derive(Clone, Copy, Debug)]
 pub enum FileFault {
     /// The file can't be read (18).
     ReadFailed,
-    /// Memory was asked for and refused (10).
+    /// Allocation failed (10).
     Memory,
 }
 
-/// The ignore list that the file holds.
+/// Reads the ignore list in a file.
+///
+/// # Errors
+///
+/// Returns `ReadFailed` if the file can't be read, `NotText` if it isn't UTF-8, `BadLine` for the
+/// first line whose glob has an error, and `Memory` if allocation fails.
 pub fn list_in<'w, B>(alloc: Global, file: &'w str, read: &B) -> Result<IgnoreList, FilterFault<'w>>
 where
     B: Fn(&str) -> Result<Vec<u8>, FileFault>,

@@ -1,12 +1,16 @@
-//! What is known of a glob, as lines.
+//! The output of `globs query`.
 
 use std::alloc::{AllocError, Global};
 use wax::diagnostics::{LocatedError, Warning};
 use wax::query::{DepthVariance, When};
 use wax::{Glob, NoMemory, Program};
 
-/// The lines of what is known of a glob: its depth, text, root, exhaustiveness, prefix and rest, how many of
-/// its tokens capture, and its warnings.
+/// Writes what is known of a glob as lines: its depth, text, root, exhaustiveness, prefix and rest,
+/// the number of tokens that capture, and its warnings.
+///
+/// # Errors
+///
+/// Returns `NoMemory` if allocation fails.
 pub fn query_lines(alloc: Global, glob: Glob<'_>) -> Result<String, NoMemory> {
     let mut lines = fact_lines(alloc, &glob)?;
     let token_lines = token_lines(alloc, &glob)?;
@@ -20,7 +24,6 @@ pub fn query_lines(alloc: Global, glob: Glob<'_>) -> Result<String, NoMemory> {
     Ok(lines)
 }
 
-// The depth, text, root and exhaustiveness.
 fn fact_lines(alloc: Global, glob: &Glob<'_>) -> Result<String, NoMemory> {
     let depth = depth_text(alloc, glob.depth())?;
     let root = when_text(glob.has_root());
@@ -35,7 +38,6 @@ fn fact_lines(alloc: Global, glob: &Glob<'_>) -> Result<String, NoMemory> {
     })
 }
 
-// How many tokens capture, and the warnings.
 fn token_lines(alloc: Global, glob: &Glob<'_>) -> Result<String, NoMemory> {
     let captures = glob.captures(alloc)?.len();
     let mut lines = format!(in alloc; "captures {captures}\n")?;
@@ -45,7 +47,6 @@ fn token_lines(alloc: Global, glob: &Glob<'_>) -> Result<String, NoMemory> {
     Ok(lines)
 }
 
-// A warning with its span.
 fn push_warning(
     alloc: Global,
     lines: &mut String,
@@ -60,7 +61,11 @@ fn push_warning(
     lines.push_str(line.as_str())
 }
 
-/// One number, or the lower bound, two dots, and the upper bound if there is one.
+/// Writes a depth: one number, or the lower bound, two dots, and the upper bound if there is one.
+///
+/// # Errors
+///
+/// Returns `AllocError` if allocation fails.
 pub fn depth_text(alloc: Global, depth: DepthVariance) -> Result<String, AllocError> {
     let lower = depth.lower();
     match depth.upper() {
@@ -70,7 +75,7 @@ pub fn depth_text(alloc: Global, depth: DepthVariance) -> Result<String, AllocEr
     }
 }
 
-/// `never`, `sometimes` or `always`.
+/// Returns `never`, `sometimes` or `always`.
 pub fn when_text(answer: When) -> &'static str {
     match answer {
         When::Never => "never",

@@ -1,4 +1,4 @@
-//! What the program does with its words and its streams.
+//! What the program does with its arguments and its streams.
 ghost use Rattle.std.specs.Fn.{FnReturnsAt};
 ghost use Rattle.std.specs.Prelude.{◌≡◌, ℕ, List, IfOk, IfErr, IfSome, IfNone};
 ghost use Rattle.wax_lines.specs.Lines.{Filtered, Stopped};
@@ -28,25 +28,29 @@ usage: globs match EXPR
        globs walk START EXPR [not EXPR].. [min N] [max N] [ignore FILE]
 ";
 
-/// What is written for a line that a glob means: the line alone, or with what is captured of it.
+/// What is written for a line that matches: the line, or the line with its captures.
 #[derive(Clone, Copy)]
 enum Lines {
     Meant,
     Captured,
 }
 
-/// Does what the words ask for, and answers the status: 0 done; 1 a refused build, a line that isn't
-/// text, a failed read or write, or want of memory but for that of a walk; 2 wrong words; 3 some item of a
-/// walk was an error. A word is None where it isn't UTF-8.
+/// Runs the command that the arguments ask for, and returns the exit status: 0 without errors; 1 if
+/// a build failed, a line isn't UTF-8, a read or write failed, or memory ran out outside of a walk;
+/// 2 for wrong arguments; 3 if some item of a walk was an error. An argument is `None` if it isn't
+/// UTF-8.
 ///
-/// `match EXPR` writes the lines of the input that the expression means; `captures EXPR` writes these, each
-/// with what the expression captures of it and a tab between; `query EXPR` writes what is known of the
-/// expression; `walk START EXPR` writes the candidates of the entries below a start that the expression
-/// means, but for those that the expressions after `not` mean, those that the ignore list in the file after
-/// `ignore` ignores, and depths below `min` or above `max`. `read` gives the bytes of a file by its name, and
-/// is asked for that list alone, before anything is listed. The last two read nothing of the input. Faults
-/// are told in one line, each error of a walk in one where it comes, wrong words by the usage text, and
-/// nothing else is written to `faults`; where that can't be written, the status is the same.
+/// `match EXPR` writes the lines of the input that the expression matches, and `captures EXPR`
+/// writes these with their captures, a tab before each. `query EXPR` writes what is known of the
+/// expression. `walk START EXPR` writes the candidates of the entries below a start that the
+/// expression matches, without those that the expressions after `not` match, those that the ignore
+/// list in the file after `ignore` ignores, and those of depths below `min` or above `max`. The
+/// last two commands don't read the input.
+///
+/// `read` returns the bytes of a file by its name. It is called only for the ignore list, before
+/// anything is listed. Each error is written to `faults` as one line, that of a walk's item when it
+/// comes; for wrong arguments it is the usage, and nothing else is written there. If that write
+/// fails, the status is still as above.
 pub fn run_globs<R, W, F, D, B>(
     alloc: Global,
     words: &[Option<String>],
@@ -96,7 +100,7 @@ where
     WRONG_WORDS
 }
 
-// The expression, where the words are the name of a command and one.
+// Returns the expression if the arguments are only the name of a command and one expression.
 fn expression_after<'w>(name: &str, words: &'w [Option<String>]) -> Option<&'w str>
     ensures some { IfSome result (λ e. Asks name.now words.now e.now) }
     ensures none { IfNone result ((e : List ℕ) → Asks name.now words.now e → ⊥) }
@@ -109,7 +113,7 @@ fn expression_after<'w>(name: &str, words: &'w [Option<String>]) -> Option<&'w s
     None
 }
 
-// The glob of the expression is run on the lines of the input.
+// Runs `match` or `captures`.
 fn run_lines<R: Read, W: Write, F: Write>(
     alloc: Global,
     lines: Lines,
@@ -139,7 +143,6 @@ fn run_lines<R: Read, W: Write, F: Write>(
     }
 }
 
-// What the glob gives of each line of the input.
 fn write_lines<R: Read, W: Write>(
     alloc: Global,
     lines: Lines,

@@ -1,12 +1,13 @@
-//! The status of each run.
+//! The exit statuses.
 
-/// All was done.
+/// There was no error.
 pub const DONE: u8 = 0;
 
-/// A build was refused, a line isn't text, a read or a write failed, or memory was wanting.
+/// A build failed, a line isn't UTF-8, a read or a write failed, or memory ran out outside of a
+/// walk.
 pub const FAILED: u8 = 1;
 
-/// The words ask for nothing that there is.
+/// The arguments are those of no command.
 pub const WRONG_WORDS: u8 = 2;
 
 /// Some item of a walk was an error.

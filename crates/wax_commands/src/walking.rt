@@ -1,4 +1,4 @@
-//! A walk of a glob, less what other expressions mean and a list ignores.
+//! The command `walk`.
 ghost use Rattle.std.specs.Fn.{FnReturnsAt};
 ghost use Rattle.std.specs.Prelude.{◌≡◌};
 ghost use Rattle.wax_command_line.specs.Commands.{WalkRequest};
@@ -14,8 +14,9 @@ use wax::Counted;
 use wax::walk::Directory;
 use wax_command_line::{WalkWords, write_wanted};
 
-/// Builds the glob, then what is left out, in the order of the words, and then writes the candidates of the
-/// walk over the directory. Errors of the walk are told where they come.
+/// Builds the glob, then the filters in the order of the arguments, and then writes the candidates
+/// of the walk. Returns the exit status. Each error of the walk is written to `faults` when it
+/// comes.
 pub fn run_walk<W, F, D, B>(
     alloc: Global,
     walk: WalkWords<'_>,

@@ -1,4 +1,4 @@
-//! The tokens of a glob that capture.
+//! The capturing tokens of a glob.
 ghost use Rattle.std.specs.Prelude.{◌≡◌, IfOk, length};
 ghost use Rattle.wax_components.specs.Capturing.{captures, captures_in, capturing};
 
@@ -8,8 +8,13 @@ use wax_query::diagnostics::NoMemory;
 use wax_query::query::CapturingToken;
 use wax_token::token::{Annotation, ExpressionMetadata, Token};
 
-/// The top-level tokens that capture, from left to right: each class, wildcard, alternation and
-/// repetition, with the index of its capture, from 1 on, and its span. Takes memory for the list.
+/// Returns the capturing tokens of a glob from left to right, each with its index, from 1 on, and
+/// its span. These are the classes, wildcards, alternations and repetitions that aren't inside
+/// another token. Allocates the list.
+///
+/// # Errors
+///
+/// Returns `NoMemory` if allocation fails.
 pub fn captures<'t>(
     alloc: Global,
     token: &Token<'t, ExpressionMetadata>,
@@ -19,7 +24,6 @@ pub fn captures<'t>(
     Ok(captures_in(alloc, kinds::top_level(token))?)
 }
 
-/// The same of tokens.
 fn captures_in<'t>(
     alloc: Global,
     tokens: &[Token<'t, ExpressionMetadata>],
@@ -36,7 +40,7 @@ fn captures_in<'t>(
     Ok(found)
 }
 
-/// How many top-level tokens capture.
+/// Returns how many captures a match has, apart from that of the whole path.
 pub fn capture_count<'t, A: Annotation>(token: &Token<'t, A>) -> usize
     ensures { result ≡ length (capturing token.now) }
 {

@@ -1,4 +1,4 @@
-//! The depth of a token.
+//! The depth of a token: how many components its matches have.
 ghost use Rattle.std.specs.Prelude.{◌≡◌, ◌≤◌, ◌∷◌, []};
 ghost use Rattle.std.specs.Str.{chars};
 ghost use Rattle.wax_query.specs.Components.{slash, slashes};
@@ -19,7 +19,6 @@ use crate::profiles::Profiles;
 use wax_query::query::{DepthVariance, NaturalRange};
 use wax_token::token::{BranchKind, LeafKind, Token, Topology, Wildcard};
 
-/// The profile of one character.
 fn character_profile(c: char) -> Profile
     ensures { result ≡ single (shape (c ∷ [])) (slash c) }
 {
@@ -32,7 +31,7 @@ fn character_profile(c: char) -> Profile
     profile
 }
 
-/// The profile of one text.
+/// Returns the profile of the set of only this text.
 #[tactic(auto, using(crate::proofs::Contexts::text_step))]
 fn text_profile(text: &str) -> Profile
     ensures { saturated result ≡ saturated (single (shape (chars text.now)) (slashes (chars text.now))) }
@@ -74,7 +73,7 @@ fn token_profiles<'t, A>(token: &Token<'t, A>) -> Profiles
     }
 }
 
-/// Of branches.
+/// Returns the profiles of an alternation of these branches.
 #[cycle(measure)]
 #[tactic(auto, using(wax_token::proofs::Sizes::element_size))]
 fn some_profiles<'t, A>(tokens: &[Token<'t, A>]) -> Profiles
@@ -89,7 +88,7 @@ fn some_profiles<'t, A>(tokens: &[Token<'t, A>]) -> Profiles
     all
 }
 
-/// Of tokens that stand one after another.
+/// Returns the profiles of tokens one after another.
 #[cycle(measure)]
 #[tactic(auto, using(wax_token::proofs::Sizes::element_size))]
 fn each_profiles<'t, A>(tokens: &[Token<'t, A>]) -> Profiles
@@ -108,13 +107,16 @@ fn each_profiles<'t, A>(tokens: &[Token<'t, A>]) -> Profiles
     all
 }
 
-/// How many components the texts of the token have, from the least number to the greatest; open above
-/// where there is no greatest. `*`, `$` and a class count as one character, and a text that is empty or
-/// `/` has none. A number that doesn't fit into 64 bits is given as the greatest that does, which no token
-/// of a cost of at most 1,048,575 has.
+/// Returns the least and the greatest number of components of the paths that the token matches. The
+/// range is open above if there is no greatest.
 ///
-/// Each token is visited once, each character of a literal once, and a repetition takes as many steps
-/// more as its bounds have binary digits. Takes no memory but the stack's, as deep as the tree.
+/// `*`, `$` and a class count as one character, and a path that is empty or `/` has no component.
+/// No match has more components than the greatest. No match has fewer than the least, unless it is
+/// empty or has a `/` at an end. A number that exceeds 64 bits is returned as `usize::MAX`; this
+/// can't happen for a token that costs at most 1,048,575, the limit of a glob.
+///
+/// Visits each token and each character of a literal once, and takes one step more for each binary
+/// digit of a repetition's bounds. Doesn't allocate; recursion is as deep as the tree.
 pub fn depth<'t, A>(token: &Token<'t, A>) -> DepthVariance
     ensures depth { cost token.now ≤ 1048575 → Depth token.now (bounds result) }
     ensures bounds { cost token.now ≤ 1048575 → BoundsComponents token.now (bounds result) }

@@ -1,4 +1,4 @@
-//! The least and the greatest number of a set.
+//! Intervals: the least and the greatest number of a set.
 ghost use Rattle.std.specs.Prelude.{◌≡◌, min};
 ghost use Rattle.wax_components.specs.Depth.{saturated_bound, usize_max};
 ghost use Rattle.wax_components.specs.inner.Intervals.{bound_sum, exceeds_zero, greater_bound};
@@ -7,7 +7,8 @@ ghost use Rattle.wax_components.specs.inner.Intervals.{saturated_interval, unbou
 ghost use Rattle.wax_components.specs.inner.Saturation.{in_words, no_components, saturated_component_bound};
 ghost use Rattle.wax_components.specs.inner.Saturation.{saturated_components, u128_max};
 
-/// The least number and the greatest, none where each is passed; none where the set is empty.
+/// The least and the greatest number of a set. The greatest is `None` if the set has none, and the
+/// interval is `None` if the set is empty.
 pub type Interval = Option<(u128, Option<u128>)>;
 
 fn greater_bound(left: Option<u128>, right: Option<u128>) -> Option<u128>
@@ -34,7 +35,7 @@ fn bound_sum(left: Option<u128>, right: Option<u128>) -> Option<u128>
     }
 }
 
-/// Of both sets together.
+/// Returns the interval of the union of two sets.
 pub fn hull(left: Interval, right: Interval) -> Interval
     ensures { result ≡ hull left right }
 {
@@ -47,7 +48,7 @@ pub fn hull(left: Interval, right: Interval) -> Interval
     }
 }
 
-/// Of the sums of a number of each.
+/// Returns the interval of all sums of a number of one set and a number of the other.
 pub fn interval_sum(left: Interval, right: Interval) -> Interval
     ensures { result ≡ saturated_interval u128_max (interval_sum left right) }
 {
@@ -90,7 +91,8 @@ fn saturated_component_bound(greatest: Option<u128>, ends: u128) -> Option<u128>
     }
 }
 
-/// The numbers of components of texts that have so many `/`, of which `ends` stand at an end.
+/// Converts numbers of `/` to numbers of components. `ends` of the `/` are at an end of the text
+/// and don't separate components.
 pub fn saturated_components(slashes: Interval, ends: u128) -> Interval
     ensures { result ≡ saturated_components ends slashes }
 {
@@ -103,7 +105,7 @@ pub fn saturated_components(slashes: Interval, ends: u128) -> Interval
     }
 }
 
-/// The empty text has no component.
+/// Returns the numbers of components of the empty text, if the set has it.
 pub fn no_components(slashes: Interval) -> Interval
     ensures { result ≡ no_components slashes }
 {
@@ -132,7 +134,8 @@ fn bound_in_words(greatest: Option<u128>) -> Option<usize>
     }
 }
 
-/// Both numbers at most the greatest of 64 bits, and 0 of no set.
+/// Converts both numbers to 64 bits. A greater one becomes `usize::MAX`; the empty set becomes 0 to
+/// 0.
 pub fn in_words(interval: Interval) -> (usize, Option<usize>)
     ensures { result ≡ in_words interval }
 {

@@ -1,4 +1,4 @@
-//! The literals of a glob and its sub-globs.
+//! The literals of a glob and all its sub-globs.
 ghost use Rattle.std.specs.Prelude.{◌≡◌, ◌++◌, ◌∷◌, ◌<◌, [], ℕ, IfOk, OnOk};
 ghost use Rattle.std.specs.List.{flat_map};
 ghost use Rattle.wax_token.specs.Syntax.{tree_size};
@@ -12,7 +12,7 @@ use std::marker::Model;
 use wax_query::diagnostics::NoMemory;
 use wax_token::token::{Annotation, BranchKind, Token, Topology};
 
-/// A glob or a sub-glob. Contracts see its tree.
+/// A glob or a sub-glob. A type of its own, so that contracts see the tree and not the reference.
 #[derive(Drop)]
 struct Glob<'i, 't, A> {
     token: &'i Token<'t, A>,
@@ -29,10 +29,10 @@ impl<'i, 't, A> Model for Glob<'i, 't, A> {
     ghost view = { λ g. g.token.now };
 }
 
-/// The globs at one level.
+/// The globs of one level.
 type Level<'i, 't, A> = Vec<Glob<'i, 't, A>>;
 
-/// Puts the sub-globs that a top-level token is or holds at the end.
+/// Appends the sub-globs in a top-level token.
 #[tactic(auto, using(crate::proofs::TopLevels::listed_trees))]
 fn push_globs_in<'i, 't, A>(
     level: &mut Level<'i, 't, A>,
@@ -50,7 +50,6 @@ fn push_globs_in<'i, 't, A>(
     }
 }
 
-/// Puts a glob at the end.
 fn push_glob<'i, 't, A>(
     level: &mut Level<'i, 't, A>,
     token: &'i Token<'t, A>,
@@ -61,7 +60,6 @@ fn push_glob<'i, 't, A>(
     Ok(())
 }
 
-/// Puts each of the globs at the end.
 fn push_each<'i, 't, A>(
     level: &mut Level<'i, 't, A>,
     tokens: &'i [Token<'t, A>],
@@ -74,7 +72,7 @@ fn push_each<'i, 't, A>(
     Ok(())
 }
 
-/// Puts the sub-globs of a glob at the end.
+/// Appends the sub-globs of a glob.
 fn push_sub_globs<'i, 't, A: Annotation>(
     level: &mut Level<'i, 't, A>,
     glob: &'i Token<'t, A>,
@@ -87,7 +85,7 @@ fn push_sub_globs<'i, 't, A: Annotation>(
     Ok(())
 }
 
-/// The sub-globs of the globs.
+/// Returns the sub-globs of all globs of a level.
 fn next_level<'i, 't, A: Annotation>(
     alloc: Global,
     globs: &[Glob<'i, 't, A>],
@@ -101,10 +99,10 @@ fn next_level<'i, 't, A: Annotation>(
     Ok(level)
 }
 
-/// Components of literals alone, with what they spell.
+/// Components of only literals, with their text.
 type Literals<'i, 't, A> = Vec<(Component<'i, 't, A>, LiteralSequence<'i, 't, A>)>;
 
-/// Puts the components of a glob that are of literals alone at the end.
+/// Appends the components of a glob that are only literals.
 fn push_literals<'i, 't, A: Annotation>(
     alloc: Global,
     found: &mut Literals<'i, 't, A>,
@@ -121,7 +119,6 @@ fn push_literals<'i, 't, A: Annotation>(
     Ok(())
 }
 
-/// The same of each of the globs.
 fn push_literals_of<'i, 't, A: Annotation>(
     alloc: Global,
     found: &mut Literals<'i, 't, A>,
@@ -135,7 +132,6 @@ fn push_literals_of<'i, 't, A: Annotation>(
     Ok(())
 }
 
-/// The components of literals alone of a glob and all its sub-globs.
 fn all_literals<'i, 't, A: Annotation>(
     alloc: Global,
     token: &'i Token<'t, A>,
@@ -152,22 +148,32 @@ fn all_literals<'i, 't, A: Annotation>(
     Ok(found)
 }
 
-/// The components of literals alone, with what they spell, of a glob and all its sub-globs: level after
-/// level, and in each from left to right. Takes memory for the list and for two levels, and time in
-/// proportion to the tokens.
+/// Returns the components of only literals, with their texts, of a glob and all its sub-globs:
+/// level by level, and in each from left to right. For `a/{b,c*}` they are `a` and `b`.
+///
+/// Allocates the list and two levels of sub-globs. Takes time linear in the tokens.
+///
+/// # Errors
+///
+/// Returns `NoMemory` if allocation fails.
 #[tactic(auto, using(crate::proofs::Globs::no_deeper))]
 pub fn literals<'i, 't, A: Annotation>(
     alloc: Global,
     token: &'i Token<'t, A>,
 ) -> Result<Vec<(Component<'i, 't, A>, LiteralSequence<'i, 't, A>)>, NoMemory>
     ensures all { IfOk result (λ ls. ls.items ≡ literals token.now) }
-    // no sub-glob is left out
+    // no sub-glob is missing
     ensures deepest { (n : ℕ) → tree_size token.now < n → globs_at n token.now ≡ [] }
 {
     Ok(all_literals(alloc, token)?)
 }
 
-/// Whether a component of the glob or of one of its sub-globs is `.` or `..`.
+/// Returns whether a component of the glob or of one of its sub-globs is `.` or `..`. Takes the
+/// time and memory of `literals`.
+///
+/// # Errors
+///
+/// Returns `NoMemory` if allocation fails.
 pub fn has_semantic_literals<'t, A: Annotation>(
     alloc: Global,
     token: &Token<'t, A>,

@@ -1,5 +1,5 @@
-//! The components and literals of globs, the numbers of components of their texts, which of their tokens
-//! capture, and what they are warned of.
+//! The components and literals of globs, the depths of their matches, their capturing tokens, and
+//! warnings.
 #![tactic(auto)]
 
 mod capturing;

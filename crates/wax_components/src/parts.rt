@@ -15,7 +15,8 @@ use std::marker::Model;
 use wax_query::diagnostics::{NoMemory, Span, SpanExt};
 use wax_token::token::{Annotation, ConcatenationTree, ExpressionMetadata, Token};
 
-/// A component of a glob: the tokens between two boundaries, or a `**`. Contracts see the tokens.
+/// A component of a glob: the tokens between two boundaries, or a single `**`. Contracts see the
+/// tokens.
 #[derive(Drop)]
 pub struct Component<'i, 't, A> {
     tokens: &'i [Token<'t, A>],
@@ -51,14 +52,15 @@ impl<'i, 't, A> Component<'i, 't, A> {
         Component { tokens }
     }
 
-    /// The tokens from left to right.
+    /// Returns the tokens from left to right.
     pub fn tokens(&self) -> &'i [Token<'t, A>]
         ensures { result.now ≡ self.now }
     {
         self.tokens
     }
 
-    /// Its literals, if all its tokens are literals. Takes no memory.
+    /// Returns the component as literals, or `None` if one of its tokens isn't a literal. Doesn't
+    /// allocate.
     pub fn literal(&self) -> Option<LiteralSequence<'i, 't, A>>
         ensures { result ≡ (if list_all is_literal self.now then Some (literals_text self.now) else None) }
     {
@@ -74,7 +76,7 @@ impl<'i, 't, A> Component<'i, 't, A> {
 }
 
 impl<'i, 't> Component<'i, 't, ExpressionMetadata> {
-    /// The least span that holds the spans of its tokens.
+    /// Returns the smallest span that contains those of all its tokens, or (0, 0) if it has none.
     pub fn span(&self) -> Span
         ensures { result ≡ joint_span self.now }
     {
@@ -89,7 +91,7 @@ impl<'i, 't> Component<'i, 't, ExpressionMetadata> {
     }
 }
 
-/// Literals one after another. Contracts see the characters that they spell together.
+/// Literals one after another, as in `a(?i)b`. Contracts see their characters together.
 #[derive(Drop)]
 pub struct LiteralSequence<'i, 't, A> {
     tokens: &'i [Token<'t, A>],
@@ -105,7 +107,11 @@ impl<'i, 't, A> Model for LiteralSequence<'i, 't, A> {
 }
 
 impl<'i, 't, A> LiteralSequence<'i, 't, A> {
-    /// The characters that the literals spell together. Refused with 10 where memory is.
+    /// Returns the joined texts of the literals.
+    ///
+    /// # Errors
+    ///
+    /// Returns `NoMemory` if allocation fails.
     pub fn text(&self, alloc: Global) -> Result<String, NoMemory>
         ensures { IfOk result (λ s. chars (string_bytes s) ≡ self.now) }
     {
@@ -116,14 +122,15 @@ impl<'i, 't, A> LiteralSequence<'i, 't, A> {
         Ok(text)
     }
 
-    /// Whether the text is `.` or `..`, which name a folder by where it stands. Takes no memory.
+    /// Returns whether the text is `.` or `..`, which usually are names of folders relative to
+    /// another. Doesn't allocate.
     pub fn is_semantic_literal(&self) -> bool
         ensures { result ≡ is_semantic self.now }
     {
         self.semantic_text().is_some()
     }
 
-    /// The text, if it is `.` or `..`.
+    /// Returns the text, if it is `.` or `..`. Doesn't allocate.
     pub(crate) fn semantic_text(&self) -> Option<&'static str>
         ensures { MatchOption result (is_semantic self.now ≡ false)
             (λ s. (is_semantic self.now ≡ true) × (chars s.now ≡ self.now)) }
@@ -135,7 +142,7 @@ impl<'i, 't, A> LiteralSequence<'i, 't, A> {
         }
     }
 
-    /// How many dots the text is: none, 1, 2, or 3 where it is any other text.
+    /// Returns how many dots the text consists of: 0, 1 or 2, or 3 for any other text.
     fn dots(&self) -> u8
         ensures { result ≡ dots_of self.now }
     {
@@ -147,7 +154,7 @@ impl<'i, 't, A> LiteralSequence<'i, 't, A> {
     }
 }
 
-/// How many dots a text is, where so many stand before it.
+/// Continues the count of `dots` with a text, after `before` dots.
 fn dots_after(before: u8, text: &str) -> u8
     ensures { result ≡ fold dot_after before (chars text.now) }
 {
@@ -158,7 +165,7 @@ fn dots_after(before: u8, text: &str) -> u8
     dots
 }
 
-/// How many tokens stand before the first boundary.
+/// Returns how many tokens are before the first boundary.
 fn run_len<'t, A>(tokens: &[Token<'t, A>]) -> usize
     ensures { result ≡ position_or_len is_boundary tokens.now }
 {
@@ -169,7 +176,7 @@ fn run_len<'t, A>(tokens: &[Token<'t, A>]) -> usize
     count
 }
 
-/// The components of tokens.
+/// Returns the components of a list of tokens.
 pub(crate) fn components_in<'i, 't, A>(
     alloc: Global,
     tokens: &'i [Token<'t, A>],
@@ -188,8 +195,15 @@ pub(crate) fn components_in<'i, 't, A>(
     Ok(components)
 }
 
-/// The components of a glob's own tokens, from left to right: the longest runs of tokens that are
-/// neither `/` nor `**`, and each `**`. Takes memory for the list, and time in proportion to the tokens.
+/// Returns the components of a glob from left to right: the longest runs of tokens other than `/`
+/// and `**`, and each `**` by itself. For `a/x*/**` they are `a`, `x*` and `**`. Components inside
+/// alternations and repetitions don't count.
+///
+/// Allocates the list. Takes time linear in the top-level tokens.
+///
+/// # Errors
+///
+/// Returns `NoMemory` if allocation fails.
 pub fn components<'i, 't, A: Annotation>(
     alloc: Global,
     token: &'i Token<'t, A>,

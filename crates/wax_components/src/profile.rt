@@ -1,4 +1,4 @@
-//! How many `/` the texts of a set have, by how they begin and end.
+//! How many `/` the texts of a set have, by whether they begin and end with one.
 ghost use Rattle.std.specs.Prelude.{◌≡◌};
 ghost use Rattle.wax_components.specs.inner.Intervals.{hull, interval_sum, saturated_interval};
 ghost use Rattle.wax_components.specs.inner.Profiles.{concatenated, empty_text, has_slash};
@@ -11,8 +11,9 @@ use crate::interval::{
     unbounded,
 };
 
-/// The numbers of `/` of the empty text, of texts with no `/` at an end, with one at the end, with one
-/// at the beginning, and with one at both.
+/// The least and the greatest number of `/` of the texts of a set, for each of five shapes: the
+/// empty text (`nothing`), no `/` at an end (`bare`), one only at the end (`ending`), one only at
+/// the beginning (`beginning`), and one at both (`enclosed`, which `/` itself is).
 #[derive(Clone, Copy)]
 pub struct Profile {
     pub nothing: Interval,
@@ -22,8 +23,9 @@ pub struct Profile {
     pub enclosed: Interval,
 }
 
-/// The texts of one shape: after a part with no text, before one, or of a part that begins so and a
-/// part that ends so.
+/// Returns the numbers of joined texts of one shape. Either the left part is empty and the right
+/// one has the shape, or the reverse, or the left part begins like the shape and the right one ends
+/// like it.
 #[tactic(auto, using(crate::proofs::Intervals::hull_saturated))]
 fn parts(
     no_left: Interval,
@@ -41,6 +43,7 @@ fn parts(
 }
 
 impl Profile {
+    /// Returns the profile of the empty set.
     pub fn no_text() -> Profile
         ensures { result ≡ no_text }
     {
@@ -53,6 +56,7 @@ impl Profile {
         }
     }
 
+    /// Returns the profile of the set of only the empty text.
     pub fn empty_text() -> Profile
         ensures { result ≡ empty_text }
     {
@@ -65,7 +69,7 @@ impl Profile {
         }
     }
 
-    /// The same texts where the condition holds, and none elsewhere.
+    /// Returns the profile if the condition holds, and otherwise that of the empty set.
     pub fn only(self, condition: bool) -> Profile
         ensures { result ≡ only condition self }
     {
@@ -84,7 +88,7 @@ impl Profile {
         }
     }
 
-    /// A text of this, and after it one of the other.
+    /// Returns the profile of each text of one set followed by each text of the other.
     pub fn then(self, other: Profile) -> Profile
         ensures { result ≡ saturated (concatenated self other) }
     {
@@ -125,7 +129,7 @@ impl Profile {
         }
     }
 
-    /// So many copies, by halves.
+    /// Returns the profile of `copies` copies, by repeated halving.
     #[tactic(auto, using(crate::proofs::Saturation::power_none))]
     pub fn power(self, copies: usize) -> Profile
         ensures { result ≡ saturated (power copies self) }
@@ -163,8 +167,8 @@ impl Profile {
         }
     }
 
-    /// Any number of copies. Two or fewer have the least numbers, and where a text has a `/`, further
-    /// copies pass every number.
+    /// Returns the profile of zero or more copies. Two or fewer copies already have the least
+    /// numbers; if a text has a `/`, more copies exceed every number.
     #[tactic(auto, using(crate::proofs::Saturation::star_then, crate::proofs::Saturation::star_else))]
     pub fn kleene_star(self) -> Profile
         ensures { result ≡ saturated (kleene_star self) }
@@ -178,7 +182,7 @@ impl Profile {
         }
     }
 
-    /// From `lower` to `upper` copies.
+    /// Returns the profile of `lower` to `upper` copies.
     #[tactic(auto, using(crate::proofs::Saturation::power_range_none))]
     pub fn power_range(self, lower: usize, upper: Option<usize>) -> Profile
         ensures { result ≡ saturated (power_range lower upper self) }
@@ -197,7 +201,7 @@ impl Profile {
         }
     }
 
-    /// The least and the greatest number of components of the texts.
+    /// Returns the least and the greatest number of components of the texts.
     pub fn components(self) -> (usize, Option<usize>)
         ensures { result ≡ in_words (saturated_depth self) }
     {

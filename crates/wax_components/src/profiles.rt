@@ -1,4 +1,4 @@
-//! The profiles of a token, with what may stand around it.
+//! The profiles of a token, by what is before and after it.
 ghost use Rattle.std.specs.Prelude.{◌≡◌};
 ghost use Rattle.wax_token.specs.Syntax.{tree};
 ghost use Rattle.wax_components.specs.inner.Profiles.{concatenated, empty_text, only, union};
@@ -9,8 +9,9 @@ ghost use Rattle.wax_components.specs.inner.TreeProfiles.{admits, admits_two, le
 
 use crate::profile::Profile;
 
-/// The profiles of a token in its four contexts: with nothing around it, with something after it, with
-/// something before it, and with something on both sides.
+/// The profiles of a token in four contexts: with nothing around it (`alone`), with something only
+/// after it (`first`), with something only before it (`last`), and with something on both sides
+/// (`middle`). Of the leaves, only `**` depends on the context.
 #[derive(Clone, Copy)]
 pub struct Profiles {
     pub alone: Profile,
@@ -46,7 +47,8 @@ fn less_two(upper: Option<usize>) -> Option<usize>
     }
 }
 
-/// Which numbers of copies are admitted, and the copies between the first and the last.
+/// Which numbers of copies a repetition admits, and the profile of the copies between the first and
+/// the last.
 #[derive(Clone, Copy)]
 struct Copies {
     none: bool,
@@ -56,7 +58,8 @@ struct Copies {
 }
 
 impl Copies {
-    /// No copy, one, or a first, those between, and a last.
+    /// Returns the profile of all admitted numbers of copies: none, one, or a first, those between
+    /// and a last.
     fn profile(self, whole: Profile, first: Profile, last: Profile) -> Profile
         ensures { result ≡ union (only self.none empty_text) (union (only self.one whole)
             (only self.more (saturated (concatenated first (saturated (concatenated self.between last)))))) }
@@ -68,7 +71,7 @@ impl Copies {
 }
 
 impl Profiles {
-    /// One profile in each context.
+    /// Creates profiles that don't depend on the context.
     pub fn everywhere(profile: Profile) -> Profiles
         ensures { result ≡ profiles (λ before after. profile) }
     {
@@ -91,7 +94,7 @@ impl Profiles {
         }
     }
 
-    /// A text of this, and after it one of the other: each has something beside it.
+    /// Returns the profiles of a token followed by another. Each is beside the other.
     pub fn then(self, other: Profiles) -> Profiles
         ensures { result ≡ profiles (saturated_beside self other) }
     {
@@ -103,7 +106,7 @@ impl Profiles {
         }
     }
 
-    /// From `lower` to `upper` copies, each with the others around it.
+    /// Returns the profiles of `lower` to `upper` copies, each with the others around it.
     pub fn repeated(self, lower: usize, upper: Option<usize>) -> Profiles
         ensures { result ≡ profiles (saturated_repeated self lower upper) }
     {
@@ -123,7 +126,7 @@ impl Profiles {
         }
     }
 
-    /// Of a tree wildcard.
+    /// Returns the profiles of `**`, which are written out by hand.
     pub fn tree_wildcard(has_root: bool) -> Profiles
         ensures { result ≡ profiles (leaf_profile (tree has_root)) }
     {

@@ -1,4 +1,4 @@
-//! Warnings: globs that build, and mean something other than they may seem to.
+//! Warnings about globs that build, but may not match what their authors expect.
 ghost use Rattle.std.specs.Prelude.{◌≡◌, ◌++◌, IfOk, OnOk, chars};
 ghost use Rattle.std.specs.List.{flat_map};
 ghost use Rattle.wax_components.specs.Levels.{literals};
@@ -14,8 +14,9 @@ use thiserror::Error;
 use wax_query::diagnostics::{LocatedError, NoMemory, Span};
 use wax_token::token::{ExpressionMetadata, Token};
 
-/// A component of an expression is `.` or `..`. A path is matched as a text, so neither of them stands
-/// for a folder. Contracts see the characters of the expression, the span of the component, and its text.
+/// A component of an expression is `.` or `..`. Paths are matched as texts, so it doesn't lead to
+/// another folder. Contracts see the characters of the expression, the span of the component, and
+/// its text.
 #[derive(Debug, Drop, Error)]
 #[error("`{literal}` is matched as a text and stands for no folder")]
 pub struct SemanticLiteralWarning<'t> {
@@ -38,14 +39,14 @@ impl<'t> Model for SemanticLiteralWarning<'t> {
 }
 
 impl<'t> SemanticLiteralWarning<'t> {
-    /// The whole expression.
+    /// Returns the whole expression.
     pub fn expression(&self) -> &'t str
         ensures { chars result.now ≡ self.now.expression }
     {
         self.expression
     }
 
-    /// `.` or `..`.
+    /// Returns the text of the component: `.` or `..`.
     pub fn literal(&self) -> &'static str
         ensures { chars result.now ≡ self.now.literal }
     {
@@ -61,8 +62,8 @@ impl LocatedError for SemanticLiteralWarning<'_> {
     }
 }
 
-/// An expression ends with a separator, so that it matches only paths that end with one. Contracts see the
-/// characters of the expression, and the span of the separator.
+/// An expression ends with a `/`, so it matches only paths that end with one. Contracts see the
+/// characters of the expression and the span of the `/`.
 #[derive(Debug, Drop, Error)]
 #[error("the separator at the end matches only paths that end with one")]
 pub struct TerminatingSeparatorWarning<'t> {
@@ -80,7 +81,7 @@ impl<'t> Model for TerminatingSeparatorWarning<'t> {
 }
 
 impl<'t> TerminatingSeparatorWarning<'t> {
-    /// The whole expression.
+    /// Returns the whole expression.
     pub fn expression(&self) -> &'t str
         ensures { chars result.now ≡ self.now.expression }
     {
@@ -96,7 +97,7 @@ impl LocatedError for TerminatingSeparatorWarning<'_> {
     }
 }
 
-/// What an expression that builds is warned of.
+/// A warning about an expression that builds. Its `Display` form says what is likely a mistake.
 #[derive(Debug, Drop, Error)]
 pub enum Warning<'t> {
     #[error("{0}")]
@@ -118,7 +119,7 @@ impl LocatedError for Warning<'_> {
     }
 }
 
-/// Puts the warning of a component at the end, if its text is `.` or `..`.
+/// Appends a warning if the text of a component is `.` or `..`.
 fn push_semantic<'t>(
     warnings: &mut Vec<Warning<'t>>,
     expression: &'t str,
@@ -139,7 +140,7 @@ fn push_semantic<'t>(
     Ok(())
 }
 
-/// The span of the last top-level token, if that is a separator.
+/// Returns the span of the last token, if that is a separator.
 fn terminating_span<'t>(tokens: &[Token<'t, ExpressionMetadata>]) -> Option<Span>
     ensures { result ≡ terminating_span tokens.now }
 {
@@ -150,7 +151,6 @@ fn terminating_span<'t>(tokens: &[Token<'t, ExpressionMetadata>]) -> Option<Span
     Some(last.annotation().span())
 }
 
-/// Puts the warning of a separator at the end.
 fn push_terminating<'t>(
     warnings: &mut Vec<Warning<'t>>,
     expression: &'t str,
@@ -163,7 +163,7 @@ fn push_terminating<'t>(
     Ok(())
 }
 
-/// The warnings of literals, by level and from left to right.
+/// Returns the warnings about literals, level by level and from left to right.
 fn semantic_literals<'t>(
     alloc: Global,
     expression: &'t str,
@@ -180,9 +180,15 @@ fn semantic_literals<'t>(
     Ok(warnings)
 }
 
-/// The warnings of an expression and its token: one for each component that is `.` or `..`, of the glob
-/// and all its sub-globs, level after level and in each from left to right; then one for a separator at
-/// the end of the glob. Takes memory for the list and for the literals.
+/// Returns the warnings about an expression and its token: one for each component `.` or `..` of
+/// the glob and its sub-globs, level by level and from left to right, and then one for a `/` at the
+/// end of the glob. For `../a/` it returns two.
+///
+/// Allocates the list, and another of all literals.
+///
+/// # Errors
+///
+/// Returns `NoMemory` if allocation fails.
 pub fn diagnose<'t>(
     alloc: Global,
     expression: &'t str,

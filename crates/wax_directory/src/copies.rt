@@ -8,8 +8,12 @@ use std::alloc::{AllocError, Global};
 use wax_query::diagnostics::NoMemory;
 
 impl Node {
-    /// The same names in the same order, and the same below each. Refused with 10 where memory is. It
-    /// takes the time and memory of all items, and stack for each level.
+    /// Copies the node with everything below it, names in the same order. It takes time and memory
+    /// in proportion to the number of items, and stack for each level.
+    ///
+    /// # Errors
+    ///
+    /// Returns `NoMemory` if allocation fails.
     pub fn try_clone(&self, alloc: Global) -> Result<Node, NoMemory>
         ensures { IfOk result (λ copy. IsCopy self.now copy) }
     {

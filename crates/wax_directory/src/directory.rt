@@ -1,4 +1,4 @@
-//! What every directory answers, and its law.
+//! The trait of directories, and its law.
 
 ghost use Rattle.std.specs.Prelude.{◌≡◌, [], ◌∷◌, ◌++◌, ℕ, List};
 ghost use Rattle.wax_directory.specs.Shown.{Items, Shown, a_folder, ShowsIn, IsPlain, join, child_shown};
@@ -9,7 +9,7 @@ use std::alloc::Global;
 use thiserror::Error;
 use wax_query::diagnostics::NoMemory;
 
-/// What stands at a path. Whatever is neither a folder nor a link is a file.
+/// What is at a path. Whatever is neither a folder nor a link is a file.
 #[derive(Clone, Copy, Debug, Eq, Hash, PartialEq)]
 pub enum FileType {
     File,
@@ -17,13 +17,13 @@ pub enum FileType {
     Folder,
 }
 
-/// Why a directory gave no answer.
+/// Why a directory returned no answer.
 #[derive(Clone, Copy, Debug, Error)]
 pub enum DirectoryFault {
-    /// What was asked for couldn't be read.
+    /// Something couldn't be read.
     #[error("cannot be read")]
     Failed,
-    /// Memory was asked for and refused.
+    /// Allocation failed.
     #[error("no memory")]
     Memory,
 }
@@ -31,8 +31,8 @@ pub enum DirectoryFault {
 /// An item of a folder.
 #[derive(Debug, Drop)]
 pub enum ListItem {
-    /// A name and what stands there. A directory may give names that no path can hold: an empty
-    /// one, `.`, `..`, and those with a `/`.
+    /// A name and what is there. A directory may return names that no path can hold: an empty one,
+    /// `.`, `..`, and those with a `/`.
     Name(String, FileType),
     /// An item that couldn't be read.
     Failed,
@@ -40,15 +40,15 @@ pub enum ListItem {
     NotText,
 }
 
-/// A tree of folders that can be asked what stands at a path and what a folder holds.
+/// A tree of folders that returns what is at a path and what is in a folder.
 ///
-/// A path is text with `/` between its names. One that begins with `/` is taken from the root,
-/// any other from the working folder, and the empty path is the working folder itself.
+/// A path is text with `/` between its names. One that begins with `/` starts at the root, any
+/// other at the working folder, and the empty path is the working folder itself.
 ///
-/// The law: a directory shows one tree that no call changes. `kind`, `open` and `next` answer from
-/// that tree, and what they answer is counted. A directory of which nothing can be known, such as
-/// the real file system, shows nothing; then the law asks for the counts alone. A cursor may be a
-/// mere handle: what is open is known of all cursors together.
+/// The law: a directory shows one tree that no call changes. `kind`, `open` and `next` return what
+/// is in that tree, and count what they return. A directory of which nothing can be known, such as
+/// the real file system, shows nothing; then only the counts are claimed. A cursor may be a mere
+/// handle: what is open is known of all cursors together.
 pub trait Directory: Drop {
     ghost use Rattle.wax_directory.specs.Answers.{KindIs, ListIs};
     ghost use Rattle.wax_directory.specs.Calls.{OpensAt, Nexts, TellsOpened};
@@ -59,11 +59,14 @@ pub trait Directory: Drop {
     /// A folder that is being listed.
     type Cursor: Drop;
 
-    /// What it shows, holds, tells and counts.
+    /// What the directory shows, which cursors are open, which folders were opened, and the counts.
     ghost law: { Law Self Self.Cursor };
 
-    /// What stands at `path`, a link for what it is and not for what it leads to; `None` where
-    /// nothing is there.
+    /// Returns what is at `path`, or `None` if nothing is there. A link isn't followed.
+    ///
+    /// # Errors
+    ///
+    /// Returns `Failed` if the path can't be read, and `Memory` if allocation fails.
     fn kind(&mut self, alloc: Global, path: &str) -> Result<Option<FileType>, DirectoryFault>
         ensures kind { (s : Shown) → law.shows self.old path.now s → KindIs s result }
         ensures shown { ShowsSame law self.old self.new }
@@ -72,6 +75,10 @@ pub trait Directory: Drop {
         ensures counted { Counts (kind_counts result) (law.tally self.old) (law.tally self.new) };
 
     /// Begins to list the folder at `path`.
+    ///
+    /// # Errors
+    ///
+    /// Returns `Failed` if the folder can't be listed, and `Memory` if allocation fails.
     fn open(&mut self, alloc: Global, path: &str) -> Result<Self::Cursor, DirectoryFault>
         ensures opens { OpensAt law self.old path.now result self.new }
         ensures shown { ShowsSame law self.old self.new }
@@ -80,8 +87,12 @@ pub trait Directory: Drop {
             → TellsOpened (law.tells self.new) path.now result t }
         ensures counted { Counts (opening_counts result) (law.tally self.old) (law.tally self.new) };
 
-    /// The next item of the folder that was opened last and not dropped yet, in the directory's own
-    /// order; `None` at the end. Where memory is refused, the cursor still has what it had.
+    /// Returns the next item of a folder, in the directory's own order, or `None` at the end. The
+    /// cursor is the one that was opened last, of those that aren't dropped yet.
+    ///
+    /// # Errors
+    ///
+    /// Returns `NoMemory` if allocation fails. The cursor still has the items that it had before.
     fn next(
         &mut self,
         alloc: Global,
@@ -92,12 +103,17 @@ pub trait Directory: Drop {
         ensures told { (t : List (List ℕ)) → law.tells self.old t → law.tells self.new t }
         ensures counted { Counts (next_counts result) (law.tally self.old) (law.tally self.new) };
 
-    /// What was counted of these calls.
+    /// Returns the counts of the calls so far.
     fn tally(&self) -> Tally
         ensures { result ≡ law.tally self.now };
 
-    /// The first `most` items of the folder at `path`, in order; all of them where it holds no
-    /// more. Where memory is refused, items that were already taken are lost.
+    /// Lists the folder at `path`: returns its first `most` items in order, or all of them if it
+    /// has no more.
+    ///
+    /// # Errors
+    ///
+    /// Returns `Failed` if the folder can't be listed, and `Memory` if allocation fails. Items that
+    /// were already taken are lost then.
     final fn list(
         &mut self,
         alloc: Global,
@@ -126,22 +142,22 @@ pub trait Directory: Drop {
         Ok(items)
     }
 
-    /// How often `kind` answered that nothing is there, at most the greatest u64.
+    /// Returns how often `kind` found nothing at a path; at most `u64::MAX`.
     final fn misses(&self) -> u64
         ensures { result ≡ (law.tally self.now).misses }
     {
         self.tally().misses
     }
 
-    /// How many answers were `DirectoryFault::Failed` and how many items `Failed` or `NotText`, in
-    /// all, at most the greatest u64.
+    /// Returns how many calls returned `DirectoryFault::Failed` and how many items were `Failed` or
+    /// `NotText`, in all; at most `u64::MAX`.
     final fn failures(&self) -> u64
         ensures { result ≡ (law.tally self.now).failures }
     {
         self.tally().failures
     }
 
-    /// It tells some folders, be it any.
+    /// There is a list of folders that the directory can report.
     ghost tells_some: { (d : Self) → (t : List (List ℕ)) × law.tells d t };
 
     /// At first no folder is open.
@@ -152,17 +168,17 @@ pub trait Directory: Drop {
         (l : Items)
         → HoldsLast law d cursors ls cursor l → law.holds d cursors ls };
 
-    /// What a folder holds is shown at its path, and the names that a path can hold are those that
-    /// are plain.
+    /// What is in a folder is shown at its path, and a name is one that a path can hold exactly if
+    /// it is plain.
     ghost inner: { (d : Self) (path : List ℕ) (l : Items) → law.shows d path (a_folder l)
         → ShowsIn (law.shows d) path l };
 
-    /// Below what is shown at a path, each name that a path can hold leads to what stands under it
-    /// there: to nothing where no entry has it, and below a file, a link or nothing; below a folder
-    /// that can't be listed, and below a failure, each question fails.
+    /// Below what is shown at a path, each name that a path can hold leads to what is there. It
+    /// leads to nothing if no entry has the name, and below a file, a link or nothing. Below a
+    /// folder that can't be listed, and below a failure, every call fails.
     ghost child: { (d : Self) (path x : List ℕ) (s : Shown) → law.shows d path s → IsPlain x
         → law.shows d (join path x) (child_shown x s) };
 
-    /// The names in each folder that it shows are distinct, but for those that no path can hold.
+    /// The names in each folder are distinct, except for those that no path can hold.
     ghost distinct: { (d : Self) (path : List ℕ) (s : Shown) → law.shows d path s → IsDistinct s };
 }

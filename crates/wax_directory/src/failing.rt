@@ -12,11 +12,12 @@ use crate::turn::Turn;
 use std::alloc::Global;
 use wax_query::diagnostics::NoMemory;
 
-/// Hands on each call of `kind`, `open` and `next` but one, which fails without asking.
+/// A directory that forwards each call of `kind`, `open` and `next` but one, which fails without a
+/// call of the directory inside.
 ///
-/// By itself it shows nothing: a call that is handed on answers for what the directory inside shows.
+/// By itself it shows nothing: a call that is forwarded returns what the directory inside shows.
 /// Its counts are those of the directory inside, with one failure more from the failed call on, and
-/// one item more if that was a call of `next`.
+/// with one item more if that was a call of `next`.
 #[derive(Drop)]
 pub struct Failing<D> {
     directory: D,
@@ -25,7 +26,8 @@ pub struct Failing<D> {
 }
 
 impl<D: Directory> Failing<D> {
-    /// Hands on the first `calls` calls, fails the next and hands on all later ones.
+    /// Wraps a directory: the first `calls` calls are forwarded, the next one fails, and all later
+    /// ones are forwarded.
     pub fn new(directory: D, calls: u64) -> Failing<D>
         ensures inside { failing_inside result ≡ directory }
         ensures left { fails_after result ≡ Some calls }
@@ -41,7 +43,7 @@ impl<D: Directory> Failing<D> {
         }
     }
 
-    /// The directory inside.
+    /// Returns the directory inside.
     pub fn into_inner(self) -> D
         ensures inside { result ≡ failing_inside self }
     {

@@ -11,8 +11,8 @@ use std::io::ErrorKind;
 use std::{fs, io};
 use wax_query::diagnostics::NoMemory;
 
-/// The real file system. Links are not followed; the order is the system's. Each item costs one
-/// call of the system. Nothing is claimed of what it shows, only what it counts.
+/// The real file system. Links aren't followed, and items come in the system's order. Each item
+/// costs one system call. Nothing is claimed of what is shown, only of the counts.
 #[derive(Drop)]
 pub struct Folders {
     runtime: HostRuntime,
@@ -20,7 +20,7 @@ pub struct Folders {
 }
 
 impl Folders {
-    /// Keeps what the runtime gives `main` for files. The working folder is the process's.
+    /// Wraps the runtime that `main` receives. The working folder is that of the process.
     pub fn new(runtime: HostRuntime) -> Folders
         ensures { ⟦<Self as Directory>⟧.law.tally result ≡ no_counts }
     {
@@ -31,7 +31,7 @@ impl Folders {
     }
 }
 
-// the system knows no empty path
+// Replaces the empty path, which the system doesn't know.
 fn system_path(path: &str) -> &str {
     if path.is_empty() { "." } else { path }
 }
@@ -54,7 +54,7 @@ fn fault_of(error: &io::Error) -> DirectoryFault {
     }
 }
 
-// what stands at a path; nothing through a file
+// Returns what is at a path. Nothing is at a path through a file.
 fn kind_at(runtime: &HostRuntime, path: &str) -> Result<Option<FileType>, DirectoryFault> {
     match fs::symlink_metadata(runtime, system_path(path)) {
         Ok(metadata) => Ok(Some(type_of(metadata.file_type()))),
@@ -65,7 +65,8 @@ fn kind_at(runtime: &HostRuntime, path: &str) -> Result<Option<FileType>, Direct
     }
 }
 
-// in a box, since a cursor holds the 8 KiB that the system fills
+// Opens a folder. The cursor is in a box, since it holds the 8 KiB that the system fills. The kind
+// is looked at first, so that a link isn't opened.
 fn opened_at(
     alloc: Global,
     runtime: &HostRuntime,
@@ -83,7 +84,8 @@ fn opened_at(
     }
 }
 
-// an item that couldn't be read; a name that isn't text comes without a number of the system
+// Converts an error of the system into an item. The error of a name that isn't text has no number
+// of the system.
 fn unread(error: &io::Error) -> Result<ListItem, NoMemory> {
     match error.kind() {
         ErrorKind::OutOfMemory => Err(NoMemory),

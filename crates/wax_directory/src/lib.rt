@@ -1,4 +1,4 @@
-//! Directories: what stands at a path, and what a folder holds, name by name.
+//! Directories: what is at a path, and what is in a folder, name by name.
 #![tactic(auto)]
 
 mod copies;

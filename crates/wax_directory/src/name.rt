@@ -3,7 +3,7 @@
 ghost use Rattle.std.specs.Prelude.{◌≡◌};
 ghost use Rattle.wax_directory.specs.Names.{is_plain as is_plain_name};
 
-/// Whether a path can hold the name: it is not empty, neither `.` nor `..`, and has no `/`.
+/// Returns whether a path can hold the name: it isn't empty, `.` or `..`, and contains no `/`.
 pub fn is_plain(name: &str) -> bool
     ensures { result ≡ is_plain_name name.now }
 {

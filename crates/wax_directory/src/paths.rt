@@ -16,15 +16,20 @@ use std::marker::Model;
 use wax_query::diagnostics::NoMemory;
 
 impl Tree {
-    /// A tree of these paths and the folders on the way to them, of which nothing was asked yet: each
-    /// text is the path of a file, or of a folder where it ends with `/`. One that begins with `/` is
-    /// taken from the root, any other from the working folder. Empty parts are left out; `.` and `..`
-    /// are names like others. A path that is given twice stands once; it is a folder's where it ends
-    /// with `/` once, or where another leads through it. A folder holds its names in the order in which
-    /// they come first.
+    /// Builds a tree from a list of paths, and the folders on the way to them. A path that ends
+    /// with `/` is a folder's, any other a file's. One that begins with `/` starts at the root, any
+    /// other at the working folder. Empty parts are ignored; `.` and `..` are names like others.
     ///
-    /// Refused with 10 where memory is. A folder takes time for its items times the paths that lead
-    /// into it; a tree takes stack for each level.
+    /// A path that is listed twice is in the tree once. It is a folder's if it ends with `/` at
+    /// least once, or if another path leads through it. A folder has its names in the order in
+    /// which they first come.
+    ///
+    /// A folder takes time for its items times the paths that lead into it; a tree takes stack for
+    /// each level.
+    ///
+    /// # Errors
+    ///
+    /// Returns `NoMemory` if allocation fails.
     pub fn from_paths(alloc: Global, paths: &[&str]) -> Result<Tree, NoMemory>
         ensures shows { IfOk result (λ t. (path : List ℕ) → (s : Shown) × tree_law.shows t path s
             × StandsBy (routes_to path (map (λ x. x.now) paths.now)) s) }
@@ -36,7 +41,7 @@ impl Tree {
     }
 }
 
-// What is left of a path below some folder. Contracts see the names and whether it is a folder's.
+// What remains of a path below some folder. Contracts see the names and whether it is a folder's.
 #[derive(Drop)]
 struct Route<'a> {
     names: &'a [&'a str],
@@ -53,14 +58,14 @@ impl<'a> Model for Route<'a> {
 }
 
 impl<'a> Route<'a> {
-    // it leads to a folder, or into one
+    // Returns whether it leads to a folder, or into one.
     fn leads_on(&self) -> bool
         ensures { result ≡ leads_on self.now }
     {
         self.is_folder || !self.names.is_empty()
     }
 
-    // the first name, unless some of these items has it
+    // Returns the first name, unless one of the items already has it.
     fn new_name(&self, items: &[TreeItem]) -> Option<&'a str>
         ensures { option_map (λ x. x.now) result ≡ new_name (names_of items.now) (first_name self.now) }
     {
@@ -71,7 +76,7 @@ impl<'a> Route<'a> {
         Some(name)
     }
 
-    // what is left of it after this name, where it begins with it
+    // Returns what remains after this name, if the route begins with it.
     fn after(&self, name: &str) -> Option<Route<'a>>
         ensures { result ≡ rest_after name.now self.now }
     {
@@ -86,7 +91,7 @@ impl<'a> Route<'a> {
     }
 }
 
-// A path that was given, cut into its names. Contracts see it as a route.
+// A path of the list, split into its names. Contracts see it as a route.
 #[derive(Drop)]
 struct GivenPath<'a> {
     names: Vec<&'a str>,
@@ -113,7 +118,6 @@ impl<'a> GivenPath<'a> {
     }
 }
 
-// the text is empty or ends with `/`
 fn is_folder(text: &str) -> bool
     ensures { result ≡ is_open text.now }
 {
@@ -123,21 +127,18 @@ fn is_folder(text: &str) -> bool
     }
 }
 
-// the text is taken from the root, or from the working folder
 fn is_taken_from(text: &str, at_root: bool) -> bool
     ensures { result ≡ starts_at at_root text.now }
 {
     begins_at_root(text) == at_root
 }
 
-// one of them leads to a folder, or into one
 fn lead_on(routes: &[Route<'_>]) -> bool
     ensures { result ≡ list_any leads_on routes.now }
 {
     routes.iter().any(|route| route.leads_on())
 }
 
-// what is left of these routes after a name
 fn routes_below<'a>(
     alloc: Global,
     routes: &[Route<'a>],
@@ -151,7 +152,8 @@ fn routes_below<'a>(
         .collect(alloc)
 }
 
-// what stands where these routes begin
+// Builds what is at the place where the routes begin: a file if none leads on, and otherwise a
+// folder with each first name once.
 fn grown(alloc: Global, routes: &[Route<'_>]) -> Result<Node, AllocError>
     ensures stands { IfOk result (λ n. ¬ (routes.now ≡ []) → Grows routes.now n) }
     ensures distinct { IfOk result (λ n. HasDistinctNames n) }
@@ -169,7 +171,8 @@ fn grown(alloc: Global, routes: &[Route<'_>]) -> Result<Node, AllocError>
     Ok(Node::Folder(items))
 }
 
-// the folder where they start, and those of the texts that are taken from there
+// Splits the paths that start here into names, after the path of the starting folder itself, which
+// is there even if no path is.
 fn given_paths<'a>(
     alloc: Global,
     texts: &[&'a str],
@@ -193,7 +196,7 @@ fn given_paths<'a>(
     Ok(paths)
 }
 
-// the root or the working folder
+// Builds the root or the working folder.
 fn planted(alloc: Global, texts: &[&str], at_root: bool) -> Result<Node, AllocError>
     ensures stands { IfOk result (λ n. Grows (routes_from at_root (map (λ x. x.now) texts.now)) n) }
     ensures distinct { IfOk result (λ n. HasDistinctNames n) }

@@ -1,4 +1,4 @@
-//! A directory that lacks memory once.
+//! A directory for which memory runs out once.
 
 ghost use Rattle.std.specs.Prelude.{◌≡◌, Some, Err};
 ghost use Rattle.wax_directory.specs.Calls.{KindCall, OpenCall, NextCall};
@@ -10,8 +10,9 @@ use crate::turn::Turn;
 use std::alloc::Global;
 use wax_query::diagnostics::NoMemory;
 
-/// Hands on each call of `kind`, `open` and `next` but one, which answers that memory was refused
-/// without asking. It shows what the directory inside shows, and counts and tells what that does.
+/// A directory that forwards each call of `kind`, `open` and `next` but one, which returns that
+/// memory ran out, without a call of the directory inside. It shows, counts and reports what the
+/// directory inside does.
 #[derive(Drop)]
 pub struct Starving<D> {
     directory: D,
@@ -19,7 +20,8 @@ pub struct Starving<D> {
 }
 
 impl<D: Directory> Starving<D> {
-    /// Hands on the first `calls` calls, starves the next and hands on all later ones.
+    /// Wraps a directory: the first `calls` calls are forwarded, the next one fails, and all later
+    /// ones are forwarded.
     pub fn new(directory: D, calls: u64) -> Starving<D>
         ensures inside { starving_inside result ≡ directory }
         ensures left { starves_after result ≡ Some calls }
@@ -33,7 +35,7 @@ impl<D: Directory> Starving<D> {
         }
     }
 
-    /// The directory inside.
+    /// Returns the directory inside.
     pub fn into_inner(self) -> D
         ensures { result ≡ starving_inside self }
     {

@@ -1,4 +1,4 @@
-//! What a directory counts.
+//! Counts of what a directory returned.
 
 ghost use Rattle.std.specs.Prelude.{◌≡◌};
 ghost use Rattle.wax_directory.specs.Counting.{after_counting, kind_counts, opening_counts, item_counts};
@@ -8,23 +8,23 @@ use crate::directory::{DirectoryFault, FileType, ListItem};
 use crate::name::is_plain;
 use wax_query::diagnostics::NoMemory;
 
-/// How often a directory answered what. Each number stays at the greatest u64.
+/// How often a directory returned what. Each number is at most `u64::MAX`, and then stays there.
 #[derive(Clone, Copy, Debug, Eq, PartialEq)]
 pub struct Tally {
-    /// Answers that nothing is there.
+    /// Calls of `kind` that found nothing.
     pub misses: u64,
-    /// Answers that a file or a link is there.
+    /// Calls of `kind` that found a file or a link.
     pub leaves: u64,
-    /// Answers `DirectoryFault::Failed`, and items `Failed` and `NotText`.
+    /// Calls that returned `DirectoryFault::Failed`, and items `Failed` and `NotText`.
     pub failures: u64,
-    /// Items of any kind that were handed out.
+    /// Items of any kind that `next` returned.
     pub items: u64,
     /// Names among them that no path can hold.
     pub bad_names: u64,
 }
 
 impl Tally {
-    /// Nothing was counted yet.
+    /// Returns counts of zero.
     pub fn none() -> Tally
         ensures { result ≡ no_counts }
     {
@@ -37,7 +37,7 @@ impl Tally {
         }
     }
 
-    /// What an answer of `kind` adds.
+    /// Counts one result of `kind`.
     pub fn of_kind(answer: &Result<Option<FileType>, DirectoryFault>) -> Tally
         ensures { result ≡ kind_counts answer.now }
     {
@@ -51,7 +51,7 @@ impl Tally {
         tally
     }
 
-    /// What an answer of `open` adds.
+    /// Counts one result of `open`.
     pub fn of_opening<C>(answer: &Result<C, DirectoryFault>) -> Tally
         ensures { result ≡ opening_counts answer.now }
     {
@@ -62,7 +62,7 @@ impl Tally {
         tally
     }
 
-    /// What an item adds that `next` gives.
+    /// Counts one item that `next` returned.
     pub fn of_item(item: &ListItem) -> Tally
         ensures { result ≡ item_counts item.now }
     {
@@ -75,7 +75,7 @@ impl Tally {
         tally
     }
 
-    /// Adds what another tally counted.
+    /// Adds the counts of another tally.
     pub fn add(&mut self, more: Tally)
         ensures { self.new ≡ after_counting more self.old }
     {

@@ -22,7 +22,7 @@ use std::collections::HashSet;
 use thiserror::Error;
 use wax_query::diagnostics::{NoMemory, Refusal};
 
-/// What stands in a tree.
+/// What is at a place in a tree.
 #[cycle(tree)]
 #[derive(Debug, Drop, Eq, PartialEq)]
 pub enum Node {
@@ -33,11 +33,11 @@ pub enum Node {
     Sealed,
 }
 
-/// What a folder of a tree holds, in the folder's order.
+/// An item of a folder of a tree, in the folder's order.
 #[cycle(tree)]
 #[derive(Debug, Drop, Eq, PartialEq)]
 pub enum TreeItem {
-    /// A name, as given, and what stands there.
+    /// A name, as it was passed in, and what is there.
     Entry(String, Node),
     /// An item that can't be read.
     Failed,
@@ -45,17 +45,17 @@ pub enum TreeItem {
     NotText,
 }
 
-/// A folder holds a name twice (refusal 20).
+/// The error that a folder has a name twice (20).
 #[derive(Clone, Copy, Debug, Error)]
 #[error("a folder holds a name twice")]
 pub struct DuplicateName;
 
-/// A lawful directory in memory. It tells which folders were opened, in order, and how many items
-/// were given.
+/// A lawful directory in memory. It keeps a list of the folders that were opened, in order, and
+/// counts the items that it returned.
 ///
-/// Empty parts of a path are left out; `.` and `..` are names like others. Through a file or a link
-/// leads no path; what is below a folder that can't be listed can't be read. Dropping a tree takes
-/// stack for each level.
+/// Empty parts of a path are ignored; `.` and `..` are names like others. No path leads through a
+/// file or a link, and nothing below a folder that can't be listed can be read. Dropping a tree
+/// takes stack for each level.
 #[derive(Debug, Drop)]
 pub struct Tree {
     working: Node,
@@ -64,7 +64,8 @@ pub struct Tree {
     tally: Tally,
 }
 
-/// A folder of a tree that is being listed.
+/// A folder of a tree that is being listed: the indices of the items that lead there from the root
+/// or the working folder, and the index of the next item.
 #[derive(Drop)]
 pub struct TreeCursor {
     is_rooted: bool,
@@ -85,7 +86,6 @@ impl Node {
         }
     }
 
-    // what a folder holds
     fn held(&self) -> Option<&[TreeItem]>
         ensures { option_map (λ items. items.now) result ≡ held self.now }
     {
@@ -95,14 +95,14 @@ impl Node {
         }
     }
 
-    // what stands at the place of an item
     fn child(&self, place: usize) -> Option<&Node>
         ensures { option_map (λ n. n.now) result ≡ child_at place self.now }
     {
         self.held()?.get(place)?.node()
     }
 
-    // the place of the entry of this name; `Failed` where the folder can't be listed
+    // Returns the index of the entry with this name, or `None` if there is none. It is an error if
+    // the folder can't be listed.
     fn below(&self, name: &str) -> Result<Option<usize>, DirectoryFault>
         ensures reaches { below_layer name.now (out-Node self.now) ≡ reached_at self.now result }
         ensures failed { IfErr result (λ e. e ≡ Failed) }
@@ -114,7 +114,7 @@ impl Node {
         }
     }
 
-    // the places that lead to where these names lead
+    // Finds where the names lead, as the index of each entry on the way.
     fn locate(&self, alloc: Global, names: &[&str]) -> Result<Option<Vec<usize>>, DirectoryFault>
         ensures { Locates (reached (map (λ x. x.now) names.now) self.now) self.now result }
     {
@@ -135,7 +135,6 @@ impl Node {
         Ok(Some(places))
     }
 
-    // no folder holds a name twice
     fn has_distinct_names(&self, alloc: Global) -> Result<bool, AllocError>
         ensures { IfOk result (λ r. MatchBool r (HasDistinctNames self.now) (HasDuplicateName self.now)) }
     {
@@ -155,7 +154,7 @@ impl Node {
         Ok(true)
     }
 
-    // what stands below, from place to place
+    // Follows the indices that `locate` found.
     fn at(&self, places: &[usize]) -> Option<&Node>
         ensures { option_map (λ n. n.now) result ≡ node_at places.now self.now }
     {
@@ -204,9 +203,13 @@ impl TreeItem {
 }
 
 impl Tree {
-    /// A tree whose working folder is `working` and whose root is `root`, of which nothing was asked
-    /// yet; refused with 20 where a folder of either holds two equal names. Time is linear in the
+    /// Builds a tree from its working folder and its root. It takes time in proportion to the
     /// number of items.
+    ///
+    /// # Errors
+    ///
+    /// Returns `DuplicateName` (20) if a folder in either has a name twice, and `Refusal::Memory`
+    /// if allocation fails.
     pub fn new(alloc: Global, working: Node, root: Node) -> Result<Tree, Refusal<DuplicateName>>
         ensures distinct { OnOk result (HasDistinctNames working × HasDistinctNames root) }
         ensures shows { IfOk result
@@ -221,7 +224,7 @@ impl Tree {
         Ok(Tree::of_nodes(alloc, working, root))
     }
 
-    // of which nothing was asked yet
+    // Builds a tree whose folders are known to have no name twice.
     pub(crate) fn of_nodes(alloc: Global, working: Node, root: Node) -> Tree
         ensures nodes { (result.working ≡ working) × (result.root ≡ root) }
         ensures untold { tree_law.tells result [] × (tree_law.tally result ≡ no_counts) }
@@ -234,14 +237,15 @@ impl Tree {
         }
     }
 
-    /// The paths of the folders that were opened, in order, those that failed too.
+    /// Returns the paths of the folders that were opened, in order, including those that couldn't
+    /// be.
     pub fn listed(&self) -> &[String]
         ensures { tree_law.tells self.now (map string_bytes result.now) }
     {
         self.listed.as_slice()
     }
 
-    /// How many items were given, at most the greatest u64.
+    /// Returns how many items were taken from folders; at most `u64::MAX`.
     pub fn asked(&self) -> u64
         ensures { result ≡ (tree_law.tally self.now).items }
     {
@@ -254,7 +258,6 @@ impl Tree {
         if is_rooted { &self.root } else { &self.working }
     }
 
-    // the places that lead to where a path leads
     fn find(&self, alloc: Global, path: &str) -> Result<Option<Vec<usize>>, DirectoryFault>
         ensures { Locates (reached_in self.now.working self.now.root path.now) (tree_start self.now path.now)
             result }
@@ -266,7 +269,6 @@ impl Tree {
             .locate(alloc, names.as_slice())
     }
 
-    // the kind of what a path leads to
     fn look(&self, alloc: Global, path: &str) -> Result<Option<FileType>, DirectoryFault>
         ensures { KindIs (shown_in self.now.working self.now.root path.now) result }
     {
@@ -279,7 +281,6 @@ impl Tree {
         }
     }
 
-    // a cursor before the first item of the folder at a path
     fn begin(&self, alloc: Global, path: &str) -> Result<TreeCursor, DirectoryFault>
         ensures { Opens (HasItems self.now.working self.now.root)
             (shown_in self.now.working self.now.root path.now) result }
@@ -298,7 +299,7 @@ impl Tree {
         }
     }
 
-    // the item that a cursor has next
+    // Returns the item that comes next, without moving the cursor.
     fn item(&self, alloc: Global, cursor: &TreeCursor) -> Result<Option<ListItem>, AllocError>
         ensures listed { IfOk result
             (λ r. option_map listed_of r ≡ option_map listed_item (item_at self.now cursor.now)) }
@@ -378,7 +379,6 @@ impl Directory for Tree {
     ghost distinct = { λ d path s h. tree_distinct d path s h };
 }
 
-// the place of the entry of this name
 fn place_of(items: &[TreeItem], name: &str) -> Option<usize>
     ensures { named_in name.now items.now ≡ reached_place items.now result }
 {
@@ -390,14 +390,13 @@ fn place_of(items: &[TreeItem], name: &str) -> Option<usize>
     None
 }
 
-// an entry has this name
 pub(crate) fn has_entry(items: &[TreeItem], name: &str) -> bool
     ensures { result ≡ list_any (has_name name.now) items.now }
 {
     items.iter().any(|item| item.is_named(name))
 }
 
-// no two entries have the same name
+// Returns whether no two entries have the same name, in one pass.
 fn hold_distinct_names(alloc: Global, items: &[TreeItem]) -> Result<bool, AllocError>
     ensures { IfOk result (λ r. r ≡ are_distinct (names_of items.now)) }
 {
@@ -412,7 +411,7 @@ fn hold_distinct_names(alloc: Global, items: &[TreeItem]) -> Result<bool, AllocE
     Ok(true)
 }
 
-// the names of a path
+// Splits a path into its names, without empty parts.
 pub(crate) fn names_in(alloc: Global, path: &str) -> Result<Vec<&str>, AllocError>
     ensures { IfOk result (λ v. map (λ x. x.now) v.items ≡ names_in_path path.now) }
 {
@@ -421,7 +420,6 @@ pub(crate) fn names_in(alloc: Global, path: &str) -> Result<Vec<&str>, AllocErro
         .collect(alloc)
 }
 
-// the path is taken from the root
 pub(crate) fn begins_at_root(path: &str) -> bool
     ensures { result ≡ is_rooted path.now }
 {

@@ -3,7 +3,7 @@
 ghost use Rattle.std.specs.Prelude.{◌≡◌, true, false, Some, MatchBool};
 ghost use Rattle.wax_directory.specs.Turns.{calls_left, after_call};
 
-// Lets a number of calls pass and then singles one out.
+// A counter that singles out one call: the one after `calls` others.
 #[derive(Drop)]
 pub(crate) struct Turn {
     pub(crate) calls: u64,
@@ -11,7 +11,7 @@ pub(crate) struct Turn {
 }
 
 impl Turn {
-    // this call is the one
+    // Counts a call, and returns whether it is the one.
     pub(crate) fn comes(&mut self) -> bool
         ensures over { MatchBool result ((self.old.is_over ≡ false) × (self.new.is_over ≡ true))
             (self.new.is_over ≡ self.old.is_over) }

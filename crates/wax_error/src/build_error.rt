@@ -1,4 +1,4 @@
-//! Why a glob is not built.
+//! Errors of a build.
 ghost use Rattle.std.specs.Prelude.{◌≡◌, IfOk, chars, string_bytes};
 ghost use Rattle.wax_error.specs.Refusals.{IsRuleRefusal};
 ghost use Rattle.wax_error.specs.Locations.{error_labels};
@@ -15,25 +15,25 @@ use wax_parse::parse::ParseError;
 use wax_query::diagnostics::{CompositeSpan, NoMemory, Refusal, Span};
 use wax_rule::rule::RuleError;
 
-/// Why a glob is not built.
+/// Why a glob wasn't built.
 #[derive(Debug, Drop, Error)]
 pub enum BuildError {
-    /// The expression isn't one of the language (refusal 1).
+    /// The expression doesn't spell a glob (1).
     #[error("{0}")]
     Parse(ParseError),
-    /// The expression breaks a rule (refusals 2 to 8).
+    /// The expression breaks a rule (2 to 8).
     #[error("{0}")]
     Rule(RuleError<'static>),
-    /// The expression's cost plus 1 is above 1,048,576 (refusal 9).
+    /// The program would have more than 1,048,576 instructions (9).
     #[error("{0}")]
     Compile(CompileError),
-    /// Memory was asked for and refused (refusal 10).
+    /// Allocation failed (10).
     #[error("no memory")]
     Memory,
 }
 
 impl BuildError {
-    /// Returns the number of the refusal, from 1 to 10.
+    /// Returns the number of the error, from 1 to 10.
     pub fn number(&self) -> u8
         ensures { result ≡ build_number self.now }
     {
@@ -45,9 +45,14 @@ impl BuildError {
         }
     }
 
-    /// What is told of the refusal, each with its span in the expression: `unexpected expression` where it
-    /// can't be read; of a broken rule the label of its place, then `here` for each place that explains it.
-    /// The refusals 9 and 10 tell nothing. Refused with 10 where memory is.
+    /// Returns the labels of the error, each with its span in the expression. If the expression
+    /// can't be parsed, this is `unexpected expression`. If it breaks a rule, these are the label
+    /// of the place, and then `here` for each place that explains it. The errors 9 and 10 have
+    /// none.
+    ///
+    /// # Errors
+    ///
+    /// Returns `NoMemory` if allocation fails.
     pub fn labels(&self, alloc: Global) -> Result<Vec<(&'static str, Span)>, NoMemory>
         ensures { IfOk result (λ labels. AreLabels labels.items (error_labels self.now)) }
     {
@@ -61,9 +66,12 @@ impl BuildError {
         }
     }
 
-    /// The picture of the expression that was refused: the expression on a line, and under it a line for each
-    /// of `labels`, as `diagnostics::picture` draws them; the expression alone where there is none. Refused
-    /// with 10 where memory is.
+    /// Draws the expression with its error: the expression on a line, and under it a line for each
+    /// of `labels`, as `diagnostics::picture` does.
+    ///
+    /// # Errors
+    ///
+    /// Returns `NoMemory` if allocation fails.
     pub fn picture(&self, alloc: Global, expression: &str) -> Result<String, NoMemory>
         ensures { IfOk result
             (λ text. string_bytes text ≡ picture_of (chars expression.now) (error_labels self.now)) }
@@ -73,7 +81,6 @@ impl BuildError {
     }
 }
 
-// The number of a broken rule.
 fn number_of_rule(kind: RuleErrorKind) -> u8
     ensures { result ≡ rule_number kind }
 {
@@ -127,7 +134,7 @@ impl From<NoMemory> for BuildError {
     }
 }
 
-/// Why the rules refused, with a copy of the expression.
+/// Converts the result of checking the rules into an error that owns a copy of the expression.
 pub fn rule_refused(alloc: Global, refusal: Refusal<RuleError<'_>>) -> BuildError
     ensures { IsRuleRefusal refusal.entry result }
 {

@@ -1,4 +1,4 @@
-//! A picture: the lines of an expression and of its labels.
+//! Pictures of an expression with its labels.
 ghost use Rattle.std.specs.Prelude.{◌≡◌, ◌<◌, ◌++◌, [], IfOk, OnOk, chars, codes, encode_utf8_all, map};
 ghost use Rattle.std.specs.Prelude.{replicate, string_bytes};
 ghost use Rattle.wax_query.specs.Labels.{seen};
@@ -10,9 +10,13 @@ ghost use Rattle.wax_error.specs.Drawn.{picture as picture_of};
 use std::alloc::{AllocError, Global};
 use wax_query::diagnostics::{NoMemory, Span};
 
-/// The expression on a line, and under it a line for each label: a `^` under each character of its span, or
-/// one where that is empty, and then its text. Control characters are drawn as `?`. Refused with 10 where
-/// memory is.
+/// Draws the expression on a line, and under it a line for each label: a `^` under each character
+/// of its span, or one `^` if the span is empty, and then its text. Control characters are drawn as
+/// `?`.
+///
+/// # Errors
+///
+/// Returns `NoMemory` if allocation fails.
 pub fn picture(
     alloc: Global,
     expression: &str,
@@ -26,7 +30,6 @@ pub fn picture(
     Ok(text)
 }
 
-// Adds the picture.
 fn draw(
     text: &mut String,
     expression: &str,
@@ -39,7 +42,7 @@ fn draw(
     push_labels(text, expression, labels)
 }
 
-// The character, or `?` for a control character.
+// Replaces a control character by `?`, which takes one column.
 fn drawn_character(character: char) -> char
     ensures { result ≡ drawn_of character }
 {
@@ -50,7 +53,7 @@ fn drawn_character(character: char) -> char
     }
 }
 
-// How many characters of the text begin before the byte.
+// Returns the number of characters that begin before a byte, since spans are in bytes.
 fn columns_before(text: &str, byte: usize) -> usize
     ensures { result ≡ columns_of byte (chars text.now) }
 {
@@ -66,7 +69,6 @@ fn columns_before(text: &str, byte: usize) -> usize
     columns
 }
 
-// Adds the expression on a line.
 fn push_expression(picture: &mut String, expression: &str) -> Result<(), AllocError>
     ensures { OnOk result (string_bytes picture.new ≡ string_bytes picture.old
         ++ encode_utf8_all (map drawn_of (chars expression.now)) ++ codes "\n") }
@@ -77,7 +79,6 @@ fn push_expression(picture: &mut String, expression: &str) -> Result<(), AllocEr
     picture.push('\n')
 }
 
-// Adds the character so many times.
 fn push_copies(picture: &mut String, character: u8, count: usize) -> Result<(), AllocError>
     requires { character < 128 }
     ensures { OnOk result (string_bytes picture.new ≡ string_bytes picture.old ++ replicate count character) }
@@ -88,7 +89,7 @@ fn push_copies(picture: &mut String, character: u8, count: usize) -> Result<(), 
     Ok(())
 }
 
-// Adds marks under the span.
+// Draws the marks of a span. An empty span gets one mark.
 fn push_marks(picture: &mut String, expression: &str, span: Span) -> Result<(), AllocError>
     ensures { OnOk result (string_bytes picture.new
         ≡ string_bytes picture.old ++ marks (chars expression.now) span) }
@@ -99,7 +100,6 @@ fn push_marks(picture: &mut String, expression: &str, span: Span) -> Result<(), 
     push_copies(picture, b'^', end.saturating_sub(start).max(1))
 }
 
-// Adds the line of a label.
 fn push_label(
     picture: &mut String,
     expression: &str,
@@ -114,7 +114,6 @@ fn push_label(
     picture.push('\n')
 }
 
-// Adds the lines of the labels.
 fn push_labels(
     picture: &mut String,
     expression: &str,

@@ -1,13 +1,13 @@
-//! Why a glob's walk isn't had, or gives no entry.
+//! Errors of globs and their walks.
 
 use crate::build_error::BuildError;
 use thiserror::Error;
 use wax_walk::WalkError;
 
-/// A refused build, or an error that a walk gives: for who hands on both with `?`.
+/// An error of a build, or of a walk: for callers that propagate both with `?`.
 #[derive(Debug, Drop, Error)]
 pub enum GlobError {
-    /// The glob isn't built (refusals 1 to 10).
+    /// The glob wasn't built (1 to 10).
     #[error("{0}")]
     Build(BuildError),
     /// An item of the walk is an error (11 to 17).

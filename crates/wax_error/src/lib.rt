@@ -1,4 +1,4 @@
-//! Why a glob isn't built, where in its expression, and how that is drawn.
+//! Errors of builds, their places in an expression, and pictures of these.
 #![tactic(auto)]
 
 mod build_error;

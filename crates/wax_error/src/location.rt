@@ -1,4 +1,4 @@
-//! Where a build was refused.
+//! The place of an error.
 ghost use Rattle.std.specs.Prelude.{◌≡◌, ℕ, Some};
 ghost use Rattle.wax_error.specs.Locations.{location_of};
 
@@ -7,8 +7,8 @@ use std::fmt::{self, Display, Formatter};
 use std::marker::Model;
 use wax_query::diagnostics::{LocatedError, Span};
 
-/// A place where a build was refused. It prints what is wrong there. Contracts see the bytes of that
-/// text, and the span.
+/// A place of an error. It prints what is wrong there. Contracts see the bytes of that text, and
+/// the span.
 #[derive(Debug, Drop)]
 pub struct ErrorLocation {
     text: &'static str,
@@ -24,8 +24,8 @@ impl Model for ErrorLocation {
 }
 
 impl BuildError {
-    /// The place of the refusals 1 to 8: where the expression can't be read, or the first label of the
-    /// rule that it breaks. The refusals 9 and 10 have none.
+    /// Returns the place of an error 1 to 8: where the expression can't be parsed, or the first
+    /// label of the rule that it breaks. Returns `None` for the errors 9 and 10.
     pub fn locations(&self) -> Option<ErrorLocation>
         ensures { result ≡ location_of self.now }
     {

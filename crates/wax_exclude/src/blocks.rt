@@ -1,4 +1,4 @@
-//! Runs of lines that are passed over at once if none of them means an entry.
+//! Blocks of lines of an ignore list, which are skipped at once if none of their lines matches.
 ghost use Rattle.std.specs.Prelude.{◌≡◌, ◌++◌, ◌∷◌, [], ◌<◌, IfOk, IfSome, IsTrue, chars, length};
 ghost use Rattle.std.specs.List.{All};
 ghost use Rattle.wax_program.specs.Machine.{Accepts};
@@ -15,35 +15,37 @@ use wax_match::encode::Program;
 use wax_query::diagnostics::{NoMemory, Refusal};
 use wax_token::token::{Alternation, BranchKind, ExpressionMetadata, Token, new_branch};
 
-/// How many lines a small block has at most.
+/// The greatest number of lines in a small block.
 const FEW: usize = 16;
 
 /// How many bytes a small block may keep of earlier texts.
 const FEW_BYTES: usize = 65_536;
 
-/// How many lines a large block has at most.
+/// The greatest number of lines in a large block.
 const MANY: usize = 256;
 
 /// How many bytes a large block may keep of earlier texts.
 const MANY_BYTES: usize = 1_048_576;
 
-/// Lines that stand one after another, with an automaton that accepts what one of them means.
+/// Consecutive lines, with an automaton that accepts what at least one of them matches.
 #[derive(Drop)]
 pub struct Block {
-    /// The place of the first line.
+    /// The index of the first line.
     pub start: usize,
-    /// The place after the last line.
+    /// The index after the last line.
     pub end: usize,
-    /// Whether one of them takes back.
+    /// True if one of the lines begins with `!`.
     pub takes_back: bool,
     matcher: OwnedMatcher,
 }
 
 impl Block {
-    /// Returns whether it is known that none of its lines means the text.
+    /// Returns whether it is known that none of the lines matches the text. After the automaton has
+    /// given up, nothing is known.
     ///
     /// # Errors
-    /// `NoMemory` if allocation fails.
+    ///
+    /// Returns `NoMemory` if allocation fails.
     pub fn is_passed(&mut self, text: &str) -> Result<bool, NoMemory>
         ensures refuses { IfOk result
             (λ passed. IsTrue passed → Accepts self.old.matcher 0 (chars text.now) → ⊥) }
@@ -56,10 +58,11 @@ impl Block {
     }
 }
 
-/// Returns blocks over the lines, a large one before the small ones that stand below it.
+/// Builds blocks of the lines, a large one before the small ones within it.
 ///
 /// # Errors
-/// `NoMemory` if allocation fails.
+///
+/// Returns `NoMemory` if allocation fails.
 pub fn blocks_of(alloc: Global, lines: &[IgnoreLine]) -> Result<Vec<Block>, NoMemory>
     ensures { IfOk result (λ blocks. All (IsBlockOf lines.now) blocks.items) }
 {
@@ -75,7 +78,8 @@ pub fn blocks_of(alloc: Global, lines: &[IgnoreLine]) -> Result<Vec<Block>, NoMe
     Ok(blocks)
 }
 
-// Adds the block of so many lines at most, unless its program would be too large.
+// Adds a block of at most `most` lines from `start` on, unless its program would be too large. The
+// lines are matched one by one then.
 fn add_block(
     alloc: Global,
     blocks: &mut Vec<Block>,
@@ -102,14 +106,13 @@ fn add_block(
     push(blocks, block)
 }
 
-// Whether one of the lines takes back.
 fn some_takes_back(lines: &[IgnoreLine]) -> bool
     ensures { result ≡ some_takes_back lines.now }
 {
     lines.iter().any(|line| !line.ignores)
 }
 
-// The program that accepts what one of the lines means, unless it would be too large.
+// Compiles the lines into one program, or returns `None` if it would be too large.
 fn program_of_lines(alloc: Global, lines: &[IgnoreLine]) -> Result<Option<Program>, NoMemory>
     ensures { IfOk result (λ made. IfSome made (λ p. AcceptsLines p.0 lines.now)) }
 {
@@ -121,7 +124,7 @@ fn program_of_lines(alloc: Global, lines: &[IgnoreLine]) -> Result<Option<Progra
     }
 }
 
-// The alternation of the lines' alternatives.
+// Builds one alternation of the alternatives of all lines.
 fn token_of_lines(
     alloc: Global,
     lines: &[IgnoreLine],
@@ -136,7 +139,6 @@ fn token_of_lines(
     Ok(new_branch(branch, ExpressionMetadata::new((0, 0))))
 }
 
-// Adds copies of the tokens.
 fn add_copies(
     alloc: Global,
     copies: &mut Vec<Token<'static, ExpressionMetadata>>,

@@ -1,4 +1,4 @@
-//! What patterns that are left out of a walk say of entries.
+//! Patterns that are excluded from a walk.
 ghost use Rattle.std.specs.Prelude.{◌≡◌, ◌↔◌, ◌<◌, ◌≤◌, IfOk, IsTrue, chars};
 ghost use Rattle.std.specs.List.{All, list_any};
 ghost use Rattle.wax_alternatives.specs.Alternatives.{alternatives};
@@ -23,17 +23,17 @@ use wax_walk::{Entry, EntryResidue, Rule};
 /// How many bytes may be kept of earlier texts.
 const MOST_BYTES: usize = 2_097_152;
 
-/// A pattern that is left out of a walk: each entry that it means, with all that lies below it where an
-/// alternative covers it, else alone. A tree wildcard alone that isn't rooted covers everything; an
-/// alternative that ends with a tree wildcard covers what it means but for the start of the walk. Contracts
-/// see the alternatives.
+/// A pattern that is excluded from a walk, as a rule. It excludes each entry that the pattern
+/// matches: with everything below it if an alternative covers the entry, and otherwise by itself.
+/// An alternative that is only an unrooted `**` covers everything. One that ends with `**` covers
+/// what it matches, except for the start of the walk. Contracts see the alternatives.
 pub struct Exclusion {
     alternatives: Vec<Token<'static, ExpressionMetadata>>,
-    /// Accepts what one of them means.
+    /// Accepts what at least one alternative matches.
     whole: OwnedMatcher,
-    /// Of each alternative that ends with a tree wildcard.
+    /// One program for each alternative that ends with `**`.
     covering: Vec<Program>,
-    /// An alternative is a tree wildcard alone that isn't rooted.
+    /// True if an alternative is only an unrooted `**`.
     covers_all: bool,
 }
 
@@ -67,8 +67,13 @@ impl Model for Exclusion {
 impl Exclusion {
     ghost use Rattle.wax_exclude.specs.Marks.{not_mark, of_candidate};
 
-    /// What is left out of a pattern's tokens. Refused with 9 where their cost plus 1 is above 1,048,576, and
-    /// with 10 where memory is. It takes time and memory of the order of the tokens and their cost.
+    /// Builds the rule from a pattern's token. It takes time and memory in proportion to the tokens
+    /// and their cost.
+    ///
+    /// # Errors
+    ///
+    /// Returns a `CompileError` (9) if the program would have more than 1,048,576 instructions, and
+    /// `Refusal::Memory` (10) if allocation fails.
     pub fn new(
         alloc: Global,
         pattern: Token<'static, ExpressionMetadata>,
@@ -95,24 +100,25 @@ impl Exclusion {
 impl Exclusion {
     ghost use Rattle.wax_exclude.specs.Excluded.{excluded_mark, some_test};
 
-    /// Returns its alternatives.
+    /// Returns the alternatives of the pattern.
     pub(crate) fn alternatives(&self) -> &[Token<'static, ExpressionMetadata>]
         ensures { result.now ≡ self.now }
     {
         self.alternatives.as_slice()
     }
 
-    /// Returns whether an alternative means the text.
+    /// Returns whether an alternative matches the text.
     ///
     /// # Errors
-    /// `NoMemory` if allocation fails.
+    ///
+    /// Returns `NoMemory` if allocation fails.
     pub(crate) fn means(&self, alloc: Global, text: &str) -> Result<bool, NoMemory>
         ensures { IfOk result (λ answer. answer ≡ some_test self.now (chars text.now)) }
     {
         accepts(alloc, self.whole.program(), text)
     }
 
-    /// Returns the same by what is kept of earlier texts.
+    /// Returns what `means` does, with the help of what is kept of earlier texts.
     fn means_again(&mut self, text: &str) -> Result<bool, NoMemory>
         ensures decides { IfOk result (λ answer. answer ≡ some_test self.old (chars text.now)) }
         ensures same { self.new ≡ self.old }
@@ -120,7 +126,8 @@ impl Exclusion {
         self.whole.is_match(text)
     }
 
-    /// Returns what is left out of an entry whose candidate an alternative means or not.
+    /// Returns what to exclude of an entry, once it is known whether an alternative matches its
+    /// candidate.
     fn left_out<E: Entry>(
         &self,
         alloc: Global,
@@ -143,10 +150,12 @@ impl Exclusion {
         Ok(Some(EntryResidue::File))
     }
 
-    /// Returns what is left out of an entry, and keeps nothing for later ones.
+    /// Returns what to exclude of an entry, and keeps nothing for later ones: for the lines of an
+    /// ignore list, whose blocks keep enough.
     ///
     /// # Errors
-    /// `NoMemory` if allocation fails.
+    ///
+    /// Returns `NoMemory` if allocation fails.
     pub(crate) fn residue_once<E: Entry>(
         &self,
         alloc: Global,
@@ -176,7 +185,7 @@ impl Rule for Exclusion {
     }
 }
 
-// The programs of the alternatives that end with a tree wildcard.
+// Compiles the alternatives that end with `**`, each by itself.
 fn covering_programs<'t>(
     alloc: Global,
     alternatives: &[Token<'t, ExpressionMetadata>],
@@ -196,7 +205,6 @@ fn covering_programs<'t>(
     Ok(programs)
 }
 
-// Whether one of the programs accepts the text.
 fn some_accepts(alloc: Global, programs: &[Program], text: &str) -> Result<bool, NoMemory>
     ensures { IfOk result (λ answer. IsTrue answer ↔ SomeAccepts programs.now (chars text.now)) }
 {
@@ -208,7 +216,6 @@ fn some_accepts(alloc: Global, programs: &[Program], text: &str) -> Result<bool,
     Ok(false)
 }
 
-// Whether the last token is a tree wildcard.
 fn ends_wild<'t>(token: &Token<'t, ExpressionMetadata>) -> bool
     ensures { result ≡ ends_wild (members token.now) }
 {
@@ -218,14 +225,12 @@ fn ends_wild<'t>(token: &Token<'t, ExpressionMetadata>) -> bool
     }
 }
 
-// Whether one of the alternatives is a tree wildcard alone that isn't rooted.
 fn some_everything<'t>(alternatives: &[Token<'t, ExpressionMetadata>]) -> bool
     ensures { result ≡ some_everything alternatives.now }
 {
     alternatives.iter().any(|token| is_everything(token))
 }
 
-// Whether the token is a tree wildcard alone that isn't rooted.
 fn is_everything<'t>(token: &Token<'t, ExpressionMetadata>) -> bool
     ensures { result ≡ is_everything (members token.now) }
 {

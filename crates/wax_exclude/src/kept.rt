@@ -1,4 +1,4 @@
-//! What is kept of a plain walk less what the lines of an ignore list ignore.
+//! Plain walks without what an ignore list ignores.
 ghost use Rattle.std.specs.Prelude.{◌≡◌, ℕ, List, IfOk, map};
 ghost use Rattle.std.specs.Iterator.{IsFinite};
 ghost use Rattle.wax_directory.specs.Shown.{Shown};
@@ -16,8 +16,13 @@ use wax_query::diagnostics::NoMemory;
 use wax_tree::WalkTree;
 use wax_walk::{Entry, FileIterator, TreeEntry, WalkError, collect};
 
-/// The items that are kept of a plain walk less what the rule ignores, in order, errors among them, and the
-/// directory. Where memory is refused for the list itself, nothing is answered.
+/// Collects a plain walk without what the rule ignores: returns what is kept, in order, errors
+/// included, and the directory.
+///
+/// # Errors
+///
+/// Returns `NoMemory` if allocation fails for the list itself. If it fails in the walk, the last
+/// item is that error.
 pub fn collect_unignored<D: Directory>(
     alloc: Global,
     walk: WalkTree<D>,

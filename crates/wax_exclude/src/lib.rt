@@ -1,4 +1,4 @@
-//! What a glob's walk is to give and to list, and the law that it does.
+//! What walks exclude and what they keep: patterns, ignore lists, and the law of a glob's walk.
 #![tactic(auto)]
 
 mod blocks;

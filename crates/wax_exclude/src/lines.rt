@@ -6,21 +6,25 @@ ghost use Rattle.wax_exclude.specs.Lines.{written_lines, written_of};
 use std::alloc::{AllocError, Global};
 use wax_query::diagnostics::NoMemory;
 
-/// A line of an ignore list that isn't skipped.
+/// A line of an ignore list, other than one that is skipped.
 #[derive(Clone, Copy, Debug)]
 pub struct WrittenLine<'t> {
-    /// The number of the line, from 1; lines that are skipped count.
+    /// The number of the line, from 1. Lines that are skipped count.
     pub number: usize,
-    /// Whether the line ignores what its glob means, or takes it back.
+    /// False if the line begins with `!`: it stops ignoring what its glob matches then.
     pub ignores: bool,
     /// The expression of its glob.
     pub expression: &'t str,
 }
 
-/// The lines of an ignore list that aren't skipped. A line ends at a line feed or at the end of the text, and
-/// one carriage return at its end is dropped. A line that is empty then, or that begins with `#`, is skipped;
-/// one that begins with `!` takes back what the glob after that means; any other line is a glob that ignores.
-/// Refused with 10 where memory is.
+/// Splits the text of an ignore list into lines, without those that are skipped. A line ends at a
+/// line feed or at the end of the text, and one carriage return at its end is dropped. A line that
+/// is empty, or that begins with `#`, is skipped. If a line begins with `!`, the glob after the `!`
+/// stops ignoring what it matches. Every other line is a glob that ignores what it matches.
+///
+/// # Errors
+///
+/// Returns `NoMemory` if allocation fails.
 pub fn written_lines<'t>(alloc: Global, text: &'t str) -> Result<Vec<WrittenLine<'t>>, NoMemory>
     ensures { IfOk result (λ lines. map written_of lines.items ≡ written_lines text.now) }
 {
@@ -34,14 +38,13 @@ pub fn written_lines<'t>(alloc: Global, text: &'t str) -> Result<Vec<WrittenLine
     Ok(lines)
 }
 
-// The parts of a text between its line feeds.
 fn parts_between_feeds<'t>(alloc: Global, text: &'t str) -> Result<Vec<&'t str>, AllocError>
     ensures { IfOk result (λ parts. map (λ part. part.now) parts.items ≡ between_feeds text.now) }
 {
     text.split('\n').collect(alloc)
 }
 
-// What a line of this number says, unless it is skipped.
+// Reads one line; returns `None` if it is skipped.
 fn line_in<'t>(number: usize, part: &'t str) -> Option<WrittenLine<'t>>
     ensures { map written_of (option_to_list result) ≡ line_at number part.now }
 {
@@ -63,14 +66,12 @@ fn line_in<'t>(number: usize, part: &'t str) -> Option<WrittenLine<'t>>
     }
 }
 
-// Whether the line is empty or begins with `#`.
 fn is_skipped(line: &str) -> bool
     ensures { result ≡ is_skipped line.now }
 {
     line.is_empty() || line.starts_with('#')
 }
 
-// The text without one carriage return at its end.
 fn without_return(text: &str) -> &str
     ensures { result.now ≡ without_return text.now }
 {

@@ -17,7 +17,7 @@ use wax_match::encode::Program;
 use wax_query::diagnostics::NoMemory;
 use wax_token::token::{ExpressionMetadata, Token};
 
-/// A component of a glob, as a program of its own. Contracts see its tokens.
+/// A component of a glob with a program of its own. Contracts see its tokens.
 #[derive(Drop)]
 pub struct Component<'g, 't> {
     tokens: &'g [Token<'t, ExpressionMetadata>],
@@ -44,7 +44,11 @@ impl<'g, 't> NameTest for Component<'g, 't> {
 
     ghost decides = { λ component name. component_test component name };
 
-    /// Whether the component means the name, with nothing around it. Refused with 10 where memory is.
+    /// Returns whether the component matches the whole name.
+    ///
+    /// # Errors
+    ///
+    /// Returns `NoMemory` if allocation fails.
     fn is_match(&self, alloc: Global, name: &str) -> Result<bool, NoMemory>
         ensures decides { IfOk result (λ answer. answer ≡ component_test self.now (chars name.now)) }
         ensures means { IfOk result (λ answer.
@@ -54,7 +58,6 @@ impl<'g, 't> NameTest for Component<'g, 't> {
     }
 }
 
-// The tokens with their program.
 fn compiled<'g, 't>(
     alloc: Global,
     tokens: &'g [Token<'t, ExpressionMetadata>],
@@ -66,14 +69,12 @@ fn compiled<'g, 't>(
     Ok(Component { tokens, program })
 }
 
-// Whether one of the tokens is a boundary or holds one.
 fn hold_boundary<'t>(tokens: &[Token<'t, ExpressionMetadata>]) -> bool
     ensures { result ≡ list_any has_boundary tokens.now }
 {
     tokens.iter().any(|token| token.has_boundary())
 }
 
-// Whether a `/` comes first among the tokens of a glob.
 fn begins_with_separator<'t>(token: &Token<'t, ExpressionMetadata>) -> bool
     ensures { result ≡ begins_with_separator (tokens_of token.now) }
 {
@@ -83,9 +84,13 @@ fn begins_with_separator<'t>(token: &Token<'t, ExpressionMetadata>) -> bool
     }
 }
 
-/// The components of a glob that fits, up to the first one that holds a boundary anywhere, which is left
-/// out, each as a program. Where the walk is from the root and the first token isn't `/`, there are none.
-/// Refused with 10 where memory is. It takes the time and memory of the tokens and their cost.
+/// Compiles the leading components of a glob, each as a program: those before the first that
+/// contains a boundary anywhere. If the walk begins at the root and the glob's first token isn't
+/// `/`, there are none. It takes time and memory in proportion to the tokens and their cost.
+///
+/// # Errors
+///
+/// Returns `NoMemory` if allocation fails.
 pub fn leading<'g, 't>(
     alloc: Global,
     token: &'g Token<'t, ExpressionMetadata>,

@@ -1,4 +1,4 @@
-//! Prefixes of globs, as names.
+//! Prefixes of globs, split into names.
 ghost use Rattle.std.specs.Prelude.{◌≡◌, ◌↔◌, ℕ, Bool, IfOk, IsTrue, List, MatchOption, chars, map};
 ghost use Rattle.wax_directory.specs.Names.{is_rooted, names_in_path};
 ghost use Rattle.wax_facts.specs.Orderly.{Full};
@@ -12,17 +12,21 @@ use wax_facts::invariant_text_prefix;
 use wax_query::diagnostics::NoMemory;
 use wax_token::token::{ExpressionMetadata, Token};
 
-/// Where the walk of a glob begins: whether below the root, and the names of its prefix, the first of them
-/// last.
+/// Where the walk of a glob begins: at the names of the glob's prefix, below the root or below the
+/// start. The first name is the last in the list, so that names can be popped.
 #[derive(Drop)]
 pub struct Way {
     pub is_rooted: bool,
     pub names: Vec<String>,
 }
 
-/// The way to the prefix of a glob, which is rooted where the prefix begins with `/`: each path that the glob
-/// means begins with its names. None where two `/` stand side by side in the prefix: then no path of names is
-/// meant. Refused with 10 where memory is. It takes the time and memory of the tokens' texts.
+/// Splits the prefix of a glob into names, with which every path that matches begins. It is rooted
+/// if the prefix begins with `/`. Returns `None` if two `/` are side by side in the prefix: no path
+/// of names matches then. It takes time and memory in proportion to the texts of the tokens.
+///
+/// # Errors
+///
+/// Returns `NoMemory` if allocation fails.
 pub fn way_of<'t>(
     alloc: Global,
     token: &Token<'t, ExpressionMetadata>,
@@ -37,7 +41,6 @@ pub fn way_of<'t>(
     way_in(alloc, prefix.as_str())
 }
 
-// The names of a prefix, and whether it is rooted; none where two `/` stand side by side.
 fn way_in(alloc: Global, prefix: &str) -> Result<Option<Way>, NoMemory>
     ensures { IfOk result (λ way. MatchOption way (HasEmptyName prefix.now)
         (λ w. ¬ (HasEmptyName prefix.now) × IsWay prefix.now w.is_rooted (from_last w.names.items))) }
@@ -51,7 +54,7 @@ fn way_in(alloc: Global, prefix: &str) -> Result<Option<Way>, NoMemory>
     }))
 }
 
-// Whether two `/` stand side by side.
+// Returns whether two `/` are side by side.
 fn has_empty_name(text: &[u8]) -> bool
     ensures { IsTrue result ↔ HasEmptyName text.now }
 {
@@ -74,7 +77,7 @@ fn begins_with_slash(bytes: &[u8]) -> bool
     }
 }
 
-// The names of a path.
+// Splits a path into its names, without empty parts.
 fn names_in(alloc: Global, path: &str) -> Result<Vec<&str>, AllocError>
     ensures { IfOk result (λ v. map (λ x. x.now) v.items ≡ names_in_path path.now) }
 {
@@ -83,7 +86,7 @@ fn names_in(alloc: Global, path: &str) -> Result<Vec<&str>, AllocError>
         .collect(alloc)
 }
 
-// The names of a path, the last one first.
+// Splits a path into its names, the first one last.
 fn names_from_last(alloc: Global, path: &str) -> Result<Vec<String>, AllocError>
     ensures { IfOk result (λ names. from_last names.items ≡ names_in_path path.now) }
 {

@@ -1,4 +1,4 @@
-//! Programs of tokens that fit.
+//! Programs of tokens that are known to fit.
 ghost use Rattle.std.specs.Prelude.{◌↔◌, ◌<◌, ℕ, List, IfOk, IsTrue, chars, false};
 ghost use Rattle.wax_program.specs.Machine.{Accepts};
 ghost use Rattle.wax_token.specs.Cost.{costs};
@@ -11,7 +11,11 @@ use wax_match::encode::{Meter, Program};
 use wax_query::diagnostics::{NoMemory, Refusal};
 use wax_token::token::{ExpressionMetadata, Token};
 
-/// The program of tokens that fit, with nothing around them.
+/// Compiles tokens that are known to fit, with nothing around them.
+///
+/// # Errors
+///
+/// Returns `NoMemory` if allocation fails.
 pub fn program_of<'t>(
     alloc: Global,
     tokens: &[Token<'t, ExpressionMetadata>],
@@ -27,7 +31,11 @@ pub fn program_of<'t>(
     }
 }
 
-/// Whether the program accepts the text.
+/// Returns whether the program accepts the whole text.
+///
+/// # Errors
+///
+/// Returns `NoMemory` if allocation fails.
 pub fn accepts(alloc: Global, program: &Program, text: &str) -> Result<bool, NoMemory>
     ensures { IfOk result (λ answer. IsTrue answer ↔ Accepts program.now.0 0 (chars text.now)) }
 {

@@ -1,4 +1,4 @@
-//! What the lines of an ignore list say of entries and paths.
+//! Ignore lists as rules of walks.
 ghost use Rattle.std.specs.Prelude.{◌≡◌, ◌<◌, ◌≤◌, List, IfOk, chars, false, length};
 ghost use Rattle.std.specs.List.{All};
 ghost use Rattle.wax_query.specs.Outcome.{MatchBuild};
@@ -21,7 +21,8 @@ use wax_query::diagnostics::{NoMemory, Refusal};
 use wax_token::token::{ExpressionMetadata, Token};
 use wax_walk::{Entry, EntryResidue, Rule};
 
-/// A line of an ignore list: whether it ignores what its glob means, or takes it back.
+/// A line of an ignore list: a glob, and whether it ignores what the glob matches or stops ignoring
+/// it.
 #[derive(Drop)]
 pub struct IgnoreLine {
     pub(crate) ignores: bool,
@@ -29,8 +30,13 @@ pub struct IgnoreLine {
 }
 
 impl IgnoreLine {
-    /// The line of a glob's tokens. Refused with 9 where their cost plus 1 is above 1,048,576, and with 10
-    /// where memory is. It takes time and memory of the order of the tokens and their cost.
+    /// Builds a line from its glob's token. It takes time and memory in proportion to the tokens
+    /// and their cost.
+    ///
+    /// # Errors
+    ///
+    /// Returns a `CompileError` (9) if the program would have more than 1,048,576 instructions, and
+    /// `Refusal::Memory` (10) if allocation fails.
     pub fn new(
         alloc: Global,
         ignores: bool,
@@ -46,17 +52,17 @@ impl IgnoreLine {
     }
 }
 
-/// What the lines of an ignore list say. An entry is left out where the last line that means its candidate
-/// ignores; together with all that lies below it where an alternative of a line that ignores covers it and no
-/// line that takes back stands after that line. Contracts see the lines.
+/// An ignore list as a rule. It excludes an entry if the last line that matches the candidate
+/// ignores it. It excludes everything below the entry, too, if an alternative of a line that
+/// ignores covers the entry and no line after that begins with `!`. Contracts see the lines.
 ///
-/// Up to 256 lines are passed over at once, and up to 16 of them, if an automaton over them finds that none
-/// of them means an entry. Of earlier entries it keeps about 1 MiB at most for each 256 lines, and 64 KiB
-/// for each 16.
+/// Blocks of up to 256 lines, and of up to 16 lines within these, are skipped at once if an
+/// automaton finds that none of their lines matches. An automaton keeps at most about 1 MiB for 256
+/// lines, and 64 KiB for 16, of earlier entries.
 #[derive(Drop)]
 pub struct IgnoreRule {
     lines: Vec<IgnoreLine>,
-    /// Lines that are passed over at once if none of them means an entry.
+    /// Runs of lines that are skipped at once if none of them matches.
     blocks: Vec<Block>,
 }
 
@@ -78,10 +84,12 @@ impl Model for IgnoreRule {
 }
 
 impl IgnoreRule {
-    /// Makes the rule of these lines. It takes time and memory of the order of their tokens and their cost.
+    /// Builds the rule from its lines. It takes time and memory in proportion to their tokens and
+    /// their cost.
     ///
     /// # Errors
-    /// `NoMemory` if allocation fails.
+    ///
+    /// Returns `NoMemory` if allocation fails.
     pub fn new(alloc: Global, lines: Vec<IgnoreLine>) -> Result<IgnoreRule, NoMemory>
         ensures lines { IfOk result (λ rule. rule ≡ lines.items) }
         ensures says { IfOk result (λ rule. (ls : List (Line Span)) → HasLines rule ls
@@ -91,10 +99,11 @@ impl IgnoreRule {
         Ok(IgnoreRule { lines, blocks })
     }
 
-    /// Returns whether the last line that means the path ignores, and `false` if none means it.
+    /// Returns whether the last line that matches the path ignores it; false if no line matches.
     ///
     /// # Errors
-    /// `NoMemory` if allocation fails.
+    ///
+    /// Returns `NoMemory` if allocation fails.
     pub fn is_ignored(&self, alloc: Global, path: &CandidatePath<'_>) -> Result<bool, NoMemory>
         ensures { IfOk result (λ answer. (ls : List (Line Span)) → HasLines self.now ls
             → answer ≡ is_ignored ls path.now) }
@@ -117,7 +126,6 @@ impl Rule for IgnoreRule {
     }
 }
 
-// Whether the last of the lines that means the text ignores.
 fn is_ignored_by(alloc: Global, lines: &[IgnoreLine], text: &str) -> Result<bool, NoMemory>
     ensures { IfOk result (λ answer. answer ≡ ignored_by false lines.now (chars text.now)) }
 {
@@ -130,7 +138,7 @@ fn is_ignored_by(alloc: Global, lines: &[IgnoreLine], text: &str) -> Result<bool
     Ok(is_ignored)
 }
 
-// What the lines say of an entry.
+// Applies the lines in order, and skips the blocks of which none matches.
 fn residue_by<E: Entry>(
     alloc: Global,
     lines: &[IgnoreLine],
@@ -151,15 +159,16 @@ fn residue_by<E: Entry>(
     after_lines(alloc, &lines[said.at..], entry, said.residue)
 }
 
-// What the lines before a place say of an entry.
+// What the lines before the index `at` decide for an entry.
 #[derive(Clone, Copy)]
 struct Said {
     at: usize,
     residue: Option<EntryResidue>,
 }
 
-// What is said at the block's end if none of its lines means the entry, and else at its beginning. A block
-// that begins before the place is skipped.
+// Goes on to the end of the block if none of its lines matches the entry, and otherwise to its
+// beginning, from where a smaller block or the lines themselves go on. A block that begins before
+// `said.at` lies within one that was skipped, and is skipped.
 fn after_block<E: Entry>(
     alloc: Global,
     lines: &[IgnoreLine],
@@ -191,7 +200,8 @@ fn after_block<E: Entry>(
     })
 }
 
-// What is said after lines none of which means the entry.
+// Returns the decision after lines none of which matches the entry. If one of them begins with `!`,
+// it may match something below the entry, which can't be excluded as a whole any more.
 fn passed(takes_back: bool, residue: Option<EntryResidue>) -> Option<EntryResidue>
     ensures { mark_of result ≡ mark_passed takes_back (mark_of residue) }
 {
@@ -201,7 +211,7 @@ fn passed(takes_back: bool, residue: Option<EntryResidue>) -> Option<EntryResidu
     }
 }
 
-// What is said after each of the lines was asked.
+// Applies the lines one by one.
 fn after_lines<E: Entry>(
     alloc: Global,
     lines: &[IgnoreLine],
@@ -219,7 +229,8 @@ fn after_lines<E: Entry>(
     Ok(residue)
 }
 
-// What is left out after a line, of which the exclusion says this.
+// Returns the decision after one line. A line that begins with `!` and doesn't match the entry may
+// match something below it, which can't be excluded as a whole any more.
 fn residue_after(
     ignores: bool,
     before: Option<EntryResidue>,

@@ -1,4 +1,4 @@
-//! What is wanted of a walk.
+//! Lists of what is wanted of a walk.
 
 ghost use Rattle.std.specs.Prelude.{◌≡◌, ◌+◌, ◌≤◌, All, List, ℕ, IfOk, false, filter, length, map};
 ghost use Rattle.std.specs.Iterator.{IsFinite, size};
@@ -21,10 +21,15 @@ use wax_glob_walk::FilterAny;
 use wax_query::diagnostics::NoMemory;
 use wax_walk::{Entry, FileIterator, Rule, WalkError, collect, collect_feed};
 
-/// The items that are kept of a walk, in order, errors among them, and the directory. What is known of the
-/// walk's entries holds of each. Where the walk is that of a glob less what patterns mean, its entries are
-/// those of the plain walk that the glob means and no pattern means. Where memory is refused for the list
-/// itself, nothing is answered.
+/// Collects what a walk keeps: returns the kept items in order, errors included, and the directory.
+/// What is `known` of the walk's entries holds for each. If the walk is that of a glob without what
+/// patterns match, over a lawful directory, the entries are exactly those of the plain walk that
+/// the glob matches and no pattern does, or a prefix of these if memory or the budget runs out.
+///
+/// # Errors
+///
+/// Returns `NoMemory` if allocation fails for the list itself. If it fails in the walk, the last
+/// item is that error.
 pub fn collect_wanted<I>(
     alloc: Global,
     walk: I,
@@ -48,10 +53,13 @@ where
     collect(alloc, walk)
 }
 
-/// All items of the feed of a walk in order, kept or left out, errors among those that are kept, and the
-/// directory. What is known of the walk's entries holds of those that are kept. Where the walk is that of a
-/// glob less what patterns mean, this is what comes of it. Where memory is refused for the list itself,
-/// nothing is answered.
+/// Collects the feed of a walk: returns all items in order, kept or excluded, and the directory.
+/// Errors are among the kept items. What is `known` of the walk's entries holds for each kept one.
+///
+/// # Errors
+///
+/// Returns `NoMemory` if allocation fails for the list itself. If it fails in the walk, the last
+/// item is that error.
 pub fn collect_wanted_feed<I>(
     alloc: Global,
     walk: I,
@@ -73,9 +81,15 @@ where
     collect_feed(alloc, walk)
 }
 
-/// The items that are kept of a walk less what these rules leave out, in order, errors among them, and the
-/// directory, as `collect_wanted` gives them. Where the walk is that of a glob and the rules are those of
-/// filters, its entries are those of the plain walk that the glob means and no filter leaves out.
+/// Collects a walk without what the rules exclude: returns what is kept, in order, errors included,
+/// and the directory. If the walk is that of a glob over a lawful directory, and each rule is that
+/// of a pattern or of an ignore list, the entries are exactly those of the plain walk that the glob
+/// matches and no filter excludes, or a prefix of these if memory or the budget runs out.
+///
+/// # Errors
+///
+/// Returns `NoMemory` if allocation fails for the list itself. If it fails in the walk, the last
+/// item is that error.
 pub fn collect_less<I, R>(
     alloc: Global,
     walk: I,

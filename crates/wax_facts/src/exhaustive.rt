@@ -1,4 +1,4 @@
-//! Whether a token means whatever lies below the paths that it means.
+//! Exhaustiveness: whether everything below a match matches, too.
 ghost use Rattle.std.specs.Prelude.{◌≡◌, ◌++◌, ◌∷◌, List, ℕ, false};
 ghost use Rattle.wax_token.specs.Meaning.{Means};
 ghost use Rattle.wax_token.specs.View.{leaf_of};
@@ -22,7 +22,9 @@ fn leaf_exhaustive(leaf: &LeafKind<'_>) -> When
     }
 }
 
-/// Whether the token means whatever lies below a path that it means.
+/// Returns `Always` if the token matches everything below its matches, too: any match, followed by
+/// a `/` and any text. Only the last tokens are looked at, and nothing is promised for `Sometimes`
+/// and `Never`.
 pub fn is_exhaustive<'t, A>(token: &Token<'t, A>) -> When
     ensures value { result ≡ exhaustive token.now }
     ensures always { result ≡ Always → (s r : List ℕ) → Means token.now false false s

@@ -1,4 +1,4 @@
-//! The static queries of a token as its methods.
+//! The static queries of a token, as methods.
 ghost use Rattle.std.specs.Prelude.{◌≡◌, ◌∷◌, ◌++◌, ℕ, IfOk, IfSome, List, MatchOption};
 ghost use Rattle.std.specs.Prelude.{chars, string_bytes};
 ghost use Rattle.wax_query.specs.declared.query.when.When.{When};
@@ -16,43 +16,54 @@ use wax_query::diagnostics::NoMemory;
 use wax_query::query::When;
 use wax_token::token::{Annotation, Token};
 
-/// What all texts that a token means have in common.
+/// Facts about all paths that a token matches.
 pub trait TokenFacts {
-    /// The texts that it means.
+    /// The texts that the token matches.
     ghost meant: { Self → List ℕ → Type 0 };
 
-    /// Whether they begin with `/`.
+    /// The value of `has_root`.
     ghost root_is: { Self → When };
 
-    /// Whether it means whatever lies below them.
+    /// The value of `is_exhaustive`.
     ghost exhaustive_is: { Self → When };
 
-    /// The one text that it is written as.
+    /// The text that the token is written as, if it is written as one.
     ghost text_is: { Self → List ℕ → Type 0 };
 
-    /// Its prefix, and of how many tokens.
+    /// The number of tokens that the prefix takes, and the prefix.
     ghost prefix_is: { Self → ℕ → List ℕ → Type 0 };
 
-    /// Whether each text that it means begins with `/`.
+    /// Returns `Always` if every path that the token matches begins with `/`. Nothing is promised
+    /// for `Sometimes` and `Never`.
     fn has_root(&self) -> When
         ensures value { result ≡ root_is self.now }
         ensures always { result ≡ Always → (s : List ℕ) → meant self.now s → BeginsWithSlash s };
 
-    /// Whether it means whatever lies below a path that it means.
+    /// Returns `Always` if the token matches everything below its matches, too: any match, followed
+    /// by a `/` and any text. Nothing is promised for `Sometimes` and `Never`.
     fn is_exhaustive(&self) -> When
         ensures value { result ≡ exhaustive_is self.now }
         ensures always { result ≡ Always → (s r : List ℕ) → meant self.now s
             → meant self.now (s ++ 47 ∷ r) };
 
-    /// The one text that it means, where it is written as one. Refused with 10 where memory is.
+    /// Returns the only text that the token matches, or `None` if it isn't written as one text.
+    ///
+    /// # Errors
+    ///
+    /// Returns `NoMemory` if allocation fails.
     fn text(&self, alloc: Global) -> Result<Option<String>, NoMemory>
         ensures exact { IfOk result (λ found. MatchOption found (NoText (text_is self.now)) (λ t.
             text_is self.now (chars (string_bytes t)))) }
         ensures only { IfOk result (λ found. IfSome found (λ t. (s : List ℕ)
             → meant self.now s → s ≡ chars (string_bytes t))) };
 
-    /// How many tokens its prefix takes where a last branch of one sub-glob stands open, and the prefix.
-    /// Refused with 10 where memory is.
+    /// Returns how many tokens the prefix takes, and the prefix, with which every path that the
+    /// token matches begins. A last alternation of one branch, or a last repetition of exactly one
+    /// copy, counts as the tokens in it.
+    ///
+    /// # Errors
+    ///
+    /// Returns `NoMemory` if allocation fails.
     fn invariant_text_prefix(&self, alloc: Global) -> Result<(usize, String), NoMemory>
         ensures prefix { IfOk result (λ r. prefix_is self.now r.0 (chars (string_bytes r.1))) }
         ensures only { IfOk result (λ r. (n : ℕ) (p : List ℕ) → prefix_is self.now n p

@@ -1,4 +1,4 @@
-//! The one text that a token means, where it is written as one.
+//! The only text that a token matches, if it is written as one.
 ghost use Rattle.std.specs.Prelude.{◌≡◌, ◌∷◌, [], ℕ, IfOk, IfSome, List, MatchOption, None, false, true};
 ghost use Rattle.std.specs.Prelude.{chars, string_bytes};
 ghost use Rattle.wax_token.specs.Meaning.{Means};
@@ -18,10 +18,19 @@ use std::alloc::{AllocError, Global};
 use wax_query::diagnostics::NoMemory;
 use wax_token::token::{BranchKind, Class, LeafKind, Literal, Repetition, Token, Topology};
 
-/// The one text that the token means, where it is written as one: of literals, `/`, classes of one
-/// character, alternations of one text and repetitions of one number of copies. None for all others.
-/// Refused with 10 where memory is. It takes memory and time of the order of the text for each branch
-/// around it.
+/// Returns the only text that the token matches, or `None` if it isn't written as one text. It is,
+/// if all its tokens are literals, `/`, classes of one character, alternations whose branches are
+/// one text, and repetitions with one number of copies. A literal with the flag `i` counts only if
+/// none of its characters has another case.
+///
+/// An alternation without branches, which matches nothing, has the empty text.
+///
+/// Takes time and memory proportional to the text, once for each branch around it. `<a:65535>` has
+/// a long one.
+///
+/// # Errors
+///
+/// Returns `NoMemory` if allocation fails.
 pub fn text<'t, A>(alloc: Global, token: &Token<'t, A>) -> Result<Option<String>, NoMemory>
     ensures exact { IfOk result (λ found. MatchOption found (Variant token.now) (λ t.
         Text token.now (chars (string_bytes t)))) }
@@ -46,7 +55,7 @@ fn find_text<'t, A>(alloc: Global, token: &Token<'t, A>) -> Result<Option<String
     }
 }
 
-// Of branches, the text of each.
+// Returns the text of the branches, if all of them have this one.
 #[cycle(find_text)]
 #[tactic(auto, using(crate::proofs::Sizes::element_size))]
 fn text_of_all<'t, A>(alloc: Global, tokens: &[Token<'t, A>]) -> Result<Option<String>, AllocError>
@@ -70,7 +79,7 @@ fn text_of_all<'t, A>(alloc: Global, tokens: &[Token<'t, A>]) -> Result<Option<S
     Ok(Some(text))
 }
 
-// Of tokens one after another, their texts joined.
+// Returns the joined texts of tokens one after another.
 #[cycle(find_text)]
 #[tactic(auto, using(crate::proofs::Sizes::element_size))]
 fn text_of_each<'t, A>(alloc: Global, tokens: &[Token<'t, A>]) -> Result<Option<String>, AllocError>
@@ -87,7 +96,7 @@ fn text_of_each<'t, A>(alloc: Global, tokens: &[Token<'t, A>]) -> Result<Option<
     Ok(Some(joined))
 }
 
-// Of one number of copies, the body's text so many times.
+// Returns the text of the body, repeated. There is none if the number of copies varies.
 #[cycle(find_text)]
 fn text_of_copies<'t, A>(
     alloc: Global,

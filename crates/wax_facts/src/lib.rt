@@ -1,5 +1,5 @@
-//! What all texts that a token means have in common: whether they begin with `/`, what lies below them,
-//! the one text that they are, and the prefix before what differs, with the rest after it.
+//! Facts about all paths that a token matches: root, exhaustiveness, the only text, the prefix, and
+//! the rest after it.
 #![tactic(auto)]
 
 mod exhaustive;

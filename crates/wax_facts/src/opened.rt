@@ -1,4 +1,5 @@
-//! The tokens of a glob, where a last branch of one sub-glob stands open.
+//! Opened lists: the tokens of a glob, where the last token is replaced by those in it if it is an
+//! alternation of one branch or a repetition of exactly one copy, and so on inside it.
 ghost use Rattle.std.specs.Prelude.{◌≡◌, ◌<◌, ◌≤◌, ◌+◌, ℕ, MatchOption, None, Some};
 ghost use Rattle.wax_token.specs.Syntax.{more, none, tree_size, trees_size};
 ghost use Rattle.wax_token.specs.Words.{trees};
@@ -9,8 +10,8 @@ ghost use Rattle.wax_facts.specs.inner.Opening.{IsOpened};
 
 use wax_token::token::{Annotation, BranchKind, LeafKind, Token, Wildcard};
 
-/// The tokens of a glob, or those of the innermost sub-glob where the last token alone is left and stands
-/// open.
+/// Opens a list of only one token, as far as this is possible. A longer list is returned as it is,
+/// since its last token is opened when only that one is left.
 #[tactic(auto, using(crate::proofs::Sizes::element_size))]
 pub fn opened_from<'i, 't, A: Annotation>(tokens: &'i [Token<'t, A>]) -> &'i [Token<'t, A>]
     ensures same { opened_last (trees result.now) ≡ opened_last (trees tokens.now) }
@@ -25,7 +26,7 @@ pub fn opened_from<'i, 't, A: Annotation>(tokens: &'i [Token<'t, A>]) -> &'i [To
     tokens
 }
 
-// The tokens that stand in the place of a last token: those of a glob or of the sub-glob that stands open.
+// Returns the tokens that replace a last token: those of a concatenation, or of the sub-glob in it.
 fn tokens_inside<'i, 't, A: Annotation>(token: &'i Token<'t, A>) -> Option<&'i [Token<'t, A>]>
     ensures tokens { MatchOption result (opened token.now ≡ more token.now none) (λ inside.
         opened_last (trees inside.now) ≡ opened token.now) }
@@ -38,7 +39,7 @@ fn tokens_inside<'i, 't, A: Annotation>(token: &'i Token<'t, A>) -> Option<&'i [
     }
 }
 
-/// The only branch of an alternation, and the body of exactly one copy.
+/// Returns the only branch of an alternation, or the body of a repetition of exactly one copy.
 pub fn open_body<'i, 't, A>(token: &'i Token<'t, A>) -> Option<&'i Token<'t, A>>
     ensures { MatchOption result (open_body token.now ≡ None) (λ b. open_body token.now ≡ Some b.now) }
 {
@@ -49,7 +50,7 @@ pub fn open_body<'i, 't, A>(token: &'i Token<'t, A>) -> Option<&'i Token<'t, A>>
     }
 }
 
-/// Whether the opened list of the glob begins with `**`.
+/// Returns whether the opened list of the glob begins with `**`.
 pub fn begins_with_tree<'t, A: Annotation>(glob: &Token<'t, A>) -> bool
     ensures { result ≡ begins_with_tree (opened glob.now) }
 {

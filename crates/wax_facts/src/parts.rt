@@ -1,4 +1,4 @@
-//! A glob in two: its prefix, and the rest.
+//! Splitting a glob into its prefix and the rest.
 ghost use Rattle.std.specs.Prelude.{◌≡◌, ◌↔◌, ◌∷◌, [], ℕ, IfOk, IfSome, List, MatchOption, None, false};
 ghost use Rattle.std.specs.Prelude.{chars, string_bytes};
 ghost use Rattle.wax_break.specs.Rules.{broken};
@@ -21,16 +21,24 @@ use wax_token::token::{
     BranchKind, Concatenation, ExpressionMetadata, LeafKind, Token, Wildcard, new_branch, new_leaf,
 };
 
-/// What the parser reads is full and flat, and where the rules let it pass and it isn't empty, orderly.
+/// Proves that every token that an expression spells is `Full` and `Flat`, and `Orderly` if it
+/// keeps the rules and the expression isn't empty. Does nothing when it runs.
 pub fn built_is_orderly<'t>(token: &Token<'t, ExpressionMetadata>)
     ensures read { (e : List ℕ) → Reads e token.now → Full token.now × Flat token.now }
     ensures built { (c : ℕ) (cs : List ℕ) → Reads (c ∷ cs) token.now → broken token.now ≡ []
         → Orderly token.now }
 {}
 
-/// The prefix of a glob, and the rest as a glob of its own where tokens are left: from the cut up to the end
-/// of the sub-glob that it belongs to, where a leading `**` has lost its `/`. Spans stay those of the whole
-/// expression. Refused with 10 where memory is. It takes the time and memory of the tokens' texts.
+/// Splits a glob into its prefix and the rest, a glob of its own. There is no rest if no token is
+/// left.
+///
+/// The rest reaches from the cut to the end of the sub-glob that has the cut, and a `**` at its
+/// beginning loses its `/`. Spans stay those of the whole expression. Takes time and memory
+/// proportional to the texts of the tokens.
+///
+/// # Errors
+///
+/// Returns `NoMemory` if allocation fails.
 pub fn partition<'t>(
     alloc: Global,
     token: Token<'t, ExpressionMetadata>,
@@ -51,9 +59,13 @@ pub fn partition<'t>(
     Ok((prefix, glob_up_to(end, unrooted(tokens))))
 }
 
-/// The prefix of a glob, the tokens after it as they stand in the glob, and the byte where the glob or
-/// sub-glob ends that they belong to. Refused with 10 where memory is. It takes the time and memory of the
-/// tokens' texts.
+/// Splits a glob into its prefix and the tokens after it, unchanged. Also returns the byte of the
+/// expression at which the glob or sub-glob of these tokens ends. Takes time and memory
+/// proportional to the texts of the tokens.
+///
+/// # Errors
+///
+/// Returns `NoMemory` if allocation fails.
 pub fn split_tokens<'t>(
     alloc: Global,
     token: Token<'t, ExpressionMetadata>,
@@ -66,7 +78,7 @@ pub fn split_tokens<'t>(
     Ok((prefix, tokens, owner.0 + owner.1))
 }
 
-// The tokens as a glob, from the first one up to a byte.
+// Returns a glob of the tokens. Its span reaches from the first of them to the byte `end`.
 fn glob_up_to<'t>(
     end: usize,
     tokens: Vec<Token<'t, ExpressionMetadata>>,
@@ -79,7 +91,7 @@ fn glob_up_to<'t>(
     Some(new_branch(glob, ExpressionMetadata::new(span)))
 }
 
-// A leading `**` loses its `/`.
+// Removes the `/` of a `**` at the beginning.
 fn unrooted<'t>(
     mut tokens: Vec<Token<'t, ExpressionMetadata>>,
 ) -> Vec<Token<'t, ExpressionMetadata>>
@@ -96,7 +108,7 @@ fn unrooted<'t>(
     tokens
 }
 
-/// Whether the token is a `**` with a `/` before it.
+/// Returns whether the token is a `**` with a `/` before it.
 pub fn is_rooted_tree<'t>(token: &Token<'t, ExpressionMetadata>) -> bool
     ensures { result ≡ is_rooted_tree token.now }
 {

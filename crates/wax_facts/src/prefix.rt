@@ -1,4 +1,4 @@
-//! The text with which all texts of a glob begin, up to a `/`.
+//! The prefix: a text with which all matches of a glob begin, cut back to a `/`.
 ghost use Rattle.std.specs.Prelude.{◌≡◌, ◌↔◌, ℕ, IfOk, IsTrue, List, chars, false, string_bytes};
 ghost use Rattle.wax_token.specs.Meaning.{Means};
 ghost use Rattle.wax_token.specs.Words.{trees};
@@ -14,11 +14,18 @@ use std::alloc::Global;
 use wax_query::diagnostics::NoMemory;
 use wax_token::token::{Annotation, LeafKind, Token};
 
-/// The prefix of a glob, and how many tokens it takes, of those of the glob where a last alternation of
-/// one branch or a last repetition of exactly one copy stands open: the text before the first token that
-/// isn't of one text, up to its last `/` unless that token is `**`; `/` and no token where the first one
-/// always begins with `/` and isn't of one text. Refused with 10 where memory is. It takes the time and
-/// memory of the tokens' texts.
+/// Returns how many tokens the prefix of a glob takes, and the prefix.
+///
+/// The prefix is the text of the tokens before the first one that varies, cut back to the last `/`
+/// unless that one is `**`. A last alternation of one branch, or a last repetition of exactly one
+/// copy, counts as the tokens in it. If the first token always begins with `/` and varies, the
+/// prefix is `/` and takes no token.
+///
+/// Takes time and memory proportional to the texts of the tokens.
+///
+/// # Errors
+///
+/// Returns `NoMemory` if allocation fails.
 pub fn invariant_text_prefix<'t, A: Annotation>(
     alloc: Global,
     token: &Token<'t, A>,
@@ -36,7 +43,7 @@ pub fn invariant_text_prefix<'t, A: Annotation>(
     cut_prefix(alloc, tokens)
 }
 
-// Whether the first token always begins with `/` and isn't of one text.
+// Returns whether the first token varies, but always begins with `/`.
 fn begins_rooted<'t, A>(alloc: Global, tokens: &[Token<'t, A>]) -> Result<bool, NoMemory>
     requires { IsOpened (trees tokens.now) }
     ensures { IfOk result (λ b. IsTrue b ↔ IsRooted (opened_last (trees tokens.now))) }
@@ -50,7 +57,7 @@ fn begins_rooted<'t, A>(alloc: Global, tokens: &[Token<'t, A>]) -> Result<bool, 
     Ok(text(alloc, first)?.is_none())
 }
 
-// How many tokens stand before the cut, and their text.
+// Returns how many tokens are before the cut, and their text.
 fn cut_prefix<'t, A: Annotation>(
     alloc: Global,
     tokens: &[Token<'t, A>],

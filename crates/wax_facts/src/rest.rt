@@ -15,8 +15,12 @@ use wax_token::token::{
     BranchKind, ExpressionMetadata, Repetition, Token, Topology, new_branch, new_leaf,
 };
 
-/// The tokens after the first ones, so many of the opened list, and the span of the glob or sub-glob that
-/// they belong to.
+/// Returns the tokens after the first `taken` ones of the opened list, and the span of the glob or
+/// sub-glob in which these are.
+///
+/// # Errors
+///
+/// Returns `AllocError` if allocation fails.
 #[tactic(auto, using(crate::proofs::Insides::rest_smaller))]
 pub fn rest_of<'t>(
     alloc: Global,
@@ -40,7 +44,7 @@ pub fn rest_of<'t>(
     }
 }
 
-// The tokens of a glob.
+// Returns the tokens of a concatenation. Any other token becomes a list of only it.
 fn into_members<'t>(
     alloc: Global,
     glob: Token<'t, ExpressionMetadata>,
@@ -68,7 +72,7 @@ fn alone<'t>(
     Ok(tokens)
 }
 
-// How many tokens are taken of the sub-glob at the end, where it is entered.
+// Returns how many tokens are taken of the sub-glob in the last token, if the rest is inside it.
 fn taken_inside<'t>(tokens: &[Token<'t, ExpressionMetadata>], taken: usize) -> Option<usize>
     ensures { MatchOption result (inside (trees tokens.now) taken ≡ None) (λ k.
         IsInside (trees tokens.now) taken k) }
@@ -81,14 +85,15 @@ fn taken_inside<'t>(tokens: &[Token<'t, ExpressionMetadata>], taken: usize) -> O
     None
 }
 
-// Whether the rest belongs to the sub-glob: a token of it is taken, or it begins with the `**` of the cut.
+// The rest is inside the sub-glob if one of its tokens is taken, or if it begins with the `**` at
+// which the prefix ends.
 fn is_entered<'t>(body: &Token<'t, ExpressionMetadata>, taken: usize) -> bool
     ensures { result ≡ (nat_lt 0 taken || begins_with_tree (opened body.now)) }
 {
     taken > 0 || opened::begins_with_tree(body)
 }
 
-// The sub-glob at the end, where it stands open.
+// Returns the sub-glob in the last token, if the opened list goes on inside it.
 fn into_last_body<'t>(
     mut tokens: Vec<Token<'t, ExpressionMetadata>>,
 ) -> Option<Token<'t, ExpressionMetadata>>
@@ -97,7 +102,7 @@ fn into_last_body<'t>(
     into_body(tokens.pop()?)
 }
 
-// The only branch of an alternation, and the body of exactly one copy.
+// Returns the only branch of an alternation, or the body of a repetition of exactly one copy.
 fn into_body<'t>(token: Token<'t, ExpressionMetadata>) -> Option<Token<'t, ExpressionMetadata>>
     ensures { result ≡ open_body token.entry }
 {

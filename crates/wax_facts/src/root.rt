@@ -1,4 +1,4 @@
-//! Whether the texts that a token means begin with `/`.
+//! Roots: whether all matches begin with `/`.
 ghost use Rattle.std.specs.Prelude.{◌≡◌, ◌++◌, ◌∷◌, List, ℕ, false};
 ghost use Rattle.wax_query.specs.Components.{BeginsWithSlash};
 ghost use Rattle.wax_token.specs.Meaning.{Means};
@@ -24,7 +24,9 @@ fn leaf_root(leaf: &LeafKind<'_>) -> When
     }
 }
 
-/// Whether each text that the token means begins with `/`.
+/// Returns `Always` if every path that the token matches begins with `/`. Only the first tokens are
+/// looked at, and nothing is promised for `Sometimes` and `Never`: `**` has `Never`, and matches
+/// `/a`.
 pub fn has_root<'t, A>(token: &Token<'t, A>) -> When
     ensures value { result ≡ root token.now }
     ensures always { result ≡ Always → (s : List ℕ) → Means token.now false false s → BeginsWithSlash s }

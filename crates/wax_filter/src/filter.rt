@@ -1,4 +1,4 @@
-//! Filters: what is kept, what is left out, and what of a walk is cancelled.
+//! Filters: what is kept, what is excluded, and what of a walk is cancelled.
 
 mod cancel;
 mod hierarchy;

@@ -1,4 +1,4 @@
-//! Iterators that part their items into those that are kept and those that are left out.
+//! Iterators that separate the items that are kept from those that are excluded.
 #![tactic(auto)]
 
 pub mod filter;

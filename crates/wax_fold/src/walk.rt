@@ -1,4 +1,4 @@
-//! Folds of token trees, and walks through them.
+//! Folds of token trees, and walks through their tokens.
 
 mod branch;
 mod entry;

@@ -1,4 +1,4 @@
-//! Entries that a glob means.
+//! Entries that a glob matches.
 
 ghost use Rattle.std.specs.Prelude.{◌≡◌, chars};
 ghost use Rattle.wax_glob_walk.specs.Matches.{tree_entry, match_of};
@@ -8,7 +8,7 @@ use wax_candidate::{CandidatePath, MatchedText};
 use wax_directory::directory::FileType;
 use wax_walk::{Entry, TreeEntry};
 
-/// An entry that a glob means, with what it captured of the entry's candidate.
+/// An entry that a glob matches, with what the match captured of the entry's candidate.
 #[derive(Drop)]
 pub struct GlobEntry {
     pub(crate) entry: TreeEntry,
@@ -16,7 +16,6 @@ pub struct GlobEntry {
 }
 
 impl GlobEntry {
-    /// An entry with what was captured of its candidate.
     pub(crate) fn new(entry: TreeEntry, matched: MatchedText<'static>) -> Self
         ensures entry { tree_entry result ≡ entry }
         ensures matched { match_of result ≡ matched.entry }
@@ -24,14 +23,15 @@ impl GlobEntry {
         GlobEntry { entry, matched }
     }
 
-    /// What was captured of the candidate.
+    /// Returns the captures of the entry's candidate.
     pub fn matched(&self) -> &MatchedText<'static>
         ensures { result.now ≡ match_of self.now }
     {
         &self.matched
     }
 
-    /// The candidate: the names that lead from the start of the walk to the entry, joined by `/`.
+    /// Returns the candidate: the names that lead from the start of the walk to the entry, with `/`
+    /// between.
     pub fn to_candidate_path(&self) -> CandidatePath<'_>
         ensures { result ≡ chars (⟦<GlobEntry as Entry>⟧.facts self.now).candidate }
     {

@@ -7,15 +7,15 @@ use std::alloc::Global;
 use wax_query::diagnostics::NoMemory;
 use wax_walk::{Entry, EntryResidue, Rule};
 
-/// Leaves out what any of these rules leaves out: with all that lies below it where one says so, else
-/// alone.
+/// A rule that excludes what at least one of several rules excludes: an entry with everything below
+/// it if one of them does so, and otherwise the entry by itself.
 #[derive(Drop)]
 pub struct FilterAny<R> {
     rules: Vec<R>,
 }
 
 impl<R: Rule> FilterAny<R> {
-    /// These rules as one.
+    /// Combines rules into one. Their order doesn't matter.
     pub fn new(rules: Vec<R>) -> Self
         ensures { ⟦<FilterAny<R> as Rule>⟧.rule result ≡ any_mark (map R.rule rules.items) }
     {

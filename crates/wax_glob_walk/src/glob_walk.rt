@@ -24,7 +24,7 @@ use wax_query::diagnostics::NoMemory;
 use wax_tree::WalkTree;
 use wax_walk::{Entry, FileIterator, TreeEntry, WalkError};
 
-/// What a glob's walk and each filter over it give.
+/// The items of a glob's walk and of the filters of it.
 pub struct GlobFeed;
 
 impl Feed for GlobFeed {
@@ -49,7 +49,7 @@ impl Isomeric for GlobFeed {
     }
 }
 
-// What is captured of an entry's candidate, or None where that isn't meant.
+// Matches an entry's candidate, and copies the match, which would borrow from the entry.
 fn captured<P: Program>(
     alloc: Global,
     program: &P,
@@ -66,7 +66,8 @@ fn captured<P: Program>(
     }
 }
 
-// What becomes of an entry that wasn't left out before, and whether what lies below it is cancelled.
+// Decides what becomes of an entry that no filter excluded before. The boolean is true if
+// everything below it is to be cancelled.
 fn separated_entry<P, C>(
     alloc: Global,
     program: &P,
@@ -101,7 +102,8 @@ where
     }
 }
 
-// What becomes of an item, and whether what lies below it is cancelled.
+// Decides what becomes of an item. An item that was excluded before isn't matched, but its names
+// are still looked at.
 fn separated<P, C, F>(
     alloc: Global,
     program: &P,
@@ -150,10 +152,10 @@ where
     }
 }
 
-/// A walk of the entries of another that a program means, each with what is captured of its candidate. An
-/// entry one of whose names isn't meant by the leading component at its place is left out with all that lies
-/// below it, which is cancelled; any other that isn't meant is left out alone. Each entry is matched at most
-/// once.
+/// A walk of the entries of another that a program matches, each with its captures. If a name of an
+/// entry isn't matched by the leading component at the same place, the entry is excluded with
+/// everything below it, which is cancelled. Any other entry that doesn't match is excluded by
+/// itself. Each entry is matched at most once.
 #[derive(Drop)]
 pub struct Matching<'g, I, P, C> {
     alloc: Global,
@@ -166,8 +168,8 @@ pub struct Matching<'g, I, P, C> {
 /// The walk of a glob.
 pub type GlobWalk<'g, D, P, C> = Matching<'g, WalkTree<D>, P, C>;
 
-/// The walk of the glob of this program and these leading components, of what a plain walk gives. Of each
-/// entry that is kept it is known that what was captured of it is what the program captures of its candidate.
+/// Builds the walk of a glob from a plain walk, the leading components of the glob and its program.
+/// Each entry that it keeps has the captures of a match of its candidate.
 pub fn walk_of<'g, D, P, C>(
     alloc: Global,
     walk: WalkTree<D>,

@@ -9,17 +9,21 @@ use std::alloc::Global;
 use wax_query::diagnostics::NoMemory;
 use wax_walk::{Entry, TreeEntry};
 
-/// What a leading component means: a set of names.
+/// A leading component: a set of names.
 pub trait NameTest: Drop {
-    /// Whether it means a name, as its characters.
+    /// The set, as a function from the characters of a name to booleans.
     ghost decides: { Self → List ℕ → Bool };
 
-    /// Whether the name is meant. Refused with 10 where memory was.
+    /// Returns whether the name is in the set.
+    ///
+    /// # Errors
+    ///
+    /// Returns `NoMemory` if allocation fails.
     fn is_match(&self, alloc: Global, name: &str) -> Result<bool, NoMemory>
         ensures { IfOk result (λ answer. answer ≡ decides self.now (chars name.now)) };
 }
 
-// The first name of a path, and what comes after it.
+// Splits off the first name of a path, without allocating. Empty names are skipped.
 fn first_name(path: &str) -> Option<(&str, &str)>
     ensures { MatchOption result (names_in_path path.now ≡ [])
         (λ r. names_in_path path.now ≡ r.0.now ∷ names_in_path r.1.now) }
@@ -38,7 +42,8 @@ fn first_name(path: &str) -> Option<(&str, &str)>
     }
 }
 
-// Each name of the path is meant by the component at its place; names past the last component are free.
+// Returns whether each name of the path is matched by the component at the same place. Names after
+// the last component are free.
 fn are_led<C: NameTest>(alloc: Global, leading: &[C], path: &str) -> Result<bool, NoMemory>
     ensures { IfOk result
         (λ led. led ≡ leads C.decides leading.now (map chars (names_in_path path.now))) }
@@ -56,7 +61,7 @@ fn are_led<C: NameTest>(alloc: Global, leading: &[C], path: &str) -> Result<bool
     Ok(true)
 }
 
-// Each name of the entry's candidate is meant by the component at its place.
+// Returns whether the names of an entry's candidate are matched by the leading components.
 pub(crate) fn lead<C: NameTest>(
     alloc: Global,
     leading: &[C],

@@ -1,4 +1,4 @@
-//! Walks of globs: entries that a program means, less those that patterns mean.
+//! Walks of globs: the entries that a program matches, without those that patterns match.
 #![tactic(auto)]
 
 mod entry;

@@ -1,4 +1,4 @@
-//! What is kept of a program between texts.
+//! The cache of a program's states, which outlives a text.
 ghost use Rattle.std.specs.Prelude.{◌≡◌, ◌*◌, ◌/◌, ◌<◌, ◌≤◌, ◌↔◌, [], List, IfOk, IsFalse, IsTrue, OnErr};
 ghost use Rattle.std.specs.Prelude.{Some};
 ghost use Rattle.std.specs.Prelude.{length, slice_get};
@@ -12,36 +12,37 @@ use crate::table::{COLUMNS, DEAD, FIRST, State, Table};
 use std::alloc::{AllocError, Global};
 use wax_program::{Program, Stepper};
 
-/// How many bytes of texts a state has to serve, on average, so that keeping it is worth its making.
+/// How many bytes of texts a state has to serve, on average, to be worth the cost of building it.
 const LEAST_READ: usize = 10;
 
-/// How many bytes a state takes beside its row: those of its cells, and some forty.
+/// The size of a state in bytes, without its row: that of its cells, and about forty more.
 const STATE_BYTES: usize = 552;
 
-/// The states that texts led to so far, and what finds the next ones.
+/// The states that texts led to so far, and a stepper that finds the next ones.
 #[derive(Drop)]
 pub struct Cache {
     alloc: Global,
     stepper: Stepper,
     table: Table,
-    /// The place that texts are begun at.
+    /// The place at which texts begin.
     start: usize,
-    /// Where the cells of the state begin that texts are begun in.
+    /// Where the cells begin of the state in which texts begin, if there is one.
     first: Option<usize>,
-    /// How many states are kept at most.
+    /// The greatest number of states that are kept.
     most: u16,
-    /// How many bytes of texts were read since the states were last forgotten.
+    /// How many bytes of texts were read since all states were last removed.
     read: usize,
-    /// Whether states were forgotten again before they had served enough text.
+    /// True if states were removed before they had served enough text.
     pub gives_up: bool,
 }
 
 impl Cache {
-    /// Makes an empty cache for texts that are begun at the place `start`, which keeps about so many bytes at
-    /// most.
+    /// Creates an empty cache for texts that begin at the place `start`. It keeps at most about
+    /// `most_bytes` bytes.
     ///
     /// # Errors
-    /// `AllocError` if allocation fails.
+    ///
+    /// Returns `AllocError` if allocation fails.
     pub fn new(
         alloc: Global,
         program: &Program,
@@ -66,10 +67,11 @@ impl Cache {
         })
     }
 
-    /// Returns where the cells of the state begin that texts are begun in, for a text of `len` bytes.
+    /// Begins a text of `len` bytes. Returns where the cells of its first state begin.
     ///
     /// # Errors
-    /// `AllocError` if allocation fails.
+    ///
+    /// Returns `AllocError` if allocation fails.
     pub fn begin(&mut self, program: &Program, len: usize) -> Result<usize, AllocError>
         requires { IsCacheOf program.now.0 self.old }
         ensures cache { IsCacheOf program.now.0 self.new }
@@ -87,11 +89,12 @@ impl Cache {
         Ok(at)
     }
 
-    /// Returns where the cells of the state begin that the character leads to, or `None` if no text is
-    /// accepted that goes on by it.
+    /// Follows a character from the state whose cells begin at `at`. Returns where the cells of the
+    /// next state begin, or `None` if no text that goes on with this character is accepted.
     ///
     /// # Errors
-    /// `AllocError` if allocation fails.
+    ///
+    /// Returns `AllocError` if allocation fails.
     #[inline]
     pub fn advance(
         &mut self,
@@ -112,11 +115,12 @@ impl Cache {
         self.fill(program, at, c)
     }
 
-    /// Returns the same for an ASCII character, as its byte. Once its cell is filled, that takes a load and a
-    /// comparison.
+    /// Follows an ASCII character, passed as its byte, as `advance` does. Takes one load and one
+    /// comparison once its cell is filled.
     ///
     /// # Errors
-    /// `AllocError` if allocation fails.
+    ///
+    /// Returns `AllocError` if allocation fails.
     #[inline(always)]
     pub fn advance_ascii(
         &mut self,
@@ -142,8 +146,8 @@ impl Cache {
         self.fill(program, at, char::from(c))
     }
 
-    /// Returns the same by a step of the program, and fills the cell of an ASCII character. If the cache is
-    /// full, it forgets all other states before.
+    /// Follows a character by a step of the program, and fills its cell if it is ASCII. If the
+    /// cache is full, first removes all states but the current one.
     #[inline(never)]
     fn fill(&mut self, program: &Program, at: usize, c: char) -> Result<Option<usize>, AllocError>
         requires cache { IsCacheOf program.now.0 self.old }
@@ -160,7 +164,7 @@ impl Cache {
         self.follow(program, at, c)
     }
 
-    /// Returns the same while there is room for one more state.
+    /// Follows a character by a step of the program, if there is room for one more state.
     fn follow(&mut self, program: &Program, at: usize, c: char) -> Result<Option<usize>, AllocError>
         requires cache { IsCacheOf program.now.0 self.old }
         requires placed { IsStatePlace self.old.table.states.items at }
@@ -180,7 +184,8 @@ impl Cache {
         Ok(Some(next))
     }
 
-    /// Returns where the cells of the state begin whose set the stepper reached, which is added if it is new.
+    /// Finds the state of the set that the stepper reached, and adds it if it is new. Returns where
+    /// its cells begin.
     fn intern(&mut self, program: &Program) -> Result<usize, AllocError>
         requires cache { IsCacheOf program.now.0 self.old }
         requires few { length self.old.table.states.items < 65535 }
@@ -202,7 +207,7 @@ impl Cache {
         Ok(number * COLUMNS)
     }
 
-    /// Adds a state and returns its number. If that fails, every state is forgotten.
+    /// Adds a state and returns its number. If that fails, removes all states.
     fn keep(&mut self, state: State) -> Result<usize, AllocError>
         requires few { length self.old.table.states.items < 65535 }
         requires room { length self.old.table.cells.items ≡ 128 * length self.old.table.states.items }
@@ -218,7 +223,7 @@ impl Cache {
         }
     }
 
-    /// Forgets all states but the one whose cells begin at `at`, which is the first one then.
+    /// Removes all states but the one whose cells begin at `at`, which then is the first one.
     fn restart(&mut self, at: usize) -> Result<(), AllocError>
         requires { at / 128 < length self.old.table.states.items }
         ensures ok { (s : State) → slice_get self.old.table.states.items (at / 128) ≡ Some s
@@ -235,7 +240,7 @@ impl Cache {
         Ok(())
     }
 
-    /// Forgets every state.
+    /// Removes all states.
     fn clear(&mut self)
         ensures { IsCleared self.old self.new }
     {
@@ -243,7 +248,7 @@ impl Cache {
         self.first = None;
     }
 
-    /// Returns whether no more states are to be kept.
+    /// Returns whether the greatest number of states is reached.
     #[inline]
     fn is_full(&self) -> bool
         ensures { IsFalse result → length self.now.table.states.items < 65535 }
@@ -262,7 +267,8 @@ impl Cache {
     }
 }
 
-/// Returns how many states of a program of `size` instructions fit so many bytes, from 16 to 4,096.
+/// Returns how many states of a program of `size` instructions fit in `bytes`, but at least 16 and
+/// at most 4,096.
 fn most_states(size: usize, bytes: usize) -> u16 {
     let row = (size / 64 + 1) * 8;
     let fitting = bytes / (STATE_BYTES + row);

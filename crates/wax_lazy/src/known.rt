@@ -1,4 +1,4 @@
-//! What is known of a program between texts.
+//! Deciding many texts by one program.
 ghost use Rattle.std.specs.Prelude.{◌≡◌, ◌≤◌, ◌↔◌, IfOk, IsFalse, IsTrue, chars, length};
 ghost use Rattle.wax_lazy.specs.inner.Cached.{IsKeptFor, IsKnownOf};
 ghost use Rattle.wax_program.specs.Last.{ReadsLast};
@@ -10,23 +10,23 @@ use std::alloc::{AllocError, Global};
 use wax_program::{Meter, Program, last_name, reads_last, run_known};
 use wax_query::diagnostics::NoMemory;
 
-/// How many instructions a program has at least, so that keeping what it reaches is faster than running it.
+/// The least number of instructions of a program for which a cache is faster than running it.
 const LEAST_SIZE: usize = 64;
 
-/// Holds what was found out of a program, and what earlier texts led to.
+/// What is known of a program, and the states that earlier texts led to.
 #[derive(Drop)]
 pub struct Known {
-    /// Whether only the last component of a text matters.
+    /// True if the program depends only on the last component of a text.
     reads_last: bool,
-    /// How many bytes the cache may take.
+    /// How many bytes the cache may keep, about.
     most_bytes: usize,
-    /// What texts led to, if the program is large enough.
+    /// The states that texts led to, if the program is large enough.
     cache: Option<Cache>,
 }
 
 impl Known {
-    /// Returns what is known of a program before the first text, with room for about so many bytes at most.
-    /// It allocates nothing.
+    /// Creates what is known of a program before the first text. The cache will keep at most about
+    /// `most_bytes` bytes. Doesn't allocate.
     pub fn new(program: &Program, most_bytes: usize) -> Known
         ensures { IsKnownOf program.now.0 result }
     {
@@ -37,10 +37,11 @@ impl Known {
         }
     }
 
-    /// Makes the cache, unless there is one or the program is too small.
+    /// Creates the cache, unless there is one or the program is too small.
     ///
     /// # Errors
-    /// `AllocError` if allocation fails.
+    ///
+    /// Returns `AllocError` if allocation fails.
     pub fn prepare(&mut self, alloc: Global, program: &Program) -> Result<(), AllocError>
         requires { IsKnownOf program.now.0 self.old }
         ensures { IsKnownOf program.now.0 self.new }
@@ -55,7 +56,8 @@ impl Known {
     /// Returns whether the program accepts the text.
     ///
     /// # Errors
-    /// `NoMemory` if allocation fails. What is known holds then too.
+    ///
+    /// Returns `NoMemory` if allocation fails. Further texts can be decided even then.
     pub fn is_match(
         &mut self,
         alloc: Global,
@@ -73,7 +75,7 @@ impl Known {
         }
     }
 
-    /// Returns whether states were forgotten again before they had served enough text.
+    /// Returns whether states were removed before they had served enough text.
     pub fn gives_up(&self) -> bool {
         match &self.cache {
             Some(cache) => cache.gives_up,
@@ -82,7 +84,7 @@ impl Known {
     }
 }
 
-/// Returns whether it is known that only the last component of a text matters to the program.
+/// Returns whether the program is known to depend only on the last component of a text.
 fn reads_only_name(program: &Program) -> bool
     ensures last { IsTrue result → ReadsLast program.now.0 }
     ensures long { IsTrue result → 2 ≤ length program.now.0 }
@@ -90,7 +92,7 @@ fn reads_only_name(program: &Program) -> bool
     reads_last(program) && program.size() >= 2
 }
 
-/// Makes a cache for texts of which the last component alone is read, or all.
+/// Creates a cache for last components, which begin at the place 2, or for whole texts.
 fn empty_cache(
     alloc: Global,
     program: &Program,
@@ -107,7 +109,7 @@ fn empty_cache(
     Cache::new(alloc, program, 0, most_bytes)
 }
 
-/// Decides a text by the cache, while its states serve enough text.
+/// Decides a text by the cache, or by the program itself once the cache gave up.
 fn decide(
     alloc: Global,
     program: &Program,
@@ -129,7 +131,6 @@ fn decide(
     Ok(walk(program, cache, text)?)
 }
 
-/// Decides a text by the program itself.
 fn decide_once(
     alloc: Global,
     program: &Program,

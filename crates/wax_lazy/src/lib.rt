@@ -1,5 +1,5 @@
-//! A program that is run over many texts: the sets of places that it reaches are kept, with where each
-//! character leads from them.
+//! Matching many texts against one program: the sets of places that it reaches are kept as states,
+//! with the next state for each ASCII character.
 #![tactic(auto)]
 
 mod cache;

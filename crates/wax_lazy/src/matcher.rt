@@ -1,4 +1,4 @@
-//! Programs that are asked for many texts.
+//! Matchers of many texts.
 ghost use Rattle.std.specs.Prelude.{◌≡◌, ◌↔◌, IfOk, IsTrue, chars};
 ghost use Rattle.wax_program.specs.Machine.{Accepts};
 
@@ -8,10 +8,11 @@ use std::marker::Model;
 use wax_program::Program;
 use wax_query::diagnostics::NoMemory;
 
-/// How many bytes states and their cells may take.
+/// How many bytes states and their cells may take, about.
 const MOST_BYTES: usize = 2_097_152;
 
-/// Decides texts by a program, and keeps for later texts which sets of places earlier ones led to.
+/// A borrowed program for matching many texts. It keeps the states that earlier texts led to, so
+/// that later texts take less time. Contracts see the instructions.
 pub struct Matcher<'p> {
     alloc: Global,
     program: &'p Program,
@@ -45,21 +46,23 @@ impl<'p> Model for Matcher<'p> {
 }
 
 impl<'p> Matcher<'p> {
-    /// Makes a matcher that has seen no text, and keeps about 2 MiB at most.
+    /// Creates a matcher that has seen no text. It keeps at most about 2 MiB.
     ///
     /// # Errors
-    /// `NoMemory` if allocation fails.
+    ///
+    /// Returns `NoMemory` if allocation fails.
     pub fn new(alloc: Global, program: &'p Program) -> Result<Matcher<'p>, NoMemory>
         ensures { IfOk result (λ m. m ≡ program.now.0) }
     {
         Matcher::with_most(alloc, program, MOST_BYTES)
     }
 
-    /// Makes a matcher that has seen no text, and keeps about so many bytes at most, though never less than
-    /// 16 states need.
+    /// Creates a matcher that has seen no text. It keeps at most about `most_bytes` bytes, but at
+    /// least what 16 states need.
     ///
     /// # Errors
-    /// `NoMemory` if allocation fails.
+    ///
+    /// Returns `NoMemory` if allocation fails.
     pub fn with_most(
         alloc: Global,
         program: &'p Program,
@@ -76,11 +79,13 @@ impl<'p> Matcher<'p> {
         })
     }
 
-    /// Returns whether the program accepts the text. Once the states are known that the text leads to, that
-    /// takes a load and a comparison for each ASCII character, and one round of the program for any other.
+    /// Returns whether the program accepts the text. If the text leads only to states that are
+    /// known, this takes one load and one comparison for each ASCII character, and a round of the
+    /// program for any other.
     ///
     /// # Errors
-    /// `NoMemory` if allocation fails. The matcher is good for further texts then.
+    ///
+    /// Returns `NoMemory` if allocation fails. The matcher can be used for further texts even then.
     pub fn is_match(&mut self, text: &str) -> Result<bool, NoMemory>
         ensures decides { IfOk result (λ b. IsTrue b ↔ Accepts self.old 0 (chars text.now)) }
         ensures same { self.new ≡ self.old }
@@ -89,7 +94,7 @@ impl<'p> Matcher<'p> {
     }
 }
 
-/// Decides texts by a program of its own, as a [`Matcher`] does.
+/// An owned program for matching many texts, as a [`Matcher`] does. Contracts see the instructions.
 pub struct OwnedMatcher {
     alloc: Global,
     program: Program,
@@ -123,8 +128,8 @@ impl Model for OwnedMatcher {
 }
 
 impl OwnedMatcher {
-    /// Makes a matcher that has seen no text, and keeps about so many bytes at most, though never less than
-    /// 16 states need. Before the first text it allocates nothing.
+    /// Creates a matcher that has seen no text. It keeps at most about `most_bytes` bytes, but at
+    /// least what 16 states need. Doesn't allocate before the first text.
     pub fn new(alloc: Global, program: Program, most_bytes: usize) -> OwnedMatcher
         ensures { result ≡ program.0 }
     {
@@ -143,10 +148,11 @@ impl OwnedMatcher {
         &self.program
     }
 
-    /// Returns whether the program accepts the text, in the time that [`Matcher::is_match`] takes.
+    /// Returns whether the program accepts the text. Takes the time of [`Matcher::is_match`].
     ///
     /// # Errors
-    /// `NoMemory` if allocation fails. The matcher is good for further texts then.
+    ///
+    /// Returns `NoMemory` if allocation fails. The matcher can be used for further texts even then.
     pub fn is_match(&mut self, text: &str) -> Result<bool, NoMemory>
         ensures decides { IfOk result (λ b. IsTrue b ↔ Accepts self.old 0 (chars text.now)) }
         ensures same { self.new ≡ self.old }
@@ -154,8 +160,8 @@ impl OwnedMatcher {
         self.known.is_match(self.alloc, &self.program, text)
     }
 
-    /// Returns whether it runs its program for each text from now on, because what it kept of earlier texts
-    /// served too little.
+    /// Returns whether the matcher runs its program for each text from now on, since the states
+    /// that it kept served too little text.
     pub fn has_given_up(&self) -> bool {
         self.known.gives_up()
     }

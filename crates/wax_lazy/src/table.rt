@@ -1,4 +1,4 @@
-//! The states that were reached, and where each ASCII character leads from them.
+//! The table of states, with the next state for each ASCII character.
 ghost use Rattle.std.specs.Prelude.{◌≡◌, ◌+◌, ◌*◌, ◌/◌, ◌<◌, ◌≤◌, ◌++◌, ◌∷◌, [], IfOk, IfSome, IsTrue, Some};
 ghost use Rattle.std.specs.Prelude.{length, replicate, slice_get, slice_set};
 ghost use Rattle.wax_lazy.specs.declared.table.State.{State};
@@ -7,46 +7,48 @@ ghost use Rattle.wax_program.specs.Bits.{bits_of};
 
 use std::alloc::{AllocError, Global};
 
-/// How many cells a state has: one for each ASCII character.
+/// The number of cells of a state: one for each ASCII character.
 pub const COLUMNS: usize = 128;
 
 /// A cell that is still empty.
 pub const UNKNOWN: u32 = 0;
 
-/// The cell of a character after which no text is accepted. Each greater cell is [`FIRST`] more than the
-/// place where the next state's cells begin.
+/// The cell of a character after which no text is accepted. Each greater cell is the place at which
+/// the cells of the next state begin, plus [`FIRST`].
 pub const DEAD: u32 = 1;
 
 /// The cell of a character that leads to the first state.
 pub const FIRST: u32 = 2;
 
-/// How many slots there are to find states by their rows.
+/// The number of slots of the hash table that finds states by their rows.
 const SLOTS: usize = 8_192;
 
-/// A set of places that was reached, as a row of words.
+/// A state: a set of places that was reached.
 #[derive(Drop)]
 pub struct State {
-    /// The places, 64 a word.
+    /// The places, 64 in each word.
     pub row: Vec<u64>,
-    /// Whether the set accepts the empty text.
+    /// True if a text that ends here is accepted.
     pub accepts: bool,
 }
 
-/// States by their numbers, with their cells.
+/// All states by their numbers, with their cells.
 #[derive(Drop)]
 pub struct Table {
     pub states: Vec<State>,
     /// The cells of each state, one state after another.
     pub cells: Vec<u32>,
-    /// One more than the number of a state, at the hash of its row or soon after; 0 where there is none.
+    /// A hash table: the number of a state plus 1, at the hash of its row or soon after it. Empty
+    /// slots are 0.
     slots: Vec<u16>,
 }
 
 impl Table {
-    /// Makes a table without states, which holds 16 KiB for finding them.
+    /// Creates a table without states. Allocates 16 KiB for finding them.
     ///
     /// # Errors
-    /// `AllocError` if allocation fails.
+    ///
+    /// Returns `AllocError` if allocation fails.
     pub fn new(alloc: Global) -> Result<Table, AllocError>
         ensures states { IfOk result (λ t. t.states.items ≡ []) }
         ensures cells { IfOk result (λ t. t.cells.items ≡ []) }
@@ -68,7 +70,7 @@ impl Table {
         &self.states[at / COLUMNS].row
     }
 
-    /// Returns whether the state whose cells begin at `at` accepts the empty text.
+    /// Returns whether a text that ends in the state whose cells begin at `at` is accepted.
     #[inline]
     pub fn accepts(&self, at: usize) -> bool
         requires { at / 128 < length self.now.states.items }
@@ -78,7 +80,8 @@ impl Table {
         self.states[at / COLUMNS].accepts
     }
 
-    /// Finds the number of a state by its row.
+    /// Finds the number of a state by its row. May return `None` for a state that the hash table
+    /// had no room for.
     pub fn find(&self, row: &[u64]) -> Option<usize>
         ensures { IfSome result (λ t. (t < 65535) × (t < length self.now.states.items)
             × (set_at self.now.states.items t ≡ bits_of row.now)) }
@@ -97,7 +100,7 @@ impl Table {
         None
     }
 
-    /// Returns whether there is a state with this number, and the row is its row.
+    /// Returns whether there is a state with this number and this row.
     fn is_row(&self, number: usize, row: &[u64]) -> bool
         ensures { IsTrue result → (number < length self.now.states.items)
             × (set_at self.now.states.items number ≡ bits_of row.now) }
@@ -111,7 +114,8 @@ impl Table {
     /// Adds a state with empty cells, and returns its number.
     ///
     /// # Errors
-    /// `AllocError` if allocation fails. The table has to be cleared then.
+    ///
+    /// Returns `AllocError` if allocation fails. The table then has to be cleared.
     pub fn push(&mut self, state: State) -> Result<usize, AllocError>
         requires few { length self.old.states.items < 65535 }
         requires room { length self.old.cells.items ≡ 128 * length self.old.states.items }
@@ -126,7 +130,8 @@ impl Table {
         Ok(number)
     }
 
-    /// Fills the cell of an ASCII character, of the state whose cells begin at `at`.
+    /// Fills the cell of an ASCII character in the state whose cells begin at `at`. Does nothing
+    /// for any other character.
     #[inline]
     pub fn write(&mut self, at: usize, c: char, cell: u32)
         requires { c < 128 → at + c < length self.old.cells.items }
@@ -139,7 +144,7 @@ impl Table {
         }
     }
 
-    /// Removes a state from its place and returns it. The table has to be cleared then.
+    /// Removes a state and returns it. The table then has to be cleared.
     pub fn take(&mut self, at: usize) -> State
         requires { at / 128 < length self.old.states.items }
         ensures { slice_get self.old.states.items (at / 128) ≡ Some result }
@@ -147,7 +152,7 @@ impl Table {
         self.states.swap_remove(at / COLUMNS)
     }
 
-    /// Forgets every state.
+    /// Removes all states.
     pub fn clear(&mut self)
         ensures states { self.new.states.items ≡ [] }
         ensures cells { self.new.cells.items ≡ [] }
@@ -158,7 +163,7 @@ impl Table {
     }
 }
 
-/// Returns the slot that is looked at after so many others, or 0 where there are no slots.
+/// Returns the slot that is looked at after `probe` others, or 0 if there are no slots.
 fn slot_at(slots: &[u16], hash: usize, probe: usize) -> u16 {
     match slots.get(hash.wrapping_add(probe) % SLOTS) {
         Some(slot) => *slot,
@@ -166,8 +171,8 @@ fn slot_at(slots: &[u16], hash: usize, probe: usize) -> u16 {
     }
 }
 
-/// Writes the slot at the first empty place from the hash on. If no place is empty, nothing is written, and
-/// the state isn't found again.
+/// Writes a slot at the first empty place from the hash on. If no place is empty, writes nothing,
+/// and the state isn't found again.
 fn enter(slots: &mut [u16], hash: usize, slot: u16) {
     for probe in 0..SLOTS {
         let at = hash.wrapping_add(probe) % SLOTS;
@@ -178,7 +183,7 @@ fn enter(slots: &mut [u16], hash: usize, slot: u16) {
     }
 }
 
-/// Returns a number that rows which differ seldom share.
+/// Returns a hash of the row.
 fn hash_of(row: &[u64]) -> usize {
     let mut hash = 0u64;
     for word in row {

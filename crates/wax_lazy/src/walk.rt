@@ -1,4 +1,4 @@
-//! How a text is followed from state to state.
+//! Following a text from state to state.
 ghost use Rattle.std.specs.Prelude.{◌≡◌, ◌↔◌, IfOk, IsTrue, chars};
 ghost use Rattle.std.specs.Str.{IsAscii};
 ghost use Rattle.wax_lazy.specs.inner.Cached.{IsCacheOf};
@@ -8,10 +8,11 @@ use crate::cache::Cache;
 use std::alloc::AllocError;
 use wax_program::Program;
 
-/// Returns whether the program accepts the text from the place on at which the cache begins texts.
+/// Returns whether the program, begun at the cache's place, accepts the text.
 ///
 /// # Errors
-/// `AllocError` if allocation fails.
+///
+/// Returns `AllocError` if allocation fails.
 pub fn walk(program: &Program, cache: &mut Cache, text: &str) -> Result<bool, AllocError>
     requires { IsCacheOf program.now.0 cache.old }
     ensures cache { IsCacheOf program.now.0 cache.new }
@@ -25,7 +26,7 @@ pub fn walk(program: &Program, cache: &mut Cache, text: &str) -> Result<bool, Al
     walk_chars(program, cache, text)
 }
 
-/// Returns the same for the bytes of a text whose characters are all ASCII.
+/// Decides a text of only ASCII characters, by its bytes.
 fn walk_ascii(program: &Program, cache: &mut Cache, text: &[u8]) -> Result<bool, AllocError>
     requires cache { IsCacheOf program.now.0 cache.old }
     requires ascii { IsAscii text.now }
@@ -43,7 +44,7 @@ fn walk_ascii(program: &Program, cache: &mut Cache, text: &[u8]) -> Result<bool,
     Ok(cache.accepts(at))
 }
 
-/// Returns the same for any text.
+/// Decides any text, character by character.
 fn walk_chars(program: &Program, cache: &mut Cache, text: &str) -> Result<bool, AllocError>
     requires { IsCacheOf program.now.0 cache.old }
     ensures cache { IsCacheOf program.now.0 cache.new }

@@ -1,25 +1,26 @@
-//! What a token takes by one of its ways.
+//! Forms: sets of texts that a token can take.
 
 use wax_program::Program;
 use wax_program::instruction::Test;
 
-/// The pieces that a token takes by one of its ways. What is written most often needs no program.
+/// A set of texts that a token can take. The sets that globs have most often need no program.
 #[derive(Drop)]
 pub enum Form {
     /// One character that passes the test.
     One(Test),
-    /// These characters, or with the flag characters with these foldings.
+    /// Exactly these characters; if the flag is set, any characters with these simple case
+    /// foldings.
     Text(Vec<char>, bool),
-    /// Any number of characters other than `/`.
+    /// Zero or more characters other than `/`.
     Name,
-    /// Nothing, or `/`.
+    /// The empty text, or `/`.
     SlashOrNothing,
-    /// What a tree wildcard means.
+    /// What a `**` matches, by what is written before and after it.
     Tree {
         before: bool,
         after: bool,
         has_root: bool,
     },
-    /// What the program accepts.
+    /// The texts that a program accepts.
     Coded(Program),
 }

@@ -1,4 +1,4 @@
-//! The lengths of the parts that a form takes from a place on.
+//! The lengths of the parts of a text that a form takes from a place on.
 ghost use Rattle.std.specs.Prelude.{◌≡◌, ◌⊎◌, ◌||◌, ◌+◌, ◌*◌, ◌<◌, ◌≤◌, ◌↔◌, ◌∷◌, [], ℕ, IfOk, IsTrue};
 ghost use Rattle.std.specs.Prelude.{length, take, drop};
 ghost use Rattle.wax_program.specs.Machine.{Accepts, PassesTest};
@@ -15,7 +15,7 @@ use std::alloc::{AllocError, Global};
 use wax_program::Program;
 use wax_program::instruction::{Test, folds_to};
 
-/// Of one character that passes the test.
+/// Returns the lengths for one character that passes the test.
 fn of_one(test: &Test, text: &[char], at: usize, visits: &mut Visits) -> Span
     requires { at ≤ length text.now }
     ensures lengths { AreLengths (λ x. (c : ℕ) × (x ≡ c ∷ []) × PassesTest test.now c)
@@ -35,7 +35,8 @@ fn of_one(test: &Test, text: &[char], at: usize, visits: &mut Visits) -> Span
     }
 }
 
-/// Whether the character is the letter, or with the flag has it as its folding.
+/// Returns whether the character is the letter; if the flag is set, whether the letter is its
+/// folding.
 fn is_letter(is_folded: bool, letter: char, c: char) -> bool
     ensures { IsTrue result ↔ IsLetter is_folded letter c }
 {
@@ -46,7 +47,7 @@ fn is_letter(is_folded: bool, letter: char, c: char) -> bool
     }
 }
 
-/// Whether the letters stand at the place.
+/// Returns whether the text has the letters at the place.
 fn is_spelled(
     letters: &[char],
     is_folded: bool,
@@ -70,7 +71,7 @@ fn is_spelled(
     true
 }
 
-/// Of the letters.
+/// Returns the lengths for the letters: only theirs, if the text has them at the place.
 fn of_text(letters: &[char], is_folded: bool, text: &[char], at: usize, visits: &mut Visits) -> Span
     requires { at ≤ length text.now }
     ensures lengths { AreLengths (SpelledBy is_folded letters.now) (drop at text.now) result }
@@ -88,7 +89,7 @@ fn of_text(letters: &[char], is_folded: bool, text: &[char], at: usize, visits: 
     Span::new(0, 0)
 }
 
-/// How many characters stand from the place on before the next `/` or the text's end.
+/// Returns the number of characters from the place to the next `/`, or to the text's end.
 fn name_len(text: &[char], at: usize) -> usize
     requires { at ≤ length text.now }
     ensures is { result ≡ name_len (drop at text.now) }
@@ -101,7 +102,7 @@ fn name_len(text: &[char], at: usize) -> usize
     end - at
 }
 
-/// Of any number of characters other than `/`.
+/// Returns the lengths for zero or more characters other than `/`.
 fn of_name(text: &[char], at: usize, visits: &mut Visits) -> Span
     requires { at ≤ length text.now }
     ensures lengths { AreLengths HasNoSlash (drop at text.now) result }
@@ -121,7 +122,7 @@ fn begins_with_slash(text: &[char], at: usize) -> bool
     at < text.len() && text[at] == '/'
 }
 
-/// Of nothing, or `/`.
+/// Returns the lengths for the empty text or `/`.
 fn of_slash_or_nothing(text: &[char], at: usize, visits: &mut Visits) -> Span
     requires { at ≤ length text.now }
     ensures lengths { AreLengths (λ x. (x ≡ []) ⊎ (x ≡ 47 ∷ [])) (drop at text.now) result }
@@ -137,7 +138,7 @@ fn of_slash_or_nothing(text: &[char], at: usize, visits: &mut Visits) -> Span
     }
 }
 
-/// The least length of what a tree wildcard means.
+/// Returns the least length of what a `**` matches.
 fn least(before: bool, after: bool, has_root: bool) -> usize
     ensures { result ≡ least_of before after has_root }
 {
@@ -148,8 +149,8 @@ fn least(before: bool, after: bool, has_root: bool) -> usize
     }
 }
 
-/// The number above the lengths, of which `rest` is the greatest. Where a `/` has to come first and doesn't,
-/// only 0 is left.
+/// Returns the end of the span, one more than its greatest length `rest`. If a `/` has to come
+/// first and doesn't, only the length 0 is left.
 fn end(is_bound: bool, begins: bool, rest: usize) -> usize
     requires { rest + 1 < 18446744073709551616 }
     ensures { result ≡ name_end is_bound begins rest }
@@ -157,21 +158,22 @@ fn end(is_bound: bool, begins: bool, rest: usize) -> usize
     if is_bound && !begins { 1 } else { rest + 1 }
 }
 
-/// Which lengths are meant.
+/// Returns which lengths count: if something is after the `**`, only 0 and those that end with a
+/// `/`.
 fn marks(after: bool) -> Marks
     ensures { result ≡ marks_of after }
 {
     if after { Marks::AfterSlash } else { Marks::All }
 }
 
-/// Whether a `/` has to come first.
+/// Returns whether what a `**` matches has to begin with a `/`.
 fn is_bound(before: bool, has_root: bool) -> bool
     ensures { result ≡ (before || has_root) }
 {
     before || has_root
 }
 
-/// Of what a tree wildcard means.
+/// Returns the lengths for a `**`.
 fn of_tree(
     before: bool,
     after: bool,
@@ -195,7 +197,7 @@ fn of_tree(
     }
 }
 
-/// Of what the program accepts.
+/// Returns the lengths for a program, by one pass over the rest of the text.
 fn of_program(
     alloc: Global,
     program: &Program,
@@ -219,7 +221,12 @@ fn of_program(
     })
 }
 
-/// The lengths of the parts from the place on that the form takes.
+/// Returns the lengths, in characters, of the parts from `at` on that the form takes. Only a
+/// program allocates.
+///
+/// # Errors
+///
+/// Returns `AllocError` if allocation fails.
 pub fn lengths_of(
     alloc: Global,
     form: &Form,

@@ -1,4 +1,4 @@
-//! The lengths of the parts of a text that a form takes.
+//! The lengths of the parts of a text that a form takes, where a form is a set of texts.
 #![tactic(auto)]
 
 mod form;

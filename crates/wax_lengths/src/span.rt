@@ -1,4 +1,4 @@
-//! Lengths of the parts of a text that a form takes from a place on, from which the best are picked.
+//! Spans: sets of lengths, from which the best is picked, one after another.
 ghost use Rattle.std.specs.Prelude.{◌≡◌, ◌+◌, ◌-◌, ◌<◌, ◌≤◌, ◌↔◌, ℕ, IsTrue, IfSome, MatchOption, length};
 ghost use Rattle.std.specs.Prelude.{drop};
 ghost use Rattle.std.specs.Prelude.{true, false};
@@ -7,17 +7,17 @@ ghost use Rattle.wax_lengths.specs.Spans.{InSpan, IsMarked, IsNarrowed, IsPicked
 
 use crate::visits::Visits;
 
-/// Which lengths of a span are meant.
+/// Which lengths of a span count.
 #[derive(Drop)]
 pub enum Marks {
     All,
-    /// 0, and those at whose end a `/` was taken.
+    /// 0, and the lengths of parts that end with a `/`.
     AfterSlash,
-    /// Those that are flagged.
+    /// The lengths whose flag is set.
     Flags(Vec<bool>),
 }
 
-/// Lengths from `low` on and below `end`.
+/// A set of lengths from `low` on and below `end`, in characters.
 #[derive(Drop)]
 pub struct Span {
     pub low: usize,
@@ -26,7 +26,7 @@ pub struct Span {
 }
 
 impl Span {
-    /// The lengths from `low` on and below `end`, all of them.
+    /// Creates the span of all lengths from `low` on and below `end`.
     pub fn new(low: usize, end: usize) -> Span
         ensures { result ≡ record { low = low; end = end; marks = Marks.All } }
     {
@@ -38,7 +38,7 @@ impl Span {
     }
 }
 
-/// Whether a `/` stands before the end of the part of `n` characters from `at` on, if it has any.
+/// Returns whether the part of `n` characters from `at` on ends with a `/` or is empty.
 fn is_after_slash(text: &[char], at: usize, n: usize) -> bool
     requires { at + n ≤ length text.now }
     ensures { IsTrue result ↔ IsMarked Marks.AfterSlash (drop at text.now) n }
@@ -49,7 +49,7 @@ fn is_after_slash(text: &[char], at: usize, n: usize) -> bool
     text[at + n - 1] == '/'
 }
 
-/// Whether the length is flagged.
+/// Returns whether the flag of the length is set.
 fn is_flagged(flags: &[bool], n: usize) -> bool
     ensures { IsTrue result ↔ HoldsPlace flags.now n }
 {
@@ -59,7 +59,7 @@ fn is_flagged(flags: &[bool], n: usize) -> bool
     flags[n]
 }
 
-/// Whether the part of `n` characters from `at` on has one of the lengths that are meant.
+/// Returns whether the length `n` counts for the part from `at` on.
 fn is_marked(text: &[char], at: usize, n: usize, marks: &Marks, visits: &mut Visits) -> bool
     requires { at + n ≤ length text.now }
     ensures marked { IsTrue result ↔ IsMarked marks.now (drop at text.now) n }
@@ -76,7 +76,7 @@ fn is_marked(text: &[char], at: usize, n: usize, marks: &Marks, visits: &mut Vis
     }
 }
 
-/// The greatest length of the span. The less ones are left in it.
+/// Takes the greatest length out of the span. Smaller ones stay in it.
 fn pick_longest(text: &[char], at: usize, span: &mut Span, visits: &mut Visits) -> Option<usize>
     requires { at + span.old.end ≤ length text.now + 1 }
     ensures picked { MatchOption result ((m : ℕ) → InSpan span.old (drop at text.now) m → ⊥)
@@ -96,7 +96,7 @@ fn pick_longest(text: &[char], at: usize, span: &mut Span, visits: &mut Visits) 
     None
 }
 
-/// The least length of the span. The greater ones are left in it.
+/// Takes the least length out of the span. Greater ones stay in it.
 fn pick_shortest(text: &[char], at: usize, span: &mut Span, visits: &mut Visits) -> Option<usize>
     requires { at + span.old.end ≤ length text.now + 1 }
     ensures picked { MatchOption result ((m : ℕ) → InSpan span.old (drop at text.now) m → ⊥)
@@ -117,7 +117,8 @@ fn pick_shortest(text: &[char], at: usize, span: &mut Span, visits: &mut Visits)
     None
 }
 
-/// The best length of the span. The others are left in it.
+/// Takes the best length out of the span: the least one if `is_lazy`, and otherwise the greatest.
+/// Returns `None` if no length is left.
 pub fn pick(
     text: &[char],
     at: usize,

@@ -1,4 +1,4 @@
-//! How often instructions of programs and characters of texts are looked at.
+//! Counting how often instructions of programs and characters of texts are looked at.
 ghost use Rattle.std.specs.Prelude.{◌≡◌, ◌+◌, ◌*◌, ◌^◌, ◌<◌, ◌≤◌, OnOk, length};
 ghost use Rattle.wax_program.specs.Ends.{MarksBeginnings};
 
@@ -6,7 +6,8 @@ use std::alloc::{AllocError, Global};
 use std::marker::Model;
 use wax_program::{Meter, Program, run_ends};
 
-/// How often instructions were read, and characters without one. It stays at its greatest number.
+/// The number of instructions that were read, and of characters that were looked at without one. It
+/// stays at its greatest number once it reaches it.
 #[derive(Drop)]
 pub struct Visits {
     meter: Meter,
@@ -22,7 +23,7 @@ impl Model for Visits {
 }
 
 impl Visits {
-    /// None yet.
+    /// Creates a count of 0.
     pub fn new() -> Visits
         ensures { result ≡ 0 }
     {
@@ -32,7 +33,7 @@ impl Visits {
         }
     }
 
-    /// How many there were.
+    /// Returns the number of visits so far.
     pub fn count(&self) -> u128
         ensures above { result ≤ self.now }
         ensures exact { result + 1 < 2 ^ 128 → self.now ≤ result }
@@ -40,7 +41,7 @@ impl Visits {
         self.meter.ticks().saturating_add(self.characters)
     }
 
-    /// So many characters were looked at.
+    /// Counts characters that were looked at.
     #[inline]
     pub fn add(&mut self, characters: usize)
         ensures above { self.new ≤ self.old + characters }
@@ -49,8 +50,12 @@ impl Visits {
         self.characters = self.characters.saturating_add(characters as u128);
     }
 
-    /// Writes into `ends` which beginnings of the text the program accepts. Flags that are missing at the end
-    /// count as false.
+    /// Fills `ends` with one flag for each beginning of the text, from the empty one on: whether
+    /// the program accepts it. Flags that are missing at the end count as `false`.
+    ///
+    /// # Errors
+    ///
+    /// Returns `AllocError` if allocation fails.
     pub fn run_ends(
         &mut self,
         alloc: Global,

@@ -7,9 +7,9 @@ ghost use Rattle.wax_lines.specs.Counts.{greatest_count, one_more, one_more_if, 
 use std::io;
 use std::io::{Read, Write};
 
-/// A reader or a writer that counts its calls and its failures. Both numbers stay at their greatest.
-/// A call is each call of `read`, `write` or `flush`. A failure is any error of these, an interrupted
-/// call too, and a write of some bytes that takes none of them.
+/// A reader or a writer that counts its calls and its failures, each up to `u64::MAX`. A call is a
+/// call of `read`, `write` or `flush`. A failure is any error of these, including an interrupted
+/// call, and a write of some bytes that takes none of them.
 #[derive(Drop)]
 pub struct Counted<T> {
     inner: T,
@@ -20,7 +20,7 @@ pub struct Counted<T> {
 }
 
 impl<T> Counted<T> {
-    /// No calls and no failures yet.
+    /// Wraps a reader or a writer, with no calls and no failures so far.
     pub fn new(inner: T) -> Self
         ensures inner { result.inner ≡ inner }
         ensures calls { result.calls ≡ 0 }
@@ -33,21 +33,21 @@ impl<T> Counted<T> {
         }
     }
 
-    /// How many calls there were.
+    /// Returns the number of calls.
     pub fn calls(&self) -> u64
         ensures { result ≡ self.now.calls }
     {
         self.calls
     }
 
-    /// How many of the calls failed.
+    /// Returns the number of calls that failed.
     pub fn failures(&self) -> u64
         ensures { result ≡ self.now.failures }
     {
         self.failures
     }
 
-    /// The reader or the writer.
+    /// Returns the reader or the writer inside.
     pub fn into_inner(self) -> T
         ensures { result ≡ self.inner }
     {

@@ -1,4 +1,4 @@
-//! The lines of a reader that a program means, and what is captured of them.
+//! Filters of lines, from any reader to any writer, by what a program matches or captures.
 #![tactic(auto)]
 
 mod counted;

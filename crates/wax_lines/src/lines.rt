@@ -1,4 +1,4 @@
-//! The lines that a program means, and what it captures of them.
+//! Lines that a program matches, and what it captures of them.
 ghost use Rattle.std.specs.Prelude.{◌≡◌, ◌≤◌, ◌<◌, ◌⊎◌, [], length, IfOk, IfErr, OnOk, IsErrOf};
 ghost use Rattle.wax_lines.specs.Counts.{greatest_count};
 ghost use Rattle.wax_lines.specs.Lines.{Filtered, Stopped, WritesCaptures, WritesMeant};
@@ -17,19 +17,19 @@ mod sieve;
 use line_writer::{CapturedLines, LineWriter, MeantLines};
 use sieve::Sieve;
 
-/// How many bytes are read at once, and how many wait at most before they are written.
+/// How many bytes are read at once. Output is written once that many bytes of it wait.
 const CHUNK: usize = 65536;
 
 /// Why a filter of lines stopped.
 #[derive(Clone, Copy, Debug, PartialEq, Eq, Error)]
 pub enum LinesError {
-    /// A read failed, or the reader's calls can't be counted any further (refusal 18).
+    /// A read failed, or the reader's calls can't be counted any further (18).
     #[error("read failed")]
     Read,
-    /// A write failed or took nothing (refusal 19).
+    /// A write failed or took nothing (19).
     #[error("write failed")]
     Write,
-    /// Memory was asked for and refused (refusal 10).
+    /// Allocation failed (10).
     #[error("no memory")]
     Memory,
 }
@@ -56,15 +56,22 @@ impl From<AllocError> for LinesError {
     }
 }
 
-/// Writes each line of the input that is text and that the program means, with one line feed, and
-/// answers how many lines are no text; nothing is written for these. That number stays at the greatest
-/// u64. A line ends at a line feed or, if it isn't empty, at the end of the input.
+/// Writes each line of the input that the program matches, with a line feed, and returns the number
+/// of lines that aren't UTF-8, at most `u64::MAX`. Nothing is written for these. A line ends at a
+/// line feed or, if it isn't empty, at the end of the input.
 ///
-/// Refused with 18 where a read fails or the reader's count of calls stands at the greatest u64 before
-/// a read: the output of all lines that were read whole was written. Refused with 10 where memory is:
-/// so it was, but for lines that end in the last read, of at most 65,536 bytes. Refused with 19 where a
-/// write fails or takes nothing: a beginning of the output of such lines was written. Takes memory for
-/// the longest line, a few chunks of 65,536 bytes and a matcher of the program, for all lines.
+/// It allocates for the longest line, for a few chunks of 65,536 bytes, and for one matcher of the
+/// program.
+///
+/// # Errors
+///
+/// Returns `Read` (18) if a read fails, or if the reader has counted `u64::MAX` calls. The output
+/// of all complete lines that were read has been written.
+///
+/// Returns `Memory` (10) if allocation fails. The output has been written as for `Read`, except for
+/// lines that end in the last read, of at most 65,536 bytes.
+///
+/// Returns `Write` (19) if a write fails or takes nothing. A prefix of the output has been written.
 pub fn filter_lines<'p, R: Read, W: Write, P: BuildMatcher<'p>>(
     alloc: Global,
     input: &mut Counted<R>,
@@ -86,14 +93,18 @@ pub fn filter_lines<'p, R: Read, W: Write, P: BuildMatcher<'p>>(
     sift_lines(alloc, input, output, &mut MeantLines { matcher })
 }
 
-/// Writes for each line of the input that is text and that the program means the line and each of its
-/// captures, with a tab between and one line feed, and answers how many lines are no text; nothing is
-/// written for these. That number stays at the greatest u64. A line ends at a line feed or, if it isn't
-/// empty, at the end of the input.
+/// Writes each line of the input that the program matches, with its captures, a tab before each,
+/// and a line feed at the end. Returns the number of lines that aren't UTF-8, at most `u64::MAX`.
+/// Nothing is written for these. A line ends at a line feed or, if it isn't empty, at the end of
+/// the input.
 ///
-/// Refused with 18, 10 and 19 where `filter_lines` is, and what is then written is told in the same way:
-/// of a line for which memory is refused no part is. Takes memory for the longest line with its captures, a
-/// few chunks of 65,536 bytes and one matcher of the program: only lines that it matches are captured from.
+/// It allocates for the longest line with its captures, for a few chunks of 65,536 bytes, and for
+/// one matcher of the program. Only lines that the matcher accepts are captured from.
+///
+/// # Errors
+///
+/// Returns the errors of `filter_lines`, after the same part of the output has been written. A line
+/// is written with all its captures or, if allocation fails for it, not at all.
 pub fn capture_lines<'p, R: Read, W: Write, P: BuildMatcher<'p>>(
     alloc: Global,
     input: &mut Counted<R>,
@@ -120,7 +131,7 @@ pub fn capture_lines<'p, R: Read, W: Write, P: BuildMatcher<'p>>(
     sift_lines(alloc, input, output, &mut line_writer)
 }
 
-// Writes what the writer of lines gives of each line of the input.
+// The body of both filters, for any writer of lines.
 fn sift_lines<R: Read, W: Write, L: LineWriter>(
     alloc: Global,
     input: &mut Counted<R>,
@@ -146,7 +157,8 @@ fn sift_lines<R: Read, W: Write, L: LineWriter>(
     Ok(sieve.not_text())
 }
 
-// Takes the whole input into the sieve, and writes what waits once it is long.
+// Reads the whole input into the sieve, and writes what waits once it is long. The last of it still
+// waits at the end, even after an error.
 fn take_all<R: Read, W: Write, L: LineWriter>(
     input: &mut Counted<R>,
     output: &mut Counted<W>,

@@ -1,4 +1,4 @@
-//! Bytes are written whole.
+//! Writing all of some bytes.
 ghost use Rattle.std.specs.Prelude.{◌≡◌, ◌≤◌, ◌<◌, ◌⊎◌, IfErr, OnErr, OnOk};
 ghost use Rattle.std.specs.Io.KnownBytes.{Appends};
 ghost use Rattle.wax_lines.specs.Counts.{greatest_count};
@@ -8,7 +8,11 @@ use crate::counted::Counted;
 use crate::lines::LinesError;
 use std::io::Write;
 
-/// Writes the bytes. Refused with 19 where a write fails or takes nothing: a beginning was written.
+/// Writes all of the bytes, by as many calls as it takes.
+///
+/// # Errors
+///
+/// Returns `Write` if a write fails or takes nothing. A prefix of the bytes has been written.
 pub fn write_whole<W: Write>(output: &mut Counted<W>, bytes: &[u8]) -> Result<(), LinesError>
     ensures ok { OnOk result (Appends (W.contents output.old.inner) (W.contents output.new.inner) bytes.now) }
     ensures err { IfErr result (λ e. (e ≡ LinesError.Write)

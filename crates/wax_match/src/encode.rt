@@ -1,4 +1,4 @@
-//! How tokens are compiled to programs of instructions.
+//! Compiling tokens to programs of instructions.
 ghost use Rattle.std.specs.Prelude.{◌≡◌, ◌+◌, ◌*◌, ◌<◌, ◌≤◌, ◌↔◌, ℕ, List, IsTrue, IfOk, chars, length, min};
 ghost use Rattle.wax_query.specs.Outcome.{MatchBuild};
 ghost use Rattle.wax_token.specs.Cost.{costs};
@@ -24,14 +24,22 @@ mod tail;
 pub use folding::case_folded_eq;
 pub use wax_program::{Meter, Program, last_name, reads_last, run, run_known};
 
-/// The tokens cost more than a program may hold (refusal 9).
+/// Tokens cost more than a program may (error 9).
 #[derive(Clone, Copy, Debug, Error)]
 #[error("failed to compile glob: oversized program")]
 pub struct CompileError;
 
-/// The program of a list of tokens, which stand one after another. `before` and `after` say whether
-/// something is written around them. Refused with 9 where their cost plus 1 is above 1,048,576, and
-/// with 10 where memory is. It takes time and memory of the order of the tokens and their cost.
+/// Compiles tokens, matched one after another, to a program that accepts exactly the texts that
+/// they match. `before` and `after` say whether something is written before and after them, on
+/// which `**` depends.
+///
+/// Takes time and memory linear in the tokens and their cost. The program's length is this cost
+/// plus 1.
+///
+/// # Errors
+///
+/// Returns `Refusal::Refused` if the cost plus 1 exceeds 1,048,576 (error 9), and `Refusal::Memory`
+/// if allocation fails.
 pub fn compile<'t, A>(
     alloc: Global,
     tokens: &[Token<'t, A>],

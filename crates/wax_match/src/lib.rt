@@ -1,4 +1,4 @@
-//! From tokens to a program of instructions, and how a program is run over a text.
+//! The compiler: from tokens to a program of instructions, which can be run over texts.
 #![tactic(auto)]
 
 pub mod encode;

@@ -1,4 +1,4 @@
-//! The parser of expressions.
+//! The parser of expressions, and the escaping of texts.
 #![tactic(auto)]
 
 mod meta;

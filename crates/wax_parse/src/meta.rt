@@ -1,4 +1,4 @@
-//! Meta characters, and texts in which they are escaped.
+//! Meta characters, and escaping them.
 ghost use Rattle.std.specs.Prelude.{◌≡◌, ◌++◌, ◌↔◌, ℕ, IfOk, IsOkAnd, List, OnOk, false};
 ghost use Rattle.std.specs.Prelude.{chars, codes, encode_utf8_all, string_bytes};
 ghost use Rattle.std.specs.Cow.{IsBorrowedStr, cow_str_bytes};
@@ -12,7 +12,9 @@ use std::alloc::{AllocError, Global};
 use std::borrow::CowStr;
 use wax_query::diagnostics::NoMemory;
 
-/// Whether the character belongs to a literal only where a backslash stands before it.
+/// Returns whether a literal needs a backslash before the character.
+///
+/// The meta characters are `? * $ : < > ( ) [ ] { } ,`.
 pub fn is_meta_character(character: char) -> bool
     ensures { result ≡ is_one_of escapable character }
 {
@@ -22,18 +24,23 @@ pub fn is_meta_character(character: char) -> bool
     )
 }
 
-/// Whether the character belongs to a literal as it stands, but has a meaning of its own inside a class
-/// and a flag group.
+/// Returns whether the character is an ordinary one in a literal, but a special one inside a class
+/// and a flag group. Only `-` is.
 pub fn is_contextual_meta_character(character: char) -> bool
     ensures { result ≡ is_one_of (codes "-") character }
 {
     character == '-'
 }
 
-/// The text with a backslash before each meta character, borrowed where it has none. This is an
-/// expression that means the text and nothing else, unless the text holds a backslash: those can't be
-/// escaped, and then it is no expression at all. Refused with 10 where memory is, and never where the
-/// text is borrowed. It takes two passes over the text, and memory for one copy.
+/// Escapes a text: puts a backslash before each meta character. The outcome is an expression that
+/// matches only this text: `a*b` becomes `a\*b`.
+///
+/// A backslash can't be escaped, so the outcome for a text with one is no expression. A text
+/// without meta characters is returned as it is, borrowed. Any other is copied, in two passes.
+///
+/// # Errors
+///
+/// Returns `NoMemory` if allocation fails, which it can't for a text without meta characters.
 pub fn escape<'t>(alloc: Global, text: &'t str) -> Result<CowStr<'t>, NoMemory>
     ensures exact { IfOk result (λ e. chars (cow_str_bytes e) ≡ all_spelled escapable (chars text.now)) }
     ensures means { IfOk result (λ e. (t : Tree Span) → Reads (chars (cow_str_bytes e)) t
@@ -50,7 +57,6 @@ pub fn escape<'t>(alloc: Global, text: &'t str) -> Result<CowStr<'t>, NoMemory>
     Ok(CowStr::Owned(escaped))
 }
 
-/// Whether a character of the text is a meta character.
 fn has_meta_character(text: &str) -> bool
     ensures { result ≡ list_any (is_one_of escapable) (chars text.now) }
 {
@@ -62,7 +68,6 @@ fn has_meta_character(text: &str) -> bool
     false
 }
 
-/// A copy of the text with a backslash before each meta character.
 fn with_backslashes(alloc: Global, text: &str) -> Result<String, AllocError>
     ensures { IfOk result (λ e. chars (string_bytes e) ≡ all_spelled escapable (chars text.now)) }
 {
@@ -73,7 +78,6 @@ fn with_backslashes(alloc: Global, text: &str) -> Result<String, AllocError>
     Ok(escaped)
 }
 
-/// Pushes the character, after a backslash if it is a meta character.
 fn push_escaped(escaped: &mut String, character: char) -> Result<(), AllocError>
     ensures { OnOk result (string_bytes escaped.new
         ≡ string_bytes escaped.old ++ encode_utf8_all (spelled escapable character)) }

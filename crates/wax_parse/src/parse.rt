@@ -1,4 +1,4 @@
-//! From an expression to its tokens.
+//! Parsing: from an expression to its tokens.
 ghost use Rattle.std.specs.Prelude.{◌≡◌, IfOk, chars, length};
 ghost use Rattle.std.specs.Cow.{cow_str_bytes};
 ghost use Rattle.wax_query.specs.Outcome.{MatchBuild};
@@ -28,7 +28,7 @@ use thiserror::Error;
 use wax_query::diagnostics::{Refusal, Span};
 use wax_token::token::{ExpressionMetadata, Token, Tokenized};
 
-/// The expression isn't one of the language (refusal 1). Contracts see the place.
+/// An expression can't be read as tokens (error 1). Contracts see its place.
 #[derive(Clone, Copy, Debug, Error)]
 #[error("failed to parse glob expression")]
 pub struct ParseError {
@@ -46,8 +46,8 @@ impl Model for ParseError {
 }
 
 impl ParseError {
-    /// The character that no token begins with or goes on with, and its number of bytes; 0 bytes at
-    /// the end of the expression.
+    /// Returns the span, in bytes, of the character at which reading failed. It is empty at the end
+    /// of the expression, if more had to follow.
     pub fn place(&self) -> Span
         ensures { result ≡ self.now }
     {
@@ -55,12 +55,19 @@ impl ParseError {
     }
 }
 
-/// How deep globs may nest in an expression.
+/// How deep alternations and repetitions may nest in an expression.
 const DEEPEST: usize = 128;
 
-/// The tokens that an expression spells, each with its span in bytes; refused with 1 where it spells none.
-/// Takes memory for the tokens and for literals that hold an escape. Recursion goes down 128 globs at
-/// most, whatever the expression.
+/// Parses an expression into its tokens, each with its span in bytes. Checks none of the rules, so
+/// tokens that `wax_rule::rule::check` rejects are returned, too.
+///
+/// Allocates for the tokens and for each literal with an escape; other literals borrow their text
+/// from the expression. Recursion is at most 128 globs deep, whatever the expression.
+///
+/// # Errors
+///
+/// Returns `Refusal::Refused` if the expression can't be read as tokens (error 1), and
+/// `Refusal::Memory` if allocation fails.
 pub fn parse<'t>(
     alloc: Global,
     expression: &'t str,
@@ -80,7 +87,8 @@ pub fn parse<'t>(
     })
 }
 
-/// The token of the whole: a literal without characters, or a glob.
+/// Reads the whole expression. The empty one is a literal without characters; any other is a
+/// concatenation.
 fn read_expression<'t>(
     alloc: Global,
     expression: &'t str,

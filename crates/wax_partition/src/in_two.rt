@@ -1,4 +1,4 @@
-//! What is taken in two: an expression with its tokens, as it was parsed or checked.
+//! Partition of parsed and of checked expressions.
 ghost use Rattle.std.specs.Prelude.{IfOk, chars, string_bytes};
 ghost use Rattle.std.specs.Cow.{cow_str_bytes};
 ghost use Rattle.std.specs.Option.{option_map};
@@ -14,12 +14,16 @@ use wax_token::token::{ExpressionMetadata, Tokenized};
 
 /// An expression with its tokens, checked or not.
 pub trait Partitioned: Sized {
-    /// The expression with its tokens.
+    /// The expression with its tokens, as contracts see it.
     ghost whole: { Self → Tokenized Span };
 
-    /// Its prefix, and the rest where tokens are left, exactly as the function `partition` says. The rest of
-    /// what was checked counts as checked. Refused with 10 where memory is. It takes the time and memory of
-    /// the expression and of the tokens' texts.
+    /// Splits the expression into its prefix and the rest, which is `None` if no token is left. The
+    /// rest of a checked expression counts as checked. Takes time and memory linear in the
+    /// expression and the texts of its tokens.
+    ///
+    /// # Errors
+    ///
+    /// Returns `NoMemory` if allocation fails.
     fn partition(self, alloc: Global) -> Result<(String, Option<Self>), NoMemory>
         ensures { IfOk result (λ r. IsPartition (chars (cow_str_bytes (whole self).expression))
             (whole self).token (chars (string_bytes r.0)) (spelled_rest (option_map whole r.1))) };

@@ -1,11 +1,15 @@
-//! A part of an expression.
+//! Copying parts of an expression.
 ghost use Rattle.std.specs.Prelude.{◌≡◌, ◌∷◌, ◌++◌, [], ◌&&◌, IfOk, OnOk, chars, string_bytes};
 ghost use Rattle.std.specs.Prelude.{if◌then◌else◌, nat_le, nat_lt};
 ghost use Rattle.wax_partition.specs.Kept.{between, without_slash};
 
 use std::alloc::{AllocError, Global};
 
-/// The characters whose first byte lies from one place up to another.
+/// Copies the characters whose first byte is from `from` on and before `to`.
+///
+/// # Errors
+///
+/// Returns `AllocError` if allocation fails.
 pub fn between(
     alloc: Global,
     expression: &str,
@@ -23,7 +27,11 @@ pub fn between(
     Ok(kept)
 }
 
-/// The text without its first `/`.
+/// Copies the text without its first `/`.
+///
+/// # Errors
+///
+/// Returns `AllocError` if allocation fails.
 pub fn without_slash(alloc: Global, text: &str) -> Result<String, AllocError>
     ensures { IfOk result (λ t. chars (string_bytes t) ≡ without_slash (chars text.now)) }
 {
@@ -37,7 +45,7 @@ pub fn without_slash(alloc: Global, text: &str) -> Result<String, AllocError>
     Ok(kept)
 }
 
-// The character too, if it is kept.
+// Appends the character if it is kept.
 fn keep(kept: &mut String, c: char, is_kept: bool) -> Result<(), AllocError>
     ensures { OnOk result (chars (string_bytes kept.new)
         ≡ chars (string_bytes kept.old) ++ (if is_kept then c ∷ [] else [])) }

@@ -1,4 +1,4 @@
-//! A glob in two: its prefix, and the rest with its part of the expression.
+//! Splitting a glob into its prefix and the rest, which is an expression of its own.
 #![tactic(auto)]
 
 mod in_two;

@@ -1,4 +1,4 @@
-//! The prefix of a glob, and the rest as an expression of its own.
+//! Partition: the prefix of a glob, and the rest as an expression of its own.
 ghost use Rattle.std.specs.Prelude.{◌≡◌, ◌≤◌, ◌↔◌, ℕ, false, List};
 ghost use Rattle.std.specs.Prelude.{IfOk, IfSome, MatchOption, chars, string_bytes};
 ghost use Rattle.std.specs.Cow.{cow_str_bytes};
@@ -23,10 +23,18 @@ use wax_token::token::{
     new_branch, new_leaf,
 };
 
-/// The prefix of a glob, and the rest where tokens are left: its part of the expression, up to the end of
-/// the glob or sub-glob that it belongs to, and its tokens, with their spans in that part. A leading `**` has
-/// lost its `/` there; flag groups before it stay. Refused with 10 where memory is. It takes the time and
-/// memory of the expression and of the tokens' texts.
+/// Splits an expression into its prefix and the rest, an expression of its own. There is no rest if
+/// no token is left. For `src/*.rs` they are `src/` and `*.rs`.
+///
+/// The rest reaches from the cut to the end of the glob or sub-glob that has the cut. A `**` at its
+/// beginning loses its `/` and keeps its flags. Other flags from before the cut aren't written in
+/// the rest, but its tokens keep their effect. Spans are those in the rest.
+///
+/// Takes time and memory linear in the expression and the texts of its tokens.
+///
+/// # Errors
+///
+/// Returns `NoMemory` if allocation fails.
 pub fn partition<'t>(
     alloc: Global,
     tokenized: Tokenized<'t, ExpressionMetadata>,
@@ -55,7 +63,7 @@ pub fn partition<'t>(
     parts(alloc, expression, token)
 }
 
-// The same of an expression and its token.
+// Apart from `partition`, whose contract has much more to prove.
 fn parts<'t>(
     alloc: Global,
     expression: CowStr<'t>,
@@ -68,7 +76,7 @@ fn parts<'t>(
     Ok((prefix, cut_out(alloc, expression.as_str(), end, tokens)?))
 }
 
-// The tokens, and their part of the expression up to a byte.
+// Returns the tokens with their part of the expression, which ends before the byte `end`.
 fn cut_out<'t>(
     alloc: Global,
     expression: &str,
@@ -91,7 +99,7 @@ fn cut_out<'t>(
     }))
 }
 
-// The part of the expression from a token up to a byte; a `**` loses its `/`.
+// Copies the part of the expression from a token to the byte `end`. A `**` loses its `/`.
 fn text_from<'t>(
     alloc: Global,
     expression: &str,
@@ -108,7 +116,7 @@ fn text_from<'t>(
     Ok(text)
 }
 
-// The tokens where the first one begins the expression; a leading `**` loses its `/`.
+// Moves the spans, so that the first token begins at 0. A `**` at the beginning loses its `/`.
 fn moved<'t>(
     alloc: Global,
     tokens: Vec<Token<'t, ExpressionMetadata>>,

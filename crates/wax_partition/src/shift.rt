@@ -1,4 +1,4 @@
-//! Tokens of an expression that has lost its beginning.
+//! Moving the spans of tokens whose expression has lost its beginning.
 ghost use Rattle.std.specs.Prelude.{◌≡◌, IfOk};
 ghost use Rattle.wax_token.specs.Reads.{Span};
 ghost use Rattle.wax_token.specs.View.{branch_tree};
@@ -11,7 +11,11 @@ use wax_token::token::{
     new_branch, new_leaf,
 };
 
-/// The token where so many bytes before it are gone.
+/// Moves the spans of a token and all tokens in it to the left by `bytes`.
+///
+/// # Errors
+///
+/// Returns `AllocError` if allocation fails.
 #[cycle(shifted)]
 pub fn shifted<'t>(
     alloc: Global,
@@ -64,7 +68,11 @@ fn shifted_branch<'t>(
     }
 }
 
-/// The same of each of the tokens.
+/// Moves the spans of each of the tokens to the left by `bytes`.
+///
+/// # Errors
+///
+/// Returns `AllocError` if allocation fails.
 #[cycle(shifted)]
 pub fn shifted_each<'t>(
     alloc: Global,

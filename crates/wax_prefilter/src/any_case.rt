@@ -1,11 +1,11 @@
-//! Texts in any case.
+//! Searching texts in any case.
 ghost use Rattle.std.specs.Prelude.{◌≡◌, ℕ, IsTrue, List, ◌++◌, chars, true};
 ghost use Rattle.wax_token.specs.Meaning.{SameText};
 
 use unicode::case::simple_fold;
 use wax_program::instruction::folds_to;
 
-/// Whether the text begins with the other in any case.
+/// Returns whether the text begins with `beginning` in any case.
 pub fn begins_in_any_case(text: &str, beginning: &str) -> bool
     ensures { (x y : List ℕ) → chars text.now ≡ x ++ y
         → SameText true (chars beginning.now) x → IsTrue result }
@@ -23,7 +23,8 @@ pub fn begins_in_any_case(text: &str, beginning: &str) -> bool
     true
 }
 
-/// Whether the text holds the other in any case, wherever it stands.
+/// Returns whether the text contains `held` in any case. In the worst case, takes time proportional
+/// to the product of their lengths.
 pub fn holds_in_any_case(text: &str, held: &str) -> bool
     ensures { (x y z : List ℕ) → chars text.now ≡ x ++ (y ++ z)
         → SameText true (chars held.now) y → IsTrue result }

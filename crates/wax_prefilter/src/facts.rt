@@ -1,4 +1,4 @@
-//! The facts of tokens.
+//! Collecting facts from tokens.
 ghost use Rattle.std.specs.Prelude.{◌≡◌, ◌<◌, IfOk, IfSome, OnOk, chars, length};
 ghost use Rattle.wax_token.specs.Meaning.{LeafMeans, Means, MeansEach, MeansSome};
 ghost use Rattle.wax_token.specs.View.{leaf_of, wildcard_leaf};
@@ -11,13 +11,18 @@ use std::alloc::{AllocError, Global};
 use wax_query::diagnostics::NoMemory;
 use wax_token::token::{BranchKind, ExpressionMetadata, LeafKind, Token, Topology, Wildcard};
 
-/// How many facts are kept at most.
+/// The greatest number of facts that are kept.
 const MOST_FACTS: usize = 16;
 
-/// How many texts a fact has at most.
+/// The greatest number of texts of a fact.
 const MOST_NEEDLES: usize = 64;
 
-/// What each text holds that the tokens mean: how it ends, how it begins, and then what stands in it.
+/// Returns facts about every text that the tokens match: how it ends, how it begins, and what it
+/// contains.
+///
+/// # Errors
+///
+/// Returns `NoMemory` if allocation fails.
 pub fn all_facts<'t>(
     alloc: Global,
     tokens: &[Token<'t, ExpressionMetadata>],
@@ -36,7 +41,7 @@ pub fn all_facts<'t>(
     Ok(facts)
 }
 
-// Adds what the texts hold for one of the tokens, if that is known.
+// Adds what the texts contain for one of the tokens, if that is known.
 fn add_within<'t>(
     alloc: Global,
     tokens: &[Token<'t, ExpressionMetadata>],
@@ -54,7 +59,7 @@ fn add_within<'t>(
     Ok(())
 }
 
-// Adds how the texts begin or end, and answers whether that is known.
+// Adds how the texts begin or end. Returns whether that is known.
 fn add_edge<'t>(
     alloc: Global,
     place: Place,
@@ -71,7 +76,7 @@ fn add_edge<'t>(
     Ok(true)
 }
 
-// The texts of which each meant text has one at the place, where some are known.
+// Returns needles of which every matching text has at least one at the place, if any are known.
 #[cycle(needles_of)]
 fn needles_of<'t>(
     alloc: Global,
@@ -91,7 +96,7 @@ fn needles_of<'t>(
     }
 }
 
-// The same of tokens one after another.
+// Returns the needles of tokens one after another.
 #[cycle(needles_of)]
 #[tactic(auto, using(crate::proofs::MeantEdges::read_size))]
 fn needles_of_each<'t>(
@@ -115,7 +120,7 @@ fn needles_of_each<'t>(
     }
 }
 
-// Of tokens one after another, what the first holds of which something is known.
+// Returns the needles of the first token of which any are known.
 #[cycle(needles_of)]
 #[tactic(auto, using(wax_token::proofs::Sizes::element_size))]
 fn needles_of_any<'t>(
@@ -134,7 +139,7 @@ fn needles_of_any<'t>(
     Ok(None)
 }
 
-// Of branches, the texts of all of them.
+// Returns the needles of all branches together, if they are known for each branch and not too many.
 #[cycle(needles_of)]
 #[tactic(auto, using(wax_token::proofs::Sizes::element_size))]
 fn needles_of_some<'t>(
@@ -174,7 +179,8 @@ fn needles_of_leaf(
     Ok(Some(needles))
 }
 
-// The text that stands at the place, and whether in any case; nothing where a test for it would tell little.
+// Returns the text at the place, and whether in any case. Returns `None` if testing for it would
+// rarely reject a text.
 fn text_of<'i>(place: Place, leaf: &'i LeafKind<'_>) -> Option<(&'i str, bool)>
     ensures { IfSome result (λ t. AllStand place (t.1, chars t.0.now) (LeafMeans (leaf_of leaf.now))) }
 {

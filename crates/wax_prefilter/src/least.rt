@@ -1,4 +1,4 @@
-//! How long meant texts are at least.
+//! The least length of matching texts.
 ghost use Rattle.std.specs.Prelude.{◌≡◌};
 ghost use Rattle.wax_token.specs.Meaning.{LeafMeans, Means, MeansEach, MeansSome};
 ghost use Rattle.wax_token.specs.View.{leaf_of};
@@ -7,7 +7,8 @@ ghost use Rattle.wax_prefilter.specs.Known.{IsAtMostAll};
 
 use wax_token::token::{BranchKind, ExpressionMetadata, LeafKind, Token, Topology, Wildcard};
 
-/// A number of characters that each text has at least that the tokens mean, one after another.
+/// Returns a number of characters that every text has at least that the tokens match, one after
+/// another.
 #[cycle(least_of)]
 #[tactic(auto, using(wax_token::proofs::Sizes::element_size))]
 pub fn least_of_each<'t>(tokens: &[Token<'t, ExpressionMetadata>]) -> usize

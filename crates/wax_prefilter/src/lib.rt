@@ -1,4 +1,5 @@
-//! What all texts that tokens mean have in common, by which most other texts are told without a match.
+//! A quick test before a match: facts about all texts that tokens match, by which most others are
+//! rejected.
 #![tactic(auto)]
 
 mod any_case;

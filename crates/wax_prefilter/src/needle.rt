@@ -1,4 +1,4 @@
-//! Texts that stand in others.
+//! Needles: texts that others contain at some place.
 ghost use Rattle.std.specs.Prelude.{◌≡◌, ℕ, IsTrue, IfOk, List, ◌++◌, chars, true, false};
 ghost use Rattle.wax_token.specs.Meaning.{SameText};
 ghost use Rattle.wax_prefilter.specs.Facts.{StandsAt};
@@ -7,7 +7,7 @@ use crate::any_case::{begins_in_any_case, holds_in_any_case};
 use std::alloc::{AllocError, Global};
 use std::marker::Model;
 
-/// Where a text stands in another.
+/// Where a text contains a needle.
 #[derive(Clone, Copy)]
 pub enum Place {
     Beginning,
@@ -15,7 +15,8 @@ pub enum Place {
     Anywhere,
 }
 
-/// A text that others hold, in its own case or in any. Contracts see whether in any, and its characters.
+/// A text that is searched for in others, exactly or in any case. Contracts see whether in any
+/// case, and its characters.
 #[derive(Drop)]
 pub struct Needle {
     text: String,
@@ -40,12 +41,13 @@ impl Needle {
         })
     }
 
-    /// Whether it stands for its text in any case.
+    /// Returns whether the needle is searched for in any case.
     pub fn is_case_insensitive(&self) -> bool {
         self.is_case_insensitive
     }
 
-    /// Whether it can stand there in the text: at the end, one of any case always can.
+    /// Returns whether the text may have the needle at the place. Always returns `true` for a
+    /// needle in any case at the end.
     #[inline]
     pub fn can_stand_at(&self, place: Place, text: &str) -> bool
         ensures { StandsAt place self.now (chars text.now) → IsTrue result }

@@ -1,4 +1,4 @@
-//! What is looked at in a text before it is matched.
+//! The test of a text before it is matched.
 ghost use Rattle.std.specs.Prelude.{◌≡◌, ℕ, List, [], ◌∷◌, ◌++◌, IsTrue, IfOk, OnOk, chars};
 ghost use Rattle.wax_token.specs.Words.{trees};
 ghost use Rattle.wax_prefilter.specs.Facts.{HoldsOne, PassesFacts};
@@ -12,7 +12,8 @@ use std::marker::Model;
 use wax_query::diagnostics::NoMemory;
 use wax_token::token::{ExpressionMetadata, Token};
 
-/// Texts of which one stands at the place. Contracts see both.
+/// A fact about matching texts: each has one of the needles at the place. Contracts see both as a
+/// pair.
 #[derive(Drop)]
 pub struct Fact {
     place: Place,
@@ -28,7 +29,11 @@ impl Model for Fact {
 }
 
 impl Fact {
-    /// Adds the fact to others.
+    /// Appends a fact.
+    ///
+    /// # Errors
+    ///
+    /// Returns `AllocError` if allocation fails.
     pub fn add(facts: &mut Vec<Fact>, place: Place, needles: Vec<Needle>) -> Result<(), AllocError>
         ensures { OnOk result (facts.new.items ≡ facts.old.items ++ (place, needles.items) ∷ []) }
     {
@@ -36,7 +41,7 @@ impl Fact {
         Ok(())
     }
 
-    /// Whether it is looked for wherever it stands and in any case, which takes longest.
+    /// Returns whether the fact needs a search of the whole text in any case, the slowest of all.
     fn is_sought_in_any_case(&self) -> bool {
         match (self.place, self.needles.first()) {
             (Place::Anywhere, Some(needle)) => needle.is_case_insensitive(),
@@ -59,9 +64,9 @@ impl Fact {
     }
 }
 
-/// How long each text is at least that some tokens mean, and what it begins with, ends with and holds. It
-/// keeps at most 16 facts, each of at most 64 texts, and no tokens. Contracts see the least length in
-/// characters, and the facts.
+/// Facts about all texts that some tokens match: their least length, and how they begin, how they
+/// end and what they contain. Keeps at most 16 facts, each of at most 64 texts, and no tokens.
+/// Contracts see the least length in characters, and the facts.
 #[derive(Drop)]
 pub struct Prefilter {
     least: usize,
@@ -77,8 +82,12 @@ impl Model for Prefilter {
 }
 
 impl Prefilter {
-    /// What is known of the texts that the tokens mean, one after another. Refused with 10 where memory is.
-    /// It takes time and memory of the order of the tokens and their literals.
+    /// Collects facts about all texts that the tokens match, one after another. Takes time and
+    /// memory linear in the tokens and their literals.
+    ///
+    /// # Errors
+    ///
+    /// Returns `NoMemory` if allocation fails.
     pub fn new<'t>(
         alloc: Global,
         tokens: &[Token<'t, ExpressionMetadata>],
@@ -92,16 +101,17 @@ impl Prefilter {
         })
     }
 
-    /// Whether the text may be meant. It takes no memory, and time of the order of the text for each fact and
-    /// each of its texts.
+    /// Returns `false` only if the tokens can't match the text. Doesn't allocate. For each fact and
+    /// each of its texts, takes time proportional to the text; a search in any case may take that
+    /// for each character of the text that is searched for.
     pub fn may_match(&self, text: &str) -> bool
         ensures { PassesFacts self.now (chars text.now) → IsTrue result }
     {
         self.passes(text, true)
     }
 
-    /// The same, where to match takes less time than to look for a text in any case: no such text is
-    /// looked for.
+    /// Tests the text as `may_match` does, but skips facts that need a search in any case. This is
+    /// better if a match takes less time than such a search.
     pub fn may_match_at_once(&self, text: &str) -> bool
         ensures { PassesFacts self.now (chars text.now) → IsTrue result }
     {

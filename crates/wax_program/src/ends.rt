@@ -1,4 +1,4 @@
-//! Which beginnings of a text a program accepts, told in one pass.
+//! Finding in one pass which beginnings of a text a program accepts.
 ghost use Rattle.std.specs.Prelude.{◌≡◌, ◌+◌, ◌*◌, ◌<◌, ◌≤◌, OnOk, length};
 ghost use Rattle.wax_program.specs.Ends.{MarksBeginnings};
 ghost use Rattle.wax_program.specs.Threads.{IsEmpty};
@@ -10,9 +10,13 @@ use crate::sets::Sets;
 use crate::word_sets::WordSets;
 use std::alloc::{AllocError, Global};
 
-/// Writes into `ends` flags, one for each beginning of the text from the empty one on, that tell whether
-/// the program accepts it. Flags that are missing at the end count as false. It reads each instruction at
-/// most once a character and once at the end, each of which the meter counts.
+/// Fills `ends` with one flag for each beginning of the text, from the empty one on: whether the
+/// program accepts it. Flags that are missing at the end count as `false`. Reads each instruction
+/// at most once for each character and once at the end; the meter counts these.
+///
+/// # Errors
+///
+/// Returns `AllocError` if allocation fails.
 pub fn run_ends(
     alloc: Global,
     program: &Program,
@@ -37,7 +41,7 @@ pub fn run_ends(
     Ok(())
 }
 
-/// The same, over empty sets.
+/// Fills `ends` as `run_ends` does. The sets must be empty.
 fn ends_over<R: Sets>(
     program: &Program,
     text: &[char],

@@ -1,4 +1,4 @@
-//! The places that a run has reached, for programs of any length.
+//! The sets of places of a run, for programs of any length.
 ghost use Rattle.std.specs.Prelude.{◌≡◌, ◌+◌, ◌/◌, IfOk, IsTrue, length};
 ghost use Rattle.wax_program.specs.Bits.{bits_of};
 ghost use Rattle.wax_program.specs.Threads.{IsEmpty, Within};
@@ -9,18 +9,18 @@ use std::alloc::{AllocError, Global};
 use std::marker::Model;
 use std::mem;
 
-/// Three sets of words. They are allocated once a run.
+/// Three sets, each a list of words. They are allocated once for each run.
 #[derive(Drop)]
 pub struct HeapSets {
-    /// How many instructions the program has. Places past it are never inserted.
+    /// The number of instructions of the program. Greater places are never inserted.
     size: usize,
-    /// No pending place lies below this word.
+    /// The index of a word before which no place is pending.
     first: usize,
-    /// What is still to be read here.
+    /// The places that are still to be read here.
     pending: Set,
-    /// What was read here.
+    /// The places that were read here.
     read: Set,
-    /// What is to be read at the next position.
+    /// The places that are to be read at the next position.
     next: Set,
 }
 
@@ -37,7 +37,11 @@ impl Model for HeapSets {
 }
 
 impl HeapSets {
-    /// Empty sets for a program of `size` instructions.
+    /// Creates empty sets for a program of `size` instructions.
+    ///
+    /// # Errors
+    ///
+    /// Returns `AllocError` if allocation fails.
     pub fn new(alloc: Global, size: usize) -> Result<HeapSets, AllocError>
         ensures size { IfOk result (λ r. r.size ≡ size) }
         ensures pending { IfOk result (λ r. IsEmpty r.pending) }
@@ -58,7 +62,7 @@ impl HeapSets {
 }
 
 impl HeapSets {
-    /// The places that are to be read here, 64 a word.
+    /// Returns the places that are to be read here, 64 in each word.
     #[inline]
     pub fn row(&self) -> &[u64]
         ensures same { self.now.pending ≡ bits_of result.now }
@@ -69,7 +73,7 @@ impl HeapSets {
         self.pending.words()
     }
 
-    /// Whether no place is to be read here.
+    /// Returns whether no place is to be read here.
     #[inline]
     pub fn is_empty(&self) -> bool
         ensures { IsTrue result → IsEmpty self.now.pending }
@@ -77,7 +81,7 @@ impl HeapSets {
         self.pending.first_from(0).is_none()
     }
 
-    /// The places of the words are to be read here, and none was.
+    /// Replaces the places that are to be read here by those of the words.
     pub fn load(&mut self, row: &[u64])
         requires read { IsEmpty self.old.read }
         requires room { length row.now ≡ self.old.size / 64 + 1 }

@@ -1,4 +1,4 @@
-//! What a program is made of.
+//! The instructions of a program.
 ghost use Rattle.std.specs.Prelude.{◌≡◌, ◌↔◌, IsTrue, true};
 ghost use Rattle.unicode.specs.CaseFolding.{simple_fold};
 ghost use Rattle.wax_program.specs.Machine.{PassesTest};
@@ -7,43 +7,43 @@ ghost use Rattle.wax_token.specs.Meaning.{in_class};
 use unicode::case::simple_fold;
 use wax_token::token::Class;
 
-/// What one character is tested for.
+/// A test of one character.
 #[derive(Drop)]
 pub enum Test {
-    /// This character.
+    /// Passes for this character.
     Char(char),
-    /// A character whose simple folding is this one.
+    /// Passes for a character whose simple case folding is this one.
     Folded(char),
-    /// A character of the class, which may be negated.
+    /// Passes for a character that the class matches.
     Class(Class),
-    /// Any character but `/`.
+    /// Passes for any character but `/`.
     NotSlash,
-    /// Any character.
+    /// Passes for any character.
     Any,
-    /// No character.
+    /// Passes for no character.
     Never,
 }
 
-/// One instruction. Where nothing else is said, the next one follows. The text has to end where the
-/// place after the last one is reached.
+/// An instruction. The next one follows, unless it says something else. A text is accepted if it
+/// ends when the place after the last instruction is reached.
 #[derive(Drop)]
 pub enum Instruction {
-    /// Takes a character that passes the test.
+    /// Takes one character, which has to pass the test.
     Check(Test),
-    /// Takes characters that pass the test, any number of them.
+    /// Takes zero or more characters, each of which has to pass the test.
     Repeat(Test),
-    /// Takes characters, the last of which is `/`.
+    /// Takes one or more characters, the last of which has to be `/`.
     Components,
-    /// Goes on both with the next one and past as many more.
+    /// Goes on in two ways: with the next instruction, and after skipping this many.
     Fork(usize),
-    /// Goes on past as many instructions.
+    /// Skips this many instructions.
     Jump(usize),
-    /// Goes back by as many.
+    /// Goes back by this many instructions.
     Back(usize),
 }
 
 impl Test {
-    /// Whether the character passes. A class is searched from its first archetype on.
+    /// Returns whether the character passes. Takes time linear in the archetypes of a class.
     #[inline]
     pub fn passes(&self, c: char) -> bool
         ensures { IsTrue result ↔ PassesTest self.now c }
@@ -59,7 +59,7 @@ impl Test {
     }
 }
 
-/// Whether the simple folding of the character `c` is `d`.
+/// Returns whether `d` is the simple case folding of `c`.
 #[inline]
 pub fn folds_to(c: char, d: char) -> bool
     ensures { IsTrue result ↔ (d ≡ simple_fold c) }
@@ -70,7 +70,7 @@ pub fn folds_to(c: char, d: char) -> bool
     folds_far(c, d)
 }
 
-// These two stay calls: where they are inlined, each round pays for them, with or without such a test.
+// These two aren't inlined, since otherwise each round pays for them, even without such a test.
 
 #[inline(never)]
 fn folds_far(c: char, d: char) -> bool

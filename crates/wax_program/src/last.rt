@@ -1,4 +1,4 @@
-//! Programs to which only the last component of a text matters, as to that of `**/*.rs`.
+//! Programs that depend only on the last component of a text, such as that of `**/*.rs`.
 ghost use Rattle.std.specs.Prelude.{◌≡◌, ◌+◌, ◌*◌, ◌≤◌, ◌↔◌, IsTrue, IfOk, Some, chars, length, min};
 ghost use Rattle.std.specs.Prelude.{slice_get};
 ghost use Rattle.wax_program.specs.declared.instruction.Instruction.TheVariants.{Components, Fork};
@@ -13,8 +13,13 @@ use crate::matching::{run, run_at};
 use std::alloc::Global;
 use wax_query::diagnostics::NoMemory;
 
-/// Whether the program accepts the text, as [`run`] decides it. Where it is known that only the last
-/// component of a text matters, what stands before that is counted by its bytes and not followed.
+/// Returns whether the program accepts the text, as [`run`] does. If the program is known to depend
+/// only on the last component, only that is followed, and what is before it is counted by its
+/// bytes.
+///
+/// # Errors
+///
+/// Returns `NoMemory` if allocation fails.
 pub fn run_known(
     alloc: Global,
     program: &Program,
@@ -36,7 +41,8 @@ pub fn run_known(
     run(alloc, program, text, meter)
 }
 
-/// The same of a program to which only the last component matters.
+/// Runs a program that depends only on the last component: from the place 2, after the instructions
+/// that take other components.
 fn run_name(
     alloc: Global,
     program: &Program,
@@ -57,7 +63,8 @@ fn run_name(
     run_at(alloc, program, 2, name, meter)
 }
 
-/// What follows the last `/` of the text, or all of it. It takes no memory.
+/// Returns what follows the last `/` of the text, or the whole text if it has none. Doesn't
+/// allocate.
 pub fn last_name(text: &str) -> &str
     ensures name { IsLastName (chars text.now) (chars result.now) }
     ensures cut { IsCutBetween text.now result.now }
@@ -68,8 +75,8 @@ pub fn last_name(text: &str) -> &str
     }
 }
 
-/// Whether it is known that only the last component of a text matters: the program begins with components,
-/// and takes no `/` after them. Each instruction is read at most once.
+/// Returns whether the program is known to depend only on the last component: it begins with zero
+/// or more components, and takes no `/` after them. Reads each instruction at most once.
 pub fn reads_last(program: &Program) -> bool
     ensures { IsTrue result → ReadsLast program.now.0 }
 {
@@ -108,7 +115,7 @@ fn is_components(instruction: &Instruction) -> bool
     }
 }
 
-/// Whether all instructions from the place 2 on take no `/` and lead to no place before it.
+/// Returns whether no instruction from the place 2 on takes a `/` or leads to a place before it.
 fn stay_in_name(program: &Program) -> bool
     ensures { IsTrue result → StayInName program.now.0 (length program.now.0) }
 {

@@ -1,4 +1,4 @@
-//! How a program is run over a text.
+//! Running a program over a text.
 ghost use Rattle.std.specs.Prelude.{◌≡◌, ◌+◌, ◌*◌, ◌<◌, ◌≤◌, ◌↔◌, IsTrue, IfOk, chars, length, min};
 ghost use Rattle.wax_program.specs.Machine.{Accepts};
 ghost use Rattle.wax_program.specs.Meter.{most_ticks};
@@ -13,10 +13,15 @@ use crate::word_sets::WordSets;
 use std::alloc::Global;
 use wax_query::diagnostics::NoMemory;
 
-/// Whether the program accepts the text. It reads at most `program.len()` instructions a character and
-/// as many at the end, each of which the meter counts, and stops once the rest of the text changes
-/// nothing. Three bits an instruction are its only memory, taken at the start; a program of fewer than
-/// 64 instructions takes none. Where memory is refused, so is the call (refusal 10).
+/// Returns whether the program accepts the text.
+///
+/// Reads at most `program.len()` instructions for each character, and as many at the end; the meter
+/// counts each of them. Stops once the rest of the text can't change the result. Allocates three
+/// bits for each instruction at the start, and nothing for a program of fewer than 64 instructions.
+///
+/// # Errors
+///
+/// Returns `NoMemory` if allocation fails.
 pub fn run(
     alloc: Global,
     program: &Program,
@@ -32,7 +37,7 @@ pub fn run(
     run_at(alloc, program, 0, text, meter)
 }
 
-/// The same from a place on.
+/// Returns whether the program, begun at the place `start`, accepts the text.
 pub(crate) fn run_at(
     alloc: Global,
     program: &Program,
@@ -56,8 +61,10 @@ pub(crate) fn run_at(
     Ok(run_over(program, start, text, &mut sets, meter))
 }
 
-/// The same, over empty sets. Once no character changes anything any more, the rest of the text is counted
-/// at once, by its bytes: there are no fewer of them than characters, and at most four times as many.
+/// Runs the program from the place `start`. The sets must be empty.
+///
+/// Once no character can change the sets, the rest of the text is counted at once, by its bytes.
+/// These are at least as many as its characters, and at most four times as many.
 fn run_over<R: Sets>(
     program: &Program,
     start: usize,

@@ -1,4 +1,4 @@
-//! Where the parts of a text end that a program accepts, told in one pass for all places where they begin.
+//! Finding in one pass where accepted parts of a text end, for all places where they may begin.
 ghost use Rattle.std.specs.Prelude.{◌≡◌, ◌+◌, ◌*◌, ◌<◌, ◌≤◌, ◌∷◌, [], ℕ, List, IsTrue, OnOk, length};
 ghost use Rattle.wax_program.specs.Ends.{Reaches};
 ghost use Rattle.wax_program.specs.Threads.{AnyOf, HoldsPlace, IsEmpty};
@@ -10,9 +10,14 @@ use crate::sets::Sets;
 use crate::word_sets::WordSets;
 use std::alloc::{AllocError, Global};
 
-/// Flags in `ends` each place of the text where a part ends that begins at a place flagged in `starts` and
-/// that the program accepts; others stay as they are, or may be flagged too. It reads each instruction at
-/// most once a character and once at the end, each of which the meter counts.
+/// Sets the flag in `ends` of each place at which a part of the text ends that the program accepts
+/// and that begins at a place with a flag in `starts`. May set flags of other places, too, and
+/// clears none. Reads each instruction at most once for each character and once at the end; the
+/// meter counts these.
+///
+/// # Errors
+///
+/// Returns `AllocError` if allocation fails.
 pub fn run_from(
     alloc: Global,
     program: &Program,
@@ -41,7 +46,7 @@ pub fn run_from(
     Ok(())
 }
 
-/// Begins at the place, if it is flagged.
+/// Begins the program at this position too, if its flag is set.
 #[inline(always)]
 fn begin<R: Sets>(starts: &[bool], at: usize, sets: &mut R)
     requires within { at < length starts.now }
@@ -58,7 +63,7 @@ fn begin<R: Sets>(starts: &[bool], at: usize, sets: &mut R)
     }
 }
 
-/// Flags the place, if a part ends there.
+/// Sets the flag of the place, if a part ends there.
 #[inline(always)]
 fn mark(ends: &mut [bool], at: usize, ended: bool)
     requires within { at < length ends.old }
@@ -71,8 +76,8 @@ fn mark(ends: &mut [bool], at: usize, ended: bool)
     }
 }
 
-/// Goes on to the next place by the character, and answers whether a part ends here. Where no instruction is
-/// left to be read, none is.
+/// Moves to the next position by the character, and returns whether a part ends before it. Reads
+/// nothing if no instruction is left to be read.
 #[inline(always)]
 fn go_on<R: Sets>(program: &Program, c: char, sets: &mut R, meter: &mut Meter) -> bool
     requires size { (R.position sets.old).size ≡ length program.now.0 }
@@ -98,7 +103,7 @@ fn go_on<R: Sets>(program: &Program, c: char, sets: &mut R, meter: &mut Meter) -
     ended
 }
 
-/// The same, over empty sets.
+/// Sets flags as `run_from` does. The sets must be empty.
 fn onward_over<R: Sets>(
     program: &Program,
     text: &[char],

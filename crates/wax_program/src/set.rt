@@ -8,7 +8,7 @@ ghost use Rattle.wax_program.specs.Threads.{HoldsPlace, IsEmpty};
 use std::alloc::{AllocError, Global};
 use std::marker::Model;
 
-/// A set of places, 64 a word.
+/// A set of places, 64 in each word.
 #[derive(Drop)]
 pub struct Set {
     words: Vec<u64>,
@@ -23,7 +23,11 @@ impl Model for Set {
 }
 
 impl Set {
-    /// The empty set, with room for the places up to `last`.
+    /// Creates the empty set, with room for the places up to `last`.
+    ///
+    /// # Errors
+    ///
+    /// Returns `AllocError` if allocation fails.
     pub fn new(alloc: Global, last: usize) -> Result<Set, AllocError>
         ensures room { IfOk result (λ s. last < length s) }
         ensures exact { IfOk result (λ s. length s ≡ 64 * (last / 64 + 1)) }
@@ -56,7 +60,7 @@ impl Set {
         self.words[at / 64] = word & !(1u64 << (at % 64));
     }
 
-    /// The set as words.
+    /// Returns the set as words.
     #[inline]
     pub fn words(&self) -> &[u64]
         ensures same { self.now ≡ bits_of result.now }
@@ -65,7 +69,7 @@ impl Set {
         &self.words
     }
 
-    /// Takes the places of the words for its own.
+    /// Replaces the places by those of the words.
     pub fn load(&mut self, words: &[u64])
         requires { 64 * length words.now ≡ length self.old }
         ensures { self.new ≡ bits_of words.now }
@@ -81,7 +85,7 @@ impl Set {
         self.words.fill(0);
     }
 
-    /// The lowest place in this word or a later one.
+    /// Returns the lowest place in the word with this index or in a later one.
     pub fn first_from(&self, word: usize) -> Option<usize>
         ensures { MatchOption result ((k : ℕ) → HoldsPlace self.now k → k < 64 * word)
             (λ at. HoldsPlace self.now at × (64 * word ≤ at)

@@ -1,36 +1,37 @@
-//! The places of a program that a run has reached at a position of the text.
+//! The places of a program that a run has reached at a position in the text.
 ghost use Rattle.std.specs.Prelude.{◌≡◌, ◌+◌, ◌≤◌, ◌<◌, ◌^◌, ◌↔◌, ℕ, IfSome, IsTrue, MatchOption};
 ghost use Rattle.std.specs.Bool.{MatchBool};
 ghost use Rattle.wax_program.specs.Bits.{places_of};
 ghost use Rattle.wax_program.specs.Threads.{HoldsPlace, Inserted, InsertedNext, IsDone, IsEmpty, Position};
 ghost use Rattle.wax_program.specs.Threads.{Taken, member_count};
 
-/// Three sets of places: those that are still to be read at a position of the text, those that were
-/// read there, and those of the next position. The place after the last instruction, where the program
-/// ends, is never taken.
+/// Three sets of places: those that are still to be read at a position in the text, those that were
+/// read there, and those of the next position. The place after the last instruction, where the
+/// program ends, is never taken.
 pub trait Sets {
-    // The sets, and how many instructions the program has.
+    // The sets, and the number of instructions of the program.
     ghost position: { Self → Position };
 
-    /// Whether no instruction is left to be read here.
+    /// Returns whether no instruction is left to be read here.
     fn is_done(&self) -> bool
         ensures { MatchBool result (IsDone (position self.now))
             ((k : ℕ) × HoldsPlace (position self.now).pending k × (k < (position self.now).size)) };
 
-    /// The set that is to be read here, where it is held by a word.
+    /// Returns the set that is to be read here, if it fits in one word.
     fn word(&self) -> Option<u64>
         ensures { IfSome result (λ word. (position self.now).pending ≡ places_of word) };
 
-    /// Whether the word's set is to be read here. It may deny it where sets aren't held by words.
+    /// Returns whether the word's set is to be read here. May return `false` if sets aren't single
+    /// words.
     fn is_at(&self, word: u64) -> bool
         ensures { IsTrue result → (position self.now).pending ≡ places_of word };
 
-    /// Whether the word's set is to be read at the next position. It may deny it where sets aren't held by
-    /// words.
+    /// Returns whether the word's set is to be read at the next position. May return `false` if
+    /// sets aren't single words.
     fn leads_to(&self, word: u64) -> bool
         ensures { IsTrue result → (position self.now).next ≡ places_of word };
 
-    /// The lowest instruction that is still to be read here. From now on it was read.
+    /// Takes the lowest instruction that is still to be read here, and marks it as read.
     fn take(&mut self) -> Option<usize>
         ensures few { member_count (position self.new).read ≤ (position self.new).size }
         ensures small { (position self.old).size < 2 ^ 64 }
@@ -38,26 +39,26 @@ pub trait Sets {
             ((position self.new ≡ position self.old) × IsDone (position self.new))
             (λ at. Taken (position self.old) (position self.new) at) };
 
-    /// The place is to be read here, unless it was.
+    /// Inserts a place that is to be read here, unless it was read already.
     fn insert(&mut self, at: usize)
         ensures { Inserted (position self.old) (position self.new) at };
 
-    /// The place that is `by` after `at` is to be read here, unless it was.
+    /// Inserts the place `at + by`, which is to be read here, unless it was read already.
     fn insert_after(&mut self, at: usize, by: usize)
         ensures { Inserted (position self.old) (position self.new) (at + by) };
 
-    /// The place is to be read at the next position.
+    /// Inserts a place that is to be read at the next position.
     fn insert_next(&mut self, at: usize)
         ensures { InsertedNext (position self.old) (position self.new) at };
 
-    /// Goes on to the next position.
+    /// Moves to the next position.
     fn turn(&mut self)
         ensures size { (position self.new).size ≡ (position self.old).size }
         ensures pending { (position self.new).pending ≡ (position self.old).next }
         ensures read { IsEmpty (position self.new).read }
         ensures next { IsEmpty (position self.new).next };
 
-    /// Whether the program's end is reached here.
+    /// Returns whether the program's end is reached here.
     fn ends(&self) -> bool
         ensures { IsTrue result ↔ HoldsPlace (position self.now).pending (position self.now).size };
 }

@@ -1,4 +1,4 @@
-//! Sets of places that most characters leave as they are, so that no round is needed for these.
+//! Steady sets: sets of places that most characters lead back to, so that these need no round.
 ghost use Rattle.std.specs.Prelude.{◌≡◌, ◌+◌, ◌≤◌, ℕ, List, IfSome, IsTrue, min};
 ghost use Rattle.wax_program.specs.Machine.{PassesTest};
 ghost use Rattle.wax_program.specs.Meter.{most_ticks};
@@ -9,30 +9,32 @@ use crate::instruction::{Instruction, Test};
 use crate::machine::{Meter, Program, Visits};
 use crate::sets::Sets;
 
-/// The set of a word, which leads to itself by each character but `/` that the check at `watch` doesn't take.
+/// A set of places, held by a word, that leads back to itself by each character that the check at
+/// `watch` doesn't take, apart from `/`.
 #[derive(Clone, Copy)]
 pub struct Steady {
     pub word: u64,
     pub watch: usize,
-    /// Whether it leads to itself by `/` too.
+    /// True if `/` leads back to the set, too.
     pub by_slash: bool,
-    /// Whether it leads to itself by each character but `/`.
+    /// True if every character but `/` leads back to the set, so that nothing has to be watched.
     pub by_others: bool,
 }
 
-/// Which characters but `/` do what the character of a round did, by the instructions that were read.
+/// Which characters other than `/` have the effect that the character of a round had, as far as the
+/// instructions that were read show.
 #[derive(Clone, Copy)]
 pub enum Watch {
     /// All of them.
     Nothing,
     /// Those that the check at this place doesn't take.
     Place(usize),
-    /// It isn't known.
+    /// Not known.
     Lost,
 }
 
 impl Watch {
-    /// The check at the place didn't take the round's character.
+    /// Records that the check at the place didn't take the round's character.
     #[inline(always)]
     pub fn miss(&mut self, at: usize, test: &Test)
         ensures { NotedMiss self.old self.new at test.now }
@@ -46,7 +48,7 @@ impl Watch {
         };
     }
 
-    /// A repeated test was read.
+    /// Records that a repeated test was read.
     #[inline(always)]
     pub fn repeat(&mut self, test: &Test)
         ensures { NotedRepeat self.old self.new test.now }
@@ -57,7 +59,8 @@ impl Watch {
         }
     }
 
-    /// The place whose check is to be watched. Any place will do where none has to be.
+    /// Returns the place whose check has to be watched, or `None` if that isn't known. If none has
+    /// to be, any place is right.
     #[inline(always)]
     pub fn place(self) -> Option<usize>
         ensures { IfSome result
@@ -70,7 +73,7 @@ impl Watch {
         }
     }
 
-    /// Whether no character has to be told from others.
+    /// Returns whether all characters other than `/` have the effect of the round's.
     #[inline(always)]
     pub fn is_nothing(self) -> bool
         ensures { IsTrue result → (code : List Instruction) (d : ℕ) → Lets code self d }
@@ -82,7 +85,7 @@ impl Watch {
     }
 }
 
-/// Whether the instruction is no check that takes the character.
+/// Returns `false` for a check that takes the character, and `true` for any other instruction.
 #[inline(always)]
 fn misses(instruction: &Instruction, c: char) -> bool
     ensures { IsTrue result → (t : Test) → instruction.now ≡ Instruction.Check t → PassesTest t c → ⊥ }
@@ -93,8 +96,8 @@ fn misses(instruction: &Instruction, c: char) -> bool
     }
 }
 
-/// Whether the places that are to be read lead to themselves by the character, so far as that is known.
-/// It reads one instruction at most.
+/// Returns whether the character is known to lead from the places that are to be read back to them.
+/// Reads at most one instruction.
 #[inline(always)]
 pub fn stays<R: Sets>(
     program: &Program,
@@ -122,8 +125,8 @@ pub fn stays<R: Sets>(
     c == '/' || is_missed
 }
 
-/// Whether each character is known to lead from the places that are to be read back to them, so that no
-/// further character changes anything.
+/// Returns whether every character is known to lead from the places that are to be read back to
+/// them. The rest of the text then changes nothing.
 #[inline(always)]
 #[tactic(auto, using(crate::proofs::Staying::absorbing))]
 pub fn absorbs<R: Sets>(program: &Program, sets: &R, steady: Option<Steady>) -> bool

@@ -1,4 +1,4 @@
-//! Steps of a program by one character at a time, from sets of places that a caller keeps as words.
+//! Steps of a program by one character, from sets of places that a caller keeps as words.
 ghost use Rattle.std.specs.Prelude.{◌≡◌, ◌+◌, ◌/◌, ◌≤◌, ◌↔◌, ℕ, List, IfOk, IsTrue, [], length};
 ghost use Rattle.wax_program.specs.Bits.{bits_of};
 ghost use Rattle.wax_program.specs.Machine.{Accepts};
@@ -11,10 +11,10 @@ use crate::sets::Sets;
 use std::alloc::{AllocError, Global};
 use std::marker::Model;
 
-/// Holds the set of places that the last step reached, and room for the next step.
+/// The set of places that the last step reached, and room for the next step.
 ///
-/// A set is passed and returned as a row: 64 places a word, with a place for the program's end, so a row
-/// has `size / 64 + 1` words.
+/// Sets are passed and returned as rows of words, with 64 places in each. There is also a place for
+/// the program's end, so a row has `size / 64 + 1` words.
 #[derive(Drop)]
 pub struct Stepper {
     sets: HeapSets,
@@ -32,10 +32,12 @@ impl Model for Stepper {
 }
 
 impl Stepper {
-    /// Makes a stepper for a program of `size` instructions that has reached no place.
+    /// Creates a stepper for a program of `size` instructions, which has reached no place. Other
+    /// calls don't allocate.
     ///
     /// # Errors
-    /// `AllocError` if allocation fails. Later calls allocate nothing.
+    ///
+    /// Returns `AllocError` if allocation fails.
     pub fn new(alloc: Global, size: usize) -> Result<Stepper, AllocError>
         ensures size { IfOk result (λ s. s.size ≡ size) }
         ensures empty { IfOk result (λ s. IsEmpty s.places) }
@@ -44,7 +46,7 @@ impl Stepper {
         Ok(Stepper { sets })
     }
 
-    /// Returns the places that were reached as a row.
+    /// Returns the row of the places that were reached.
     #[inline]
     pub fn row(&self) -> &[u64]
         ensures same { self.now.places ≡ bits_of result.now }
@@ -54,7 +56,7 @@ impl Stepper {
         self.sets.row()
     }
 
-    /// Returns whether no place was reached, so that no text that goes on is accepted.
+    /// Returns whether no place was reached. Then no text is accepted, however it goes on.
     #[inline]
     pub fn is_empty(&self) -> bool
         ensures { IsTrue result → IsEmpty self.now.places }
@@ -62,7 +64,7 @@ impl Stepper {
         self.sets.is_empty()
     }
 
-    /// Reaches the place `start` only.
+    /// Reaches only the place `start`.
     pub fn begin(&mut self, program: &Program, start: usize)
         requires size { self.old.size ≡ length program.now.0 }
         requires start { start ≤ length program.now.0 }
@@ -74,7 +76,8 @@ impl Stepper {
         self.sets.insert(start);
     }
 
-    /// Reaches what the places of the row lead to by the character. It reads at most `size` instructions.
+    /// Reaches the places to which those of the row lead by the character. Reads at most `size`
+    /// instructions.
     pub fn step(&mut self, program: &Program, row: &[u64], c: char)
         requires size { self.old.size ≡ length program.now.0 }
         requires room { length row.now ≡ self.old.size / 64 + 1 }
@@ -88,8 +91,9 @@ impl Stepper {
         self.sets.turn();
     }
 
-    /// Returns whether the places of the row accept the empty text. It reads at most `size` instructions.
-    /// Nothing is known of the places that are reached afterwards.
+    /// Returns whether the text ends here: whether the program, begun at a place of the row,
+    /// accepts the empty text. Reads at most `size` instructions. The places that are reached
+    /// afterwards are unspecified.
     pub fn accepts(&mut self, program: &Program, row: &[u64]) -> bool
         requires size { self.old.size ≡ length program.now.0 }
         requires room { length row.now ≡ self.old.size / 64 + 1 }

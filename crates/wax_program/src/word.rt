@@ -21,7 +21,7 @@ impl Model for Word {
 }
 
 impl Word {
-    /// The empty set.
+    /// Creates the empty set.
     #[inline]
     pub fn new() -> Word
         ensures room { length result ≡ 64 }
@@ -30,7 +30,7 @@ impl Word {
         Word { bits: 0 }
     }
 
-    /// The set as a word.
+    /// Returns the set as a word.
     #[inline]
     pub fn bits(&self) -> u64
         ensures { self.now ≡ places_of result }
@@ -38,7 +38,7 @@ impl Word {
         self.bits
     }
 
-    /// Whether it is the set of this word.
+    /// Returns whether it is the set of this word.
     #[inline]
     pub fn is(&self, bits: u64) -> bool
         ensures { IsTrue result → self.now ≡ places_of bits }
@@ -79,7 +79,7 @@ impl Word {
         self.bits = 0;
     }
 
-    /// The lowest place, or 64 where there is none.
+    /// Returns the lowest place, or 64 if the set is empty.
     #[inline]
     pub fn first(&self) -> usize
         ensures lowest { (k : ℕ) → HoldsPlace self.now k → result ≤ k }

@@ -1,4 +1,4 @@
-//! The places that a run has reached, for programs of fewer than 64 instructions.
+//! The sets of places of a run, for programs of fewer than 64 instructions.
 ghost use Rattle.std.specs.Prelude.{◌≡◌, ◌<◌};
 ghost use Rattle.wax_program.specs.Threads.{IsEmpty};
 
@@ -7,16 +7,16 @@ use crate::word::Word;
 use std::marker::Model;
 use std::mem;
 
-/// Three sets of one word each. They take no memory but their own.
+/// Three sets of one word each. They don't allocate.
 #[derive(Drop)]
 pub struct WordSets {
-    /// How many instructions the program has. Places past it are never inserted.
+    /// The number of instructions of the program. Greater places are never inserted.
     size: usize,
-    /// What is still to be read here.
+    /// The places that are still to be read here.
     pending: Word,
-    /// What was read here.
+    /// The places that were read here.
     read: Word,
-    /// What is to be read at the next position.
+    /// The places that are to be read at the next position.
     next: Word,
 }
 
@@ -31,7 +31,7 @@ impl Model for WordSets {
 }
 
 impl WordSets {
-    /// Empty sets for a program of `size` instructions.
+    /// Creates empty sets for a program of `size` instructions.
     #[inline]
     pub fn new(size: usize) -> WordSets
         requires { size < 64 }

@@ -1,4 +1,4 @@
-//! Places in an expression, and the two ways in which a build gives nothing.
+//! Places in an expression, and the two kinds of errors of a build.
 
 ghost use Rattle.std.specs.Prelude.{◌≡◌};
 
@@ -11,7 +11,7 @@ mod span;
 pub use located::{CompositeSpan, CorrelatedSpan, LocatedError};
 pub use span::{Span, SpanExt, Spanned};
 
-/// Memory was asked for and refused (refusal 10).
+/// The error of a failed allocation (number 10).
 #[derive(Clone, Copy, Debug, Error)]
 #[error("no memory")]
 pub struct NoMemory;
@@ -22,12 +22,14 @@ impl From<AllocError> for NoMemory {
     }
 }
 
-/// Why a build gave nothing: it was refused for the stated reason, or memory was (refusal 10).
+/// Why a build failed: for the stated reason, or because an allocation failed (number 10).
 #[derive(Debug, Drop, Error)]
 #[error_bound(E: std::fmt::Display)]
 pub enum Refusal<E> {
+    /// The build failed for this reason.
     #[error("{0}")]
     Refused(E),
+    /// An allocation failed.
     #[error("no memory")]
     Memory,
 }

@@ -1,5 +1,5 @@
-//! What every layer of the globs speaks of: places in an expression, how a build can end, and the
-//! answers of static queries.
+//! Types that every crate of the globs uses: places in an expression, the errors of a build, and
+//! the results of static queries.
 #![tactic(auto)]
 
 pub mod diagnostics;

@@ -1,4 +1,4 @@
-//! What a static query answers.
+//! The results of static queries.
 
 mod capturing;
 mod range;

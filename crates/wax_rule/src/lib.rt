@@ -1,4 +1,4 @@
-//! The rules that a parsed expression has to keep.
+//! The rules that a parsed expression has to keep, and fixed sizes of tokens.
 #![tactic(auto)]
 
 pub mod rule;

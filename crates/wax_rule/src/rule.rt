@@ -1,4 +1,4 @@
-//! The rules that tell expressions apart whose meaning would surprise.
+//! The rules that reject expressions which would match other paths than their authors expect.
 ghost use Rattle.std.specs.Prelude.{◌≡◌, ◌∷◌, ◌++◌, ◌<◌, [], ℕ, Bool, IfOk, None, chars, codes};
 ghost use Rattle.std.specs.Prelude.{encode_utf8_all, length, map, slice_get};
 ghost use Rattle.std.specs.Cow.{cow_str_bytes};
@@ -34,8 +34,8 @@ pub use wax_break::RuleErrorKind;
 use wax_query::diagnostics::{CompositeSpan, NoMemory, Refusal, Span};
 use wax_token::token::{ExpressionMetadata, Token, Tokenized};
 
-/// The first rule that an expression breaks, and where (refusals 2 to 8). It prints the rule.
-/// Contracts see the rule, the place and the characters of the expression.
+/// The first rule that an expression breaks, and the place (errors 2 to 8). Its `Display` form
+/// describes the rule. Contracts see the rule, the place and the characters of the expression.
 #[derive(Debug)]
 pub struct RuleError<'t> {
     expression: CowStr<'t>,
@@ -43,7 +43,7 @@ pub struct RuleError<'t> {
     location: CompositeSpan,
 }
 
-// Written out, so that a crate that drops these needn't prove again how places are dropped.
+// Written out, so that crates that drop these don't have to prove again how places are dropped.
 impl Drop for RuleError<'_> {
     fn drop(self) {
         let RuleError {
@@ -69,28 +69,32 @@ impl<'t> Model for RuleError<'t> {
 }
 
 impl<'t> RuleError<'t> {
-    /// Which rule is broken.
+    /// Returns which rule is broken.
     pub fn kind(&self) -> RuleErrorKind
         ensures { result ≡ self.now.kind }
     {
         self.kind
     }
 
-    /// The place where it is broken: one, with the places that explain it.
+    /// Returns the places of the error. There is exactly one, with the places that explain it.
     pub fn locations(&self) -> &[CompositeSpan]
         ensures { result.now ≡ self.now.location ∷ [] }
     {
         std::slice::from_ref(&self.location)
     }
 
-    /// The expression that breaks it.
+    /// Returns the whole expression that breaks the rule.
     pub fn expression(&self) -> &str
         ensures { chars result.now ≡ self.now.expression }
     {
         self.expression.as_str()
     }
 
-    /// The same error with an expression of its own. Refused with 10 where memory is.
+    /// Converts the error to one that owns its expression. Copies the expression if it is borrowed.
+    ///
+    /// # Errors
+    ///
+    /// Returns `NoMemory` if allocation fails.
     pub fn into_owned(self, alloc: Global) -> Result<RuleError<'static>, NoMemory>
         ensures { IfOk result (λ e. e ≡ self.entry) }
     {
@@ -114,7 +118,7 @@ impl Display for RuleError<'_> {
     }
 }
 
-/// What keeps all rules. Contracts see it as what it holds.
+/// Tokens that passed `check`, or were combined from such tokens. Contracts see it as its content.
 #[derive(Drop)]
 pub struct Checked<T> {
     inner: T,
@@ -127,7 +131,7 @@ impl<T> Model for Checked<T> {
 }
 
 impl<T> Checked<T> {
-    /// What was checked.
+    /// Returns what was checked.
     pub fn release(self) -> T
         ensures { result ≡ self }
     {
@@ -135,7 +139,7 @@ impl<T> Checked<T> {
     }
 }
 
-/// A break at one place.
+/// Builds a break at one place, which no other place explains.
 fn break_here(kind: RuleErrorKind, span: Span) -> Break
     ensures { result ≡ break_here kind span }
 {
@@ -145,7 +149,7 @@ fn break_here(kind: RuleErrorKind, span: Span) -> Break
     }
 }
 
-/// One of the rules.
+/// A rule, or several that look at one kind of token.
 #[derive(Clone, Copy)]
 enum Rule {
     Boundary,
@@ -153,7 +157,7 @@ enum Rule {
     Branch,
 }
 
-/// The first break of a rule in a token.
+/// Returns the first break of a rule at a token.
 fn first_break(rule: Rule, token: &Situated<'_, '_>) -> Option<Break>
     ensures { result ≡ head_of (breaks_of rule token.now) }
 {
@@ -164,7 +168,7 @@ fn first_break(rule: Rule, token: &Situated<'_, '_>) -> Option<Break>
     }
 }
 
-/// The same of the token at the index.
+/// Returns the first break of a rule at the token with this index, or `None` past the end.
 fn first_break_at(rule: Rule, row: &[Situated<'_, '_>], index: usize) -> Option<Break>
     ensures { result ≡ first_in rule (slice_get row.now index) }
 {
@@ -174,21 +178,23 @@ fn first_break_at(rule: Rule, row: &[Situated<'_, '_>], index: usize) -> Option<
     }
 }
 
-/// Whether there is one.
+/// Returns whether the token at the index breaks the rule.
 fn is_broken_at(rule: Rule, row: &[Situated<'_, '_>], index: usize) -> bool
     ensures { result ≡ is_broken_at rule row.now index }
 {
     first_break_at(rule, row, index).is_some()
 }
 
-/// The first token that breaks the rule: twice its index.
+/// Finds the first token that breaks the rule. `find_position` returns its position with the item,
+/// and here both are its index.
 fn find_broken(rule: Rule, row: &[Situated<'_, '_>]) -> Option<(usize, usize)>
     ensures { result ≡ find_at (is_broken_at rule row.now) 0 (range_with_len 0 (length row.now)) }
 {
     (0..row.len()).find_position(|index| is_broken_at(rule, row, *index))
 }
 
-/// The first break of the rule.
+/// Finds the first break of the rule. The token that was found is checked once more, since finding
+/// it keeps no break.
 fn find_break(rule: Rule, row: &[Situated<'_, '_>]) -> Option<Break>
     ensures { result ≡ head_of (flat_map (breaks_of rule) row.now) }
 {
@@ -196,7 +202,7 @@ fn find_break(rule: Rule, row: &[Situated<'_, '_>]) -> Option<Break>
     first_break_at(rule, row, index)
 }
 
-/// The first break of the rules that look at tokens and their neighbours.
+/// Finds the first break of any rule but that of sizes, in the order of the rules.
 fn find_beside(row: &[Situated<'_, '_>]) -> Option<Break>
     ensures { result ≡ head_of (breaks_beside row.now) }
 {
@@ -205,7 +211,7 @@ fn find_beside(row: &[Situated<'_, '_>]) -> Option<Break>
         .or(find_break(Rule::Branch, row))
 }
 
-/// Whether the token has a fixed size of 65,536 or more.
+/// Returns the break of the rule of sizes at this token itself, not inside it.
 fn size_break<'t>(
     alloc: Global,
     token: &Token<'t, ExpressionMetadata>,
@@ -219,7 +225,7 @@ fn size_break<'t>(
     Ok(None)
 }
 
-/// The first token of such a size.
+/// Finds the first token that is too large.
 fn find_oversized(alloc: Global, row: &[Situated<'_, '_>]) -> Result<Option<Break>, AllocError>
     ensures { IfOk result (λ found. found ≡ head_of (oversized row.now)) }
 {
@@ -231,7 +237,8 @@ fn find_oversized(alloc: Global, row: &[Situated<'_, '_>]) -> Result<Option<Brea
     Ok(None)
 }
 
-/// The first break of all rules.
+/// Finds the first break of any rule in a list of tokens. Sizes are computed only if no other rule
+/// is broken.
 fn find_among(alloc: Global, row: &[Situated<'_, '_>]) -> Result<Option<Break>, AllocError>
     ensures { IfOk result (λ found. found ≡ head_of (breaks_among row.now)) }
 {
@@ -241,7 +248,7 @@ fn find_among(alloc: Global, row: &[Situated<'_, '_>]) -> Result<Option<Break>, 
     }
 }
 
-/// The first break of all rules in a token.
+/// Finds the first break of any rule in a token, at any depth.
 fn find_first<'t>(
     alloc: Global,
     token: &Token<'t, ExpressionMetadata>,
@@ -252,9 +259,15 @@ fn find_first<'t>(
     find_among(alloc, row.as_slice())
 }
 
-/// The tokens as they were given, where they break no rule; else refused with the number of the first
-/// rule that is broken, 2 to 8, at its first place. Takes memory for a list of the tokens, and time in
-/// proportion to them and to how deep they nest.
+/// Checks the rules, and returns the tokens unchanged if they break none.
+///
+/// Allocates a list of all tokens. Takes time proportional to their number and to how deep they
+/// nest.
+///
+/// # Errors
+///
+/// Returns `Refusal::Refused` with the first rule that is broken (errors 2 to 8) at its first
+/// place, and `Refusal::Memory` if allocation fails.
 pub fn check<'t>(
     alloc: Global,
     tokenized: Tokenized<'t, ExpressionMetadata>,

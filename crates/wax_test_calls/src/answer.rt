@@ -1,9 +1,9 @@
-//! The answer of a row, as it is written.
+//! The answer of a row, as text.
 
 use std::alloc::Global;
 use std::fmt::{Debug, Display};
 
-/// The fields of a row and its answer, which remembers whether memory was refused for it.
+/// The fields of a row and its answer. It remembers whether allocation failed for it.
 #[derive(Drop)]
 pub struct Answer {
     text: String,
@@ -19,7 +19,7 @@ impl Answer {
         }
     }
 
-    /// Returns the text, or `no memory` if memory was refused for it.
+    /// Returns the text, or `no memory` if allocation failed for it.
     pub fn text(&self) -> &str {
         if self.is_lost {
             "no memory"
@@ -35,14 +35,14 @@ impl Answer {
         }
     }
 
-    /// Adds what a value prints.
+    /// Adds the `Display` form of a value.
     pub fn show<T: Display>(&mut self, value: &T) {
         if write!(self.text, "{value}").is_err() {
             self.is_lost = true;
         }
     }
 
-    /// Adds what a value prints for a programmer.
+    /// Adds the `Debug` form of a value.
     pub fn debug<T: Debug>(&mut self, value: &T) {
         if write!(self.text, "{value:?}").is_err() {
             self.is_lost = true;
@@ -56,7 +56,7 @@ impl Answer {
         }
     }
 
-    /// Adds bytes as a field shows them.
+    /// Adds bytes as a field shows them, or `not text` if they aren't text.
     pub fn bytes(&mut self, bytes: &[u8]) {
         let Ok(shown) = str::from_utf8(bytes) else {
             return self.add("not text");

@@ -13,10 +13,11 @@ use wax_commands::{FileFault, run_globs};
 use wax_test_kit::plans::{ROOT, tree_of};
 use wax_test_kit::streams::Narrow;
 
-/// `src` with two files and the folder `a` with one, and `target` with one; no fault.
+/// `src` with two files and a folder `a` with one, and `target` with one. Nothing in it fails.
 const PROJECT: &str = "src/ lib.rs notes.md a/ mod.rs ; ; target/ lib.rs ;";
 
-/// A folder that can't be listed, an item that can't be read, names that are not text or bad, and two files.
+/// A folder that can't be listed, an item that can't be read, a name that isn't text, a bad name,
+/// and two files.
 const FAULTY: &str = "first sealed# ! ? .. last";
 
 /// Returns the plan of this name, or the name as a plan.
@@ -28,7 +29,12 @@ fn plan_of(name: &str) -> &str {
     }
 }
 
-/// Adds the status of a run, how often it reads and writes, what is written, and what is told.
+/// Adds the status of a run, how often it reads and writes, and what it writes to its output and to
+/// its error output.
+///
+/// # Errors
+///
+/// Returns `NoMemory` if allocation fails.
 pub fn add_run(alloc: Global, row: &str, made: &mut Answer) -> Result<(), NoMemory> {
     let Ok(words) = words_of(alloc, field(row, 1)) else {
         return Err(NoMemory);
@@ -81,7 +87,7 @@ fn add_ran<D: Directory>(
     made.bytes(&told.taken);
 }
 
-/// Returns the words of a command: `''` is an empty one, and `¿` one that isn't text.
+/// Returns the arguments of a command: `''` is an empty one, and `¿` one that isn't text.
 fn words_of(alloc: Global, line: &str) -> Result<Vec<Option<String>>, AllocError> {
     let mut words = Vec::new(alloc);
     for word in line.split(' ') {
@@ -92,7 +98,7 @@ fn words_of(alloc: Global, line: &str) -> Result<Vec<Option<String>>, AllocError
     Ok(words)
 }
 
-/// Returns the bytes of the files that are there.
+/// Returns the bytes of a file, by its name.
 fn held(alloc: Global, file: &str) -> Result<Vec<u8>, FileFault> {
     let bytes: &[u8] = match file {
         "empty" => b"",
@@ -109,7 +115,8 @@ fn held(alloc: Global, file: &str) -> Result<Vec<u8>, FileFault> {
     }
 }
 
-/// A program called with `match`, a long word, and a word that isn't text.
+/// The environment of a program that is called with `match`, a long argument, and one that isn't
+/// text.
 #[derive(Drop)]
 struct Called<'a> {
     long: &'a [u8],
@@ -140,7 +147,11 @@ impl Env for Called<'_> {
     }
 }
 
-/// Adds the words of this program.
+/// Adds the arguments of this program.
+///
+/// # Errors
+///
+/// Returns `NoMemory` if allocation fails.
 pub fn add_words(alloc: Global, made: &mut Answer) -> Result<(), NoMemory> {
     let Ok(long) = vec![in alloc; b'a'; 300] else {
         return Err(NoMemory);

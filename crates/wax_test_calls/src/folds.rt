@@ -17,7 +17,7 @@ use wax::token::{
 };
 use wax_token::token::{new_branch, new_leaf};
 
-/// Finds a `**`.
+/// A fold that returns whether there is a `**`.
 #[derive(Drop)]
 struct TreeFinder;
 
@@ -89,7 +89,7 @@ fn is_tree(leaf: &LeafKind<'_>) -> bool
     }
 }
 
-/// Whether the tree holds a `**`.
+/// Returns whether the tree contains a `**`.
 #[tactic(auto, using(crate::proofs::Finding::found))]
 fn holds_tree<'t, A>(alloc: Global, token: &Token<'t, A>) -> Result<bool, NoMemory>
     ensures { IfOk result (λ b. b ≡ holds_tree token.now) }
@@ -100,7 +100,7 @@ fn holds_tree<'t, A>(alloc: Global, token: &Token<'t, A>) -> Result<bool, NoMemo
     }
 }
 
-/// Gives each token the annotation 7.
+/// A map that annotates each token with 7.
 #[derive(Drop)]
 struct Marker;
 
@@ -135,14 +135,18 @@ impl<'t, A: Drop> FoldMap<'t, A> for Marker {
     }
 }
 
-/// The tree with the annotation 7 everywhere.
+/// Returns the tree with the annotation 7 everywhere.
 fn marked<'t>(alloc: Global, token: Token<'t, u8>) -> Result<Option<Token<'t, u8>>, NoMemory>
     ensures { IfOk result (λ r. r ≡ mapped marking token.entry) }
 {
     fold_map(alloc, token, &mut Marker)
 }
 
-/// Adds what a fold or a walk gives of the tokens of `a{?,**}</:1,>`.
+/// Adds what a fold returns or a walk yields of the tokens of `a{?,**}</:1,>`.
+///
+/// # Errors
+///
+/// Returns `NoMemory` if allocation fails.
 pub fn add_tokens(alloc: Global, kind: &str, made: &mut Answer) -> Result<(), NoMemory> {
     if kind == "marked" {
         return add_marked(alloc, made);
@@ -184,7 +188,7 @@ fn with_copies<'t>(alloc: Global, tokens: Vec<Token<'t, u8>>) -> Vec<Token<'t, u
     }
 }
 
-/// Adds the annotation of each token once all are marked.
+/// Marks all tokens, and adds the annotation of each.
 fn add_marked(alloc: Global, made: &mut Answer) -> Result<(), NoMemory> {
     let Ok(Some(token)) = marked(alloc, sample(alloc)) else {
         return Err(NoMemory);
@@ -244,7 +248,7 @@ fn add_depths<S: Sequencer + Drop>(
     if is_whole { Ok(()) } else { Err(NoMemory) }
 }
 
-/// Adds the depths of the tokens behind the third, below whose branch nothing more is given.
+/// Adds the depths of the tokens after the third. The walk skips what is inside that one.
 fn add_cancelled(alloc: Global, token: &Token<'_, u8>, made: &mut Answer) -> Result<(), NoMemory> {
     let mut walk = forward(alloc, token);
     for _ in 0..3 {

@@ -1,4 +1,5 @@
-//! The two calls of lines, over readers and writers that fail or are interrupted.
+//! Calls of `filter_lines` and `capture_lines`, over readers and writers that fail or are
+//! interrupted.
 
 use crate::answer::Answer;
 use crate::pictures::Pictures;
@@ -8,9 +9,13 @@ use std::alloc::Global;
 use std::io::{Read, Write};
 use wax::{Counted, Glob, LinesError, NoMemory, capture_lines, filter_lines};
 
-/// Adds how a call of lines ends, how often it reads and writes, and what is written. What follows it is
-/// another call with the same streams (`again`), a write of nothing and a flush (`flush`), or a call whose
-/// input is the field.
+/// Adds how a call ends, how often it reads and writes, and what it writes. Another call with these
+/// streams follows (`again`), or a write of nothing and a flush (`flush`), or a call whose input is
+/// the field.
+///
+/// # Errors
+///
+/// Returns `NoMemory` if allocation fails.
 pub fn add_lines(alloc: Global, row: &str, made: &mut Answer) -> Result<(), NoMemory> {
     let Ok(bytes) = bytes_of(alloc, field(row, 3)) else {
         return Err(NoMemory);
@@ -52,13 +57,13 @@ fn add_next(alloc: Global, row: &str, next: &str, output: &mut Writer, made: &mu
     }
 }
 
-/// Writes nothing, which succeeds, and flushes, which fails: both are counted.
+/// Writes nothing, which succeeds, and flushes, which fails. Both are counted.
 fn write_nothing(output: &mut Writer) {
     let _ = output.write(b"");
     let _ = output.flush();
 }
 
-/// Adds how a call ends: with how many lines that aren't text, or an error.
+/// Adds how a call ends: with the number of lines that aren't text, or with an error.
 fn add_call<R: Read, W: Write>(
     alloc: Global,
     row: &str,
@@ -98,8 +103,12 @@ fn captured<R: Read, W: Write>(
     capture_lines(alloc, input, output, &glob)
 }
 
-/// Adds how the filter ends of a line that begins with so many letters and a short one, and whether it
-/// writes both.
+/// Filters a line of `count` letters and `.png`, and a short one. Adds how the call ends, and
+/// whether it writes both.
+///
+/// # Errors
+///
+/// Returns `NoMemory` if allocation fails.
 pub fn add_long_line(alloc: Global, count: &str, made: &mut Answer) -> Result<(), NoMemory> {
     let Ok(mut bytes) = vec![in alloc; b'a'; count.parse().unwrap_or(0)] else {
         return Err(NoMemory);

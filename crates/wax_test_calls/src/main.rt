@@ -1,6 +1,6 @@
-//! Runs calls over streams and directories that fail, one for each row of the files in `data`, and prints the
-//! rows that come to something else. Each line of standard input is a row without its answer, and is printed
-//! with it.
+//! Tests calls over streams and directories that fail: computes the answer of each row of the files
+//! in `data`, and prints the rows whose answer differs. Each line of standard input is a row
+//! without its answer, and is printed with it.
 #![tactic(auto)]
 
 mod answer;
@@ -28,8 +28,8 @@ fn main(rt: HostRuntime) -> io::Result<()> {
     Ok(())
 }
 
-/// Prints the rows of a file that are other, and how many are the same. So many fields of each are given: its
-/// answer follows them.
+/// Prints the rows of a file whose answer differs, and how many rows agree and how many differ. The
+/// first `given` fields of a row are its input, and its answer follows them.
 fn compare(rt: &HostRuntime, name: &str, given: usize) -> io::Result<()> {
     let text = fs::read_to_string(rt, name)?;
     let mut same = 0u64;
@@ -47,7 +47,7 @@ fn compare(rt: &HostRuntime, name: &str, given: usize) -> io::Result<()> {
     println!(rt; "{name}: {same} the same, {other} other")
 }
 
-/// Returns whether a row comes to what it says, and prints both if it doesn't.
+/// Returns whether the answer of a row is the one that is computed. If not, prints both.
 fn is_same(rt: &HostRuntime, row: &str, given: usize) -> io::Result<bool> {
     let mut made = Answer::new(rt.alloc());
     rows::make(rt.alloc(), row, given, &mut made);

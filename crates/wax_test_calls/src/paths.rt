@@ -1,4 +1,4 @@
-//! Paths, matches and counted calls: what each returns and prints.
+//! What paths, matches and counted calls return and print.
 
 use crate::answer::Answer;
 use crate::pictures::Pictures;
@@ -8,7 +8,11 @@ use std::io::{Read, Write};
 use wax::{CandidatePath, Counted, MatchedText, NoMemory, Program};
 use wax_test_kit::streams::Asked;
 
-/// Adds what a path prints, whether it is a picture's and by how many visits, and its copy.
+/// Adds what a path prints, whether `Pictures` matches it and in how many visits, and its copy.
+///
+/// # Errors
+///
+/// Returns `NoMemory` if allocation fails.
 pub fn add_path(alloc: Global, path: &str, made: &mut Answer) -> Result<(), NoMemory> {
     let path = CandidatePath::from(path);
     add_texts(&path, made);
@@ -51,6 +55,10 @@ fn add_part(made: &mut Answer, part: &str) {
 }
 
 /// Adds what is captured of a path.
+///
+/// # Errors
+///
+/// Returns `NoMemory` if allocation fails.
 pub fn add_match(alloc: Global, path: &str, made: &mut Answer) -> Result<(), NoMemory> {
     match Pictures.matched(alloc, &CandidatePath::from(path)) {
         Ok(Some(matched)) => {
@@ -65,7 +73,11 @@ pub fn add_match(alloc: Global, path: &str, made: &mut Answer) -> Result<(), NoM
     }
 }
 
-/// Adds what is captured of a path, and by how many visits.
+/// Adds what is captured of a path, and in how many visits.
+///
+/// # Errors
+///
+/// Returns `NoMemory` if allocation fails.
 pub fn add_counted_match(alloc: Global, path: &str, made: &mut Answer) -> Result<(), NoMemory> {
     let path = CandidatePath::from(path);
     let Ok((matched, visits)) = Pictures.matched_counted(alloc, &path) else {
@@ -86,7 +98,8 @@ fn add_captures(matched: &MatchedText<'_>, made: &mut Answer) {
     made.add(matched.to_candidate_path().as_str());
 }
 
-/// Adds how many of six calls are counted, how many failed, and how many of each kind are forwarded.
+/// Adds how many of six calls are counted, how many of them failed, and how many of each kind are
+/// forwarded.
 pub fn add_counted(made: &mut Answer) {
     let mut counted = Counted::new(Asked {
         reads: 0,

@@ -5,7 +5,8 @@ ghost use Rattle.std.specs.List.{ends_with};
 use std::alloc::Global;
 use wax::{BuildMatcher, CandidatePath, MatchedText, NoMemory, Program, ProgramMatcher};
 
-/// Matches the texts that end in `.png`. It finds no memory for the text `starve`.
+/// A program that matches the texts that end with `.png`. For the text `starve` it returns
+/// `NoMemory`.
 pub struct Pictures;
 
 impl Program for Pictures {

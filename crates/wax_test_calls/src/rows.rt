@@ -1,4 +1,4 @@
-//! Rows: their fields, what stands for characters that a field can't hold, and their answers.
+//! Rows: their fields, replacements for characters that a field can't contain, and their answers.
 
 use crate::answer::Answer;
 use crate::commands::{add_run, add_words};
@@ -8,13 +8,17 @@ use crate::paths::{add_counted, add_counted_match, add_match, add_path};
 use std::alloc::{AllocError, Global};
 use wax::NoMemory;
 
-/// Returns the field of a row at the index, or no text.
+/// Returns the field of a row at the index, or an empty text.
 pub fn field(row: &str, index: usize) -> &str {
     row.split('\t').nth(index).unwrap_or("")
 }
 
-/// Returns the bytes of a field, in which `␊`, `␍` and `␉` stand for a line feed, a carriage return and a
-/// tab, and `¿` and `¡` for the bytes 255 and 195.
+/// Returns the bytes of a field. In it, `␊`, `␍` and `␉` are a line feed, a carriage return and a
+/// tab, and `¿` and `¡` are the bytes 255 and 195.
+///
+/// # Errors
+///
+/// Returns `AllocError` if allocation fails.
 pub fn bytes_of(alloc: Global, field: &str) -> Result<Vec<u8>, AllocError> {
     let mut bytes = Vec::new(alloc);
     for character in field.chars() {
@@ -36,7 +40,7 @@ fn push_character(bytes: &mut Vec<u8>, character: char) -> Result<(), AllocError
     Ok(())
 }
 
-/// Adds the fields of a row that are given, and its answer.
+/// Adds the first `given` fields of a row, and its answer.
 pub fn make(alloc: Global, row: &str, given: usize, made: &mut Answer) {
     for part in row.split('\t').take(given) {
         made.add(part);

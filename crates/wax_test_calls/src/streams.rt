@@ -1,26 +1,26 @@
-//! The streams of a row, and what was asked of them.
+//! The streams of a row, and counts of their calls.
 
 use crate::answer::Answer;
 use std::alloc::Global;
 use wax::Counted;
 use wax_test_kit::streams::{Interrupted, Narrow, Slow};
 
-/// A reader that gives one byte at a time.
+/// A reader that yields one byte at a time.
 pub type Reader<'a> = Counted<Interrupted<Slow<'a>>>;
 
-/// A writer that takes so many bytes.
+/// A writer that takes a limited number of bytes.
 pub type Writer = Counted<Interrupted<Narrow>>;
 
-/// Returns a reader of these bytes. After `reads N` reads, each fails; the read after `interrupted N` is
-/// interrupted.
+/// Returns a reader of these bytes. With `reads N`, all reads after the first N fail. With
+/// `interrupted N`, the read after the first N is interrupted.
 pub fn reader<'a>(streams: &str, bytes: &'a [u8]) -> Reader<'a> {
     let left = number_after(streams, "reads").unwrap_or(u64::MAX);
     let before = number_after(streams, "interrupted").unwrap_or(u64::MAX);
     Counted::new(Interrupted::new(Slow::new(bytes, left), before))
 }
 
-/// Returns a writer that takes all. After `room N` bytes a write fails, after `takes N` bytes it takes
-/// nothing, and the write after `disturbed N` is interrupted.
+/// Returns a writer that takes all bytes. With `room N`, a write fails after N bytes; with `takes
+/// N`, it then takes nothing. With `disturbed N`, the write after the first N is interrupted.
 pub fn writer(alloc: Global, streams: &str) -> Writer {
     let before = number_after(streams, "disturbed").unwrap_or(u64::MAX);
     Counted::new(Interrupted::new(narrow(alloc, streams), before))
@@ -34,7 +34,7 @@ fn narrow(alloc: Global, streams: &str) -> Narrow {
     Narrow::new(alloc, taken as usize, false)
 }
 
-/// Returns the number that follows a word.
+/// Returns the number after a word.
 pub fn number_after(streams: &str, word: &str) -> Option<u64> {
     let mut words = streams.split(' ');
     while let Some(name) = words.next() {
@@ -45,7 +45,7 @@ pub fn number_after(streams: &str, word: &str) -> Option<u64> {
     None
 }
 
-/// Adds how many reads and writes there were, and how many of each failed.
+/// Adds how many reads there were and how many of them failed, and then the two numbers of writes.
 pub fn add_counts<R, W>(input: &Counted<R>, output: &Counted<W>, made: &mut Answer) {
     made.add("\t");
     made.show(&input.calls());

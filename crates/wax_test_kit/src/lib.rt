@@ -1,4 +1,4 @@
-//! What tests share: trees from short texts, and readers and writers that fail.
+//! What tests share: trees in memory from short texts, and readers and writers that fail.
 #![tactic(auto)]
 
 pub mod plans;

@@ -1,28 +1,32 @@
-//! Trees from plans, for tests.
+//! Trees in memory from plans, for tests.
 //!
-//! A plan of a folder has a word for each item: `a/` begins a folder `a` and `;` ends it, `a@` is a link,
-//! `a#` a folder that can't be listed, `!` an item that can't be read and `?` one whose name isn't text. Any
-//! other word is a file; `''` is one with an empty name. An item whose name stands in its folder already is
-//! left out.
+//! A plan of a folder has a word for each item: `a/` begins a folder `a` and `;` ends it, `a@` is a
+//! link, `a#` a folder that can't be listed, `!` an item that can't be read and `?` one whose name
+//! isn't text. Any other word is a file; `''` is one with an empty name. If an item's name is
+//! already in its folder, the item is skipped.
 
 use std::alloc::{AllocError, Global};
 use std::io::{self, ErrorKind};
 use std::mem;
 use wax_directory::tree::{Node, Tree, TreeItem};
 
-/// Six files in folders: what most rows walk.
+/// The plan that most rows walk: six files in folders.
 pub const PROJECT: &str =
     "doc/ guide.md ; src/ glob.rs lib.rs ; tests/ harness/ mod.rs ; walk.rs ; README.md";
 
-/// What stands at the root: a folder, and a file.
+/// The plan of the root: a folder and a file.
 pub const ROOT: &str = "a/ b ; x";
 
-/// An entry with this name.
+/// Creates an entry with this name.
+///
+/// # Errors
+///
+/// Returns `AllocError` if allocation fails.
 pub fn entry(alloc: Global, name: &str, node: Node) -> Result<TreeItem, AllocError> {
     Ok(TreeItem::Entry(String::from_str(alloc, name)?, node))
 }
 
-/// Whether this is the item of this name.
+/// Returns whether the item is an entry with this name.
 fn is_named(item: &TreeItem, name: &str) -> bool {
     match item {
         TreeItem::Entry(other, _) => other.as_str() == name,
@@ -30,7 +34,7 @@ fn is_named(item: &TreeItem, name: &str) -> bool {
     }
 }
 
-/// Adds an entry, if none has its name.
+/// Adds an entry, unless there is one with its name.
 fn add(alloc: Global, items: &mut Vec<TreeItem>, name: &str, node: Node) -> Result<(), AllocError> {
     if items.iter().any(|item| is_named(item, name)) {
         return Ok(());
@@ -39,7 +43,7 @@ fn add(alloc: Global, items: &mut Vec<TreeItem>, name: &str, node: Node) -> Resu
     Ok(())
 }
 
-/// Adds the item that a word stands for which begins and ends no folder.
+/// Adds the item of a word that neither begins nor ends a folder.
 fn add_word(alloc: Global, items: &mut Vec<TreeItem>, word: &str) -> Result<(), AllocError> {
     if let Some(name) = word.strip_suffix('@') {
         return add(alloc, items, name, Node::Link);
@@ -56,7 +60,11 @@ fn add_word(alloc: Global, items: &mut Vec<TreeItem>, word: &str) -> Result<(), 
     Ok(())
 }
 
-/// The folder of this plan.
+/// Builds the folder of a plan.
+///
+/// # Errors
+///
+/// Returns `AllocError` if allocation fails.
 pub fn folder_of(alloc: Global, plan: &str) -> Result<Node, AllocError> {
     let mut items = Vec::new(alloc);
     let mut outer = Vec::new(alloc);
@@ -73,7 +81,11 @@ pub fn folder_of(alloc: Global, plan: &str) -> Result<Node, AllocError> {
     Ok(Node::Folder(items))
 }
 
-/// The tree with this working folder, and at its root the folder of a plan.
+/// Builds the tree with this working folder, and the folder of a plan at its root.
+///
+/// # Errors
+///
+/// Returns an error if allocation fails, or if the working folder isn't that of a tree.
 pub fn tree_with(alloc: Global, working: Node, root: &str) -> io::Result<Tree> {
     match Tree::new(alloc, working, folder_of(alloc, root)?) {
         Ok(tree) => Ok(tree),
@@ -81,7 +93,11 @@ pub fn tree_with(alloc: Global, working: Node, root: &str) -> io::Result<Tree> {
     }
 }
 
-/// The tree with these plans of its working folder and of its root.
+/// Builds the tree with the folders of two plans: its working folder and its root.
+///
+/// # Errors
+///
+/// Returns an error if allocation fails.
 pub fn tree_of(alloc: Global, working: &str, root: &str) -> io::Result<Tree> {
     tree_with(alloc, folder_of(alloc, working)?, root)
 }

@@ -1,21 +1,21 @@
-//! Readers and writers for tests, that fail, are interrupted, or count what they are asked.
+//! Readers and writers for tests, that fail, are interrupted or count calls.
 ghost use Rattle.std.specs.Prelude.{◌≡◌, Some, []};
 
 use std::alloc::Global;
 use std::io;
 use std::io::{Read, Write};
 
-/// Hands over one byte at a time, and fails where `left` reads were made.
+/// A reader that yields one byte at a time, and fails after `left` reads.
 #[derive(Drop)]
 pub struct Slow<'a> {
-    /// The bytes that are still to come.
+    /// The bytes that are still to be read.
     pub bytes: &'a [u8],
-    /// How many reads don't fail.
+    /// How many more reads succeed.
     pub left: u64,
 }
 
 impl<'a> Slow<'a> {
-    /// Has these bytes, and lets so many reads succeed.
+    /// Creates a reader of these bytes, of which `left` reads succeed.
     pub fn new(bytes: &'a [u8], left: u64) -> Self
         ensures bytes { result.bytes.now ≡ bytes.now }
         ensures left { result.left ≡ left }
@@ -41,19 +41,19 @@ impl Read for Slow<'_> {
     }
 }
 
-/// Takes `room` bytes, and then fails, or takes nothing. A flush of it fails.
+/// A writer that takes `room` bytes, and then fails or takes nothing. Its flushes fail.
 #[derive(Drop)]
 pub struct Narrow {
     /// The bytes that were taken.
     pub taken: Vec<u8>,
-    /// How many bytes are taken from here on.
+    /// How many more bytes are taken.
     pub room: usize,
-    /// Whether a write fails where there is no room.
+    /// True if a write without room fails, and false if it takes nothing.
     pub fails: bool,
 }
 
 impl Narrow {
-    /// Has taken nothing yet.
+    /// Creates a writer that has taken nothing yet.
     pub fn new(alloc: Global, room: usize, fails: bool) -> Self
         ensures taken { result.taken.items ≡ [] }
         ensures room { result.room ≡ room }
@@ -83,17 +83,17 @@ impl Write for Narrow {
     }
 }
 
-/// Hands each call on, but for one that is interrupted: the one after `before` others.
+/// A stream that forwards each call but one, which is interrupted: the one after `before` others.
 #[derive(Drop)]
 pub struct Interrupted<T> {
-    /// What is asked.
+    /// The stream to which calls are forwarded.
     pub inner: T,
-    /// How many calls come first, till the call that is interrupted.
+    /// How many more calls there are before the one that is interrupted. `None` after it.
     pub before: Option<u64>,
 }
 
 impl<T> Interrupted<T> {
-    /// Interrupts the call after so many others.
+    /// Creates a stream that interrupts the call after `before` others.
     pub fn new(inner: T, before: u64) -> Self
         ensures inner { result.inner ≡ inner }
         ensures before { result.before ≡ Some before }
@@ -136,7 +136,7 @@ impl<W: Write> Write for Interrupted<W> {
     }
 }
 
-/// Counts what it is asked, gives nothing, and takes all.
+/// A stream that counts its calls. It has no bytes to read, and takes all that are written.
 #[derive(Drop)]
 pub struct Asked {
     /// How many reads there were.

@@ -9,7 +9,12 @@ use std::alloc::Global;
 use wax::walk::{FileIterator, FileIteratorExt, without_ignored, without_meant};
 use wax::{Pattern, any};
 
-/// Puts what comes of a walk at the end of the text, without what the named call excludes.
+/// Appends what a walk yields without what the named call excludes.
+///
+/// # Errors
+///
+/// Returns `Unanswered::Memory` if allocation fails, and `Unanswered::NotBuilt` if something in the
+/// row has an error.
 pub fn push_called<I>(
     alloc: Global,
     row: Row<'_>,
@@ -58,7 +63,7 @@ where
     }
 }
 
-/// Excludes what a set of patterns with spaces between matches.
+/// Excludes what a set of patterns matches. The patterns have spaces between them.
 fn push_not_any<I>(
     alloc: Global,
     row: Row<'_>,

@@ -1,4 +1,4 @@
-//! Depths from numbers.
+//! Bounds of depths, built from numbers.
 
 use crate::row::{Unanswered, number, parted};
 use std::alloc::{AllocError, Global};
@@ -6,7 +6,12 @@ use std::fmt::Debug;
 use wax::query::DepthVariance;
 use wax::walk::{DepthBehavior, DepthMax, DepthMin, DepthMinMax, WalkBehavior};
 
-/// Puts what a call returns. A word names it; its numbers follow, and `-` is one that is missing.
+/// Appends what a call returns. Its name comes first, and then its numbers; `-` is a missing one.
+///
+/// # Errors
+///
+/// Returns `Unanswered::Memory` if allocation fails, and `Unanswered::NotBuilt` if something in the
+/// row has an error.
 pub fn push(alloc: Global, call: &str, text: &mut String) -> Result<(), Unanswered> {
     let (name, depths) = parted(call);
     let (first, second) = parted(depths);
@@ -60,7 +65,7 @@ fn bounded_below(min: Option<usize>, max: Option<usize>) -> Option<DepthBehavior
     DepthBehavior::bounded_at_depth_variance(min, max, DepthVariance::Invariant(2))
 }
 
-/// Returns the greatest of the depths from the least on.
+/// Returns the greatest depth, if `min` is the least one.
 fn greatest(min: usize, extent: usize) -> Option<usize> {
     let Ok(least) = DepthMin::try_from(min) else {
         return None;

@@ -7,8 +7,13 @@ use std::{fs, io};
 use wax::walk::{Directory, Folders, Node, Tally, Tree, TreeItem};
 use wax::{NoMemory, Refusal};
 
-/// Puts what the calls of a row return, one after another, and then what the directory has counted:
-/// failures, misses, items, and how many folders were opened.
+/// Appends what the calls of a row return, one after another, and then the counts of the directory:
+/// failures, misses, items, and folders that were opened.
+///
+/// # Errors
+///
+/// Returns `Unanswered::Memory` if allocation fails, and `Unanswered::NotBuilt` if something in the
+/// row has an error.
 pub fn push(rt: &HostRuntime, row: Row<'_>, text: &mut String) -> Result<(), Unanswered> {
     let (alloc, calls) = (rt.alloc(), row.field(2));
     match row.field(1) {
@@ -36,7 +41,7 @@ fn push_tree(alloc: Global, row: Row<'_>, text: &mut String) -> Result<(), Unans
     Ok(())
 }
 
-/// Makes a folder with one file in the working folder, calls the real system, and removes both.
+/// Creates a folder with one file in the working folder, calls the real system, and removes both.
 fn push_system(rt: &HostRuntime, calls: &str, text: &mut String) -> io::Result<()> {
     fs::create_dir(rt, "listed")?;
     fs::write(rt, "listed/a", "")?;
@@ -74,7 +79,7 @@ fn push_call<D: Directory>(
     }
 }
 
-/// Puts what is at the path, and how often nothing was there and how often a call failed till then.
+/// Appends what is at the path, and how often nothing was there and how often a call failed so far.
 fn push_kind<D: Directory>(
     alloc: Global,
     directory: &mut D,
@@ -98,7 +103,8 @@ fn push_opened<D: Directory>(
     }
 }
 
-/// Puts the first items of a folder, as many as the number before its path says, or why there are none.
+/// Appends the first items of a folder, or why there are none. The number before its path says how
+/// many.
 fn push_list<D: Directory>(
     alloc: Global,
     directory: &mut D,
@@ -112,7 +118,7 @@ fn push_list<D: Directory>(
     }
 }
 
-/// Puts the items of a folder one by one, also after a want of memory.
+/// Appends the items of a folder one by one, and goes on after `NoMemory`.
 fn push_items<D: Directory>(
     alloc: Global,
     directory: &mut D,
@@ -134,7 +140,7 @@ fn push_items<D: Directory>(
     Ok(())
 }
 
-/// Returns a folder with an item that can't be read as text, and a link twice.
+/// Builds a folder with a folder in it that has a link twice, and an item whose name isn't text.
 fn twice(alloc: Global) -> Result<Node, AllocError> {
     let mut items = Vec::new(alloc);
     for _ in 0..2u8 {
@@ -147,8 +153,13 @@ fn twice(alloc: Global) -> Result<Node, AllocError> {
     Ok(Node::Folder(outer))
 }
 
-/// Puts whether a copy of a folder is the same, and whether it is a file; and whether a folder below which
-/// a name stands twice is refused.
+/// Appends whether a copy of a folder equals it, whether it equals a file, and whether a tree with
+/// a name twice in one folder is an error.
+///
+/// # Errors
+///
+/// Returns `Unanswered::Memory` if allocation fails, and `Unanswered::NotBuilt` if something in the
+/// row has an error.
 pub fn push_nodes(alloc: Global, text: &mut String) -> Result<(), Unanswered> {
     push_copied(alloc, &twice(alloc)?, text)?;
     let tree = Tree::new(alloc, twice(alloc)?, Node::File);

@@ -1,14 +1,14 @@
-//! What is drawn at random, by a fixed seed.
+//! Random plans, expressions and starts, from a fixed seed.
 
 use std::alloc::{AllocError, Global};
 
-/// Words of plans; `/` begins a folder and `;` ends it.
+/// Words of plans.
 const WORDS: &[&str] = &[
     "a", "b", "ab", "ba", "c", "a/", "b/", "ab/", "ba/", "c/", "a/", "b/", ";", ";", ";", "a#",
     "ab@", "!", "?",
 ];
 
-/// Components that may stand anywhere.
+/// Components that may be anywhere.
 const COMPONENTS: &[&str] = &[
     "a",
     "b",
@@ -36,7 +36,7 @@ const COMPONENTS: &[&str] = &[
     "<*/:0,2>a",
 ];
 
-/// Components that may only stand last.
+/// Components that may only be last.
 const LAST: &[&str] = &[
     "{a,b/**}",
     "{a/**,b/**}",
@@ -48,12 +48,12 @@ const LAST: &[&str] = &[
     "**",
 ];
 
-/// Components that may only stand first.
+/// Components that may only be first.
 const FIRST: &[&str] = &["{**/a,b/*}", "{**/a,**/b}", "<**/a:1>"];
 
 const STARTS: &[&str] = &["", "", "", "", "", "a", "b/", "a/b"];
 
-/// The numbers that were drawn lead to those that come.
+/// A generator of pseudorandom numbers: a linear congruential one.
 #[derive(Drop)]
 pub struct Draws {
     state: u64,
@@ -64,7 +64,7 @@ impl Draws {
         Draws { state: 2027 }
     }
 
-    /// A number below `count`; 0 where there is none.
+    /// Draws a number below `count`, or returns 0 if there is none.
     pub fn below(&mut self, count: usize) -> usize {
         self.state = self
             .state
@@ -82,7 +82,11 @@ impl Draws {
         }
     }
 
-    /// The plan of a folder with folders at most three deep in it.
+    /// Draws the plan of a folder, in which folders are at most three deep.
+    ///
+    /// # Errors
+    ///
+    /// Returns `AllocError` if allocation fails.
     pub fn plan(&mut self, alloc: Global) -> Result<String, AllocError> {
         let mut plan = String::new(alloc);
         let mut open: usize = 0;
@@ -106,7 +110,7 @@ impl Draws {
         Ok(plan)
     }
 
-    /// A component that isn't `**` behind another.
+    /// Draws a component. After a `**` it isn't another one.
     fn component(&mut self, is_behind_tree: bool) -> &'static str {
         let component = self.one_of(COMPONENTS);
         if is_behind_tree && component == "**" {
@@ -115,7 +119,11 @@ impl Draws {
         component
     }
 
-    /// The expression of one to four components.
+    /// Draws an expression of one to four components.
+    ///
+    /// # Errors
+    ///
+    /// Returns `AllocError` if allocation fails.
     pub fn expression(&mut self, alloc: Global) -> Result<String, AllocError> {
         let mut expression = String::new(alloc);
         if self.below(8) == 0 {

@@ -1,18 +1,20 @@
-//! A tree with faults.
+//! A tree whose calls may fail.
 
 use std::alloc::Global;
 use wax::NoMemory;
 use wax::walk::{Directory, DirectoryFault, Failing, FileType, ListItem, Starving, Tally, Tree};
 
-/// A tree in memory of which one call may fail and one may lack memory. It is a type of its own, since the
-/// prover doesn't follow a bound `Directory` of `Failing<Starving<Tree>>` that the type of a walk implies.
+/// A tree in memory of which calls may fail or lack memory. It is a type of its own, since the
+/// prover doesn't follow a bound `Directory` of `Failing<Starving<Tree>>` that the type of a walk
+/// implies.
 #[derive(Drop)]
 pub struct Directories {
     inner: Failing<Starving<Tree>>,
 }
 
 impl Directories {
-    /// Fails and starves the calls after so many others.
+    /// Creates a directory whose calls fail after `failing` others, and lack memory after
+    /// `starving` others.
     pub fn new(tree: Tree, failing: u64, starving: u64) -> Self {
         Directories {
             inner: Failing::new(Starving::new(tree, starving), failing),

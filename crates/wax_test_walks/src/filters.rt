@@ -1,17 +1,17 @@
-//! What is excluded from walks.
+//! The rules that exclude entries from walks.
 
 use crate::row::{Row, Unanswered, list_of, number, residue_of};
 use std::alloc::Global;
 use wax::NoMemory;
 use wax::walk::{Entry, EntryResidue, Exclusion, IgnoreList, Rule, exclusion_of};
 
-/// What one rule excludes.
+/// One rule of a row.
 #[derive(Drop)]
 pub enum Filter {
     Nothing,
     Not(Exclusion),
     Ignore(IgnoreList),
-    /// The entries from a depth on.
+    /// Excludes the entries from a depth on.
     From(usize, EntryResidue),
 }
 
@@ -39,10 +39,15 @@ impl Rule for Filter {
     }
 }
 
-/// Options that are rules.
+/// The options that are rules.
 pub const RULES: &str = "not ignore file_from tree_from";
 
 /// Returns the rule of the option at the index among those that are rules.
+///
+/// # Errors
+///
+/// Returns `Unanswered::Memory` if allocation fails, and `Unanswered::NotBuilt` if something in the
+/// row has an error.
 pub fn filter_of(alloc: Global, row: Row<'_>, index: usize) -> Result<Filter, Unanswered> {
     match row.nth_option(RULES, index) {
         None => Ok(Filter::Nothing),

@@ -9,8 +9,13 @@ use std::alloc::Global;
 use wax::walk::{FileIterator, GlobEntry, WalkError, collect};
 use wax::{CandidatePath, Glob, Program};
 
-/// Puts what comes of the walk of a glob at the end of the text, and then whether the glob matches the path
-/// of the option `then`.
+/// Appends what the walk of a glob yields, and then whether the glob matches the path of the option
+/// `then`.
+///
+/// # Errors
+///
+/// Returns `Unanswered::Memory` if allocation fails, and `Unanswered::NotBuilt` if something in the
+/// row has an error.
 pub fn push(alloc: Global, row: Row<'_>, text: &mut String) -> Result<(), Unanswered> {
     let Ok(glob) = Glob::new(alloc, row.expression()) else {
         return Err(Unanswered::NotBuilt);
@@ -38,8 +43,8 @@ fn push_glob(
     Ok(())
 }
 
-/// Takes the walk of a glob. A function that names the type of such a walk takes long to prove, so no other
-/// does.
+/// Begins the walk of a glob. A function that names the type of such a walk takes long to prove, so
+/// no other does.
 fn push_walk(
     alloc: Global,
     row: Row<'_>,
@@ -79,7 +84,7 @@ fn push_all_captured(
     Ok(())
 }
 
-/// Puts what the first token captured of an entry's candidate.
+/// Appends what the first token captured of an entry's candidate.
 fn push_captured(text: &mut String, item: &Result<GlobEntry, WalkError>) -> Result<(), Unanswered> {
     let Ok(entry) = item else {
         return Err(Unanswered::Memory);

@@ -5,7 +5,12 @@ use std::alloc::Global;
 use wax::CandidatePath;
 use wax::walk::{IgnoreError, IgnoreList};
 
-/// Puts why a text is no list: the number of the error, the line, and the message.
+/// Appends why a text is no ignore list: the number of the error, the line, and the message.
+///
+/// # Errors
+///
+/// Returns `Unanswered::Memory` if allocation fails, and `Unanswered::NotBuilt` if something in the
+/// row has an error.
 pub fn push_error(alloc: Global, field: &str, text: &mut String) -> Result<(), Unanswered> {
     let list = unescaped(alloc, field)?;
     let Err(error) = IgnoreList::parse(alloc, list.as_str()) else {
@@ -24,7 +29,12 @@ fn push_number(alloc: Global, error: &IgnoreError, text: &mut String) -> Result<
     Ok(())
 }
 
-/// Puts whether the list ignores the path.
+/// Appends whether the list ignores the path.
+///
+/// # Errors
+///
+/// Returns `Unanswered::Memory` if allocation fails, and `Unanswered::NotBuilt` if something in the
+/// row has an error.
 pub fn push_ignored(
     alloc: Global,
     field: &str,

@@ -1,7 +1,7 @@
-//! Remakes rows of walks, and shows those that come to something else than they have to.
+//! Tests walks: computes the answers of rows, and prints the rows whose answer differs.
 //!
-//! Each word of the arguments is a file of rows, or `separations`. Then each line of the standard input is a
-//! row without its answer, and is shown with it.
+//! Each argument is a file of rows, or `separations`. Then each line of standard input is a row
+//! without its answer, and is printed with it.
 #![tactic(auto)]
 
 mod called;
@@ -37,7 +37,7 @@ fn main(rt: HostRuntime) -> io::Result<()> {
     Ok(())
 }
 
-/// Prints each row of a file that is other here, and how many are the same.
+/// Prints each row of a file whose answer differs, and how many rows agree and how many differ.
 fn compare(rt: &HostRuntime, name: &str) -> io::Result<()> {
     let (mut same, mut other) = (0u64, 0u64);
     for line in fs::read_to_string(rt, name)?.lines() {
@@ -53,7 +53,7 @@ fn compare(rt: &HostRuntime, name: &str) -> io::Result<()> {
     println!(rt; "{name}: {same} the same, {other} other")
 }
 
-/// Returns whether a row comes to its answer, and prints it if it doesn't.
+/// Returns whether the answer of a row is the one that is computed. If not, prints both.
 fn is_same(rt: &HostRuntime, row: Row<'_>) -> io::Result<bool> {
     let made = made(rt, row)?;
     let is_same = row.has_answer(made.as_str());
@@ -69,7 +69,7 @@ fn show(rt: &HostRuntime, line: &str) -> io::Result<()> {
     println!(rt; "{line}\t{made}")
 }
 
-/// Returns what the row comes to: its answer, or a beginning of it and why there is no more.
+/// Computes the answer of a row, or a beginning of it and why it ends there.
 fn made(rt: &HostRuntime, row: Row<'_>) -> io::Result<String> {
     let mut text = String::new(rt.alloc());
     match push_answer(rt, row, &mut text) {

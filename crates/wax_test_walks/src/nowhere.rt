@@ -1,10 +1,10 @@
-//! A directory that claims nothing.
+//! A directory that proves nothing about itself.
 
 use std::alloc::Global;
 use wax::NoMemory;
 use wax::walk::{Directory, DirectoryFault, FileType, ListItem, Tally};
 
-/// A directory in which nothing is, and of which nothing is claimed.
+/// A directory that contains nothing. Its law says nothing about what it shows.
 #[derive(Drop)]
 pub struct Nowhere {
     pub tally: Tally,

@@ -10,8 +10,13 @@ use wax::walk::{
     Entry, IgnoreList, PathExt, TreeEntry, WalkBehavior, WalkError, WalkTree, entries,
 };
 
-/// Puts what comes of a plain walk at the end of the text: for `ends` also after its end, for `entries` and
+/// Appends what a plain walk yields: for `ends` after its end, too, and for `entries` and
 /// `unignored` by one call.
+///
+/// # Errors
+///
+/// Returns `Unanswered::Memory` if allocation fails, and `Unanswered::NotBuilt` if something in the
+/// row has an error.
 pub fn push(alloc: Global, row: Row<'_>, text: &mut String) -> Result<(), Unanswered> {
     match row.kind() {
         "entries" => push_entries(alloc, row, text),
@@ -23,7 +28,7 @@ pub fn push(alloc: Global, row: Row<'_>, text: &mut String) -> Result<(), Unansw
     }
 }
 
-/// Takes the walk from the start.
+/// Begins the walk at the start.
 fn push_from(
     alloc: Global,
     row: Row<'_>,
@@ -40,7 +45,7 @@ fn push_from(
     }
 }
 
-/// Takes the walk to the place of these names below the start.
+/// Begins the walk at the place of these names below the start.
 fn push_to(
     alloc: Global,
     row: Row<'_>,
@@ -77,8 +82,8 @@ fn names_of(alloc: Global, path: &str) -> Result<Vec<String>, AllocError> {
     Ok(names)
 }
 
-/// Puts the items of a walk at the end of the text, and a dot for each of two times that no more comes. What
-/// is below the path of the option `cancel` is cancelled twice.
+/// Appends the items of a walk, and a dot for each of two more calls that return `None`. The walk
+/// is cancelled twice at the path of the option `cancel`.
 fn push_ends(
     alloc: Global,
     row: Row<'_>,
@@ -116,7 +121,7 @@ fn push_entries(alloc: Global, row: Row<'_>, text: &mut String) -> Result<(), Un
     push_directory(alloc, "entries", directory, text)
 }
 
-/// Puts how many entries no line of a list ignores, and how many folders were listed.
+/// Appends how many entries a list doesn't ignore, and how many folders were listed.
 fn push_unignored(alloc: Global, row: Row<'_>, text: &mut String) -> Result<(), Unanswered> {
     let directory = row.directory(alloc)?;
     match list_of(alloc, row.option("ignore").unwrap_or("")) {

@@ -1,4 +1,4 @@
-//! Random walks, beside the whole walk of which what is wanted is kept.
+//! Random walks of globs, compared with the whole walk, filtered.
 
 use crate::draws::Draws;
 use crate::row::{Unanswered, behavior_of, number};
@@ -10,12 +10,12 @@ use wax::walk::{
 use wax::{CandidatePath, Glob, NoMemory, Program};
 use wax_test_kit::plans;
 
-/// What is drawn for a walk.
+/// A walk that was drawn.
 #[derive(Drop)]
 struct Drawn {
     plan: String,
     expression: String,
-    /// Patterns, one a line.
+    /// The patterns of `not`, one in each line.
     nots: String,
     /// The text of an ignore list.
     list: String,
@@ -23,7 +23,7 @@ struct Drawn {
     range: Range,
 }
 
-/// How many walks differ, what they gave, and how many folders they didn't list.
+/// How many walks differ, how many entries they yielded, and how many folders they didn't list.
 #[derive(Drop)]
 struct Counts {
     different: usize,
@@ -31,7 +31,7 @@ struct Counts {
     unlisted: usize,
 }
 
-/// A candidate of the whole walk, and what is known of it so far.
+/// A candidate of the whole walk, and what was decided about it so far.
 #[derive(Drop)]
 struct Candidate {
     path: String,
@@ -39,17 +39,23 @@ struct Candidate {
     is_ignored: bool,
 }
 
-/// What a glob decides of the candidates that it matches.
+/// What a glob decides about the candidates that it matches.
 #[derive(Clone, Copy)]
 enum Says {
-    /// Others aren't wanted.
+    /// They are wanted, and all others aren't.
     Wants,
     Excludes,
     Ignores,
     TakesBack,
 }
 
-/// Puts, for walks without and with ignore lists, what comes of as many as the numbers say.
+/// Appends the counts of random walks without ignore lists, and then of others with them. The
+/// numbers say how many walks to draw.
+///
+/// # Errors
+///
+/// Returns `Unanswered::Memory` if allocation fails, and `Unanswered::NotBuilt` if something in the
+/// row has an error.
 pub fn push(alloc: Global, numbers: &str, text: &mut String) -> Result<(), Unanswered> {
     let mut draws = Draws::new();
     let (walks, listed) = numbers.split_once(' ').unwrap_or((numbers, ""));
@@ -116,7 +122,7 @@ fn draw_nots(alloc: Global, draws: &mut Draws) -> Result<String, AllocError> {
     Ok(nots)
 }
 
-/// Draws a list of up to five lines, a third of which take back.
+/// Draws a list of up to five lines, about a third of which take back.
 fn draw_list(alloc: Global, draws: &mut Draws, has_list: bool) -> Result<String, AllocError> {
     let mut list = String::new(alloc);
     if !has_list {
@@ -132,7 +138,7 @@ fn draw_list(alloc: Global, draws: &mut Draws, has_list: bool) -> Result<String,
     Ok(list)
 }
 
-/// Compares one walk that is drawn with what is wanted of the whole walk.
+/// Compares one walk with the whole walk, filtered.
 fn compare(
     alloc: Global,
     drawn: &Drawn,
@@ -164,7 +170,7 @@ fn compare_walked(
     Ok(push_drawn(alloc, drawn, text)?)
 }
 
-/// Returns whether each folder that was listed is one of these.
+/// Returns whether the whole walk listed each folder that was listed.
 fn are_among(listed: &[String], whole: &[String]) -> bool {
     listed.iter().all(|path| whole.iter().any(|other| other.as_str() == path.as_str()))
 }
@@ -188,7 +194,7 @@ fn tree_of(alloc: Global, drawn: &Drawn) -> Result<Tree, Unanswered> {
     }
 }
 
-/// Puts what the walk of the glob gives without what is excluded, and returns the tree.
+/// Appends what the walk of the glob yields without what is excluded. Returns the tree.
 fn push_walked(
     alloc: Global,
     drawn: &Drawn,
@@ -218,7 +224,7 @@ fn push_glob(
     Ok(tree)
 }
 
-/// Returns what is excluded: what each pattern matches, and what the list ignores.
+/// Returns the filters of a walk: one for each pattern, and one for the list.
 fn filters_of(alloc: Global, drawn: &Drawn) -> Result<Vec<WalkFilter>, Unanswered> {
     let mut filters = Vec::new(alloc);
     for not in drawn.nots.lines() {
@@ -254,7 +260,7 @@ fn push_entries(
     Ok(())
 }
 
-/// Puts what is wanted of the whole walk, and returns the tree.
+/// Appends what is wanted of the whole walk. Returns the tree.
 fn push_wanted(alloc: Global, drawn: &Drawn, text: &mut String) -> Result<Tree, Unanswered> {
     let is_rooted = drawn.expression.starts_with('/');
     let start = if is_rooted { "/" } else { drawn.start };
@@ -286,7 +292,7 @@ fn push_unignored(candidates: &[Candidate], text: &mut String) -> Result<(), All
     Ok(())
 }
 
-/// Returns the candidates of the entries whose depth is in range.
+/// Returns the candidates of all entries whose depth is in range.
 fn candidates_of(
     alloc: Global,
     drawn: &Drawn,
@@ -315,7 +321,8 @@ fn candidates_of(
     Ok(candidates)
 }
 
-/// Decides by the glob, by each pattern, and by each line of the list, of which the last one decides.
+/// Decides about all candidates by the glob, by each pattern and by each line of the list. The last
+/// line that matches counts.
 fn decide_all(
     alloc: Global,
     drawn: &Drawn,

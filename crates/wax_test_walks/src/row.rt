@@ -1,4 +1,4 @@
-//! Rows, and what stands in their fields.
+//! Rows and their fields.
 
 use crate::faults::Directories;
 use std::alloc::{AllocError, Global};
@@ -9,10 +9,10 @@ use wax::walk::{
 };
 use wax_test_kit::plans::{self, PROJECT, ROOT};
 
-/// Why a row has no answer.
+/// The reason why a row has no answer.
 #[derive(Clone, Copy)]
 pub enum Unanswered {
-    /// A tree, an expression, a pattern or a list of the row isn't built.
+    /// A tree, an expression, a pattern or a list of the row has an error.
     NotBuilt,
     Memory,
 }
@@ -35,7 +35,7 @@ pub struct Row<'r> {
     pub line: &'r str,
 }
 
-/// Returns the word at the head of an option, and what follows it.
+/// Returns the first word of an option, and what follows it.
 pub fn parted(option: &str) -> (&str, &str) {
     match option.split_once(' ') {
         Some(parts) => parts,
@@ -53,7 +53,7 @@ fn is_one_of(words: &str, word: &str) -> bool {
 }
 
 impl<'r> Row<'r> {
-    /// Returns the field at the index, or no text.
+    /// Returns the field at the index, or an empty text.
     pub fn field(self, index: usize) -> &'r str {
         self.line.split('\t').nth(index).unwrap_or("")
     }
@@ -62,7 +62,7 @@ impl<'r> Row<'r> {
         self.field(0)
     }
 
-    /// Returns how many fields stand between the kind and the answer.
+    /// Returns how many fields are between the kind and the answer.
     fn inputs(self) -> usize {
         match self.kind() {
             "depth" | "list" | "random" | "nodes" => 1,
@@ -72,7 +72,7 @@ impl<'r> Row<'r> {
         }
     }
 
-    /// Returns whether the row's answer is this, or its first fields are.
+    /// Returns whether the row's answer is `made`, or the first fields of `made`.
     pub fn has_answer(self, made: &str) -> bool {
         let mut wanted = self.line;
         for _ in 0..=self.inputs() {
@@ -95,12 +95,13 @@ impl<'r> Row<'r> {
         self.field(3)
     }
 
-    /// Returns whether the plain walk is taken.
+    /// Returns whether the row walks without a glob.
     pub fn is_plain(self) -> bool {
         self.expression() == "-" || self.kind() == "matching"
     }
 
-    /// Returns the option at the index of those that begin with one of the words, which have spaces between.
+    /// Returns the option at the index among those that begin with one of the words. These have
+    /// spaces between them.
     pub fn nth_option(self, words: &str, index: usize) -> Option<(&'r str, &'r str)> {
         let mut left = index;
         for option in self.field(self.inputs()).split("; ") {
@@ -138,7 +139,12 @@ impl<'r> Row<'r> {
         }
     }
 
-    /// Returns the directory that is walked.
+    /// Builds the directory that is walked.
+    ///
+    /// # Errors
+    ///
+    /// Returns `Unanswered::Memory` if allocation fails, and `Unanswered::NotBuilt` if something in
+    /// the row has an error.
     pub fn directory(self, alloc: Global) -> Result<Directories, Unanswered> {
         let tree = tree_of(alloc, self.field(1))?;
         let failing = self.number("failing", u64::MAX);
@@ -146,7 +152,7 @@ impl<'r> Row<'r> {
     }
 }
 
-/// Returns how a walk goes that has a bound.
+/// Returns the behavior of a walk with a bound, or `None` if there is no bound.
 pub fn behavior_of(range: Range) -> Option<WalkBehavior> {
     let Range { min, max, budget } = range;
     let behavior = match (min, max, budget) {
@@ -159,7 +165,7 @@ pub fn behavior_of(range: Range) -> Option<WalkBehavior> {
     Some(behavior.with_budget(budget))
 }
 
-/// Returns the number of these digits.
+/// Returns the number of the digits, or `default` if they aren't a number.
 pub fn number(digits: &str, default: u64) -> u64 {
     match digits.parse::<u64>() {
         Ok(number) => number,
@@ -167,7 +173,7 @@ pub fn number(digits: &str, default: u64) -> u64 {
     }
 }
 
-/// Returns what is excluded by an option that is `file` or `tree`, or begins with one.
+/// Returns what an option excludes whose word begins with `file` or `tree`.
 pub fn residue_of(word: &str) -> EntryResidue {
     if word.starts_with("tree") {
         EntryResidue::Tree
@@ -176,7 +182,12 @@ pub fn residue_of(word: &str) -> EntryResidue {
     }
 }
 
-/// Returns the tree that a field describes.
+/// Builds the tree that a field describes.
+///
+/// # Errors
+///
+/// Returns `Unanswered::Memory` if allocation fails, and `Unanswered::NotBuilt` if something in the
+/// row has an error.
 pub fn tree_of(alloc: Global, field: &str) -> Result<Tree, Unanswered> {
     if let Some(count) = field.strip_prefix("files ") {
         return tree_with(alloc, files(alloc, number(count, 0))?);
@@ -199,7 +210,11 @@ fn tree_of_paths(alloc: Global, paths: &str) -> Result<Tree, Unanswered> {
     Ok(Tree::from_paths(alloc, words(alloc, paths)?.as_slice())?)
 }
 
-/// Returns the words of a text with spaces between.
+/// Returns the words of a text, which have spaces between them.
+///
+/// # Errors
+///
+/// Returns `AllocError` if allocation fails.
 pub fn words(alloc: Global, text: &str) -> Result<Vec<&str>, AllocError> {
     let mut all = Vec::new(alloc);
     for word in text.split(' ') {
@@ -208,7 +223,7 @@ pub fn words(alloc: Global, text: &str) -> Result<Vec<&str>, AllocError> {
     Ok(all)
 }
 
-/// Returns a folder of so many files, whose names are numbers.
+/// Builds a folder of `count` files, whose names are numbers.
 fn files(alloc: Global, count: u64) -> Result<Node, AllocError> {
     let mut items = Vec::new(alloc);
     for number in 0..count {
@@ -218,7 +233,12 @@ fn files(alloc: Global, count: u64) -> Result<Node, AllocError> {
     Ok(Node::Folder(items))
 }
 
-/// Returns the text that a field stands for: `␊`, `␍` and `␉` are characters that it can't hold.
+/// Returns the text of a field. In it, `␊`, `␍` and `␉` are a line feed, a carriage return and a
+/// tab, which a field can't contain.
+///
+/// # Errors
+///
+/// Returns `AllocError` if allocation fails.
 pub fn unescaped(alloc: Global, field: &str) -> Result<String, AllocError> {
     let mut text = String::new(alloc);
     for character in field.chars() {
@@ -232,7 +252,12 @@ pub fn unescaped(alloc: Global, field: &str) -> Result<String, AllocError> {
     Ok(text)
 }
 
-/// Returns the ignore list of a field.
+/// Parses the ignore list of a field.
+///
+/// # Errors
+///
+/// Returns `Unanswered::Memory` if allocation fails, and `Unanswered::NotBuilt` if something in the
+/// row has an error.
 pub fn list_of(alloc: Global, field: &str) -> Result<IgnoreList, Unanswered> {
     let text = unescaped(alloc, field)?;
     match IgnoreList::parse(alloc, text.as_str()) {
@@ -241,7 +266,11 @@ pub fn list_of(alloc: Global, field: &str) -> Result<IgnoreList, Unanswered> {
     }
 }
 
-/// Puts a space at the end of the text, unless a field or a gap ends there.
+/// Appends a space, unless the text is empty or ends with a tab or a space.
+///
+/// # Errors
+///
+/// Returns `AllocError` if allocation fails.
 pub fn push_gap(text: &mut String) -> Result<(), AllocError> {
     if text.is_empty() || text.ends_with('\t') || text.ends_with(' ') {
         return Ok(());

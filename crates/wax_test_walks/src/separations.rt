@@ -1,4 +1,4 @@
-//! Filters at concrete types, on a walk of five items.
+//! Calls of `wax::filter` at concrete types, on a walk of five items.
 
 ghost use Rattle.std.specs.Prelude.{◌≡◌, Some, fold, length, true};
 ghost use Rattle.std.specs.Iterator.{IsFinite, at_most};
@@ -17,7 +17,7 @@ use wax::filter::{
 /// A name and its depth.
 type Entry = (char, u8);
 
-/// A walk of entries, each before those that lie below it.
+/// A walk of entries. Each comes before those below it.
 #[derive(Drop)]
 struct Names<'a> {
     rest: &'a [Entry],
@@ -100,7 +100,7 @@ fn third(number: u8) -> u8 {
     number / 3
 }
 
-/// Items with a mark, and items that are kept no longer.
+/// Prints calls of items that are kept, and of items once they are excluded.
 fn print_marks(rt: &HostRuntime) -> io::Result<()> {
     let kept: Filtrate<u8> = Product::new(3);
     let none: Filtrate<Option<u8>> = Product::new(None);
@@ -131,21 +131,21 @@ fn hash_of<T: Hash>(value: &T) -> u64
     state.finish()
 }
 
-/// Equal items with a mark hash alike.
+/// Returns whether the items have equal hashes if they are equal, which is proved to be true.
 fn items_hash_alike<K, T: Hash>(first: &Product<K, T>, second: &Product<K, T>) -> bool
     ensures { result ≡ true }
 {
     *first != *second || hash_of(first) == hash_of(second)
 }
 
-/// Equal items that are left out alone, or with what lies below, hash alike.
+/// Returns whether the residues have equal hashes if they are equal, which is proved to be true.
 fn residues_hash_alike<T: Hash>(first: &TreeResidue<T>, second: &TreeResidue<T>) -> bool
     ensures { result ≡ true }
 {
     *first != *second || hash_of(first) == hash_of(second)
 }
 
-/// Equal values hash alike.
+/// Prints whether equal values have equal hashes.
 fn print_hashes(rt: &HostRuntime) -> io::Result<()> {
     let kept: Filtrate<u8> = Product::new(3);
     let tree: TreeResidue<u8> = TreeResidue::Tree(3);
@@ -157,7 +157,7 @@ fn print_hashes(rt: &HostRuntime) -> io::Result<()> {
     )
 }
 
-/// What is left out of a separation, if it is left out.
+/// Returns the residue of a separation, if its item is excluded.
 fn residue_of(separation: Separation<(u8, TreeResidue<u8>)>) -> Option<TreeResidue<u8>> {
     match separation {
         Separation::Filtrate(_) => None,
@@ -165,7 +165,7 @@ fn residue_of(separation: Separation<(u8, TreeResidue<u8>)>) -> Option<TreeResid
     }
 }
 
-/// How much is left out.
+/// Prints calls of residues.
 fn print_residues(rt: &HostRuntime) -> io::Result<()> {
     let tree: TreeResidue<u8> = TreeResidue::Tree(6);
     let lent = **tree.as_ref().get();
@@ -177,7 +177,7 @@ fn print_residues(rt: &HostRuntime) -> io::Result<()> {
     )
 }
 
-/// What is kept, and then left out; what is kept, if it is there.
+/// Prints calls of separations.
 fn print_separations(rt: &HostRuntime) -> io::Result<()> {
     let kept: Separation<(u8, TreeResidue<u8>)> = Separation::Filtrate(Product::new(6));
     let item = kept.as_filtrate().map(|x| x.into_inner());
@@ -193,7 +193,7 @@ fn print_separations(rt: &HostRuntime) -> io::Result<()> {
     )
 }
 
-/// Cancelling skips what lies below, and twice is once.
+/// Prints what a walk yields after it was cancelled once, and after it was cancelled twice.
 fn print_cancelling(rt: &HostRuntime) -> io::Result<()> {
     for is_twice in [false, true] {
         let mut names = walk();
@@ -209,7 +209,7 @@ fn print_cancelling(rt: &HostRuntime) -> io::Result<()> {
     Ok(())
 }
 
-/// All items, by their names.
+/// Prints the names of all items.
 fn print_items<I>(rt: &HostRuntime, items: I) -> io::Result<()>
 where
     I: Iterator<Item = char>,
@@ -222,7 +222,7 @@ where
     println!(rt; "")
 }
 
-/// A tree that is left out drops what lies below; a node is left out alone.
+/// Prints a walk without a tree and everything below it, and without only a node.
 fn print_left_out(rt: &HostRuntime) -> io::Result<()> {
     for residue in [TreeResidue::Tree(()), TreeResidue::Node(())] {
         let mut kept = walk().filter_tree_by_substituent(|x| (x.0 == 'b').then_some(residue));
@@ -238,7 +238,7 @@ fn print_left_out(rt: &HostRuntime) -> io::Result<()> {
     Ok(())
 }
 
-/// Cancels what lies below, if told so.
+/// Cancels what is below the current item, if `cancels`.
 fn cancel_if<I>(cancellation: &mut WalkCancellation<I>, cancels: bool)
 where
     I: CancelWalk,
@@ -250,7 +250,7 @@ where
     }
 }
 
-/// A closure turns items, and cancels below one of them.
+/// Prints a walk whose items a closure maps, and which it cancels below one of them.
 fn print_turned(rt: &HostRuntime) -> io::Result<()> {
     let kept = walk().filter_map_tree(|cancellation, item: Separation<Entries>| {
         cancel_if(cancellation, item.substituent(|x| x.0) == Some('b'));
@@ -260,7 +260,7 @@ fn print_turned(rt: &HostRuntime) -> io::Result<()> {
     print_items(rt, kept)
 }
 
-/// An item becomes a tree, and what lies below is cancelled.
+/// Prints a walk in which an item becomes an excluded tree, so that what is below it is cancelled.
 fn print_tree_of_item(rt: &HostRuntime) -> io::Result<()> {
     let mut names = walk();
     let first = names.next();
@@ -270,7 +270,8 @@ fn print_tree_of_item(rt: &HostRuntime) -> io::Result<()> {
     println!(rt; "first {first:?}, half {out:?}, last {:?}", names.next())
 }
 
-/// An entry is asked; one that is left out with what lies below is still asked.
+/// Prints what a filter sees of an entry that is kept, and of one that was excluded with everything
+/// below it.
 fn print_asked(rt: &HostRuntime) -> io::Result<()> {
     let kept: Separation<Entries> = Separation::Filtrate(Product::new(FIVE[0]));
     let depth = kept.substituent(|x| x.1);

@@ -1,4 +1,4 @@
-//! Walks with filters over filters.
+//! Walks with several filters.
 
 ghost use Rattle.std.specs.Iterator.{IsFinite};
 
@@ -10,10 +10,15 @@ use crate::walked;
 use std::alloc::Global;
 use wax::walk::{Entry, EntryResidue, FileIterator, TreeEntry};
 
-/// Options that are closures.
+/// The options that are closures.
 const CLOSURES: &str = "file tree";
 
-/// Puts what comes of a walk without what the row excludes at the end of the text.
+/// Appends what a walk yields without what the row excludes.
+///
+/// # Errors
+///
+/// Returns `Unanswered::Memory` if allocation fails, and `Unanswered::NotBuilt` if something in the
+/// row has an error.
 pub fn push<I>(alloc: Global, row: Row<'_>, walk: I, text: &mut String) -> Result<(), Unanswered>
 where
     I: FileIterator<Directory = Directories>,
@@ -31,7 +36,7 @@ where
     }
 }
 
-/// Excludes by a first closure.
+/// Filters the walk by the first closure.
 fn push_filtered<I>(
     alloc: Global,
     row: Row<'_>,
@@ -48,7 +53,7 @@ where
     push_filtered_again(alloc, row, walk, text)
 }
 
-/// Excludes by a second closure.
+/// Filters the walk by the second closure.
 fn push_filtered_again<I>(
     alloc: Global,
     row: Row<'_>,
@@ -65,7 +70,8 @@ where
     push_ruled(alloc, row, walk, text)
 }
 
-/// Returns the path of the closure at the index, and what it excludes there, if the row has it.
+/// Returns the path of the closure at the index, and what it excludes there. Without this option,
+/// it excludes nothing.
 fn excluded(row: Row<'_>, index: usize) -> (&str, Option<EntryResidue>) {
     match row.nth_option(CLOSURES, index) {
         Some((word, path)) => (path, Some(residue_of(word))),
@@ -81,7 +87,7 @@ fn residue_at(
     if entry.path() == path { residue } else { None }
 }
 
-/// Excludes by a first rule.
+/// Filters the walk by the first rule.
 fn push_ruled<I>(alloc: Global, row: Row<'_>, walk: I, text: &mut String) -> Result<(), Unanswered>
 where
     I: FileIterator<Directory = Directories>,
@@ -94,7 +100,7 @@ where
     }
 }
 
-/// Excludes by a second rule.
+/// Filters the walk by the second rule.
 fn push_ruled_again<I>(
     alloc: Global,
     row: Row<'_>,
@@ -112,7 +118,7 @@ where
     }
 }
 
-/// Excludes by a third rule.
+/// Filters the walk by the third rule.
 fn push_ruled_thrice<I>(
     alloc: Global,
     row: Row<'_>,

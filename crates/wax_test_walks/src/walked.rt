@@ -1,4 +1,4 @@
-//! The answers of walks.
+//! The answers of rows with a walk.
 
 ghost use Rattle.std.specs.Iterator.{IsFinite};
 
@@ -9,9 +9,14 @@ use wax::filter::{Feed, Separation, TreeResidue};
 use wax::walk::{Directory, Entry, FileIterator, Tally, Tree, WalkError, collect, collect_feed};
 use wax::{CandidatePath, Glob, NoMemory, Program};
 
-/// Puts what comes of a walk at the end of the text, as the row's kind says: the items that are kept; for
-/// `feed` also those that are excluded; for `steps` one after another; for `matching` how many the glob
-/// matches.
+/// Appends what a walk yields, by the kind of the row: the items that are kept; for `feed` those
+/// that are excluded, too; for `steps` item by item, as they come; for `matching` how many of them
+/// the glob matches.
+///
+/// # Errors
+///
+/// Returns `Unanswered::Memory` if allocation fails, and `Unanswered::NotBuilt` if something in the
+/// row has an error.
 pub fn push<I>(alloc: Global, row: Row<'_>, walk: I, text: &mut String) -> Result<(), Unanswered>
 where
     I: FileIterator<Directory = Directories>,
@@ -85,7 +90,7 @@ where
     push_count(alloc, row.expression(), items.as_slice(), text)
 }
 
-/// Puts how many entries the glob of the expression matches.
+/// Appends how many entries the glob of the expression matches.
 fn push_count<E: Entry>(
     alloc: Global,
     expression: &str,
@@ -118,7 +123,7 @@ fn matched<E: Entry>(
     Ok(count)
 }
 
-/// Puts an item behind a `-` if it is excluded, and behind `--` if all below it is, too.
+/// Appends an item, after a `-` if it is excluded, and after `--` if all below it is, too.
 fn push_separation<T, R, F>(
     alloc: Global,
     item: &Separation<F>,
@@ -141,7 +146,11 @@ where
     push_quoted(text, residue.get().path())
 }
 
-/// Puts the items at the end of the text, or of `count` how many they are.
+/// Appends the items, or for `count` their number.
+///
+/// # Errors
+///
+/// Returns `AllocError` if allocation fails.
 pub fn push_items<E: Entry>(
     alloc: Global,
     kind: &str,
@@ -160,7 +169,11 @@ pub fn push_items<E: Entry>(
     Ok(())
 }
 
-/// Puts an entry at the end of the text, or an error in brackets with its depth.
+/// Appends an entry, or an error in brackets with its depth.
+///
+/// # Errors
+///
+/// Returns `AllocError` if allocation fails.
 pub fn push_item<E: Entry>(
     alloc: Global,
     kind: &str,
@@ -205,8 +218,13 @@ fn push_place(
     push_quoted(text, candidate)
 }
 
-/// Puts fields at the end of the text: the folders that were listed, how many items they had, and all that
-/// the directory counted; for `count` how many folders were listed.
+/// Appends fields: the folders that were listed, how many items were requested, and all counts of
+/// the directory; for `count` only how many folders were listed.
+///
+/// # Errors
+///
+/// Returns `Unanswered::Memory` if allocation fails, and `Unanswered::NotBuilt` if something in the
+/// row has an error.
 pub fn push_directory(
     alloc: Global,
     kind: &str,

@@ -1,4 +1,4 @@
-//! Tokens of a glob, each seen by contracts as its plain tree, and what trees mean and cost.
+//! The tokens of a glob, which contracts see as plain trees, and what such trees match and cost.
 #![tactic(auto)]
 
 pub mod token;

@@ -1,4 +1,4 @@
-//! The tokens of a glob.
+//! Tokens: the syntax tree of a glob.
 ghost use Rattle.std.specs.Prelude.{◌≡◌, ◌↔◌, ◌+◌, ◌^◌, ◌<◌, ℕ, Bool, List, IsSome, IfSome, true, false};
 ghost use Rattle.std.specs.Prelude.{[], ◌∷◌};
 ghost use Rattle.std.specs.Str.{chars};
@@ -28,20 +28,20 @@ pub use composition::{Composition, TokenComposition};
 pub use made::{new_branch, new_leaf};
 pub use token_tree::{ConcatenationTree, TokenTree};
 
-/// How the root `/` is written in an expression.
+/// The root `/`, as an expression writes it.
 pub const ROOT_SEPARATOR_EXPRESSION: &str = "/";
 
-/// A token is a branch, which holds tokens, or a leaf.
+/// The shape of a token: a branch, which contains tokens, or a leaf.
 #[derive(Debug, Drop)]
 pub enum Topology<B, L> {
     Branch(B),
     Leaf(L),
 }
 
-/// What a token is: one of the branches or one of the leaves.
+/// The shape of a token, with its kind of branch or leaf.
 pub type TokenTopology<'t, A> = Topology<BranchKind<'t, A>, LeafKind<'t>>;
 
-/// A token of a glob, with an annotation. Contracts see it as a plain tree.
+/// A token of a glob, with an annotation such as its span. Contracts see it as a plain tree.
 #[derive(Debug)]
 #[cycle(token)]
 pub struct Token<'t, A> {
@@ -81,7 +81,7 @@ impl<'t, A> Model for Token<'t, A> {
     ghost size_decreases = { λ a h. deep_le a.topology a.annotation };
 }
 
-/// A token that holds tokens.
+/// A token that contains tokens.
 #[derive(Debug, Drop)]
 #[cycle(token)]
 pub enum BranchKind<'t, A> {
@@ -90,7 +90,7 @@ pub enum BranchKind<'t, A> {
     Repetition(Repetition<'t, A>),
 }
 
-/// `{..,..}`: one of its branches.
+/// `{..,..}`: matches what one of its branches matches.
 #[derive(Debug, Drop)]
 #[cycle(token)]
 pub struct Alternation<'t, A> {
@@ -98,7 +98,7 @@ pub struct Alternation<'t, A> {
 }
 
 impl<'t, A> Alternation<'t, A> {
-    /// The branches.
+    /// Returns the branches in order.
     pub fn tokens(&self) -> &[Token<'t, A>]
         ensures { result.now ≡ self.now.tokens.items }
     {
@@ -106,7 +106,7 @@ impl<'t, A> Alternation<'t, A> {
     }
 }
 
-/// A glob or a sub-glob: its tokens one after another.
+/// The tokens of a glob or a sub-glob, matched one after another.
 #[derive(Debug, Drop)]
 #[cycle(token)]
 pub struct Concatenation<'t, A> {
@@ -114,7 +114,7 @@ pub struct Concatenation<'t, A> {
 }
 
 impl<'t, A> Concatenation<'t, A> {
-    /// The tokens in order.
+    /// Returns the tokens in order.
     pub fn tokens(&self) -> &[Token<'t, A>]
         ensures { result.now ≡ self.now.tokens.items }
     {
@@ -122,7 +122,8 @@ impl<'t, A> Concatenation<'t, A> {
     }
 }
 
-/// `<..:n,m>`: from `lower` to `upper` copies of its sub-glob, where `None` is without limit.
+/// `<..:n,m>`: matches from `lower` to `upper` copies of its sub-glob. If `upper` is `None`, there
+/// is no limit.
 #[derive(Debug, Drop)]
 #[cycle(token)]
 pub struct Repetition<'t, A> {
@@ -132,21 +133,22 @@ pub struct Repetition<'t, A> {
 }
 
 impl<'t, A> Repetition<'t, A> {
-    /// The sub-glob.
+    /// Returns the sub-glob that is repeated.
     pub fn token(&self) -> &Token<'t, A>
         ensures { result.now ≡ self.now.token.value }
     {
         &self.token
     }
 
-    /// The least and the greatest number of copies, where `None` is without limit.
+    /// Returns the least and the greatest number of copies, as the expression states them. `None`
+    /// is no limit.
     pub fn bound_specification(&self) -> (usize, Option<usize>)
         ensures { result ≡ (self.now.lower, self.now.upper) }
     {
         (self.lower, self.upper)
     }
 
-    /// How many copies, as a range: reversed bounds are put in order.
+    /// Returns the number of copies as a range. Reversed bounds are put in order.
     pub fn variance(&self) -> NaturalRange
         ensures { result ≡ range_of (ordered self.now.lower self.now.upper) }
     {
@@ -155,7 +157,7 @@ impl<'t, A> Repetition<'t, A> {
     }
 }
 
-/// A token that holds no tokens.
+/// A token that contains no tokens.
 #[derive(Debug, Drop)]
 pub enum LeafKind<'t> {
     Class(Class),
@@ -164,15 +166,16 @@ pub enum LeafKind<'t> {
     Wildcard(Wildcard),
 }
 
-/// A member of a class: a character, or the characters from the first to the last.
+/// A member of a class: a character, or all characters from the first to the second, inclusive.
 #[derive(Clone, Copy, Debug)]
 pub enum Archetype {
     Character(char),
     Range(char, char),
 }
 
-/// `[..]` or `[!..]`: one character but `/`, which is, or is not, of the archetypes. Contracts see
-/// whether it is negated, and the archetypes.
+/// `[..]` or `[!..]`: matches one character other than `/` that is in one of the archetypes, or in
+/// none of them if the class is negated. A class with a reversed range matches nothing. Contracts
+/// see the negation and the archetypes as a pair.
 #[derive(Debug, Drop)]
 pub struct Class {
     is_negated: bool,
@@ -189,7 +192,7 @@ impl Model for Class {
 }
 
 impl Class {
-    /// The class of these archetypes, or of all other characters.
+    /// Creates the class of these archetypes, or of all other characters if `is_negated`.
     pub fn new(is_negated: bool, archetypes: Vec<Archetype>) -> Self
         ensures { result ≡ (is_negated, archetypes.items) }
     {
@@ -199,12 +202,14 @@ impl Class {
         }
     }
 
+    /// Returns the archetypes in the order in which they are written.
     pub fn archetypes(&self) -> &[Archetype]
         ensures { result.now ≡ self.now.1 }
     {
         self.archetypes.as_slice()
     }
 
+    /// Returns whether the class begins with `!`.
     pub fn is_negated(&self) -> bool
         ensures { result ≡ self.now.0 }
     {
@@ -212,9 +217,9 @@ impl Class {
     }
 }
 
-/// Characters that stand for themselves, or with the flag `i` for any of the same simple folding.
-/// Contracts see the flag and the characters. The text has no backslash before an escaped character;
-/// where it is none, it is borrowed from the expression.
+/// A run of ordinary characters. It matches these, or with the flag `i` any characters with the
+/// same simple case folding. The text is without the backslashes of escaped characters. Contracts
+/// see the flag and the characters as a pair.
 #[derive(Debug, Drop)]
 pub struct Literal<'t> {
     text: CowStr<'t>,
@@ -228,6 +233,7 @@ impl<'t> Model for Literal<'t> {
 }
 
 impl<'t> Literal<'t> {
+    /// Creates a literal that matches `text` as it is: a backslash in it escapes nothing.
     pub fn new(text: CowStr<'t>, is_case_insensitive: bool) -> Self
         ensures { result ≡ (is_case_insensitive, chars (cow_str_bytes text.entry)) }
     {
@@ -237,13 +243,14 @@ impl<'t> Literal<'t> {
         }
     }
 
-    /// The characters, without their escapes.
+    /// Returns the text without its escapes: for `a\*b` it is `a*b`.
     pub fn text(&self) -> &str
         ensures { chars result.now ≡ self.now.1 }
     {
         self.text.as_str()
     }
 
+    /// Returns whether the flag `i` holds for the literal.
     pub fn is_case_insensitive(&self) -> bool
         ensures { result ≡ self.now.0 }
     {
@@ -251,26 +258,30 @@ impl<'t> Literal<'t> {
     }
 }
 
-/// `/` between components.
+/// `/`, which separates components.
 #[derive(Clone, Copy, Debug)]
 pub struct Separator;
 
-/// Whether a capture of `*` is the longest (`*`) or the shortest (`$`) that fits.
+/// Which piece a wildcard captures: the longest possible (`*`) or the shortest (`$`).
 #[derive(Clone, Copy, Debug)]
 pub enum Evaluation {
     Eager,
     Lazy,
 }
 
-/// `?`, `*` or `$`, and `**`, whose `has_root` says that a `/` was written before it.
+/// `?`, `*`, `$` or `**`. For the tree wildcard `**`, `has_root` says whether a `/` is written
+/// before it.
 #[derive(Clone, Copy, Debug)]
 pub enum Wildcard {
+    /// `?`: one character other than `/`.
     One,
+    /// `*` or `$`: zero or more characters other than `/`.
     ZeroOrMore(Evaluation),
+    /// `**`: zero or more components.
     Tree { has_root: bool },
 }
 
-/// What the parser knows of a token: where it stands in the expression. Contracts see the span.
+/// The annotation of a parsed token: its span in the expression. Contracts see the span.
 #[derive(Clone, Copy, Debug)]
 pub struct ExpressionMetadata {
     span: Span,
@@ -289,7 +300,7 @@ impl Model for ExpressionMetadata {
 }
 
 impl ExpressionMetadata {
-    /// The metadata of a token with this span.
+    /// Creates the metadata of a token with this span, whose end has to fit in 64 bits.
     pub fn new(span: Span) -> Self
         requires { span.0 + span.1 < 2 ^ 64 }
         ensures { result ≡ span }
@@ -297,7 +308,7 @@ impl ExpressionMetadata {
         ExpressionMetadata { span }
     }
 
-    /// The token's bytes, from its flags on.
+    /// Returns the token's span in bytes, which begins with the flags before the token.
     pub fn span(&self) -> Span
         ensures span { result ≡ self.now }
         ensures fits { self.now.0 + self.now.1 < 2 ^ 64 }
@@ -306,14 +317,14 @@ impl ExpressionMetadata {
     }
 }
 
-/// An expression and its token.
+/// An expression, and the token that it was parsed to.
 #[derive(Debug)]
 pub struct Tokenized<'t, A> {
     pub expression: CowStr<'t>,
     pub token: Token<'t, A>,
 }
 
-// Written out, so that a crate that drops these needn't prove again how tokens are dropped.
+// Written out, so that crates that drop these don't have to prove again how tokens are dropped.
 impl<'t, A: Drop> Drop for Tokenized<'t, A> {
     fn drop(self) {
         let Tokenized {
@@ -324,6 +335,7 @@ impl<'t, A: Drop> Drop for Tokenized<'t, A> {
 }
 
 impl<'t, A> Tokenized<'t, A> {
+    /// Returns the expression as it was written.
     pub fn expression(&self) -> &CowStr<'t>
         ensures { result.now ≡ self.now.expression }
     {
@@ -336,7 +348,7 @@ impl<'t, A> Tokenized<'t, A> {
         &self.token
     }
 
-    /// The expression and the token.
+    /// Splits the value into the expression and the token.
     pub fn into_parts(self) -> (CowStr<'t>, Token<'t, A>)
         ensures { result ≡ (self.entry.expression, self.entry.token) }
     {
@@ -344,7 +356,7 @@ impl<'t, A> Tokenized<'t, A> {
         (expression, token)
     }
 
-    /// The token, without the expression.
+    /// Returns the token, and drops the expression.
     pub fn into_token(self) -> Token<'t, A>
         ensures { result ≡ self.entry.token }
     {
@@ -356,9 +368,9 @@ impl<'t, A> Tokenized<'t, A> {
     }
 }
 
-/// What a token can be annotated with.
+/// A type with which tokens can be annotated.
 pub trait Annotation: Sized {
-    /// The token alone, as a list.
+    /// Returns a list of only this token.
     fn lone<'i, 't>(token: &'i Token<'t, Self>) -> &'i [Token<'t, Self>]
         ensures { result.now ≡ token.now ∷ [] };
 }
@@ -380,18 +392,21 @@ impl Annotation for ExpressionMetadata {
 impl<'t, A> Token<'t, A> {
     ghost use Rattle.wax_token.specs.View.{leaf_of, branch_tree, topology_tree};
 
+    /// Returns what the token is annotated with: after parsing, its span.
     pub fn annotation(&self) -> &A
         ensures { result.now ≡ annotation_of self.now }
     {
         &self.annotation
     }
 
+    /// Returns the token's shape, to be matched on.
     pub fn topology(&self) -> &TokenTopology<'t, A>
         ensures { topology_tree result.now (annotation_of self.now) ≡ self.now }
     {
         &self.topology
     }
 
+    /// Returns the token as a branch, or `None` for a leaf.
     pub fn as_branch(&self) -> Option<&BranchKind<'t, A>>
         ensures kind { IsSome result ↔ (is_leaf_tree self.now ≡ false) }
         ensures some { IfSome result (λ b. self.now ≡ branch_tree b.now (annotation_of self.now)) }
@@ -402,6 +417,7 @@ impl<'t, A> Token<'t, A> {
         }
     }
 
+    /// Returns the token as a leaf, or `None` for a branch.
     pub fn as_leaf(&self) -> Option<&LeafKind<'t>>
         ensures kind { IsSome result ↔ (is_leaf_tree self.now ≡ true) }
         ensures some { IfSome result (λ l. self.now ≡ leaf (annotation_of self.now) (leaf_of l.now)) }
@@ -414,7 +430,7 @@ impl<'t, A> Token<'t, A> {
 }
 
 impl<'t, A: Annotation> Tokenized<'t, A> {
-    /// The tokens of its token's concatenation, and any other token alone.
+    /// Returns the tokens of the glob in order: those of its concatenation, or its only token.
     pub fn concatenation(&self) -> &[Token<'t, A>]
         ensures { trees result.now ≡ members self.now.token }
     {
@@ -423,7 +439,8 @@ impl<'t, A: Annotation> Tokenized<'t, A> {
 }
 
 impl<'t, A: Annotation> Token<'t, A> {
-    /// The tokens of a concatenation, and any other token alone.
+    /// Returns the tokens of a concatenation in order. For any other token, returns a list of only
+    /// it.
     pub fn concatenation(&self) -> &[Self]
         ensures { trees result.now ≡ members self.now }
     {

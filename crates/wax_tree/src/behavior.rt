@@ -1,4 +1,4 @@
-//! How far a walk goes: the depths that it gives, and how many items it takes.
+//! How far a walk goes: the depths of what it yields, and how many items it takes.
 ghost use Rattle.std.specs.Prelude.{◌≡◌, ℕ, Option, Some, MatchOption, min, max};
 ghost use Rattle.std.specs.Int.NonZero.{non_zero_usize_get};
 ghost use Rattle.wax_tree.specs.Depths.{HasBounds, IsPast, IsUnbounded, IsUnboundedAt, behavior_at};
@@ -9,12 +9,12 @@ ghost use Rattle.wax_tree.specs.declared.behavior.DepthBehavior.TheVariants.{Unb
 use std::num::NonZeroUsize;
 use wax_query::query::DepthVariance;
 
-/// Gives entries of at least this depth, which isn't 0.
+/// Depths of at least this number, which isn't 0.
 #[derive(Clone, Copy, Debug, Eq, PartialEq)]
 pub struct DepthMin(pub NonZeroUsize);
 
 impl DepthMin {
-    /// At least `min`; no bound where that is 0.
+    /// Builds the depths of at least `min`; all depths if it is 0.
     pub fn from_min_or_unbounded(min: usize) -> DepthBehavior
         ensures least { least result ≡ min }
         ensures greatest { greatest result ≡ no_bound }
@@ -58,7 +58,7 @@ impl TryFrom<usize> for DepthMin {
     }
 }
 
-/// Gives entries of at most this depth. A folder at this depth isn't listed.
+/// Depths of at most this number. A folder at this depth isn't listed.
 #[derive(Clone, Copy, Debug, Eq, PartialEq)]
 pub struct DepthMax(pub usize);
 
@@ -78,7 +78,7 @@ impl From<DepthMax> for usize {
     }
 }
 
-/// Gives entries of at least the depth `min`, which isn't 0, and of at most `extent` more.
+/// Depths from `min`, which isn't 0, to `min` plus `extent`.
 #[derive(Clone, Copy, Debug, Eq, PartialEq)]
 pub struct DepthMinMax {
     pub min: NonZeroUsize,
@@ -86,7 +86,8 @@ pub struct DepthMinMax {
 }
 
 impl DepthMinMax {
-    /// From the lesser depth to the greater; at most the greater where the lesser is 0.
+    /// Builds the depths from the lesser of `p` and `q` to the greater, both included. If the
+    /// lesser is 0, these are the depths of at most the greater.
     pub fn from_depths_or_max(p: usize, q: usize) -> DepthBehavior
         ensures least { least result ≡ min p q }
         ensures greatest { greatest result ≡ Some (max p q) }
@@ -101,7 +102,7 @@ impl DepthMinMax {
         }
     }
 
-    /// The greatest depth, at most the greatest `usize`.
+    /// Returns the greatest depth, which is `usize::MAX` if the sum is past it.
     pub fn max(&self) -> NonZeroUsize
         ensures { Some (non_zero_usize_get result) ≡ greatest (MinMax self.now) }
     {
@@ -109,8 +110,8 @@ impl DepthMinMax {
     }
 }
 
-/// The depths of the entries that a walk gives. An entry's depth is the number of names of its
-/// candidate.
+/// The depths of the entries that a walk yields. The depth of an entry is the number of names that
+/// lead to it from the start.
 #[derive(Clone, Copy, Debug, Default, Eq, PartialEq)]
 pub enum DepthBehavior {
     #[default]
@@ -121,8 +122,8 @@ pub enum DepthBehavior {
 }
 
 impl DepthBehavior {
-    /// From `min` to `max`, each of which may be missing. `None` where `min` is 0 or above `max`,
-    /// or both are missing.
+    /// Builds the depths from `min` to `max`, each of which may be missing. Returns `None` if both
+    /// are missing, if `min` is 0, or if `min` is above `max`.
     pub fn bounded<P, Q>(min: P, max: Q) -> Option<Self>
     where
         P: Into<Option<usize>>,
@@ -133,8 +134,8 @@ impl DepthBehavior {
         between(min.into(), max.into())
     }
 
-    /// The same of both numbers with the least number of components added that a glob's depth has, as depths
-    /// below its prefix are. `None` too where a sum is past 64 bits.
+    /// Adds the least number of components of `depth` to both numbers, and then builds depths as
+    /// `bounded` does. Returns `None` if a sum is past 64 bits, too.
     pub fn bounded_at_depth_variance<P, Q>(min: P, max: Q, depth: DepthVariance) -> Option<Self>
     where
         P: Into<Option<usize>>,
@@ -148,7 +149,7 @@ impl DepthBehavior {
         between(raised(min, least)?, raised(max, least)?)
     }
 
-    /// The least depth of an entry that is given.
+    /// Returns the least depth of an entry that the walk yields.
     pub fn least(&self) -> usize
         ensures { result ≡ least self.now }
     {
@@ -159,7 +160,7 @@ impl DepthBehavior {
         }
     }
 
-    /// The greatest depth of an entry that is given, if there is one.
+    /// Returns the greatest depth of an entry that the walk yields, or `None` if there is no bound.
     pub fn greatest(&self) -> Option<usize>
         ensures { result ≡ greatest self.now }
     {
@@ -204,13 +205,14 @@ impl From<DepthMinMax> for DepthBehavior {
 /// What a walk does at a link.
 #[derive(Clone, Copy, Debug, Default, Eq, PartialEq)]
 pub enum LinkBehavior {
-    /// A link is an entry, and isn't followed.
+    /// Yields the link as an entry, and doesn't follow it.
     #[default]
     ReadFile,
 }
 
-/// How a walk goes: the depths of the entries that it gives, what it does at a link, and how many
-/// items of folders it takes at most. The start of the walk isn't counted.
+/// How a walk goes: the depths of the entries that it yields, what it does at a link, and the
+/// greatest number of items that it takes from folders. The start of the walk doesn't count as an
+/// item.
 #[derive(Clone, Copy, Debug, Eq, PartialEq)]
 pub struct WalkBehavior {
     pub depth: DepthBehavior,
@@ -219,7 +221,7 @@ pub struct WalkBehavior {
 }
 
 impl WalkBehavior {
-    /// The same with other depths: a `DepthMin`, a `DepthMax`, a `DepthMinMax` or a `DepthBehavior`.
+    /// Replaces the depths, by a `DepthMin`, a `DepthMax`, a `DepthMinMax` or a `DepthBehavior`.
     pub fn with_depth<T>(self, depth: T) -> Self
     where
         T: Into<DepthBehavior>,
@@ -231,14 +233,14 @@ impl WalkBehavior {
         }
     }
 
-    /// The same with at most `budget` items of folders.
+    /// Replaces the budget, the greatest number of items that the walk takes from folders.
     pub fn with_budget(self, budget: u32) -> Self
         ensures { result ≡ record self { budget = budget } }
     {
         WalkBehavior { budget, ..self }
     }
 
-    /// The same with `link` for what it does at a link.
+    /// Replaces what the walk does at a link.
     pub fn with_link(self, link: LinkBehavior) -> Self
         ensures { result ≡ record self { link = link } }
     {
@@ -247,7 +249,7 @@ impl WalkBehavior {
 }
 
 impl Default for WalkBehavior {
-    /// All depths, links as they are, and 4,294,967,295 items.
+    /// Builds the behavior of a walk of all depths with a budget of 4,294,967,295 items.
     fn default() -> Self
         ensures { result ≡ behavior_at Unbounded }
     {
@@ -344,7 +346,7 @@ fn between(min: Option<usize>, max: Option<usize>) -> Option<DepthBehavior>
     }
 }
 
-// The depth with so many added, if there is one; none at all past 64 bits.
+// Adds to a depth that may be missing. The outer `None` is an overflow, the inner one no depth.
 fn raised(depth: Option<usize>, by: usize) -> Option<Option<usize>>
     ensures { MatchOption result (IsPast by depth) (λ sum. sum ≡ raised by depth) }
 {

@@ -17,11 +17,12 @@ use wax_walk::FileIterator;
 pub trait PathExt {
     ghost use Rattle.wax_tree.specs.declared.behavior.WalkBehavior.{WalkBehavior};
 
-    /// The path's text.
+    /// The characters of the path.
     ghost text: { Self → List ℕ };
 
-    /// The walk from this path, of all depths, which takes at most 4,294,967,295 items of folders.
-    /// Where memory is refused for the path, the walk's one item tells it.
+    /// Walks through `directory` from this path, at every depth. The walk takes at most
+    /// 4,294,967,295 items from folders. If memory runs out for the path, its only item is an
+    /// error.
     fn walk<D: Directory>(self, alloc: Global, directory: D) -> WalkTree<D>
     where
         Self: Sized,
@@ -30,9 +31,9 @@ pub trait PathExt {
         ensures gives { EndsWithin (2 * (behavior_at Unbounded).budget + 3)
             (⟦<WalkTree<D> as SeparatingFilter>⟧.left result) };
 
-    /// The walk from this path, of the depths that the behavior has, which takes at most as many
-    /// items of folders as its budget. Where memory is refused for the path, the walk's one item
-    /// tells it.
+    /// Walks through `directory` from this path, at the depths of `behavior`, and takes at most as
+    /// many items from folders as its budget. If memory runs out for the path, the walk's only item
+    /// is an error.
     fn walk_with_behavior<D, B>(self, alloc: Global, directory: D, behavior: B) -> WalkTree<D>
     where
         Self: Sized,
@@ -44,7 +45,6 @@ pub trait PathExt {
             × EndsWithin (2 * b.budget + 3) (⟦<WalkTree<D> as SeparatingFilter>⟧.left result) };
 }
 
-// The greatest depth; the greatest that a walk counts where there is no bound.
 fn greatest_or_all(depth: &DepthBehavior) -> usize
     ensures { result ≡ or_greatest (greatest depth.now) }
 {
@@ -55,7 +55,8 @@ fn greatest_or_all(depth: &DepthBehavior) -> usize
 }
 
 impl WalkBehavior {
-    /// The depths and the budget as numbers; where there is no greatest depth, the greatest number.
+    /// Returns the depths and the budget as numbers. If there is no greatest depth, it is
+    /// `usize::MAX`.
     pub fn range(&self) -> Range
         ensures { result ≡ behavior_range self.now }
     {
@@ -67,7 +68,7 @@ impl WalkBehavior {
     }
 }
 
-// The walk from a path.
+// The body of all walks from a path, for a behavior that is already converted.
 pub(crate) fn walk_from<D: Directory>(
     alloc: Global,
     directory: D,

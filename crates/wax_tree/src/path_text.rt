@@ -6,7 +6,7 @@ ghost use Rattle.wax_directory.specs.Shown.{join as join_path};
 
 use std::alloc::{AllocError, Global};
 
-// A name may follow the path at once: it is empty or ends with `/`.
+// Returns whether a name can follow the path without a `/`: the path is empty or ends with one.
 fn is_open(path: &str) -> bool
     ensures { result ≡ is_open_path path.now }
 {
@@ -16,7 +16,7 @@ fn is_open(path: &str) -> bool
     }
 }
 
-/// The path of a name in a folder. It asks for memory once.
+/// Joins a folder's path and a name, with a `/` if one is needed. It allocates once.
 pub(crate) fn join(alloc: Global, folder: &str, name: &str) -> Result<String, AllocError>
     ensures { IfOk result (λ path. string_bytes path ≡ join_path folder.now name.now) }
 {

@@ -1,4 +1,4 @@
-//! The plain walk, whole.
+//! The plain walk as a list.
 
 ghost use Rattle.std.specs.Prelude.{◌+◌, List, ℕ, IfOk, map, ⊤};
 ghost use Rattle.wax_directory.specs.Shown.{Shown};
@@ -14,11 +14,17 @@ use wax_directory::directory::Directory;
 use wax_query::diagnostics::NoMemory;
 use wax_walk::{Entry, TreeEntry, WalkError, collect};
 
-/// The items of the plain walk from `start`, in order, errors at their places, and the directory. Over
-/// a lawful directory these are exactly the entries of the tree that it shows at the start, of the
-/// depths that the behavior has, with the faults of the folders that are listed; or a beginning of
-/// them, and one error 17 where memory is refused, or one error 16 where the folders hold together
-/// more items than the budget. Where memory is refused for the list itself, nothing is answered.
+/// Collects the plain walk from `start`: returns its items in order, each error at its place, and
+/// the directory.
+///
+/// Over a lawful directory, the entries are exactly those of the tree that it shows at the start,
+/// at the depths of `behavior`, with the errors of the folders that are listed. If memory or the
+/// budget runs out, the list is a prefix of that and then one error: 17 for memory, or 16 if the
+/// folders together hold more items than the budget.
+///
+/// # Errors
+///
+/// Returns `NoMemory` if allocation fails for the list itself.
 pub fn entries<D: Directory>(
     alloc: Global,
     directory: D,

@@ -1,4 +1,4 @@
-//! The plain walk, step by step.
+//! The plain walk as a machine of small steps, each of which calls the directory at most once.
 
 ghost use Rattle.std.specs.Prelude.{◌≡◌, ◌≤◌, ◌+◌, ◌^◌, length, ◌-◌, ◌⊎◌, ◌++◌, ◌∷◌, ◌<◌, [], ℕ, List};
 ghost use Rattle.std.specs.Prelude.{Option, Some, None, Ok, true, false, OnOk, IfOk, string_bytes};
@@ -27,7 +27,7 @@ use wax_directory::directory::{Directory, DirectoryFault, FileType, ListItem};
 use wax_directory::name::is_plain;
 use wax_walk::{FaultKind, TreeEntry, WalkError};
 
-/// A folder, and the depth of what is in it.
+/// A folder. `depth` is that of what is in it.
 #[derive(Drop)]
 pub(crate) struct Folder {
     path: String,
@@ -35,8 +35,8 @@ pub(crate) struct Folder {
     depth: usize,
 }
 
-/// Where a walk begins: a path, with the names that lead there and how many they are, and the
-/// names that it goes on to, the first of them last.
+/// The place where a walk begins, or that it has reached on its way through the given names.
+/// `names` are those that follow, the first of them last, so that they can be popped.
 #[derive(Drop)]
 pub(crate) struct Place {
     pub(crate) path: String,
@@ -52,7 +52,7 @@ struct Level<C> {
     cursor: C,
 }
 
-/// What a step of a walk does.
+/// The result of a step. `GoesOn` yields nothing yet.
 #[derive(Drop)]
 enum Step {
     Gives(Result<TreeEntry, WalkError>),
@@ -60,7 +60,7 @@ enum Step {
     Ends,
 }
 
-/// What an item of a folder stands for: an entry, with its path, candidate and kind, or a fault of the
+/// What an item of a folder becomes: an entry with its path, candidate and kind, or a fault of the
 /// folder with this path.
 #[derive(Drop)]
 enum Found {
@@ -68,8 +68,8 @@ enum Found {
     Fault(FaultKind, String),
 }
 
-/// A plain walk: what is yet to be entered, and the folders that are being listed, the outermost
-/// first.
+/// The state of a plain walk: `first` or `entered` is what comes next, if there is one, and then
+/// the innermost of `levels`, which are the folders that are being listed, the outermost first.
 #[derive(Drop)]
 pub(crate) struct Steps<D: Directory> {
     alloc: Global,
@@ -84,7 +84,7 @@ pub(crate) struct Steps<D: Directory> {
     pub(crate) has_ended: bool,
 }
 
-/// The entries whose depth is from `min` to `max`, of at most `budget` items.
+/// Depths from `min` to `max`, and a budget of items from folders.
 #[derive(Clone, Copy)]
 pub struct Range {
     pub min: usize,
@@ -92,7 +92,6 @@ pub struct Range {
     pub budget: u32,
 }
 
-// The entry of a name in a folder.
 fn entry_in(alloc: Global, folder: &Folder, name: &str, kind: FileType) -> Result<Found, AllocError>
     ensures { IfOk result (IsEntry (folder_spot folder.now) name.now kind) }
 {
@@ -101,7 +100,6 @@ fn entry_in(alloc: Global, folder: &Folder, name: &str, kind: FileType) -> Resul
     Ok(Found::Entry(path, candidate, kind))
 }
 
-// A fault of a folder.
 fn fault_in(folder: &Folder, kind: FaultKind) -> Result<Found, AllocError>
     ensures { IfOk result (IsFault (folder_spot folder.now) kind) }
 {
@@ -109,7 +107,7 @@ fn fault_in(folder: &Folder, kind: FaultKind) -> Result<Found, AllocError>
     Ok(Found::Fault(kind, path))
 }
 
-// What an item of a folder stands for.
+// Checks the name of an item before it becomes a part of a path.
 fn found_in(alloc: Global, folder: &Folder, item: ListItem) -> Result<Found, AllocError>
     ensures { IfOk result (IsFound (folder_spot folder.now) item) }
 {
@@ -127,7 +125,8 @@ fn found_in(alloc: Global, folder: &Folder, item: ListItem) -> Result<Found, All
 }
 
 impl<D: Directory> Steps<D> {
-    /// The walk from `first`, which is the path `root`; nothing more comes where it is missing.
+    /// Begins at `first`. `root` is the path that each entry returns as its start. Without a
+    /// `first` nothing comes.
     pub(crate) fn new(
         alloc: Global,
         directory: D,
@@ -163,14 +162,13 @@ impl<D: Directory> Steps<D> {
         }
     }
 
-    /// The directory that was walked.
     pub(crate) fn into_directory(self) -> D
         ensures { result ≡ self.directory }
     {
         self.directory
     }
 
-    // Nothing more comes: memory was refused.
+    // Ends the walk with an error for memory.
     fn fail(&mut self) -> Step
         ensures memory { result ≡ Step.Gives (Err WalkError.Memory) }
         ensures ended { self.new ≡ record self.old { has_ended = true } }
@@ -179,7 +177,7 @@ impl<D: Directory> Steps<D> {
         Step::Gives(Err(WalkError::Memory))
     }
 
-    // Nothing more comes after this fault.
+    // Ends the walk with a fault.
     fn stop(&mut self, kind: FaultKind, path: String, depth: usize) -> Step
         ensures gives { step_given result ≡ Some (fault kind (string_bytes path) depth) }
         ensures ended { self.new ≡ record self.old { has_ended = true } }
@@ -188,7 +186,8 @@ impl<D: Directory> Steps<D> {
         Step::Gives(Err(WalkError::Fault(kind, path, depth)))
     }
 
-    // What is in an entry will come, if it is a folder above the greatest depth.
+    // Remembers an entry if it is a folder above the greatest depth. The folder is opened by a
+    // later step, so that it can be cancelled before.
     fn enter_later(
         &mut self,
         path: &str,
@@ -215,8 +214,7 @@ impl<D: Directory> Steps<D> {
         Ok(())
     }
 
-    // Gives an entry if its depth is in range; what is in it will come, if it is a folder above the
-    // greatest depth.
+    // Yields an entry if its depth is in range, and remembers it as a folder to be opened.
     fn give(&mut self, path: String, candidate: String, kind: FileType, depth: usize) -> Step
         ensures settles { Settles (nothing_asked (names_left self.old)) self.old result self.new }
         ensures continues { (s : Shown) → D.law.shows self.old.directory (string_bytes path) s
@@ -243,8 +241,8 @@ impl<D: Directory> Steps<D> {
         Step::Gives(Ok(TreeEntry::new(path, root, candidate, depth, kind)))
     }
 
-    // Where no name follows a place, its entry; else the walk goes on from the next name, if a folder
-    // stands there.
+    // Goes on to the next name of a place, which has to be a folder; without a next name, yields
+    // the entry of the place.
     fn follow(&mut self, place: Place, kind: FileType) -> Step
         ensures settles { Settles (record {
           counts = kind_counts (Ok (Some kind));
@@ -289,7 +287,7 @@ impl<D: Directory> Steps<D> {
         Step::GoesOn
     }
 
-    // What stands at the place to begin at.
+    // Looks up what is at a place.
     fn begin(&mut self, place: Place) -> Step
         ensures answers { StepAnswers D.law (names_left self.old + length place.names.items) self.old result
             self.new }
@@ -317,7 +315,8 @@ impl<D: Directory> Steps<D> {
         }
     }
 
-    // Opens a folder.
+    // Opens a folder. `folder.depth` is that of what is in it, so an error of the folder itself is
+    // at one less.
     fn enter(&mut self, folder: Folder) -> Step
         ensures answers { StepAnswers D.law (names_left self.old) self.old result self.new }
         ensures continues { (s : Shown) → D.law.shows self.old.directory (string_bytes folder.path) s
@@ -339,7 +338,7 @@ impl<D: Directory> Steps<D> {
         }
     }
 
-    // Gives what was found in a folder, in which what is has this depth.
+    // Yields what was found in a folder. `depth` is that of the folder's items.
     fn give_found(&mut self, found: Found, depth: usize) -> Step
         ensures settles { (at : Spot) (x : ListItem) → IsFound at x found
             → Settles (record { counts = item_counts x; taken = 0; names = names_left self.old })
@@ -358,7 +357,8 @@ impl<D: Directory> Steps<D> {
         }
     }
 
-    // An item of a folder, of which the cursor has the rest.
+    // Takes an item of a folder, unless the budget is used up, and puts the folder back on the
+    // stack: the cursor has its rest.
     fn take_from(&mut self, folder: Folder, cursor: D::Cursor, item: ListItem) -> Step
         ensures settles { (self.old.has_ended ≡ false)
             → Settles (record { counts = item_counts item; taken = 1; names = names_left self.old })
@@ -387,7 +387,7 @@ impl<D: Directory> Steps<D> {
         self.give_found(found, depth)
     }
 
-    // A step in a folder that is being listed.
+    // Moves on in the innermost folder. At its end it isn't put back on the stack.
     fn list_next(&mut self, level: Level<D::Cursor>) -> Step
         ensures answers { (self.old.has_ended ≡ false)
             → StepAnswers D.law (names_left self.old) self.old result self.new }
@@ -406,7 +406,8 @@ impl<D: Directory> Steps<D> {
         }
     }
 
-    // One step.
+    // Does one step. A folder that is remembered comes before the rest of its parent. No folder is
+    // remembered while there is a place to begin at; clearing `entered` says so to the prover.
     fn step(&mut self) -> Step
         ensures is_step { IsStep D.law self.old result self.new }
         ensures step { (p : Pending Given) → PlainToCome D.law self.old p
@@ -429,7 +430,7 @@ impl<D: Directory> Steps<D> {
         }
     }
 
-    /// The next item; `None` at the end.
+    /// Steps until an item comes. Returns `None` at the end.
     pub(crate) fn run(&mut self) -> Option<Result<TreeEntry, WalkError>>
         ensures feeds { FeedStep D.law (steps_view D.law self.old) (tree_answer result)
             (steps_view D.law self.new) }

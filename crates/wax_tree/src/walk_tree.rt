@@ -17,7 +17,7 @@ use wax_filter::filter::{
 };
 use wax_walk::{FileIterator, TreeEntry, WalkError};
 
-/// What a plain walk and each filter over it give.
+/// The items of a plain walk and of the filters of it.
 pub struct TreeFeed;
 
 impl Feed for TreeFeed {
@@ -42,15 +42,15 @@ impl Isomeric for TreeFeed {
     }
 }
 
-/// The plain walk: each entry from a start on, a folder before what is in it, in the directory's
-/// order.
+/// The plain walk: yields each entry from a start on, a folder before what is in it, in the
+/// directory's order.
 #[derive(Drop)]
 pub struct WalkTree<D: Directory> {
     steps: Steps<D>,
     lacks_memory: bool,
 }
 
-// The place where a walk begins.
+// Copies the texts of the place where a walk begins.
 fn place_at(
     alloc: Global,
     path: &str,
@@ -72,7 +72,7 @@ fn place_at(
 }
 
 impl<D: Directory> WalkTree<D> {
-    // The walk from a start, of the entries whose depth is from the least to the greatest.
+    // Begins at a start, for a range of depths that is already a pair of numbers.
     pub(crate) fn with_range(alloc: Global, directory: D, start: &str, range: Range) -> WalkTree<D>
         ensures begins { Begins D.law directory start.now range
             (⟦<WalkTree<D> as FileIterator>⟧.view result) }
@@ -82,12 +82,14 @@ impl<D: Directory> WalkTree<D> {
         WalkTree::to_place(alloc, directory, start, start, "", none, range)
     }
 
-    /// The walk from a start that has this candidate to the place of these names below it, the first
-    /// of them last, and from there on; `root` is the start that its entries tell. It asks what
-    /// stands at the start and at each name's place: where one isn't there, or is no folder and a
-    /// name follows, or can't be asked for, one error comes and nothing more. Where there are more
-    /// names than the greatest depth, nothing comes and nothing is asked. Where memory is refused for
-    /// the paths, the walk's one item tells it.
+    /// Walks to a place below a start, and then on from there. `start` is the path of the start,
+    /// and `candidate` its candidate; `names` lead from there to the place, the first of them last.
+    /// `root` is what the entries return as the path of the start.
+    ///
+    /// The walk looks up what is at the start and at each name in turn. If nothing is there, or it
+    /// isn't a folder and a name follows, or it can't be read, the only item is an error. If there
+    /// are more names than the greatest depth, the walk yields nothing and doesn't call the
+    /// directory. If memory runs out for the paths, the only item is an error.
     pub fn to_place(
         alloc: Global,
         directory: D,
@@ -120,7 +122,7 @@ impl<D: Directory> WalkTree<D> {
         }
     }
 
-    /// A walk that has ended: nothing comes, and nothing is asked.
+    /// Builds a walk that has ended: it yields nothing and doesn't call the directory.
     pub fn ended(alloc: Global, directory: D, range: Range) -> WalkTree<D>
         ensures ended { HasEnded D.law directory range (⟦<WalkTree<D> as FileIterator>⟧.view result) }
         ensures gives { EndsWithin (2 * range.budget + 3) (⟦<WalkTree<D> as SeparatingFilter>⟧.left result) }
@@ -131,7 +133,7 @@ impl<D: Directory> WalkTree<D> {
         }
     }
 
-    /// A walk whose one item tells that memory was refused; nothing is asked.
+    /// Builds a walk whose only item is an error for memory. It doesn't call the directory.
     pub fn refused(alloc: Global, directory: D, range: Range) -> WalkTree<D>
         ensures lacks { LacksMemory D.law directory range (⟦<WalkTree<D> as FileIterator>⟧.view result) }
         ensures gives { EndsWithin (2 * range.budget + 3) (⟦<WalkTree<D> as SeparatingFilter>⟧.left result) }

@@ -1,11 +1,15 @@
-//! What is captured by a pattern that is written out.
+//! What a pattern that is written out captures.
 ghost use Rattle.std.specs.Prelude.{◌≡◌, IfOk, MatchOption, chars, string_bytes};
 ghost use Rattle.wax_uses.specs.Names.{HasStem, IsPictureName};
 
 use std::alloc::Global;
 use wax::{BuildError, CandidatePath, Glob, Program};
 
-/// What stands before `.png` in a name that ends so; None of any other path.
+/// Returns what is before `.png` in a name that ends so, or `None` for any other path.
+///
+/// # Errors
+///
+/// Returns `Memory` if allocation fails.
 pub fn picture_stem(alloc: Global, path: &str) -> Result<Option<String>, BuildError>
     ensures { IfOk result (λ stem. MatchOption stem (IsPictureName (chars path.now) → ⊥)
         (λ text. HasStem (chars path.now) (chars (string_bytes text)))) }
@@ -21,7 +25,6 @@ pub fn picture_stem(alloc: Global, path: &str) -> Result<Option<String>, BuildEr
     }
 }
 
-// A copy of the text.
 fn copied(alloc: Global, text: &str) -> Result<String, BuildError>
     ensures { IfOk result (λ copy. string_bytes copy ≡ text.now) }
 {

@@ -8,7 +8,12 @@ ghost use Rattle.wax.specs.Language.{HasNoSlash};
 use std::alloc::Global;
 use wax::{BuildError, Glob};
 
-/// The glob of an expression. Where neither `/` nor `**` is written in it, no text that it means holds a `/`.
+/// Builds the glob of an expression. If neither `/` nor `**` is written in it, no text that matches
+/// contains a `/`.
+///
+/// # Errors
+///
+/// Returns the errors of `Glob::new`.
 pub fn glob_of_component<'t>(alloc: Global, expression: &'t str) -> Result<Glob<'t>, BuildError>
     ensures built { MatchGlob (chars expression.now) result }
     ensures respects { IfOk result (λ glob. IsOneComponent (chars expression.now)

@@ -1,4 +1,4 @@
-//! Ignore lists that are asked of a path.
+//! Ignore lists and single paths.
 ghost use Rattle.std.specs.List.{AllZip};
 ghost use Rattle.std.specs.Prelude.{◌≡◌, List, IfOk, chars};
 ghost use Rattle.wax.specs.Ignoring.{IsReadAs};
@@ -9,7 +9,11 @@ use std::alloc::Global;
 use wax::CandidatePath;
 use wax::walk::{IgnoreError, IgnoreList};
 
-/// Whether the lines of an ignore list's text ignore the path: whether the last that means it ignores.
+/// Returns whether an ignore list ignores the path, from the text of the list.
+///
+/// # Errors
+///
+/// Returns the errors of `IgnoreList::parse`.
 pub fn is_ignored_by(alloc: Global, list: &str, path: &str) -> Result<bool, IgnoreError>
     ensures { IfOk result (λ answer. (lines : List (Line Span))
         × AllZip IsReadAs (written_lines list.now) lines × (answer ≡ is_ignored lines (chars path.now))) }

@@ -6,7 +6,11 @@ ghost use Rattle.wax.specs.Matching.{Filters, lines, WritesMeant};
 use std::alloc::Global;
 use wax::{Counted, Glob, LinesError, filter_lines};
 
-/// The lines of these bytes that the glob means, in order, each with one line feed.
+/// Returns the lines of these bytes that the glob matches, in order, each with one line feed.
+///
+/// # Errors
+///
+/// Returns the errors of `filter_lines`.
 pub fn meant_lines(alloc: Global, bytes: &[u8], glob: &Glob<'_>) -> Result<Vec<u8>, LinesError>
     ensures { IfOk result
         (λ out. (bad : ℕ) × Filters (WritesMeant (IsMeant glob.now)) (lines bytes.now) out.items bad) }

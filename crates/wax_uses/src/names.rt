@@ -1,11 +1,15 @@
-//! Whether a text is a path of some kind.
+//! Single matches.
 ghost use Rattle.std.specs.Prelude.{◌↔◌, IfOk, IsTrue, chars};
 ghost use Rattle.wax_uses.specs.Names.{IsMeantBy, IsPictureName};
 
 use std::alloc::Global;
 use wax::{BuildError, CandidatePath, Glob, Program};
 
-/// Whether the expression means the path.
+/// Returns whether the expression matches the path.
+///
+/// # Errors
+///
+/// Returns the errors of `Glob::new`.
 pub fn is_meant(alloc: Global, expression: &str, path: &str) -> Result<bool, BuildError>
     ensures { IfOk result (λ answer. IsTrue answer ↔ IsMeantBy (chars expression.now) (chars path.now)) }
 {
@@ -13,7 +17,11 @@ pub fn is_meant(alloc: Global, expression: &str, path: &str) -> Result<bool, Bui
     Ok(glob.is_match(alloc, &CandidatePath::from(path))?)
 }
 
-/// Whether the path is a name that ends with `.png`.
+/// Returns whether the path is a name that ends with `.png`.
+///
+/// # Errors
+///
+/// Returns `Memory` if allocation fails.
 pub fn is_picture(alloc: Global, path: &str) -> Result<bool, BuildError>
     ensures { IfOk result (λ answer. IsTrue answer ↔ IsPictureName (chars path.now)) }
 {

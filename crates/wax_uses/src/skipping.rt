@@ -1,4 +1,4 @@
-//! Work that can be left undone, by what is known of a glob.
+//! Work that can be skipped, by what is known of a glob.
 ghost use Rattle.std.specs.Prelude.{◌≤◌, ◌++◌, ◌∷◌, ℕ, List, IfOk, IsTrue};
 ghost use Rattle.wax.specs.GlobView.{IsMeant};
 ghost use Rattle.wax.specs.Language.{HasNoSlash};
@@ -7,7 +7,12 @@ ghost use Rattle.wax.specs.Queries.{Bare, component_total};
 use std::alloc::Global;
 use wax::{CandidatePath, Glob, NoMemory, Program};
 
-/// Whether the glob means the folder and all that lies below it, so that nothing there has to be asked.
+/// Returns whether the glob matches the folder and everything below it, so that nothing there has
+/// to be matched. If it returns false, the glob may still match all of that.
+///
+/// # Errors
+///
+/// Returns `NoMemory` if allocation fails.
 pub fn means_all_below(
     alloc: Global,
     glob: &Glob<'_>,
@@ -23,7 +28,8 @@ pub fn means_all_below(
     glob.is_match(alloc, folder)
 }
 
-/// Whether the glob means no path of more components than this, so that folders of so many needn't be listed.
+/// Returns whether it is known that no path of more than `most` components matches, so that folders
+/// of this many need not be listed.
 pub fn has_no_deeper(glob: &Glob<'_>, most: usize) -> bool
     ensures { IsTrue result → (text : List ℕ) → IsMeant glob.now text → component_total text ≤ most }
 {
@@ -33,7 +39,8 @@ pub fn has_no_deeper(glob: &Glob<'_>, most: usize) -> bool
     }
 }
 
-/// Whether each path that the glob means is a single name, or begins or ends with `/`, or is empty.
+/// Returns whether it is known that each path that matches is a single name, is empty, or begins or
+/// ends with `/`.
 pub fn means_single_names(glob: &Glob<'_>) -> bool
     ensures { IsTrue result → (text : List ℕ) → IsMeant glob.now text → Bare text → HasNoSlash text }
 {

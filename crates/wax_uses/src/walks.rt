@@ -1,4 +1,4 @@
-//! Walks that leave something out.
+//! Walks without some of their entries.
 ghost use Rattle.std.specs.Iterator.{IsFinite};
 ghost use Rattle.std.specs.Prelude.{◌≡◌, All, IfOk, map};
 ghost use Rattle.wax_uses.specs.Less.{AreEntriesLess, IsKnownFrom, IsMeantEntry, IsUnmeantEntry};
@@ -12,7 +12,11 @@ use wax::walk::{
 };
 use wax::{BuildError, Glob, NoMemory};
 
-/// What is kept of a walk without its links, and the directory.
+/// Collects a walk without its links: returns what is kept, and the directory.
+///
+/// # Errors
+///
+/// Returns `NoMemory` if allocation fails for the list itself.
 pub fn without_links<I: FileIterator>(
     alloc: Global,
     walk: I,
@@ -26,7 +30,7 @@ pub fn without_links<I: FileIterator>(
     collect(alloc, walk.filter_entry(|entry| link_residue(entry)))
 }
 
-// Leaves out a link.
+// Excludes a link by itself.
 fn link_residue(entry: &TreeEntry) -> Option<EntryResidue>
     ensures { mark_of result ≡ link_mark (facts_of entry.now) }
 {
@@ -36,8 +40,14 @@ fn link_residue(entry: &TreeEntry) -> Option<EntryResidue>
     }
 }
 
-/// What is kept of the walk of the glob from a start, less what the other means, and the directory. Each
-/// entry is meant by the glob; and, where it is known what the directory shows, not by the other.
+/// Collects the walk of a glob without what another glob matches: returns what is kept, and the
+/// directory. The glob matches each entry. If it is known what the directory shows, the other glob
+/// matches none of them.
+///
+/// # Errors
+///
+/// Returns `Compile` if the program of the other glob would be too large, and `Memory` if
+/// allocation fails.
 pub fn meant_less<D: Directory>(
     alloc: Global,
     glob: &Glob<'_>,

@@ -1,14 +1,14 @@
-//! The answer of a row, as it is written.
+//! The answer of a row, as text.
 
 use std::alloc::{AllocError, Global};
 use std::fmt::{Debug, Display};
 use wax::NoMemory;
 use wax::diagnostics::Span;
 
-/// How many bytes an answer may have without a request for memory.
+/// The greatest length, in bytes, of an answer that doesn't allocate.
 const ROOM: usize = 65_536;
 
-/// An answer, which remembers whether memory was refused for it.
+/// An answer. It remembers whether allocation failed for it.
 #[derive(Drop)]
 pub struct Answer {
     text: String,
@@ -16,7 +16,11 @@ pub struct Answer {
 }
 
 impl Answer {
-    /// Makes room for answers.
+    /// Allocates room for answers.
+    ///
+    /// # Errors
+    ///
+    /// Returns `AllocError` if allocation fails.
     pub fn new(alloc: Global) -> Result<Answer, AllocError> {
         Ok(Answer {
             text: String::with_capacity(alloc, ROOM)?,
@@ -24,13 +28,13 @@ impl Answer {
         })
     }
 
-    /// Begins another answer in the same room.
+    /// Removes the text, and keeps its room for another answer.
     pub fn clear(&mut self) {
         self.text.clear();
         self.is_lost = false;
     }
 
-    /// Returns the text; none if memory was refused for it.
+    /// Returns the text, or `None` if allocation failed for it.
     pub fn text(&self) -> Option<&str> {
         if self.is_lost {
             None
@@ -51,14 +55,14 @@ impl Answer {
         self.add("\t");
     }
 
-    /// Adds what a value prints.
+    /// Adds the `Display` form of a value.
     pub fn show<T: Display>(&mut self, value: &T) {
         if write!(self.text, "{value}").is_err() {
             self.is_lost = true;
         }
     }
 
-    /// Adds what a value prints for a programmer.
+    /// Adds the `Debug` form of a value.
     pub fn debug<T: Debug>(&mut self, value: &T) {
         if write!(self.text, "{value:?}").is_err() {
             self.is_lost = true;
@@ -70,7 +74,7 @@ impl Answer {
         self.add(if holds { "1" } else { "0" });
     }
 
-    /// Ends one of several calls: adds that memory was refused for it if it was, and a semicolon.
+    /// Ends one of several calls: adds its error, if it has one, and a semicolon.
     pub fn end(&mut self, call: Result<(), NoMemory>) {
         if call.is_err() {
             self.add("no memory");
@@ -78,7 +82,7 @@ impl Answer {
         self.add(";");
     }
 
-    /// Adds start and length.
+    /// Adds the start and the length of a span.
     pub fn span(&mut self, span: Span) {
         self.show(&span.0);
         self.add(" ");

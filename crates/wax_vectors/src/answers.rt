@@ -1,4 +1,4 @@
-//! Answers of rows, by their kinds.
+//! Computing the answers of rows, by their kinds.
 
 use crate::answer::Answer;
 use crate::kinds::Kind;
@@ -8,6 +8,10 @@ use std::alloc::Global;
 use wax::NoMemory;
 
 /// Adds the answer of a row.
+///
+/// # Errors
+///
+/// Returns `NoMemory` if allocation fails, and for some rows whose inputs have errors.
 pub fn answer(alloc: Global, row: &Row, made: &mut Answer) -> Result<(), NoMemory> {
     match row.kind() {
         Kind::Token(fact) => tokens::answer(alloc, fact, row, made),
@@ -29,7 +33,8 @@ pub fn answer(alloc: Global, row: &Row, made: &mut Answer) -> Result<(), NoMemor
     }
 }
 
-/// Adds `within` if the number is in the range, written as `9..90`, and else the number.
+/// Adds `within` if the number is in the range, which is written as `9..90`, and otherwise the
+/// number.
 pub fn add_within(made: &mut Answer, number: u128, range: &str) {
     let (least, greatest) = range.split_once("..").unwrap_or(("", ""));
     let least = least.parse::<u128>().unwrap_or(u128::MAX);
@@ -41,7 +46,11 @@ pub fn add_within(made: &mut Answer, number: u128, range: &str) {
     }
 }
 
-/// Puts an item at the end.
+/// Appends an item.
+///
+/// # Errors
+///
+/// Returns `NoMemory` if allocation fails.
 pub fn push<T: Drop>(items: &mut Vec<T>, item: T) -> Result<(), NoMemory> {
     match items.push(item) {
         Ok(()) => Ok(()),

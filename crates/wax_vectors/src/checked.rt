@@ -1,4 +1,4 @@
-//! Expressions that were checked against the rules, and not compiled.
+//! Facts of expressions that were checked against the rules, but not compiled.
 
 use crate::answer::Answer;
 use crate::answers::push;
@@ -14,7 +14,11 @@ type CheckedToken<'t> = Checked<Token<'t, ExpressionMetadata>>;
 
 type CheckedTokens<'t> = Checked<Tokenized<'t, ExpressionMetadata>>;
 
-/// Adds a fact of tokens once they are checked.
+/// Checks tokens, and adds a fact of them.
+///
+/// # Errors
+///
+/// Returns `NoMemory` if allocation fails.
 pub fn answer(
     alloc: Global,
     fact: CheckedFact,
@@ -45,7 +49,7 @@ fn of_checked(
     }
 }
 
-/// Adds the texts of the alternatives, each with a bar behind it.
+/// Adds the texts of the alternatives, with a bar after each.
 fn add_alternatives(
     alloc: Global,
     checked: CheckedTokens<'_>,
@@ -85,7 +89,7 @@ fn add_parts(alloc: Global, checked: CheckedTokens<'_>, made: &mut Answer) -> Re
     Ok(())
 }
 
-/// Adds the expression and the one text of its token, each with texts of its own.
+/// Adds the expression and the only text of its token, once they own their texts.
 fn add_owned(alloc: Global, checked: CheckedTokens<'_>, made: &mut Answer) -> Result<(), NoMemory> {
     match checked.into_owned(alloc) {
         Ok(owned) => {
@@ -97,7 +101,7 @@ fn add_owned(alloc: Global, checked: CheckedTokens<'_>, made: &mut Answer) -> Re
     }
 }
 
-/// Adds the one text of the token, and that of the token with texts of its own.
+/// Adds the only text of the token, before and after it owns its texts.
 fn add_token(alloc: Global, token: CheckedToken<'_>, made: &mut Answer) -> Result<(), NoMemory> {
     if add_text(alloc, token.as_ref(), made).is_err() {
         return Err(NoMemory);
@@ -109,7 +113,12 @@ fn add_token(alloc: Global, token: CheckedToken<'_>, made: &mut Answer) -> Resul
     }
 }
 
-/// Adds the span and the branches of the alternation of the row's expressions, which have spaces between.
+/// Combines the row's expressions, which have spaces between them, into an alternation. Adds its
+/// span and its branches.
+///
+/// # Errors
+///
+/// Returns `NoMemory` if allocation fails or an expression has an error.
 pub fn add_any(alloc: Global, row: &Row, made: &mut Answer) -> Result<(), NoMemory> {
     let Ok(all) = checked_each(alloc, row.input(0)) else {
         return Err(NoMemory);

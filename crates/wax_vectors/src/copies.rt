@@ -5,8 +5,12 @@ use crate::globs::{add_is_match, add_texts};
 use std::alloc::Global;
 use wax::{CandidatePath, Glob, MatchedText, NoMemory, Program};
 
-/// Adds the texts of what was matched: of a clone, of a copy with texts of its own, and of itself once it has
-/// its own.
+/// Adds the texts of a match: those of a clone, those of an owned copy, and its own once it owns
+/// them.
+///
+/// # Errors
+///
+/// Returns `NoMemory` if allocation fails or the glob doesn't match the path.
 pub fn add_matches(
     alloc: Global,
     glob: &Glob<'_>,
@@ -43,14 +47,18 @@ fn add_borrowed(
     Ok(())
 }
 
-/// Adds the whole text, and the texts by their numbers.
+/// Adds the whole text, and the captured texts by their numbers.
 fn add_clone(matched: &MatchedText<'_>, made: &mut Answer) {
     made.add(matched.complete());
     add_texts(matched, "|", made);
     made.add(";");
 }
 
-/// Adds whether a copy of the glob matches the path, its expression and its debug text.
+/// Adds whether a copy of the glob matches the path, its expression and its `Debug` form.
+///
+/// # Errors
+///
+/// Returns `NoMemory` if allocation fails.
 pub fn add_globs(
     alloc: Global,
     glob: &Glob<'_>,

@@ -10,7 +10,11 @@ use wax::diagnostics::{LocatedError, Warning};
 use wax::query::{DepthVariance, When};
 use wax::{CandidatePath, Glob, MatchedText, NoMemory, Program};
 
-/// Adds a fact of the expression's glob, or of why it isn't built.
+/// Adds a fact of the expression's glob, or of the error why it can't be built.
+///
+/// # Errors
+///
+/// Returns `NoMemory` if allocation fails, and for some facts of a match if the glob doesn't match.
 pub fn answer(alloc: Global, fact: GlobFact, row: &Row, made: &mut Answer) -> Result<(), NoMemory> {
     match Glob::new(alloc, row.input(0)) {
         Ok(glob) => of_built(alloc, fact, row, glob, made),
@@ -60,7 +64,7 @@ fn of_glob(
     }
 }
 
-/// Adds what needs no request for memory, or makes two calls of which each may lack it.
+/// Adds what doesn't allocate, or the outcomes of two calls of which each may fail to.
 fn add_built(alloc: Global, fact: GlobFact, row: &Row, glob: &Glob<'_>, made: &mut Answer) {
     match fact {
         GlobFact::IsMatchTwice => add_is_match_twice(alloc, glob, row.input(1), made),
@@ -79,6 +83,10 @@ fn add_printed(glob: &Glob<'_>, made: &mut Answer) {
 }
 
 /// Adds whether the program matches the path.
+///
+/// # Errors
+///
+/// Returns `NoMemory` if allocation fails.
 pub fn add_is_match<P: Program>(
     alloc: Global,
     program: &P,
@@ -89,7 +97,11 @@ pub fn add_is_match<P: Program>(
     Ok(())
 }
 
-/// Adds 1 with the whole text and its captures if the program matches the path, else 0.
+/// Adds 1 with the whole text and its captures if the program matches the path, and otherwise 0.
+///
+/// # Errors
+///
+/// Returns `NoMemory` if allocation fails.
 pub fn add_match<P: Program>(
     alloc: Global,
     program: &P,
@@ -111,7 +123,7 @@ pub fn add_match<P: Program>(
     }
 }
 
-/// Adds whether the glob matches the path, twice.
+/// Adds twice whether the glob matches the path.
 fn add_is_match_twice(alloc: Global, glob: &Glob<'_>, path: &str, made: &mut Answer) {
     for _ in 0..2 {
         let call = add_is_match(alloc, glob, path, made);
@@ -119,7 +131,7 @@ fn add_is_match_twice(alloc: Global, glob: &Glob<'_>, path: &str, made: &mut Ans
     }
 }
 
-/// Adds what the glob matches of the path, twice.
+/// Adds twice what the glob captures of the path.
 fn add_match_twice(alloc: Global, glob: &Glob<'_>, path: &str, made: &mut Answer) {
     for _ in 0..2 {
         let call = add_match(alloc, glob, path, made);
@@ -152,7 +164,7 @@ fn add_visits(
     Ok(())
 }
 
-/// Adds number, start and length of each token that captures.
+/// Adds the number, the start and the length of each capturing token.
 fn add_captures(alloc: Global, glob: &Glob<'_>, made: &mut Answer) -> Result<(), NoMemory> {
     for token in glob.captures(alloc)? {
         made.show(&token.index());
@@ -181,7 +193,7 @@ fn add_warnings(alloc: Global, glob: &Glob<'_>, made: &mut Answer) -> Result<(),
     Ok(())
 }
 
-/// Adds the one path that the glob matches.
+/// Adds the only path that the glob matches.
 fn add_path(alloc: Global, glob: &Glob<'_>, made: &mut Answer) -> Result<(), NoMemory> {
     match glob.text(alloc)?.into_path_buf(alloc)? {
         Some(path) => {
@@ -193,7 +205,7 @@ fn add_path(alloc: Global, glob: &Glob<'_>, made: &mut Answer) -> Result<(), NoM
     Ok(())
 }
 
-/// Adds the one text that the program matches.
+/// Adds the only text that the program matches.
 fn add_text<P: Program>(alloc: Global, program: &P, made: &mut Answer) -> Result<(), NoMemory> {
     match program.text(alloc)?.as_path() {
         Some(text) => {
@@ -205,7 +217,11 @@ fn add_text<P: Program>(alloc: Global, program: &P, made: &mut Answer) -> Result
     Ok(())
 }
 
-/// Adds the depth, the one text, the root and the exhaustiveness.
+/// Adds the depth, the only text, the root and the exhaustiveness.
+///
+/// # Errors
+///
+/// Returns `NoMemory` if allocation fails.
 pub fn add_facts<P: Program>(
     alloc: Global,
     program: &P,

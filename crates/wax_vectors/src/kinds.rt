@@ -1,6 +1,6 @@
-//! Kinds of rows: what each asks, and how many inputs it has.
+//! Kinds of rows: which fact each shows, and how many inputs it has.
 
-/// What a row asks.
+/// The fact that a row shows.
 #[derive(Clone, Copy)]
 pub enum Kind {
     Token(TokenFact),
@@ -33,7 +33,7 @@ pub enum TokenFact {
     Prefix,
 }
 
-/// A fact of tokens that are taken apart, copied or checked.
+/// A fact of tokens that are split, copied or checked.
 #[derive(Clone, Copy)]
 pub enum TokensFact {
     Alternatives,
@@ -58,7 +58,7 @@ pub enum ProgramFact {
     Visits,
 }
 
-/// A fact of a set, and of what the set is made.
+/// A fact of a set, and what the set is built from.
 #[derive(Clone, Copy)]
 pub enum SetFact {
     Patterns,
@@ -86,7 +86,7 @@ pub enum PathFact {
     TreeGlob,
 }
 
-/// A fact of spans, labels or what refusals print.
+/// A fact of spans, of labels, or of what errors print.
 #[derive(Clone, Copy)]
 pub enum SpansFact {
     Union,
@@ -98,7 +98,7 @@ pub enum SpansFact {
     PrintedRefusals,
 }
 
-/// A fact of a glob, or of why it isn't built.
+/// A fact of a glob, or of the error why it can't be built.
 #[derive(Clone, Copy)]
 pub enum GlobFact {
     Builds,
@@ -128,21 +128,21 @@ pub enum GlobFact {
     Part(PartFact),
 }
 
-/// A call of lines.
+/// A call that reads and writes lines.
 #[derive(Clone, Copy)]
 pub enum LinesCall {
     Filter,
     Capture,
 }
 
-/// How much is done of what requests no memory.
+/// Which calls that don't allocate are made: none, after all that they need, or all.
 #[derive(Clone, Copy)]
 pub enum Extent {
     Prepared,
     Called,
 }
 
-/// A fact of a glob that is taken apart or owned.
+/// A fact of a glob that is partitioned or owned.
 #[derive(Clone, Copy)]
 pub enum PartFact {
     Partition,
@@ -154,7 +154,7 @@ pub enum PartFact {
     Owned,
 }
 
-/// Each kind: its name, how many inputs it has, and what it asks.
+/// All kinds: the name, the number of inputs, and the fact.
 static KINDS: &[(&str, usize, Kind)] = &[
     ("builds", 1, Kind::Glob(GlobFact::Builds)),
     ("accept", 1, Kind::Glob(GlobFact::Accept)),
@@ -294,7 +294,7 @@ static KINDS: &[(&str, usize, Kind)] = &[
     ),
 ];
 
-/// Returns how many inputs a row of the kind has, and what it asks.
+/// Returns how many inputs a row of the kind has, and the fact that it shows.
 pub fn find(name: &str) -> (usize, Kind) {
     for (other, inputs, kind) in KINDS {
         if *other == name {

@@ -1,4 +1,4 @@
-//! Lines that are read one byte at a time, filtered or captured of.
+//! Calls of `filter_lines` and `capture_lines`, over a reader that yields one byte at a time.
 
 use crate::answer::Answer;
 use crate::kinds::LinesCall;
@@ -9,10 +9,10 @@ use wax::{
     CandidatePath, Counted, Glob, LinesError, NoMemory, Program, capture_lines, filter_lines,
 };
 
-/// How many bytes the lines that are written may have.
+/// The greatest length, in bytes, of all lines that are written.
 const ROOM: usize = 1_024;
 
-/// Hands over one byte at a time.
+/// A reader that yields one byte at a time.
 #[derive(Drop)]
 struct Bytes<'a> {
     left: &'a [u8],
@@ -31,8 +31,12 @@ impl Read for Bytes<'_> {
     }
 }
 
-/// Adds the lines that are written of the row's lines; then, each behind `=`, how the call ended and whether
-/// the glob matches the row's path after it.
+/// Adds the lines that a call writes. Then adds, each after a `=`, how the call ended and whether
+/// the glob matches the row's path afterwards.
+///
+/// # Errors
+///
+/// Returns `NoMemory` if allocation fails.
 pub fn add_lines(
     alloc: Global,
     call: LinesCall,
@@ -56,7 +60,7 @@ pub fn add_lines(
     Ok(())
 }
 
-/// Returns the bytes of a text, with a byte that is no text for each U+FFFD.
+/// Returns the bytes of a text. Each U+FFFD becomes a byte that isn't valid UTF-8.
 fn bytes_of(alloc: Global, text: &str) -> Result<Vec<u8>, AllocError> {
     let mut bytes = Vec::new(alloc);
     for (index, part) in text.split('\u{fffd}').enumerate() {

@@ -1,4 +1,4 @@
-//! Ignore lists.
+//! Facts of ignore lists.
 
 use crate::answer::Answer;
 use crate::row::Row;
@@ -6,8 +6,12 @@ use std::alloc::Global;
 use wax::walk::{IgnoreError, IgnoreList};
 use wax::{CandidatePath, NoMemory};
 
-/// Adds whether the list ignores a path, or the same twice; of a text that is no list, the number of the
-/// refusal, that of the line, and why.
+/// Adds whether the list ignores a path, once or twice. For a text that is no list, adds the number
+/// of the error, the line, and the message.
+///
+/// # Errors
+///
+/// Returns `NoMemory` if allocation fails.
 pub fn answer(alloc: Global, is_twice: bool, row: &Row, made: &mut Answer) -> Result<(), NoMemory> {
     match IgnoreList::parse(alloc, row.input(0)) {
         Ok(list) if is_twice => {

@@ -1,6 +1,6 @@
-//! Shows facts of expressions and paths. Each word names a file of rows, whose answers are made anew and
-//! compared with those that are wanted; each line of standard input is a row without its answer, which is
-//! shown. With `time` as the first word the others say what is timed.
+//! Shows facts of expressions and paths. Each argument is a file of rows, whose answers are
+//! computed and compared with those in the file. Each line of standard input is a row without its
+//! answer, and is printed with it. If the first argument is `time`, the others say what to time.
 #![tactic(auto)]
 
 mod answer;
@@ -37,7 +37,7 @@ fn main(rt: HostRuntime) -> io::Result<()> {
     show_rows(&rt, &mut made)
 }
 
-/// Returns whether the first word is `time`.
+/// Returns whether the first argument is `time`.
 fn is_timing(rt: &HostRuntime) -> io::Result<bool> {
     match env::args(rt)?.nth(1) {
         Some(word) => Ok(word.as_str() == "time"),
@@ -66,7 +66,7 @@ fn show_row(rt: &HostRuntime, line: &str, made: &mut Answer) -> io::Result<()> {
     println!(rt; "{line}\t{answer}")
 }
 
-/// Prints each row of the file whose answer is another, and how many are the same.
+/// Prints each row of the file whose answer differs, and how many rows agree and how many differ.
 fn compare_rows(rt: &HostRuntime, name: &str, made: &mut Answer) -> io::Result<()> {
     let rows = fs::read_to_string(rt, name)?;
     let mut same: u64 = 0;
@@ -84,7 +84,7 @@ fn compare_rows(rt: &HostRuntime, name: &str, made: &mut Answer) -> io::Result<(
     println!(rt; "{name}: {same} the same, {other} other")
 }
 
-/// Returns whether the answer of the row is the one that is wanted. Prints the row if not.
+/// Returns whether the computed answer of the row is the one in the file. If not, prints both.
 fn is_same(rt: &HostRuntime, line: &str, made: &mut Answer) -> io::Result<bool> {
     let row = Row::read(rt.alloc(), line)?;
     let answer = make(rt, &row, made);
@@ -95,7 +95,7 @@ fn is_same(rt: &HostRuntime, line: &str, made: &mut Answer) -> io::Result<bool> 
     Ok(is_same)
 }
 
-/// Makes the answer of the row.
+/// Computes the answer of the row.
 fn make<'m>(rt: &HostRuntime, row: &Row, made: &'m mut Answer) -> &'m str {
     made.clear();
     match answer(rt.alloc(), row, made) {

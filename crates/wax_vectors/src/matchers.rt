@@ -1,4 +1,5 @@
-//! Matchers: of a glob or a set, and of programs beside `run`, over expressions and texts drawn at random.
+//! Matchers: of a glob or a set, and of programs, compared with `run` over random expressions and
+//! texts.
 
 use crate::answer::Answer;
 use crate::row::Row;
@@ -7,23 +8,23 @@ use wax::encode::{Matcher, Meter, Program, compile, run};
 use wax::token::{ExpressionMetadata, Tokenized, parse};
 use wax::{BuildMatcher, CandidatePath, NoMemory, PathMatcher};
 
-/// Letters of words and of texts. One of them is past ASCII.
+/// Letters of words and of texts. One of them isn't ASCII.
 const LETTERS: &[&str] = &["a", "b", "c", "é"];
 
-/// What stands before an alternation of words.
+/// What may be before an alternation of words.
 const HEADS: &[&str] = &["", "*", "**/", "**/*", "(?i)", "a/**/"];
 
-/// What stands behind an alternation of words.
+/// What may be after an alternation of words.
 const TAILS: &[&str] = &["", "*", "/**", "*/**", "?", "/*"];
 
-/// The numbers that were drawn lead to those that come.
+/// A generator of pseudorandom numbers: a linear congruential one.
 #[derive(Drop)]
 struct Draws {
     state: u64,
 }
 
 impl Draws {
-    /// Returns a number below `count`.
+    /// Draws a number below `count`.
     fn below(&mut self, count: u64) -> u64 {
         self.state = self
             .state
@@ -62,7 +63,7 @@ impl Draws {
         Ok(expression)
     }
 
-    /// Draws a text of up to so many words, with a `/` behind some.
+    /// Draws a text of up to `most` words, with a `/` after some.
     fn text(&mut self, alloc: Global, most: u64) -> Result<String, AllocError> {
         let mut text = String::new(alloc);
         for _ in 0..self.below(most).saturating_add(1) {
@@ -75,7 +76,12 @@ impl Draws {
     }
 }
 
-/// Adds which of the paths one matcher of the glob or the set matches. The paths have spaces between.
+/// Adds which of the paths one matcher of the glob or the set matches. The paths have spaces
+/// between them.
+///
+/// # Errors
+///
+/// Returns `NoMemory` if allocation fails.
 pub fn add_answers<'p, P: BuildMatcher<'p>>(
     alloc: Global,
     program: &'p P,
@@ -89,8 +95,12 @@ pub fn add_answers<'p, P: BuildMatcher<'p>>(
     Ok(())
 }
 
-/// Adds how many texts a matcher and `run` decide otherwise. The row says where drawing begins, how many
-/// expressions are drawn, how many texts for each, and of how many words these are at most.
+/// Adds for how many texts a matcher and `run` differ. The row has the seed, the number of
+/// expressions to draw, the number of texts for each, and the greatest number of their words.
+///
+/// # Errors
+///
+/// Returns `NoMemory` if allocation fails.
 pub fn add_comparison(alloc: Global, row: &Row, made: &mut Answer) -> Result<(), NoMemory> {
     let mut draws = Draws {
         state: number_at(row, 0),
@@ -129,8 +139,8 @@ fn compare_tokens(
     }
 }
 
-/// Returns how many texts the matcher and `run` decide otherwise. How many states the matcher keeps is drawn:
-/// sixteen, which it forgets every few characters, to a hundred or so.
+/// Returns for how many texts the matcher and `run` differ. The number of states that the matcher
+/// keeps is drawn, too: from sixteen, which it removes every few characters, to about a hundred.
 fn differing(
     alloc: Global,
     program: &Program,

@@ -1,4 +1,5 @@
-//! Calls that request no memory: all that they need is made before them, and so is the room of the answer.
+//! Calls that don't allocate. All that they need is built before them, as is the room of the
+//! answer.
 
 use crate::answer::Answer;
 use crate::globs::when;
@@ -14,7 +15,11 @@ use wax::{
     is_meta_character,
 };
 
-/// Adds what these calls return of the glob, or only that all is made that they need.
+/// Adds what these calls return for the glob, or only that all they need is built.
+///
+/// # Errors
+///
+/// Returns `NoMemory` if allocation fails, or if the glob doesn't match the path of the row.
 pub fn add_facts(
     alloc: Global,
     extent: Extent,
@@ -77,7 +82,7 @@ fn add_tokens(
     made.add(when(tokenized.as_token().is_exhaustive()));
 }
 
-/// Adds what characters, paths, answers and depths come to.
+/// Adds what calls of characters, paths, `When` and depths return.
 fn add_values(made: &mut Answer) {
     made.tab();
     made.digit(is_meta_character('*'));

@@ -1,4 +1,4 @@
-//! Globs in two: a prefix, and the rest as a glob of its own.
+//! Facts of globs that are partitioned or owned.
 
 use crate::answer::Answer;
 use crate::globs::add_is_match;
@@ -8,7 +8,11 @@ use crate::row::Row;
 use std::alloc::Global;
 use wax::{Glob, NoMemory};
 
-/// Adds a fact of a glob that is taken apart or owned.
+/// Adds a fact of a glob that is partitioned or owned.
+///
+/// # Errors
+///
+/// Returns `NoMemory` if allocation fails.
 pub fn answer(
     alloc: Global,
     fact: PartFact,
@@ -41,7 +45,7 @@ fn add_both(
     Ok(())
 }
 
-/// Adds the prefix, and the rest or that there is none.
+/// Adds the prefix and the rest, or that there is no rest.
 fn add_partition(alloc: Global, glob: Glob<'_>, made: &mut Answer) -> Result<(), NoMemory> {
     let Ok((prefix, rest)) = glob.partition(alloc) else {
         return Err(NoMemory);
@@ -74,7 +78,7 @@ fn add_rest(alloc: Global, row: &Row, glob: Glob<'_>, made: &mut Answer) -> Resu
     add_is_match(alloc, &rest, row.input(1), made)
 }
 
-/// Adds the prefix and the rest of the rest.
+/// Partitions the rest once more, and adds its prefix and its rest.
 fn add_again(alloc: Global, glob: Glob<'_>, made: &mut Answer) -> Result<(), NoMemory> {
     let Ok((_prefix, rest)) = glob.partition_or_empty(alloc) else {
         return Err(NoMemory);
@@ -82,7 +86,7 @@ fn add_again(alloc: Global, glob: Glob<'_>, made: &mut Answer) -> Result<(), NoM
     add_both(rest.partition_or_empty(alloc), made)
 }
 
-/// Adds whether the glob with texts of its own matches the path, and its expression.
+/// Adds whether the glob matches the path once it owns its texts, and its expression.
 fn add_owned(alloc: Global, row: &Row, glob: Glob<'_>, made: &mut Answer) -> Result<(), NoMemory> {
     let Ok(owned) = glob.into_owned(alloc) else {
         return Err(NoMemory);
@@ -102,7 +106,11 @@ fn add_expression(
     Ok(())
 }
 
-/// Adds what a glob prints that is built with its warnings, and how many these are.
+/// Builds a glob with its warnings. Adds what it prints, and how many warnings there are.
+///
+/// # Errors
+///
+/// Returns `NoMemory` if allocation fails.
 pub fn add_diagnosed(alloc: Global, row: &Row, made: &mut Answer) -> Result<(), NoMemory> {
     match Glob::diagnosed(alloc, row.input(0)) {
         Ok((glob, warnings)) => {

@@ -1,4 +1,4 @@
-//! Texts that are escaped, paths as values, and the globs that need no expression.
+//! Escaped texts, paths as values, and globs without an expression.
 
 use crate::answer::Answer;
 use crate::globs::add_is_match;
@@ -8,7 +8,11 @@ use std::alloc::Global;
 use wax::encode::case_folded_eq;
 use wax::{CandidatePath, Glob, NoMemory, escape, is_contextual_meta_character, is_meta_character};
 
-/// Adds what the row asks of a text or a path.
+/// Adds a fact of a text or a path.
+///
+/// # Errors
+///
+/// Returns `NoMemory` if allocation fails.
 pub fn answer(alloc: Global, fact: PathFact, row: &Row, made: &mut Answer) -> Result<(), NoMemory> {
     let text = row.input(0);
     match fact {
@@ -34,13 +38,13 @@ fn add_escaped(alloc: Global, text: &str, made: &mut Answer) -> Result<(), NoMem
     }
 }
 
-/// Adds whether the texts are the same in any case.
+/// Adds whether the texts differ only in case.
 fn add_folded(alloc: Global, left: &str, right: &str, made: &mut Answer) -> Result<(), NoMemory> {
     made.digit(case_folded_eq(alloc, left, right)?);
     Ok(())
 }
 
-/// Adds for each character whether it is a meta character, and whether it is one in a context.
+/// Adds for each character whether it is a meta character, and whether it is a contextual one.
 fn add_meta(text: &str, made: &mut Answer) {
     for character in text.chars() {
         made.digit(is_meta_character(character));
@@ -49,8 +53,8 @@ fn add_meta(text: &str, made: &mut Answer) {
     }
 }
 
-/// Adds whether copies of the path equal it, whether the row's other path does, and the path once it owns its
-/// text.
+/// Adds whether two copies of the path equal it, whether the row's other path does, and the path
+/// once it owns its text.
 fn add_copies(alloc: Global, row: &Row, made: &mut Answer) -> Result<(), NoMemory> {
     let path = CandidatePath::from(row.input(0));
     if add_comparisons(alloc, &path, row.input(1), made).is_err() {

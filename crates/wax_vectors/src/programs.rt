@@ -1,4 +1,5 @@
-//! Programs of expressions, with no rule checked: how long they are, and what they accept in how many visits.
+//! Programs of expressions that weren't checked: their lengths, what they accept, and in how many
+//! visits.
 
 use crate::answer::Answer;
 use crate::answers::add_within;
@@ -9,7 +10,11 @@ use wax::encode::{Meter, Program, compile, run};
 use wax::token::{ExpressionMetadata, Tokenized, parse};
 use wax::{NoMemory, Refusal};
 
-/// Adds what the row asks of the program of an expression.
+/// Adds a fact of the program of an expression.
+///
+/// # Errors
+///
+/// Returns `NoMemory` if allocation fails or the expression can't be parsed.
 pub fn answer(
     alloc: Global,
     fact: ProgramFact,

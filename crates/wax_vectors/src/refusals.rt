@@ -1,4 +1,4 @@
-//! Why an expression isn't built.
+//! Facts of errors of a build.
 
 use crate::answer::Answer;
 use crate::kinds::GlobFact;
@@ -7,7 +7,11 @@ use std::alloc::Global;
 use wax::diagnostics::{LocatedError, Span};
 use wax::{BuildError, NoMemory};
 
-/// Adds a fact of an expression that isn't built.
+/// Adds a fact of the error why an expression can't be built.
+///
+/// # Errors
+///
+/// Returns `NoMemory` if allocation fails.
 pub fn answer(
     alloc: Global,
     fact: GlobFact,
@@ -32,7 +36,7 @@ pub fn answer(
     Ok(())
 }
 
-/// Adds what is printed, and the picture under it.
+/// Adds the message of the error, and its picture.
 fn add_picture(
     alloc: Global,
     expression: &str,
@@ -45,14 +49,14 @@ fn add_picture(
     Ok(())
 }
 
-/// Adds the number, and each label.
+/// Adds the number of the error, and each label.
 fn add_error_labels(alloc: Global, error: &BuildError, made: &mut Answer) -> Result<(), NoMemory> {
     made.show(&error.number());
     add_labels(&error.labels(alloc)?, made);
     Ok(())
 }
 
-/// Returns the span of a broken rule.
+/// Returns the span of the error, if a rule is broken.
 fn rule_span(error: &BuildError) -> Option<Span> {
     let BuildError::Rule(broken) = error else {
         return None;
@@ -60,7 +64,7 @@ fn rule_span(error: &BuildError) -> Option<Span> {
     Some(broken.locations().first()?.span())
 }
 
-/// Adds the number, and start and length of a broken rule.
+/// Adds the number of the error, and its start and length if a rule is broken.
 fn add_span(error: &BuildError, made: &mut Answer) {
     made.show(&error.number());
     let Some((start, len)) = rule_span(error) else {
@@ -72,7 +76,7 @@ fn add_span(error: &BuildError, made: &mut Answer) {
     made.show(&len);
 }
 
-/// Adds the number, and each label of a broken rule.
+/// Adds the number of the error, and each label if a rule is broken.
 fn add_rule_labels(alloc: Global, error: &BuildError, made: &mut Answer) -> Result<(), NoMemory> {
     made.show(&error.number());
     if let BuildError::Rule(broken) = error {
@@ -83,7 +87,7 @@ fn add_rule_labels(alloc: Global, error: &BuildError, made: &mut Answer) -> Resu
     Ok(())
 }
 
-/// Adds a field for each label: its text, start and length.
+/// Adds a field for each label, with its text, start and length.
 pub fn add_labels(labels: &[(&'static str, Span)], made: &mut Answer) {
     for (label, span) in labels {
         made.tab();
@@ -93,7 +97,7 @@ pub fn add_labels(labels: &[(&'static str, Span)], made: &mut Answer) {
     }
 }
 
-/// Adds what is wrong and where.
+/// Adds what is wrong, and where.
 fn add_location(error: &BuildError, made: &mut Answer) {
     let Some(location) = error.locations() else {
         return made.add("none");

@@ -1,9 +1,10 @@
-//! Rows: a kind, the inputs that it takes, and the answer that is wanted.
+//! Rows: a kind, its inputs, and the answer that is expected.
 
 use crate::kinds::{Kind, find};
 use std::alloc::{AllocError, Global};
 
-/// A row with its stand-ins replaced: its fields are its inputs and the answer that is wanted.
+/// A row whose abbreviations are replaced. Its fields are its inputs and the answer that is
+/// expected.
 #[derive(Drop)]
 pub struct Row {
     kind: Kind,
@@ -12,7 +13,11 @@ pub struct Row {
 }
 
 impl Row {
-    /// Reads the row of a line.
+    /// Reads a row from a line.
+    ///
+    /// # Errors
+    ///
+    /// Returns `AllocError` if allocation fails.
     pub fn read(alloc: Global, line: &str) -> Result<Row, AllocError> {
         let (inputs, kind) = find(line.split('\t').next().unwrap_or(""));
         let mut fields = Vec::new(alloc);
@@ -26,12 +31,12 @@ impl Row {
         })
     }
 
-    /// Returns what the row asks.
+    /// Returns the fact that the row shows.
     pub fn kind(&self) -> Kind {
         self.kind
     }
 
-    /// Returns the input at the index; no text if the row has fewer.
+    /// Returns the input at the index, or an empty text if the row has fewer.
     pub fn input(&self, index: usize) -> &str {
         if index < self.inputs {
             self.field(index)
@@ -40,7 +45,7 @@ impl Row {
         }
     }
 
-    /// Returns the answer that is wanted.
+    /// Returns the answer that is expected.
     pub fn wanted(&self) -> &str {
         self.field(self.inputs)
     }
@@ -59,7 +64,7 @@ fn plain(alloc: Global, field: &str) -> Result<String, AllocError> {
     Ok(text)
 }
 
-/// Adds a field, with what its stand-ins stand for.
+/// Adds a field, and replaces its abbreviations: `«a×3»` becomes `aaa`.
 fn push_plain(field: &str, text: &mut String) -> Result<(), AllocError> {
     for (index, part) in field.split('«').enumerate() {
         match part.split_once('»') {
@@ -73,7 +78,7 @@ fn push_plain(field: &str, text: &mut String) -> Result<(), AllocError> {
     Ok(())
 }
 
-/// Adds the text before `×`, as many times as the number after it says.
+/// Adds the text before `×`, as often as the number after it says.
 fn push_repeated(repeated: &str, text: &mut String) -> Result<(), AllocError> {
     let (part, count) = repeated.split_once('×').unwrap_or((repeated, "1"));
     for _ in 0..count.parse::<u32>().unwrap_or(0) {

@@ -1,4 +1,4 @@
-//! Sets of patterns: patterns have spaces between, and sets semicolons.
+//! Facts of sets of patterns. Patterns have spaces between them, and sets have semicolons.
 
 use crate::answer::Answer;
 use crate::answers::push;
@@ -16,7 +16,11 @@ type Set = Any<'static>;
 
 type Part = Checked<Token<'static, ExpressionMetadata>>;
 
-/// Adds what the row asks of a set.
+/// Adds a fact of a set.
+///
+/// # Errors
+///
+/// Returns `NoMemory` if allocation fails, or if the program of the set is too long.
 pub fn answer(alloc: Global, fact: SetFact, row: &Row, made: &mut Answer) -> Result<(), NoMemory> {
     match built(alloc, fact, row.input(0)) {
         Ok(set) => of_set(alloc, fact, row, set, made),
@@ -83,7 +87,7 @@ fn of_lent(
     }
 }
 
-/// Builds the set of the patterns.
+/// Builds a set of expressions.
 fn set_of(alloc: Global, patterns: &str) -> Result<Set, BuildError> {
     let mut all = Vec::new(alloc);
     for pattern in patterns.split(' ') {
@@ -97,7 +101,7 @@ fn set_of_none(alloc: Global) -> Result<Set, BuildError> {
     any(alloc, none)
 }
 
-/// Builds the set of the globs of the patterns.
+/// Builds a set of globs.
 fn set_of_globs(alloc: Global, patterns: &str) -> Result<Set, BuildError> {
     let mut all: Vec<Glob<'static>> = Vec::new(alloc);
     for pattern in patterns.split(' ') {
@@ -106,7 +110,7 @@ fn set_of_globs(alloc: Global, patterns: &str) -> Result<Set, BuildError> {
     any(alloc, all)
 }
 
-/// Pushes the glob of the pattern, with texts of its own.
+/// Builds the glob of a pattern, which owns its texts, and appends it.
 fn push_glob(
     alloc: Global,
     globs: &mut Vec<Glob<'static>>,
@@ -122,7 +126,7 @@ fn push_glob(
     }
 }
 
-/// Builds the set of sets.
+/// Builds a set of sets.
 fn set_of_sets(alloc: Global, sets: &str) -> Result<Set, BuildError> {
     let mut all: Vec<Set> = Vec::new(alloc);
     for patterns in sets.split(';') {
@@ -131,7 +135,7 @@ fn set_of_sets(alloc: Global, sets: &str) -> Result<Set, BuildError> {
     any(alloc, all)
 }
 
-/// Builds the set of the checked tokens of the patterns.
+/// Builds a set of the checked tokens of patterns.
 fn set_of_parts(alloc: Global, patterns: &str) -> Result<Set, BuildError> {
     let mut parts: Vec<Part> = Vec::new(alloc);
     for pattern in patterns.split(' ') {
@@ -147,7 +151,8 @@ fn push_part(parts: &mut Vec<Part>, part: Result<Part, BuildError>) -> Result<()
     }
 }
 
-/// Builds the set of the checked tokens of a set, before the semicolon, and of the pattern after it.
+/// Builds a set of the checked tokens of a set, before the semicolon, and those of the pattern
+/// after it.
 fn set_of_set(alloc: Global, patterns: &str) -> Result<Set, BuildError> {
     let (set, pattern) = patterns.split_once(';').unwrap_or((patterns, ""));
     let mut parts: Vec<Part> = Vec::new(alloc);
@@ -163,7 +168,7 @@ fn checked_set(alloc: Global, patterns: &str) -> Result<Part, BuildError> {
     }
 }
 
-/// Adds how long the program of the set's token is.
+/// Adds the length of the program of the set's token.
 fn add_length(alloc: Global, set: Set, made: &mut Answer) -> Result<(), NoMemory> {
     match set.into_checked(alloc) {
         Ok(checked) => add_program(alloc, checked.as_ref(), made),

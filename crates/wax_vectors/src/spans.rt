@@ -1,4 +1,4 @@
-//! Spans, labelled places, and what refusals print.
+//! Facts of spans and labelled places, and what errors print.
 
 use crate::answer::Answer;
 use crate::kinds::SpansFact;
@@ -10,7 +10,7 @@ use wax::diagnostics::{
 };
 use wax::{BuildError, NoMemory};
 
-/// What else has a span.
+/// A type with a span.
 #[derive(Drop)]
 struct Piece {
     size: u8,
@@ -31,7 +31,11 @@ impl Spanned for Piece {
     }
 }
 
-/// Adds what the row asks of spans, each written as start and length.
+/// Adds a fact of spans, each of which is written as its start and its length.
+///
+/// # Errors
+///
+/// Returns `NoMemory` if allocation fails.
 pub fn answer(
     alloc: Global,
     fact: SpansFact,
@@ -67,7 +71,7 @@ fn add_correlated(
     Ok(())
 }
 
-/// Returns the span of two numbers with a space between.
+/// Returns the span of two numbers, with a space between them.
 fn span_of(written: &str) -> Span {
     let (start, len) = written.split_once(' ').unwrap_or(("", ""));
     (number(start), number(len))
@@ -77,7 +81,7 @@ fn number(written: &str) -> usize {
     written.parse::<usize>().unwrap_or(0)
 }
 
-/// Returns the places of two inputs, of which the left one may be `-` for none.
+/// Returns the places of two inputs. The left one may be `-`, which is none.
 fn split(row: &Row, index: usize) -> CorrelatedSpan {
     let right = span_of(row.input(index.saturating_add(1)));
     let left = match row.input(index) {
@@ -94,7 +98,8 @@ fn add_span(span: Option<Span>, made: &mut Answer) {
     }
 }
 
-/// Adds the span of a piece once its start is 5, once that is halved, and what else the piece has.
+/// Sets the start of a piece to 5, and adds its span; halves the start, and adds its span and its
+/// size.
 fn add_piece(span: Span, made: &mut Answer) {
     let mut piece = Piece { size: 3, span };
     piece.span_mut().0 = 5;
@@ -106,7 +111,7 @@ fn add_piece(span: Span, made: &mut Answer) {
     made.show(&moved.size);
 }
 
-/// Adds the span of a branch of two places, what it prints, and its labels.
+/// Adds the span of a branch that two places explain, what it prints, and its labels.
 fn add_branch(alloc: Global, row: &Row, made: &mut Answer) -> Result<(), NoMemory> {
     let span = span_of(row.input(0));
     let branch = CompositeSpan::correlated("in this alternation", span, split(row, 1));
@@ -116,7 +121,7 @@ fn add_branch(alloc: Global, row: &Row, made: &mut Answer) -> Result<(), NoMemor
     add_composite(alloc, &branch, made)
 }
 
-/// Adds what a refusal prints, what refused memory prints, and whether that has no place.
+/// Adds what an error with a reason prints, what `NoMemory` prints, and whether that has no place.
 fn add_printed(made: &mut Answer) {
     let refused: Refusal<CompositeSpan> = Refusal::Refused(CompositeSpan::spanned("x", (0, 1)));
     let memory: Refusal<CompositeSpan> = Refusal::from(NoMemory);

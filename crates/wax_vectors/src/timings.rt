@@ -1,10 +1,18 @@
-//! Times matches, captures, builds and walks. `time match EXPR..` matches each line of standard input, `time
-//! matcher EXPR..` does so by one matcher, `time captures EXPR..` captures of each, `time new EXPR..` builds
-//! each glob many times, and `time build -` builds one glob of all of standard input but its line break and
-//! asks for its depth. `time walk FOLDER..` walks folders of the real system. Prints a line for each
-//! expression or folder, with tabs between: nanoseconds and visits a line (a matcher counts none), and lines
-//! that match; nanoseconds a glob, and how many were built; or entries, errors and milliseconds. Of a build
-//! it prints how it ended, and milliseconds.
+//! Times matches, captures, builds and walks. Prints a line for each expression or folder, with
+//! tabs between its fields.
+//!
+//! `time match EXPR..` matches each line of standard input, `time matcher EXPR..` does so by one
+//! matcher, and `time captures EXPR..` with captures. They print nanoseconds and visits for each
+//! line (a matcher counts no visits), and how many lines match.
+//!
+//! `time new EXPR..` builds each glob many times. It prints nanoseconds for each build, and how
+//! many succeeded.
+//!
+//! `time build -` builds one glob of all of standard input, without white space at its end, and
+//! calls `depth`. It prints how the build ended, and milliseconds.
+//!
+//! `time walk FOLDER..` walks folders of the real system. It prints entries, errors and
+//! milliseconds.
 
 use std::alloc::{AllocError, Global};
 use std::time::Instant;
@@ -12,17 +20,17 @@ use std::{env, io};
 use wax::walk::{Folders, PathExt};
 use wax::{CandidatePath, Glob, NoMemory, Program};
 
-/// How often each glob is built.
+/// How often `time new` builds each glob.
 const BUILDS: u64 = 1_000;
 
-/// What the matches of some lines came to.
+/// How many lines matched, and the visits of all lines.
 #[derive(Drop)]
 struct Matches {
     matched: u64,
     visits: u128,
 }
 
-/// What is timed of an expression.
+/// What `time_lines` times of an expression.
 #[derive(Clone, Copy)]
 enum Timed {
     Matches,
@@ -30,7 +38,12 @@ enum Timed {
     Captures,
 }
 
-/// Times what the words behind `time` ask for.
+/// Times what the arguments after `time` say.
+///
+/// # Errors
+///
+/// Returns an error if standard input can't be read, standard output can't be written, or
+/// allocation fails.
 pub fn time_words(rt: HostRuntime) -> io::Result<()> {
     let given = io::read_to_string(rt.alloc(), rt.stdin())?;
     let mut words = env::args(&rt)?.skip(2);
@@ -109,7 +122,7 @@ fn match_by_matcher(alloc: Global, glob: &Glob<'_>, lines: &[&str]) -> Result<Ma
     Ok(Matches { matched, visits: 0 })
 }
 
-/// Captures of each line.
+/// Matches each line with captures.
 fn capture_lines(alloc: Global, glob: &Glob<'_>, lines: &[&str]) -> Result<Matches, NoMemory> {
     let mut matched: u64 = 0;
     let mut visits: u128 = 0;
@@ -129,7 +142,7 @@ fn time_new(rt: HostRuntime, expression: &str) -> io::Result<()> {
     println!(rt; "{expression}\t{nanoseconds}\t{count}")
 }
 
-/// Returns how many of so many builds of the expression succeed.
+/// Builds the glob `BUILDS` times. Returns how many builds succeeded.
 fn built(alloc: Global, expression: &str) -> u64 {
     let mut count: u64 = 0;
     for _ in 0..BUILDS {
@@ -146,7 +159,7 @@ fn time_build(rt: HostRuntime, expression: &str) -> io::Result<()> {
     println!(rt; "{came_to}\t{}", start.elapsed(&rt)?.as_millis())
 }
 
-/// Builds the glob and asks for its depth.
+/// Builds the glob and calls `depth`. Returns how the build ended.
 fn build(alloc: Global, expression: &str) -> &'static str {
     match Glob::new(alloc, expression) {
         Ok(glob) => {

@@ -1,4 +1,4 @@
-//! Facts of the tokens of an expression, whether or not it keeps the rules.
+//! Facts of the tokens of an expression, which need not keep the rules.
 
 use crate::answer::Answer;
 use crate::checked;
@@ -16,6 +16,10 @@ use wax::{NoMemory, Refusal};
 type Tokens<'t> = Tokenized<'t, ExpressionMetadata>;
 
 /// Adds a fact of the expression's token.
+///
+/// # Errors
+///
+/// Returns `NoMemory` if allocation fails.
 pub fn answer(
     alloc: Global,
     fact: TokenFact,
@@ -28,7 +32,7 @@ pub fn answer(
     }
 }
 
-/// Adds that the expression was not parsed.
+/// Adds that the expression can't be parsed.
 fn add_refusal(refusal: &Refusal<ParseError>, made: &mut Answer) -> Result<(), NoMemory> {
     match refusal {
         Refusal::Memory => Err(NoMemory),
@@ -39,7 +43,11 @@ fn add_refusal(refusal: &Refusal<ParseError>, made: &mut Answer) -> Result<(), N
     }
 }
 
-/// Adds a fact of the expression's tokens, which are taken apart, copied or checked.
+/// Adds a fact of the expression's tokens, which are split, copied or checked.
+///
+/// # Errors
+///
+/// Returns `NoMemory` if allocation fails, or if another expression of the row can't be parsed.
 pub fn answer_whole(
     alloc: Global,
     fact: TokensFact,
@@ -88,7 +96,7 @@ fn of_token(
     Ok(())
 }
 
-/// Adds the number of bytes of each text that the token matches, if it is one number.
+/// Adds the fixed size of the token in bytes, if it has one.
 fn add_size(
     alloc: Global,
     token: &Token<'_, ExpressionMetadata>,
@@ -101,7 +109,11 @@ fn add_size(
     Ok(())
 }
 
-/// Adds the one text of the token.
+/// Adds the only text of the token.
+///
+/// # Errors
+///
+/// Returns `NoMemory` if allocation fails.
 pub fn add_text(
     alloc: Global,
     token: &Token<'_, ExpressionMetadata>,
@@ -114,7 +126,11 @@ pub fn add_text(
     Ok(())
 }
 
-/// Adds the one text of each token, with a bar behind it.
+/// Adds the only text of each token, with a bar after it.
+///
+/// # Errors
+///
+/// Returns `NoMemory` if allocation fails.
 pub fn add_texts(
     alloc: Global,
     tokens: &[Token<'_, ExpressionMetadata>],
@@ -127,7 +143,7 @@ pub fn add_texts(
     Ok(())
 }
 
-/// Adds the literals of the top level, each with 1 if it matches in any case, else 0.
+/// Adds the literals of the top level, each with 1 if it has the flag `i`, and otherwise 0.
 fn add_casing(token: &Token<'_, ExpressionMetadata>, made: &mut Answer) {
     for token in token.concatenation() {
         if let Some(literal) = token.as_literal() {
@@ -139,7 +155,7 @@ fn add_casing(token: &Token<'_, ExpressionMetadata>, made: &mut Answer) {
     }
 }
 
-/// Adds what each token of the top level is, with its span.
+/// Adds the kind of each token of the top level, with its span.
 fn add_tokens(token: &Token<'_, ExpressionMetadata>, made: &mut Answer) {
     for token in token.concatenation() {
         made.add(name(token));
@@ -161,7 +177,7 @@ fn name(token: &Token<'_, ExpressionMetadata>) -> &'static str {
     }
 }
 
-/// Adds what a component is, its span, and how many tokens it has.
+/// Adds the kind of a component, its span, and its number of tokens.
 fn add_component(component: &Component<'_, '_, ExpressionMetadata>, made: &mut Answer) {
     let tokens = component.tokens();
     made.add(match (component.literal(), tokens.first()) {
@@ -186,7 +202,7 @@ fn add_components(
     Ok(())
 }
 
-/// Adds the literal components, by level, each with its text.
+/// Adds the components of only literals, level by level, each with its text.
 fn add_literals(
     alloc: Global,
     token: &Token<'_, ExpressionMetadata>,
@@ -200,7 +216,7 @@ fn add_literals(
     Ok(())
 }
 
-/// Adds how many tokens the prefix of one text takes, and the prefix.
+/// Adds how many tokens the prefix takes, and the prefix.
 fn add_prefix(
     alloc: Global,
     token: &Token<'_, ExpressionMetadata>,
@@ -213,13 +229,13 @@ fn add_prefix(
     Ok(())
 }
 
-/// Adds the texts of the alternatives, each with a bar behind it.
+/// Adds the texts of the alternatives, with a bar after each.
 fn add_alternatives(alloc: Global, tokens: Tokens<'_>, made: &mut Answer) -> Result<(), NoMemory> {
     let alternatives = into_alternatives(alloc, tokens.into_token())?;
     add_texts(alloc, &alternatives, made)
 }
 
-/// Adds the expression, how many tokens it has, and its one text, once it has texts of its own.
+/// Adds the expression, its number of tokens, and its only text, once the tokens own their texts.
 fn add_owned(alloc: Global, tokens: Tokens<'_>, made: &mut Answer) -> Result<(), NoMemory> {
     match tokens.into_owned(alloc) {
         Ok(owned) => add_whole(alloc, &owned, made),
@@ -235,8 +251,8 @@ fn add_whole(alloc: Global, tokens: &Tokens<'_>, made: &mut Answer) -> Result<()
     add_text(alloc, tokens.as_token(), made)
 }
 
-/// Adds whether a copy equals the tokens, those of the row's other expression do, the copy prints the same,
-/// and a copy of the one token equals it.
+/// Adds whether a copy equals the tokens, whether those of the row's other expression do, whether
+/// the copy prints as they do, and whether a copy of the root token equals it.
 fn add_copies(
     alloc: Global,
     row: &Row,
@@ -283,7 +299,7 @@ fn spells(alloc: Global, expression: &str, tokens: &Tokens<'static>) -> Result<b
     }
 }
 
-/// Returns the tokens of an expression, with texts of their own.
+/// Returns the tokens of an expression, once they own their texts.
 fn owned(alloc: Global, expression: &str) -> Result<Tokens<'static>, NoMemory> {
     match parse(alloc, expression) {
         Ok(tokens) => tokens.into_owned(alloc),

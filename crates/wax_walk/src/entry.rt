@@ -6,7 +6,7 @@ ghost use Rattle.wax_walk.specs.Entries.{facts_of};
 
 use wax_directory::directory::FileType;
 
-/// An entry of a plain walk.
+/// An entry of a plain walk. A walk of a glob wraps one and adds the captures.
 #[derive(Debug, Drop)]
 pub struct TreeEntry {
     path: String,
@@ -17,8 +17,8 @@ pub struct TreeEntry {
 }
 
 impl TreeEntry {
-    /// The entry at `path`, to which the names of `candidate` lead from `root`; `depth` is how many
-    /// they are.
+    /// Builds the entry at `path`, to which the names of `candidate` lead from `root`. `depth` is
+    /// the number of these names.
     pub fn new(path: String, root: String, candidate: String, depth: usize, kind: FileType) -> Self
         ensures { ⟦<Self as Entry>⟧.facts result ≡ record {
           path = string_bytes path;
@@ -38,36 +38,37 @@ impl TreeEntry {
     }
 }
 
-/// What every entry of a walk tells.
+/// An entry of a walk.
 pub trait Entry: Drop {
-    /// What is known of an entry.
+    /// The entry's path, start, candidate, depth and kind, as contracts see them.
     ghost facts: { Self → Facts };
 
-    /// The entry as one of a plain walk.
+    /// Returns the entry as one of a plain walk.
     fn as_tree_entry(&self) -> &TreeEntry
         ensures { ⟦<TreeEntry as Entry>⟧.facts result.now ≡ facts self.now };
 
-    /// The path: that of the start and then the candidate, with `/` between where one is needed.
+    /// Returns the path: that of the start, a `/` if one is needed, and the candidate.
     fn path(&self) -> &str
         ensures { result.now ≡ (facts self.now).path };
 
-    /// The path.
+    /// Converts the entry into its path.
     fn into_path(self) -> String
     where
         Self: Sized,
         ensures { string_bytes result ≡ (facts self).path };
 
-    /// The path of the start of the walk, and the candidate: the names that lead from there to the
-    /// entry, joined by `/`. The candidate of the start is empty.
+    /// Returns the path of the start of the walk, and the candidate: the names that lead from there
+    /// to the entry, with `/` between. The candidate of the start is empty, except if the walk
+    /// begins at the root: candidates begin with `/` then.
     fn root_relative_paths(&self) -> (&str, &str)
         ensures root { result.0.now ≡ (facts self.now).root }
         ensures candidate { result.1.now ≡ (facts self.now).candidate };
 
-    /// What stands there.
+    /// Returns the kind that the directory reported: a file, a link or a folder.
     fn file_type(&self) -> FileType
         ensures { result ≡ (facts self.now).kind };
 
-    /// How many names lead there from the start.
+    /// Returns the number of names that lead here from the start; 0 for the start.
     fn depth(&self) -> usize
         ensures { result ≡ (facts self.now).depth };
 }

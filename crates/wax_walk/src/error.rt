@@ -1,4 +1,4 @@
-//! What a walk couldn't do.
+//! Errors of walks.
 
 ghost use Rattle.std.specs.Prelude.{◌≡◌};
 ghost use Rattle.std.specs.Option.{option_map};
@@ -6,57 +6,57 @@ ghost use Rattle.wax_walk.specs.Entries.{kind_of_fault, error_kind, error_path, 
 
 use thiserror::Error;
 
-/// Which fault it was.
+/// What couldn't be read, and why.
 #[derive(Clone, Copy, Debug, Eq, Error, PartialEq)]
 pub enum FaultKind {
-    /// Nothing is there (refusal 11). The walk has ended.
+    /// Nothing is there (11). The walk has ended.
     #[error("not found")]
     NotFound,
-    /// A file or a link is where a folder should be (refusal 12). The walk has ended.
+    /// A file or a link is where a folder should be (12). The walk has ended.
     #[error("not a folder")]
     NotAFolder,
-    /// What is there couldn't be read (refusal 13). The walk goes on with the rest.
+    /// What is there couldn't be read (13). The walk goes on with the rest.
     #[error("cannot be listed")]
     Listing,
-    /// A folder has an item with a name that no path can hold (refusal 14). The walk goes on.
+    /// A folder has an item with a name that no path can hold (14). The walk goes on.
     #[error("bad name")]
     BadName,
-    /// A folder has an item whose name isn't text (refusal 15). The walk goes on.
+    /// A folder has an item whose name isn't text (15). The walk goes on.
     #[error("name is not text")]
     NotText,
-    /// A folder has more items than the walk may take (refusal 16). The walk has ended.
+    /// A folder has more items than the walk may take (16). The walk has ended.
     #[error("budget reached")]
     Budget,
 }
 
-/// Which error it was: a fault, or want of memory.
+/// The kind of an error: a `FaultKind`, or `Memory`.
 #[derive(Clone, Copy, Debug, Eq, Error, PartialEq)]
 pub enum WalkErrorKind {
-    /// Refusal 11.
+    /// Number 11, as `FaultKind::NotFound`.
     #[error("not found")]
     NotFound,
-    /// Refusal 12.
+    /// Number 12, as `FaultKind::NotAFolder`.
     #[error("not a folder")]
     NotAFolder,
-    /// Refusal 13.
+    /// Number 13, as `FaultKind::Listing`.
     #[error("cannot be listed")]
     Listing,
-    /// Refusal 14.
+    /// Number 14, as `FaultKind::BadName`.
     #[error("bad name")]
     BadName,
-    /// Refusal 15.
+    /// Number 15, as `FaultKind::NotText`.
     #[error("name is not text")]
     NotText,
-    /// Refusal 16.
+    /// Number 16, as `FaultKind::Budget`.
     #[error("budget reached")]
     Budget,
-    /// Memory was asked for and refused (refusal 17). The walk has ended.
+    /// Allocation failed (17). The walk has ended.
     #[error("no memory")]
     Memory,
 }
 
 impl FaultKind {
-    /// The kind of the error that has this fault.
+    /// Converts a kind of fault into the kind of its error.
     pub fn error_kind(self) -> WalkErrorKind
         ensures { result ≡ kind_of_fault self }
     {
@@ -71,20 +71,21 @@ impl FaultKind {
     }
 }
 
-/// A fault of a walk: what it was, at which path, and how many names lead there from the start.
+/// An error that a walk yields, at its place among the entries.
 #[derive(Debug, Drop, Error)]
 pub enum WalkError {
-    /// A fault at a path, which is so many names below the start. In a folder's item it is at the
-    /// folder's path.
+    /// Something couldn't be read. The fields are the kind, the path, and the number of names that
+    /// lead there from the start. If an item of a folder couldn't be read, the path is that of the
+    /// folder.
     #[error("{1}: {0}")]
     Fault(FaultKind, String, usize),
-    /// Memory was asked for and refused.
+    /// Allocation failed.
     #[error("no memory")]
     Memory,
 }
 
 impl WalkError {
-    /// Which fault it was.
+    /// Returns which error it is.
     pub fn kind(&self) -> WalkErrorKind
         ensures { result ≡ error_kind self.now }
     {
@@ -94,7 +95,7 @@ impl WalkError {
         }
     }
 
-    /// The path at which it was; `None` where memory was refused.
+    /// Returns the path where the error occurred; `None` if allocation failed.
     pub fn path(&self) -> Option<&str>
         ensures { option_map (λ p. p.now) result ≡ error_path self.now }
     {
@@ -104,7 +105,8 @@ impl WalkError {
         }
     }
 
-    /// How many names lead from the start of the walk to that path; 0 where memory was refused.
+    /// Returns the number of names that lead from the start of the walk to the error's path; 0 if
+    /// allocation failed.
     pub fn depth(&self) -> usize
         ensures { result ≡ error_depth self.now }
     {

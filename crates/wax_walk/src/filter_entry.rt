@@ -16,7 +16,7 @@ use crate::iterator::{EntryResidue, FileIterator};
 use crate::without::{cuts, separated};
 use wax_filter::filter::{CancelWalk, Feed, SeparatingFilter, Separation, TreeResidue, filtrate};
 
-// What a closure says of an item.
+// Calls the closure for the entry of an item, kept or excluded, and never for an error.
 fn said_by<T, R, S, F>(f: &mut F, separation: &Separation<S>) -> Option<EntryResidue>
 where
     T: Entry,
@@ -38,7 +38,7 @@ where
     }
 }
 
-/// Leaves out what a closure says.
+/// A walk without what a closure excludes. `FileIterator::filter_entry` builds it.
 #[derive(Drop)]
 pub struct FilterEntry<I, F> {
     input: I,

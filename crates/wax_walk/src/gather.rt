@@ -1,4 +1,4 @@
-//! All that a walk gives.
+//! Lists of what walks yield.
 
 ghost use Rattle.std.specs.Prelude.{◌≡◌, ◌≤◌, ◌++◌, ◌∷◌, [], All, List, IfOk, length, map, filter};
 ghost use Rattle.std.specs.Iterator.{IsFinite, size};
@@ -14,7 +14,6 @@ use std::alloc::Global;
 use wax_filter::filter::{Feed, Separation, TreeResidue};
 use wax_query::diagnostics::NoMemory;
 
-// Adds an item.
 fn push<T: Drop>(items: &mut Vec<T>, item: T) -> Result<(), NoMemory>
     ensures { IfOk result (λ _. items.new.items ≡ items.old.items ++ item ∷ []) }
 {
@@ -24,7 +23,6 @@ fn push<T: Drop>(items: &mut Vec<T>, item: T) -> Result<(), NoMemory>
     }
 }
 
-// Adds an item if it is kept.
 fn keep<T, R, F>(
     items: &mut Vec<Result<T, WalkError>>,
     separation: Separation<F>,
@@ -41,9 +39,13 @@ where
     }
 }
 
-/// All items of the feed in order, kept or left out, errors among those that are kept, and the
-/// directory. What is known of the walk's entries holds of those that are kept. Where memory is refused
-/// for the list itself, nothing is answered.
+/// Collects the feed of a walk: returns all items in order, kept or excluded, and the directory.
+/// Errors are among the kept items. What is `known` of the walk's entries holds for each kept one.
+///
+/// # Errors
+///
+/// Returns `NoMemory` if allocation fails for the list itself. If it fails in the walk, the last
+/// item is that error.
 pub fn collect_feed<I>(
     alloc: Global,
     mut walk: I,
@@ -64,8 +66,13 @@ where
     Ok((items, walk.into_directory()))
 }
 
-/// The items that are kept, in order, errors among them, and the directory. What is known of the walk's
-/// entries holds of each. Where memory is refused for the list itself, nothing is answered.
+/// Collects what a walk keeps: returns the kept items in order, errors included, and the directory.
+/// What is `known` of the walk's entries holds for each.
+///
+/// # Errors
+///
+/// Returns `NoMemory` if allocation fails for the list itself. If it fails in the walk, the last
+/// item is that error.
 pub fn collect<I>(
     alloc: Global,
     mut walk: I,

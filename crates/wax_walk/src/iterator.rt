@@ -16,18 +16,18 @@ use std::alloc::Global;
 use wax_directory::directory::Directory;
 use wax_filter::filter::{CancelWalk, Feed, SeparatingFilter, TreeResidue};
 
-/// What a filter leaves out: an entry alone, or with all that lies below it.
+/// What a filter excludes: only an entry (`File`), or an entry with everything below it (`Tree`).
 #[derive(Clone, Copy, Debug, Eq, PartialEq)]
 pub enum EntryResidue {
     File,
     Tree,
 }
 
-/// A walk through a directory, or a filter over one.
+/// A walk through a directory, or a filter of one.
 ///
-/// Each state of a walk means what is still to come: items in order, each with what lies below it,
-/// and the places where folders are listed. The laws say what a call gives of it and what
-/// cancelling leaves out, what the directory counts, and when a walk has ended.
+/// Contracts see a walk as a `WalkView`: the items that it will still yield, each with what is
+/// below it, and where folders will be listed. The laws of this trait say how `feed` and cancelling
+/// change that view, what the directory counts, and when a walk has ended.
 pub trait FileIterator: CancelWalk<
     Feed: Feed<Filtrate = Result<Self::Entry, WalkError>, Residue = TreeResidue<Self::Residue>>,
 > {
@@ -42,48 +42,49 @@ pub trait FileIterator: CancelWalk<
 
     type Directory: Directory;
 
-    /// What contracts see of the walk.
+    /// The state of the walk, as contracts see it.
     ghost view: { Self → WalkView Self.Directory };
 
     /// What is known of each entry that the walk keeps.
     ghost known: { Self → Self.Entry → Type 0 };
 
-    /// The directory that is walked.
+    /// Returns the directory that is walked.
     fn directory(&self) -> &Self::Directory
         ensures { result.now ≡ (view self.now).directory };
 
-    /// The directory that was walked.
+    /// Ends the walk, and returns its directory.
     fn into_directory(self) -> Self::Directory
     where
         Self: Sized,
         ensures { result ≡ (view self).directory };
 
-    /// The folders that were listed are those that the directory tells.
+    /// The folders that are listed so far are those that the directory reports.
     ghost telling: { (s : Self) (p : Pending Given) → (view s).to_come p
         → Self.Directory.law.tells (view s).directory p.listed };
 
-    /// A residue is made of an entry with what is known of it.
+    /// Converting an entry into a residue keeps its facts.
     ghost same_facts: { (e : Self.Entry) (r : Self.Residue) → Self.Residue.from_gives e r
         → Self.Residue.facts r ≡ Self.Entry.facts e };
 
-    /// What a call of `feed` gives and does.
+    /// What a call of `feed` returns, and how it changes the view.
     ghost feeding: { (s t : Self)
         (r : Option (Separation Self.Feed (Result Self.Entry WalkError) (TreeResidue Self.Residue)))
         → Self.feeds s r t
         → FeedStep Self.Directory.law (view s) (answer_of Self.Entry.facts Self.Residue.facts r) (view t) };
 
-    /// What cancelling does.
+    /// How cancelling changes the view.
     ghost cancelling: { (s t : Self) → Self.cancels s t → CancelStep (view s) (view t) };
 
-    /// What is known holds of what a call of `feed` keeps, and stays known after it.
+    /// What is known holds for each entry that `feed` keeps, and stays known after it.
     ghost keeping: { (s t : Self)
         (r : Option (Separation Self.Feed (Result Self.Entry WalkError) (TreeResidue Self.Residue)))
         → Self.feeds s r t → KeepsKnown (known s) r (known t) };
 
-    /// What is known stays known where something is cancelled.
+    /// What is known stays known when a folder is cancelled.
     ghost staying: { (s t : Self) → Self.cancels s t → StaysKnown (known s) (known t) };
 
-    /// Leaves out what a rule says.
+    /// Excludes what a rule excludes. The rule sees each entry, even one that was excluded before,
+    /// and no error. If the rule returns an error, the walk yields it and ends.
     final fn without<P: Rule>(self, alloc: Global, rule: P) -> Without<Self, P>
     where
         Self: Sized,
@@ -96,9 +97,10 @@ pub trait FileIterator: CancelWalk<
         Without::new(alloc, self, rule)
     }
 
-    /// Leaves out what a closure says of an entry: `None` leaves the item as it is, `File` leaves it
-    /// out alone if it wasn't left out before, and `Tree` leaves it out with all that lies below
-    /// it, which is cancelled. An error stays, and the closure isn't asked.
+    /// Excludes what a closure excludes. For each entry, `None` keeps the item as it is, `File`
+    /// excludes only the entry, and `Tree` excludes it with everything below it, which is
+    /// cancelled: the folder isn't even listed. The closure is called for each entry, even one that
+    /// was excluded before, and never for an error.
     final fn filter_entry<F>(self, f: F) -> FilterEntry<Self, F>
     where
         Self: Sized,

@@ -1,4 +1,4 @@
-//! Walks: what is still to come of them, filters over them, and what collects them.
+//! Walks: the items that they will still yield, filters of them, and lists of what they yield.
 #![tactic(auto)]
 
 mod entry;

@@ -1,4 +1,4 @@
-//! Filters by a rule.
+//! Filters of walks by a rule.
 
 ghost use Rattle.std.specs.Prelude.{◌≡◌, ◌⊎◌, IfOk, true, false};
 ghost use Rattle.std.specs.Iterator.{IsFinite};
@@ -18,15 +18,17 @@ use wax_filter::filter::{
 };
 use wax_query::diagnostics::NoMemory;
 
-/// What a filter says of each entry.
+/// A filter that decides each entry from the entry and nothing else.
 pub trait Rule: Drop {
-    /// What it says of an entry.
+    /// The decision for an entry with these facts.
     ghost rule: { Self → Facts → Mark };
 
-    /// Returns what it says of an entry. What it says of others stays the same, also after an error.
+    /// Returns what to exclude of an entry; `None` keeps it. The decisions for all entries are the
+    /// same after a call, even after one that fails.
     ///
     /// # Errors
-    /// `NoMemory` if allocation fails.
+    ///
+    /// Returns `NoMemory` if allocation fails.
     fn residue<E: Entry>(
         &mut self,
         alloc: Global,
@@ -35,7 +37,7 @@ pub trait Rule: Drop {
         ensures { RuleStep rule self.old self.new (E.facts entry.now) result };
 }
 
-// What a rule says of an item.
+// Calls the rule for the entry of an item, kept or excluded, and never for an error.
 fn residue_of<T, R, F, P>(
     alloc: Global,
     rule: &mut P,
@@ -62,7 +64,8 @@ where
     }
 }
 
-// What lies below is to be cancelled.
+// Returns whether to cancel what is below an item. An item that was already excluded as a tree was
+// cancelled by whoever excluded it.
 pub(crate) fn cuts<T, R, F>(separation: &Separation<F>, residue: Option<EntryResidue>) -> bool
 where
     T: Entry,
@@ -85,7 +88,7 @@ where
     }
 }
 
-// An item that was kept, after what a filter says of it.
+// Applies a decision to an item that was kept. An error stays kept, whatever the decision.
 fn separated_outcome<T, R, F>(
     outcome: Result<T, WalkError>,
     residue: Option<EntryResidue>,
@@ -110,7 +113,8 @@ where
     }
 }
 
-// The item after what a filter says of it.
+// Applies a decision to an item. An item that was excluded stays excluded; `Tree` can still exclude
+// what is below it.
 pub(crate) fn separated<T, R, F>(
     separation: Separation<F>,
     residue: Option<EntryResidue>,
@@ -135,7 +139,7 @@ where
     }
 }
 
-/// Leaves out what a rule says.
+/// A walk without what a rule excludes. `FileIterator::without` builds it.
 #[derive(Drop)]
 pub struct Without<I, P> {
     alloc: Global,

@@ -1,4 +1,4 @@
-//! A glob that is matched against many paths.
+//! A matcher of one glob for many paths.
 ghost use Rattle.std.specs.Prelude.{◌≡◌, ◌↔◌, IfOk, IsTrue, chars, false};
 ghost use Rattle.wax.specs.GlobView.{IsMeant};
 ghost use Rattle.wax_token.specs.Decided.{means_test};
@@ -10,8 +10,8 @@ use wax_candidate::{BuildMatcher, CandidatePath, PathMatcher};
 use wax_lazy::Matcher;
 use wax_query::diagnostics::NoMemory;
 
-/// Matches many paths against a glob, and keeps what it learns from each for the next ones. Contracts see
-/// what they see of the glob.
+/// A matcher of a glob for many paths, which keeps what it learns from each for the next ones.
+/// Contracts see the view of its glob.
 pub struct GlobMatcher<'g, 't> {
     glob: &'g Glob<'t>,
     matcher: Matcher<'g>,
@@ -40,11 +40,20 @@ impl<'g, 't> Model for GlobMatcher<'g, 't> {
 }
 
 impl<'t> Glob<'t> {
-    /// Makes a matcher, which is faster than the glob for many paths if the expression has many alternatives.
-    /// It keeps about 2 MiB at most.
+    /// Builds a matcher, which is faster than the glob for many paths if the expression has many
+    /// alternatives. It keeps about 2 MiB at most.
+    ///
+    /// ```
+    /// let glob = Glob::new(alloc, "**/{node_modules,target,build}/**")?;
+    /// let mut matcher = glob.matcher(alloc)?;
+    /// for path in ["a/target/b", "a/src/b"] {
+    ///     println!(rt; "{}", matcher.is_match(&CandidatePath::from(path))?)?; // true, false
+    /// }
+    /// ```
     ///
     /// # Errors
-    /// `NoMemory` (10) if allocation fails.
+    ///
+    /// Returns `NoMemory` if allocation fails.
     pub fn matcher<'g>(&'g self, alloc: Global) -> Result<GlobMatcher<'g, 't>, NoMemory>
         ensures { IfOk result (λ m. m ≡ self.now) }
     {
@@ -57,11 +66,13 @@ impl<'t> Glob<'t> {
 }
 
 impl GlobMatcher<'_, '_> {
-    /// Returns whether the glob matches the path's whole text. Most texts that it doesn't match are refused
-    /// before they are followed.
+    /// Returns whether the glob matches the whole path. A quick test comes first, which rejects
+    /// most texts that don't match.
     ///
     /// # Errors
-    /// `NoMemory` (10) if allocation fails. The matcher is good for further paths then.
+    ///
+    /// Returns `NoMemory` if allocation fails. The matcher can be used for further paths after
+    /// that.
     #[inline]
     pub fn is_match(&mut self, path: &CandidatePath<'_>) -> Result<bool, NoMemory>
         ensures means { IfOk result (λ answer. IsTrue answer ↔ IsMeant self.old path.now) }
@@ -76,8 +87,8 @@ impl GlobMatcher<'_, '_> {
         self.follow(text)
     }
 
-    /// Returns whether the glob matches the text, which is followed without an early test. This is a call of
-    /// its own, so that a text which a test refuses costs little more than the test.
+    /// Matches the text without the quick test. It is a function of its own, never inlined, so that
+    /// a text that the test rejects costs little more than the test.
     #[inline(never)]
     fn follow(&mut self, text: &str) -> Result<bool, NoMemory>
         ensures means { IfOk result (λ answer. IsTrue answer ↔ IsMeant self.old (chars text.now)) }

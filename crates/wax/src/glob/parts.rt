@@ -1,4 +1,4 @@
-//! A glob in two.
+//! Partition of a glob into its prefix and the rest.
 ghost use Rattle.std.specs.Prelude.{IfOk, chars, string_bytes};
 ghost use Rattle.wax.specs.Build.{IsEmptyGlob, IsTreeGlob};
 ghost use Rattle.wax.specs.Partition.{HasParts, HasPartsOr};
@@ -9,8 +9,21 @@ use wax_partition::partition;
 use wax_query::diagnostics::{NoMemory, Refusal};
 
 impl<'t> Glob<'t> {
-    /// Its prefix, with which each text that it means begins, and the rest as a glob of its own, if tokens
-    /// are left. Refused with 10 where memory is. It takes the time and memory of a build.
+    /// Splits the glob into its prefix, with which every match begins, and the rest as a glob of
+    /// its own, or `None` if no tokens remain. It takes the time and memory of `Glob::new`.
+    ///
+    /// ```
+    /// let glob = Glob::new(alloc, "src/*/mod.rs")?;
+    /// let (prefix, rest) = glob.partition(alloc)?;
+    /// println!(rt; "{prefix}")?; // src/
+    /// if let Some(rest) = rest {
+    ///     println!(rt; "{rest}")?; // */mod.rs
+    /// }
+    /// ```
+    ///
+    /// # Errors
+    ///
+    /// Returns `NoMemory` if allocation fails.
     pub fn partition(self, alloc: Global) -> Result<(String, Option<Glob<'t>>), NoMemory>
         ensures { IfOk result (λ r. HasParts self.entry (chars (string_bytes r.0)) r.1) }
     {
@@ -28,12 +41,16 @@ impl<'t> Glob<'t> {
         match compiled(alloc, tokenized) {
             Ok(glob) => Ok((prefix, Some(glob))),
             Err(Refusal::Memory) => Err(NoMemory),
-            // The rest costs no more than the whole, which fits.
+            // The rest costs no more than the whole glob, which is within the bound.
             Err(Refusal::Refused(_)) => unreachable!(),
         }
     }
 
-    /// The same, with the empty glob where there is no rest.
+    /// Splits the glob as `partition` does, with the empty glob if there is no rest.
+    ///
+    /// # Errors
+    ///
+    /// Returns `NoMemory` if allocation fails.
     pub fn partition_or_empty(self, alloc: Global) -> Result<(String, Glob<'t>), NoMemory>
         ensures { IfOk result (λ r.
             HasPartsOr IsEmptyGlob self.entry (chars (string_bytes r.0)) r.1) }
@@ -44,7 +61,11 @@ impl<'t> Glob<'t> {
         }
     }
 
-    /// The same, with the glob of `**` where there is no rest.
+    /// Splits the glob as `partition` does, with the glob of `**` if there is no rest.
+    ///
+    /// # Errors
+    ///
+    /// Returns `NoMemory` if allocation fails.
     pub fn partition_or_tree(self, alloc: Global) -> Result<(String, Glob<'t>), NoMemory>
         ensures { IfOk result (λ r.
             HasPartsOr IsTreeGlob self.entry (chars (string_bytes r.0)) r.1) }

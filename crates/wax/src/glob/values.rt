@@ -1,4 +1,4 @@
-//! Globs as values: copied and printed.
+//! Copies of globs, and how a glob is printed.
 ghost use Rattle.std.specs.Prelude.{◌≡◌, IfOk, Some, codes, encode_utf8_all};
 ghost use Rattle.std.specs.Fmt.{◌++?◌, debug_str};
 
@@ -8,8 +8,12 @@ use std::fmt;
 use wax_query::diagnostics::{NoMemory, Refusal};
 
 impl<'t> Glob<'t> {
-    /// The same glob with an expression and texts of its own. Refused with 10 where memory is. It takes the
-    /// time and memory of the expression, all tokens and their texts.
+    /// Converts the glob into one that owns its expression and texts. It takes time and memory in
+    /// proportion to the expression, all tokens and their texts.
+    ///
+    /// # Errors
+    ///
+    /// Returns `NoMemory` if allocation fails.
     pub fn into_owned(self, alloc: Global) -> Result<Glob<'static>, NoMemory>
         ensures { IfOk result (λ glob. glob ≡ self.entry) }
     {
@@ -29,8 +33,12 @@ impl<'t> Glob<'t> {
         })
     }
 
-    /// A copy with an expression and texts of its own. Refused with 10 where memory is. It takes the time and
-    /// memory of a build.
+    /// Copies the glob into one that owns its expression and texts. It takes the time and memory of
+    /// `Glob::new`.
+    ///
+    /// # Errors
+    ///
+    /// Returns `NoMemory` if allocation fails.
     pub fn to_owned(&self, alloc: Global) -> Result<Glob<'static>, NoMemory>
         ensures { IfOk result (λ copy. copy ≡ self.now) }
     {
@@ -38,13 +46,13 @@ impl<'t> Glob<'t> {
         match compiled(alloc, tokenized) {
             Ok(glob) => Ok(glob),
             Err(Refusal::Memory) => Err(NoMemory),
-            // It costs what this glob costs, which fits.
+            // The copy costs as much as this glob, which is within the bound.
             Err(Refusal::Refused(_)) => unreachable!(),
         }
     }
 }
 
-/// Prints `Glob("..")`, with the expression.
+/// Prints `Glob("..")` with the expression between the quotes.
 impl fmt::Debug for Glob<'_> {
     ghost debug_output = { λ glob.
         Some (codes "Glob(") ++? debug_str (encode_utf8_all glob.expression) ++? Some (codes ")") };

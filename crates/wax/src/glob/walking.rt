@@ -25,17 +25,34 @@ use wax_query::diagnostics::NoMemory;
 use wax_tree::{Range, WalkBehavior, WalkTree};
 use wax_walk::{Entry, FileIterator, Rule, TreeEntry, WalkError};
 
-/// The walk of a glob through a directory: each entry that the glob means is kept, and what is left out is
-/// known by its names before it is listed.
+/// The walk of a glob through a directory. It keeps every entry that the glob matches. A folder
+/// that the names in the glob rule out is excluded before it is listed.
 pub type GlobWalk<'g, 't, D> = wax_glob_walk::GlobWalk<'g, D, Glob<'t>, Component<'g, 't>>;
 
 impl<'t> Glob<'t> {
     ghost use Rattle.wax_tree.specs.declared.behavior.WalkBehavior.{WalkBehavior};
 
-    /// The walk of the glob from a start, of all depths, which takes at most 4,294,967,295 items of
-    /// folders. Where its prefix begins with `/`, the start is dropped, and the walk is from the root. It
-    /// begins at the prefix, and goes no deeper than the texts of the glob. Where memory is refused, the
-    /// walk's one item tells it.
+    /// Walks through `directory` from `start` and yields the entries that the glob matches, at
+    /// every depth, each with its captures. The walk takes at most 4,294,967,295 items from
+    /// folders.
+    ///
+    /// The walk begins at the glob's prefix and goes no deeper than the glob's longest matches. If
+    /// the prefix begins with `/`, the walk begins at the root and `start` isn't used. If memory
+    /// runs out before the walk begins, its only item is an error.
+    ///
+    /// ```
+    /// use wax::walk::{Tree, collect};
+    ///
+    /// let tree = Tree::from_paths(alloc, &["src/lib.rs", "src/net/tcp.rs", "docs/guide.md"])?;
+    /// let glob = Glob::new(alloc, "src/**/*.rs")?;
+    /// let (items, _) = collect(alloc, glob.walk(alloc, tree, ""))?;
+    /// for item in &items {
+    ///     match item {
+    ///         Ok(entry) => println!(rt; "{}", entry.path())?, // src/lib.rs, src/net/tcp.rs
+    ///         Err(error) => println!(rt; "{error}")?,
+    ///     }
+    /// }
+    /// ```
     pub fn walk<'g, D: Directory>(
         &'g self,
         alloc: Global,
@@ -52,8 +69,17 @@ impl<'t> Glob<'t> {
         walk_in(alloc, self, directory, start, WalkBehavior::default())
     }
 
-    /// The same of the depths that the behavior has, which takes at most as many items of folders as its
-    /// budget.
+    /// Walks as `walk` does, at the depths of `behavior`, and takes at most as many items from
+    /// folders as its budget.
+    ///
+    /// ```
+    /// use wax::walk::{DepthMax, Tree, collect};
+    ///
+    /// let tree = Tree::from_paths(alloc, &["a.rs", "src/lib.rs", "src/net/tcp.rs"])?;
+    /// let glob = Glob::new(alloc, "**/*.rs")?;
+    /// let (items, _) = collect(alloc, glob.walk_with_behavior(alloc, tree, "", DepthMax(2)))?;
+    /// println!(rt; "{}", items.len())?; // 2: a.rs and src/lib.rs
+    /// ```
     pub fn walk_with_behavior<'g, D, B>(
         &'g self,
         alloc: Global,
@@ -74,14 +100,15 @@ impl<'t> Glob<'t> {
         walk_in(alloc, self, directory, start, behavior.into())
     }
 
-    // Its tree keeps the rules, or is that of the empty expression.
+    // Puts the glob's invariant into a contract: its tree keeps the rules, or is that of the empty
+    // expression.
     fn keeps_rules(&self)
         ensures { IsKept self.now.tree }
     {
         let _tokenized = &self.tokenized;
     }
 
-    // The range, but no deeper than the glob's texts.
+    // Lowers the greatest depth of `range` to that of the glob.
     fn within(&self, range: Range) -> Range
         ensures { (depth : Bounds) × Depth self.now.tree depth
             × ((s : List ℕ) → IsMeant self.now s → AtMost (component_total s) depth.1)
@@ -97,8 +124,8 @@ impl<'t> Glob<'t> {
     }
 }
 
-// What a walk needs of the glob: the way to its prefix, and its leading components; none where two `/` stand
-// side by side in the prefix.
+// Computes what a walk needs of the glob: the names of its prefix, and its leading components.
+// Returns `None` if two `/` are side by side in the prefix: no path of names matches then.
 fn needs<'g, 't>(
     alloc: Global,
     glob: &'g Glob<'t>,
@@ -117,7 +144,7 @@ fn needs<'g, 't>(
     }
 }
 
-// The plain walk that goes this way.
+// Begins a plain walk at the names of `way` below `start`, or below the root if `way` is rooted.
 fn walk_along<D: Directory>(
     alloc: Global,
     directory: D,
@@ -138,7 +165,7 @@ fn walk_along<D: Directory>(
     }
 }
 
-// The walk of a glob from a start.
+// The body of all walks of a glob, for a behavior that is already converted.
 fn walk_in<'g, 't, D: Directory>(
     alloc: Global,
     glob: &'g Glob<'t>,
@@ -183,13 +210,32 @@ impl<'t> Glob<'t> {
     ghost use Rattle.wax_exclude.specs.Wanted.{Filter};
     ghost use Rattle.wax.specs.GlobWalks.{Beginning, GaveWithin, KeepsNothing, trip_of};
 
-    /// The items that are kept of the walk of the glob less what these rules leave out, in order, errors
-    /// among them, and the directory. Where the rules are those of patterns and of ignore lists, in whatever
-    /// order, the entries are those of the whole walk, in range, that the glob means, that no pattern means
-    /// and that no list ignores. What was captured of each is what the glob captures of its candidate. Where
-    /// two `/` stand side by side in the prefix, nothing is kept and nothing listed. Whatever the directory
-    /// shows, no more items are taken and given than the budget allows, and it counted each error. Where
-    /// memory is refused for the list itself, nothing is answered.
+    /// Collects the walk of the glob from `start` without what the rules exclude: returns what is
+    /// kept, in order, errors included, and the directory.
+    ///
+    /// If the directory is lawful, and each rule is that of a pattern or of an ignore list, in any
+    /// order, the entries are exactly those of the whole walk, in range, that the glob matches,
+    /// that no pattern matches and that no list ignores. If memory or the budget runs out, the list
+    /// is a prefix of that and then one error. Each entry has the captures of its candidate. If two
+    /// `/` are side by side in the glob's prefix, nothing is kept or listed. Whatever the directory
+    /// shows, the walk takes and yields no more items than the budget allows.
+    ///
+    /// ```
+    /// use wax::walk::{Tree, WalkBehavior, WalkFilter};
+    ///
+    /// let tree = Tree::from_paths(alloc, &["src/lib.rs", "src/old_a.rs", "target/lib.rs"])?;
+    /// let list = IgnoreList::parse(alloc, "**/old_*\n")?;
+    /// let filters = vec![in alloc; WalkFilter::not(alloc, "target/**")?, WalkFilter::ignore(list)]?;
+    /// let glob = Glob::new(alloc, "**/*.rs")?;
+    /// let behavior = WalkBehavior::default();
+    /// let (items, _) = glob.collect_less(alloc, tree, "", behavior, filters)?;
+    /// println!(rt; "{}", items.len())?; // 1: src/lib.rs
+    /// ```
+    ///
+    /// # Errors
+    ///
+    /// Returns `NoMemory` if allocation fails for the list itself. If it fails in the walk, the
+    /// last item is that error.
     pub fn collect_less<D, R>(
         &self,
         alloc: Global,

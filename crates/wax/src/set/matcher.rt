@@ -1,4 +1,4 @@
-//! A set of patterns that is matched against many paths.
+//! A matcher of one set of patterns for many paths.
 ghost use Rattle.std.specs.Prelude.{◌≡◌, ◌↔◌, IfOk, IsTrue, false};
 ghost use Rattle.wax.specs.AnyView.{MeansText};
 ghost use Rattle.wax_token.specs.Decided.{means_test};
@@ -10,8 +10,8 @@ use wax_candidate::{BuildMatcher, CandidatePath, PathMatcher};
 use wax_lazy::Matcher;
 use wax_query::diagnostics::NoMemory;
 
-/// Matches many paths against a set of patterns, and keeps what it learns from each for the next ones.
-/// Contracts see what they see of the set.
+/// A matcher of a set of patterns for many paths, which keeps what it learns from each for the next
+/// ones. Contracts see the view of its set.
 pub struct AnyMatcher<'a, 't> {
     any: &'a Any<'t>,
     matcher: Matcher<'a>,
@@ -39,11 +39,12 @@ impl<'a, 't> Model for AnyMatcher<'a, 't> {
 }
 
 impl<'t> Any<'t> {
-    /// Makes a matcher, which is faster than the set for many paths if its patterns have many branches. It
-    /// keeps about 2 MiB at most.
+    /// Builds a matcher, which is faster than the set for many paths if its patterns have many
+    /// branches. It keeps about 2 MiB at most.
     ///
     /// # Errors
-    /// `NoMemory` (10) if allocation fails.
+    ///
+    /// Returns `NoMemory` if allocation fails.
     pub fn matcher<'a>(&'a self, alloc: Global) -> Result<AnyMatcher<'a, 't>, NoMemory>
         ensures { IfOk result (λ m. m ≡ self.now) }
     {
@@ -53,11 +54,13 @@ impl<'t> Any<'t> {
 }
 
 impl AnyMatcher<'_, '_> {
-    /// Returns whether one of the patterns matches the path's whole text. Most texts that none matches are
-    /// refused before they are followed.
+    /// Returns whether one of the patterns matches the whole path. A quick test comes first, which
+    /// rejects most texts that don't match.
     ///
     /// # Errors
-    /// `NoMemory` (10) if allocation fails. The matcher is good for further paths then.
+    ///
+    /// Returns `NoMemory` if allocation fails. The matcher can be used for further paths after
+    /// that.
     pub fn is_match(&mut self, path: &CandidatePath<'_>) -> Result<bool, NoMemory>
         ensures means { IfOk result (λ answer. IsTrue answer ↔ MeansText self.old path.now) }
         ensures decides { IfOk result (λ answer. answer ≡ means_test self.old false false path.now) }

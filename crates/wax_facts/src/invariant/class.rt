@@ -1,4 +1,4 @@
-//! The one character of a class.
+//! Classes that match only one character.
 ghost use Rattle.std.specs.Prelude.{◌≡◌, ◌≢◌, ◌∷◌, [], ℕ, MatchOption, true};
 ghost use Rattle.std.specs.List.{list_all};
 ghost use Rattle.wax_token.specs.Syntax.{class};
@@ -6,7 +6,8 @@ ghost use Rattle.wax_facts.specs.InvariantText.{LeafText, NoText, is_only};
 
 use wax_token::token::{Archetype, Class};
 
-/// The character that all members of the class are, but not `/`; none for a negated class.
+/// Returns the only character that the class matches. Returns `None` for a negated class, and if
+/// its members are `/` or differ.
 pub fn only_character(set: &Class) -> Option<char>
     ensures { MatchOption result (NoText (LeafText (class set.now.0 set.now.1))) (λ c.
         LeafText (class set.now.0 set.now.1) (c ∷ [])) }
@@ -21,7 +22,7 @@ pub fn only_character(set: &Class) -> Option<char>
     Some(first)
 }
 
-// The one that it is, if it is one.
+// Returns the first character of a member.
 fn first_character(archetype: &Archetype) -> char
     ensures { (c : ℕ) → is_only c archetype.now ≡ true → result ≡ c }
 {

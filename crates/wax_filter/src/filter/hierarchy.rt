@@ -1,4 +1,4 @@
-//! Filters over a walk that may cancel what lies below an item.
+//! Filters of a walk that may cancel what is below an item.
 
 ghost use Rattle.std.specs.Prelude.{◌≡◌, ◌⊎◌};
 ghost use Rattle.std.specs.Option.{option_map};
@@ -12,7 +12,7 @@ use crate::filter::map_tree::FilterMapTree;
 use crate::filter::separation::{Feed, Isomeric, Separation, separated_by};
 use crate::filter::tree_residue::TreeResidue;
 
-// What the closure says of the item's entry; nothing of an error.
+// Calls the closure for the entry of an item, and never for an error.
 fn said_of<S, F>(f: &mut F, separation: &Separation<S>) -> Option<TreeResidue<()>>
 where
     S: Isomeric,
@@ -27,9 +27,9 @@ where
     }
 }
 
-/// Separates each item as a closure says of its entry: `None` leaves it, `Node` leaves out alone
-/// an item that is kept, and `Tree` leaves out an item with all that lies below it, which is
-/// cancelled. An error stays, and the closure isn't asked.
+/// A walk whose items are separated by a closure over their entries. `None` keeps the item as it
+/// is, `Node` excludes only the item if it was kept, and `Tree` excludes it with everything below
+/// it, which is cancelled. The closure is never called for an error.
 #[derive(Drop)]
 pub struct FilterTreeBySubstituent<I, F> {
     input: I,
@@ -37,7 +37,7 @@ pub struct FilterTreeBySubstituent<I, F> {
 }
 
 impl<I, F> FilterTreeBySubstituent<I, F> {
-    /// Asks `f` of each entry of `input`.
+    /// Wraps `input`. `f` is called for each entry.
     pub fn new(input: I, f: F) -> Self
         ensures input { result.input ≡ input }
         ensures f { result.f ≡ f }
@@ -115,11 +115,11 @@ where
     }
 }
 
-/// A walk whose items can be filtered.
+/// A walk that can be filtered and mapped by closures.
 pub trait HierarchicalIterator: CancelWalk
     + Iterator<Item = <Self::Feed as Feed>::Filtrate>
     + SeparatingFilter {
-    /// Separates each item as `f` says of its entry.
+    /// Separates each item by what `f` returns for its entry, as `FilterTreeBySubstituent` says.
     final fn filter_tree_by_substituent<F>(self, f: F) -> FilterTreeBySubstituent<Self, F>
     where
         Self: Sized,
@@ -131,8 +131,8 @@ pub trait HierarchicalIterator: CancelWalk
         FilterTreeBySubstituent::new(self, f)
     }
 
-    /// Turns each item, kept or left out, into what `f` makes of it, by one call for each. `f` is
-    /// lent the walk for cancelling what lies below the item.
+    /// Maps each item, kept or excluded, by one call of `f`. Through its first argument `f` can
+    /// cancel what is below the item.
     final fn filter_map_tree<S, F>(self, f: F) -> FilterMapTree<Self, S, F>
     where
         Self: Sized,

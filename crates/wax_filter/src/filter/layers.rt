@@ -1,4 +1,4 @@
-//! Filters over a walk.
+//! Filters as iterators, and iterators as filters.
 
 ghost use Rattle.std.specs.Prelude.{◌≡◌, Option};
 ghost use Rattle.std.specs.Iterator.{MakesProgress, IsFinite};
@@ -8,7 +8,7 @@ use crate::filter::cancel::SeparatingFilter;
 use crate::filter::product::Product;
 use crate::filter::separation::{Feed, Separation};
 
-/// The next item that is kept; `None` at the end. What is left out before it is passed over.
+/// Returns the next item that is kept, or `None` at the end. Excluded items before it are skipped.
 pub fn filtrate<I>(filter: &mut I) -> Option<<I::Feed as Feed>::Filtrate>
 where
     I: SeparatingFilter,
@@ -27,7 +27,7 @@ where
     None
 }
 
-/// An iterator whose items are all kept.
+/// An iterator that excludes nothing, as the input of filters.
 pub trait SeparatingFilterInput: Iterator {
     type Feed: Feed<Filtrate = Self::Item>;
 }

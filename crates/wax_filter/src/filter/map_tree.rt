@@ -1,4 +1,4 @@
-//! Turns each item of a walk by a closure that may cancel what lies below it.
+//! Walks whose items are mapped by a closure, which may cancel what is below an item.
 
 ghost use Rattle.std.specs.Prelude.{◌≡◌};
 ghost use Rattle.std.specs.Iterator.{IsFinite};
@@ -10,7 +10,6 @@ use crate::filter::layers::filtrate;
 use crate::filter::separation::{Feed, Separation};
 use std::marker::PhantomData;
 
-// What the closure makes of the item, with the walk lent to it.
 fn made_of<G, S, I, F>(
     cancellation: &mut WalkCancellation<I>,
     f: &mut F,
@@ -31,9 +30,9 @@ where
     f(cancellation, item)
 }
 
-/// Turns each item, kept or left out, into what a closure makes of it. The closure is lent the
-/// walk, and may cancel what lies below the item; whoever asks for items shows that it does
-/// nothing else to the walk.
+/// A walk whose items, kept or excluded, are mapped by a closure. The closure borrows the walk and
+/// may cancel what is below the item. Callers of `feed` have to show that it does nothing else to
+/// the walk.
 #[derive(Drop)]
 pub struct FilterMapTree<I, S, F> {
     input: I,
@@ -42,7 +41,7 @@ pub struct FilterMapTree<I, S, F> {
 }
 
 impl<I, S, F> FilterMapTree<I, S, F> {
-    /// Turns each item of `input` by `f`.
+    /// Wraps `input`. `f` is called for each item.
     pub fn new(input: I, f: F) -> Self
         ensures input { result.input ≡ input }
         ensures f { result.f ≡ f }

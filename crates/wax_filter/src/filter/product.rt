@@ -1,4 +1,4 @@
-//! Items marked as kept or as left out.
+//! Items that are marked as kept or as excluded.
 
 ghost use Rattle.std.specs.Prelude.{◌≡◌, Option, Ok, Err, MatchResult};
 ghost use Rattle.std.specs.Option.{option_map};
@@ -10,18 +10,18 @@ use crate::filter::tree_residue::TreeResidue;
 use std::marker::PhantomData;
 
 mod kind {
-    /// Marks what is kept.
+    /// The mark of an item that is kept.
     #[derive(Drop)]
     pub enum FiltrateKind {}
 
-    /// Marks what is left out.
+    /// The mark of an item that is excluded.
     #[derive(Drop)]
     pub enum ResidueKind {}
 }
 
 pub use kind::{FiltrateKind, ResidueKind};
 
-/// An item with a mark, `FiltrateKind` or `ResidueKind`. The mark takes no room.
+/// An item with a mark, `FiltrateKind` or `ResidueKind`. The mark takes no space.
 #[derive(Drop)]
 #[derive_where(Clone, Copy, Debug, Eq, Hash, PartialEq; T)]
 pub struct Product<K, T> {
@@ -31,11 +31,11 @@ pub struct Product<K, T> {
 
 /// An item that is kept.
 pub type Filtrate<T> = Product<FiltrateKind, T>;
-/// An item that is left out.
+/// An item that is excluded.
 pub type Residue<T> = Product<ResidueKind, T>;
 
 impl<K, T> Product<K, T> {
-    /// The item with this mark.
+    /// Adds the mark to an item.
     pub fn new(inner: T) -> Self
         ensures { result.inner ≡ inner }
     {
@@ -45,7 +45,7 @@ impl<K, T> Product<K, T> {
         }
     }
 
-    /// The item.
+    /// Returns the item without its mark.
     pub fn into_inner(self) -> T
         ensures { result ≡ self.inner }
     {
@@ -53,7 +53,7 @@ impl<K, T> Product<K, T> {
         inner
     }
 
-    /// What `f` makes of the item, with the same mark.
+    /// Maps the item by `f`. The mark stays.
     pub fn map<U, F>(self, f: F) -> Product<K, U>
     where
         F: FnOnce(T) -> U,
@@ -64,7 +64,7 @@ impl<K, T> Product<K, T> {
         Product::new(mapped)
     }
 
-    /// The item.
+    /// Returns a reference to the item.
     pub fn get(&self) -> &T
         ensures { result.now ≡ self.now.inner }
     {
@@ -73,7 +73,7 @@ impl<K, T> Product<K, T> {
 }
 
 impl<K, T> Product<K, Option<T>> {
-    /// The item inside, if there is one, with the same mark.
+    /// Returns the item inside, with the mark, or `None` if there is none.
     pub fn transpose(self) -> Option<Product<K, T>>
         ensures { option_map (λ p. p.inner) result ≡ self.inner }
     {
@@ -85,7 +85,11 @@ impl<K, T> Product<K, Option<T>> {
 }
 
 impl<K, T, E> Product<K, Result<T, E>> {
-    /// The item or the error inside, each with the same mark.
+    /// Returns the item inside, with the mark.
+    ///
+    /// # Errors
+    ///
+    /// Returns the error inside, with the mark, if there is no item.
     pub fn transpose(self) -> Result<Product<K, T>, Product<K, E>>
         ensures { MatchResult result (λ p. self.inner ≡ Ok p.inner) (λ p. self.inner ≡ Err p.inner) }
     {
@@ -105,14 +109,14 @@ impl<K, T> AsRef<T> for Product<K, T> {
 }
 
 impl<T> Filtrate<T> {
-    /// The same item, left out.
+    /// Excludes the item.
     pub fn filter(self) -> Residue<T>
         ensures { result.inner ≡ self.inner }
     {
         Product::new(self.into_inner())
     }
 
-    /// What `f` makes of the item, left out.
+    /// Maps the item by `f` and excludes it.
     pub fn filter_map<R, F>(self, f: F) -> Residue<R>
     where
         F: FnOnce(T) -> R,
@@ -122,7 +126,7 @@ impl<T> Filtrate<T> {
         Product::new(f(self.into_inner()))
     }
 
-    /// The item, converted and left out alone.
+    /// Excludes only the item, converted into a residue.
     pub fn filter_node<R>(self) -> Residue<TreeResidue<R>>
     where
         R: From<T>,
@@ -131,7 +135,7 @@ impl<T> Filtrate<T> {
         Product::new(TreeResidue::Node(R::from(self.into_inner())))
     }
 
-    /// What `f` makes of the item, left out alone.
+    /// Maps the item by `f` and excludes only it.
     pub fn filter_map_node<R, F>(self, f: F) -> Residue<TreeResidue<R>>
     where
         F: FnOnce(T) -> R,
@@ -141,7 +145,7 @@ impl<T> Filtrate<T> {
         Product::new(TreeResidue::Node(f(self.into_inner())))
     }
 
-    /// The item, converted and left out with all that lies below it, which is cancelled.
+    /// Excludes the item, converted into a residue, with everything below it, which is cancelled.
     pub fn filter_tree<I, R>(
         self,
         cancellation: &mut WalkCancellation<I>,
@@ -157,7 +161,7 @@ impl<T> Filtrate<T> {
         Product::new(TreeResidue::Tree(R::from(self.into_inner())))
     }
 
-    /// What `f` makes of the item, left out with all that lies below it, which is cancelled.
+    /// Maps the item by `f` and excludes it with everything below it, which is cancelled.
     pub fn filter_map_tree<I, R, F>(
         self,
         cancellation: &mut WalkCancellation<I>,

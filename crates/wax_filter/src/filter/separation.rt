@@ -1,4 +1,4 @@
-//! Items that are kept or left out.
+//! Items that are kept or excluded.
 
 ghost use Rattle.std.specs.Prelude.{◌≡◌, Option};
 ghost use Rattle.std.specs.Option.{option_map};
@@ -12,7 +12,7 @@ use crate::filter::cancel::{CancelWalk, WalkCancellation};
 use crate::filter::product::{Filtrate, Product, Residue};
 use crate::filter::tree_residue::TreeResidue;
 
-/// What a filter gives: the type of what is kept, and of what is left out.
+/// The types of a filter's items: of those that are kept, and of those that are excluded.
 pub trait Feed {
     type Filtrate;
 
@@ -25,7 +25,7 @@ impl<T, R> Feed for (T, R) {
     type Residue = R;
 }
 
-/// An item that is kept or left out.
+/// An item that is kept or excluded.
 #[derive(Drop)]
 pub enum Separation<S>
 where
@@ -33,26 +33,26 @@ where
 {
     /// The item is kept.
     Filtrate(Filtrate<S::Filtrate>),
-    /// The item is left out.
+    /// The item is excluded.
     Residue(Residue<S::Residue>),
 }
 
-/// A feed that has the same kind of entry in what is kept and in what is left out.
+/// A feed in which kept and excluded items hold the same type of entry.
 pub trait Isomeric: Feed {
     ghost use Rattle.wax_filter.specs.declared.filter.separation.Separation.{Separation};
 
     type Substituent;
 
-    /// The entry of an item; none of an error.
+    /// The entry of an item; none for an error.
     ghost shown: { Separation Self Self.Filtrate Self.Residue → Option Self.Substituent };
 
-    /// The entry of an item; none of an error.
+    /// Returns the entry of an item, or `None` for an error.
     fn entry(separation: &Separation<Self>) -> Option<&Self::Substituent>
     where
         Self: Sized,
         ensures { option_map (λ e. e.now) result ≡ shown separation.now };
 
-    /// What `f` answers for the entry of the item; `None` of an error.
+    /// Calls `f` for the entry of an item. Returns `None` for an error, without a call.
     final fn substituent<R, F>(separation: &Separation<Self>, f: F) -> Option<R>
     where
         Self: Sized,
@@ -71,7 +71,7 @@ impl<S> Separation<S>
 where
     S: Feed,
 {
-    /// Leaves out what `f` makes of an item that is kept; any other item stays.
+    /// Maps an item that is kept by `f` and excludes it. Any other item stays.
     pub fn filter_map<F>(self, f: F) -> Self
     where
         F: FnOnce(S::Filtrate) -> S::Residue + Drop,
@@ -86,7 +86,7 @@ where
         }
     }
 
-    /// Maps an item that is kept by `f`; any other item stays.
+    /// Maps an item that is kept by `f`. Any other item stays.
     pub fn map_filtrate<U, F>(self, f: F) -> Separation<(U, S::Residue)>
     where
         F: FnOnce(S::Filtrate) -> U + Drop,
@@ -99,7 +99,7 @@ where
         }
     }
 
-    /// Maps an item that is left out by `f`; any other item stays.
+    /// Maps an item that is excluded by `f`. Any other item stays.
     pub fn map_residue<U, F>(self, f: F) -> Separation<(S::Filtrate, U)>
     where
         F: FnOnce(S::Residue) -> U + Drop,
@@ -112,7 +112,7 @@ where
         }
     }
 
-    /// The item, if it is kept.
+    /// Returns the item if it is kept.
     pub fn filtrate(self) -> Option<Filtrate<S::Filtrate>>
     where
         S::Residue: Drop,
@@ -124,7 +124,7 @@ where
         }
     }
 
-    /// A reference to the item, if it is kept.
+    /// Returns a reference to the item if it is kept.
     pub fn as_filtrate(&self) -> Option<&Filtrate<S::Filtrate>>
         ensures { option_map (λ p. p.now) result ≡ filtrate_of self.now }
     {
@@ -134,7 +134,7 @@ where
         }
     }
 
-    /// A reference to the item, kept or left out as it is.
+    /// Borrows the item, kept or excluded as it is.
     pub fn as_ref(&self) -> Separation<(&S::Filtrate, &S::Residue)>
         ensures { RefersTo self.now result }
     {
@@ -144,7 +144,7 @@ where
         }
     }
 
-    /// What `f` answers for the entry of the item; `None` of an error.
+    /// Calls `f` for the entry of the item. Returns `None` for an error, without a call.
     pub fn substituent<R, F>(&self, f: F) -> Option<R>
     where
         S: Isomeric,
@@ -160,7 +160,7 @@ impl<T, R, S> Separation<S>
 where
     S: Feed<Filtrate = T, Residue = TreeResidue<R>>,
 {
-    /// Leaves out alone what `f` makes of an item that is kept; any other item stays.
+    /// Maps an item that is kept by `f` and excludes only it. Any other item stays.
     pub fn filter_map_node<F>(self, f: F) -> Self
     where
         F: FnOnce(T) -> R + Drop,
@@ -173,9 +173,9 @@ where
         }
     }
 
-    /// Leaves out, with all that lies below it, what `f` makes of an item that is kept, and an
-    /// item that was left out alone, and cancels what lies below. An item that was left out with
-    /// all that lies below it stays, and nothing is cancelled.
+    /// Excludes the item with everything below it, which is cancelled. An item that is kept is
+    /// mapped by `f` first. An item that was excluded with everything below it stays, and nothing
+    /// is cancelled.
     pub fn filter_map_tree<I, F>(self, cancellation: &mut WalkCancellation<I>, f: F) -> Self
     where
         I: CancelWalk,
@@ -201,8 +201,9 @@ where
         }
     }
 
-    /// Separates the item as `f` says of its entry: `None` leaves it, `Node` leaves out alone an
-    /// item that is kept, and `Tree` is `filter_map_tree`. An error stays.
+    /// Separates the item by what `f` returns for its entry: `None` keeps the item as it is, `Node`
+    /// excludes only the item if it was kept, and `Tree` does what `filter_map_tree` does. An error
+    /// stays.
     pub fn filter_tree_by_substituent<I, F>(
         self,
         cancellation: &mut WalkCancellation<I>,
@@ -226,7 +227,6 @@ where
     }
 }
 
-// Leaves out alone an item that is kept.
 fn without_node<T, R, S>(separation: Separation<S>) -> Separation<S>
 where
     S: Feed<Filtrate = T, Residue = TreeResidue<R>>,
@@ -239,7 +239,7 @@ where
     }
 }
 
-// Leaves out an item with all that lies below it.
+// Excludes an item with everything below it, and cancels that unless it was cancelled before.
 fn without_tree<T, R, S, I>(
     separation: Separation<S>,
     cancellation: &mut WalkCancellation<I>,
@@ -266,7 +266,7 @@ where
     }
 }
 
-// Separates the item as was said.
+// Applies what a closure returned for the item's entry.
 pub(crate) fn separated_by<T, R, S, I>(
     separation: Separation<S>,
     cancellation: &mut WalkCancellation<I>,
@@ -288,7 +288,8 @@ where
 }
 
 impl<T, R> Separation<(Option<T>, R)> {
-    /// The item inside one that is kept, if there is one; any other item stays.
+    /// Moves the `Option` of a kept item out of the separation: returns `None` if it is `None`. Any
+    /// other item stays.
     pub fn transpose_filtrate(self) -> Option<Separation<(T, R)>>
         ensures { Transposes self result }
     {
@@ -303,7 +304,11 @@ impl<T, R> Separation<(Option<T>, R)> {
 }
 
 impl<T, E, R> Separation<(Result<T, E>, R)> {
-    /// The item inside one that is kept, or the error inside, marked as kept; any other item stays.
+    /// Moves the `Result` of a kept item out of the separation. Any other item stays.
+    ///
+    /// # Errors
+    ///
+    /// Returns the error inside the item, marked as kept, if there is one.
     pub fn transpose_filtrate(self) -> Result<Separation<(T, R)>, Filtrate<E>>
         ensures { TransposesOk self result }
     {

@@ -1,19 +1,19 @@
-//! How much is left out with an item.
+//! How much is excluded with an item.
 
 ghost use Rattle.std.specs.Prelude.{◌≡◌};
 ghost use Rattle.wax_filter.specs.Leaving.{MapsResidue, shows_residue, residue_item};
 
-/// An item that is left out alone, or with all that lies below it.
+/// An item that is excluded by itself, or with everything below it.
 #[derive(Clone, Copy, Debug, Drop, Eq, Hash, PartialEq)]
 pub enum TreeResidue<T> {
-    /// The item alone.
+    /// Only the item.
     Node(T),
-    /// The item and all that lies below it.
+    /// The item and everything below it.
     Tree(T),
 }
 
 impl<T> TreeResidue<T> {
-    /// What `f` makes of the item, in the same case.
+    /// Maps the item by `f`. The variant stays.
     pub fn map<U, F>(self, f: F) -> TreeResidue<U>
     where
         F: FnOnce(T) -> U,
@@ -26,7 +26,7 @@ impl<T> TreeResidue<T> {
         }
     }
 
-    /// A reference to the item, in the same case.
+    /// Borrows the item. The variant stays.
     pub fn as_ref(&self) -> TreeResidue<&T>
         ensures { shows_residue result ≡ self.now }
     {
@@ -36,7 +36,7 @@ impl<T> TreeResidue<T> {
         }
     }
 
-    /// The item.
+    /// Returns a reference to the item of either variant.
     pub fn get(&self) -> &T
         ensures { result.now ≡ residue_item self.now }
     {

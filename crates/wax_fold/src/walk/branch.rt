@@ -1,4 +1,4 @@
-//! What a branch is, apart from its tokens.
+//! Kinds of branches without their tokens.
 ghost use Rattle.std.specs.Prelude.{◌≡◌, ◌∷◌, [], IfOk};
 ghost use Rattle.std.specs.Option.{option_map};
 ghost use Rattle.wax_token.specs.View.{branch_tree};
@@ -8,18 +8,22 @@ use std::alloc::{AllocError, Global};
 use wax_query::diagnostics::NoMemory;
 use wax_token::token::{Alternation, BranchKind, Concatenation, Repetition, Token};
 
-/// What a branch is, without its tokens.
+/// The kind of a branch, without its tokens.
 #[derive(Clone, Copy, Debug)]
 pub enum BranchFold {
     Alternation,
     Concatenation,
-    /// From so many to so many copies, where `None` is without limit.
+    /// The least and the greatest number of copies. `None` is no limit.
     Repetition(usize, Option<usize>),
 }
 
 impl BranchFold {
-    /// The branch with these tokens: none where it is a repetition and there is no token, and of a
-    /// repetition with the first token alone. Takes memory for that token.
+    /// Builds the branch of this kind with these tokens. A repetition takes only the first of them,
+    /// and is `None` if there is none. Allocates only for a repetition.
+    ///
+    /// # Errors
+    ///
+    /// Returns `NoMemory` if allocation fails.
     pub fn fold<'t, A: Drop>(
         self,
         alloc: Global,
@@ -57,7 +61,7 @@ fn repetition<'t, A: Drop>(
     }
 }
 
-/// What a branch is, and its tokens.
+/// Splits a branch into its kind and its tokens.
 pub(super) fn decompose<'t, A: Drop>(
     alloc: Global,
     branch: BranchKind<'t, A>,

@@ -1,18 +1,20 @@
-//! Where a token stands in a tree.
+//! Positions of tokens in a tree.
 ghost use Rattle.std.specs.Prelude.{◌≡◌};
 ghost use Rattle.wax_fold.specs.Positions.{conjunction, disjunction};
 
 use wax_token::token::Token;
 
-/// How many branches a token is in: those that go on with their tokens one after another, which are
-/// concatenations and repetitions, and those that choose one. Each is at most the greatest usize.
+/// How deep a token is in a tree: the number of concatenations and repetitions around it
+/// (`conjunctive`), and that of alternations (`disjunctive`). Each stays at `usize::MAX` once it
+/// reaches it.
 #[derive(Clone, Copy, Debug, Default, Eq, Hash, PartialEq)]
 pub struct Depth {
     pub conjunctive: usize,
     pub disjunctive: usize,
 }
 
-/// Where a token stands: how deep, and in which branch of the alternation around it, counted from 0.
+/// The position of a token in a tree: its depth, and the index of its branch in the innermost
+/// alternation around it, from 0 on. Without an alternation around it, the index is 0.
 #[derive(Clone, Copy, Debug, Default, Eq, Hash, PartialEq)]
 pub struct Position {
     pub depth: Depth,
@@ -20,7 +22,7 @@ pub struct Position {
 }
 
 impl Position {
-    /// Of a token of a concatenation or a repetition at this position.
+    /// Returns the position of the tokens in a concatenation or a repetition at this position.
     pub(super) fn conjunction(self) -> Self
         ensures { result ≡ conjunction self }
     {
@@ -33,7 +35,7 @@ impl Position {
         }
     }
 
-    /// Of a branch of an alternation at this position.
+    /// Returns the position of a branch of an alternation at this position.
     pub(super) fn disjunction(self, branch: usize) -> Self
         ensures { result ≡ disjunction self branch }
     {
@@ -47,7 +49,7 @@ impl Position {
     }
 }
 
-/// A token, and where it stands.
+/// A token with its position.
 #[derive(Clone, Copy, Debug)]
 pub struct WalkEntry<T> {
     pub position: Position,
@@ -55,14 +57,14 @@ pub struct WalkEntry<T> {
 }
 
 impl<T> WalkEntry<T> {
-    /// The token, without its position.
+    /// Returns the token, and drops its position.
     pub fn into_token(self) -> T
         ensures { result ≡ self.token }
     {
         self.token
     }
 
-    /// Where the token stands.
+    /// Returns the token's position.
     pub fn position(&self) -> Position
         ensures { result ≡ self.now.position }
     {
@@ -70,5 +72,5 @@ impl<T> WalkEntry<T> {
     }
 }
 
-/// A token of a tree, and where it stands.
+/// A token of a tree with its position.
 pub type TokenEntry<'i, 't, A> = WalkEntry<&'i Token<'t, A>>;

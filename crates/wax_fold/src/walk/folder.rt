@@ -1,4 +1,4 @@
-//! What a fold asks of each token.
+//! The trait of folds.
 ghost use Rattle.std.specs.Prelude.{◌≡◌, IfOk};
 ghost use Rattle.wax_token.specs.View.{leaf_of};
 ghost use Rattle.wax_fold.specs.Branches.{branch_of};
@@ -9,25 +9,30 @@ use std::alloc::Global;
 use wax_query::diagnostics::NoMemory;
 use wax_token::token::{BranchKind, LeafKind};
 
-/// What a fold asks of each token, from the leaves up.
+/// A computation over a token tree, from the leaves up. Each leaf has a value, its *term*, and the
+/// term of a branch is computed from those of its tokens.
 ///
-/// The law: what is answered depends on the folder and the arguments alone, and no call changes what
-/// the folder answers. An `impl` states it for its own `fold` in two clauses, as the checker cannot hand
-/// on those of a method that takes a list by value.
+/// Law: the result of a call depends only on the folder and the arguments, and no call changes the
+/// results of later ones. An `impl` states this for its own `fold` in two clauses, since the
+/// checker can't pass on those of a method that takes a list by value.
 pub trait Fold<'t, A>: Drop {
-    /// Which tokens of a branch are gone through.
+    /// Which tokens of a branch the fold visits, and in which order.
     type Sequencer: Sequencer;
 
-    /// What is known of a token.
+    /// The value of a token.
     type Term: Drop;
 
-    /// What it answers.
+    /// The results of all calls, as functions of the arguments.
     ghost answers: { Self → Folding A Self.Term };
 
-    /// The sequencer of the fold.
+    /// Returns the sequencer of the fold.
     fn sequencer() -> Self::Sequencer;
 
-    /// The term of a branch that stands after those of its tokens, if there is one.
+    /// Returns one more term for a branch, which follows those of its tokens, or `None`.
+    ///
+    /// # Errors
+    ///
+    /// Returns `NoMemory` if allocation fails.
     fn initialize(
         &mut self,
         alloc: Global,
@@ -36,7 +41,11 @@ pub trait Fold<'t, A>: Drop {
         ensures answer { IfOk result (λ r. r ≡ (answers self.old).initialize (branch_of branch.now)) }
         ensures same { answers self.new ≡ answers self.old };
 
-    /// One term for those of a branch's tokens, if there is one.
+    /// Combines the terms of a branch's tokens into one, or returns `None` if the branch has none.
+    ///
+    /// # Errors
+    ///
+    /// Returns `NoMemory` if allocation fails.
     fn fold(
         &mut self,
         alloc: Global,
@@ -46,7 +55,11 @@ pub trait Fold<'t, A>: Drop {
         ensures answer { IfOk result (λ r. r ≡ (answers self.old).fold (branch_of branch.now) terms.items) }
         ensures same { answers self.new ≡ answers self.old };
 
-    /// The term of a branch, for the one that `fold` gave.
+    /// Converts what `fold` returned into the term of the branch.
+    ///
+    /// # Errors
+    ///
+    /// Returns `NoMemory` if allocation fails.
     fn finalize(
         &mut self,
         alloc: Global,
@@ -56,7 +69,11 @@ pub trait Fold<'t, A>: Drop {
         ensures answer { IfOk result (λ r. r ≡ (answers self.old).finalize (branch_of branch.now) term) }
         ensures same { answers self.new ≡ answers self.old };
 
-    /// The term of a leaf.
+    /// Returns the term of a leaf.
+    ///
+    /// # Errors
+    ///
+    /// Returns `NoMemory` if allocation fails.
     fn term(&mut self, alloc: Global, leaf: &LeafKind<'t>) -> Result<Self::Term, NoMemory>
         ensures answer { IfOk result (λ r. r ≡ (answers self.old).term (leaf_of leaf.now)) }
         ensures same { answers self.new ≡ answers self.old };

@@ -1,4 +1,4 @@
-//! The fold of a token tree.
+//! Folding a token tree. A list of open branches replaces recursion.
 ghost use Rattle.std.specs.Prelude.{◌≡◌, ◌++◌, ◌∷◌, [], IfOk, OnOk, Some, None, Option};
 ghost use Rattle.wax_fold.specs.Branches.{branch_of, picked, tokens_in};
 ghost use Rattle.wax_fold.specs.Folded.{folded};
@@ -11,7 +11,8 @@ use std::alloc::Global;
 use wax_query::diagnostics::NoMemory;
 use wax_token::token::{BranchKind, Token, Topology};
 
-/// A branch, the tokens of it that were chosen, how many of these were gone through, and their terms.
+/// A branch that is being folded: its chosen tokens, how many of them were visited, and their
+/// terms.
 #[derive(Drop)]
 struct OpenBranch<'i, 't, A, T> {
     branch: &'i BranchKind<'t, A>,
@@ -20,13 +21,18 @@ struct OpenBranch<'i, 't, A, T> {
     terms: Vec<T>,
 }
 
-/// The fold of a token tree: the term of its root, if it has one. A leaf has the folder's term. A
-/// branch has `finalize` of `fold` over the terms of the tokens that the sequencer chooses, in that
-/// order, those without a term left out and the term of `initialize` last; where `fold` gives none,
-/// it has none.
+/// Folds a token tree, from the leaves up, and returns the term of its root.
 ///
-/// Takes memory for the terms of a branch and of those around it. Refused with 10 where memory is, by
-/// the folder too.
+/// The term of a leaf is that of `Fold::term`. For a branch, the terms of the tokens that the
+/// sequencer chooses are listed in its order, without tokens that have no term, and what
+/// `Fold::initialize` returns comes last. `Fold::fold` combines this list, and `Fold::finalize`
+/// converts the outcome. If `Fold::fold` returns `None`, the branch has no term.
+///
+/// Allocates for the terms of a branch and of those around it. Recursion isn't used.
+///
+/// # Errors
+///
+/// Returns `NoMemory` if allocation fails, here or in the folder.
 #[tactic(auto, using(crate::proofs::Folds::folded_branch))]
 pub fn fold<'t, A, F: Fold<'t, A>>(
     alloc: Global,
@@ -42,7 +48,7 @@ pub fn fold<'t, A, F: Fold<'t, A>>(
     }
 }
 
-/// The term of a branch.
+/// Returns the term of a branch.
 fn fold_branch<'t, A, F: Fold<'t, A>>(
     alloc: Global,
     branch: &BranchKind<'t, A>,
@@ -76,7 +82,7 @@ fn fold_branch<'t, A, F: Fold<'t, A>>(
     }
 }
 
-/// The branch, of whose tokens none was gone through yet.
+/// Begins a branch: chooses its tokens, of which none was visited yet.
 fn open<'i, 't, A, T, S: Sequencer>(
     alloc: Global,
     branch: &'i BranchKind<'t, A>,
@@ -97,7 +103,7 @@ fn open<'i, 't, A, T, S: Sequencer>(
     })
 }
 
-/// The next of the branch's tokens.
+/// Returns the next of the branch's tokens.
 #[tactic(auto, using(crate::proofs::Picking::next_given))]
 fn next_child<'i, 't, A, T>(of: &mut OpenBranch<'i, 't, A, T>) -> Option<&'i Token<'t, A>>
     ensures { NextChild (open_branch of.old) result (open_branch of.new) }
@@ -107,7 +113,7 @@ fn next_child<'i, 't, A, T>(of: &mut OpenBranch<'i, 't, A, T>) -> Option<&'i Tok
     Some(*child.as_ref())
 }
 
-/// The branch with the term of one of its tokens, if that has one.
+/// Appends the term of one of the branch's tokens, if that has one.
 fn with_term<'i, 't, A, T: Drop>(
     mut of: OpenBranch<'i, 't, A, T>,
     term: Option<T>,
@@ -120,7 +126,7 @@ fn with_term<'i, 't, A, T: Drop>(
     Ok(of)
 }
 
-/// The term of a branch all of whose tokens were gone through.
+/// Returns the term of a branch whose tokens were all visited.
 fn close<'t, A, F: Fold<'t, A>>(
     alloc: Global,
     of: OpenBranch<'_, 't, A, F::Term>,

@@ -1,4 +1,4 @@
-//! Walks through the tokens of a tree, breadth first.
+//! Walks: iterators over the tokens of a tree, breadth first.
 ghost use Rattle.std.specs.Prelude.{◌≡◌, ◌++◌, ◌∷◌, ◌<◌, [], ℕ, MatchResult, OnOk, Option, Some, None, map};
 ghost use Rattle.std.specs.Iterator.{at_most};
 ghost use Rattle.std.specs.List.Sorted.{IsPermutation};
@@ -19,9 +19,9 @@ use std::collections::VecDeque;
 use wax_query::diagnostics::NoMemory;
 use wax_token::token::{BranchKind, Token, Topology};
 
-/// A walk through the tokens of a tree, breadth first: each token before those that it holds, and all
-/// tokens of a level before the next level. Which tokens of a branch are gone through, the sequencer
-/// chooses. Where memory is refused, the walk gives one error and has ended.
+/// An iterator over the tokens of a tree, breadth first: it yields all tokens of a level before
+/// those of the next level. The sequencer chooses which tokens of a branch it visits. If allocation
+/// fails, it yields one `NoMemory` and then ends.
 #[derive(Drop)]
 pub struct Walk<'i, 't, A, S> {
     alloc: Global,
@@ -32,7 +32,7 @@ pub struct Walk<'i, 't, A, S> {
 }
 
 impl<'i, 't, A, S: Sequencer> Walk<'i, 't, A, S> {
-    /// Leaves out the tokens below the current one, which is the one given last, and no others.
+    /// Skips the tokens inside the one that was yielded last, and no others.
     pub fn cancel_walk_tree(&mut self)
         ensures rest { walking self.new ≡ cancelled (walking self.old) }
         ensures left_out { IsPermutation (to_come (S.chosen A) (walking self.old))
@@ -58,7 +58,8 @@ impl<'i, 't, A, S: Sequencer> Iterator for Walk<'i, 't, A, S> {
 }
 
 impl<'i, 't, A, S: Sequencer> Walk<'i, 't, A, S> {
-    /// Puts the tokens below the current one at the end of those that are to come.
+    /// Appends the tokens inside the current one to the queue. This happens only when the next
+    /// token is requested, so that a caller can cancel it before.
     fn go_below(&mut self) -> Result<(), NoMemory>
         ensures { MatchResult result (λ _. walking self.new ≡ gone_below (S.chosen A) (walking self.old))
             (λ _. StepsToEnd (walking self.old) (walking self.new)) }
@@ -78,7 +79,7 @@ impl<'i, 't, A, S: Sequencer> Walk<'i, 't, A, S> {
 }
 
 impl<'i, 't, A, S> Walk<'i, 't, A, S> {
-    /// The first of those that are to come, which is the current one from then on.
+    /// Takes the next token, which becomes the current one.
     fn give(&mut self) -> Option<TokenEntry<'i, 't, A>>
         ensures { GivesEntry (walking self.old) result (walking self.new) }
     {
@@ -100,7 +101,7 @@ impl<'i, 't, A, S> Walk<'i, 't, A, S> {
     }
 }
 
-/// Puts the tokens that are chosen of those that a token holds at the end.
+/// Appends the tokens in a token that the sequencer chooses.
 #[tactic(auto, using(crate::proofs::Levels::children_of_branch))]
 fn push_children<'i, 't, A, S: Sequencer>(
     alloc: Global,
@@ -121,7 +122,7 @@ fn push_children<'i, 't, A, S: Sequencer>(
     }
 }
 
-/// Puts tokens of a branch that stands at the position at the end.
+/// Appends tokens of a branch at the position.
 fn push_chosen<'i, 't, A>(
     queue: &mut VecDeque<TokenEntry<'i, 't, A>>,
     branch: &BranchKind<'t, A>,
@@ -138,7 +139,6 @@ fn push_chosen<'i, 't, A>(
     }
 }
 
-/// Puts branches of an alternation at the end.
 fn push_alternatives<'i, 't, A>(
     queue: &mut VecDeque<TokenEntry<'i, 't, A>>,
     position: Position,
@@ -156,7 +156,6 @@ fn push_alternatives<'i, 't, A>(
     Ok(())
 }
 
-/// Puts tokens of a concatenation or a repetition at the end.
 fn push_conjuncts<'i, 't, A>(
     queue: &mut VecDeque<TokenEntry<'i, 't, A>>,
     position: Position,
@@ -174,8 +173,8 @@ fn push_conjuncts<'i, 't, A>(
     Ok(())
 }
 
-/// The tokens that the sequencer chooses, breadth first, the tree's own token before all others.
-/// Takes no memory before `next` is called.
+/// Walks through the tokens that a sequencer chooses, breadth first. The root of the tree comes
+/// first. Doesn't allocate before the second call of `next`.
 #[tactic(auto, using(crate::proofs::Levels::no_deeper))]
 pub fn with_sequence<'i, 't, A, S: Sequencer>(
     alloc: Global,
@@ -184,7 +183,7 @@ pub fn with_sequence<'i, 't, A, S: Sequencer>(
 ) -> Walk<'i, 't, A, S>
     ensures all { to_come (S.chosen A) (walking result) ≡ tree_order (S.chosen A) tree.now }
     ensures start { walking result ≡ walk_begun tree.now }
-    // no level is left out
+    // no level is missing
     ensures deepest { (n : ℕ) → tree_size tree.now < n
         → level (S.chosen A) n (root_entry tree.now ∷ []) ≡ [] }
 {
@@ -206,7 +205,7 @@ pub fn with_sequence<'i, 't, A, S: Sequencer>(
     }
 }
 
-/// All tokens of the tree, each once, breadth first.
+/// Walks through all tokens of the tree, each once, breadth first.
 #[tactic(auto, using(crate::proofs::Whole::each_once))]
 pub fn forward<'i, 't, A>(alloc: Global, tree: &'i Token<'t, A>) -> Walk<'i, 't, A, Forward>
     ensures all { to_come forward_chosen (walking result) ≡ tree_order forward_chosen tree.now }
@@ -217,9 +216,9 @@ pub fn forward<'i, 't, A>(alloc: Global, tree: &'i Token<'t, A>) -> Walk<'i, 't,
     with_sequence(alloc, tree, Forward)
 }
 
-/// The tokens with which texts of the tree begin, breadth first: the tree's own token, and of each
-/// token that is given the first of a concatenation, the branches of an alternation, and the body of
-/// a repetition.
+/// Walks through the tokens with which matches can begin, breadth first: the root of the tree, and
+/// of each token that is yielded the first token of a concatenation, all branches of an
+/// alternation, or the body of a repetition.
 pub fn starting<'i, 't, A>(alloc: Global, tree: &'i Token<'t, A>) -> Walk<'i, 't, A, Starting>
     ensures all { to_come starting_chosen (walking result) ≡ tree_order starting_chosen tree.now }
     ensures start { walking result ≡ walk_begun tree.now }
@@ -227,7 +226,9 @@ pub fn starting<'i, 't, A>(alloc: Global, tree: &'i Token<'t, A>) -> Walk<'i, 't
     with_sequence(alloc, tree, Starting)
 }
 
-/// The same of the tokens with which texts end: the last of a concatenation.
+/// Walks through the tokens with which matches can end, breadth first: the root of the tree, and of
+/// each token that is yielded the last token of a concatenation, all branches of an alternation, or
+/// the body of a repetition.
 pub fn ending<'i, 't, A>(alloc: Global, tree: &'i Token<'t, A>) -> Walk<'i, 't, A, Ending>
     ensures all { to_come ending_chosen (walking result) ≡ tree_order ending_chosen tree.now }
     ensures start { walking result ≡ walk_begun tree.now }

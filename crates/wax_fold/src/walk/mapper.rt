@@ -1,4 +1,4 @@
-//! What is asked of each token where a tree is built anew.
+//! The trait of maps from trees to trees.
 ghost use Rattle.std.specs.Prelude.{◌≡◌, IfOk};
 ghost use Rattle.wax_token.specs.View.{leaf_of};
 ghost use Rattle.wax_fold.specs.Mapped.{Mapping};
@@ -8,19 +8,24 @@ use std::alloc::Global;
 use wax_query::diagnostics::NoMemory;
 use wax_token::token::LeafKind;
 
-/// What is asked of each token where a tree is built anew, from the leaves up.
+/// A map from a token tree to a new one, from the leaves up.
 ///
-/// The law: what is answered depends on the folder and the arguments alone, and no call changes what
-/// the folder answers. An `impl` states it for its own `fold` in two clauses, as the checker cannot hand
-/// on those of a method that takes a list by value.
+/// Law: the result of a call depends only on the folder and the arguments, and no call changes the
+/// results of later ones. An `impl` states this for its own `fold` in two clauses, since the
+/// checker can't pass on those of a method that takes a list by value.
 pub trait FoldMap<'t, A>: Drop {
-    /// A new token.
+    /// The type of new tokens.
     type Token: Drop;
 
-    /// What it answers.
+    /// The results of all calls, as functions of the arguments.
     ghost answers: { Self → Mapping A Self.Token };
 
-    /// The new token of a branch with these new tokens, if there is one.
+    /// Builds the new token of a branch from the new tokens in it, or returns `None` to remove the
+    /// branch.
+    ///
+    /// # Errors
+    ///
+    /// Returns `NoMemory` if allocation fails.
     fn fold(
         &mut self,
         alloc: Global,
@@ -31,7 +36,11 @@ pub trait FoldMap<'t, A>: Drop {
         ensures answer { IfOk result (λ r. r ≡ (answers self.old).fold annotation branch tokens.items) }
         ensures same { answers self.new ≡ answers self.old };
 
-    /// The new token of a leaf.
+    /// Builds the new token of a leaf.
+    ///
+    /// # Errors
+    ///
+    /// Returns `NoMemory` if allocation fails.
     fn map(
         &mut self,
         alloc: Global,

@@ -1,4 +1,4 @@
-//! Token trees that are built anew.
+//! Mapping a token tree to a new one. A list of open branches replaces recursion.
 ghost use Rattle.std.specs.Prelude.{◌≡◌, ◌++◌, ◌∷◌, [], IfOk, OnOk, Option, Some, None};
 ghost use Rattle.wax_token.specs.View.{branch_tree};
 ghost use Rattle.wax_fold.specs.Branches.{branch_of, tokens_in};
@@ -11,8 +11,8 @@ use std::alloc::Global;
 use wax_query::diagnostics::NoMemory;
 use wax_token::token::{BranchKind, Token, Topology};
 
-/// A branch that is taken apart: what it is, its tokens that are still to come, the last one first,
-/// and the new tokens of the others.
+/// A branch that is being mapped: its kind, its tokens that are still to be mapped, the last one
+/// first, and the new tokens of the others.
 #[derive(Drop)]
 struct OpenToken<'t, A, X> {
     annotation: A,
@@ -21,12 +21,17 @@ struct OpenToken<'t, A, X> {
     done: Vec<X>,
 }
 
-/// The tree built anew from the leaves up: a leaf is what `map` answers, and a branch what `fold`
-/// answers for its new tokens, in order, those that are none left out. None where `fold` answers none
-/// for the root.
+/// Maps a token tree to a new one, from the leaves up, and returns its root.
 ///
-/// Takes memory for the new tree. Refused with 10 where memory is, by the folder too; the token is then
-/// gone.
+/// A leaf becomes what `FoldMap::map` returns, and a branch what `FoldMap::fold` returns for the
+/// new tokens in it, in order, without those that were removed. Returns `None` if the root is
+/// removed.
+///
+/// Allocates for the new tree. Recursion isn't used.
+///
+/// # Errors
+///
+/// Returns `NoMemory` if allocation fails, here or in the folder. The token is then dropped.
 #[tactic(auto, using(crate::proofs::Maps::mapped_parts))]
 pub fn fold_map<'t, A: Drop, F: FoldMap<'t, A>>(
     alloc: Global,
@@ -43,7 +48,7 @@ pub fn fold_map<'t, A: Drop, F: FoldMap<'t, A>>(
     }
 }
 
-/// The new token of a branch.
+/// Returns the new token of a branch.
 fn map_branch<'t, A: Drop, F: FoldMap<'t, A>>(
     alloc: Global,
     annotation: A,
@@ -82,7 +87,7 @@ fn map_branch<'t, A: Drop, F: FoldMap<'t, A>>(
     }
 }
 
-/// The branch, of whose tokens none was gone through yet.
+/// Begins a branch, of whose tokens none was mapped yet.
 fn open<'t, A: Drop, X>(
     alloc: Global,
     annotation: A,
@@ -105,7 +110,7 @@ fn open<'t, A: Drop, X>(
     })
 }
 
-/// The next of the branch's tokens.
+/// Returns the next of the branch's tokens.
 #[tactic(auto, using(crate::proofs::Picking::last_first))]
 fn next_token<'t, A: Drop, X: Drop>(of: &mut OpenToken<'t, A, X>) -> Option<Token<'t, A>>
     ensures { NextToken (open_token of.old) result (open_token of.new) }
@@ -113,7 +118,7 @@ fn next_token<'t, A: Drop, X: Drop>(of: &mut OpenToken<'t, A, X>) -> Option<Toke
     of.rest.pop()
 }
 
-/// The branch with the new token of one of its tokens, if that is one.
+/// Appends the new token of one of the branch's tokens, unless that was removed.
 fn with_token<'t, A: Drop, X: Drop>(
     mut of: OpenToken<'t, A, X>,
     token: Option<X>,
@@ -126,7 +131,7 @@ fn with_token<'t, A: Drop, X: Drop>(
     Ok(of)
 }
 
-/// The new token of a branch all of whose tokens were gone through.
+/// Returns the new token of a branch whose tokens were all mapped.
 fn close<'t, A: Drop, F: FoldMap<'t, A>>(
     alloc: Global,
     of: OpenToken<'t, A, F::Token>,

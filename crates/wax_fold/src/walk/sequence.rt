@@ -1,4 +1,4 @@
-//! Which of a branch's tokens are gone through, and in which order.
+//! Which tokens of a branch are visited, and in which order.
 ghost use Rattle.std.specs.Prelude.{◌≡◌, ◌∷◌, [], ℕ, List, IfOk, map};
 ghost use Rattle.std.specs.Option.{option_map};
 ghost use Rattle.wax_fold.specs.Folded.{listed_term};
@@ -9,7 +9,7 @@ use std::marker::Model;
 use wax_query::diagnostics::NoMemory;
 use wax_token::token::{BranchKind, Token};
 
-/// A branch that is asked for its tokens. Contracts see what it holds.
+/// A branch, as a sequencer gets it. Contracts see its content.
 #[derive(Drop)]
 pub struct Parent<T>(T);
 
@@ -21,10 +21,11 @@ impl<T> Model for Parent<T> {
     ghost view = { λ p. p.0 };
 }
 
-/// A branch whose tokens are asked for.
+/// A branch whose tokens are to be chosen.
 pub type ParentToken<'i, 't, A> = Parent<&'i BranchKind<'t, A>>;
 
-/// A token that a branch gave. Contracts see what it holds.
+/// A token of a branch, as a sequencer returns it. Only a `Parent` makes them, so a sequencer can't
+/// choose tokens of other branches. Contracts see its content.
 #[derive(Drop)]
 pub struct Child<T>(T);
 
@@ -36,11 +37,11 @@ impl<T> Model for Child<T> {
     ghost view = { λ c. c.0 };
 }
 
-/// A token of a branch.
+/// A token of a branch that can be chosen.
 pub type ChildToken<'i, 't, A> = Child<&'i Token<'t, A>>;
 
 impl<T> Parent<T> {
-    /// A branch that is asked.
+    /// Wraps a branch.
     pub(super) fn new(branch: T) -> Self
         ensures { result ≡ branch }
     {
@@ -49,7 +50,7 @@ impl<T> Parent<T> {
 }
 
 impl<T> AsRef<T> for Parent<T> {
-    /// What it holds.
+    /// Returns the branch.
     fn as_ref(&self) -> &T
         ensures { result.now ≡ self.now }
     {
@@ -58,7 +59,7 @@ impl<T> AsRef<T> for Parent<T> {
 }
 
 impl<T> AsRef<T> for Child<T> {
-    /// What it holds.
+    /// Returns the token.
     fn as_ref(&self) -> &T
         ensures { result.now ≡ self.now }
     {
@@ -67,14 +68,18 @@ impl<T> AsRef<T> for Child<T> {
 }
 
 impl<'i, 't, A> Parent<&'i BranchKind<'t, A>> {
-    /// All tokens of the branch, in order. Takes memory for the list.
+    /// Returns all tokens of the branch, in order. Allocates the list.
+    ///
+    /// # Errors
+    ///
+    /// Returns `NoMemory` if allocation fails.
     pub fn into_tokens(self, alloc: Global) -> Result<Vec<ChildToken<'i, 't, A>>, NoMemory>
         ensures { IfOk result (λ cs. map (λ c. c.now) cs.items ≡ tokens_in (branch_of self.entry.now)) }
     {
         Ok(self.children(alloc)?)
     }
 
-    /// The first token of the branch, if it has one.
+    /// Returns a list of the first token of the branch, if it has one.
     #[tactic(auto, using(crate::proofs::Picking::got))]
     pub(super) fn into_first_token(
         self,
@@ -90,7 +95,7 @@ impl<'i, 't, A> Parent<&'i BranchKind<'t, A>> {
         }
     }
 
-    /// The last token of the branch, if it has one.
+    /// Returns a list of the last token of the branch, if it has one.
     #[tactic(auto, using(crate::proofs::Picking::got))]
     pub(super) fn into_last_token(
         self,
@@ -117,7 +122,6 @@ impl<'i, 't, A> Parent<&'i BranchKind<'t, A>> {
     }
 }
 
-/// The tokens.
 fn each<'i, 't, A>(
     alloc: Global,
     tokens: &'i [Token<'t, A>],
@@ -131,7 +135,6 @@ fn each<'i, 't, A>(
     Ok(children)
 }
 
-/// The token alone.
 fn one<'i, 't, A>(
     alloc: Global,
     token: &'i Token<'t, A>,
@@ -143,7 +146,6 @@ fn one<'i, 't, A>(
     Ok(children)
 }
 
-/// The token, if there is one.
 fn some<'i, 't, A>(
     alloc: Global,
     token: Option<&'i Token<'t, A>>,
@@ -157,14 +159,18 @@ fn some<'i, 't, A>(
     }
 }
 
-/// Which of a branch's tokens are gone through, and in which order.
+/// A choice of which tokens of a branch are visited, and in which order.
 ///
-/// The law: the choice depends on the branch alone.
+/// Law: the choice depends only on the branch.
 pub trait Sequencer: Drop {
-    /// The places of the tokens chosen, in order. A place past the last token gives none.
+    /// The indices of the chosen tokens, in order. An index past the last token chooses none.
     ghost chosen: { (A : Type 0) → Branch A → List ℕ };
 
-    /// The tokens chosen, in that order. Takes memory for the list.
+    /// Returns the chosen tokens, in that order. Allocates the list.
+    ///
+    /// # Errors
+    ///
+    /// Returns `NoMemory` if allocation fails.
     fn enqueue<'i, 't, A>(
         &mut self,
         alloc: Global,

@@ -1,4 +1,4 @@
-//! All tokens of a branch, or those alone with which its texts begin or end.
+//! The three sequencers: all tokens, and those with which matches can begin or end.
 ghost use Rattle.wax_fold.specs.Sequences.{forward_chosen, starting_chosen, ending_chosen};
 
 use crate::walk::sequence::{ChildToken, ParentToken, Sequencer};
@@ -6,7 +6,7 @@ use std::alloc::Global;
 use wax_query::diagnostics::NoMemory;
 use wax_token::token::BranchKind;
 
-/// All tokens of each branch, from left to right.
+/// Chooses all tokens of each branch, from left to right.
 #[derive(Clone, Copy, Debug, Default)]
 pub struct Forward;
 
@@ -23,7 +23,8 @@ impl Sequencer for Forward {
     }
 }
 
-/// The first token of each concatenation, all branches of alternations, and the bodies of repetitions.
+/// Chooses the first token of each concatenation, all branches of alternations, and the bodies of
+/// repetitions.
 #[derive(Clone, Copy, Debug, Default)]
 pub struct Starting;
 
@@ -45,7 +46,8 @@ impl Sequencer for Starting {
     }
 }
 
-/// The last token of each concatenation, all branches of alternations, and the bodies of repetitions.
+/// Chooses the last token of each concatenation, all branches of alternations, and the bodies of
+/// repetitions.
 #[derive(Clone, Copy, Debug, Default)]
 pub struct Ending;
 

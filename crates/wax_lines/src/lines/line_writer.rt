@@ -1,4 +1,4 @@
-//! What is written for a line that is text.
+//! The output for one line.
 ghost use Rattle.std.specs.Prelude.{◌≡◌, ℕ, Bool, List, [], ◌∷◌, ◌++◌, OnOk, OnErr, chars};
 ghost use Rattle.wax_candidate.specs.Matched.{texts};
 ghost use Rattle.wax_lines.specs.Lines.{WritesMeant, WritesCaptures, tabbed};
@@ -8,9 +8,9 @@ use std::alloc::{AllocError, Global};
 use wax_candidate::{CandidatePath, MatchedText, PathMatcher, Program};
 use wax_query::diagnostics::NoMemory;
 
-/// Writes what a line gives.
+/// A writer of what a line becomes in the output.
 pub trait LineWriter {
-    // What contracts see of it.
+    // The state of the writer, as contracts see it.
     ghost View: { Type 0 };
 
     ghost view: { Self → View };
@@ -18,7 +18,11 @@ pub trait LineWriter {
     // The bytes that may be written for a text, as its characters.
     ghost writes: { View → List ℕ → List ℕ → Type 0 };
 
-    /// What the line gives is added, or nothing where memory is refused.
+    /// Appends the output for the line to `out`.
+    ///
+    /// # Errors
+    ///
+    /// Returns `NoMemory` if allocation fails. `out` is unchanged then.
     fn write_line(&mut self, line: &str, out: &mut Vec<u8>) -> Result<(), NoMemory>
         ensures ok { OnOk result ((added : List ℕ) × writes (view self.old) (chars line.now) added
             × (out.new.items ≡ out.old.items ++ added)) }
@@ -26,7 +30,7 @@ pub trait LineWriter {
         ensures same { view self.new ≡ view self.old };
 }
 
-/// Writes each line that a matcher means, with a line feed.
+/// A writer of each line that a matcher accepts, with a line feed.
 #[derive(Drop)]
 pub struct MeantLines<M> {
     pub matcher: M,
@@ -47,8 +51,8 @@ impl<M: PathMatcher> LineWriter for MeantLines<M> {
     }
 }
 
-/// Writes each line that both a matcher and a program mean, with what the program captures of it, a tab
-/// between, and a line feed.
+/// A writer of each line that a program matches, with its captures, a tab before each, and a line
+/// feed. The matcher is called first, since captures take longer.
 #[derive(Drop)]
 pub struct CapturedLines<'p, P, M> {
     pub alloc: Global,
@@ -76,7 +80,7 @@ impl<P: Program, M: PathMatcher> LineWriter for CapturedLines<'_, P, M> {
     }
 }
 
-// The text, its captures and a line feed, or nothing.
+// Appends the text, its captures and a line feed. Takes back what it added if allocation fails.
 fn add_matched(matched: &MatchedText<'_>, out: &mut Vec<u8>) -> Result<(), NoMemory>
     ensures ok { OnOk result (out.new.items ≡ out.old.items ++ (tabbed (texts matched.now) ++ 10 ∷ [])) }
     ensures err { OnErr result (out.new.items ≡ out.old.items) }
@@ -89,7 +93,7 @@ fn add_matched(matched: &MatchedText<'_>, out: &mut Vec<u8>) -> Result<(), NoMem
     Ok(())
 }
 
-// A line and a line feed, or nothing.
+// Appends a line and a line feed. Reserves the space first, so that it appends all or nothing.
 fn add_whole(line: &[u8], out: &mut Vec<u8>) -> Result<(), AllocError>
     ensures ok { OnOk result (out.new.items ≡ out.old.items ++ (line.now ++ 10 ∷ [])) }
     ensures err { OnErr result (out.new.items ≡ out.old.items) }
@@ -100,7 +104,7 @@ fn add_whole(line: &[u8], out: &mut Vec<u8>) -> Result<(), AllocError>
     Ok(())
 }
 
-// The text, its captures and a line feed, or a beginning of these.
+// Appends the text, its captures and a line feed, or a prefix of these if allocation fails.
 fn add_texts(matched: &MatchedText<'_>, out: &mut Vec<u8>) -> Result<(), AllocError>
     ensures ok { OnOk result (out.new.items ≡ out.old.items ++ (tabbed (texts matched.now) ++ 10 ∷ [])) }
     ensures err { OnErr result ((added : List ℕ) × (out.new.items ≡ out.old.items ++ added)) }

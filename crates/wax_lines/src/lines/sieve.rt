@@ -1,4 +1,4 @@
-//! What a filter of lines keeps between two chunks.
+//! The state of a filter of lines between two reads.
 ghost use Rattle.std.specs.Prelude.{◌≡◌, ◌≤◌, ◌<◌, ◌⊎◌, ℕ, List, [], ◌∷◌, ◌++◌, length};
 ghost use Rattle.std.specs.Prelude.{IfErr, IfSome, OnOk, OnErr, MatchOption};
 ghost use Rattle.std.specs.Io.KnownBytes.{Appends};
@@ -16,14 +16,14 @@ use std::alloc::Global;
 use std::io::Write;
 use wax_query::diagnostics::NoMemory;
 
-/// The output that waits to be written, and how many lines were no text.
+/// The output that waits to be written, and the number of lines that weren't UTF-8.
 #[derive(Drop)]
 pub struct Kept {
     bytes: Vec<u8>,
     not_text: u64,
 }
 
-/// The rest of a line that has no end yet, and what earlier lines gave.
+/// The beginning of a line whose end wasn't read yet, and the output for earlier lines.
 #[derive(Drop)]
 pub struct Sieve {
     carry: Vec<u8>,
@@ -31,7 +31,7 @@ pub struct Sieve {
 }
 
 impl Kept {
-    // One line, without its line feed.
+    // Adds the output for one line, which has no line feed.
     fn add_line<L: LineWriter>(&mut self, line_writer: &mut L, line: &[u8]) -> Result<(), NoMemory>
         ensures ok { OnOk result ((out : List ℕ) × (bad : ℕ)
             × Gives (L.writes (L.view line_writer.old)) line.now out bad
@@ -50,7 +50,7 @@ impl Kept {
 }
 
 impl Sieve {
-    /// Nothing was taken yet.
+    /// Builds a sieve before the first read.
     pub fn new(alloc: Global) -> Self
         ensures carry { result.carry.items ≡ [] }
         ensures bytes { result.kept.bytes.items ≡ [] }
@@ -65,21 +65,25 @@ impl Sieve {
         }
     }
 
-    /// How many lines were no text.
+    /// Returns the number of lines that weren't UTF-8, at most `u64::MAX`.
     pub fn not_text(&self) -> u64
         ensures { result ≡ self.now.kept.not_text }
     {
         self.kept.not_text
     }
 
-    /// How many bytes wait to be written.
+    /// Returns how many bytes of output wait to be written.
     pub fn waiting(&self) -> usize
         ensures { result ≡ length self.now.kept.bytes.items }
     {
         self.kept.bytes.len()
     }
 
-    /// Takes the next bytes of the input, or a beginning of them where memory is refused.
+    /// Takes the next bytes of the input.
+    ///
+    /// # Errors
+    ///
+    /// Returns `NoMemory` if allocation fails. A prefix of the bytes has been taken then.
     pub fn take<L: LineWriter>(&mut self, line_writer: &mut L, chunk: &[u8]) -> Result<(), NoMemory>
         ensures ok { OnOk result (TakesIn (L.writes (L.view line_writer.old)) chunk.now self.old self.new) }
         ensures err { OnErr result (TakesInPart (L.writes (L.view line_writer.old))
@@ -94,7 +98,8 @@ impl Sieve {
         self.take_after(line_writer, after)
     }
 
-    // Takes bytes at the beginning of a line: as one text, if what comes before the last line feed is text.
+    // Takes bytes at the beginning of a line. If everything before the last line feed is UTF-8, it
+    // is checked in one pass, and otherwise line by line.
     fn take_after<L: LineWriter>(
         &mut self,
         line_writer: &mut L,
@@ -114,7 +119,7 @@ impl Sieve {
         Ok(())
     }
 
-    // Takes a text and a line feed at the beginning of a line.
+    // Takes text and a line feed at the beginning of a line.
     fn take_text<L: LineWriter>(&mut self, line_writer: &mut L, text: &str) -> Result<(), NoMemory>
         requires { self.old.carry.items ≡ [] }
         ensures ok { OnOk result (TakesIn (L.writes (L.view line_writer.old))
@@ -131,7 +136,6 @@ impl Sieve {
         self.take_text_line(line_writer, rest)
     }
 
-    // A line that is text, without its line feed.
     fn take_text_line<L: LineWriter>(
         &mut self,
         line_writer: &mut L,
@@ -148,7 +152,7 @@ impl Sieve {
         line_writer.write_line(line, &mut self.kept.bytes)
     }
 
-    // Takes the next bytes of the input line by line, each checked by itself.
+    // Takes bytes line by line, each checked by itself.
     fn take_bytes<L: LineWriter>(
         &mut self,
         line_writer: &mut L,
@@ -168,7 +172,7 @@ impl Sieve {
         Ok(())
     }
 
-    // The end of a line, without its line feed.
+    // Takes the end of a line, which has no line feed.
     fn take_line<L: LineWriter>(&mut self, line_writer: &mut L, end: &[u8]) -> Result<(), NoMemory>
         requires { HasNoFeed end.now }
         ensures carry { OnOk result (self.new.carry.items ≡ []) }
@@ -187,7 +191,11 @@ impl Sieve {
         Ok(())
     }
 
-    /// The end of the input: the rest is a line too, if there is one.
+    /// Ends the input: what is left without a line feed is a line too, unless it is empty.
+    ///
+    /// # Errors
+    ///
+    /// Returns `NoMemory` if allocation fails. The output for earlier lines still waits then.
     pub fn take_last<L: LineWriter>(&mut self, line_writer: &mut L) -> Result<(), NoMemory>
         ensures ok { OnOk result (TakesLast (L.writes (L.view line_writer.old)) self.old self.new) }
         ensures err { OnErr result (TakesIn (L.writes (L.view line_writer.old)) [] self.old self.new) }
@@ -199,8 +207,11 @@ impl Sieve {
         self.kept.add_line(line_writer, &self.carry)
     }
 
-    /// Writes what waits, which then waits no more. Refused with 19 where a write fails or takes nothing:
-    /// a beginning was written.
+    /// Writes the output that waits. None waits after that, even if the write failed.
+    ///
+    /// # Errors
+    ///
+    /// Returns `Write` if a write fails or takes nothing. A prefix of the output has been written.
     pub fn write_out<W: Write>(&mut self, output: &mut Counted<W>) -> Result<(), LinesError>
         ensures ok { OnOk result (Appends (W.contents output.old.inner) (W.contents output.new.inner)
             self.old.kept.bytes.items) }
@@ -219,7 +230,7 @@ impl Sieve {
     }
 }
 
-// The bytes before the first line feed, and those after it.
+// Splits bytes at the first line feed.
 fn split_line(bytes: &[u8]) -> Option<(&[u8], &[u8])>
     ensures { MatchOption result (HasNoFeed bytes.now) (λ parts.
         (bytes.now ≡ parts.0.now ++ 10 ∷ parts.1.now) × HasNoFeed parts.0.now) }
@@ -228,7 +239,7 @@ fn split_line(bytes: &[u8]) -> Option<(&[u8], &[u8])>
     Some((&bytes[..at], &bytes[at + 1..]))
 }
 
-// The text before the first line feed, and that after it.
+// Splits text at the first line feed.
 fn split_at_feed(text: &str) -> Option<(&str, &str)>
     ensures { MatchOption result (HasNoFeed text.now) (λ parts.
         (text.now ≡ parts.0.now ++ 10 ∷ parts.1.now) × HasNoFeed parts.0.now) }
@@ -236,7 +247,7 @@ fn split_at_feed(text: &str) -> Option<(&str, &str)>
     text.split_once('\n')
 }
 
-// What comes before the last line feed, where that is text, and the bytes after it.
+// Splits bytes at the last line feed, if there is one and everything before it is UTF-8.
 fn split_text(bytes: &[u8]) -> Option<(&str, &[u8])>
     ensures { IfSome result (λ parts.
         (bytes.now ≡ parts.0.now ++ 10 ∷ parts.1.now) × HasNoFeed parts.1.now) }

@@ -1,4 +1,4 @@
-//! The cost of tokens, which is known before an instruction is written.
+//! The cost of tokens, which is computed before any instruction is written.
 ghost use Rattle.std.specs.Prelude.{◌≡◌, ◌+◌, ◌-◌, ◌*◌, ◌^◌, ℕ, length, min};
 ghost use Rattle.std.specs.Str.{chars};
 ghost use Rattle.wax_match.specs.inner.Limits.{longest};
@@ -9,18 +9,17 @@ ghost use Rattle.wax_token.specs.Words.{trees};
 
 use wax_token::token::{BranchKind, LeafKind, Token, Topology, Wildcard};
 
-/// How many instructions a program may have.
+/// The greatest length of a program.
 pub const LONGEST: usize = 1_048_576;
 
-/// What tokens cost, where a higher cost counts as `LONGEST`, and whether one of them is or holds a
-/// tree wildcard.
+/// The cost of tokens, at most `LONGEST`, and whether they contain a `**` at any depth.
 #[derive(Clone, Copy)]
 pub struct Weight {
     pub cost: usize,
     pub holds_tree: bool,
 }
 
-/// The weight of a token.
+/// Returns the weight of a token.
 #[cycle(weigh)]
 pub fn weigh<'t, A>(token: &Token<'t, A>) -> Weight
     ensures cost { result.cost ≡ min (cost token.now) longest }
@@ -39,7 +38,7 @@ pub fn weigh<'t, A>(token: &Token<'t, A>) -> Weight
     }
 }
 
-/// The weight of tokens that stand one after another.
+/// Returns the weight of tokens one after another.
 #[cycle(weigh)]
 #[tactic(auto, using(wax_token::proofs::Sizes::element_size))]
 pub fn weigh_all<'t, A>(tokens: &[Token<'t, A>]) -> Weight
@@ -91,7 +90,7 @@ fn leaf_is_tree(leaf: &LeafKind<'_>) -> bool
     }
 }
 
-/// The weight of an alternation of so many branches, from that of the branches.
+/// Returns the weight of an alternation of `count` branches, from the weight of all of them.
 fn with_forks(branches: Weight, count: usize) -> Weight
     ensures cost { (c : ℕ) → branches.cost ≡ min c longest → result.cost ≡ min (1 + c + 2 * count) longest }
     ensures holds_tree { result.holds_tree ≡ branches.holds_tree }
@@ -103,7 +102,7 @@ fn with_forks(branches: Weight, count: usize) -> Weight
     }
 }
 
-/// The weight of a repetition, from that of its body.
+/// Returns the weight of a repetition, from that of its body.
 fn repeated(body: Weight, lower: usize, upper: Option<usize>) -> Weight
     ensures cost { (c : ℕ) → body.cost ≡ min c longest
         → result.cost ≡ min (copies_of lower upper body.holds_tree * (c + 2) + 2) longest }
@@ -117,7 +116,7 @@ fn repeated(body: Weight, lower: usize, upper: Option<usize>) -> Weight
     }
 }
 
-/// How many copies of a body are written, or the greatest number.
+/// Returns how many copies of a body are written, at most `usize::MAX`.
 fn copies_of(lower: usize, upper: Option<usize>, holds_tree: bool) -> usize
     ensures { result ≡ min (copies_of lower upper holds_tree) (2 ^ 64 - 1) }
 {

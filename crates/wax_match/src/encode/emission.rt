@@ -1,4 +1,4 @@
-//! How the instructions of tokens are written, from the last one to the first.
+//! Writing the instructions of tokens, from the last one to the first.
 ghost use Rattle.std.specs.Prelude.{◌≡◌, ◌≤◌, ◌-◌, ◌∷◌, ◌++◌, IfSome, OnOk, List, length};
 ghost use Rattle.wax_program.specs.declared.instruction.Instruction.{Instruction};
 ghost use Rattle.wax_match.specs.inner.Code.{branches_code, choose, copied_code, copies_code, counted_code};
@@ -14,7 +14,11 @@ use wax_program::instruction::{Instruction, Test};
 use wax_token::token::{BranchKind, Token, Topology};
 
 impl Tail {
-    /// Writes tokens that stand one after another.
+    /// Writes tokens one after another.
+    ///
+    /// # Errors
+    ///
+    /// Returns `AllocError` if allocation fails.
     #[cycle(put)]
     #[tactic(auto, using(wax_token::proofs::Sizes::element_size))]
     pub fn put_sequence<'t, A>(
@@ -38,7 +42,6 @@ impl Tail {
         Ok(())
     }
 
-    /// Writes a token.
     #[cycle(put)]
     fn put_token<'t, A>(&mut self, token: &Token<'t, A>, sides: Sides) -> Result<(), AllocError>
         ensures { OnOk result
@@ -56,7 +59,7 @@ impl Tail {
         }
     }
 
-    /// Writes the branches of an alternation.
+    /// Writes the branches of an alternation. Behind the last branch is a check that always fails.
     #[cycle(put)]
     #[tactic(auto, using(wax_token::proofs::Sizes::element_size))]
     fn put_branches<'t, A>(
@@ -78,7 +81,7 @@ impl Tail {
         Ok(())
     }
 
-    /// Writes a token before so many instructions, as another way to go on after them.
+    /// Writes a token before the next `others` instructions, as an alternative to them.
     #[cycle(put)]
     fn put_choice<'t, A>(
         &mut self,
@@ -96,7 +99,7 @@ impl Tail {
         self.put_skip(start)
     }
 
-    /// Writes from `lower` to `upper` copies of a token.
+    /// Writes from `lower` to `upper` copies of a body.
     #[cycle(put)]
     #[tactic(auto, using(crate::proofs::Sequences::no_copies, crate::proofs::Sequences::one_copy))]
     fn put_repetition<'t, A>(
@@ -116,7 +119,8 @@ impl Tail {
         }
     }
 
-    /// The same for a token whose meaning depends on what stands around it, where two copies may be written.
+    /// Writes copies of a body with a `**` in it. What the body matches depends on what is around
+    /// it, so the first copy, the last one and those between are written apart.
     #[cycle(put)]
     fn put_copied<'t, A>(
         &mut self,
@@ -145,7 +149,7 @@ impl Tail {
         Ok(())
     }
 
-    /// A first copy, further ones and a last one.
+    /// Writes a first copy, `lower` to `upper` between, and a last one.
     #[cycle(put)]
     fn put_many<'t, A>(
         &mut self,
@@ -174,7 +178,7 @@ impl Tail {
         self.put_token(body, first)
     }
 
-    /// Copies in the same surroundings.
+    /// Writes from `lower` to `upper` copies that have the same surroundings.
     #[cycle(put)]
     fn put_counted<'t, A>(
         &mut self,
@@ -194,7 +198,6 @@ impl Tail {
         self.put_copies(body, lower, sides)
     }
 
-    /// So many copies.
     #[cycle(put)]
     fn put_copies<'t, A>(
         &mut self,
@@ -211,7 +214,7 @@ impl Tail {
         Ok(())
     }
 
-    /// At most so many copies.
+    /// Writes at most `count` copies.
     #[cycle(put)]
     fn put_up_to<'t, A>(
         &mut self,
@@ -230,7 +233,7 @@ impl Tail {
         Ok(())
     }
 
-    /// Any number of copies.
+    /// Writes zero or more copies.
     #[cycle(put)]
     fn put_loop_of<'t, A>(&mut self, body: &Token<'t, A>, sides: Sides) -> Result<(), AllocError>
         ensures { OnOk result
@@ -244,7 +247,7 @@ impl Tail {
         self.put(Instruction::Fork(by))
     }
 
-    /// Lets what was written since there were `start` instructions be skipped.
+    /// Makes optional what was written since there were `start` instructions.
     fn put_skip(&mut self, start: usize) -> Result<(), AllocError>
         requires { start ≤ length self.old }
         ensures { OnOk result (self.new ≡ Instruction.Fork (length self.old - start) ∷ self.old) }

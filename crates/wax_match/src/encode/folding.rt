@@ -1,4 +1,4 @@
-//! Texts that differ in case alone.
+//! Comparing texts in any case.
 ghost use Rattle.std.specs.Prelude.{◌↔◌, IfOk, IsTrue, chars, true};
 ghost use Rattle.wax_token.specs.Meaning.{SameText};
 
@@ -7,8 +7,12 @@ use std::alloc::Global;
 use unicode::case::simple_fold;
 use wax_query::diagnostics::NoMemory;
 
-/// Whether the texts have equally many characters, and each has the simple case folding of the other
-/// text's. Refused with 10 where memory is, which it takes for both texts' characters.
+/// Returns whether two texts differ only in case: they have equally many characters, and those at
+/// the same places have the same simple case folding. Allocates for the characters of both texts.
+///
+/// # Errors
+///
+/// Returns `NoMemory` if allocation fails.
 pub fn case_folded_eq(alloc: Global, left: &str, right: &str) -> Result<bool, NoMemory>
     ensures { IfOk result (λ b. IsTrue b ↔ SameText true (chars left.now) (chars right.now)) }
 {

@@ -1,4 +1,4 @@
-//! How the instructions of leaves are written, from the last one to the first.
+//! Writing the instructions of leaves, from the last one to the first.
 ghost use Rattle.std.specs.Prelude.{◌≡◌, ◌++◌, ◌∷◌, ℕ, List, [], OnOk, IfOk, chars};
 ghost use Rattle.wax_match.specs.inner.Code.{leaf_instructions, literal_code, skip, slash_code};
 ghost use Rattle.wax_match.specs.inner.Code.{wildcard_code};
@@ -12,7 +12,11 @@ use wax_program::instruction::{Instruction, Test};
 use wax_token::token::{Class, LeafKind, Literal, Wildcard};
 
 impl Tail {
-    /// Writes a leaf.
+    /// Writes a leaf, by what is before and after it.
+    ///
+    /// # Errors
+    ///
+    /// Returns `AllocError` if allocation fails.
     pub fn put_leaf(&mut self, leaf: &LeafKind<'_>, sides: Sides) -> Result<(), AllocError>
         ensures { OnOk result
             (self.new ≡ leaf_instructions (leaf_of leaf.now) sides.before sides.after ++ self.old) }
@@ -51,7 +55,6 @@ impl Tail {
         self.put(Instruction::Check(Test::Char('/')))
     }
 
-    /// Writes a tree wildcard.
     fn put_wildcard(&mut self, sides: Sides, has_root: bool) -> Result<(), AllocError>
         ensures { OnOk result
             (self.new ≡ wildcard_code sides.before sides.after has_root ++ self.old) }
@@ -73,7 +76,7 @@ impl Tail {
         }
     }
 
-    /// A text that ends with `/`, or none.
+    /// Writes zero or more components, each with the `/` after it.
     fn put_components(&mut self) -> Result<(), AllocError>
         ensures { OnOk result (self.new ≡ skip (Instruction.Components ∷ []) ++ self.old) }
     {
@@ -81,7 +84,7 @@ impl Tail {
         self.put(Instruction::Fork(1))
     }
 
-    /// A text that begins with `/`.
+    /// Writes a `/` and any text after it.
     fn put_rest(&mut self) -> Result<(), AllocError>
         ensures { OnOk result (self.new ≡ slash_code ++ Instruction.Repeat Test.Any ∷ self.old) }
     {
@@ -90,7 +93,6 @@ impl Tail {
     }
 }
 
-/// The test for a character of a literal.
 fn test_of(is_case_insensitive: bool, c: char) -> Test
     ensures { (t : List ℕ) → literal_code is_case_insensitive (c ∷ t)
         ≡ Instruction.Check result ∷ literal_code is_case_insensitive t }

@@ -1,7 +1,7 @@
-//! What stands around a token.
+//! What is around a token.
 ghost use Rattle.std.specs.Prelude.{◌≡◌, ◌||◌};
 
-/// Whether something stands before a token, and whether something stands after it.
+/// The sides of a token at which something is written.
 #[derive(Clone, Copy)]
 pub struct Sides {
     pub before: bool,
@@ -9,7 +9,7 @@ pub struct Sides {
 }
 
 impl Sides {
-    /// What stands on these sides or on the others.
+    /// Returns the sides at which one or the other has something.
     pub fn or(self, others: Sides) -> Sides
         ensures before { result.before ≡ (self.before || others.before) }
         ensures after { result.after ≡ (self.after || others.after) }

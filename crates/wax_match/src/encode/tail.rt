@@ -1,11 +1,12 @@
-//! A program that is written from its end on, so that most offsets are known when they are written.
+//! Writing a program from its end, so that most offsets are known when they are written.
 ghost use Rattle.std.specs.Prelude.{◌≡◌, ◌+◌, ◌-◌, ◌<◌, [], ◌∷◌, List, OnOk, length, slice_set};
 
 use std::alloc::{AllocError, Global};
 use std::marker::Model;
 use wax_program::instruction::Instruction;
 
-/// The instructions from a place to the program's end. Contracts see them in their order.
+/// The last instructions of a program, as far as they are written. Contracts see them in their
+/// order.
 #[derive(Drop)]
 pub struct Tail {
     reversed: Vec<Instruction>,
@@ -33,7 +34,7 @@ impl Tail {
         }
     }
 
-    /// The allocator that it was made with.
+    /// Returns the allocator of the instructions.
     pub fn allocator(&self) -> Global {
         *self.reversed.allocator()
     }
@@ -44,7 +45,11 @@ impl Tail {
         self.reversed.len()
     }
 
-    /// Writes the instruction before the others.
+    /// Writes an instruction before all others.
+    ///
+    /// # Errors
+    ///
+    /// Returns `AllocError` if allocation fails.
     pub fn put(&mut self, instruction: Instruction) -> Result<(), AllocError>
         ensures { OnOk result (self.new ≡ instruction ∷ self.old) }
     {
@@ -52,7 +57,7 @@ impl Tail {
         Ok(())
     }
 
-    /// Writes the instruction over the one that stands after `by` others.
+    /// Replaces the instruction after the first `by` ones.
     pub fn replace(&mut self, by: usize, instruction: Instruction)
         requires { by < length self.old }
         ensures { self.new ≡ slice_set self.old by instruction }
@@ -61,7 +66,7 @@ impl Tail {
         self.reversed[at] = instruction;
     }
 
-    /// The instructions in their order.
+    /// Returns the instructions in their order.
     pub fn into_instructions(self) -> Vec<Instruction>
         ensures { result.items ≡ self }
     {

@@ -1,11 +1,12 @@
-//! Bounds of repetitions.
+//! Reading the bounds of repetitions. Each function returns what it read and the text after it, or
+//! `None` if the text doesn't begin like that.
 ghost use Rattle.std.specs.Prelude.{◌≡◌, ◌+◌, ◌*◌, ◌-◌, ◌<◌, ◌^◌, MatchOption, Some, None, chars};
 ghost use Rattle.wax_parse.specs.inner.Parser.{digit_step, next_number, number_run, read_bounds};
 ghost use Rattle.wax_parse.specs.inner.Parser.{read_numbers, read_upper};
 
 use crate::parse::text::{split_first, strip};
 
-/// A decimal digit that the text begins with, and the text after it.
+/// Reads a decimal digit.
 fn read_digit(text: &str) -> Option<(usize, &str)>
     ensures { MatchOption result (digit_step (chars text.now) ≡ None)
         (λ r. digit_step (chars text.now) ≡ Some (r.0, chars r.1.now)) }
@@ -18,14 +19,14 @@ fn read_digit(text: &str) -> Option<(usize, &str)>
     }
 }
 
-/// The number with one more digit, unless it is past 64 bits.
+/// Appends a decimal digit to a number. Returns `None` if the result exceeds 64 bits.
 fn push_digit(number: usize, digit: usize) -> Option<usize>
     ensures { MatchOption result (next_number number digit ≡ None) (λ n. next_number number digit ≡ Some n) }
 {
     number.checked_mul(10)?.checked_add(digit)
 }
 
-/// A decimal number of 64 bits that the text begins with, and the text after it.
+/// Reads a decimal number of at most 64 bits. A longer one is an error.
 fn read_number(text: &str) -> Option<(usize, &str)>
     ensures { MatchOption result (number_run (chars text.now) ≡ None)
         (λ r. number_run (chars text.now) ≡ Some (r.0, chars r.1.now)) }
@@ -40,7 +41,7 @@ fn read_number(text: &str) -> Option<(usize, &str)>
     Some((number, rest))
 }
 
-/// The bounds of a repetition, and the text after its closing bracket.
+/// Reads the bounds of a repetition, if it has any, and its closing bracket.
 pub(super) fn read_bounds(text: &str) -> Option<((usize, Option<usize>), &str)>
     ensures { MatchOption result (read_bounds (chars text.now) ≡ None)
         (λ r. read_bounds (chars text.now) ≡ Some (r.0, chars r.1.now)) }
@@ -54,7 +55,7 @@ pub(super) fn read_bounds(text: &str) -> Option<((usize, Option<usize>), &str)>
     }
 }
 
-/// One or two numbers of bounds, and the text after the closing bracket.
+/// Reads `n>`, `n,>` or `n,m>`.
 fn read_numbers(text: &str) -> Option<((usize, Option<usize>), &str)>
     ensures { MatchOption result (read_numbers (chars text.now) ≡ None)
         (λ r. read_numbers (chars text.now) ≡ Some (r.0, chars r.1.now)) }
@@ -69,7 +70,7 @@ fn read_numbers(text: &str) -> Option<((usize, Option<usize>), &str)>
     }
 }
 
-/// The upper bound, if there is one, and the text after the closing bracket.
+/// Reads `>` or `m>`.
 fn read_upper(text: &str) -> Option<(Option<usize>, &str)>
     ensures { MatchOption result (read_upper (chars text.now) ≡ None)
         (λ r. read_upper (chars text.now) ≡ Some (r.0, chars r.1.now)) }

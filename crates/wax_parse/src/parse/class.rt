@@ -1,4 +1,5 @@
-//! Classes.
+//! Reading classes. Each function returns what it read and the text after it, or `None` if the text
+//! doesn't begin like that.
 ghost use Rattle.std.specs.Prelude.{◌≡◌, IfOk, MatchOption, Some, None, chars, length};
 ghost use Rattle.wax_token.specs.View.{leaf_of};
 ghost use Rattle.wax_parse.specs.inner.Parser.{archetype_step, class_run, class_leaf, read_class};
@@ -7,7 +8,7 @@ use crate::parse::text::{class_character, strip};
 use std::alloc::{AllocError, Global};
 use wax_token::token::{Archetype, Class, LeafKind};
 
-/// A character or a range of a class, and the text after it.
+/// Reads a character or a range, such as `a-z`.
 fn read_archetype(text: &str) -> Option<(Archetype, &str)>
     ensures { MatchOption result (archetype_step (chars text.now) ≡ None)
         (λ r. archetype_step (chars text.now) ≡ Some (r.0, chars r.1.now)) }
@@ -22,7 +23,7 @@ fn read_archetype(text: &str) -> Option<(Archetype, &str)>
     }
 }
 
-/// The archetypes up to the closing bracket, and the text after it.
+/// Reads archetypes up to the closing bracket, and this bracket.
 fn read_archetypes(alloc: Global, text: &str) -> Result<Option<(Vec<Archetype>, &str)>, AllocError>
     ensures { IfOk result (λ r. MatchOption r (class_run (length (chars text.now)) (chars text.now) ≡ None)
         (λ a. class_run (length (chars text.now)) (chars text.now) ≡ Some (a.0.items, chars a.1.now))) }
@@ -41,7 +42,7 @@ fn read_archetypes(alloc: Global, text: &str) -> Result<Option<(Vec<Archetype>, 
     }
 }
 
-/// The leaf of a class, and the text after its closing bracket.
+/// Reads the class after its `[` or `[!`. An empty one is an error.
 fn class_of<'t>(
     alloc: Global,
     is_negated: bool,
@@ -63,7 +64,7 @@ fn class_of<'t>(
     }
 }
 
-/// A class, after its opening bracket, and the text after its closing one.
+/// Reads a class after its opening bracket.
 pub(super) fn read_class<'t>(
     alloc: Global,
     text: &'t str,

@@ -1,4 +1,4 @@
-//! Where an expression can't be read.
+//! The place of a parse error.
 ghost use Rattle.std.specs.Prelude.{◌≡◌, ℕ, Some, codes};
 
 use super::ParseError;
@@ -6,7 +6,7 @@ use std::fmt::{self, Display, Formatter};
 use std::marker::Model;
 use wax_query::diagnostics::{LocatedError, Span};
 
-/// An expression stands where none can be read. Contracts see its span.
+/// The place where an expression can't be read. Contracts see its span.
 #[derive(Clone, Copy, Debug)]
 pub struct ErrorEntry {
     span: Span,
@@ -23,7 +23,7 @@ impl Model for ErrorEntry {
 }
 
 impl ParseError {
-    /// The one place where the expression can't be read.
+    /// Returns the place of the error. There is only one.
     pub fn locations(&self) -> ErrorEntry
         ensures { result ≡ self.now }
     {

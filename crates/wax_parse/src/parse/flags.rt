@@ -1,4 +1,4 @@
-//! Flag groups.
+//! Reading flag groups, and `**`, inside of which flag groups may be written.
 ghost use Rattle.std.specs.Prelude.{◌≡◌, MatchOption, Some, None, chars};
 ghost use Rattle.wax_parse.specs.inner.Parser.{place, around_of, toggle_step, group_end, group_step};
 ghost use Rattle.wax_parse.specs.inner.Parser.{flags_end, after_stars, after_tree};
@@ -6,14 +6,15 @@ ghost use Rattle.wax_parse.specs.inner.Parser.{flags_end, after_stars, after_tre
 use crate::parse::surroundings::Around;
 use crate::parse::text::strip;
 
-/// What is still to be read, and whether a literal there ignores case.
+/// The part of the expression that is still to be read, and whether literals in it ignore case
+/// until the next toggle.
 #[derive(Clone, Copy)]
 pub(super) struct Cursor<'t> {
     pub(super) is_case_insensitive: bool,
     pub(super) rest: &'t str,
 }
 
-/// `i` or `-i`, whether it turns the flag on, and the text after it.
+/// Reads `i` or `-i`. Returns whether it sets the flag, and the text after it.
 fn read_toggle(text: &str) -> Option<(bool, &str)>
     ensures { MatchOption result (toggle_step (chars text.now) ≡ None)
         (λ r. toggle_step (chars text.now) ≡ Some (r.0, chars r.1.now)) }
@@ -26,8 +27,8 @@ fn read_toggle(text: &str) -> Option<(bool, &str)>
     Some((false, rest))
 }
 
-/// The toggles up to the closing parenthesis, and what comes after it, where the flag was turned to
-/// `is_case_insensitive` last.
+/// Reads toggles up to the closing parenthesis, and this parenthesis. The last toggle counts; if
+/// there is none, the flag is `is_case_insensitive`.
 fn read_toggles(is_case_insensitive: bool, text: &str) -> Option<Cursor<'_>>
     ensures { MatchOption result (group_end is_case_insensitive (chars text.now) ≡ None)
         (λ q. group_end is_case_insensitive (chars text.now) ≡ Some (place q)) }
@@ -47,7 +48,7 @@ fn read_toggles(is_case_insensitive: bool, text: &str) -> Option<Cursor<'_>>
     }
 }
 
-/// A flag group that the text begins with, and what comes after it.
+/// Reads one flag group, such as `(?i)`.
 fn read_group(text: &str) -> Option<Cursor<'_>>
     ensures { MatchOption result (group_step (chars text.now) ≡ None)
         (λ q. group_step (chars text.now) ≡ Some (place q)) }
@@ -58,7 +59,7 @@ fn read_group(text: &str) -> Option<Cursor<'_>>
     read_toggles(toggle, rest)
 }
 
-/// What comes after all flag groups.
+/// Skips zero or more flag groups, and sets the flag as they do.
 pub(super) fn read_flags(from: Cursor<'_>) -> Cursor<'_>
     ensures { flags_end (place from.entry) ≡ place result }
 {
@@ -69,7 +70,7 @@ pub(super) fn read_flags(from: Cursor<'_>) -> Cursor<'_>
     cursor
 }
 
-/// What comes after the flag groups and the `/` that close a `**`, or the end of the glob, after the `**`.
+/// Reads what closes a `**`: the end of the glob, or flag groups and a `/`.
 fn after_stars(around: Around, from: Cursor<'_>) -> Option<Cursor<'_>>
     ensures { MatchOption result
         (after_stars (around_of around) from.entry.is_case_insensitive (chars from.entry.rest.now) ≡ None)
@@ -84,7 +85,7 @@ fn after_stars(around: Around, from: Cursor<'_>) -> Option<Cursor<'_>>
     Some(Cursor { rest, ..cursor })
 }
 
-/// What comes after `**` and what closes it.
+/// Reads `**` and what closes it.
 pub(super) fn after_tree(around: Around, from: Cursor<'_>) -> Option<Cursor<'_>>
     ensures { MatchOption result (after_tree (around_of around) (place from.entry) ≡ None)
         (λ q. after_tree (around_of around) (place from.entry) ≡ Some (place q)) }

@@ -1,4 +1,5 @@
-//! Globs with their branches, read from left to right and downwards.
+//! Globs and their branches, read by recursive descent. Each function begins at the cursor `from`,
+//! and returns what it read and the cursor after it.
 ghost use Rattle.std.specs.Prelude.{◌≡◌, ◌≤◌, ◌<◌, ◌+◌, ◌-◌, ◌^◌, ◌∷◌, ◌++◌, [], Bool, IfOk, OnOk, chars};
 ghost use Rattle.wax_query.specs.Outcome.{MatchBuild};
 ghost use Rattle.wax_token.specs.Reads.{in_alternation, in_repetition, utf8_len};
@@ -21,10 +22,11 @@ use wax_token::token::{
     new_branch, new_leaf,
 };
 
-/// A token with its place in the expression.
+/// A token with its span in the expression.
 type ReadToken<'t> = Token<'t, ExpressionMetadata>;
 
-/// The glob up to what ends it.
+/// Reads a glob, up to the character or the end of the expression that ends it in its scope. An
+/// empty one is an error.
 #[cycle(read)]
 pub(super) fn read_glob<'t>(
     alloc: Global,
@@ -55,7 +57,7 @@ pub(super) fn read_glob<'t>(
     Ok((glob, cursor))
 }
 
-/// A token, with the flag groups before it.
+/// Reads a token with the flag groups before it, which belong to its span.
 #[cycle(read)]
 fn read_token<'t>(
     alloc: Global,
@@ -84,7 +86,7 @@ fn read_token<'t>(
     Ok((new_leaf(kind, annotation), next))
 }
 
-/// An alternation from its flag groups on, after its opening brace.
+/// Reads an alternation after its opening brace. Its span begins at `flags`.
 #[cycle(read)]
 fn read_alternation<'t>(
     alloc: Global,
@@ -109,7 +111,7 @@ fn read_alternation<'t>(
     Ok((alternation, next))
 }
 
-/// The branches of an alternation, and what comes after its closing brace.
+/// Reads the branches of an alternation, and its closing brace.
 #[cycle(read)]
 fn read_branches<'t>(
     alloc: Global,
@@ -138,7 +140,7 @@ fn read_branches<'t>(
     }
 }
 
-/// A repetition from its flag groups on, after its opening bracket.
+/// Reads a repetition after its opening bracket. Its span begins at `flags`.
 #[cycle(read)]
 fn read_repetition<'t>(
     alloc: Global,
@@ -187,7 +189,7 @@ fn boxed<'t>(alloc: Global, token: ReadToken<'t>) -> Result<Box<ReadToken<'t>>, 
     Ok(Box::new(alloc, token)?)
 }
 
-/// The metadata of what stands between two ends of the expression.
+/// Returns the span between two positions, each given by what follows it in the expression.
 fn metadata(expression: &str, from: &str, to: &str) -> ExpressionMetadata
     requires from { utf8_len (chars from.now) ≤ utf8_len (chars expression.now) }
     requires to { utf8_len (chars to.now) ≤ utf8_len (chars from.now) }
@@ -199,7 +201,7 @@ fn metadata(expression: &str, from: &str, to: &str) -> ExpressionMetadata
     ExpressionMetadata::new((expression.len() - from.len(), from.len() - to.len()))
 }
 
-/// The refusal that names the first character of an end of the expression.
+/// Builds the error at the first character of `rest`, which is a suffix of the expression.
 fn refusal(expression: &str, rest: &str) -> Refusal<ParseError>
     requires { Beyond (chars expression.now) (chars rest.now) }
     ensures { IsRefusal (IsPlace (chars expression.now)) result }
@@ -208,7 +210,7 @@ fn refusal(expression: &str, rest: &str) -> Refusal<ParseError>
     Refusal::Refused(ParseError { place })
 }
 
-/// How many bytes the first character has, 0 where there is none.
+/// Returns the length of the first character in bytes, or 0 if there is none.
 fn first_width(text: &str) -> usize
     ensures { result ≡ first_len (chars text.now) }
 {

@@ -1,4 +1,5 @@
-//! The leaf that a text begins with.
+//! Reading leaves. Each function returns what it read and the cursor after it, or `None` if the
+//! text doesn't begin like that.
 ghost use Rattle.std.specs.Prelude.{◌≡◌, IfOk, MatchOption, Some, None, chars, codes};
 ghost use Rattle.wax_token.specs.Reads.{starts_with_one_of};
 ghost use Rattle.wax_token.specs.View.{leaf_of};
@@ -13,7 +14,8 @@ use crate::parse::text::split_first;
 use std::alloc::{AllocError, Global};
 use wax_token::token::{Evaluation, LeafKind, Separator, Wildcard};
 
-/// `/`, or `/**` where flag groups and `**` follow, after the `/`.
+/// Reads what follows a `/`: the rest of a tree wildcard that begins with it, or nothing. In that
+/// case the `/` is a separator.
 fn read_boundary(around: Around, rest: Cursor<'_>) -> (LeafKind<'static>, Cursor<'_>)
     ensures { boundary_leaf (place rest.entry) (after_tree (around_of around) (flags_end (place rest.entry)))
         ≡ (leaf_of result.0, place result.1) }
@@ -24,7 +26,7 @@ fn read_boundary(around: Around, rest: Cursor<'_>) -> (LeafKind<'static>, Cursor
     }
 }
 
-/// Whether `*` or `$` follows, after flag groups.
+/// Returns whether `*` or `$` follows, possibly after flag groups.
 fn is_before_wildcard(rest: Cursor<'_>) -> bool
     ensures { result ≡ starts_with_one_of (codes "*$") (flags_end (place rest.entry)).rest }
 {
@@ -34,7 +36,7 @@ fn is_before_wildcard(rest: Cursor<'_>) -> bool
     }
 }
 
-/// `*` or `$`, after it, where neither follows.
+/// Reads `*` or `$` after its character. Right before another of them it is an error.
 fn read_zero_or_more(
     evaluation: Evaluation,
     rest: Cursor<'_>,
@@ -48,7 +50,7 @@ fn read_zero_or_more(
     Some((LeafKind::Wildcard(Wildcard::ZeroOrMore(evaluation)), rest))
 }
 
-/// The leaf that the text begins with, where it isn't a `**` at the beginning of the glob.
+/// Reads any leaf but a `**` without a `/` before it, which can only begin a glob.
 fn read_inner_leaf<'t>(
     alloc: Global,
     around: Around,
@@ -76,7 +78,7 @@ fn read_inner_leaf<'t>(
     }
 }
 
-/// A leaf that leaves the flag as it is.
+/// Adds the flag to the text after a leaf, since a leaf doesn't change it.
 fn with_flag<'t>(
     is_case_insensitive: bool,
     read: Option<(LeafKind<'t>, &'t str)>,
@@ -95,7 +97,7 @@ fn with_flag<'t>(
     ))
 }
 
-/// The leaf that the text begins with, and what comes after it.
+/// Reads a leaf. Only the first token of a glob can be a `**` without a `/` before it.
 pub(super) fn read_leaf<'t>(
     alloc: Global,
     around: Around,

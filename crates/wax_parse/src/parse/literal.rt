@@ -1,4 +1,4 @@
-//! Literals.
+//! Reading literals.
 ghost use Rattle.std.specs.Prelude.{◌≡◌, ◌++◌, List, ℕ, IfOk, MatchOption, Some, None, chars, string_bytes};
 ghost use Rattle.std.specs.Prelude.{true};
 ghost use Rattle.std.specs.Cow.{cow_str_bytes};
@@ -10,7 +10,7 @@ use std::alloc::{AllocError, Global};
 use std::borrow::CowStr;
 use wax_token::token::{LeafKind, Literal};
 
-/// The characters up to the first that isn't plain, and the text from there on.
+/// Splits the text before the first character that isn't plain.
 fn split_plain(text: &str) -> (&str, &str)
     ensures whole { chars text.now ≡ chars result.0.now ++ chars result.1.now }
     ensures plain { is_plain_text (chars result.0.now) ≡ true }
@@ -26,7 +26,8 @@ fn split_plain(text: &str) -> (&str, &str)
     (before(text, rest), rest)
 }
 
-/// Pushes the run of a literal's characters that the text begins with, and answers what follows.
+/// Appends the characters of a literal at the beginning of `text`, without their escapes. Returns
+/// the text after them.
 fn push_run<'t>(literal: &mut String, text: &'t str) -> Result<&'t str, AllocError>
     ensures { IfOk result (λ rest. (chars (string_bytes literal.new)
         ≡ chars (string_bytes literal.old) ++ (literal_run (chars text.now)).0)
@@ -40,8 +41,8 @@ fn push_run<'t>(literal: &mut String, text: &'t str) -> Result<&'t str, AllocErr
     Ok(rest)
 }
 
-/// The longest run of a literal's characters without their escapes, borrowed where there are none,
-/// and the text after it.
+/// Reads the longest run of a literal's characters, and removes the escapes. Without an escape, the
+/// text is borrowed from the expression.
 fn literal_text<'t>(alloc: Global, text: &'t str) -> Result<(CowStr<'t>, &'t str), AllocError>
     ensures { IfOk result (λ r. literal_run (chars text.now) ≡ (chars (cow_str_bytes r.0), chars r.1.now)) }
 {
@@ -54,7 +55,8 @@ fn literal_text<'t>(alloc: Global, text: &'t str) -> Result<(CowStr<'t>, &'t str
     Ok((CowStr::Owned(unescaped), rest))
 }
 
-/// A literal that the text begins with, and the text after it.
+/// Reads a literal and returns the text after it. Returns `None` for an empty one, and if a
+/// backslash follows that escapes no meta character.
 pub(super) fn read_literal<'t>(
     alloc: Global,
     is_case_insensitive: bool,

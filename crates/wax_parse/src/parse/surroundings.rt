@@ -1,10 +1,10 @@
-//! Where a glob stands, and what ends it.
+//! What is around a glob in the expression, and ends it.
 ghost use Rattle.std.specs.Prelude.{◌≡◌, ◌+◌, MatchOption, chars};
 ghost use Rattle.wax_parse.specs.inner.Parser.{around_of, is_end};
 
 use crate::parse::text::split_first;
 
-/// What a glob stands in.
+/// What contains a glob.
 #[derive(Clone, Copy)]
 pub(super) enum Around {
     /// The end of the expression ends it.
@@ -16,7 +16,7 @@ pub(super) enum Around {
 }
 
 impl Around {
-    /// Whether the glob ends where the text begins.
+    /// Returns whether the glob ends before `text`, the rest of the expression.
     pub(super) fn is_end(self, text: &str) -> bool
         ensures { result ≡ is_end (around_of self) (chars text.now) }
     {
@@ -31,7 +31,8 @@ impl Around {
     }
 }
 
-/// The expression that a glob is read from, what the glob stands in, and how deep globs may nest in it.
+/// The whole expression, what contains the glob that is being read, and how many levels of globs
+/// may still nest in it.
 #[derive(Clone, Copy)]
 pub(super) struct Scope<'t> {
     pub(super) expression: &'t str,
@@ -40,7 +41,7 @@ pub(super) struct Scope<'t> {
 }
 
 impl<'t> Scope<'t> {
-    /// The scope of the globs of a branch, unless they would nest too deep.
+    /// Returns the scope of the globs in a branch, or `None` if they would nest too deep.
     pub(super) fn inside(self, around: Around) -> Option<Scope<'t>>
         ensures { MatchOption result (self.entry.depth ≡ 0)
             (λ s. (s.expression.now ≡ self.entry.expression.now) × (s.around ≡ around)

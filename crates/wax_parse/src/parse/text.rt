@@ -1,9 +1,10 @@
-//! Beginnings of texts.
+//! Reading the beginning of a text. Each function returns what it read and the text after it, or
+//! `None` if the text doesn't begin like that.
 ghost use Rattle.std.specs.Prelude.{◌≡◌, ◌∷◌, ◌++◌, [], List, ℕ, chars, MatchOption, Some, None, not};
 ghost use Rattle.wax_token.specs.Reads.{is_one_of, escapable, class_escapable};
 ghost use Rattle.wax_parse.specs.inner.Parser.{strip, literal_step, class_step, is_plain_character};
 
-/// The first character, and the text after it.
+/// Reads any character.
 pub(super) fn split_first(text: &str) -> Option<(char, &str)>
     ensures { MatchOption result (chars text.now ≡ []) (λ r. chars text.now ≡ r.0 ∷ chars r.1.now) }
 {
@@ -12,7 +13,7 @@ pub(super) fn split_first(text: &str) -> Option<(char, &str)>
     Some((first, characters.as_str()))
 }
 
-/// The text after the character, where it begins with it.
+/// Returns the text after its first character, if that is `first`.
 pub(super) fn strip(text: &str, first: char) -> Option<&str>
     ensures { MatchOption result (strip first (chars text.now) ≡ None)
         (λ r. strip first (chars text.now) ≡ Some (chars r.now)) }
@@ -21,7 +22,7 @@ pub(super) fn strip(text: &str, first: char) -> Option<&str>
     if first == c { Some(rest) } else { None }
 }
 
-/// The part of the text that stands before its end `rest`.
+/// Returns `text` without its suffix `rest`.
 pub(super) fn before<'t>(text: &'t str, rest: &str) -> &'t str
     requires { (x : List ℕ) × (chars text.now ≡ x ++ chars rest.now) }
     ensures { (x : List ℕ) → chars text.now ≡ x ++ chars rest.now → chars result.now ≡ x }
@@ -29,7 +30,7 @@ pub(super) fn before<'t>(text: &'t str, rest: &str) -> &'t str
     &text[..text.len() - rest.len()]
 }
 
-/// Whether the character has to be escaped in a literal.
+/// Returns whether the character has to be escaped in a literal.
 fn is_meta_character(c: char) -> bool
     ensures { result ≡ is_one_of escapable c }
 {
@@ -39,21 +40,21 @@ fn is_meta_character(c: char) -> bool
     )
 }
 
-/// Whether the character stands for itself in a literal.
+/// Returns whether a literal may contain the character as it is.
 pub(super) fn is_plain(c: char) -> bool
     ensures { result ≡ is_plain_character c }
 {
     c != '\\' && c != '/' && !is_meta_character(c)
 }
 
-/// Whether the character has to be escaped in a class.
+/// Returns whether the character has to be escaped in a class.
 fn is_class_meta_character(c: char) -> bool
     ensures { result ≡ is_one_of class_escapable c }
 {
     matches!(c, '[' | ']' | '-')
 }
 
-/// The next character of a literal, and the text after it.
+/// Reads one character of a literal, with its backslash if it is escaped.
 pub(super) fn literal_character(text: &str) -> Option<(char, &str)>
     ensures { MatchOption result (literal_step (chars text.now) ≡ None)
         (λ r. literal_step (chars text.now) ≡ Some (r.0, chars r.1.now)) }
@@ -73,7 +74,7 @@ pub(super) fn literal_character(text: &str) -> Option<(char, &str)>
     }
 }
 
-/// The next character of a class, and the text after it.
+/// Reads one character of a class, with its backslash if it is escaped.
 pub(super) fn class_character(text: &str) -> Option<(char, &str)>
     ensures { MatchOption result (class_step (chars text.now) ≡ None)
         (λ r. class_step (chars text.now) ≡ Some (r.0, chars r.1.now)) }

@@ -1,4 +1,4 @@
-//! Errors that have a place, and places with labels.
+//! Errors with a place in the expression, and places with labels.
 ghost use Rattle.std.specs.Prelude.{◌≡◌, ◌++◌, ℕ, IfOk, None, Option, Some, map};
 ghost use Rattle.wax_query.specs.Labels.{AreLabels, all_labels, here, seen, spans_of, split_some};
 
@@ -7,17 +7,18 @@ use std::alloc::{AllocError, Global};
 use std::fmt::{self, Display, Formatter};
 use std::marker::Model;
 
-/// An error at a place of an expression. It prints what is wrong there.
+/// An error at a place of an expression. Its `Display` form says what is wrong there.
 pub trait LocatedError: Display {
     ghost span_of: { Self → ℕ × ℕ };
 
+    /// Returns the place of the error in the expression, in bytes.
     fn span(&self) -> Span
         ensures { result ≡ span_of self.now };
 }
 
 type Labels = Vec<(&'static str, Span)>;
 
-/// Places that explain an error: one, or two that stand apart.
+/// The places that explain an error: one, or two that don't adjoin.
 #[derive(Clone, Copy, Debug)]
 pub enum CorrelatedSpan {
     Contiguous(Span),
@@ -25,7 +26,7 @@ pub enum CorrelatedSpan {
 }
 
 impl CorrelatedSpan {
-    /// Both, or the right one alone where there is no left one.
+    /// Returns `Split` if there is a left place, and otherwise `Contiguous` with the right one.
     pub fn split_some(left: Option<Span>, right: Span) -> Self
         ensures { result ≡ split_some left right }
     {
@@ -35,14 +36,18 @@ impl CorrelatedSpan {
         }
     }
 
-    /// The label `here` for each, from the left.
+    /// Returns each place, from left to right, with the label `here`.
+    ///
+    /// # Errors
+    ///
+    /// Returns `NoMemory` if allocation fails.
     pub fn labels(&self, alloc: Global) -> Result<Vec<(&'static str, Span)>, NoMemory>
         ensures { IfOk result (λ ls. AreLabels ls.items (map here (spans_of self.now))) }
     {
         Ok(self.added_to(Vec::new(alloc))?)
     }
 
-    /// The list with them at its end.
+    /// Appends the labelled places to `labels`.
     fn added_to(&self, mut labels: Labels) -> Result<Labels, AllocError>
         ensures { IfOk result (λ ls.
             map seen ls.items ≡ map seen labels.entry.items ++ map here (spans_of self.now)) }
@@ -71,8 +76,8 @@ impl From<Span> for CorrelatedSpan {
     }
 }
 
-/// A place with a label, and the places that explain it. It prints the label. Contracts see the label
-/// as its bytes.
+/// A place with a label, and the places that explain it. Its `Display` form is the label. Contracts
+/// see the label as its bytes.
 #[derive(Debug, Drop)]
 pub struct CompositeSpan {
     label: &'static str,
@@ -89,7 +94,7 @@ impl Model for CompositeSpan {
 }
 
 impl CompositeSpan {
-    /// A place that explains itself.
+    /// Creates a place that no other place explains.
     pub fn spanned(label: &'static str, span: Span) -> Self
         ensures { result ≡ record { label = label.now; span = span; correlated = None } }
     {
@@ -100,7 +105,7 @@ impl CompositeSpan {
         }
     }
 
-    /// A place with others that explain it.
+    /// Creates a place that one or two others explain.
     pub fn correlated(label: &'static str, span: Span, correlated: CorrelatedSpan) -> Self
         ensures { result ≡ record { label = label.now; span = span; correlated = Some correlated } }
     {
@@ -111,14 +116,18 @@ impl CompositeSpan {
         }
     }
 
-    /// The label of the place itself.
+    /// Returns the label of the place itself.
     pub fn label(&self) -> &'static str
         ensures { result.now ≡ self.now.label }
     {
         self.label
     }
 
-    /// The label and its span, then `here` for each place that explains it.
+    /// Returns the label with its span, and then the label `here` with each place that explains it.
+    ///
+    /// # Errors
+    ///
+    /// Returns `NoMemory` if allocation fails.
     pub fn labels(&self, alloc: Global) -> Result<Vec<(&'static str, Span)>, NoMemory>
         ensures { IfOk result (λ ls. AreLabels ls.items (all_labels self.now)) }
     {

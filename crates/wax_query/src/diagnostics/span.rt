@@ -1,17 +1,18 @@
-//! Spans, and what has one.
+//! Spans, and the types that have one.
 ghost use Rattle.std.specs.Prelude.{◌≡◌, ◌≤◌, ◌^◌, ◌⊎◌, ℕ, MatchOption, Option};
 ghost use Rattle.std.specs.Borrow.{sem};
 ghost use Rattle.wax_query.specs.Lending.{LendsSpan};
 ghost use Rattle.wax_query.specs.Spans.{IsUnion, end_of, span_union};
 
-/// A part of an expression: the first byte, and the number of bytes.
+/// A part of an expression: the offset of its first byte, and its length in bytes.
 pub type Span = (usize, usize);
 
-/// What spans can do.
+/// Operations on spans.
 pub trait SpanExt: Sized {
     ghost union_gives: { Self → Self → Option Self → Type 0 };
 
-    /// The least span that holds both; none where the end of one is past 64 bits.
+    /// Returns the smallest span that contains both. Returns `None` if the end of one exceeds 64
+    /// bits.
     fn union(self, other: Self) -> Option<Self>
         ensures { union_gives self other result };
 }
@@ -30,21 +31,23 @@ impl SpanExt for Span {
     }
 }
 
-/// What has a span.
+/// A type with a span.
 pub trait Spanned {
     ghost span_of: { Self → ℕ × ℕ };
 
-    /// The same with another span.
+    /// The value with its span replaced.
     ghost with_span: { Self → ℕ × ℕ → Self };
 
+    /// Returns the span of the value.
     fn span(&self) -> &Span
         ensures { result.now ≡ span_of self.now };
 
+    /// Returns the span of the value, for changing it.
     fn span_mut(&mut self) -> &mut Span
         ensures* writes_back { sem 𝓛 (LendsSpan Self.row with_span self.entry result) }
         ensures value { result.now ≡ span_of self.old };
 
-    /// The same with the span that the function makes of its own.
+    /// Replaces the span by what `f` returns for it.
     fn map_span<F>(mut self, f: F) -> Self
     where
         Self: Sized,

@@ -1,10 +1,11 @@
-//! The tokens of a glob that capture.
+//! The capturing tokens of a glob.
 ghost use Rattle.std.specs.Prelude.{◌≡◌};
 
 use crate::diagnostics::Span;
 use std::marker::Model;
 
-/// A token that captures: the index of its capture, and its span. Contracts see the two.
+/// A capturing token of a glob: the index of its capture, and its span in the expression. Contracts
+/// see the two as a pair.
 #[derive(Clone, Copy, Debug)]
 pub struct CapturingToken {
     index: usize,
@@ -28,13 +29,15 @@ impl CapturingToken {
         CapturingToken { index, span }
     }
 
-    /// From 1 on: at 0 is the whole text.
+    /// Returns the index of the token's capture. The first token has index 1, since capture 0 is
+    /// the whole path.
     pub fn index(&self) -> usize
         ensures { result ≡ self.now.0 }
     {
         self.index
     }
 
+    /// Returns the token's span in the expression, in bytes.
     pub fn span(&self) -> Span
         ensures { result ≡ self.now.1 }
     {

@@ -13,8 +13,9 @@ use super::variance::{Boundedness, Variance};
 use std::marker::Model;
 use std::num::NonZeroUsize;
 
-/// The numbers from a lower to an upper bound. At least one of the two is there, and more than one
-/// number is held. Contracts see the two bounds, where a lower one of 0 is none.
+/// A range from a lower to an upper bound, both inclusive. It has at least one of the two bounds
+/// and contains more than one number. Contracts see the two bounds; a lower bound of 0 counts as
+/// none.
 #[derive(Clone, Copy, Debug, PartialEq, Eq, Hash)]
 pub struct BoundedVariantRange {
     lower: usize,
@@ -32,8 +33,8 @@ impl Model for BoundedVariantRange {
 }
 
 impl BoundedVariantRange {
-    /// The numbers between the bounds, where 0 stands for a bound that isn't there. None without a
-    /// bound, and where the bounds hold no more than one number.
+    /// Returns the range from `lower` to `upper`, where 0 stands for a missing bound. Returns
+    /// `None` if both bounds are missing, or if `upper` isn't greater than `lower`.
     pub fn try_from_lower_and_upper(lower: usize, upper: Option<usize>) -> Option<Self>
         ensures { SomeIff result (IsVariant (given_bounds lower upper)) (given_bounds lower upper) }
     {
@@ -44,21 +45,22 @@ impl BoundedVariantRange {
         }
     }
 
-    /// The lower bound, if it is there.
+    /// Returns the lower bound, or `Unbounded` if the range begins at 0.
     pub fn lower(&self) -> Boundedness<NonZeroUsize>
         ensures { bound_number result ≡ present self.now.0 }
     {
         non_zero(self.lower)
     }
 
-    /// The upper bound; `Unbounded` where the range is open above.
+    /// Returns the upper bound, or `Unbounded` if the range is open above.
     pub fn upper(&self) -> Boundedness<NonZeroUsize>
         ensures { bound_number result ≡ self.now.1 }
     {
         non_zero(self.upper.unwrap_or(0))
     }
 
-    /// The numbers from the lesser lower to the greater upper bound.
+    /// Returns the range from the lesser of the two lower bounds to the greater of the two upper
+    /// bounds.
     pub fn union(self, other: NaturalRange) -> VariantRange
         ensures bounds { result ≡ variant_range (union_bounds self (bounds other)) }
         ensures members { HoldsBoth self (bounds other) (variant_bounds result) }
@@ -70,7 +72,8 @@ impl BoundedVariantRange {
         )
     }
 
-    /// The vector is added to the bounds that are there. None where one would be past 64 bits.
+    /// Adds `vector` to each bound that the range has. Returns `None` if a bound would exceed 64
+    /// bits.
     pub fn translation(self, vector: usize) -> Option<Self>
         ensures bounds { SomeIff result (Fits (shifted vector self)) (shifted vector self) }
         ensures members { IfSome result (HoldsShifted vector self) }
@@ -86,7 +89,7 @@ impl BoundedVariantRange {
         Some(BoundedVariantRange { lower, upper })
     }
 
-    /// The numbers up to the upper bound.
+    /// Returns the range from 0 to the upper bound.
     pub fn opened_lower_bound(self) -> VariantRange
         ensures { result ≡ variant_range (0, self.1) }
     {
@@ -94,14 +97,14 @@ impl BoundedVariantRange {
     }
 }
 
-/// A bound of 0 is none.
+/// Converts 0, which stands for a missing bound, to `Unbounded`.
 fn non_zero(number: usize) -> Boundedness<NonZeroUsize>
     ensures { bound_number result ≡ present number }
 {
     NonZeroUsize::new(number).map_or(Unbounded, Bounded)
 }
 
-/// The numbers between the bounds.
+/// Builds a range from bounds that are known to be in order.
 fn between(lower: usize, upper: Option<usize>) -> VariantRange
     requires { ForSome upper (λ high. lower < high) }
     ensures { result ≡ variant_range (lower, upper) }
@@ -113,11 +116,11 @@ fn between(lower: usize, upper: Option<usize>) -> VariantRange
     }
 }
 
-/// A range of more than one number; all numbers where no bound is there.
+/// A range that contains more than one number; `Unbounded` contains all numbers.
 pub type VariantRange = Boundedness<BoundedVariantRange>;
 
 impl VariantRange {
-    /// The lower bound, if it is there.
+    /// Returns the lower bound, or `Unbounded` if the range begins at 0.
     pub fn lower(&self) -> Boundedness<NonZeroUsize>
         ensures { bound_number result ≡ present (variant_bounds self.now).0 }
     {
@@ -127,7 +130,7 @@ impl VariantRange {
         }
     }
 
-    /// The upper bound; `Unbounded` where the range is open above.
+    /// Returns the upper bound, or `Unbounded` if the range is open above.
     pub fn upper(&self) -> Boundedness<NonZeroUsize>
         ensures { bound_number result ≡ (variant_bounds self.now).1 }
     {
@@ -138,15 +141,15 @@ impl VariantRange {
     }
 }
 
-/// One number, or a range of more.
+/// One number, or a range that contains more than one.
 pub type NaturalRange = Variance<usize, VariantRange>;
 
-/// How many components the texts of a glob have.
+/// The number of components of the paths that a glob matches.
 pub type DepthVariance = NaturalRange;
 
 impl NaturalRange {
-    /// The numbers from the lesser of the two bounds to the greater; without the other one, all from
-    /// the first on.
+    /// Returns the range from the lesser of the two numbers to the greater. If `other` is `None`,
+    /// the range begins at `closed` and is open above.
     pub fn from_closed_and_open(closed: usize, other: Option<usize>) -> Self
         ensures range { result ≡ range_of (ordered closed other) }
         ensures bounds { bounds result ≡ ordered closed other }
@@ -159,7 +162,7 @@ impl NaturalRange {
         }
     }
 
-    /// The lower bound; 0 where none is there.
+    /// Returns the lower bound, or 0 if there is none.
     pub fn lower(&self) -> usize
         ensures { result ≡ (bounds self.now).0 }
     {
@@ -170,7 +173,7 @@ impl NaturalRange {
         }
     }
 
-    /// The upper bound; None where the range is open above.
+    /// Returns the upper bound, or `None` if the range is open above.
     pub fn upper(&self) -> Option<usize>
         ensures value { result ≡ (bounds self.now).1 }
         ensures ordered { AtMost (bounds self.now).0 result }
@@ -182,14 +185,14 @@ impl NaturalRange {
         }
     }
 
-    /// Whether it is the number 1 alone.
+    /// Returns whether 1 is the only number of the range.
     pub fn is_one(&self) -> bool
         ensures { IsTrue result ↔ (self.now ≡ Invariant 1) }
     {
         matches!(self, Variance::Invariant(1))
     }
 
-    /// Whether it is the number 0 alone.
+    /// Returns whether 0 is the only number of the range.
     pub fn is_zero(&self) -> bool
         ensures { IsTrue result ↔ (self.now ≡ Invariant 0) }
     {
@@ -202,8 +205,8 @@ impl NaturalRange {
         self.upper().is_some()
     }
 
-    /// Both lower bounds together, to both upper bounds together. None where a bound would be past
-    /// 64 bits.
+    /// Adds the lower bounds and the upper bounds. The sum contains every sum of a number of `self`
+    /// and a number of `other`. Returns `None` if a bound would exceed 64 bits.
     pub fn sum(self, other: Self) -> Option<Self>
         ensures bounds { IsRangeThatFits result (sum_bounds (bounds self) (bounds other)) }
         ensures members { IfSome result (λ r. HoldsSums (bounds self) (bounds other) (bounds r)) }
@@ -216,8 +219,9 @@ impl NaturalRange {
         Some(Self::from_closed_and_open(lower, upper))
     }
 
-    /// The product of the lower bounds, to that of the upper bounds; 0 alone where a range is 0
-    /// alone. None where a bound would be past 64 bits.
+    /// Multiplies the lower bounds and the upper bounds. The product contains every product of a
+    /// number of `self` and a number of `other`; it is 0 if one of the two is 0, even if the other
+    /// is open above. Returns `None` if a bound would exceed 64 bits.
     pub fn product(self, other: Self) -> Option<Self>
         ensures bounds { IsRangeThatFits result (product_bounds (bounds self) (bounds other)) }
         ensures members { IfSome result (λ r. HoldsProducts (bounds self) (bounds other) (bounds r)) }

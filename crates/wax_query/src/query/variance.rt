@@ -1,4 +1,4 @@
-//! What is the same for each text of a glob, and what varies within bounds.
+//! Values that are either fixed for all matches of a glob or vary within bounds.
 ghost use Rattle.std.specs.Prelude.{◌≡◌, ◌↔◌, IfOk, IsNone, IsSome, IsTrue};
 ghost use Rattle.std.specs.Prelude.{option_copied, option_map, string_bytes};
 ghost use Rattle.std.specs.Option.{ForSome};
@@ -9,7 +9,7 @@ use crate::diagnostics::NoMemory;
 use std::alloc::Global;
 use std::borrow::CowStr;
 
-/// A bound that is there, or an open side.
+/// A bound of a range, or `Unbounded` where the range is open.
 #[derive(Clone, Copy, Debug, PartialEq, Eq, Hash, Drop)]
 pub enum Boundedness<T> {
     Bounded(T),
@@ -17,7 +17,7 @@ pub enum Boundedness<T> {
 }
 
 impl<T> Boundedness<T> {
-    /// The function's answer for the bound, if it is there.
+    /// Applies `f` to the bound, if there is one.
     pub fn map_bounded<U, F>(self, f: F) -> Boundedness<U>
     where
         F: FnOnce(T) -> U + Drop,
@@ -30,6 +30,7 @@ impl<T> Boundedness<T> {
         }
     }
 
+    /// Returns the bound, or `None` for `Unbounded`.
     pub fn bounded(self) -> Option<T>
         ensures { result ≡ bound self }
     {
@@ -61,7 +62,7 @@ impl<T> Boundedness<T> {
     }
 }
 
-/// What all texts have in common, or the bounds of what varies.
+/// A value that all matches of a glob share, or the bounds between which it varies.
 #[derive(Clone, Copy, Debug, PartialEq, Eq, Hash, Drop)]
 pub enum Variance<T, B> {
     Invariant(T),
@@ -69,6 +70,7 @@ pub enum Variance<T, B> {
 }
 
 impl<T, B> Variance<T, B> {
+    /// Returns the shared value, or `None` for `Variant`.
     pub fn invariant(self) -> Option<T>
     where
         B: Drop,
@@ -80,6 +82,7 @@ impl<T, B> Variance<T, B> {
         }
     }
 
+    /// Returns the bounds, or `None` for `Invariant`.
     pub fn variant(self) -> Option<B>
     where
         T: Drop,
@@ -112,7 +115,7 @@ impl<T, B> Variance<T, B> {
         !self.is_invariant()
     }
 
-    /// The function's answer for what is invariant; what varies stays as it is.
+    /// Applies `f` to an `Invariant` value, and returns a `Variant` unchanged.
     pub fn map_invariant<U, F>(self, f: F) -> Variance<U, B>
     where
         F: FnOnce(T) -> U + Drop,
@@ -126,7 +129,7 @@ impl<T, B> Variance<T, B> {
         }
     }
 
-    /// The function's answer for the bound of what varies; what is invariant stays as it is.
+    /// Applies `f` to the bounds of a `Variant`, and returns an `Invariant` unchanged.
     pub fn map_variant<U, F>(self, f: F) -> Variance<T, U>
     where
         F: FnOnce(B) -> U + Drop,
@@ -142,7 +145,7 @@ impl<T, B> Variance<T, B> {
 }
 
 impl<T> Variance<T, T> {
-    /// The value of either side.
+    /// Returns the value of either variant.
     pub fn into_inner(self) -> T
         ensures { result ≡ variance_value self }
     {
@@ -151,7 +154,7 @@ impl<T> Variance<T, T> {
         }
     }
 
-    /// The function's answer for the value, on the same side.
+    /// Applies `f` to the value of either variant, and keeps the variant.
     pub fn map<U, F>(self, f: F) -> Variance<U, U>
     where
         F: FnOnce(T) -> U,
@@ -166,11 +169,11 @@ impl<T> Variance<T, T> {
     }
 }
 
-/// The one text of a glob; none where the texts vary.
+/// The only text that a glob can match, if it is written as one text; otherwise `Variant(())`.
 pub type TextVariance<'t> = Variance<CowStr<'t>, ()>;
 
 impl<'t> TextVariance<'t> {
-    /// The text as a path.
+    /// Returns the text as a path, or `None` if it varies.
     pub fn as_path(&self) -> Option<&str>
         ensures { option_copied result ≡ text_of self.now }
     {
@@ -180,7 +183,12 @@ impl<'t> TextVariance<'t> {
         }
     }
 
-    /// The text as a path of its own. Refusal 10 where memory is refused.
+    /// Returns the text as an owned path, or `None` if it varies. Allocates only if the text is
+    /// borrowed.
+    ///
+    /// # Errors
+    ///
+    /// Returns `NoMemory` if allocation fails.
     pub fn into_path_buf(self, alloc: Global) -> Result<Option<String>, NoMemory>
         ensures path { IfOk result (λ path. option_map string_bytes path ≡ text_of self.entry) }
         ensures varying { IsSome (variant self.entry) → result ≡ Ok None }

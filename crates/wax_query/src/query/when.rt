@@ -1,9 +1,11 @@
-//! How sure an answer is.
+//! The result of a query about all matches of a glob.
 ghost use Rattle.std.specs.Prelude.{◌≡◌, ◌≢◌, ◌↔◌, IsTrue, max, min};
 ghost use Rattle.wax_query.specs.Whens.{certain_bool, certainty, greater, lesser, rank, when};
 ghost use Rattle.wax_query.specs.declared.query.when.When.TheVariants.{Always, Never, Sometimes};
 
-/// Whether something holds of the texts of a glob: of none, of some or of all, in this order.
+/// The result of a query about all paths that a glob matches: something is true for none, some or
+/// all of them. The variants are ordered from `Never` to `Always`. Queries such as `has_root`
+/// promise something only for `Always`.
 #[derive(Clone, Copy, Debug, PartialEq, Eq, PartialOrd, Ord, Hash)]
 pub enum When {
     Never,
@@ -12,7 +14,7 @@ pub enum When {
 }
 
 impl When {
-    /// The lesser of the two.
+    /// Returns the lesser of the two.
     pub fn and(self, other: Self) -> Self
         ensures lesser { result ≡ lesser self other }
         ensures order { rank result ≡ min (rank self) (rank other) }
@@ -20,7 +22,7 @@ impl When {
         self.min(other)
     }
 
-    /// The greater of the two.
+    /// Returns the greater of the two.
     pub fn or(self, other: Self) -> Self
         ensures greater { result ≡ greater self other }
         ensures order { rank result ≡ max (rank self) (rank other) }
@@ -28,7 +30,7 @@ impl When {
         self.max(other)
     }
 
-    /// What the two have in common: the answer that both are, else `Sometimes`.
+    /// Returns `self` if the two are equal, and `Sometimes` if they differ.
     pub fn certainty(self, other: Self) -> Self
         ensures common { result ≡ certainty self other }
         ensures either_way { result ≡ certainty other self }
@@ -56,14 +58,14 @@ impl When {
         matches!(self, When::Never)
     }
 
-    /// More than never.
+    /// Returns `true` for `Sometimes` and `Always`.
     pub fn is_maybe_true(&self) -> bool
         ensures { IsTrue result ↔ (self.now ≢ Never) }
     {
         !self.is_never()
     }
 
-    /// Less than always.
+    /// Returns `true` for `Never` and `Sometimes`.
     pub fn is_maybe_false(&self) -> bool
         ensures { IsTrue result ↔ (self.now ≢ Always) }
     {
@@ -79,7 +81,7 @@ impl From<bool> for When {
     }
 }
 
-/// None is `Sometimes`.
+/// `Some(true)` becomes `Always`, `Some(false)` becomes `Never`, and `None` becomes `Sometimes`.
 impl From<Option<bool>> for When {
     ghost from_gives = { λ answer w. answer ≡ certain_bool w };
 
@@ -88,7 +90,7 @@ impl From<Option<bool>> for When {
     }
 }
 
-/// None is `Sometimes`.
+/// `Always` becomes `Some(true)`, `Never` becomes `Some(false)`, and `Sometimes` becomes `None`.
 impl From<When> for Option<bool> {
     ghost from_gives = { λ w answer. answer ≡ certain_bool w };
 

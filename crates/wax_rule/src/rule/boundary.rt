@@ -1,4 +1,5 @@
-//! Adjacent boundaries: two neighbours of a concatenation are both `/` or `**`.
+//! The rule of adjacent boundaries: two tokens side by side in a concatenation are both `/` or
+//! `**`.
 ghost use Rattle.std.specs.Prelude.{◌≡◌, map, length};
 ghost use Rattle.std.specs.Option.{is_some};
 ghost use Rattle.std.specs.List.{range_with_len};
@@ -15,7 +16,6 @@ use itertools::Itertools;
 use wax_query::diagnostics::Span;
 use wax_token::token::{BranchKind, ExpressionMetadata, Token, Topology};
 
-/// Whether the token is a separator or a tree wildcard.
 fn is_boundary<'t>(token: &Token<'t, ExpressionMetadata>) -> bool
     ensures { result ≡ is_such is_boundary_leaf token.now }
 {
@@ -25,7 +25,8 @@ fn is_boundary<'t>(token: &Token<'t, ExpressionMetadata>) -> bool
     }
 }
 
-/// The least span that holds both.
+/// Returns the smallest span that contains both. Unlike `SpanExt::union` it can't overflow, since
+/// the metadata of a token bounds the end of its span.
 fn union(left: &ExpressionMetadata, right: &ExpressionMetadata) -> Span
     ensures { result ≡ span_union left.now right.now }
 {
@@ -35,7 +36,7 @@ fn union(left: &ExpressionMetadata, right: &ExpressionMetadata) -> Span
     (start, end - start)
 }
 
-/// The span of two neighbours that are both boundaries.
+/// Returns the span of the two tokens together, if both are boundaries.
 fn adjacent_span<'t>(
     left: &Token<'t, ExpressionMetadata>,
     right: &Token<'t, ExpressionMetadata>,
@@ -48,7 +49,7 @@ fn adjacent_span<'t>(
     None
 }
 
-/// The same of the token at the index and the next one.
+/// Returns the span of the token at the index and the next one, if both are boundaries.
 fn adjacent_span_at<'t>(tokens: &[Token<'t, ExpressionMetadata>], index: usize) -> Option<Span>
     ensures { result ≡ adjacent_at tokens.now index }
 {
@@ -57,7 +58,7 @@ fn adjacent_span_at<'t>(tokens: &[Token<'t, ExpressionMetadata>], index: usize) 
     adjacent_span(left, right)
 }
 
-/// The first two neighbours that are both boundaries: the index of the left one, and their span.
+/// Finds the first two adjacent boundaries. Returns the index of the left one, and their span.
 fn find_adjacent<'t>(tokens: &[Token<'t, ExpressionMetadata>]) -> Option<(usize, Option<Span>)>
     ensures { result
         ≡ find_at is_some 0 (map (adjacent_at tokens.now) (range_with_len 0 (length tokens.now))) }
@@ -73,7 +74,7 @@ fn adjacent_break<'t>(tokens: &[Token<'t, ExpressionMetadata>]) -> Option<Break>
     Some(break_here(RuleErrorKind::AdjacentBoundary, span?))
 }
 
-/// The first two neighbours in the token that are both boundaries.
+/// Returns the break of the rule of adjacent boundaries at this token itself, not inside it.
 pub(super) fn boundary_break<'t>(token: &Token<'t, ExpressionMetadata>) -> Option<Break>
     ensures { result ≡ head_of (boundary_breaks token.now) }
 {

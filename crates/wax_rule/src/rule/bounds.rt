@@ -1,4 +1,5 @@
-//! Incompatible bounds: of a repetition, the upper bound is below the lower one, or both are zero.
+//! The rule of incompatible bounds: a repetition's upper bound is below its lower one, or both are
+//! zero.
 ghost use Rattle.std.specs.Prelude.{◌≡◌};
 ghost use Rattle.wax_break.specs.Rules.{are_incompatible, bounds_breaks};
 ghost use Rattle.wax_rule.specs.FirstBreak.{head_of};
@@ -15,7 +16,7 @@ fn are_incompatible(lower: usize, upper: Option<usize>) -> bool
     }
 }
 
-/// Whether the token is a repetition with such bounds.
+/// Returns the break of this rule at the token itself, not inside it.
 pub(super) fn bounds_break<'t>(token: &Token<'t, ExpressionMetadata>) -> Option<Break>
     ensures { result ≡ head_of (bounds_breaks token.now) }
 {

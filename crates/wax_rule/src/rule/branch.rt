@@ -1,4 +1,5 @@
-//! What a sub-glob makes of the branch around it and of the branch's neighbours.
+//! The rules of branches: how a sub-glob may begin and end, by the branch around it and the
+//! branch's neighbours.
 ghost use Rattle.std.specs.Prelude.{◌≡◌};
 ghost use Rattle.std.specs.Option.{option_or};
 ghost use Rattle.wax_token.specs.Words.{trees};
@@ -37,7 +38,6 @@ fn terminal_of<'t>(token: &Token<'t, ExpressionMetadata>) -> Terminal
     }
 }
 
-/// Whether the neighbour has a boundary at its side.
 fn side_has_boundary(side: Option<Side>) -> bool
     ensures { result ≡ side_has_boundary side }
 {
@@ -47,7 +47,6 @@ fn side_has_boundary(side: Option<Side>) -> bool
     }
 }
 
-/// Whether the neighbour has a `*` or `$` at its side.
 fn has_zero_or_more(side: Option<Side>) -> bool
     ensures { result ≡ has_zero_or_more side }
 {
@@ -57,7 +56,7 @@ fn has_zero_or_more(side: Option<Side>) -> bool
     }
 }
 
-/// The neighbour, if there is one, and the token.
+/// Builds the places that explain a break: the neighbour, if there is one, and the token.
 fn split_from(side: Option<Side>, terminal: Terminal) -> CorrelatedSpan
     ensures { result ≡ split_from side terminal }
 {
@@ -67,8 +66,8 @@ fn split_from(side: Option<Side>, terminal: Terminal) -> CorrelatedSpan
     }
 }
 
-/// What neither an alternation nor a repetition may hold: the sub-glob meets a boundary with a
-/// boundary, or a `*` or `$` with another, or is `**` alone.
+/// Lists what neither an alternation nor a repetition may contain: a sub-glob with a boundary
+/// beside a boundary, with a `*` or `$` beside another, or of only `**`.
 fn shared_rows(
     left: Option<Side>,
     right: Option<Side>,
@@ -124,7 +123,7 @@ fn shared_rows(
     ]
 }
 
-/// What an alternation may not hold: a root, where nothing stands before it.
+/// Lists what only an alternation may not contain: a root, if nothing is written before it.
 fn alternation_rows(left: Option<Side>, first: Terminal) -> [Row; 1]
     ensures { result ≡ alternation_rows left first }
 {
@@ -138,8 +137,8 @@ fn alternation_rows(left: Option<Side>, first: Terminal) -> [Row; 1]
     ]
 }
 
-/// What a repetition may not hold: a root that may be left out, and what two copies would make of
-/// boundaries, or of `*` and `$`.
+/// Lists what only a repetition may not contain: a root if there may be no copies, and boundaries,
+/// `*` or `$` that meet between two copies.
 fn repetition_rows(
     left: Option<Side>,
     lower: usize,
@@ -177,7 +176,6 @@ fn repetition_rows(
     ]
 }
 
-/// The first row that holds.
 fn first_that_holds(rows: &[Row]) -> Option<Row>
     ensures { result ≡ first_that_holds rows.now }
 {
@@ -189,7 +187,7 @@ fn first_that_holds(rows: &[Row]) -> Option<Row>
     None
 }
 
-/// The first row of all that hold for a sub-glob.
+/// Finds the first row that holds for a sub-glob. The shared rows come first.
 fn find_row(
     branch: Sort,
     left: Option<Side>,
@@ -211,7 +209,7 @@ fn find_row(
     shared.or(own)
 }
 
-/// The same for these tokens of a sub-glob.
+/// Finds the first row that holds for a sub-glob of these tokens, or `None` if there are none.
 fn find_row_of<'t>(
     branch: Sort,
     left: Option<Side>,
@@ -234,7 +232,7 @@ fn label_of(branch: Sort) -> &'static str
     }
 }
 
-/// What a sub-glob breaks in a branch of this span.
+/// Returns the break of a sub-glob, placed at the span of the branch around it.
 fn sub_glob_break<'t>(
     branch: Sort,
     span: Span,
@@ -251,7 +249,7 @@ fn sub_glob_break<'t>(
     })
 }
 
-/// What the first of some branches of an alternation breaks.
+/// Returns the break of the first branch of an alternation that has one.
 fn alternative_break<'t>(
     span: Span,
     left: Option<Side>,
@@ -268,7 +266,7 @@ fn alternative_break<'t>(
     None
 }
 
-/// What the first of a branch's sub-globs breaks.
+/// Returns the first break of the rules of branches at this token itself, not inside it.
 pub(super) fn branch_break(token: &Situated<'_, '_>) -> Option<Break>
     ensures { result ≡ head_of (branch_breaks token.now.left token.now.right token.now.token) }
 {

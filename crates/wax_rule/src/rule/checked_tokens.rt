@@ -1,4 +1,4 @@
-//! What was checked, as it is lent, owned, taken apart and made one of many.
+//! Borrowing, owning, splitting and combining checked tokens.
 ghost use Rattle.std.specs.Prelude.{◌≡◌, IfOk, map};
 ghost use Rattle.std.specs.Cow.{cow_str_bytes};
 ghost use Rattle.wax_token.specs.Syntax.{alternation};
@@ -14,7 +14,7 @@ use wax_token::token::{
 };
 
 impl<T> Checked<T> {
-    /// What was checked.
+    /// Returns a reference to what was checked.
     pub fn as_ref(&self) -> &T
         ensures { result.now ≡ self.now }
     {
@@ -23,7 +23,7 @@ impl<T> Checked<T> {
 }
 
 impl<'t, T: TokenTree<'t>> Checked<T> {
-    /// The token of what was checked, without its expression.
+    /// Returns the checked token, and drops its expression.
     pub fn into_token(self) -> Checked<Token<'t, T::Annotation>>
         ensures { result ≡ T.token self }
     {
@@ -32,9 +32,12 @@ impl<'t, T: TokenTree<'t>> Checked<T> {
         }
     }
 
-    /// Tokens of which one or another means each text that the token means: the alternatives of the token
-    /// (`wax::token::into_alternatives`). Refused with 10 where memory is. It takes time and memory in
-    /// proportion to the tokens.
+    /// Splits the token into its alternatives, as `wax::token::into_alternatives` does: the token
+    /// matches a path exactly if one of them does. Takes time and memory linear in the tokens.
+    ///
+    /// # Errors
+    ///
+    /// Returns `NoMemory` if allocation fails.
     pub fn into_alternatives(
         self,
         alloc: Global,
@@ -50,8 +53,12 @@ impl<'t, T: TokenTree<'t>> Checked<T> {
 }
 
 impl<'t, A: Drop> Checked<Tokenized<'t, A>> {
-    /// The same with texts of its own. Refused with 10 where memory is. It takes the time and memory of the
-    /// expression, all tokens and their texts.
+    /// Converts the value to one that owns the expression and all texts of the token. Takes time
+    /// and memory linear in the expression, the tokens and their texts.
+    ///
+    /// # Errors
+    ///
+    /// Returns `NoMemory` if allocation fails.
     pub fn into_owned(self, alloc: Global) -> Result<Checked<Tokenized<'static, A>>, NoMemory>
         ensures expression { IfOk result (λ u.
             cow_str_bytes u.expression ≡ cow_str_bytes self.entry.expression) }
@@ -64,8 +71,12 @@ impl<'t, A: Drop> Checked<Tokenized<'t, A>> {
 }
 
 impl<'t, A: Drop> Checked<Token<'t, A>> {
-    /// The same with texts of its own. Refused with 10 where memory is. It takes the time and memory of all
+    /// Converts the token to one that owns all its texts. Takes time and memory linear in the
     /// tokens and their texts.
+    ///
+    /// # Errors
+    ///
+    /// Returns `NoMemory` if allocation fails.
     pub fn into_owned(self, alloc: Global) -> Result<Checked<Token<'static, A>>, NoMemory>
         ensures { IfOk result (λ t. t ≡ self.entry) }
     {
@@ -76,9 +87,15 @@ impl<'t, A: Drop> Checked<Token<'t, A>> {
 }
 
 impl<'t> Checked<Token<'t, ExpressionMetadata>> {
-    /// The alternation of the tokens, in their order, with the span (0, 0); the spans in it stay those of
-    /// each expression. None of the rules is asked of the alternation itself. Without a branch it means
-    /// nothing. Refused with 10 where memory is.
+    /// Combines tokens into one alternation, which matches what at least one of them matches.
+    /// Without tokens it matches nothing.
+    ///
+    /// The rules are not checked for the alternation itself. Its span is (0, 0), and each token in
+    /// it keeps the spans of its own expression.
+    ///
+    /// # Errors
+    ///
+    /// Returns `NoMemory` if allocation fails.
     pub fn any<T>(alloc: Global, all: Vec<Checked<T>>) -> Result<Self, NoMemory>
     where
         T: TokenTree<'t, Annotation = ExpressionMetadata> + Drop,
@@ -93,14 +110,14 @@ impl<'t> Checked<Token<'t, ExpressionMetadata>> {
     }
 }
 
-/// What keeps the rules as it is: what was checked before it was compiled, or the alternation of such.
+/// Wraps `inner` without checking it. Callers have to pass only tokens that were released from a
+/// `Checked`, or an alternation of such tokens.
 pub fn already_checked<T>(inner: T) -> Checked<T>
     ensures { result ≡ inner }
 {
     Checked { inner }
 }
 
-/// The tokens of what was checked.
 fn tokens_of<'t, T: TokenTree<'t> + Drop>(
     alloc: Global,
     all: Vec<Checked<T>>,
@@ -116,7 +133,7 @@ where
     Ok(tokens)
 }
 
-/// The parts of what was checked.
+/// Wraps the parts of a checked token.
 fn checked_each<'t, A: Drop>(
     alloc: Global,
     tokens: Vec<Token<'t, A>>,

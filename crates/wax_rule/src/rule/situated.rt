@@ -1,4 +1,4 @@
-//! The tokens of a glob in a row, breadth first, each with what stands beside it.
+//! All tokens of a glob in one list, breadth first, each with its neighbours.
 ghost use Rattle.std.specs.Prelude.{◌≡◌, ◌++◌, ◌∷◌, [], Bool, IfOk, OnOk, Option, Some, None, drop, ◌<◌, ◌≤◌};
 ghost use Rattle.std.specs.Prelude.{◌||◌, length};
 ghost use Rattle.std.specs.List.{flat_map};
@@ -15,7 +15,7 @@ use wax_break::Side;
 use wax_query::diagnostics::Span;
 use wax_token::token::{BranchKind, ExpressionMetadata, LeafKind, Token, Topology};
 
-/// A token, and what its neighbours show to it.
+/// A token, and the sides of its neighbours that it touches.
 #[derive(Drop)]
 pub(super) struct Situated<'i, 't> {
     token: &'i Token<'t, ExpressionMetadata>,
@@ -54,7 +54,8 @@ impl<'i, 't> Situated<'i, 't> {
     }
 }
 
-/// Whether a boundary is there, and whether a `*` or `$`.
+/// What was found at one side of a token: a boundary, a `*` or `$`, both (in different branches) or
+/// neither.
 #[derive(Clone, Copy)]
 struct Found {
     boundary: bool,
@@ -67,7 +68,7 @@ impl Found {
         zero_or_more: false,
     };
 
-    /// What is in this or in the other.
+    /// Returns what was found in one or the other.
     fn or(self, other: Found) -> Found
         ensures boundary { result.boundary ≡ (self.boundary || other.boundary) }
         ensures zero_or_more { result.zero_or_more ≡ (self.zero_or_more || other.zero_or_more) }
@@ -89,7 +90,7 @@ fn found_in_leaf(leaf: &LeafKind<'_>) -> Found
     }
 }
 
-/// What is reached through first tokens.
+/// Returns what first tokens, bodies and branches lead to.
 #[cycle(found_at_start)]
 fn found_at_start<'t>(token: &Token<'t, ExpressionMetadata>) -> Found
     ensures boundary { result.boundary ≡ starts_with_leaf is_boundary_leaf token.now }
@@ -108,7 +109,7 @@ fn found_at_start<'t>(token: &Token<'t, ExpressionMetadata>) -> Found
     }
 }
 
-/// The same of some of the tokens.
+/// Returns what is found at the start of any of the tokens.
 #[cycle(found_at_start)]
 #[tactic(auto, using(wax_token::proofs::Sizes::element_size))]
 fn found_at_starts<'t>(tokens: &[Token<'t, ExpressionMetadata>]) -> Found
@@ -122,7 +123,7 @@ fn found_at_starts<'t>(tokens: &[Token<'t, ExpressionMetadata>]) -> Found
     found
 }
 
-/// What is reached through last tokens.
+/// Returns what last tokens, bodies and branches lead to.
 #[cycle(found_at_end)]
 fn found_at_end<'t>(token: &Token<'t, ExpressionMetadata>) -> Found
     ensures boundary { result.boundary ≡ ends_in is_boundary_leaf token.now }
@@ -141,7 +142,7 @@ fn found_at_end<'t>(token: &Token<'t, ExpressionMetadata>) -> Found
     }
 }
 
-/// The same of some of the tokens.
+/// Returns what is found at the end of any of the tokens.
 #[cycle(found_at_end)]
 #[tactic(auto, using(wax_token::proofs::Sizes::element_size))]
 fn found_at_ends<'t>(tokens: &[Token<'t, ExpressionMetadata>]) -> Found
@@ -155,7 +156,6 @@ fn found_at_ends<'t>(tokens: &[Token<'t, ExpressionMetadata>]) -> Found
     found
 }
 
-/// The side of a token at which this is found.
 fn side_of<'t>(token: &Token<'t, ExpressionMetadata>, found: Found) -> Side
     ensures { result ≡ record {
       span = annotation_of token.now;
@@ -182,7 +182,8 @@ fn end_side<'t>(token: &Token<'t, ExpressionMetadata>) -> Side
     side_of(token, found_at_end(token))
 }
 
-/// What the token at the index shows to the one before it, or the other where there is none.
+/// Returns the neighbour to the right of the token before `index`: the token at `index`, or at the
+/// end of the sequence the neighbour of the branch around it.
 fn right_of<'t>(
     tokens: &[Token<'t, ExpressionMetadata>],
     index: usize,
@@ -196,7 +197,7 @@ fn right_of<'t>(
     }
 }
 
-/// Puts the tokens of a concatenation into the row.
+/// Appends the tokens of a concatenation. Each is the neighbour of the next.
 fn push_siblings<'i, 't>(
     row: &mut Vec<Situated<'i, 't>>,
     tokens: &'i [Token<'t, ExpressionMetadata>],
@@ -218,7 +219,7 @@ fn push_siblings<'i, 't>(
     Ok(())
 }
 
-/// Puts the branches of an alternation into the row.
+/// Appends the branches of an alternation. They all have the alternation's neighbours.
 fn push_branches<'i, 't>(
     row: &mut Vec<Situated<'i, 't>>,
     tokens: &'i [Token<'t, ExpressionMetadata>],
@@ -233,7 +234,7 @@ fn push_branches<'i, 't>(
     Ok(())
 }
 
-/// Puts the tokens that the one at the index holds into the row.
+/// Appends the tokens inside the token at the index.
 fn push_children<'i, 't>(row: &mut Vec<Situated<'i, 't>>, index: usize) -> Result<(), AllocError>
     requires { index < length row.old.items }
     ensures { OnOk result (row.new.items ≡ row.old.items ++ queue_children row.old.items index) }
@@ -257,7 +258,7 @@ fn push_children<'i, 't>(row: &mut Vec<Situated<'i, 't>>, index: usize) -> Resul
     }
 }
 
-/// Puts the tokens that those from the index on hold into the row.
+/// Appends the tokens inside each of the tokens from the index on: the next level.
 fn push_level<'i, 't>(row: &mut Vec<Situated<'i, 't>>, from: usize) -> Result<(), AllocError>
     requires { from ≤ length row.old.items }
     ensures { OnOk result (row.new.items ≡ row.old.items ++ flat_map children (drop from row.old.items)) }
@@ -268,7 +269,7 @@ fn push_level<'i, 't>(row: &mut Vec<Situated<'i, 't>>, from: usize) -> Result<()
     Ok(())
 }
 
-/// All tokens, breadth first.
+/// Lists all tokens of a glob, breadth first.
 pub(super) fn breadth_first<'i, 't>(
     alloc: Global,
     whole: &'i Token<'t, ExpressionMetadata>,

@@ -1,4 +1,4 @@
-//! Fixed sizes of tokens.
+//! Fixed sizes of tokens, in bytes. A character that can vary, as of `?` or a class, counts as 4.
 ghost use Rattle.std.specs.Prelude.{◌≡◌, IfOk, chars};
 ghost use Rattle.wax_token.specs.Reads.{utf8_len};
 ghost use Rattle.wax_token.specs.View.{leaf_of};
@@ -11,10 +11,10 @@ use std::alloc::{AllocError, Global};
 use wax_query::diagnostics::NoMemory;
 use wax_token::token::{BranchKind, ExpressionMetadata, LeafKind, Token, Topology, Wildcard};
 
-/// The least fixed size that is refused.
+/// The least fixed size, in bytes, that is an error.
 const OVERSIZED: u64 = 65_536;
 
-/// Whether the token has a fixed size of 65,536 or more.
+/// Returns whether the token has a fixed size of at least `OVERSIZED`.
 pub(super) fn is_oversized<'t>(
     alloc: Global,
     token: &Token<'t, ExpressionMetadata>,
@@ -27,8 +27,12 @@ pub(super) fn is_oversized<'t>(
     }
 }
 
-/// The fixed size of a token in bytes, if it has one; where that is past 64 bits, the greatest that fits. A
-/// character that can be any counts as 4. Refused with 10 where memory is, which is taken from 2^64 on.
+/// Returns the fixed size of a token in bytes, or `None` if it has none, as `*`, `$` and `**`. A
+/// class and `?` count as 4. A size that exceeds 64 bits is returned as `usize::MAX`.
+///
+/// # Errors
+///
+/// Returns `NoMemory` if allocation fails. Only sizes of 2^64 or more allocate.
 pub fn size<'t>(
     alloc: Global,
     token: &Token<'t, ExpressionMetadata>,
@@ -41,7 +45,6 @@ pub fn size<'t>(
     }
 }
 
-/// The fixed size of a token, if it has one.
 #[cycle(sizes)]
 fn fixed_size<'t>(
     alloc: Global,
@@ -65,7 +68,7 @@ fn fixed_size<'t>(
     }
 }
 
-/// The sum of the fixed sizes of tokens, if all have one.
+/// Returns the sum of the fixed sizes of tokens, if all of them have one.
 #[cycle(sizes)]
 #[tactic(auto, using(wax_token::proofs::Sizes::element_size))]
 fn total_size<'t>(
@@ -84,7 +87,7 @@ fn total_size<'t>(
     Ok(Some(total))
 }
 
-/// The fixed size of branches, if there is one and all have the same.
+/// Returns the fixed size that all branches share, or `None` if they differ or there are none.
 #[cycle(sizes)]
 fn common_size<'t>(
     alloc: Global,
@@ -102,7 +105,6 @@ fn common_size<'t>(
     Ok(if agree { Some(common) } else { None })
 }
 
-/// Whether each of the tokens has the size.
 #[cycle(sizes)]
 #[tactic(auto, using(wax_token::proofs::Sizes::element_size))]
 fn are_of_size<'t>(
@@ -123,7 +125,8 @@ fn are_of_size<'t>(
     Ok(true)
 }
 
-/// The fixed size of so many copies, from that of one.
+/// Returns the fixed size of a repetition whose body has `size`. It has none if the number of
+/// copies varies.
 fn size_of_copies(
     alloc: Global,
     lower: usize,

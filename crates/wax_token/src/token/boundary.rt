@@ -1,4 +1,4 @@
-//! What bounds the components of a path.
+//! Boundaries: the tokens between the components of a path.
 ghost use Rattle.std.specs.Prelude.{◌≡◌};
 ghost use Rattle.wax_token.specs.Kinds.{leaf_boundary, boundary_of, has_boundary, is_boundary};
 ghost use Rattle.wax_token.specs.Kinds.{some_has_boundary};
@@ -7,15 +7,17 @@ ghost use Rattle.wax_token.specs.Words.{trees};
 
 use super::{BranchKind, LeafKind, Token, Topology, Wildcard};
 
-/// What bounds components: `**`, which is a component itself, or `/`.
+/// A token at which components end: `**`, which is a component itself, or `/`.
 #[derive(Clone, Copy, Debug, PartialEq, Eq, Hash)]
 pub enum Boundary {
+    /// `**`.
     Component,
+    /// `/`.
     Separator,
 }
 
 impl<'t> LeafKind<'t> {
-    /// The boundary that the leaf is.
+    /// Returns which boundary the leaf is, or `None` if it is none.
     pub fn boundary(&self) -> Option<Boundary>
         ensures { result ≡ leaf_boundary (leaf_of self.now) }
     {
@@ -31,14 +33,14 @@ impl<'t> LeafKind<'t> {
 }
 
 impl<'t, A> Token<'t, A> {
-    /// The boundary that the token is.
+    /// Returns which boundary the token is, or `None` if it is none.
     pub fn boundary(&self) -> Option<Boundary>
         ensures { result ≡ boundary_of self.now }
     {
         self.as_leaf()?.boundary()
     }
 
-    /// Whether the token is a boundary.
+    /// Returns whether the token is `/` or `**`.
     pub fn is_boundary(&self) -> bool
         ensures { result ≡ is_boundary self.now }
     {
@@ -48,7 +50,8 @@ impl<'t, A> Token<'t, A> {
         }
     }
 
-    /// Whether the token is a boundary or holds one, at any depth. It takes the time of all tokens.
+    /// Returns whether the token is `/` or `**`, or contains one at any depth. Takes time linear in
+    /// the number of tokens.
     pub fn has_boundary(&self) -> bool
         ensures { result ≡ has_boundary self.now }
     {

@@ -1,4 +1,4 @@
-//! How the tokens that a branch holds make its meaning.
+//! How a branch combines its tokens: a match needs all of them, or one.
 ghost use Rattle.std.specs.Prelude.{◌≡◌, ◌↔◌, IsSome, option_map};
 ghost use Rattle.std.specs.Borrow.{Lends, sem};
 ghost use Rattle.std.specs.Option.{ForSome};
@@ -10,17 +10,19 @@ ghost use Rattle.wax_token.specs.contracts.token.composition.Composition.{the_ro
 
 use super::{Annotation, BranchKind, Token, Topology};
 
-/// Of tokens: all of them one after another, or one of them.
+/// How a branch combines its tokens: `Conjunctive` if a match needs all of them, one after another,
+/// and `Disjunctive` if it needs one of them.
 #[derive(Clone, Copy, Debug, PartialEq, Eq, Drop)]
 pub enum Composition<C, D> {
     Conjunctive(C),
     Disjunctive(D),
 }
 
-/// A composition with the same on both sides.
+/// A composition whose two variants hold values of one type.
 pub type TokenComposition<T> = Composition<T, T>;
 
 impl<C, D> Composition<C, D> {
+    /// Returns the value of a `Conjunctive`, or `None`.
     pub fn conjunctive(self) -> Option<C>
     where
         D: Drop,
@@ -32,6 +34,7 @@ impl<C, D> Composition<C, D> {
         }
     }
 
+    /// Returns the value of a `Disjunctive`, or `None`.
     pub fn disjunctive(self) -> Option<D>
     where
         C: Drop,
@@ -52,7 +55,7 @@ impl<C, D> Composition<C, D> {
         }
     }
 
-    /// The function's answer for the conjunctive side; the other stays as it is.
+    /// Applies `f` to the value of a `Conjunctive`, and returns a `Disjunctive` unchanged.
     pub fn map_conjunctive<T, F>(self, f: F) -> Composition<T, D>
     where
         F: FnOnce(C) -> T + Drop,
@@ -66,7 +69,7 @@ impl<C, D> Composition<C, D> {
         }
     }
 
-    /// The function's answer for the disjunctive side; the other stays as it is.
+    /// Applies `f` to the value of a `Disjunctive`, and returns a `Conjunctive` unchanged.
     pub fn map_disjunctive<T, F>(self, f: F) -> Composition<C, T>
     where
         F: FnOnce(D) -> T + Drop,
@@ -82,7 +85,7 @@ impl<C, D> Composition<C, D> {
 }
 
 impl<T> Composition<T, T> {
-    /// The value of either side.
+    /// Returns the value of either variant.
     pub fn into_inner(self) -> T
         ensures { result ≡ composition_value self }
     {
@@ -91,7 +94,7 @@ impl<T> Composition<T, T> {
         }
     }
 
-    /// The function's answer for the value, on the same side.
+    /// Applies `f` to the value of either variant, and keeps the variant.
     pub fn map<U, F>(self, f: F) -> Composition<U, U>
     where
         F: FnOnce(T) -> U,
@@ -105,7 +108,7 @@ impl<T> Composition<T, T> {
         }
     }
 
-    /// The value of either side.
+    /// Returns a reference to the value of either variant.
     pub fn get(&self) -> &T
         ensures { result.now ≡ composition_value self.now }
     {
@@ -114,7 +117,7 @@ impl<T> Composition<T, T> {
         }
     }
 
-    /// The value of either side, to be changed; the side stays.
+    /// Returns a mutable reference to the value of either variant.
     pub fn get_mut(&mut self) -> &mut T
         ensures value { result.now ≡ composition_value self.old }
         ensures* writes_back { sem 𝓛 (Lends (the_row T.row T.row) T.row self.entry result
@@ -128,7 +131,8 @@ impl<T> Composition<T, T> {
 }
 
 impl<'t, A> Token<'t, A> {
-    /// Whether the token means one of the tokens that it holds, or takes all of them, as a leaf does.
+    /// Returns `Disjunctive` for an alternation, and `Conjunctive` for every other token, leaves
+    /// included.
     pub fn composition(&self) -> TokenComposition<()>
         ensures { result ≡ composition_of self.now }
     {
@@ -141,8 +145,8 @@ impl<'t, A> Token<'t, A> {
 }
 
 impl<'t, A: Annotation> Token<'t, A> {
-    /// The tokens that a branch holds: the branches of an alternation, the tokens of a concatenation, or the
-    /// one token of a repetition.
+    /// Returns the tokens in a branch: the branches of an alternation, the tokens of a
+    /// concatenation, or the body of a repetition. Returns `None` for a leaf.
     pub fn tokens(&self) -> Option<TokenComposition<&[Self]>>
         ensures { option_map (on_inner (λ ts. trees ts.now)) result ≡ children_of self.now }
     {

@@ -1,4 +1,4 @@
-//! Copies of tokens that are only borrowed, with texts of their own.
+//! Owned copies of borrowed tokens.
 ghost use Rattle.std.specs.Prelude.{◌≡◌, IfOk};
 ghost use Rattle.std.specs.Cow.{cow_str_bytes};
 ghost use Rattle.wax_token.specs.View.{leaf_of};
@@ -13,8 +13,12 @@ use std::borrow::CowStr;
 use wax_query::diagnostics::NoMemory;
 
 impl<'t, A: Copy> Token<'t, A> {
-    /// A copy with texts of its own. Refused with 10 where memory is. It takes the time and memory of all
-    /// tokens and their texts.
+    /// Copies the token and all texts in it. Takes time and memory linear in the tokens and their
+    /// texts.
+    ///
+    /// # Errors
+    ///
+    /// Returns `NoMemory` if allocation fails.
     pub fn to_owned(&self, alloc: Global) -> Result<Token<'static, A>, NoMemory>
         ensures { IfOk result (λ copy. copy ≡ self.now) }
     {
@@ -23,8 +27,12 @@ impl<'t, A: Copy> Token<'t, A> {
 }
 
 impl<'t, A: Copy> Tokenized<'t, A> {
-    /// A copy with an expression and texts of its own. Refused with 10 where memory is. It takes the time and
-    /// memory of the expression, all tokens and their texts.
+    /// Copies the expression, the token and all texts in it. Takes time and memory linear in the
+    /// expression, the tokens and their texts.
+    ///
+    /// # Errors
+    ///
+    /// Returns `NoMemory` if allocation fails.
     pub fn to_owned(&self, alloc: Global) -> Result<Tokenized<'static, A>, NoMemory>
         ensures expression { IfOk result (λ copy.
             cow_str_bytes copy.expression ≡ cow_str_bytes self.now.expression) }

@@ -1,4 +1,4 @@
-//! What a token is.
+//! Which kind of token a token is.
 ghost use Rattle.std.specs.Prelude.{◌≡◌, ◌↔◌, IsSome, IsTrue, Some, false, []};
 ghost use Rattle.std.specs.Prelude.{option_copied, option_map};
 ghost use Rattle.wax_token.specs.Kinds.{alternation_of, class_of, concatenation_of, literal_of};
@@ -13,7 +13,7 @@ use super::{
 };
 
 impl<'t, A> Token<'t, A> {
-    /// The alternation that the token is.
+    /// Returns the token as an alternation, or `None`.
     pub fn as_alternation(&self) -> Option<&Alternation<'t, A>>
         ensures { option_map (λ a. trees a.now.tokens.items) result ≡ alternation_of self.now }
     {
@@ -23,7 +23,7 @@ impl<'t, A> Token<'t, A> {
         }
     }
 
-    /// The concatenation that the token is.
+    /// Returns the token as a concatenation, or `None`.
     pub fn as_concatenation(&self) -> Option<&Concatenation<'t, A>>
         ensures { option_map (λ c. trees c.now.tokens.items) result ≡ concatenation_of self.now }
     {
@@ -33,7 +33,7 @@ impl<'t, A> Token<'t, A> {
         }
     }
 
-    /// The repetition that the token is.
+    /// Returns the token as a repetition, or `None`.
     pub fn as_repetition(&self) -> Option<&Repetition<'t, A>>
         ensures { option_map (λ r. (r.now.token.value, r.now.lower, r.now.upper)) result
             ≡ repetition_of self.now }
@@ -44,7 +44,7 @@ impl<'t, A> Token<'t, A> {
         }
     }
 
-    /// The class that the token is.
+    /// Returns the token as a class, or `None`.
     pub fn as_class(&self) -> Option<&Class>
         ensures { option_copied result ≡ class_of self.now }
     {
@@ -54,7 +54,7 @@ impl<'t, A> Token<'t, A> {
         }
     }
 
-    /// The literal that the token is.
+    /// Returns the token as a literal, or `None`.
     pub fn as_literal(&self) -> Option<&Literal<'t>>
         ensures { option_copied result ≡ literal_of self.now }
     {
@@ -64,7 +64,7 @@ impl<'t, A> Token<'t, A> {
         }
     }
 
-    /// The `/` that the token is.
+    /// Returns the token as a separator, or `None`.
     pub fn as_separator(&self) -> Option<&Separator>
         ensures { IsSome result ↔ IsTrue (is_separator self.now) }
     {
@@ -74,7 +74,7 @@ impl<'t, A> Token<'t, A> {
         }
     }
 
-    /// The wildcard that the token is.
+    /// Returns the token as a wildcard, or `None`.
     pub fn as_wildcard(&self) -> Option<&Wildcard>
         ensures { option_copied result ≡ wildcard_of self.now }
     {
@@ -84,14 +84,14 @@ impl<'t, A> Token<'t, A> {
         }
     }
 
-    /// Whether the token may hold tokens.
+    /// Returns whether the token is an alternation, a concatenation or a repetition.
     pub fn is_branch(&self) -> bool
         ensures { result ≡ is_branch self.now }
     {
         self.as_branch().is_some()
     }
 
-    /// Whether the token never holds tokens.
+    /// Returns whether the token is a class, a literal, a separator or a wildcard.
     pub fn is_leaf(&self) -> bool
         ensures { result ≡ is_leaf_tree self.now }
     {
@@ -119,7 +119,7 @@ impl<'t, A> Token<'t, A> {
         }
     }
 
-    /// `/`.
+    /// Returns whether the token is `/`.
     pub fn is_separator(&self) -> bool
         ensures { result ≡ is_separator self.now }
     {
@@ -129,7 +129,7 @@ impl<'t, A> Token<'t, A> {
         }
     }
 
-    /// `**`.
+    /// Returns whether the token is `**`.
     pub fn is_tree_wildcard(&self) -> bool
         ensures { result ≡ is_tree_wildcard self.now }
     {
@@ -139,7 +139,8 @@ impl<'t, A> Token<'t, A> {
         }
     }
 
-    /// Whether the token is that of the empty expression: a literal without flag and characters.
+    /// Returns whether the token is that of the empty expression: a case-sensitive literal without
+    /// characters.
     pub fn is_empty(&self) -> bool
         ensures { IsTrue result ↔ (literal_of self.now ≡ Some (false, [])) }
     {
@@ -149,7 +150,8 @@ impl<'t, A> Token<'t, A> {
         }
     }
 
-    /// Whether a match captures what the token takes: a class, a wildcard, an alternation or a repetition.
+    /// Returns whether a match captures the token's piece, as for a class, a wildcard, an
+    /// alternation and a repetition.
     pub fn is_capturing(&self) -> bool
         ensures { result ≡ is_capturing self.now }
     {
@@ -160,7 +162,7 @@ impl<'t, A> Token<'t, A> {
     }
 }
 
-// Whether the literal has neither flag nor characters.
+// A function of its own because of its tactic: no characters are no bytes.
 #[tactic(auto, using(crate::proofs::Bytes::no_bytes))]
 fn is_without_text(literal: &Literal<'_>) -> bool
     ensures { IsTrue result ↔ (literal.now ≡ (false, [])) }

@@ -1,4 +1,4 @@
-//! What a leaf is.
+//! Which kind of leaf a leaf is.
 ghost use Rattle.std.specs.Prelude.{◌≡◌};
 ghost use Rattle.wax_token.specs.Kinds.{is_boundary_leaf, is_capturing_leaf, is_literal_leaf};
 ghost use Rattle.wax_token.specs.Kinds.{is_rooting_leaf};
@@ -14,14 +14,14 @@ impl<'t> LeafKind<'t> {
         matches!(self, LeafKind::Literal(_))
     }
 
-    /// `/`.
+    /// Returns whether the leaf is `/`.
     pub fn is_separator(&self) -> bool
         ensures { result ≡ is_separator_leaf (leaf_of self.now) }
     {
         matches!(self, LeafKind::Separator(_))
     }
 
-    /// `*` or `$`.
+    /// Returns whether the leaf is `*` or `$`.
     pub fn is_zero_or_more(&self) -> bool
         ensures { result ≡ is_zero_or_more_leaf (leaf_of self.now) }
     {
@@ -31,7 +31,7 @@ impl<'t> LeafKind<'t> {
         }
     }
 
-    /// `**`.
+    /// Returns whether the leaf is `**`.
     pub fn is_tree_wildcard(&self) -> bool
         ensures { result ≡ is_tree_leaf (leaf_of self.now) }
     {
@@ -41,14 +41,15 @@ impl<'t> LeafKind<'t> {
         }
     }
 
-    /// `/` or `**`.
+    /// Returns whether the leaf is `/` or `**`.
     pub fn is_boundary(&self) -> bool
         ensures { result ≡ is_boundary_leaf (leaf_of self.now) }
     {
         self.is_separator() || self.is_tree_wildcard()
     }
 
-    /// Whether the leaf roots what it begins: `/` or a rooted `**`.
+    /// Returns whether the leaf, as the first of a glob, roots it: the leaf is `/`, or a `**` with
+    /// a `/` before it.
     pub fn is_rooting(&self) -> bool
         ensures { result ≡ is_rooting_leaf (leaf_of self.now) }
     {
@@ -62,7 +63,7 @@ impl<'t> LeafKind<'t> {
         }
     }
 
-    /// Whether a match captures what the leaf takes: a class or a wildcard.
+    /// Returns whether a match captures the leaf's piece, as for a class and a wildcard.
     pub fn is_capturing(&self) -> bool
         ensures { result ≡ is_capturing_leaf (leaf_of self.now) }
     {

@@ -1,4 +1,4 @@
-//! How tokens are made and taken apart.
+//! Building tokens, and taking them apart.
 ghost use Rattle.std.specs.Prelude.{◌≡◌, false, []};
 ghost use Rattle.wax_token.specs.Syntax.{leaf, literal};
 ghost use Rattle.wax_token.specs.View.{leaf_of, branch_tree, topology_tree};
@@ -7,7 +7,7 @@ use super::{BranchKind, LeafKind, Literal, Token, TokenTopology, Topology};
 use std::borrow::CowStr;
 
 impl<'t, A> Token<'t, A> {
-    /// The token of the empty expression: a literal without characters.
+    /// Creates the token of the empty expression: a case-sensitive literal without characters.
     pub fn empty(annotation: A) -> Self
         ensures { result ≡ leaf annotation (literal false []) }
     {
@@ -17,7 +17,7 @@ impl<'t, A> Token<'t, A> {
         )
     }
 
-    /// What the token is, and its annotation.
+    /// Splits the token into its shape and its annotation.
     pub fn into_parts(self) -> (TokenTopology<'t, A>, A)
         ensures { topology_tree result.0 result.1 ≡ self.entry }
     {
@@ -29,7 +29,7 @@ impl<'t, A> Token<'t, A> {
     }
 }
 
-/// A leaf with its annotation.
+/// Builds a token from a leaf and an annotation.
 pub fn new_leaf<'t, A>(kind: LeafKind<'t>, annotation: A) -> Token<'t, A>
     ensures { result ≡ leaf annotation (leaf_of kind.entry) }
 {
@@ -39,7 +39,7 @@ pub fn new_leaf<'t, A>(kind: LeafKind<'t>, annotation: A) -> Token<'t, A>
     }
 }
 
-/// A branch with its annotation.
+/// Builds a token from a branch and an annotation.
 pub fn new_branch<'t, A>(kind: BranchKind<'t, A>, annotation: A) -> Token<'t, A>
     ensures { result ≡ branch_tree kind.entry annotation }
 {

@@ -1,4 +1,4 @@
-//! Which characters a class holds.
+//! Which characters a class contains.
 ghost use Rattle.std.specs.Prelude.{◌≡◌};
 ghost use Rattle.std.specs.List.{list_any, list_all};
 ghost use Rattle.wax_token.specs.Meaning.{in_archetype, is_forward, in_class};
@@ -26,7 +26,8 @@ impl Archetype {
 }
 
 impl Class {
-    /// Whether the class means the character: never `/`, and nothing where a range is reversed.
+    /// Returns whether the class matches `c`. No class matches `/`, and a class with a reversed
+    /// range matches nothing, negated or not.
     pub fn contains(&self, c: char) -> bool
         ensures { result ≡ in_class self.now.0 self.now.1 c }
     {

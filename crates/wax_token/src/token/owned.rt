@@ -1,4 +1,4 @@
-//! Tokens with texts of their own.
+//! Conversion of tokens that borrow texts to tokens that own them.
 ghost use Rattle.std.specs.Prelude.{◌≡◌, IfOk};
 ghost use Rattle.std.specs.Cow.{cow_str_bytes};
 ghost use Rattle.wax_token.specs.View.{leaf_of};
@@ -13,7 +13,11 @@ use std::borrow::CowStr;
 use wax_query::diagnostics::NoMemory;
 
 impl<'t> Literal<'t> {
-    /// The same literal with a text of its own. Refused with 10 where memory is.
+    /// Converts the literal to one that owns its text. Copies the text only if it is borrowed.
+    ///
+    /// # Errors
+    ///
+    /// Returns `NoMemory` if allocation fails.
     pub fn into_owned(self, alloc: Global) -> Result<Literal<'static>, NoMemory>
         ensures { IfOk result (λ l. l ≡ self.entry) }
     {
@@ -22,7 +26,11 @@ impl<'t> Literal<'t> {
 }
 
 impl<'t> LeafKind<'t> {
-    /// The same leaf with a text of its own. Refused with 10 where memory is.
+    /// Converts the leaf to one that owns its text. Only a literal has one.
+    ///
+    /// # Errors
+    ///
+    /// Returns `NoMemory` if allocation fails.
     pub fn into_owned(self, alloc: Global) -> Result<LeafKind<'static>, NoMemory>
         ensures { IfOk result (λ l. leaf_of l ≡ leaf_of self.entry) }
     {
@@ -31,8 +39,12 @@ impl<'t> LeafKind<'t> {
 }
 
 impl<'t, A: Drop> Token<'t, A> {
-    /// The same token with texts of its own. Refused with 10 where memory is. It takes the time and memory of
-    /// all tokens and their texts.
+    /// Converts the token to one that owns all its texts. Takes time and memory linear in the
+    /// tokens and their texts.
+    ///
+    /// # Errors
+    ///
+    /// Returns `NoMemory` if allocation fails.
     pub fn into_owned(self, alloc: Global) -> Result<Token<'static, A>, NoMemory>
         ensures { IfOk result (λ t. t ≡ self.entry) }
     {
@@ -41,8 +53,12 @@ impl<'t, A: Drop> Token<'t, A> {
 }
 
 impl<'t, A: Drop> Tokenized<'t, A> {
-    /// The same expression and token with texts of their own. Refused with 10 where memory is. It takes the
-    /// time and memory of the expression, all tokens and their texts.
+    /// Converts the value to one that owns the expression and all texts of the token. Takes time
+    /// and memory linear in the expression, the tokens and their texts.
+    ///
+    /// # Errors
+    ///
+    /// Returns `NoMemory` if allocation fails.
     pub fn into_owned(self, alloc: Global) -> Result<Tokenized<'static, A>, NoMemory>
         ensures expression { IfOk result (λ u.
             cow_str_bytes u.expression ≡ cow_str_bytes self.entry.expression) }

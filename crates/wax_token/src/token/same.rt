@@ -1,4 +1,4 @@
-//! Whether two tokens are the same tree, with the same spans.
+//! Equality of tokens, spans included.
 ghost use Rattle.std.specs.Prelude.{◌≡◌, ◌↔◌, ℕ, IsTrue};
 ghost use Rattle.std.specs.Cmp.{partial_equiv_from_equiv};
 ghost use Rattle.wax_token.specs.Same.{is_same_expression, is_same_tree};
@@ -10,7 +10,7 @@ use super::{
     Wildcard,
 };
 
-/// Tokens are equal where their trees are, with the spans.
+/// Two tokens are equal if their trees and all spans in them are.
 impl PartialEq for Token<'_, ExpressionMetadata> {
     ghost eq = { is_same_tree };
 
@@ -25,7 +25,7 @@ impl Eq for Token<'_, ExpressionMetadata> {
     ghost laws = { same_tree_equiv };
 }
 
-/// Expressions with their tokens are equal where both are.
+/// Two values are equal if their expressions and their tokens are.
 impl PartialEq for Tokenized<'_, ExpressionMetadata> {
     ghost eq = { is_same_expression };
 

@@ -1,34 +1,34 @@
-//! What holds a token, and what holds a row of tokens.
+//! Traits of types that contain a token, or a list of tokens.
 ghost use Rattle.std.specs.Prelude.{◌≡◌};
 ghost use Rattle.wax_token.specs.Syntax.{Tree, Trees};
 ghost use Rattle.wax_token.specs.Words.{members, trees};
 
 use super::{Annotation, Token, Tokenized};
 
-/// What holds a token.
+/// A type that contains a token.
 pub trait TokenTree<'t>: Sized {
     type Annotation;
 
-    /// The token.
+    /// The token, as contracts see it.
     ghost token: { Self → Tree Self.Annotation };
 
-    /// The token alone.
+    /// Returns the token, and drops the rest.
     fn into_token(self) -> Token<'t, Self::Annotation>
         ensures { result ≡ token self };
 
-    /// The token.
+    /// Returns a reference to the token.
     fn as_token(&self) -> &Token<'t, Self::Annotation>
         ensures { result.now ≡ token self.now };
 }
 
-/// What holds tokens that stand one after another.
+/// A type that contains tokens, matched one after another.
 pub trait ConcatenationTree<'t> {
     type Annotation;
 
-    /// The tokens.
+    /// The tokens, as contracts see them.
     ghost tokens: { Self → Trees Self.Annotation };
 
-    /// The tokens in order.
+    /// Returns the tokens in order.
     fn concatenation(&self) -> &[Token<'t, Self::Annotation>]
         ensures { trees result.now ≡ tokens self.now };
 }
