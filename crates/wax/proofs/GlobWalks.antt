@@ -1,5 +1,5 @@
 -- What is to come of a glob's walk.
-use Rattle.std.proofs.Common.{◌≡◌, ◌∙◌, ◌≤◌, ◌<◌, ◌+◌, ◌&&◌, ℕ, Bool, true, false, cond, if◌then◌else◌, List, [], ◌∷◌, length, map, refl, sym, subst, ap, chars, encode_utf8_all}
+use Rattle.std.proofs.Common.{◌≡◌, ◌∙◌, ◌≤◌, ◌<◌, ◌+◌, ◌&&◌, ℕ, Bool, true, false, cond, if◌then◌else◌, List, [], ◌∷◌, length, map, refl, sym, subst, ap, chars, encode_utf8_all, arith}
 use Rattle.std.specs.Str.{IsUtf8}
 use Rattle.std.proofs.lemmas.Bool.{ltb-false, ltb-true}
 use Rattle.std.proofs.lemmas.Str.{encodes-chars}
@@ -172,6 +172,8 @@ module _ {D C : Type 0} (g : GlobView) (law : Law D C) (d : D) (start : List ℕ
           seen.to_come (pending nothing nothing listed 0) (refl, (pending nothing nothing listed 0, (begins_so a).beyond s listed h told (subst (λ ns. walked.max < length ns) (same_names a) less), refl));
       unmeant = λ taken prefix p e path s listed h told. absurd ((plan taken prefix p).0.unbroken e);
       listings = seen.listings_left ∙ b.listings ∙ ap (λ r. r.budget + 1) same_range;
+      names = λ a. subst (λ ns. view.names_left ≤ length ns) (sym (same_names a))
+          (subst (λ n. n ≤ length (way_from start a.rooted a.names).names) (sym seen.names_left) (begins_so a).names);
       directory = seen.directory ∙ b.directory;
     }
 
@@ -186,6 +188,7 @@ module _ {D C : Type 0} (g : GlobView) (law : Law D C) (d : D) (start : List ℕ
     unmeant = λ taken prefix p e path s listed h told.
         seen.to_come (pending nothing nothing listed 0) (refl, (pending nothing nothing listed 0, b.comes path s listed h told, refl));
     listings = seen.listings_left ∙ b.listings ∙ ap (λ n. n + 1) few;
+    names = λ a. omega (arith, seen.names_left, b.names);
     directory = seen.directory ∙ b.directory;
   }
 
@@ -213,6 +216,7 @@ module _ {D C : Type 0} (g : GlobView) (law : Law D C) (d : D) (start : List ℕ
     unmeant = λ taken prefix p e path s listed h told.
         seen.to_come (pending nothing nothing listed 0) (refl, (pending nothing nothing listed 0, b.comes (pending nothing nothing listed 0) told, refl));
     listings = seen.listings_left ∙ b.listings ∙ ap (λ n. n + 1) few;
+    names = λ a. omega (arith, seen.names_left, b.names);
     directory = seen.directory ∙ b.directory;
   }
 

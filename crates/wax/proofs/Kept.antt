@@ -7,18 +7,23 @@ use Rattle.wax_walk.specs.Forest.{nothing, pending}
 use Rattle.wax_walk.specs.Given.{Facts, Mark, Given, is_kept, no_memory}
 use Rattle.wax_walk.specs.Ruled.{ruled_view}
 use Rattle.wax_walk.specs.View.{CountsFaults, WalkView}
-use Rattle.wax.specs.GlobWalks.{GaveWithin, KeepsNothing, none_kept, memory_alone}
+use Rattle.wax_token.specs.Reads.{Span}
+use Rattle.wax_token.specs.Syntax.{Tree}
+use Rattle.wax.specs.GlobWalks.{Beginning, GaveWithin, KeepsNothing, none_kept, memory_alone}
 
-pub gave_within : {D C : Type 0} (law : Law D C) (d : D) (budget : ℕ) (v : WalkView D) (rule : Facts → Mark) (new : D)
-    (xs : List Given) → v.directory ≡ d → v.listings_left ≡ budget + 1 → length xs ≤ 2 * budget + 3
-    → Took law (ruled_view v rule false) new xs → GaveWithin law d budget new xs
-gave_within law d budget v rule new xs over allowed few took = record {
+pub gave_within : {D C : Type 0} (t : Tree Span) (law : Law D C) (d : D) (budget : ℕ) (v : WalkView D)
+    (rule : Facts → Mark) (new : D) (xs : List Given) → ((b : Beginning t) → v.names_left ≤ length b.names)
+    → v.directory ≡ d → v.listings_left ≡ budget + 1 → length xs ≤ 2 * budget + 3
+    → Took law (ruled_view v rule false) new xs → GaveWithin t law d budget new xs
+gave_within t law d budget v rule new xs names over allowed few took = record {
   few = few;
   counts = subst (λ w. CountsFaults (all_fault_counts xs) (law.tally w) (law.tally new)) over took.counts;
   taken = took.taken;
   counted = took.counted ∙ ap (λ w. grown took.taken (law.tally w).items) over;
   within = subst (λ n. took.taken ≤ n) allowed took.within;
   spent = λ path depth h. took.spent path depth h ∙ allowed;
+  misplaced = λ path depth h b. omega (arith, took.misplaced path depth h, names b);
+  ends_there = took.ends_there;
 }
 
 front_empty : (xs ys : List Given) → xs ++ ys ≡ [] → xs ≡ []

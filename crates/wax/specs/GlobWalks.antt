@@ -16,8 +16,8 @@ use Rattle.wax_tree.specs.Begins.{Way}
 use Rattle.wax_tree.specs.declared.steps.Range.{Range}
 use Rattle.wax_tree.specs.Plain.{count_shown}
 use Rattle.wax_tree.specs.Prefix.{ArePlain}
-use Rattle.wax_walk.specs.Collected.{all_fault_counts}
-use Rattle.wax_walk.specs.declared.error.FaultKind.TheVariants.{Budget}
+use Rattle.wax_walk.specs.Collected.{EndsThere, all_fault_counts}
+use Rattle.wax_walk.specs.declared.error.FaultKind.TheVariants.{Budget, NotAFolder}
 use Rattle.wax_walk.specs.Forest.{pending, nothing}
 use Rattle.wax_walk.specs.Given.{Given, fault, no_memory}
 use Rattle.wax_walk.specs.View.{CountsFaults, WalkView}
@@ -81,6 +81,7 @@ pub record BeginsGlob {D C : Type 0} (t : Tree Span) (law : Law D C) (d : D) (st
       → (path : List ℕ) (s : Shown) (listed : List (List ℕ)) → law.shows d path s → law.tells d listed
       → view.to_come (pending nothing nothing listed 0)
   pub listings : view.listings_left ≡ asked.budget + 1
+  pub names : (b : Beginning t) → view.names_left ≤ length b.names
   pub directory : view.directory ≡ d
 
 -- what is wanted of the walk of a glob, less what these filters leave out
@@ -94,15 +95,19 @@ trip_of {t} start asked depth b filters = record {
 
 -- Whatever the directory shows: a walk over it gave these items, no more than twice its budget and 3. Each
 -- fault among them was counted, and at most budget + 1 items were taken from listings: all of these, where an
--- item tells that the budget is reached.
-pub record GaveWithin {D C : Type 0} (law : Law D C) (d : D) (budget : ℕ) (new : D) (xs : List Given) :
-    Type 0 where
+-- item tells that the budget is reached. A folder was missed only on the way along the prefix. An item after
+-- which a walk has ended is the last.
+pub record GaveWithin {D C : Type 0} (t : Tree Span) (law : Law D C) (d : D) (budget : ℕ) (new : D)
+    (xs : List Given) : Type 0 where
   pub few : length xs ≤ 2 * budget + 3
   pub counts : CountsFaults (all_fault_counts xs) (law.tally d) (law.tally new)
   pub taken : ℕ
   pub counted : (law.tally new).items ≡ grown taken (law.tally d).items
   pub within : taken ≤ budget + 1
   pub spent : (path : List ℕ) (depth : ℕ) → Contains xs (fault Budget path depth) → taken ≡ budget + 1
+  pub misplaced : (path : List ℕ) (depth : ℕ) → Contains xs (fault NotAFolder path depth) → (b : Beginning t)
+      → 0 < length b.names
+  pub ends_there : EndsThere xs
 
 -- nothing was kept, and no folder was listed; or it was only told that memory was refused
 pub data KeepsNothing (tells : List (List ℕ) → Type 0) (listed : List (List ℕ)) (ys : List Given) : Type 0

@@ -44,6 +44,7 @@ module _ {D C : Type 0} (law : Law D C) where
     within = subst (λ n. took.taken ≤ n) seen.listings_left took.within;
     spent = λ path depth h. took.spent path depth h ∙ seen.listings_left;
     misplaced = λ path depth h. subst (λ n. 0 < n) seen.names_left (took.misplaced path depth h);
+    ends_there = took.ends_there;
   }
 
   -- what a walk gave that these rules filter

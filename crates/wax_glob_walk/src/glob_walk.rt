@@ -78,27 +78,27 @@ where
     P: Program,
     C: NameTest,
     ensures gives { IfOk result (λ r. given_of glob_facts facts_of r.0
-        ≡ G.changed_by (leading_mark C.decides leading.now P.decides program.now) (G.entry G.kept (facts_of entry))) }
+        ≡ G.changed_by (leading_mark C.decides leading.now P.decides program.now)
+        (G.entry G.kept (facts_of entry))) }
     ensures cuts { IfOk result (λ r. r.1
-        ≡ G.cut_by (leading_mark C.decides leading.now P.decides program.now) (G.entry G.kept (facts_of entry))) }
+        ≡ G.cut_by (leading_mark C.decides leading.now P.decides program.now)
+        (G.entry G.kept (facts_of entry))) }
     ensures matches { IfOk result
         (λ r. KnownItem (IsMatchedEntry (P.means program.now) (P.captured program.now)) r.0) }
 {
     if !lead(alloc, leading, &entry)? {
-        return Ok((
-            Separation::Residue(Product::new(TreeResidue::Tree(entry))),
-            true,
-        ));
+        let unled = TreeResidue::Tree(entry);
+        return Ok((Separation::Residue(Product::new(unled)), true));
     }
     match captured(alloc, program, &entry)? {
         Some(matched) => {
             let entry = GlobEntry::new(entry, matched);
             Ok((Separation::Filtrate(Product::new(Ok(entry))), false))
         }
-        None => Ok((
-            Separation::Residue(Product::new(TreeResidue::Node(entry))),
-            false,
-        )),
+        None => {
+            let unmatched = TreeResidue::Node(entry);
+            Ok((Separation::Residue(Product::new(unmatched)), false))
+        }
     }
 }
 
@@ -131,22 +131,16 @@ where
         Separation::Residue(residue) => match residue.into_inner() {
             TreeResidue::Node(entry) => {
                 if lead(alloc, leading, &entry)? {
-                    Ok((
-                        Separation::Residue(Product::new(TreeResidue::Node(entry))),
-                        false,
-                    ))
+                    let excluded = TreeResidue::Node(entry);
+                    Ok((Separation::Residue(Product::new(excluded)), false))
                 } else {
-                    Ok((
-                        Separation::Residue(Product::new(TreeResidue::Tree(entry))),
-                        true,
-                    ))
+                    let unled = TreeResidue::Tree(entry);
+                    Ok((Separation::Residue(Product::new(unled)), true))
                 }
             }
             TreeResidue::Tree(entry) => {
-                Ok((
-                    Separation::Residue(Product::new(TreeResidue::Tree(entry))),
-                    false,
-                ))
+                let excluded = TreeResidue::Tree(entry);
+                Ok((Separation::Residue(Product::new(excluded)), false))
             }
         },
     }

@@ -1,7 +1,7 @@
 -- A loop that takes all that a walk gives.
 use Rattle.std.proofs.Common.{◌≡◌, ℕ, ◌+◌, ◌<◌, ◌≤◌, true, false, length, length-append, List, []}
 use Rattle.std.proofs.Common.{◌∷◌, ◌++◌, refl, sym, ap, subst, ◌∙◌, append_assoc, inl, inr, arith}
-use Rattle.std.specs.Prelude.{Some, None, Result, Ok, Err, IfOk, filter, map}
+use Rattle.std.specs.Prelude.{◌⊎◌, Some, None, Result, Ok, Err, IfOk, filter, map}
 use Rattle.std.specs.List.{Contains}
 use Rattle.std.proofs.lemmas.List.{map-append}
 use Rattle.std.proofs.lemmas.List.Elements.{filter-append, Contains-append_left, Contains-push_cases}
@@ -164,6 +164,40 @@ faults_more [] x = plus_none (fault_counts (Some x))
 faults_more (y ∷ xs) x = ap (plus (fault_counts (Some y))) (faults_more xs x) ∙ plus_assoc
     (fault_counts (Some y)) (all_fault_counts xs) (fault_counts (Some x))
 
+-- ---- the last item
+
+none_split : {A : Type 0} (before after : List A) (x : A) → [] ≡ before ++ x ∷ after → ⊥
+none_split [] after x e = cc
+none_split (b ∷ before) after x e = cc
+
+-- what was given with one more item, split at an item: the one more is that item, or it comes after it
+snoc_split : {A : Type 0} (xs : List A) (x : A) (before after : List A) (y : A)
+    → xs ++ x ∷ [] ≡ before ++ y ∷ after
+    → ((after ≡ []) × (x ≡ y)) ⊎ ((rest : List A) × (xs ≡ before ++ y ∷ rest))
+snoc_split [] x [] after y e = let t : after ≡ [] = cc in let h : x ≡ y = cc in inl (t, h)
+snoc_split [] x (b ∷ before) after y e = let t : [] ≡ before ++ y ∷ after = cc in absurd (none_split before after y t)
+snoc_split (a ∷ xs) x [] after y e = let h : a ≡ y = cc in inr (xs, ap (λ v. v ∷ xs) h)
+snoc_split (a ∷ xs) x (b ∷ before) after y e =
+    let t : xs ++ x ∷ [] ≡ before ++ y ∷ after = cc in
+    let h : a ≡ b = cc in
+    elim (snoc_split xs x before after y t) [
+      | inl i ↦ inl i
+      | inr i ↦ inr (i.0, λ k. h k ∷ i.1 k)
+    ]
+
+-- an item after which a walk has ended is the last of these, and the walk has ended then
+abbrev pub EndedThere : {D : Type 0} → WalkView D → List Given → Type 0
+EndedThere now xs = (before after : List Given) (x : Given) → xs ≡ before ++ x ∷ after → IsLast (Some x)
+    → (after ≡ []) × now.has_ended
+
+ended_more : {D : Type 0} (mid new : WalkView D) (xs : List Given) (x : Given) → (mid.has_ended → ⊥)
+    → (IsLast (Some x) → new.has_ended) → EndedThere mid xs → EndedThere new (xs ++ x ∷ [])
+ended_more mid new xs x running ends ended before after y e last =
+    elim (snoc_split xs x before after y e) [
+      | inl i ↦ (i.0, ends (subst (λ v. IsLast (Some v)) (sym i.1) last))
+      | inr i ↦ absurd (running (ended before i.0 y i.1 last).1)
+    ]
+
 module _ {D C : Type 0} (law : Law D C) where
   -- these items were given, and `now` is seen of the walk; at most `less` more will come, of `most` in all
   pub record Taking (walk now : WalkView D) (most less : ℕ) (xs : List Given) : Type 0 where
@@ -179,6 +213,7 @@ module _ {D C : Type 0} (law : Law D C) where
     pub names : now.names_left ≤ walk.names_left
     pub misplaced : (path : List ℕ) (depth : ℕ) → Contains xs (fault NotAFolder path depth)
         → 0 < walk.names_left
+    pub ended : EndedThere now xs
 
   module _ (walk mid new : WalkView D) (most less fewer : ℕ) (xs : List Given) where
     -- what was taken, with what a call took that gave an item
@@ -232,6 +267,7 @@ module _ {D C : Type 0} (law : Law D C) where
           names = omega (arith, h.names, f.names);
           misplaced = λ path depth c. misplaced_more x path depth h.names f.misplaced (h.misplaced path depth)
               c;
+          ended = ended_more mid new xs x n a.ends h.ended;
         }
 
     pub taking_end : Taking walk mid most less xs → FeedStep law mid None new
@@ -249,6 +285,7 @@ module _ {D C : Type 0} (law : Law D C) where
           within = omega (arith, h.within, e);
           spent = λ path depth c. omega (arith, h.spent path depth c, h.within, e);
           misplaced = h.misplaced;
+          ends_there = λ before after x e last. (h.ended before after x e last).0;
         }
 
   pub taking_none : (walk : WalkView D) (most : ℕ) → Taking walk walk most most []
@@ -263,6 +300,7 @@ module _ {D C : Type 0} (law : Law D C) where
     spent = λ path depth c. absurd (contains_none (fault Budget path depth) c);
     names = omega arith;
     misplaced = λ path depth c. absurd (contains_none (fault NotAFolder path depth) c);
+    ended = λ before after x e last. absurd (none_split before after x e);
   }
 
 -- ---- what is kept of it

@@ -7,7 +7,7 @@ use Rattle.wax_directory.specs.declared.tally.Tally.{Tally}
 use Rattle.wax_walk.specs.declared.error.FaultKind.TheVariants.{NotAFolder, Budget}
 use Rattle.wax_walk.specs.Forest.{Pending, all_pending, preorder, listings}
 use Rattle.wax_walk.specs.Given.{Given, fault, no_memory}
-use Rattle.wax_walk.specs.View.{WalkView, CountsFaults, fault_counts}
+use Rattle.wax_walk.specs.View.{WalkView, CountsFaults, IsLast, fault_counts}
 
 -- a beginning of all this, and then x
 abbrev pub IsCutShort : List Given → Given → List Given → Type 0
@@ -31,6 +31,10 @@ abbrev pub all_fault_counts : List Given → Tally
 all_fault_counts [] = no_counts
 all_fault_counts (x ∷ xs) = plus (fault_counts (Some x)) (all_fault_counts xs)
 
+-- an item after which a walk has ended is the last of these
+abbrev pub EndsThere : List Given → Type 0
+EndsThere xs = (before after : List Given) (x : Given) → xs ≡ before ++ x ∷ after → IsLast (Some x) → after ≡ []
+
 -- a walk gave these items to its end, and left this directory
 pub record Took {D C : Type 0} (law : Law D C) (walk : WalkView D) (new : D) (xs : List Given) : Type 0 where
   pub all : (p : Pending Given) → walk.to_come p → GaveAll (law.tells new) walk.listings_left p xs
@@ -41,3 +45,4 @@ pub record Took {D C : Type 0} (law : Law D C) (walk : WalkView D) (new : D) (xs
   pub spent : (path : List ℕ) (depth : ℕ) → Contains xs (fault Budget path depth) → taken ≡ walk.listings_left
   pub misplaced : (path : List ℕ) (depth : ℕ) → Contains xs (fault NotAFolder path depth)
       → 0 < walk.names_left
+  pub ends_there : EndsThere xs

@@ -248,7 +248,7 @@ impl<'t> Glob<'t> {
         D: Directory,
         R: Rule,
         ensures took { IfOk result (λ r. (xs : List Given)
-            × GaveWithin D.law directory behavior.budget r.1 xs
+            × GaveWithin self.now.tree D.law directory behavior.budget r.1 xs
             × (map (given_outcome ⟦<GlobEntry as Entry>⟧.facts ⟦<TreeEntry as Entry>⟧.facts) r.0.items
             ≡ filter is_kept xs)) }
         ensures unmeant { IfOk result (λ r. (taken : ℕ) (prefix : List ℕ) (path : List ℕ) (s : Shown)
