@@ -4,7 +4,7 @@
 # make library: builds the C library as libwax.a and libwax.so in crates/wax_c/out, over what `make test` or
 #             `./prove wax` left
 # make test:  proves everything from nothing, runs all tests, and tries the wrong bodies
-# make bench: counts instructions of matches, and times them beside grep and walks beside find (docs/BENCH.md)
+# make bench: counts instructions of matches, and times them beside grep, and walks beside find (bench/README.md)
 # make install: puts what was built, its pages and its completions below PREFIX; make uninstall: takes them away
 #             (packaging/README.md)
 # docs/GATE.md says how long they take.
@@ -46,9 +46,11 @@ test:
 
 bench: globs
 	cd crates/wax_vectors && rt run </dev/null
+	bench/machine
 	bench/instructions
 	bench/run
 	bench/families
+	bench/alternatives
 	bench/walk
 	bench/shards
 

@@ -93,7 +93,7 @@ pub trait FileIteratorExt: FileIterator {
     /// let (items, _) = collect(alloc, walk)?;
     /// for item in &items {
     ///     match item {
-    ///         Ok(entry) => println!(rt; "{:?}", entry.path())?, // "", "src", "src/lib.rs"
+    ///         Ok(entry) => println!(rt; "{:?}", entry.path())?, // ""; "src"; "src/lib.rs"
     ///         Err(error) => println!(rt; "{error}")?,
     ///     }
     /// }
@@ -125,7 +125,7 @@ pub trait FileIteratorExt: FileIterator {
     /// let tree = Tree::from_paths(alloc, &["src/lib.rs", "src/lib.o"])?;
     /// let list = IgnoreList::parse(alloc, "**/*.o\n")?;
     /// let (items, _) = collect(alloc, "".walk(alloc, tree).ignore(alloc, list))?;
-    /// println!(rt; "{}", items.len())?; // 3: the start, src and src/lib.rs
+    /// println!(rt; "{}", items.len())?; // 3
     /// ```
     final fn ignore(self, alloc: Global, list: IgnoreList) -> Ignore<Self>
     where

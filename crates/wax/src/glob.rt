@@ -106,7 +106,7 @@ impl<'t> Glob<'t> {
     /// let glob = Glob::new(alloc, "src/**/*.{c,rs}")?;
     /// println!(rt; "{}", glob.is_match(alloc, &CandidatePath::from("src/net/tcp.c"))?)?; // true
     /// if let Err(error) = Glob::new(alloc, "src//*.rs") {
-    ///     println!(rt; "{}: {error}", error.number())?; // 2: malformed glob expression: ..
+    ///     println!(rt; "{}: {error}", error.number())?; // 2: malformed ..
     /// }
     /// ```
     ///

@@ -33,7 +33,8 @@ all_fault_counts (x ∷ xs) = plus (fault_counts (Some x)) (all_fault_counts xs)
 
 -- an item after which a walk has ended is the last of these
 abbrev pub EndsThere : List Given → Type 0
-EndsThere xs = (before after : List Given) (x : Given) → xs ≡ before ++ x ∷ after → IsLast (Some x) → after ≡ []
+EndsThere xs = (before after : List Given) (x : Given) → xs ≡ before ++ x ∷ after → IsLast (Some x)
+    → after ≡ []
 
 -- a walk gave these items to its end, and left this directory
 pub record Took {D C : Type 0} (law : Law D C) (walk : WalkView D) (new : D) (xs : List Given) : Type 0 where

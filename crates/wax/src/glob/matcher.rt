@@ -47,7 +47,7 @@ impl<'t> Glob<'t> {
     /// let glob = Glob::new(alloc, "**/{node_modules,target,build}/**")?;
     /// let mut matcher = glob.matcher(alloc)?;
     /// for path in ["a/target/b", "a/src/b"] {
-    ///     println!(rt; "{}", matcher.is_match(&CandidatePath::from(path))?)?; // true, false
+    ///     println!(rt; "{}", matcher.is_match(&CandidatePath::from(path))?)?; // true; false
     /// }
     /// ```
     ///

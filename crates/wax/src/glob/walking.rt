@@ -48,7 +48,7 @@ impl<'t> Glob<'t> {
     /// let (items, _) = collect(alloc, glob.walk(alloc, tree, ""))?;
     /// for item in &items {
     ///     match item {
-    ///         Ok(entry) => println!(rt; "{}", entry.path())?, // src/lib.rs, src/net/tcp.rs
+    ///         Ok(entry) => println!(rt; "{}", entry.path())?, // src/lib.rs; src/net/tcp.rs
     ///         Err(error) => println!(rt; "{error}")?,
     ///     }
     /// }
@@ -78,7 +78,7 @@ impl<'t> Glob<'t> {
     /// let tree = Tree::from_paths(alloc, &["a.rs", "src/lib.rs", "src/net/tcp.rs"])?;
     /// let glob = Glob::new(alloc, "**/*.rs")?;
     /// let (items, _) = collect(alloc, glob.walk_with_behavior(alloc, tree, "", DepthMax(2)))?;
-    /// println!(rt; "{}", items.len())?; // 2: a.rs and src/lib.rs
+    /// println!(rt; "{}", items.len())?; // 2
     /// ```
     pub fn walk_with_behavior<'g, D, B>(
         &'g self,
@@ -229,7 +229,7 @@ impl<'t> Glob<'t> {
     /// let glob = Glob::new(alloc, "**/*.rs")?;
     /// let behavior = WalkBehavior::default();
     /// let (items, _) = glob.collect_less(alloc, tree, "", behavior, filters)?;
-    /// println!(rt; "{}", items.len())?; // 1: src/lib.rs
+    /// println!(rt; "{}", items.len())?; // 1
     /// ```
     ///
     /// # Errors
