@@ -3,11 +3,12 @@ use Rattle.std.proofs.Common.{◌≡◌, ◌∙◌, ◌≤◌, ◌<◌, ◌+◌,
 use Rattle.std.specs.Str.{IsUtf8}
 use Rattle.std.proofs.lemmas.Bool.{ltb-false, ltb-true}
 use Rattle.std.proofs.lemmas.Str.{encodes-chars}
-use Rattle.wax_exclude.specs.Trips.{ComesWanted, is_beyond}
+use Rattle.wax_exclude.specs.Trips.{ComesWanted, Trip, is_beyond}
 use Rattle.wax_directory.specs.Names.{is_rooted, names_in_path}
 use Rattle.wax_glob_walk.specs.Programs.{leading_mark, leads, means_mark}
 use Rattle.wax_components.specs.Depth.{Depth}
 use Rattle.wax_directory.specs.Law.{Law}
+use Rattle.wax_directory.specs.Shown.{Shown}
 use Rattle.wax_facts.specs.Prefix.{Prefix}
 use Rattle.wax_exclude.specs.Prefix.{HasEmptyName, IsPrefixWay}
 use Rattle.wax_query.specs.Ranges.{Bounds}
@@ -122,6 +123,32 @@ same_way p b c names others h k =
     let e : h.text ≡ k.text = same_text h.text k.text p h.encoded k.encoded h.characters k.characters in
     (h.way.root ∙ ap is_rooted e ∙ sym k.way.root, h.way.parts ∙ ap names_in_path e ∙ sym k.way.parts)
 
+-- ---- what is wanted comes
+
+-- where that comes which is shown from the prefix on, and nothing where it is too long
+module _ {D C : Type 0} {t : Tree Span} (law : Law D C) (d : D) (start : List ℕ) (asked : Range) (depth : Bounds) (view : WalkView D) (b : Beginning t) where
+  abbrev trip : Trip
+  trip = trip_of start asked depth b []
+
+  abbrev ComesShown : Type 0
+  ComesShown = (s : Shown) (listed : List (List ℕ)) → law.shows d trip.way.path s → law.tells d listed → length b.names ≤ trip.walked.max →
+      view.to_come (pending nothing (glob_walk trip.wanted trip.walked trip.way s) listed (count_shown s))
+
+  abbrev ComesBeyond : Type 0
+  ComesBeyond = (s : Shown) (listed : List (List ℕ)) → law.shows d trip.way.path s → law.tells d listed → trip.walked.max < length b.names → view.to_come (pending nothing nothing listed 0)
+
+  comes_so : ComesShown → ComesBeyond → view.listings_left ≡ asked.budget + 1 → ComesWanted law d trip view
+  comes_so shown beyond listings = record {
+    comes = λ s listed k told.
+        let same : trip.way.names ≡ b.names = sym (names_are start b.rooted b.names) in
+        elim (is_beyond trip) as
+        (λ x. is_beyond trip ≡ x → view.to_come (pending nothing (if x then nothing else glob_walk trip.wanted trip.walked trip.way s) listed (if x then 0 else count_shown s))) [
+          | true ↦ λ e. beyond s listed k told (subst (λ ns. trip.walked.max < length ns) same (ltb-true trip.walked.max (length trip.way.names) e))
+          | false ↦ λ e. shown s listed k told (subst (λ ns. length ns ≤ trip.walked.max) same (ltb-false trip.walked.max (length trip.way.names) e))
+        ] refl;
+    listings = listings;
+  }
+
 -- ---- what is to come
 
 module _ {D C : Type 0} (g : GlobView) (law : Law D C) (d : D) (start : List ℕ) (asked : Range) (depth : Bounds) (depth_is : Depth g.tree depth)
@@ -152,26 +179,36 @@ module _ {D C : Type 0} (g : GlobView) (law : Law D C) (d : D) (start : List ℕ
     same_names : (a : Beginning g.tree) → a.names ≡ (way_from start a.rooted a.names).names
     same_names a = names_are start a.rooted a.names
 
+    shown_along : (a : Beginning g.tree) → ArePlain a.names → ComesShown law d start asked depth view a
+    shown_along a plain = λ s listed h told fits.
+        let f = way_walk walked (way_from start a.rooted a.names) s in
+        let rule = same_rule a in
+        seen.to_come (pending nothing (glob_walk (wants g.tree a []) walked (way_from start a.rooted a.names) s) listed (count_shown s)) (
+          refl,
+          (
+            pending nothing f listed (count_shown s),
+            (begins_so a).shown s listed h told (subst ArePlain (same_names a) plain) (subst (λ ns. length ns ≤ walked.max) (same_names a) fits),
+            (λ i. pending nothing (filtered (changed_by (rule i)) (cut_by (rule i)) f) listed (count_shown s)),
+          ),
+        )
+
+    beyond_along : (a : Beginning g.tree) → ComesBeyond law d start asked depth view a
+    beyond_along a = λ s listed h told less.
+        seen.to_come (pending nothing nothing listed 0) (refl, (pending nothing nothing listed 0, (begins_so a).beyond s listed h told (subst (λ ns. walked.max < length ns) (same_names a) less), refl))
+
+    listings_along : view.listings_left ≡ asked.budget + 1
+    listings_along = seen.listings_left ∙ b.listings ∙ ap (λ r. r.budget + 1) same_range
+
     pub begins_along : BeginsGlob g.tree law d start asked view
     begins_along = record {
       depth = depth;
       depth_is = depth_is;
       can = can;
-      shown = λ a s listed h told plain fits.
-          let f = way_walk walked (way_from start a.rooted a.names) s in
-          let rule = same_rule a in
-          seen.to_come (pending nothing (glob_walk (wants g.tree a []) walked (way_from start a.rooted a.names) s) listed (count_shown s)) (
-            refl,
-            (
-              pending nothing f listed (count_shown s),
-              (begins_so a).shown s listed h told (subst ArePlain (same_names a) plain) (subst (λ ns. length ns ≤ walked.max) (same_names a) fits),
-              (λ i. pending nothing (filtered (changed_by (rule i)) (cut_by (rule i)) f) listed (count_shown s)),
-            ),
-          );
-      beyond = λ a s listed h told less.
-          seen.to_come (pending nothing nothing listed 0) (refl, (pending nothing nothing listed 0, (begins_so a).beyond s listed h told (subst (λ ns. walked.max < length ns) (same_names a) less), refl));
+      shown = λ a s listed h told plain fits. shown_along a plain s listed h told fits;
+      beyond = beyond_along;
       unmeant = λ taken prefix p e path s listed h told. absurd ((plan taken prefix p).0.unbroken e);
-      listings = seen.listings_left ∙ b.listings ∙ ap (λ r. r.budget + 1) same_range;
+      comes = λ a plain. comes_so law d start asked depth view a (shown_along a plain) (beyond_along a) listings_along;
+      listings = listings_along;
       names = λ a. subst (λ ns. view.names_left ≤ length ns) (sym (same_names a))
           (subst (λ n. n ≤ length (way_from start a.rooted a.names).names) (sym seen.names_left) (begins_so a).names);
       directory = seen.directory ∙ b.directory;
@@ -187,6 +224,7 @@ module _ {D C : Type 0} (g : GlobView) (law : Law D C) (d : D) (start : List ℕ
     beyond = λ a s listed h told less. absurd (a.names_are.unbroken (known a.taken a.prefix a.prefix_is));
     unmeant = λ taken prefix p e path s listed h told.
         seen.to_come (pending nothing nothing listed 0) (refl, (pending nothing nothing listed 0, b.comes path s listed h told, refl));
+    comes = λ a plain. absurd (a.names_are.unbroken (known a.taken a.prefix a.prefix_is));
     listings = seen.listings_left ∙ b.listings ∙ ap (λ n. n + 1) few;
     names = λ a. omega (arith, seen.names_left, b.names);
     directory = seen.directory ∙ b.directory;
@@ -199,7 +237,18 @@ module _ {D C : Type 0} (g : GlobView) (law : Law D C) (d : D) (start : List ℕ
     depth = depth;
     depth_is = depth_is;
     can = can;
-    shown = λ a s listed h told plain fits.
+    shown = λ a s listed h told plain fits. shown_refused a s listed h told fits;
+    beyond = λ a s listed h told less. nothing_comes listed told;
+    unmeant = λ taken prefix p e path s listed h told. nothing_comes listed told;
+    comes = λ a plain.
+        comes_so law d start asked depth view a (shown_refused a) (λ s listed h told less. nothing_comes listed told)
+        listings_refused;
+    listings = listings_refused;
+    names = λ a. omega (arith, seen.names_left, b.names);
+    directory = seen.directory ∙ b.directory;
+  } where
+    shown_refused : (a : Beginning g.tree) → ComesShown law d start asked depth view a
+    shown_refused a = λ s listed h told fits.
         let way = way_from start a.rooted a.names in
         let f = glob_walk (wants g.tree a []) walked way s in
         seen.to_come (pending nothing f listed (count_shown s)) (
@@ -210,27 +259,11 @@ module _ {D C : Type 0} (g : GlobView) (law : Law D C) (d : D) (start : List ℕ
             (λ i. pending nothing (sym (same_forest g a.rooted (way_walk walked way s)) i) listed (count_shown s))
                 ∙ ap (λ l. filtered_pending (changed_by (leading_mark (component_test {A = Span}) l decides g)) (cut_by (leading_mark (component_test {A = Span}) l decides g)) (pending nothing f listed (count_shown s))) (sym none),
           ),
-        );
-    beyond = λ a s listed h told less.
-        seen.to_come (pending nothing nothing listed 0) (refl, (pending nothing nothing listed 0, b.comes (pending nothing nothing listed 0) told, refl));
-    unmeant = λ taken prefix p e path s listed h told.
-        seen.to_come (pending nothing nothing listed 0) (refl, (pending nothing nothing listed 0, b.comes (pending nothing nothing listed 0) told, refl));
-    listings = seen.listings_left ∙ b.listings ∙ ap (λ n. n + 1) few;
-    names = λ a. omega (arith, seen.names_left, b.names);
-    directory = seen.directory ∙ b.directory;
-  }
+        )
 
--- all that is wanted comes
-pub comes_glob : {D C : Type 0} (t : Tree Span) (law : Law D C) (d : D) (start : List ℕ) (asked : Range) (view : WalkView D) (h : BeginsGlob t law d start asked view) (b : Beginning t) → ArePlain b.names →
-    ComesWanted law d (trip_of start asked h.depth b []) view
-comes_glob t law d start asked view h b plain = record {
-  comes = λ s listed k told.
-      let trip = trip_of start asked h.depth b [] in
-      let same : (way_from start b.rooted b.names).names ≡ b.names = sym (names_are start b.rooted b.names) in
-      elim (is_beyond trip) as
-      (λ x. is_beyond trip ≡ x → view.to_come (pending nothing (if x then nothing else glob_walk trip.wanted trip.walked trip.way s) listed (if x then 0 else count_shown s))) [
-        | true ↦ λ e. h.beyond b s listed k told (subst (λ ns. trip.walked.max < length ns) same (ltb-true trip.walked.max (length trip.way.names) e))
-        | false ↦ λ e. h.shown b s listed k told plain (subst (λ ns. length ns ≤ trip.walked.max) same (ltb-false trip.walked.max (length trip.way.names) e))
-      ] refl;
-  listings = h.listings;
-}
+    nothing_comes : (listed : List (List ℕ)) → law.tells d listed → view.to_come (pending nothing nothing listed 0)
+    nothing_comes listed told =
+        seen.to_come (pending nothing nothing listed 0) (refl, (pending nothing nothing listed 0, b.comes (pending nothing nothing listed 0) told, refl))
+
+    listings_refused : view.listings_left ≡ asked.budget + 1
+    listings_refused = seen.listings_left ∙ b.listings ∙ ap (λ n. n + 1) few

@@ -1,19 +1,14 @@
 -- How the building of a glob ends.
 use Rattle.std.specs.Prelude.{◌≡◌, ◌↔◌, ℕ, false, List, [], codes, Result, Ok, Err}
-use Rattle.wax_token.specs.Reads.{Span}
-use Rattle.wax_token.specs.Syntax.{Tree, leaf, tree, concatenation, none, more}
 use Rattle.wax.specs.GlobView.{GlobView, IsMeant, empty_tree}
 use Rattle.wax_error.specs.declared.build_error.BuildError.{BuildError}
+pub use Rattle.wax_exclude.specs.PlainTrips.{tree_alone}
 
 -- the glob of the empty expression: an empty literal, which means the empty text alone
 pub record IsEmptyGlob (g : GlobView) : Type 0 where
   pub expression : g.expression ≡ []
   pub tree : g.tree ≡ empty_tree
   pub means : (text : List ℕ) → IsMeant g text ↔ (text ≡ [])
-
--- `**`
-abbrev pub tree_alone : Tree Span
-tree_alone = concatenation (0, 2) (more (leaf (0, 2) (tree false)) none)
 
 -- the glob of `**`, which means each text
 pub record IsTreeGlob (g : GlobView) : Type 0 where

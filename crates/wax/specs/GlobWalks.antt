@@ -2,7 +2,7 @@
 use Rattle.std.specs.Prelude.{◌≡◌, ℕ, ◌+◌, ◌*◌, ◌<◌, ◌≤◌, Bool, true, false, List, [], ◌∷◌, length, min}
 use Rattle.std.specs.Prelude.{Option, Some, None}
 use Rattle.std.specs.List.{Contains}
-use Rattle.wax_exclude.specs.Trips.{Trip}
+use Rattle.wax_exclude.specs.Trips.{ComesWanted, Trip}
 use Rattle.wax_components.specs.Depth.{Depth}
 use Rattle.wax_directory.specs.Counting.{grown}
 use Rattle.wax_directory.specs.Law.{Law}
@@ -57,6 +57,15 @@ pub record Beginning (t : Tree Span) : Type 0 where
 abbrev pub wants : (t : Tree Span) → Beginning t → List (Filter Span) → Wanted Span
 wants t b filters = record { rooted = b.rooted; glob = t; filters = filters }
 
+-- what is wanted of the walk of a glob, less what these filters leave out
+abbrev pub trip_of : {t : Tree Span} → List ℕ → Range → Bounds → Beginning t → List (Filter Span) → Trip
+trip_of {t} start asked depth b filters = record {
+  wanted = wants t b filters;
+  asked = asked;
+  walked = within asked depth;
+  way = way_from start b.rooted b.names;
+}
+
 -- A walk over this directory that was made of a glob, in a range: what it means of what is shown will come.
 pub record BeginsGlob {D C : Type 0} (t : Tree Span) (law : Law D C) (d : D) (start : List ℕ) (asked : Range)
     (view : WalkView D) : Type 0 where
@@ -80,18 +89,12 @@ pub record BeginsGlob {D C : Type 0} (t : Tree Span) (law : Law D C) (d : D) (st
   pub unmeant : (taken : ℕ) (prefix : List ℕ) → Prefix t taken prefix → HasEmptyName prefix
       → (path : List ℕ) (s : Shown) (listed : List (List ℕ)) → law.shows d path s → law.tells d listed
       → view.to_come (pending nothing nothing listed 0)
+  -- so what is wanted comes: filters over the walk take from this, and what is collected is the rest
+  pub comes : (b : Beginning t) → ArePlain b.names
+      → ComesWanted law d (trip_of start asked depth b []) view
   pub listings : view.listings_left ≡ asked.budget + 1
   pub names : (b : Beginning t) → view.names_left ≤ length b.names
   pub directory : view.directory ≡ d
-
--- what is wanted of the walk of a glob, less what these filters leave out
-abbrev pub trip_of : {t : Tree Span} → List ℕ → Range → Bounds → Beginning t → List (Filter Span) → Trip
-trip_of {t} start asked depth b filters = record {
-  wanted = wants t b filters;
-  asked = asked;
-  walked = within asked depth;
-  way = way_from start b.rooted b.names;
-}
 
 -- Whatever the directory shows: a walk over it gave these items, no more than twice its budget and 3. Each
 -- fault among them was counted, and at most budget + 1 items were taken from listings: all of these, where an

@@ -24,11 +24,12 @@ pub use Rattle.wax_exclude.specs.Excluded.{excluded_mark}
 pub use Rattle.wax_exclude.specs.Law.{GivesWanted, ListsFew, WantsNothing}
 pub use Rattle.wax_exclude.specs.Leading.{leading_of}
 pub use Rattle.wax_exclude.specs.Marks.{covered_mark, glob_mark, not_mark, of_candidate}
+pub use Rattle.wax_exclude.specs.PlainTrips.{WantsUnfiltered, is_unfiltered, plain_trip}
 pub use Rattle.wax_exclude.specs.Prefix.{HasEmptyName, IsPrefixWay}
 pub use Rattle.wax_exclude.specs.Premises.{BeginsWith, IsUnmeant}
-pub use Rattle.wax_exclude.specs.Trips.{AreRulesOf, ComesWanted, IsRuleOf, KeepsWanted, MayGo, Trip, gives}
-pub use Rattle.wax_exclude.specs.Trips.{is_beyond, lacks_memory, over_budget, trip_less, trip_pending}
-pub use Rattle.wax_exclude.specs.Trips.{trip_walk}
+pub use Rattle.wax_exclude.specs.Trips.{AreRulesOf, ComesLess, ComesWanted, IsRuleOf, KeepsWanted, MayGo}
+pub use Rattle.wax_exclude.specs.Trips.{Trip, gives, goes, is_beyond, lacks_memory, over_budget, trip_less}
+pub use Rattle.wax_exclude.specs.Trips.{trip_pending, trip_walk}
 pub use Rattle.wax_exclude.specs.Walked.{glob_walk, wanted_entries, way_walk}
 pub use Rattle.wax_exclude.specs.Wanted.{Filter, filter_mark, is_kept_entry, not_ignored, not_meant}
 pub use Rattle.wax_filter.specs.Feeding.{AtMostCancels, ByEntry, ByItem, Feeds, NextFiltrate, OnlyCancels}
@@ -45,13 +46,14 @@ pub use Rattle.wax_filter.specs.inner.Walking.{separated_entry}
 pub use Rattle.wax_glob_walk.specs.Matches.{IsMatchedEntry, glob_facts, match_of, tree_entry}
 pub use Rattle.wax_glob_walk.specs.Programs.{any_mark, leading_mark}
 pub use Rattle.wax_glob_walk.specs.declared.entry.GlobEntry.{GlobEntry}
-pub use Rattle.wax_tree.specs.Begins.{Begins, BeginsAt, EndsWithin, HasEnded, LacksMemory, behavior_range}
+pub use Rattle.wax_tree.specs.Begins.{Begins, BeginsAt, EndsWithin, HasEnded, LacksMemory, Way}
+pub use Rattle.wax_tree.specs.Begins.{behavior_range}
 pub use Rattle.wax_tree.specs.Depths.{HasBounds, IsUnbounded, IsUnboundedAt, behavior_at, greatest, least}
 pub use Rattle.wax_tree.specs.Depths.{no_bound, raised}
 pub use Rattle.wax_tree.specs.Lacking.{gives_at_most, tree_view}
 pub use Rattle.wax_tree.specs.Prefix.{ArePlain, from_last}
 pub use Rattle.wax_tree.specs.WalkLaws.{cancel_law, comes_told}
-pub use Rattle.wax_tree.specs.Whole.{EntriesAre, plain_pending}
+pub use Rattle.wax_tree.specs.Whole.{EntriesAre, plain_pending, whole}
 pub use Rattle.wax_tree.specs.declared.behavior.DepthBehavior.TheVariants.{MinMax, Unbounded}
 pub use Rattle.wax_tree.specs.declared.behavior.WalkBehavior.{WalkBehavior}
 pub use Rattle.wax_tree.specs.declared.steps.Range.{Range}

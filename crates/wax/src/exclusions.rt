@@ -1,10 +1,13 @@
 //! Walks without what patterns match or lists ignore.
 ghost use Rattle.std.specs.Prelude.{◌≡◌, IfOk, List, MatchResult};
 ghost use Rattle.wax_token.specs.Reads.{Span};
+ghost use Rattle.wax_token.specs.Syntax.{Tree};
 ghost use Rattle.wax_walk.specs.Known.{StaysKnown};
 ghost use Rattle.wax_walk.specs.Ruled.{ruled_view};
 ghost use Rattle.wax_walk.specs.View.{IsSeenAs};
 ghost use Rattle.wax_exclude.specs.Ignored.{Line};
+ghost use Rattle.wax_exclude.specs.Trips.{ComesLess};
+ghost use Rattle.wax_exclude.specs.Wanted.{not_ignored, not_meant};
 ghost use Rattle.wax.specs.Exclusions.{IsLeftOut, IsWalkWithout, NoExclusion};
 ghost use Rattle.wax.specs.Ignoring.{HoldsLines, IsWalkIgnoring};
 
@@ -59,6 +62,8 @@ where
         (⟦<Not<I> as FileIterator>⟧.view w)
         × (⟦<Not<I> as SeparatingFilter>⟧.left w ≡ I.left walk))
         (NoExclusion (P.spells pattern) (P.refuses pattern)) }
+    ensures comes { IfOk result (λ w. (t : Tree Span) → P.spells pattern t
+        → ComesLess I.Directory.law (not_meant t) (I.view walk) (⟦<Not<I> as FileIterator>⟧.view w)) }
     ensures feeds { I.can_feed walk → IfOk result (λ w. ⟦<Not<I> as SeparatingFilter>⟧.can_feed w) }
     ensures known { IfOk result (λ w. StaysKnown (I.known walk) (⟦<Not<I> as FileIterator>⟧.known w)) }
 {
@@ -74,6 +79,9 @@ where
 pub fn without_ignored<I: FileIterator>(alloc: Global, walk: I, list: IgnoreList) -> Ignore<I>
     ensures view { (lines : List (Line Span)) → HoldsLines list lines
         → IsWalkIgnoring lines (I.view walk) (⟦<Ignore<I> as FileIterator>⟧.view result) }
+    ensures comes { (lines : List (Line Span)) → HoldsLines list lines
+        → ComesLess I.Directory.law (not_ignored lines) (I.view walk)
+        (⟦<Ignore<I> as FileIterator>⟧.view result) }
     ensures ends { ⟦<Ignore<I> as SeparatingFilter>⟧.left result ≡ I.left walk }
     ensures feeds { I.can_feed walk → ⟦<Ignore<I> as SeparatingFilter>⟧.can_feed result }
     ensures known { StaysKnown (I.known walk) (⟦<Ignore<I> as FileIterator>⟧.known result) }
@@ -109,6 +117,9 @@ pub trait FileIteratorExt: FileIterator {
             (⟦<Not<Self> as FileIterator>⟧.view w)
             × (⟦<Not<Self> as SeparatingFilter>⟧.left w ≡ Self.left self))
             (NoExclusion (P.spells pattern) (P.refuses pattern)) }
+        ensures comes { IfOk result (λ w. (t : Tree Span) → P.spells pattern t
+            → ComesLess Self.Directory.law (not_meant t) (Self.view self)
+            (⟦<Not<Self> as FileIterator>⟧.view w)) }
         ensures feeds { Self.can_feed self
             → IfOk result (λ w. ⟦<Not<Self> as SeparatingFilter>⟧.can_feed w) }
         ensures known { IfOk result
@@ -132,6 +143,9 @@ pub trait FileIteratorExt: FileIterator {
         Self: Sized,
         ensures view { (lines : List (Line Span)) → HoldsLines list lines
             → IsWalkIgnoring lines (Self.view self) (⟦<Ignore<Self> as FileIterator>⟧.view result) }
+        ensures comes { (lines : List (Line Span)) → HoldsLines list lines
+            → ComesLess Self.Directory.law (not_ignored lines) (Self.view self)
+            (⟦<Ignore<Self> as FileIterator>⟧.view result) }
         ensures ends { ⟦<Ignore<Self> as SeparatingFilter>⟧.left result ≡ Self.left self }
         ensures feeds { Self.can_feed self → ⟦<Ignore<Self> as SeparatingFilter>⟧.can_feed result }
         ensures known { StaysKnown (Self.known self) (⟦<Ignore<Self> as FileIterator>⟧.known result) }

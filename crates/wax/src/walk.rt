@@ -12,7 +12,7 @@ pub use wax_directory::folders::Folders;
 pub use wax_directory::starving::Starving;
 pub use wax_directory::tally::Tally;
 pub use wax_directory::tree::{DuplicateName, Node, Tree, TreeItem};
-pub use wax_exclude::{Component, Exclusion};
+pub use wax_exclude::{Component, Exclusion, collect, collect_feed, law_of_plain_walks};
 pub use wax_glob_walk::{FilterAny, GlobEntry, GlobFeed};
 pub use wax_tree::{
     DepthBehavior, DepthMax, DepthMin, DepthMinMax, LinkBehavior, PathExt, Range, TreeFeed,
@@ -20,5 +20,5 @@ pub use wax_tree::{
 };
 pub use wax_walk::{
     Entry, EntryResidue, FaultKind, FileIterator, FilterEntry, Rule, TreeEntry, WalkError,
-    WalkErrorKind, Without, collect, collect_feed,
+    WalkErrorKind, Without,
 };

@@ -14,7 +14,6 @@ use Rattle.wax_walk.specs.Given.{Facts, Mark}
 use Rattle.wax_walk.specs.View.{WalkView}
 use Rattle.wax_exclude.specs.Wanted.{Filter}
 use Rattle.wax.specs.GlobWalks.{BeginsGlob, trip_of}
-use Rattle.wax.proofs.GlobWalks.{comes_glob}
 use Rattle.wax_walk.specs.Forest.{preorder}
 use Rattle.wax_command_line.specs.Candidates.{candidate_lines}
 use Rattle.wax_commands.specs.Files.{FileAnswers}
@@ -36,7 +35,7 @@ module _ {D C : Type 0} (law : Law D C) (d : D) (asked : WalkRequest) (globs : W
     h.depth_is,
     λ b s listed plain shows told.
         on d (trip_of asked.start (range_in asked.options) h.depth b []) globs.filters s listed
-        (comes_glob globs.glob.tree law d asked.start (range_in asked.options) view h b plain) are (goes (h.can b globs.filters plain)) shows told,
+        (h.comes b plain) are (goes (h.can b globs.filters plain)) shows told,
   )
 
   -- the walk begins where it was asked to

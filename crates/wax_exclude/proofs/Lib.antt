@@ -18,6 +18,7 @@ pub mod Losing
 pub mod Names
 pub mod Passed
 pub mod Passing
+pub mod PlainTrips
 pub mod Reaching
 pub mod Rows
 pub mod Shown

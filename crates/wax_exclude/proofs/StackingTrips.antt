@@ -22,7 +22,7 @@ filter_rules_more (x ∷ xs) ys = ap (λ v. of_candidate (filter_mark x) ∷ v) 
 -- ---- all at once
 
 -- a rule that says nothing changes nothing
-unruled : (f : Forest Given) → ruled (any_mark []) f ≡ f
+pub unruled : (f : Forest Given) → ruled (any_mark []) f ≡ f
 unruled nothing = refl
 unruled (lists path after) = ap (lists path) (unruled after)
 unruled (item x below after) = changed x (unruled below) (unruled after) where

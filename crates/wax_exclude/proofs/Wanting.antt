@@ -1,5 +1,5 @@
 -- What is wanted of a walk comes, and is what is kept.
-use Rattle.std.proofs.Common.{◌≡◌, ℕ, ◌+◌, ◌<◌, ◌≤◌, Bool, true, false, List, length, filter}
+use Rattle.std.proofs.Common.{◌≡◌, ℕ, ◌+◌, ◌<◌, ◌≤◌, Bool, true, false, List, [], ◌∷◌, length, filter}
 use Rattle.std.proofs.Common.{refl, sym, ap, subst, ◌∙◌, arith, inl, inr}
 use Rattle.std.specs.Prelude.{if◌then◌else◌, All}
 use Rattle.std.proofs.lemmas.Bool.{ltb-false, ltb-true}
@@ -12,7 +12,7 @@ use Rattle.wax_walk.specs.Collected.{GaveAll, whole, lacks_memory, over_budget, 
 use Rattle.wax_walk.specs.Collected.{all_fault_counts}
 use Rattle.wax_walk.specs.declared.error.FaultKind.TheVariants.{Budget}
 use Rattle.wax_walk.specs.Forest.{Pending, Forest, nothing, pending, preorder, listings}
-use Rattle.wax_walk.specs.Given.{Facts, Mark, kept, Given, fault, no_memory, is_kept}
+use Rattle.wax_walk.specs.Given.{Facts, Mark, Given, fault, no_memory, is_kept}
 use Rattle.wax_walk.specs.Ruled.{ruled_view}
 use Rattle.wax_walk.specs.View.{WalkView, CountsFaults, IsSeenAs}
 use Rattle.wax_exclude.proofs.KeptItems.{cut_kept, kept_entries}
@@ -23,7 +23,7 @@ use Rattle.wax_exclude.specs.Walked.{glob_walk, wanted_entries, way_walk, MayLis
 use Rattle.wax_exclude.specs.Wanted.{Filter, filter_rules, is_kept_entry, stacked, rules_of}
 use Rattle.wax_glob_walk.specs.Programs.{any_mark}
 use Rattle.wax_exclude.specs.Trips as T
-use Rattle.wax_exclude.specs.Trips.{AreRulesOf, Trip, trip_less, is_beyond}
+use Rattle.wax_exclude.specs.Trips.{AreRulesOf, ComesLess, IsRuleOf, Trip, trip_less, is_beyond}
 use Rattle.wax_exclude.specs.Trips.{MayGo, goes, unmeant, trip_walk, trip_items, trip_pending, ComesWanted, KeepsWanted}
 use Rattle.wax_glob_walk.proofs.Combining.{ruled}
 use Rattle.wax_exclude.proofs.StackingTrips.{stacked_more, filter_rules_more, stacked_any, stacked_filters}
@@ -58,12 +58,12 @@ module _ {D C : Type 0} (law : Law D C) where
 -- ---- what comes
 
 module _ {D C : Type 0} (law : Law D C) (d : D) where
-  -- rules that are those of filters turn what comes into what comes of another trip of this way
-  pub filters_come : (trip : Trip) (filters : List (Filter Span)) (rules : List (Facts → Mark))
-      (rule : Facts → Mark) (v u : WalkView D) → AreRulesOf filters rules → rule ≡ any_mark rules
+  -- a rule that does what filters do turns what comes into what comes of another trip of this way
+  comes_ruled : (trip : Trip) (filters : List (Filter Span)) (rule : Facts → Mark) (v u : WalkView D)
+      → ((f : Forest Given) → ruled rule f ≡ stacked (filter_rules filters) f)
       → ComesWanted law d trip v → IsSeenAs (ruled_view v rule false) u
       → ComesWanted law d (trip_less trip filters) u
-  filters_come trip filters rules rule v u are says h seen = record {
+  comes_ruled trip filters rule v u same h seen = record {
     comes = λ s listed shows told.
         subst (λ f. u.to_come (pending nothing f listed (trip_items trip s))) (walks s (is_beyond trip))
         (seen.to_come _ (
@@ -76,9 +76,6 @@ module _ {D C : Type 0} (law : Law D C) (d : D) where
         ));
     listings = seen.listings_left ∙ h.listings;
   } where
-    same : (f : Forest Given) → ruled rule f ≡ stacked (filter_rules filters) f
-    same f = ap (λ r. ruled r f) says ∙ (sym (stacked_any rules f) ∙ stacked_filters filters rules f are)
-
     walks : (s : Shown) (b : Bool)
         → ruled rule (if b then nothing else glob_walk trip.wanted trip.walked trip.way s)
         ≡ (if b then nothing else glob_walk (trip_less trip filters).wanted trip.walked trip.way s)
@@ -90,6 +87,15 @@ module _ {D C : Type 0} (law : Law D C) (d : D) where
         ∙ ap (λ rules. stacked rules (ruled (of_candidate (glob_mark trip.wanted.rooted trip.wanted.glob)) walk))
         (sym (filter_rules_more trip.wanted.filters filters)))
 
+  -- rules that are those of filters do so
+  pub filters_come : (trip : Trip) (filters : List (Filter Span)) (rules : List (Facts → Mark))
+      (rule : Facts → Mark) (v u : WalkView D) → AreRulesOf filters rules → rule ≡ any_mark rules
+      → ComesWanted law d trip v → IsSeenAs (ruled_view v rule false) u
+      → ComesWanted law d (trip_less trip filters) u
+  filters_come trip filters rules rule v u are says h seen = comes_ruled trip filters rule v u same h seen where
+    same : (f : Forest Given) → ruled rule f ≡ stacked (filter_rules filters) f
+    same f = ap (λ r. ruled r f) says ∙ (sym (stacked_any rules f) ∙ stacked_filters filters rules f are)
+
   -- what a walk gave to its end is what was to come at first
   pub all_gave : (trip : Trip) (view : WalkView D) (tells : List (List ℕ) → Type 0) (s : Shown)
       (listed : List (List ℕ)) (xs : List Given) → ComesWanted law d trip view → law.shows d trip.way.path s
@@ -99,6 +105,12 @@ module _ {D C : Type 0} (law : Law D C) (d : D) where
   all_gave trip view tells s listed xs h shows told all =
       subst (λ n. GaveAll tells n (trip_pending trip s listed) xs) h.listings
       (all (trip_pending trip s listed) (h.comes s listed shows told))
+
+-- a rule that is that of a filter does so, too
+pub comes_less : {D C : Type 0} (law : Law D C) (x : Filter Span) (rule : Facts → Mark) (v u : WalkView D)
+    → IsRuleOf x rule → IsSeenAs (ruled_view v rule false) u → ComesLess law x v u
+comes_less law x rule v u says seen = λ d trip h.
+    comes_ruled law d trip (x ∷ []) rule v u (λ f i. ruled (λ facts. says facts i) f) h seen
 
 -- ---- what is kept
 

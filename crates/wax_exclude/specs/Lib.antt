@@ -9,6 +9,7 @@ pub mod Law
 pub mod Leading
 pub mod Lines
 pub mod Marks
+pub mod PlainTrips
 pub mod Prefix
 pub mod Premises
 pub mod Trips

@@ -75,6 +75,12 @@ pub record ComesWanted {D C : Type 0} (law : Law D C) (d : D) (trip : Trip) (vie
       → view.to_come (trip_pending trip s listed)
   pub listings : view.listings_left ≡ trip.walked.budget + 1
 
+-- whatever is wanted of the inner walk: if it comes, then what the filter doesn't leave out of it comes of
+-- the outer walk
+abbrev pub ComesLess : {D C : Type 0} → Law D C → Filter Span → WalkView D → WalkView D → Type 0
+ComesLess {D} law x inner outer = (d : D) (trip : Trip) → ComesWanted law d trip inner
+    → ComesWanted law d (trip_less trip (x ∷ [])) outer
+
 -- These items were kept: all that comes, of which the entries are those of the whole walk that are in the
 -- range asked for, that the glob means and that no filter leaves out, in order, and only folders were listed
 -- that may be; or a beginning of it, and then that memory was refused, or that the budget is reached.

@@ -1,7 +1,17 @@
 //! The laws of walks that globs filter, as contracts of functions that do nothing.
 
+ghost use Rattle.std.specs.Prelude.{List, ℕ};
+ghost use Rattle.wax_token.specs.Reads.{Span};
+ghost use Rattle.wax_tree.specs.Begins.{Begins};
 ghost use Rattle.wax_exclude.specs.Law.{GivesWanted, ListsFew, WantsNothing};
+ghost use Rattle.wax_exclude.specs.PlainTrips.{plain_trip, WantsUnfiltered};
+ghost use Rattle.wax_exclude.specs.Trips.{ComesWanted, MayGo, trip_less};
 ghost use Rattle.wax_exclude.specs.Unignored.{GivesUnignored, LosesIgnored};
+ghost use Rattle.wax_exclude.specs.Wanted.{Filter};
+
+use wax_directory::directory::Directory;
+use wax_tree::{Range, WalkTree};
+use wax_walk::FileIterator;
 
 /// States that a glob's walk keeps exactly the wanted entries of the plain walk, in order, and
 /// lists only folders that may hold one. If nothing is wanted, it may yield nothing and list
@@ -18,3 +28,17 @@ pub fn law_of_ignoring()
     ensures gives { GivesUnignored }
     ensures lists { LosesIgnored }
 {}
+
+/// A plain walk is the walk of `**`: what comes of it is what that wants, so filters over it exclude from it
+/// as they exclude from a glob's walk. The entries that are wanted are those in range that no filter
+/// excludes, in order.
+pub fn law_of_plain_walks<D: Directory>(walk: &WalkTree<D>)
+    ensures comes { (d : D) (range : Range) (start : List ℕ)
+        → Begins D.law d start range (⟦<WalkTree<D> as FileIterator>⟧.view walk.now)
+        → ComesWanted D.law d (plain_trip range start) (⟦<WalkTree<D> as FileIterator>⟧.view walk.now) }
+    ensures goes { (range : Range) (start : List ℕ) (filters : List (Filter Span))
+        → MayGo (trip_less (plain_trip range start) filters) }
+    ensures wanted { WantsUnfiltered }
+{
+    let _walk = walk;
+}

@@ -14,9 +14,9 @@ mod wanted;
 
 pub use exclusions::Exclusion;
 pub use kept::collect_unignored;
-pub use law::{law_of_ignoring, law_of_walks};
+pub use law::{law_of_ignoring, law_of_plain_walks, law_of_walks};
 pub use lines::{WrittenLine, written_lines};
 pub use parts::{Component, leading};
 pub use prefixes::{Way, way_of};
 pub use rules::{IgnoreLine, IgnoreRule};
-pub use wanted::{collect_less, collect_wanted, collect_wanted_feed};
+pub use wanted::{collect, collect_feed, collect_less};

@@ -19,7 +19,10 @@ use std::alloc::Global;
 use wax_filter::filter::Separation;
 use wax_glob_walk::FilterAny;
 use wax_query::diagnostics::NoMemory;
-use wax_walk::{Entry, FileIterator, Rule, WalkError, collect, collect_feed};
+use wax_walk::{
+    Entry, FileIterator, Rule, WalkError, collect as collect_items,
+    collect_feed as collect_feed_items,
+};
 
 /// Collects what a walk keeps: returns the kept items in order, errors included, and the directory.
 /// What is `known` of the walk's entries holds for each. If the walk is that of a glob without what
@@ -30,7 +33,7 @@ use wax_walk::{Entry, FileIterator, Rule, WalkError, collect, collect_feed};
 ///
 /// Returns `NoMemory` if allocation fails for the list itself. If it fails in the walk, the last
 /// item is that error.
-pub fn collect_wanted<I>(
+pub fn collect<I>(
     alloc: Global,
     walk: I,
 ) -> Result<(Vec<Result<I::Entry, WalkError>>, I::Directory), NoMemory>
@@ -50,7 +53,7 @@ where
         (map (given_outcome I.Entry.facts I.Residue.facts) r.0.items)) }
 {
     law_of_walks();
-    collect(alloc, walk)
+    collect_items(alloc, walk)
 }
 
 /// Collects the feed of a walk: returns all items in order, kept or excluded, and the directory.
@@ -60,7 +63,7 @@ where
 ///
 /// Returns `NoMemory` if allocation fails for the list itself. If it fails in the walk, the last
 /// item is that error.
-pub fn collect_wanted_feed<I>(
+pub fn collect_feed<I>(
     alloc: Global,
     walk: I,
 ) -> Result<(Vec<Separation<I::Feed>>, I::Directory), NoMemory>
@@ -78,7 +81,7 @@ where
         → GaveAll (I.Directory.law.tells r.1) (trip.walked.budget + 1) (trip_pending trip s listed)
         (map (given_of I.Entry.facts I.Residue.facts) r.0.items)) }
 {
-    collect_feed(alloc, walk)
+    collect_feed_items(alloc, walk)
 }
 
 /// Collects a walk without what the rules exclude: returns what is kept, in order, errors included,
@@ -113,5 +116,5 @@ where
         (map (given_outcome I.Entry.facts I.Residue.facts) r.0.items)) }
 {
     let kept = walk.without(alloc, FilterAny::new(rules));
-    collect_wanted(alloc, kept)
+    collect(alloc, kept)
 }

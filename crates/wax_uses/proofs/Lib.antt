@@ -1,4 +1,5 @@
 pub mod ByRule
+pub mod Filtered
 pub mod LessMeant
 pub mod Meanings
 pub mod OneComponents

@@ -15,4 +15,4 @@ pub use ignored::is_ignored_by;
 pub use lines::meant_lines;
 pub use names::{is_meant, is_picture};
 pub use skipping::{has_no_deeper, means_all_below, means_single_names};
-pub use walks::{meant_less, without_links};
+pub use walks::{NotKept, meant_less, meant_unignored, unmeant_unignored, without_links};

@@ -1,16 +1,22 @@
 //! Walks without some of their entries.
 ghost use Rattle.std.specs.Iterator.{IsFinite};
-ghost use Rattle.std.specs.Prelude.{◌≡◌, All, IfOk, map};
-ghost use Rattle.wax_uses.specs.Less.{AreEntriesLess, IsKnownFrom, IsMeantEntry, IsUnmeantEntry};
+ghost use Rattle.std.specs.List.{AllZip};
+ghost use Rattle.std.specs.Prelude.{◌≡◌, ◌∷◌, [], All, IfOk, List, map, ℕ};
+ghost use Rattle.wax_uses.specs.Less.{AreEntriesLeft, AreEntriesLess, AreFilters, IsKnownFrom, IsMeantEntry};
+ghost use Rattle.wax_uses.specs.Less.{IsUnmeantEntry, KeepsFiltered, KeepsLess};
 ghost use Rattle.wax_uses.specs.Walks.{KeepsByRule, link_mark};
-ghost use Rattle.wax.specs.Walks.{facts_of, Given, given_outcome, KnownOutcome, mark_of, Pending};
+ghost use Rattle.wax.specs.Ignoring.{IsReadAs, Line, written_lines};
+ghost use Rattle.wax.specs.Language.{Span, Tree};
+ghost use Rattle.wax.specs.Patterns.{IsOnly};
+ghost use Rattle.wax.specs.Walks.{facts_of, Filter, Given, given_outcome, KnownOutcome, mark_of};
+ghost use Rattle.wax.specs.Walks.{not_ignored, not_meant, Pending, Shown};
 
 use std::alloc::Global;
 use wax::walk::{
-    Directory, Entry, EntryResidue, FileIterator, FileType, GlobEntry, TreeEntry, WalkBehavior,
-    WalkError, WalkFilter, collect,
+    Directory, Entry, EntryResidue, FileIterator, FileIteratorExt, FileType, GlobEntry, IgnoreList,
+    PathExt, TreeEntry, WalkBehavior, WalkError, WalkFilter, collect, law_of_plain_walks,
 };
-use wax::{BuildError, Glob, NoMemory};
+use wax::{BuildError, Glob, NoMemory, Pattern};
 
 /// Collects a walk without its links: returns what is kept, and the directory.
 ///
@@ -67,4 +73,135 @@ pub fn meant_less<D: Directory>(
         return Err(BuildError::Memory);
     };
     Ok(glob.collect_less(alloc, directory, start, WalkBehavior::default(), filters)?)
+}
+
+/// Why nothing is kept of a walk with filters.
+#[derive(Debug, Drop)]
+pub enum NotKept {
+    /// A pattern or a list isn't built.
+    NotBuilt,
+    NoMemory,
+}
+
+/// Returns what is kept of the walk of the glob from a start, without what two patterns match and what the
+/// list of the text ignores, and the directory. If it is known what the directory shows, the entries are
+/// exactly those of the whole walk that the glob matches, that neither of the patterns matches and that the
+/// list doesn't ignore, in order; and only folders were opened that may hold such entries.
+pub fn meant_unignored<D, P, Q>(
+    alloc: Global,
+    glob: &Glob<'_>,
+    directory: D,
+    start: &str,
+    first: P,
+    second: Q,
+    list: &str,
+) -> Result<(Vec<Result<GlobEntry, WalkError>>, D), NotKept>
+where
+    D: Directory,
+    P: Pattern + Drop,
+    Q: Pattern + Drop,
+    ensures { IfOk result (λ r. (filters : List (Filter Span))
+        × AreFilters (P.spells first) (Q.spells second) list.now filters
+        × ((known : IsKnownFrom glob.now D.law directory start.now)
+        → KeepsFiltered known filters (D.law.tells r.1)
+        (map (given_outcome ⟦<GlobEntry as Entry>⟧.facts ⟦<TreeEntry as Entry>⟧.facts) r.0.items))) }
+{
+    let walk = glob.walk(alloc, directory, start);
+    collect_unmeant(alloc, walk, first, second, list)
+}
+
+/// Returns what is kept of the plain walk from a start, without what two patterns match and what the list of
+/// the text ignores, and the directory: the entries are exactly those of the whole walk that neither of the
+/// patterns matches and that the list doesn't ignore, in order.
+pub fn unmeant_unignored<D, P, Q>(
+    alloc: Global,
+    directory: D,
+    start: &str,
+    first: P,
+    second: Q,
+    list: &str,
+) -> Result<(Vec<Result<TreeEntry, WalkError>>, D), NotKept>
+where
+    D: Directory,
+    P: Pattern + Drop,
+    Q: Pattern + Drop,
+    ensures { IfOk result (λ r. (filters : List (Filter Span))
+        × AreFilters (P.spells first) (Q.spells second) list.now filters
+        × ((s : Shown) (opened : List (List ℕ)) → D.law.shows directory start.now s
+        → D.law.tells directory opened → AreEntriesLeft filters start.now s
+        (map (given_outcome ⟦<TreeEntry as Entry>⟧.facts ⟦<TreeEntry as Entry>⟧.facts) r.0.items))) }
+{
+    let walk = start.walk(alloc, directory);
+    law_of_plain_walks(&walk);
+    collect_unmeant(alloc, walk, first, second, list)
+}
+
+// Returns what is kept of a walk without what two patterns match and what the list of the text ignores. (The
+// borrow checker doesn't cover yet `not` or `ignore` of a walk whose type is written out. So each of these
+// functions makes one such call, of a walk of any type.)
+fn collect_unmeant<I, P, Q>(
+    alloc: Global,
+    walk: I,
+    first: P,
+    second: Q,
+    list: &str,
+) -> Result<(Vec<Result<I::Entry, WalkError>>, I::Directory), NotKept>
+where
+    I: FileIterator,
+    P: Pattern + Drop,
+    Q: Pattern + Drop,
+    requires can { I.can_feed walk }
+    requires ends { IsFinite (I.left walk) }
+    ensures { IfOk result (λ r. (filters : List (Filter Span))
+        × AreFilters (P.spells first) (Q.spells second) list.now filters
+        × KeepsLess I.Directory.law (I.view walk) filters r.1
+        (map (given_outcome I.Entry.facts I.Residue.facts) r.0.items)) }
+{
+    match walk.not(alloc, first) {
+        Ok(walk) => collect_without(alloc, walk, second, list),
+        Err(_) => Err(NotKept::NotBuilt),
+    }
+}
+
+fn collect_without<I, P>(
+    alloc: Global,
+    walk: I,
+    pattern: P,
+    list: &str,
+) -> Result<(Vec<Result<I::Entry, WalkError>>, I::Directory), NotKept>
+where
+    I: FileIterator,
+    P: Pattern + Drop,
+    requires can { I.can_feed walk }
+    requires ends { IsFinite (I.left walk) }
+    ensures { IfOk result (λ r. (t : Tree Span) × IsOnly (P.spells pattern) t × (lines : List (Line Span))
+        × AllZip IsReadAs (written_lines list.now) lines
+        × KeepsLess I.Directory.law (I.view walk) (not_meant t ∷ not_ignored lines ∷ []) r.1
+        (map (given_outcome I.Entry.facts I.Residue.facts) r.0.items)) }
+{
+    match walk.not(alloc, pattern) {
+        Ok(walk) => collect_unignored(alloc, walk, list),
+        Err(_) => Err(NotKept::NotBuilt),
+    }
+}
+
+fn collect_unignored<I: FileIterator>(
+    alloc: Global,
+    walk: I,
+    list: &str,
+) -> Result<(Vec<Result<I::Entry, WalkError>>, I::Directory), NotKept>
+    requires can { I.can_feed walk }
+    requires ends { IsFinite (I.left walk) }
+    ensures { IfOk result (λ r. (lines : List (Line Span))
+        × AllZip IsReadAs (written_lines list.now) lines
+        × KeepsLess I.Directory.law (I.view walk) (not_ignored lines ∷ []) r.1
+        (map (given_outcome I.Entry.facts I.Residue.facts) r.0.items)) }
+{
+    match IgnoreList::parse(alloc, list) {
+        Ok(list) => match collect(alloc, walk.ignore(alloc, list)) {
+            Ok(kept) => Ok(kept),
+            Err(_) => Err(NotKept::NoMemory),
+        },
+        Err(_) => Err(NotKept::NotBuilt),
+    }
 }

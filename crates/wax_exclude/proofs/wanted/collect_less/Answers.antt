@@ -18,12 +18,12 @@ returns-clause-took g c =
       subst (λ n. length h.0 ≤ size n) c.without-kept.ensures.ends h.2,
       h.3,
     ))
-    c.collect_wanted.result c.collect_wanted.ensures.took
+    c.collect.result c.collect.ensures.took
 
 pub returns-clause-known : goal.returns-clause-known
 returns-clause-known g c =
     map_ok (λ r h. all_before (g.I.FileIterator.known c.args.walk) _ r.0.items c.without-kept.ensures.known h)
-    c.collect_wanted.result c.collect_wanted.ensures.known
+    c.collect.result c.collect.ensures.known
 
 pub returns-clause-wanted : goal.returns-clause-wanted
 returns-clause-wanted g c =
@@ -32,4 +32,4 @@ returns-clause-wanted g c =
     (filters_come g.I.Directory.Directory.law d trip filters (map g.R.Rule.rule c.args.rules.items) _ _ _ are
     c.new.ensures comes c.without-kept.ensures.view)
     can shows told)
-    c.collect_wanted.result c.collect_wanted.ensures.wanted
+    c.collect.result c.collect.ensures.wanted

@@ -6,7 +6,6 @@ use Rattle.wax_walk.proofs.Knowing.{all_before}
 use Rattle.wax_walk.specs.Collected.{GaveAll}
 use Rattle.wax_walk.specs.Forest.{nothing, pending}
 use Rattle.wax.specs.GlobWalks.{trip_of}
-use Rattle.wax.proofs.GlobWalks.{comes_glob}
 use Rattle.wax.proofs.Kept.{gave_within, keeps_nothing}
 use Rattle.wax.proofs.glob.Glob.collect_less.Goals as goal
 
@@ -52,7 +51,7 @@ returns-clause-wanted g c =
       h.depth_is,
       λ b filters s listed are plain shows told.
           k d (trip_of start asked h.depth b []) filters s listed
-          (comes_glob c.args.self.now.tree law d start asked _ h b plain) are
+          (h.comes b plain) are
           (goes (h.can b filters plain)) shows told,
     ))
     c.collect_less.result c.collect_less.ensures.wanted

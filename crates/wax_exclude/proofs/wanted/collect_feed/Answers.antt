@@ -1,6 +1,6 @@
 use Rattle.wax_walk.proofs.Collecting.{map_ok}
 use Rattle.wax_exclude.proofs.Wanting.{all_gave}
-use Rattle.wax_exclude.proofs.wanted.collect_wanted_feed.Goals as goal
+use Rattle.wax_exclude.proofs.wanted.collect_feed.Goals as goal
 
 pub returns-clause-wanted : goal.returns-clause-wanted
 returns-clause-wanted g c =

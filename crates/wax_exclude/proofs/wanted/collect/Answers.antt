@@ -3,7 +3,7 @@ use Rattle.wax_walk.proofs.Collecting.{map_ok}
 use Rattle.wax_exclude.proofs.Shown.{well_named}
 use Rattle.wax_exclude.specs.Trips.{KeepsWanted}
 use Rattle.wax_exclude.proofs.Wanting.{all_gave, keeps_wanted}
-use Rattle.wax_exclude.proofs.wanted.collect_wanted.Goals as goal
+use Rattle.wax_exclude.proofs.wanted.collect.Goals as goal
 
 pub returns-clause-wanted : goal.returns-clause-wanted
 returns-clause-wanted g c =
