@@ -1,4 +1,4 @@
-"""Tests of `wax`. What is wanted is from docs/LANGUAGE.md, docs/ERRORS.md and docs/IGNORE.md, or by `re`."""
+"""Tests of `wax`. Expected results are those of docs/LANGUAGE.md, docs/ERRORS.md and docs/IGNORE.md, or of `re`."""
 
 import ctypes
 import gc
@@ -63,7 +63,7 @@ class Errors(unittest.TestCase):
             self.assertEqual(raised.exception.span is None, number == 9)
 
     def test_span(self):
-        """Spans count characters, though the library counts bytes."""
+        """Spans are in characters here, though the library's are in bytes."""
         for expression, span in [("a//b", (1, 3)), ("é//**/a", (1, 6)), ("***", (0, 1))]:
             with self.subTest(expression), self.assertRaises(wax.BuildError) as raised:
                 wax.Glob(expression)
@@ -88,7 +88,7 @@ class Ignoring(unittest.TestCase):
 
 @unittest.skipUnless("WAX_REFUSING" in os.environ, "tests/python builds the library for it")
 class Memory(unittest.TestCase):
-    """Each allocation of the library fails in turn: a call gives its answer or `MemoryError`, and keeps nothing."""
+    """Each allocation of the library fails in turn: a call returns its result or `MemoryError`, and frees all."""
 
     def setUp(self):
         self.library = os.environ["WAX_LIBRARY"]
@@ -121,7 +121,7 @@ class Memory(unittest.TestCase):
         failed = 0
         for number in range(1, requests + 1):
             answer = self.run_with(number)
-            self.assertIn(answer, (None, wanted), number)  # (the library does without some)
+            self.assertIn(answer, (None, wanted), number)  # (the library can do without some allocations)
             failed += answer is None
             gc.collect()
             self.assertEqual(self.refusing.wax_blocks(), 0, number)

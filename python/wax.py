@@ -1,4 +1,4 @@
-"""Globs whose answers are proved, by the C library `libwax.so`.
+"""Matches paths against globs, and checks them against ignore lists, by the C library `libwax.so`.
 
     glob = Glob("src/**/*.{rs,toml}")
     glob.is_match("src/a/b.rs")                      # True
@@ -7,8 +7,8 @@
     ignored = IgnoreList("**/*.log\\n!keep.log\\n")
     ignored.is_ignored("a/b.log")                    # True
 
-`libwax.so` is looked for beside this file, then at the path in the environment variable `WAX_LIBRARY`, which comes
-first where it is set. The script `library` of the repository builds it.
+`libwax.so` is loaded from the path in the environment variable `WAX_LIBRARY` or, if that isn't set, from the folder of
+this file. The script `library` of the repository builds it. `crates/wax_c/README.md` says what is proved.
 """
 
 from __future__ import annotations
@@ -39,7 +39,7 @@ _MESSAGES = {
 
 
 class Error(ValueError):
-    """A call that fails. `number` is the number of the error, as the header `wax.h` lists them."""
+    """The error of a call. `number` is its number in the list of the header `wax.h`."""
 
     def __init__(self, number: int, message: Optional[str] = None) -> None:
         super().__init__(message or _MESSAGES.get(number, f"error {number}"))
@@ -47,11 +47,11 @@ class Error(ValueError):
 
 
 class BuildError(Error):
-    """An expression that builds no glob.
+    """The error of an expression that can't be built.
 
-    `number` is 1 if it can't be read, 2 to 8 if it breaks a rule, 9 if it is too large. `expression` is the
-    expression. `span` is where the error is, as the indices of its first character and of the one after its last;
-    None for 9.
+    `number` is 1 if the expression can't be parsed, 2 to 8 if it breaks a rule, and 9 if it is too large. `expression`
+    is the expression. `span` is the place of the error: the index of its first character, and that of the character
+    after its last. For 9 it is None.
     """
 
     def __init__(self, number: int, expression: str, span: Optional[tuple[int, int]]) -> None:
@@ -61,7 +61,8 @@ class BuildError(Error):
 
 
 class LineError(Error):
-    """A line of an ignore list that builds no glob. `line` is its number, from 1, and `number` as of `BuildError`."""
+    """The error of a line of an ignore list. `line` is the number of the line, from 1; `number` is what it is for a
+    `BuildError`."""
 
     def __init__(self, number: int, line: int) -> None:
         super().__init__(number, f"line {line}: {_MESSAGES.get(number, f'error {number}')}")
@@ -97,7 +98,7 @@ _library = _loaded()
 
 
 def _bytes(text: str) -> bytes:
-    """Returns the UTF-8 of a text. Raises `Error` 20 if it has none, as a text with half of a surrogate pair."""
+    """Returns a text as UTF-8. Raises `Error` 20 if it can't be converted, as half of a surrogate pair can't."""
     try:
         return text.encode()
     except UnicodeEncodeError:
@@ -105,7 +106,7 @@ def _bytes(text: str) -> bytes:
 
 
 def _answer(number: int) -> bool:
-    """Returns a yes or a no, or raises the error of a call that needs no expression."""
+    """Returns the result of a call that decides something, or raises its error. The call takes no expression."""
     if number < 0:
         _raise(-number)
     return number == 1
@@ -120,15 +121,18 @@ def _raise(number: int) -> None:
 def is_match(expression: str, path: str) -> bool:
     """Returns whether the expression matches the path.
 
-    It builds the glob for this one path: `Glob` builds it once for many.
+    Each call builds the glob anew. To match many paths, build a `Glob` once.
 
-    Raises `BuildError` if the expression builds no glob, `MemoryError` if an allocation fails.
+    Raises `BuildError` if the expression can't be built, `MemoryError` if an allocation fails.
     """
     return Glob(expression).is_match(path)
 
 
 class Glob:
-    """A glob. Raises `BuildError` if the expression builds none, `MemoryError` if an allocation fails."""
+    """A glob, built from an expression.
+
+    Raises `BuildError` if the expression can't be built, `MemoryError` if an allocation fails.
+    """
 
     def __init__(self, expression: str) -> None:
         self._handle = ctypes.c_void_p()
@@ -154,7 +158,7 @@ class Glob:
     def is_match(self, path: str) -> bool:
         """Returns whether the glob matches the path.
 
-        A call took 1.3 to 5 times as long as a match of `re`: for many paths `filter` is the faster way.
+        One call took 1.3 to 5 times as long as a match by `re`. For many paths `filter` is faster.
 
         Raises `MemoryError` if an allocation fails.
         """
@@ -164,9 +168,9 @@ class Glob:
     def filter(self, paths: Iterable[str]) -> Iterator[str]:
         """Yields the paths that the glob matches, in order.
 
-        Paths are passed to the library 4,096 at a time. Over 100,000 paths this took 0.25 to 0.8 of the time of `re`
-        for four patterns, and a seventh to a quarter of that of `is_match` in a loop. Those beside a
-        path with a line feed are passed one by one.
+        Paths are passed to the library 4,096 at a time; if one of these contains a line feed, they are passed one by
+        one. For 100,000 paths and four patterns this took 0.25 to 0.8 of the time that `re` took, and a seventh to a
+        quarter of that of `is_match` in a loop.
 
         Raises `MemoryError` if an allocation fails.
         """
@@ -175,7 +179,7 @@ class Glob:
             yield from self._filtered(chunk)
 
     def _filtered(self, paths: list[str]) -> list[str]:
-        """Returns those of the paths that the glob matches."""
+        """Returns the paths that the glob matches."""
         text = "\n".join(paths) + "\n"
         if text.count("\n") != len(paths):
             return [path for path in paths if self.is_match(path)]
@@ -191,10 +195,10 @@ class Glob:
 
 
 class IgnoreList:
-    """An ignore list: lines of globs that ignore what they match, or take it back after a `!`. The last line that
-    matches a path decides. Lines that are empty or begin with `#` are skipped.
+    """An ignore list, with a glob on each line: paths that it matches are ignored or, after a `!`, aren't. The last
+    line that matches a path decides. Lines that are empty or begin with `#` are skipped.
 
-    Raises `LineError` if the glob of a line isn't built, `MemoryError` if an allocation fails.
+    Raises `LineError` if the glob of a line has an error, `MemoryError` if an allocation fails.
     """
 
     def __init__(self, text: str) -> None:

@@ -51,6 +51,20 @@ pub fn exclusion_of<P: Pattern>(alloc: Global, pattern: P) -> Result<Exclusion, 
 /// everything below the entry is excluded with it, and isn't even listed. An entry that matches in
 /// another way is excluded by itself.
 ///
+/// ```
+/// use wax::walk::{Tree, collect, without_meant};
+///
+/// let tree = Tree::from_paths(alloc, &["src/lib.rs", "target/lib.rs"])?;
+/// let walk = without_meant(alloc, "".walk(alloc, tree), "target/**")?;
+/// let (items, _) = collect(alloc, walk)?;
+/// for item in &items {
+///     match item {
+///         Ok(entry) => println!(rt; "{:?}", entry.path())?, // ""; "src"; "src/lib.rs"
+///         Err(error) => println!(rt; "{error}")?,
+///     }
+/// }
+/// ```
+///
 /// # Errors
 ///
 /// Returns the errors of `exclusion_of`. The walk is dropped then.
@@ -76,6 +90,15 @@ where
 /// Excludes from a walk what the list ignores. If an alternative of a line that ignores covers an
 /// entry, and no line after it stops ignoring, everything below the entry is excluded with it, and
 /// isn't even listed. An entry that is ignored in another way is excluded by itself.
+///
+/// ```
+/// use wax::walk::{Tree, collect, without_ignored};
+///
+/// let tree = Tree::from_paths(alloc, &["src/lib.rs", "src/lib.o"])?;
+/// let list = IgnoreList::parse(alloc, "**/*.o\n")?;
+/// let (items, _) = collect(alloc, without_ignored(alloc, "".walk(alloc, tree), list))?;
+/// println!(rt; "{}", items.len())?; // 3
+/// ```
 pub fn without_ignored<I: FileIterator>(alloc: Global, walk: I, list: IgnoreList) -> Ignore<I>
     ensures view { (lines : List (Line Span)) → HoldsLines list lines
         → IsWalkIgnoring lines (I.view walk) (⟦<Ignore<I> as FileIterator>⟧.view result) }
@@ -91,21 +114,8 @@ pub fn without_ignored<I: FileIterator>(alloc: Global, walk: I, list: IgnoreList
 
 /// Walks from which patterns and ignore lists can be excluded.
 pub trait FileIteratorExt: FileIterator {
-    /// Excludes what the pattern matches, as `without_meant` does.
-    ///
-    /// ```
-    /// use wax::walk::{Tree, collect};
-    ///
-    /// let tree = Tree::from_paths(alloc, &["src/lib.rs", "target/lib.rs"])?;
-    /// let walk = "".walk(alloc, tree).not(alloc, "target/**")?;
-    /// let (items, _) = collect(alloc, walk)?;
-    /// for item in &items {
-    ///     match item {
-    ///         Ok(entry) => println!(rt; "{:?}", entry.path())?, // ""; "src"; "src/lib.rs"
-    ///         Err(error) => println!(rt; "{error}")?,
-    ///     }
-    /// }
-    /// ```
+    /// Excludes what the pattern matches, as `without_meant` does. The borrow checker doesn't accept
+    /// this call yet if the type of the walk is written out: call that function then.
     ///
     /// # Errors
     ///
@@ -128,16 +138,8 @@ pub trait FileIteratorExt: FileIterator {
         without_meant(alloc, self, pattern)
     }
 
-    /// Excludes what the list ignores, as `without_ignored` does.
-    ///
-    /// ```
-    /// use wax::walk::{Tree, collect};
-    ///
-    /// let tree = Tree::from_paths(alloc, &["src/lib.rs", "src/lib.o"])?;
-    /// let list = IgnoreList::parse(alloc, "**/*.o\n")?;
-    /// let (items, _) = collect(alloc, "".walk(alloc, tree).ignore(alloc, list))?;
-    /// println!(rt; "{}", items.len())?; // 3
-    /// ```
+    /// Excludes what the list ignores, as `without_ignored` does. The borrow checker doesn't accept
+    /// this call yet if the type of the walk is written out: call that function then.
     final fn ignore(self, alloc: Global, list: IgnoreList) -> Ignore<Self>
     where
         Self: Sized,

@@ -29,9 +29,9 @@ pub fn law_of_ignoring()
     ensures lists { LosesIgnored }
 {}
 
-/// A plain walk is the walk of `**`: what comes of it is what that wants, so filters over it exclude from it
-/// as they exclude from a glob's walk. The entries that are wanted are those in range that no filter
-/// excludes, in order.
+/// States that a plain walk is the walk of `**`, so that filters over it exclude from it what they
+/// exclude from a glob's walk. Without what filters exclude, its entries are those in range that no
+/// filter excludes, in order.
 pub fn law_of_plain_walks<D: Directory>(walk: &WalkTree<D>)
     ensures comes { (d : D) (range : Range) (start : List ℕ)
         → Begins D.law d start range (⟦<WalkTree<D> as FileIterator>⟧.view walk.now)

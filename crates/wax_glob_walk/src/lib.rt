@@ -1,4 +1,4 @@
-//! Walks of globs: the entries that a program matches, without those that patterns match.
+//! Walks of globs: the entries that a program matches, each with its captures.
 #![tactic(auto)]
 
 mod entry;

@@ -83,10 +83,16 @@ pub enum NotKept {
     NoMemory,
 }
 
-/// Returns what is kept of the walk of the glob from a start, without what two patterns match and what the
-/// list of the text ignores, and the directory. If it is known what the directory shows, the entries are
-/// exactly those of the whole walk that the glob matches, that neither of the patterns matches and that the
-/// list doesn't ignore, in order; and only folders were opened that may hold such entries.
+/// Walks the glob from a start, without what two patterns match and what the list of the text
+/// ignores, and returns what is kept and the directory. If it is known what the directory shows, the
+/// entries are exactly those of the whole walk that the glob matches, that neither of the patterns
+/// matches and that the list doesn't ignore, in order; and only folders were opened that may hold
+/// such entries.
+///
+/// # Errors
+///
+/// Returns `NotBuilt` if a pattern or the list has an error, and `NoMemory` if allocation fails for
+/// the list of entries.
 pub fn meant_unignored<D, P, Q>(
     alloc: Global,
     glob: &Glob<'_>,
@@ -110,9 +116,14 @@ where
     collect_unmeant(alloc, walk, first, second, list)
 }
 
-/// Returns what is kept of the plain walk from a start, without what two patterns match and what the list of
-/// the text ignores, and the directory: the entries are exactly those of the whole walk that neither of the
-/// patterns matches and that the list doesn't ignore, in order.
+/// Walks from a start, without what two patterns match and what the list of the text ignores, and
+/// returns what is kept and the directory: the entries are exactly those of the whole walk that
+/// neither of the patterns matches and that the list doesn't ignore, in order.
+///
+/// # Errors
+///
+/// Returns `NotBuilt` if a pattern or the list has an error, and `NoMemory` if allocation fails for
+/// the list of entries.
 pub fn unmeant_unignored<D, P, Q>(
     alloc: Global,
     directory: D,
@@ -136,9 +147,8 @@ where
     collect_unmeant(alloc, walk, first, second, list)
 }
 
-// Returns what is kept of a walk without what two patterns match and what the list of the text ignores. (The
-// borrow checker doesn't cover yet `not` or `ignore` of a walk whose type is written out. So each of these
-// functions makes one such call, of a walk of any type.)
+// The borrow checker doesn't cover `not` or `ignore` of a walk whose type is written out yet. So each
+// of these functions makes one such call, of a walk of any type.
 fn collect_unmeant<I, P, Q>(
     alloc: Global,
     walk: I,
