@@ -3,24 +3,24 @@ use Rattle.std.proofs.Common.{◌≡◌, ◌∙◌, ◌≤◌, ◌<◌, ◌+◌,
 use Rattle.std.specs.Str.{IsUtf8}
 use Rattle.std.proofs.lemmas.Bool.{ltb-false, ltb-true}
 use Rattle.std.proofs.lemmas.Str.{encodes-chars}
-use Rattle.wax_exclude.specs.Trips.{ComesWanted, Trip, is_beyond}
+use Rattle.wax_exclude.specs.GlobRequests.{ComesWanted, GlobRequest, is_beyond}
 use Rattle.wax_directory.specs.Names.{is_rooted, names_in_path}
 use Rattle.wax_glob_walk.specs.Programs.{leading_mark, leads, means_mark}
 use Rattle.wax_components.specs.Depth.{Depth}
 use Rattle.wax_directory.specs.Law.{Law}
 use Rattle.wax_directory.specs.Shown.{Shown}
 use Rattle.wax_facts.specs.Prefix.{Prefix}
-use Rattle.wax_exclude.specs.Prefix.{HasEmptyName, IsPrefixWay}
+use Rattle.wax_exclude.specs.Prefix.{HasEmptyName, PrefixSplitsInto}
 use Rattle.wax_query.specs.Ranges.{Bounds}
 use Rattle.wax_tree.specs.Begins.{BeginsAt, HasEnded, LacksMemory}
-use Rattle.wax_tree.specs.declared.steps.Range.{Range}
+use Rattle.wax_tree.specs.declared.steps.DepthRange.{DepthRange}
 use Rattle.wax_tree.specs.Plain.{count_shown}
 use Rattle.wax_walk.specs.Ruled.{ruled_view}
 use Rattle.wax_walk.specs.View.{IsSeenAs, WalkView}
 use Rattle.wax_tree.specs.Prefix.{ArePlain}
 use Rattle.wax_exclude.specs.Wanted.{Filter}
 use Rattle.wax_exclude.specs.Premises.{CanWalk}
-use Rattle.wax_exclude.specs.Walked.{glob_walk, way_walk}
+use Rattle.wax_exclude.specs.Walked.{glob_walk, origin_walk}
 use Rattle.wax_token.specs.Decided.{means_test}
 use Rattle.wax_token.specs.Reads.{Span}
 use Rattle.wax_token.specs.Syntax.{Tree}
@@ -30,7 +30,7 @@ use Rattle.wax_exclude.specs.Leading.{component_test, lead_test, leading_of}
 use Rattle.wax_exclude.specs.Marks.{glob_mark, led_mark, of_candidate}
 use Rattle.wax.specs.GlobView.{GlobView}
 use Rattle.wax.proofs.GoingAlong.{names_are}
-use Rattle.wax.specs.GlobWalks.{Beginning, BeginsGlob, IsPlan, trip_of, wants, way_from, within}
+use Rattle.wax.specs.GlobWalks.{Beginning, BeginsGlob, IsPlan, request_of, wants, origin_from, within}
 
 -- ---- the programs say what the tree says
 
@@ -56,8 +56,8 @@ module _ (g : GlobView) (rooted : Bool) where
   abbrev again : Facts → Mark
   again = leading_mark (component_test {A = Span}) [] decides g
 
-  combined_again : (m : Mark) (is_led is_meant : Bool) →
-      combined_mark (combined_mark m (led_mark is_led is_meant)) (if is_meant then kept else alone) ≡ combined_mark m (led_mark is_led is_meant)
+  combined_again : (m : Mark) (is_led is_matched : Bool) →
+      combined_mark (combined_mark m (led_mark is_led is_matched)) (if is_matched then kept else alone) ≡ combined_mark m (led_mark is_led is_matched)
   combined_again kept true true = refl
   combined_again kept true false = refl
   combined_again kept false true = refl
@@ -66,9 +66,9 @@ module _ (g : GlobView) (rooted : Bool) where
   combined_again alone true false = refl
   combined_again alone false true = refl
   combined_again alone false false = refl
-  combined_again with_tree is_led is_meant = refl
+  combined_again with_tree is_led is_matched = refl
 
-  none_cut : (m : Mark) (f : Facts) (is_meant : Bool) → is_cut (entry m f) (if is_meant then kept else alone) ≡ false
+  none_cut : (m : Mark) (f : Facts) (is_matched : Bool) → is_cut (entry m f) (if is_matched then kept else alone) ≡ false
   none_cut kept f true = refl
   none_cut kept f false = refl
   none_cut alone f true = refl
@@ -118,72 +118,72 @@ same_text : (x y p : List ℕ) → IsUtf8 x → IsUtf8 y → chars x ≡ p → c
 same_text x y p u v e f = sym (encodes-chars x u) ∙ ap encode_utf8_all (e ∙ sym f) ∙ encodes-chars y v
 
 -- the names of a prefix are known
-pub same_way : (p : List ℕ) (b c : Bool) (names others : List (List ℕ)) → IsPrefixWay p b names → IsPrefixWay p c others → (b ≡ c) × (names ≡ others)
-same_way p b c names others h k =
+pub same_split : (p : List ℕ) (b c : Bool) (names others : List (List ℕ)) → PrefixSplitsInto p b names → PrefixSplitsInto p c others → (b ≡ c) × (names ≡ others)
+same_split p b c names others h k =
     let e : h.text ≡ k.text = same_text h.text k.text p h.encoded k.encoded h.characters k.characters in
-    (h.way.root ∙ ap is_rooted e ∙ sym k.way.root, h.way.parts ∙ ap names_in_path e ∙ sym k.way.parts)
+    (h.split.root ∙ ap is_rooted e ∙ sym k.split.root, h.split.parts ∙ ap names_in_path e ∙ sym k.split.parts)
 
 -- ---- what is wanted comes
 
 -- where that comes which is shown from the prefix on, and nothing where it is too long
-module _ {D C : Type 0} {t : Tree Span} (law : Law D C) (d : D) (start : List ℕ) (asked : Range) (depth : Bounds) (view : WalkView D) (b : Beginning t) where
-  abbrev trip : Trip
-  trip = trip_of start asked depth b []
+module _ {D C : Type 0} {t : Tree Span} (law : Law D C) (d : D) (start : List ℕ) (asked : DepthRange) (depth : Bounds) (view : WalkView D) (b : Beginning t) where
+  abbrev request : GlobRequest
+  request = request_of start asked depth b []
 
   abbrev ComesShown : Type 0
-  ComesShown = (s : Shown) (listed : List (List ℕ)) → law.shows d trip.way.path s → law.tells d listed → length b.names ≤ trip.walked.max →
-      view.to_come (pending nothing (glob_walk trip.wanted trip.walked trip.way s) listed (count_shown s))
+  ComesShown = (s : Shown) (listed : List (List ℕ)) → law.shows d request.origin.path s → law.tells d listed → length b.names ≤ request.walked.max →
+      view.to_come (pending nothing (glob_walk request.wanted request.walked request.origin s) listed (count_shown s))
 
   abbrev ComesBeyond : Type 0
-  ComesBeyond = (s : Shown) (listed : List (List ℕ)) → law.shows d trip.way.path s → law.tells d listed → trip.walked.max < length b.names → view.to_come (pending nothing nothing listed 0)
+  ComesBeyond = (s : Shown) (listed : List (List ℕ)) → law.shows d request.origin.path s → law.tells d listed → request.walked.max < length b.names → view.to_come (pending nothing nothing listed 0)
 
-  comes_so : ComesShown → ComesBeyond → view.listings_left ≡ asked.budget + 1 → ComesWanted law d trip view
+  comes_so : ComesShown → ComesBeyond → view.listings_left ≡ asked.budget + 1 → ComesWanted law d request view
   comes_so shown beyond listings = record {
     comes = λ s listed k told.
-        let same : trip.way.names ≡ b.names = sym (names_are start b.rooted b.names) in
-        elim (is_beyond trip) as
-        (λ x. is_beyond trip ≡ x → view.to_come (pending nothing (if x then nothing else glob_walk trip.wanted trip.walked trip.way s) listed (if x then 0 else count_shown s))) [
-          | true ↦ λ e. beyond s listed k told (subst (λ ns. trip.walked.max < length ns) same (ltb-true trip.walked.max (length trip.way.names) e))
-          | false ↦ λ e. shown s listed k told (subst (λ ns. length ns ≤ trip.walked.max) same (ltb-false trip.walked.max (length trip.way.names) e))
+        let same : request.origin.names ≡ b.names = sym (names_are start b.rooted b.names) in
+        elim (is_beyond request) as
+        (λ x. is_beyond request ≡ x → view.to_come (pending nothing (if x then nothing else glob_walk request.wanted request.walked request.origin s) listed (if x then 0 else count_shown s))) [
+          | true ↦ λ e. beyond s listed k told (subst (λ ns. request.walked.max < length ns) same (ltb-true request.walked.max (length request.origin.names) e))
+          | false ↦ λ e. shown s listed k told (subst (λ ns. length ns ≤ request.walked.max) same (ltb-false request.walked.max (length request.origin.names) e))
         ] refl;
     listings = listings;
   }
 
 -- ---- what is to come
 
-module _ {D C : Type 0} (g : GlobView) (law : Law D C) (d : D) (start : List ℕ) (asked : Range) (depth : Bounds) (depth_is : Depth g.tree depth)
-    (can : (b : Beginning g.tree) (filters : List (Filter Span)) → ArePlain b.names → CanWalk (wants g.tree b filters) asked (within asked depth) (way_from start b.rooted b.names))
+module _ {D C : Type 0} (g : GlobView) (law : Law D C) (d : D) (start : List ℕ) (asked : DepthRange) (depth : Bounds) (depth_is : Depth g.tree depth)
+    (can : (b : Beginning g.tree) (filters : List (Filter Span)) → ArePlain b.names → CanWalk (wants g.tree b filters) asked (within asked depth) (origin_from start b.rooted b.names))
     (view : WalkView D) where
-  abbrev walked : Range
+  abbrev walked : DepthRange
   walked = within asked depth
 
-  module _ (inner : WalkView D) (range : Range) (same_range : range ≡ within asked depth) (rooted : Bool) (names : List (List ℕ)) (cs : List (List (Tree Span)))
+  module _ (inner : WalkView D) (range : DepthRange) (same_range : range ≡ within asked depth) (rooted : Bool) (names : List (List ℕ)) (cs : List (List (Tree Span)))
       (plan : (taken : ℕ) (prefix : List ℕ) → Prefix g.tree taken prefix → IsPlan g.tree prefix rooted names cs)
-      (b : BeginsAt law d (way_from start rooted names) range inner)
+      (b : BeginsAt law d (origin_from start rooted names) range inner)
       (seen : IsSeenAs (ruled_view inner (leading_mark (component_test {A = Span}) cs decides g) false) view) where
     planned : (a : Beginning g.tree) → IsPlan g.tree a.prefix rooted names cs
     planned a = plan a.taken a.prefix a.prefix_is
 
     same_beginning : (a : Beginning g.tree) → (rooted ≡ a.rooted) × (names ≡ a.names)
-    same_beginning a = same_way a.prefix rooted a.rooted names a.names (planned a).0 a.names_are
+    same_beginning a = same_split a.prefix rooted a.rooted names a.names (planned a).0 a.names_are
 
-    begins_so : (a : Beginning g.tree) → BeginsAt law d (way_from start a.rooted a.names) walked inner
+    begins_so : (a : Beginning g.tree) → BeginsAt law d (origin_from start a.rooted a.names) walked inner
     begins_so a =
         let same = same_beginning a in
-        subst (λ r. BeginsAt law d (way_from start a.rooted a.names) r inner) same_range
-        (subst (λ r. BeginsAt law d (way_from start r a.names) range inner) same.0 (subst (λ n. BeginsAt law d (way_from start rooted n) range inner) same.1 b))
+        subst (λ r. BeginsAt law d (origin_from start a.rooted a.names) r inner) same_range
+        (subst (λ r. BeginsAt law d (origin_from start r a.names) range inner) same.0 (subst (λ n. BeginsAt law d (origin_from start rooted n) range inner) same.1 b))
 
     same_rule : (a : Beginning g.tree) → of_candidate (glob_mark a.rooted g.tree) ≡ leading_mark (component_test {A = Span}) cs decides g
     same_rule a = sym (says_glob g rooted cs (planned a).1 ∙ ap (λ r. of_candidate (glob_mark r g.tree)) (same_beginning a).0)
 
-    same_names : (a : Beginning g.tree) → a.names ≡ (way_from start a.rooted a.names).names
+    same_names : (a : Beginning g.tree) → a.names ≡ (origin_from start a.rooted a.names).names
     same_names a = names_are start a.rooted a.names
 
     shown_along : (a : Beginning g.tree) → ArePlain a.names → ComesShown law d start asked depth view a
     shown_along a plain = λ s listed h told fits.
-        let f = way_walk walked (way_from start a.rooted a.names) s in
+        let f = origin_walk walked (origin_from start a.rooted a.names) s in
         let rule = same_rule a in
-        seen.to_come (pending nothing (glob_walk (wants g.tree a []) walked (way_from start a.rooted a.names) s) listed (count_shown s)) (
+        seen.to_come (pending nothing (glob_walk (wants g.tree a []) walked (origin_from start a.rooted a.names) s) listed (count_shown s)) (
           refl,
           (
             pending nothing f listed (count_shown s),
@@ -210,11 +210,11 @@ module _ {D C : Type 0} (g : GlobView) (law : Law D C) (d : D) (start : List ℕ
       comes = λ a plain. comes_so law d start asked depth view a (shown_along a plain) (beyond_along a) listings_along;
       listings = listings_along;
       names = λ a. subst (λ ns. view.names_left ≤ length ns) (sym (same_names a))
-          (subst (λ n. n ≤ length (way_from start a.rooted a.names).names) (sym seen.names_left) (begins_so a).names);
+          (subst (λ n. n ≤ length (origin_from start a.rooted a.names).names) (sym seen.names_left) (begins_so a).names);
       directory = seen.directory ∙ b.directory;
     }
 
-  pub begins_ended : (inner : WalkView D) (range : Range) (rule : Facts → Mark) → ((taken : ℕ) (prefix : List ℕ) → Prefix g.tree taken prefix → HasEmptyName prefix) →
+  pub begins_ended : (inner : WalkView D) (range : DepthRange) (rule : Facts → Mark) → ((taken : ℕ) (prefix : List ℕ) → Prefix g.tree taken prefix → HasEmptyName prefix) →
       range.budget ≡ asked.budget → HasEnded law d range inner → IsSeenAs (ruled_view inner rule false) view → BeginsGlob g.tree law d start asked view
   begins_ended inner range rule known few b seen = record {
     depth = depth;
@@ -230,7 +230,7 @@ module _ {D C : Type 0} (g : GlobView) (law : Law D C) (d : D) (start : List ℕ
     directory = seen.directory ∙ b.directory;
   }
 
-  pub begins_refused : (inner : WalkView D) (range : Range) (cs : List (List (Tree Span))) → cs ≡ [] → range.budget ≡ asked.budget → LacksMemory law d range inner →
+  pub begins_refused : (inner : WalkView D) (range : DepthRange) (cs : List (List (Tree Span))) → cs ≡ [] → range.budget ≡ asked.budget → LacksMemory law d range inner →
       IsSeenAs (ruled_view inner (leading_mark (component_test {A = Span}) cs decides g) false) view →
       BeginsGlob g.tree law d start asked view
   begins_refused inner range cs none few b seen = record {
@@ -249,14 +249,14 @@ module _ {D C : Type 0} (g : GlobView) (law : Law D C) (d : D) (start : List ℕ
   } where
     shown_refused : (a : Beginning g.tree) → ComesShown law d start asked depth view a
     shown_refused a = λ s listed h told fits.
-        let way = way_from start a.rooted a.names in
-        let f = glob_walk (wants g.tree a []) walked way s in
+        let origin = origin_from start a.rooted a.names in
+        let f = glob_walk (wants g.tree a []) walked origin s in
         seen.to_come (pending nothing f listed (count_shown s)) (
           refl,
           (
             pending nothing f listed (count_shown s),
             b.comes (pending nothing f listed (count_shown s)) told,
-            (λ i. pending nothing (sym (same_forest g a.rooted (way_walk walked way s)) i) listed (count_shown s))
+            (λ i. pending nothing (sym (same_forest g a.rooted (origin_walk walked origin s)) i) listed (count_shown s))
                 ∙ ap (λ l. filtered_pending (changed_by (leading_mark (component_test {A = Span}) l decides g)) (cut_by (leading_mark (component_test {A = Span}) l decides g)) (pending nothing f listed (count_shown s))) (sym none),
           ),
         )

@@ -12,12 +12,12 @@ use Rattle.wax_token.specs.Reads.{Span, is_one_of}
 use Rattle.wax_token.specs.Spelled.{AllHaveNoSlash, LeafHasNoSlash, LiteralsHaveNoSlash}
 use Rattle.wax_token.specs.Syntax.{Leaf, literal, class, separator, one, zero_or_more, tree, Tree, Trees, leaf, alternation, concatenation, repetition, none, more}
 use Rattle.wax_tree.specs.Prefix.{ArePlain}
-use Rattle.wax_tree.specs.declared.steps.Range.{Range}
+use Rattle.wax_tree.specs.declared.steps.DepthRange.{DepthRange}
 use Rattle.wax_exclude.specs.Candidates.{base}
 use Rattle.wax_exclude.specs.Wanted.{Filter}
 use Rattle.wax_exclude.specs.Premises.{BeginsWith, BoundsNames, CanWalk}
 use Rattle.wax.specs.GlobView.{IsKept}
-use Rattle.wax.specs.GlobWalks.{Beginning, up_to, wants, way_from, within}
+use Rattle.wax.specs.GlobWalks.{Beginning, up_to, wants, origin_from, within}
 use Rattle.wax.proofs.Parts.{full}
 
 -- ---- literals
@@ -52,13 +52,13 @@ kept_slashless : (t : Tree Span) → IsKept t → LiteralsHaveNoSlash t
 kept_slashless t (inl o) = worded_slashless t o.2
 kept_slashless t (inr e) = subst LiteralsHaveNoSlash (sym e) tt
 
--- ---- ways
+-- ---- origins
 
-candidate_is : (start : List ℕ) (rooted : Bool) (names : List (List ℕ)) → (way_from start rooted names).candidate ≡ base rooted
+candidate_is : (start : List ℕ) (rooted : Bool) (names : List (List ℕ)) → (origin_from start rooted names).candidate ≡ base rooted
 candidate_is start true names = refl
 candidate_is start false names = refl
 
-pub names_are : (start : List ℕ) (rooted : Bool) (names : List (List ℕ)) → names ≡ (way_from start rooted names).names
+pub names_are : (start : List ℕ) (rooted : Bool) (names : List (List ℕ)) → names ≡ (origin_from start rooted names).names
 names_are start true names = refl
 names_are start false names = refl
 
@@ -73,8 +73,8 @@ greatest_at t rooted most (Some upper) h = elim (cases_lt upper most) [
 ]
 
 pub can_walk : (t : Tree Span) → IsKept t → (depth : Bounds) → ((s : List ℕ) → Means t false false s → AtMost (component_total s) depth.1) →
-    (start : List ℕ) (asked : Range) (b : Beginning t) (filters : List (Filter Span)) → ArePlain b.names →
-    CanWalk (wants t b filters) asked (within asked depth) (way_from start b.rooted b.names)
+    (start : List ℕ) (asked : DepthRange) (b : Beginning t) (filters : List (Filter Span)) → ArePlain b.names →
+    CanWalk (wants t b filters) asked (within asked depth) (origin_from start b.rooted b.names)
 can_walk t kept depth bound start asked b filters plain =
     let k = b.names_are in
     let same = names_are start b.rooted b.names in
@@ -84,6 +84,6 @@ can_walk t kept depth bound start asked b filters plain =
       least = refl;
       greatest = greatest_at t b.rooted asked.max depth.1 bound;
       candidate = candidate_is start b.rooted b.names;
-      begins = subst (λ ns. BeginsWith b.rooted t (map chars ns)) same (begins_with t b.taken k.text b.rooted b.names (full t kept) prefix k.way plain);
+      begins = subst (λ ns. BeginsWith b.rooted t (map chars ns)) same (begins_with t b.taken k.text b.rooted b.names (full t kept) prefix k.split plain);
       plain = subst ArePlain same plain;
     }

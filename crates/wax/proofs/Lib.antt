@@ -9,4 +9,4 @@ pub mod Parts
 pub mod Patterns
 pub mod Sets
 pub mod Whole
-pub mod Without
+pub mod Excluding

@@ -2,7 +2,7 @@
 use Rattle.std.specs.Prelude.{◌≡◌, ◌↔◌, ℕ, false, List, [], codes, Result, Ok, Err}
 use Rattle.wax.specs.GlobView.{GlobView, IsMeant, empty_tree}
 use Rattle.wax_error.specs.declared.build_error.BuildError.{BuildError}
-pub use Rattle.wax_exclude.specs.PlainTrips.{tree_alone}
+pub use Rattle.wax_exclude.specs.TreeRequests.{tree_alone}
 
 -- the glob of the empty expression: an empty literal, which means the empty text alone
 pub record IsEmptyGlob (g : GlobView) : Type 0 where

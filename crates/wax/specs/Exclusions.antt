@@ -1,6 +1,6 @@
 -- Patterns that are left out of walks.
 use Rattle.std.specs.Prelude.{◌≡◌, ◌<◌, ◌≤◌, ◌⊎◌, false, List, ⊤}
-use Rattle.wax_exclude.specs.Trips.{IsRuleOf}
+use Rattle.wax_exclude.specs.GlobRequests.{IsRuleOf}
 use Rattle.wax_token.specs.Cost.{program_length}
 use Rattle.wax_token.specs.Reads.{Span}
 use Rattle.wax_token.specs.Syntax.{Tree}
@@ -23,8 +23,8 @@ pub record FitsAlone (SpellsTree : Tree Span → Type 0) (t : Tree Span) : Type 
 
 -- the rule leaves out what the tree that is spelled means, with what lies below where an alternative covers
 -- it
-abbrev pub IsLeftOut : (Tree Span → Type 0) → (Facts → Mark) → Type 0
-IsLeftOut SpellsTree rule = (t : Tree Span) × FitsAlone SpellsTree t × (rule ≡ of_candidate (not_mark t))
+abbrev pub IsExclusionOf : (Tree Span → Type 0) → (Facts → Mark) → Type 0
+IsExclusionOf SpellsTree rule = (t : Tree Span) × FitsAlone SpellsTree t × (rule ≡ of_candidate (not_mark t))
 
 -- why nothing is left out; nothing is said where memory was refused
 abbrev pub NoExclusion : (Tree Span → Type 0) → (BuildError → Type 0) → BuildError → Type 0
@@ -35,8 +35,8 @@ NoExclusion SpellsTree RefusesAs (Compile error) = RefusesAs (Compile error)
 NoExclusion SpellsTree RefusesAs Memory = ⊤
 
 -- one walk is seen as the other less what the tree that is spelled means
-abbrev pub IsWalkWithout : {D : Type 0} → (Tree Span → Type 0) → WalkView D → WalkView D → Type 0
-IsWalkWithout SpellsTree inner outer = (t : Tree Span) × FitsAlone SpellsTree t
+abbrev pub IsWalkExcluding : {D : Type 0} → (Tree Span → Type 0) → WalkView D → WalkView D → Type 0
+IsWalkExcluding SpellsTree inner outer = (t : Tree Span) × FitsAlone SpellsTree t
     × IsSeenAs (ruled_view inner (of_candidate (not_mark t)) false) outer
 
 -- ---- filters

@@ -2,18 +2,18 @@
 use Rattle.std.specs.Prelude.{◌≡◌, ℕ, ◌+◌, ◌*◌, ◌<◌, ◌≤◌, Bool, true, false, List, [], ◌∷◌, length, min}
 use Rattle.std.specs.Prelude.{Option, Some, None}
 use Rattle.std.specs.List.{Contains}
-use Rattle.wax_exclude.specs.Trips.{ComesWanted, Trip}
+use Rattle.wax_exclude.specs.GlobRequests.{ComesWanted, GlobRequest}
 use Rattle.wax_components.specs.Depth.{Depth}
 use Rattle.wax_directory.specs.Counting.{grown}
 use Rattle.wax_directory.specs.Law.{Law}
 use Rattle.wax_directory.specs.Shown.{Shown}
 use Rattle.wax_facts.specs.Prefix.{Prefix}
-use Rattle.wax_exclude.specs.Prefix.{HasEmptyName, IsPrefixWay}
+use Rattle.wax_exclude.specs.Prefix.{HasEmptyName, PrefixSplitsInto}
 use Rattle.wax_query.specs.Ranges.{Bounds}
 use Rattle.wax_token.specs.Reads.{Span}
 use Rattle.wax_token.specs.Syntax.{Tree}
-use Rattle.wax_tree.specs.Begins.{Way}
-use Rattle.wax_tree.specs.declared.steps.Range.{Range}
+use Rattle.wax_tree.specs.Begins.{Origin}
+use Rattle.wax_tree.specs.declared.steps.DepthRange.{DepthRange}
 use Rattle.wax_tree.specs.Plain.{count_shown}
 use Rattle.wax_tree.specs.Prefix.{ArePlain}
 use Rattle.wax_walk.specs.Collected.{EndsThere, all_fault_counts}
@@ -32,17 +32,17 @@ up_to most None = most
 up_to most (Some upper) = min most upper
 
 -- the range, but no deeper than the texts
-abbrev pub within : Range → Bounds → Range
+abbrev pub within : DepthRange → Bounds → DepthRange
 within range depth = record { min = range.min; max = up_to range.max depth.1; budget = range.budget }
 
--- the way of these names from a start, or from the root
-abbrev pub way_from : List ℕ → Bool → List (List ℕ) → Way
-way_from start false names = record { root = start; path = start; candidate = []; names = names }
-way_from start true names = record { root = []; path = 47 ∷ []; candidate = 47 ∷ []; names = names }
+-- the origin of these names, from a start, or from the root
+abbrev pub origin_from : List ℕ → Bool → List (List ℕ) → Origin
+origin_from start false names = record { root = start; path = start; candidate = []; names = names }
+origin_from start true names = record { root = []; path = 47 ∷ []; candidate = 47 ∷ []; names = names }
 
 -- the names of the prefix, and the leading components
 abbrev pub IsPlan : Tree Span → List ℕ → Bool → List (List ℕ) → List (List (Tree Span)) → Type 0
-IsPlan t prefix rooted names leading = IsPrefixWay prefix rooted names × (leading ≡ leading_of rooted t)
+IsPlan t prefix rooted names leading = PrefixSplitsInto prefix rooted names × (leading ≡ leading_of rooted t)
 
 -- Where the walk of a glob begins: at the names of its prefix, from the root where that begins with `/`.
 pub record Beginning (t : Tree Span) : Type 0 where
@@ -51,39 +51,40 @@ pub record Beginning (t : Tree Span) : Type 0 where
   pub prefix_is : Prefix t taken prefix
   pub rooted : Bool
   pub names : List (List ℕ)
-  pub names_are : IsPrefixWay prefix rooted names
+  pub names_are : PrefixSplitsInto prefix rooted names
 
 -- what the glob wants, less what these filters leave out
 abbrev pub wants : (t : Tree Span) → Beginning t → List (Filter Span) → Wanted Span
 wants t b filters = record { rooted = b.rooted; glob = t; filters = filters }
 
 -- what is wanted of the walk of a glob, less what these filters leave out
-abbrev pub trip_of : {t : Tree Span} → List ℕ → Range → Bounds → Beginning t → List (Filter Span) → Trip
-trip_of {t} start asked depth b filters = record {
+abbrev pub request_of : {t : Tree Span} → List ℕ → DepthRange → Bounds → Beginning t → List (Filter Span)
+    → GlobRequest
+request_of {t} start asked depth b filters = record {
   wanted = wants t b filters;
   asked = asked;
   walked = within asked depth;
-  way = way_from start b.rooted b.names;
+  origin = origin_from start b.rooted b.names;
 }
 
 -- A walk over this directory that was made of a glob, in a range: what it means of what is shown will come.
-pub record BeginsGlob {D C : Type 0} (t : Tree Span) (law : Law D C) (d : D) (start : List ℕ) (asked : Range)
-    (view : WalkView D) : Type 0 where
+pub record BeginsGlob {D C : Type 0} (t : Tree Span) (law : Law D C) (d : D) (start : List ℕ)
+    (asked : DepthRange) (view : WalkView D) : Type 0 where
   pub depth : Bounds
   pub depth_is : Depth t depth
   -- less whatever filters, this is all that is wanted, as the law of glob walks says
   pub can : (b : Beginning t) (filters : List (Filter Span)) → ArePlain b.names
-      → CanWalk (wants t b filters) asked (within asked depth) (way_from start b.rooted b.names)
+      → CanWalk (wants t b filters) asked (within asked depth) (origin_from start b.rooted b.names)
   -- from the prefix on, to the greatest depth of the texts
   pub shown : (b : Beginning t) (s : Shown) (listed : List (List ℕ))
-      → law.shows d (way_from start b.rooted b.names).path s → law.tells d listed → ArePlain b.names
+      → law.shows d (origin_from start b.rooted b.names).path s → law.tells d listed → ArePlain b.names
       → length b.names ≤ (within asked depth).max
       → view.to_come (pending nothing
-      (glob_walk (wants t b []) (within asked depth) (way_from start b.rooted b.names) s) listed
+      (glob_walk (wants t b []) (within asked depth) (origin_from start b.rooted b.names) s) listed
       (count_shown s))
   -- nothing, where the prefix has more names than the greatest depth
   pub beyond : (b : Beginning t) (s : Shown) (listed : List (List ℕ))
-      → law.shows d (way_from start b.rooted b.names).path s → law.tells d listed
+      → law.shows d (origin_from start b.rooted b.names).path s → law.tells d listed
       → (within asked depth).max < length b.names → view.to_come (pending nothing nothing listed 0)
   -- nothing, where two `/` stand side by side in the prefix
   pub unmeant : (taken : ℕ) (prefix : List ℕ) → Prefix t taken prefix → HasEmptyName prefix
@@ -91,7 +92,7 @@ pub record BeginsGlob {D C : Type 0} (t : Tree Span) (law : Law D C) (d : D) (st
       → view.to_come (pending nothing nothing listed 0)
   -- so what is wanted comes: filters over the walk take from this, and what is collected is the rest
   pub comes : (b : Beginning t) → ArePlain b.names
-      → ComesWanted law d (trip_of start asked depth b []) view
+      → ComesWanted law d (request_of start asked depth b []) view
   pub listings : view.listings_left ≡ asked.budget + 1
   pub names : (b : Beginning t) → view.names_left ≤ length b.names
   pub directory : view.directory ≡ d

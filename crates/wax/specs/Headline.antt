@@ -6,15 +6,15 @@ use Rattle.wax_error.specs.declared.build_error.BuildError.TheVariants.{Parse, R
 use Rattle.wax_parse.specs.Accepted.{IsPlace}
 use Rattle.wax_rule.specs.FirstBreak.{TellsFirst}
 use Rattle.wax_token.specs.Syntax.{Tree}
--- ---- Kept (`Glob::collect_less`; or `walk`, then `not` and `ignore`, then `collect`): of the whole walk
--- over what a lawful directory shows (`whole_at`), the entries in range (`is_in`) that the glob means and
--- that no pattern means and no list ignores (`is_wanted`), all of them and in order (`wanted_entries`). So no
--- folder that was skipped hides a match. `KeepsWanted` says how such a walk ends, and `MayList` which folders
--- it may list. In a chain of calls `ComesWanted` says what is to come, and `ComesLess` what a filter takes
--- from it.
+-- ---- Kept (`Glob::collect_excluding`; or `walk`, then `not` and `ignore`, then `collect`): of the whole
+-- walk over what a lawful directory shows (`whole_at`), the entries in range (`is_in`) that the glob means
+-- and that no pattern means and no list ignores (`is_wanted`), all of them and in order (`wanted_entries`).
+-- So no folder that was skipped hides a match. `KeepsWanted` says how such a walk ends, and `MayList` which
+-- folders it may list. In a chain of calls `ComesWanted` says what is to come, and `ComesExcluding` what a
+-- filter takes from it.
 pub use Rattle.wax_directory.specs.Law.{Law}
 pub use Rattle.wax_exclude.specs.Ignored.{is_ignored}
-pub use Rattle.wax_exclude.specs.Trips.{ComesLess, ComesWanted, KeepsWanted}
+pub use Rattle.wax_exclude.specs.GlobRequests.{ComesExcluding, ComesWanted, KeepsWanted}
 pub use Rattle.wax_exclude.specs.Walked.{MayList, wanted_entries}
 pub use Rattle.wax_exclude.specs.Wanted.{Wanted, is_wanted}
 pub use Rattle.wax_tree.specs.Whole.{is_in, whole_at}

@@ -8,7 +8,7 @@ pub use Rattle.wax_directory.specs.Law.{HoldsLast, HoldsSame, Law, ShowsSame}
 pub use Rattle.wax_directory.specs.Listing.{CountsListed, HeldWhereShown, TellsListed}
 pub use Rattle.wax_directory.specs.Names.{is_plain, is_rooted}
 pub use Rattle.wax_directory.specs.Nodes.{HasDistinctNames, HasDuplicateName}
-pub use Rattle.wax_directory.specs.Routes.{StandsBy, routes_to}
+pub use Rattle.wax_directory.specs.PathTails.{StandsBy, tails_to}
 pub use Rattle.wax_directory.specs.Shown.{IsDistinct, IsPlain, Items, Shown, ShowsIn, a_folder, child_shown}
 pub use Rattle.wax_directory.specs.Shown.{join}
 pub use Rattle.wax_directory.specs.Starved.{starved_law}
@@ -24,13 +24,13 @@ pub use Rattle.wax_exclude.specs.Excluded.{excluded_mark}
 pub use Rattle.wax_exclude.specs.Law.{GivesWanted, ListsFew, WantsNothing}
 pub use Rattle.wax_exclude.specs.Leading.{leading_of}
 pub use Rattle.wax_exclude.specs.Marks.{covered_mark, glob_mark, not_mark, of_candidate}
-pub use Rattle.wax_exclude.specs.PlainTrips.{WantsUnfiltered, is_unfiltered, plain_trip}
-pub use Rattle.wax_exclude.specs.Prefix.{HasEmptyName, IsPrefixWay}
+pub use Rattle.wax_exclude.specs.TreeRequests.{WantsUnfiltered, is_unfiltered, tree_request}
+pub use Rattle.wax_exclude.specs.Prefix.{HasEmptyName, PrefixSplitsInto}
 pub use Rattle.wax_exclude.specs.Premises.{BeginsWith, IsUnmeant}
-pub use Rattle.wax_exclude.specs.Trips.{AreRulesOf, ComesLess, ComesWanted, IsRuleOf, KeepsWanted, MayGo}
-pub use Rattle.wax_exclude.specs.Trips.{Trip, gives, goes, is_beyond, lacks_memory, over_budget, trip_less}
-pub use Rattle.wax_exclude.specs.Trips.{trip_pending, trip_walk}
-pub use Rattle.wax_exclude.specs.Walked.{glob_walk, wanted_entries, way_walk}
+pub use Rattle.wax_exclude.specs.GlobRequests.{AreRulesOf, ComesExcluding, ComesWanted, IsRuleOf, KeepsWanted}
+pub use Rattle.wax_exclude.specs.GlobRequests.{CanBegin, GlobRequest, gives, goes, is_beyond, lacks_memory}
+pub use Rattle.wax_exclude.specs.GlobRequests.{over_budget, request_excluding, request_pending, request_walk}
+pub use Rattle.wax_exclude.specs.Walked.{glob_walk, wanted_entries, origin_walk}
 pub use Rattle.wax_exclude.specs.Wanted.{Filter, filter_mark, is_kept_entry, not_ignored, not_meant}
 pub use Rattle.wax_filter.specs.Feeding.{AtMostCancels, ByEntry, ByItem, Feeds, NextFiltrate, OnlyCancels}
 pub use Rattle.wax_filter.specs.Feeding.{entry_layer}
@@ -46,7 +46,7 @@ pub use Rattle.wax_filter.specs.inner.Walking.{separated_entry}
 pub use Rattle.wax_glob_walk.specs.Matches.{IsMatchedEntry, glob_facts, match_of, tree_entry}
 pub use Rattle.wax_glob_walk.specs.Programs.{any_mark, leading_mark}
 pub use Rattle.wax_glob_walk.specs.declared.entry.GlobEntry.{GlobEntry}
-pub use Rattle.wax_tree.specs.Begins.{Begins, BeginsAt, EndsWithin, HasEnded, LacksMemory, Way}
+pub use Rattle.wax_tree.specs.Begins.{Begins, BeginsAt, EndsWithin, HasEnded, LacksMemory, Origin}
 pub use Rattle.wax_tree.specs.Begins.{behavior_range}
 pub use Rattle.wax_tree.specs.Depths.{HasBounds, IsUnbounded, IsUnboundedAt, behavior_at, greatest, least}
 pub use Rattle.wax_tree.specs.Depths.{no_bound, raised}
@@ -56,7 +56,7 @@ pub use Rattle.wax_tree.specs.WalkLaws.{cancel_law, comes_told}
 pub use Rattle.wax_tree.specs.Whole.{EntriesAre, plain_pending, whole}
 pub use Rattle.wax_tree.specs.declared.behavior.DepthBehavior.TheVariants.{MinMax, Unbounded}
 pub use Rattle.wax_tree.specs.declared.behavior.WalkBehavior.{WalkBehavior}
-pub use Rattle.wax_tree.specs.declared.steps.Range.{Range}
+pub use Rattle.wax_tree.specs.declared.steps.DepthRange.{DepthRange}
 pub use Rattle.wax_walk.specs.Collected.{GaveAll, IsCutShort, Took}
 pub use Rattle.wax_walk.specs.Entries.{answer_of, error_depth, error_kind, error_path, facts_of, given_of}
 pub use Rattle.wax_walk.specs.Entries.{given_outcome, kind_of_fault}

@@ -6,9 +6,9 @@ ghost use Rattle.wax_walk.specs.Known.{StaysKnown};
 ghost use Rattle.wax_walk.specs.Ruled.{ruled_view};
 ghost use Rattle.wax_walk.specs.View.{IsSeenAs};
 ghost use Rattle.wax_exclude.specs.Ignored.{Line};
-ghost use Rattle.wax_exclude.specs.Trips.{ComesLess};
+ghost use Rattle.wax_exclude.specs.GlobRequests.{ComesExcluding};
 ghost use Rattle.wax_exclude.specs.Wanted.{not_ignored, not_meant};
-ghost use Rattle.wax.specs.Exclusions.{IsLeftOut, IsWalkWithout, NoExclusion};
+ghost use Rattle.wax.specs.Exclusions.{IsExclusionOf, IsWalkExcluding, NoExclusion};
 ghost use Rattle.wax.specs.Ignoring.{HoldsLines, IsWalkIgnoring};
 
 use crate::ignoring::IgnoreList;
@@ -18,13 +18,13 @@ use wax_error::BuildError;
 use wax_exclude::Exclusion;
 use wax_filter::filter::SeparatingFilter;
 use wax_query::diagnostics::Refusal;
-use wax_walk::{FileIterator, Rule, Without};
+use wax_walk::{Exclude, Excluding, FileIterator};
 
 /// A walk without what a pattern matches.
-pub type Not<I> = Without<I, Exclusion>;
+pub type Not<I> = Excluding<I, Exclusion>;
 
 /// A walk without what an ignore list ignores.
-pub type Ignore<I> = Without<I, IgnoreList>;
+pub type Ignore<I> = Excluding<I, IgnoreList>;
 
 /// Builds the rule that excludes what the pattern matches from a walk.
 ///
@@ -33,7 +33,7 @@ pub type Ignore<I> = Without<I, IgnoreList>;
 /// Returns the errors of `Pattern::into_checked`, and `Compile` (9) if the program of the pattern
 /// would have more than 1,048,576 instructions.
 pub fn exclusion_of<P: Pattern>(alloc: Global, pattern: P) -> Result<Exclusion, BuildError>
-    ensures { MatchResult result (λ e. IsLeftOut (P.spells pattern) (⟦<Exclusion as Rule>⟧.rule e))
+    ensures { MatchResult result (λ e. IsExclusionOf (P.spells pattern) (⟦<Exclusion as Exclude>⟧.rule e))
         (NoExclusion (P.spells pattern) (P.refuses pattern)) }
 {
     let checked = match pattern.into_checked(alloc) {
@@ -52,10 +52,10 @@ pub fn exclusion_of<P: Pattern>(alloc: Global, pattern: P) -> Result<Exclusion, 
 /// another way is excluded by itself.
 ///
 /// ```
-/// use wax::walk::{Tree, collect, without_meant};
+/// use wax::walk::{Tree, collect, excluding_pattern};
 ///
 /// let tree = Tree::from_paths(alloc, &["src/lib.rs", "target/lib.rs"])?;
-/// let walk = without_meant(alloc, "".walk(alloc, tree), "target/**")?;
+/// let walk = excluding_pattern(alloc, "".walk(alloc, tree), "target/**")?;
 /// let (items, _) = collect(alloc, walk)?;
 /// for item in &items {
 ///     match item {
@@ -68,21 +68,21 @@ pub fn exclusion_of<P: Pattern>(alloc: Global, pattern: P) -> Result<Exclusion, 
 /// # Errors
 ///
 /// Returns the errors of `exclusion_of`. The walk is dropped then.
-pub fn without_meant<I, P>(alloc: Global, walk: I, pattern: P) -> Result<Not<I>, BuildError>
+pub fn excluding_pattern<I, P>(alloc: Global, walk: I, pattern: P) -> Result<Not<I>, BuildError>
 where
     I: FileIterator,
     P: Pattern,
-    ensures less { MatchResult result (λ w. IsWalkWithout (P.spells pattern) (I.view walk)
+    ensures excludes { MatchResult result (λ w. IsWalkExcluding (P.spells pattern) (I.view walk)
         (⟦<Not<I> as FileIterator>⟧.view w)
         × (⟦<Not<I> as SeparatingFilter>⟧.left w ≡ I.left walk))
         (NoExclusion (P.spells pattern) (P.refuses pattern)) }
     ensures comes { IfOk result (λ w. (t : Tree Span) → P.spells pattern t
-        → ComesLess I.Directory.law (not_meant t) (I.view walk) (⟦<Not<I> as FileIterator>⟧.view w)) }
+        → ComesExcluding I.Directory.law (not_meant t) (I.view walk) (⟦<Not<I> as FileIterator>⟧.view w)) }
     ensures feeds { I.can_feed walk → IfOk result (λ w. ⟦<Not<I> as SeparatingFilter>⟧.can_feed w) }
     ensures known { IfOk result (λ w. StaysKnown (I.known walk) (⟦<Not<I> as FileIterator>⟧.known w)) }
 {
     match exclusion_of(alloc, pattern) {
-        Ok(exclusion) => Ok(walk.without(alloc, exclusion)),
+        Ok(exclusion) => Ok(walk.excluding(alloc, exclusion)),
         Err(error) => Err(error),
     }
 }
@@ -92,29 +92,29 @@ where
 /// isn't even listed. An entry that is ignored in another way is excluded by itself.
 ///
 /// ```
-/// use wax::walk::{Tree, collect, without_ignored};
+/// use wax::walk::{Tree, collect, excluding_ignored};
 ///
 /// let tree = Tree::from_paths(alloc, &["src/lib.rs", "src/lib.o"])?;
 /// let list = IgnoreList::parse(alloc, "**/*.o\n")?;
-/// let (items, _) = collect(alloc, without_ignored(alloc, "".walk(alloc, tree), list))?;
+/// let (items, _) = collect(alloc, excluding_ignored(alloc, "".walk(alloc, tree), list))?;
 /// println!(rt; "{}", items.len())?; // 3
 /// ```
-pub fn without_ignored<I: FileIterator>(alloc: Global, walk: I, list: IgnoreList) -> Ignore<I>
+pub fn excluding_ignored<I: FileIterator>(alloc: Global, walk: I, list: IgnoreList) -> Ignore<I>
     ensures view { (lines : List (Line Span)) → HoldsLines list lines
         → IsWalkIgnoring lines (I.view walk) (⟦<Ignore<I> as FileIterator>⟧.view result) }
     ensures comes { (lines : List (Line Span)) → HoldsLines list lines
-        → ComesLess I.Directory.law (not_ignored lines) (I.view walk)
+        → ComesExcluding I.Directory.law (not_ignored lines) (I.view walk)
         (⟦<Ignore<I> as FileIterator>⟧.view result) }
     ensures ends { ⟦<Ignore<I> as SeparatingFilter>⟧.left result ≡ I.left walk }
     ensures feeds { I.can_feed walk → ⟦<Ignore<I> as SeparatingFilter>⟧.can_feed result }
     ensures known { StaysKnown (I.known walk) (⟦<Ignore<I> as FileIterator>⟧.known result) }
 {
-    walk.without(alloc, list)
+    walk.excluding(alloc, list)
 }
 
 /// Walks from which patterns and ignore lists can be excluded.
 pub trait FileIteratorExt: FileIterator {
-    /// Excludes what the pattern matches, as `without_meant` does. The borrow checker doesn't accept
+    /// Excludes what the pattern matches, as `excluding_pattern` does. The borrow checker doesn't accept
     /// this call yet if the type of the walk is written out: call that function then.
     ///
     /// # Errors
@@ -123,22 +123,22 @@ pub trait FileIteratorExt: FileIterator {
     final fn not<P: Pattern>(self, alloc: Global, pattern: P) -> Result<Not<Self>, BuildError>
     where
         Self: Sized,
-        ensures less { MatchResult result (λ w. IsWalkWithout (P.spells pattern) (Self.view self)
+        ensures excludes { MatchResult result (λ w. IsWalkExcluding (P.spells pattern) (Self.view self)
             (⟦<Not<Self> as FileIterator>⟧.view w)
             × (⟦<Not<Self> as SeparatingFilter>⟧.left w ≡ Self.left self))
             (NoExclusion (P.spells pattern) (P.refuses pattern)) }
         ensures comes { IfOk result (λ w. (t : Tree Span) → P.spells pattern t
-            → ComesLess Self.Directory.law (not_meant t) (Self.view self)
+            → ComesExcluding Self.Directory.law (not_meant t) (Self.view self)
             (⟦<Not<Self> as FileIterator>⟧.view w)) }
         ensures feeds { Self.can_feed self
             → IfOk result (λ w. ⟦<Not<Self> as SeparatingFilter>⟧.can_feed w) }
         ensures known { IfOk result
             (λ w. StaysKnown (Self.known self) (⟦<Not<Self> as FileIterator>⟧.known w)) }
     {
-        without_meant(alloc, self, pattern)
+        excluding_pattern(alloc, self, pattern)
     }
 
-    /// Excludes what the list ignores, as `without_ignored` does. The borrow checker doesn't accept
+    /// Excludes what the list ignores, as `excluding_ignored` does. The borrow checker doesn't accept
     /// this call yet if the type of the walk is written out: call that function then.
     final fn ignore(self, alloc: Global, list: IgnoreList) -> Ignore<Self>
     where
@@ -146,13 +146,13 @@ pub trait FileIteratorExt: FileIterator {
         ensures view { (lines : List (Line Span)) → HoldsLines list lines
             → IsWalkIgnoring lines (Self.view self) (⟦<Ignore<Self> as FileIterator>⟧.view result) }
         ensures comes { (lines : List (Line Span)) → HoldsLines list lines
-            → ComesLess Self.Directory.law (not_ignored lines) (Self.view self)
+            → ComesExcluding Self.Directory.law (not_ignored lines) (Self.view self)
             (⟦<Ignore<Self> as FileIterator>⟧.view result) }
         ensures ends { ⟦<Ignore<Self> as SeparatingFilter>⟧.left result ≡ Self.left self }
         ensures feeds { Self.can_feed self → ⟦<Ignore<Self> as SeparatingFilter>⟧.can_feed result }
         ensures known { StaysKnown (Self.known self) (⟦<Ignore<Self> as FileIterator>⟧.known result) }
     {
-        without_ignored(alloc, self, list)
+        excluding_ignored(alloc, self, list)
     }
 }
 

@@ -58,7 +58,7 @@ use wax_token::token::{ExpressionMetadata, LeafKind, Tokenized};
 /// ```
 pub struct Glob<'t> {
     tokenized: Tokenized<'t, ExpressionMetadata>,
-    program: encode::Program,
+    program: encode::CompiledProgram,
     reads_last: bool,
     prefilter: Prefilter,
     pieces: Pieces,

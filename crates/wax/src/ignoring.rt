@@ -20,7 +20,7 @@ use wax_error::BuildError;
 use wax_exclude::{IgnoreLine, IgnoreRule, WrittenLine, collect_unignored, written_lines};
 use wax_query::diagnostics::NoMemory;
 use wax_tree::{PathExt, WalkBehavior};
-use wax_walk::{Entry, EntryResidue, Rule, TreeEntry, WalkError};
+use wax_walk::{Entry, EntryResidue, Exclude, TreeEntry, WalkError};
 
 /// Why a text isn't an ignore list.
 #[derive(Debug, Drop, Error)]
@@ -136,8 +136,8 @@ impl IgnoreList {
     }
 }
 
-impl Rule for IgnoreList {
-    ghost rule = { λ list. ⟦<IgnoreRule as Rule>⟧.rule list.rule };
+impl Exclude for IgnoreList {
+    ghost rule = { λ list. ⟦<IgnoreRule as Exclude>⟧.rule list.rule };
 
     fn residue<E: Entry>(
         &mut self,

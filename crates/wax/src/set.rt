@@ -40,7 +40,7 @@ use wax_token::token::{ExpressionMetadata, Token};
 /// see the alternation of their trees.
 pub struct Any<'t> {
     token: Token<'t, ExpressionMetadata>,
-    program: encode::Program,
+    program: encode::CompiledProgram,
     prefilter: Prefilter,
     pieces: Pieces,
 }

@@ -1,7 +1,7 @@
 //! Directories, walks through them, and filters of walks.
 
 pub use crate::exclusions::{
-    FileIteratorExt, Ignore, Not, exclusion_of, without_ignored, without_meant,
+    FileIteratorExt, Ignore, Not, excluding_ignored, excluding_pattern, exclusion_of,
 };
 pub use crate::glob::GlobWalk;
 pub use crate::ignoring::{IgnoreError, IgnoreList};
@@ -12,13 +12,13 @@ pub use wax_directory::folders::Folders;
 pub use wax_directory::starving::Starving;
 pub use wax_directory::tally::Tally;
 pub use wax_directory::tree::{DuplicateName, Node, Tree, TreeItem};
-pub use wax_exclude::{Component, Exclusion, collect, collect_feed, law_of_plain_walks};
+pub use wax_exclude::{Exclusion, LeadingComponent, collect, collect_feed, law_of_plain_walks};
 pub use wax_glob_walk::{FilterAny, GlobEntry, GlobFeed};
 pub use wax_tree::{
-    DepthBehavior, DepthMax, DepthMin, DepthMinMax, LinkBehavior, PathExt, Range, TreeFeed,
+    DepthBehavior, DepthMax, DepthMin, DepthMinMax, DepthRange, LinkBehavior, PathExt, TreeFeed,
     WalkBehavior, WalkTree, entries,
 };
 pub use wax_walk::{
-    Entry, EntryResidue, FaultKind, FileIterator, FilterEntry, Rule, TreeEntry, WalkError,
-    WalkErrorKind, Without,
+    Entry, EntryResidue, Exclude, Excluding, FaultKind, FileIterator, FilterEntry, TreeEntry,
+    WalkError, WalkErrorKind,
 };

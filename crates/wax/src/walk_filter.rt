@@ -1,6 +1,6 @@
 //! Filters of walks: patterns and ignore lists.
 ghost use Rattle.std.specs.Prelude.{◌≡◌, List, MatchResult};
-ghost use Rattle.wax_exclude.specs.Trips.{IsRuleOf};
+ghost use Rattle.wax_exclude.specs.GlobRequests.{IsRuleOf};
 ghost use Rattle.wax_token.specs.Reads.{Span};
 ghost use Rattle.wax_exclude.specs.Ignored.{Line};
 ghost use Rattle.wax_exclude.specs.Wanted.{not_ignored};
@@ -14,7 +14,7 @@ use std::alloc::Global;
 use wax_error::BuildError;
 use wax_exclude::Exclusion;
 use wax_query::diagnostics::NoMemory;
-use wax_walk::{Entry, EntryResidue, Rule};
+use wax_walk::{Entry, EntryResidue, Exclude};
 
 /// A filter of a walk: it excludes what a pattern matches, or what an ignore list ignores.
 #[derive(Drop)]
@@ -31,7 +31,7 @@ impl WalkFilter {
     /// Returns the errors of `exclusion_of`.
     pub fn not<P: Pattern>(alloc: Global, pattern: P) -> Result<WalkFilter, BuildError>
         ensures { MatchResult result
-            (λ filter. IsNotRule (P.spells pattern) (⟦<WalkFilter as Rule>⟧.rule filter))
+            (λ filter. IsNotRule (P.spells pattern) (⟦<WalkFilter as Exclude>⟧.rule filter))
             (NoExclusion (P.spells pattern) (P.refuses pattern)) }
     {
         let exclusion = exclusion_of(alloc, pattern)?;
@@ -41,16 +41,16 @@ impl WalkFilter {
     /// Wraps a list as a filter that excludes what the list ignores.
     pub fn ignore(list: IgnoreList) -> WalkFilter
         ensures { (lines : List (Line Span)) → HoldsLines list lines
-            → IsRuleOf (not_ignored lines) (⟦<WalkFilter as Rule>⟧.rule result) }
+            → IsRuleOf (not_ignored lines) (⟦<WalkFilter as Exclude>⟧.rule result) }
     {
         WalkFilter::Ignore(list)
     }
 }
 
-impl Rule for WalkFilter {
+impl Exclude for WalkFilter {
     ghost use Rattle.wax.specs.Exclusions.{rule_by};
 
-    ghost rule = { rule_by ⟦<Exclusion as Rule>⟧.rule ⟦<IgnoreList as Rule>⟧.rule };
+    ghost rule = { rule_by ⟦<Exclusion as Exclude>⟧.rule ⟦<IgnoreList as Exclude>⟧.rule };
 
     fn residue<E: Entry>(
         &mut self,

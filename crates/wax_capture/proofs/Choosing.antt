@@ -11,7 +11,7 @@ use Rattle.wax_lengths.specs.Spans.{HasLengths, InSpan, IsNarrowed, IsPicked}
 use Rattle.wax_capture.specs.inner.Splits.{FitsBy, IsChosenBy, Splits}
 use Rattle.wax_lengths.specs.declared.form.Form.{Form}
 use Rattle.wax_capture.specs.declared.piece.Piece.{Piece}
-use Rattle.wax_lengths.specs.declared.span.Span.{Span}
+use Rattle.wax_lengths.specs.declared.span.LengthSpan.{LengthSpan}
 use Rattle.wax_lengths.proofs.Lists.{some_same}
 use Rattle.wax_capture.proofs.Rows.{cell_filled}
 
@@ -23,25 +23,25 @@ pub empty : (cells : List (Option ℕ)) (i : ℕ) → is_some (get_or cells i No
 empty cells i none h = true≢false (sym h ∙ none)
 
 -- the lengths of the span are those of the form
-pub span_sound : (form : Form) (text : List ℕ) (at : ℕ) (span : Span) → at ≤ length text → at + span.end ≤ length text + 1 → HasLengths form (drop at text) span →
+pub span_sound : (form : Form) (text : List ℕ) (at : ℕ) (span : LengthSpan) → at ≤ length text → at + span.end ≤ length text + 1 → HasLengths form (drop at text) span →
     (m : ℕ) → InSpan span (drop at text) m → (m ≤ length (drop at text)) × TakenBy form (take m (drop at text))
 span_sound form text at span within end has m h =
     let le : m ≤ length (drop at text) = omega (arith, h.1, end, length-drop at text, within) in
     (le, (has m le).1 h)
 
 -- ---- one form, of whose lengths some were tried
-pub record Left (form : Form) (s : List ℕ) (cells : List (Option ℕ)) (at : ℕ) (span : Span) : Type 0 where
+pub record Left (form : Form) (s : List ℕ) (cells : List (Option ℕ)) (at : ℕ) (span : LengthSpan) : Type 0 where
   pub fits : (m : ℕ) → FitsIn form s cells at m → InSpan span s m
   pub sound : (m : ℕ) → InSpan span s m → (m ≤ length s) × TakenBy form (take m s)
 
-pub left_start : (form : Form) (text : List ℕ) (cells : List (Option ℕ)) (at : ℕ) (span : Span) → at ≤ length text → at + span.end ≤ length text + 1 → HasLengths form (drop at text) span →
+pub left_start : (form : Form) (text : List ℕ) (cells : List (Option ℕ)) (at : ℕ) (span : LengthSpan) → at ≤ length text → at + span.end ≤ length text + 1 → HasLengths form (drop at text) span →
     Left form (drop at text) cells at span
 left_start form text cells at span within end has = record {
   fits = λ m h. (has m h.0).0 h.1;
   sound = span_sound form text at span within end has;
 }
 
-module _ (form : Form) (s : List ℕ) (cells : List (Option ℕ)) (at : ℕ) (old new : Span) (lazy : Bool) (n : ℕ) (left : Left form s cells at old) (picked : IsPicked old new s lazy n) (narrowed : IsNarrowed old new s) where
+module _ (form : Form) (s : List ℕ) (cells : List (Option ℕ)) (at : ℕ) (old new : LengthSpan) (lazy : Bool) (n : ℕ) (left : Left form s cells at old) (picked : IsPicked old new s lazy n) (narrowed : IsNarrowed old new s) where
   -- the picked one fits
   pub left_fits : IsFilled cells (at + n) → FitsIn form s cells at n
   left_fits h = let r = left.sound n picked.0 in (r.0, r.1, h)

@@ -10,7 +10,7 @@ ghost use Rattle.wax_capture.specs.declared.piece.Piece.{Piece};
 use crate::piece::Piece;
 use std::alloc::{AllocError, Global};
 use std::mem;
-use wax_lengths::{Span, Visits, lengths_of, pick};
+use wax_lengths::{LengthSpan, Visits, lengths_of, pick};
 
 /// The trial of one piece: the length that it takes now, and what is left to be tried.
 #[derive(Drop)]
@@ -22,7 +22,7 @@ pub struct Frame {
     /// The number of its forms that were tried, the last of them perhaps in part.
     opened: usize,
     /// The lengths by the last of these forms that are left to be tried.
-    span: Span,
+    span: LengthSpan,
 }
 
 impl Frame {
@@ -37,7 +37,7 @@ impl Frame {
             at,
             n: 0,
             opened: 0,
-            span: Span::new(0, 0),
+            span: LengthSpan::new(0, 0),
         }
     }
 }

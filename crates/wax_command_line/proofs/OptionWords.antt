@@ -1,7 +1,7 @@
 -- The words of walks.
 use Rattle.std.proofs.Common.{◌≡◌, ℕ, ◌+◌, ◌≤◌, Bool, true, false, List, [], ◌∷◌, ◌++◌, length, length-append, get_or, Option, Some, None, inl, inr, refl, sym, ap, subst, ◌∙◌, append_assoc, arith}
 use Rattle.std.specs.Prelude.{◌↔◌, IfNone, String, string_bytes, codes, slice_get}
-use Rattle.wax_command_line.specs.Commands.{WalkOption, without, ignoring, at_least, at_most, IsOption, SayEach, leasts_in, greatests_in, count_lists}
+use Rattle.wax_command_line.specs.Commands.{WalkOption, excluding, ignoring, at_least, at_most, IsOption, SayEach, leasts_in, greatests_in, count_lists}
 use Rattle.wax_command_line.specs.Commands.{AreBounds, SaysWalk, AsksWalk, WalkRequest}
 use Rattle.wax_command_line.specs.WalkWords.{IsNext}
 use Rattle.wax_command_line.specs.inner.OptionWords.{AreDoubled, AreMore, AreSaidBy, all_in, one_if, IsFirstWord, IsDoubled}
@@ -13,19 +13,19 @@ letter : {x y : List ℕ} (k : ℕ) → x ≡ y → get_or x k 0 ≡ get_or y k 
 letter k e = ap (λ v. get_or v k 0) e
 
 pub same_option : (name word : List ℕ) (o u : WalkOption) → IsOption name word o → IsOption name word u → o ≡ u
-same_option name word (without e) (without f) h k = ap without (h.1 ∙ sym k.1)
-same_option name word (without e) (ignoring f) h k = let d : 110 ≡ 105 = letter 0 (sym h.0 ∙ k.0) in absurd (omega (arith, d))
-same_option name word (without e) (at_least n) h k = let d : 110 ≡ 109 = letter 0 (sym h.0 ∙ k.0) in absurd (omega (arith, d))
-same_option name word (without e) (at_most n) h k = let d : 110 ≡ 109 = letter 0 (sym h.0 ∙ k.0) in absurd (omega (arith, d))
-same_option name word (ignoring e) (without f) h k = let d : 105 ≡ 110 = letter 0 (sym h.0 ∙ k.0) in absurd (omega (arith, d))
+same_option name word (excluding e) (excluding f) h k = ap excluding (h.1 ∙ sym k.1)
+same_option name word (excluding e) (ignoring f) h k = let d : 110 ≡ 105 = letter 0 (sym h.0 ∙ k.0) in absurd (omega (arith, d))
+same_option name word (excluding e) (at_least n) h k = let d : 110 ≡ 109 = letter 0 (sym h.0 ∙ k.0) in absurd (omega (arith, d))
+same_option name word (excluding e) (at_most n) h k = let d : 110 ≡ 109 = letter 0 (sym h.0 ∙ k.0) in absurd (omega (arith, d))
+same_option name word (ignoring e) (excluding f) h k = let d : 105 ≡ 110 = letter 0 (sym h.0 ∙ k.0) in absurd (omega (arith, d))
 same_option name word (ignoring e) (ignoring f) h k = ap ignoring (h.1 ∙ sym k.1)
 same_option name word (ignoring e) (at_least n) h k = let d : 105 ≡ 109 = letter 0 (sym h.0 ∙ k.0) in absurd (omega (arith, d))
 same_option name word (ignoring e) (at_most n) h k = let d : 105 ≡ 109 = letter 0 (sym h.0 ∙ k.0) in absurd (omega (arith, d))
-same_option name word (at_least m) (without f) h k = let d : 109 ≡ 110 = letter 0 (sym h.0 ∙ k.0) in absurd (omega (arith, d))
+same_option name word (at_least m) (excluding f) h k = let d : 109 ≡ 110 = letter 0 (sym h.0 ∙ k.0) in absurd (omega (arith, d))
 same_option name word (at_least m) (ignoring f) h k = let d : 109 ≡ 105 = letter 0 (sym h.0 ∙ k.0) in absurd (omega (arith, d))
 same_option name word (at_least m) (at_least n) h k = ap at_least (h.1.1 ∙ sym k.1.1)
 same_option name word (at_least m) (at_most n) h k = let d : 105 ≡ 97 = letter 1 (sym h.0 ∙ k.0) in absurd (omega (arith, d))
-same_option name word (at_most m) (without f) h k = let d : 109 ≡ 110 = letter 0 (sym h.0 ∙ k.0) in absurd (omega (arith, d))
+same_option name word (at_most m) (excluding f) h k = let d : 109 ≡ 110 = letter 0 (sym h.0 ∙ k.0) in absurd (omega (arith, d))
 same_option name word (at_most m) (ignoring f) h k = let d : 109 ≡ 105 = letter 0 (sym h.0 ∙ k.0) in absurd (omega (arith, d))
 same_option name word (at_most m) (at_least n) h k = let d : 97 ≡ 105 = letter 1 (sym h.0 ∙ k.0) in absurd (omega (arith, d))
 same_option name word (at_most m) (at_most n) h k = ap at_most (h.1.1 ∙ sym k.1.1)
@@ -66,21 +66,21 @@ same_walk (Some x ∷ Some y ∷ Some z ∷ words) a b h k =
 
 pub leasts_more : (os us : List WalkOption) → leasts_in (os ++ us) ≡ leasts_in os ++ leasts_in us
 leasts_more [] us = refl
-leasts_more (without e ∷ os) us = leasts_more os us
+leasts_more (excluding e ∷ os) us = leasts_more os us
 leasts_more (ignoring e ∷ os) us = leasts_more os us
 leasts_more (at_least n ∷ os) us = ap (λ ns. n ∷ ns) (leasts_more os us)
 leasts_more (at_most n ∷ os) us = leasts_more os us
 
 pub greatests_more : (os us : List WalkOption) → greatests_in (os ++ us) ≡ greatests_in os ++ greatests_in us
 greatests_more [] us = refl
-greatests_more (without e ∷ os) us = greatests_more os us
+greatests_more (excluding e ∷ os) us = greatests_more os us
 greatests_more (ignoring e ∷ os) us = greatests_more os us
 greatests_more (at_least n ∷ os) us = greatests_more os us
 greatests_more (at_most n ∷ os) us = ap (λ ns. n ∷ ns) (greatests_more os us)
 
 pub lists_more : (os us : List WalkOption) → count_lists (os ++ us) ≡ count_lists os + count_lists us
 lists_more [] us = omega arith
-lists_more (without e ∷ os) us = lists_more os us
+lists_more (excluding e ∷ os) us = lists_more os us
 lists_more (ignoring e ∷ os) us = let h = lists_more os us in omega (arith, h)
 lists_more (at_least n ∷ os) us = lists_more os us
 lists_more (at_most n ∷ os) us = lists_more os us

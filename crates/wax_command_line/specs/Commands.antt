@@ -27,7 +27,7 @@ AsksQuery words e = Asks (codes "query") words e
 -- an option of a walk: an expression whose entries are left out, a file with an ignore list, a least depth,
 -- or a greatest
 pub data WalkOption : Type 0 where
-  without : List ℕ → WalkOption
+  excluding : List ℕ → WalkOption
   ignoring : List ℕ → WalkOption
   at_least : ℕ → WalkOption
   at_most : ℕ → WalkOption
@@ -38,7 +38,7 @@ IsNumber word n = IsNumeral 10 word × (n ≡ digits_value 10 word) × (n < 2 ^ 
 
 -- a name and a word say an option
 abbrev pub IsOption : List ℕ → List ℕ → WalkOption → Type 0
-IsOption name word (without e) = (name ≡ codes "not") × (e ≡ word)
+IsOption name word (excluding e) = (name ≡ codes "not") × (e ≡ word)
 IsOption name word (ignoring file) = (name ≡ codes "ignore") × (file ≡ word)
 IsOption name word (at_least n) = (name ≡ codes "min") × IsNumber word n
 IsOption name word (at_most n) = (name ≡ codes "max") × IsNumber word n
@@ -53,21 +53,21 @@ SayEach _ _ = ⊥
 -- how many of them name an ignore list
 abbrev pub count_lists : List WalkOption → ℕ
 count_lists [] = 0
-count_lists (without e ∷ options) = count_lists options
+count_lists (excluding e ∷ options) = count_lists options
 count_lists (ignoring file ∷ options) = count_lists options + 1
 count_lists (at_least n ∷ options) = count_lists options
 count_lists (at_most n ∷ options) = count_lists options
 
 abbrev pub leasts_in : List WalkOption → List ℕ
 leasts_in [] = []
-leasts_in (without e ∷ options) = leasts_in options
+leasts_in (excluding e ∷ options) = leasts_in options
 leasts_in (ignoring file ∷ options) = leasts_in options
 leasts_in (at_least n ∷ options) = n ∷ leasts_in options
 leasts_in (at_most n ∷ options) = leasts_in options
 
 abbrev pub greatests_in : List WalkOption → List ℕ
 greatests_in [] = []
-greatests_in (without e ∷ options) = greatests_in options
+greatests_in (excluding e ∷ options) = greatests_in options
 greatests_in (ignoring file ∷ options) = greatests_in options
 greatests_in (at_least n ∷ options) = greatests_in options
 greatests_in (at_most n ∷ options) = n ∷ greatests_in options

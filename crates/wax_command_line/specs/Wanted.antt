@@ -2,7 +2,8 @@
 use Rattle.std.specs.Prelude.{◌≡◌, ℕ, Bool, List, ◌++◌, Option}
 use Rattle.std.specs.Io.KnownBytes.{Appends}
 use Rattle.std.specs.List.{list_any}
-use Rattle.wax_exclude.specs.Trips.{AreRulesOf, ComesWanted, KeepsWanted, MayGo, Trip, trip_less, trip_walk}
+use Rattle.wax_exclude.specs.GlobRequests.{AreRulesOf, ComesWanted, KeepsWanted, CanBegin, GlobRequest}
+use Rattle.wax_exclude.specs.GlobRequests.{request_excluding, request_walk}
 use Rattle.wax_directory.specs.Law.{Law}
 use Rattle.wax_directory.specs.Shown.{Shown}
 use Rattle.wax_token.specs.Reads.{Span}
@@ -13,22 +14,25 @@ use Rattle.wax_exclude.specs.Wanted.{Filter}
 use Rattle.wax_command_line.specs.Candidates.{candidate_lines, is_error}
 
 module _ {D C : Type 0} (law : Law D C) (walk : WalkView D) (rules : List (Facts → Mark)) where
-  -- what holds of each trip whose walk is seen, less what filters leave out, where the rules are theirs
-  abbrev pub OnTrips : (Trip → Shown → List (List ℕ) → Type 0) → Type 0
-  OnTrips P = (d : D) (trip : Trip) (filters : List (Filter Span)) (s : Shown) (listed : List (List ℕ))
-      → ComesWanted law d trip walk → AreRulesOf filters rules → MayGo (trip_less trip filters)
-      → law.shows d trip.way.path s → law.tells d listed → P (trip_less trip filters) s listed
+  -- what holds of each request whose walk is seen, less what filters leave out, where the rules are theirs
+  abbrev pub OnRequests : (GlobRequest → Shown → List (List ℕ) → Type 0) → Type 0
+  OnRequests P = (d : D) (request : GlobRequest) (filters : List (Filter Span)) (s : Shown)
+      (listed : List (List ℕ))
+      → ComesWanted law d request walk → AreRulesOf filters rules
+      → CanBegin (request_excluding request filters)
+      → law.shows d request.origin.path s → law.tells d listed
+      → P (request_excluding request filters) s listed
 
   -- what is wanted of the walk was taken to its end, and the lines of its items were written
   pub record WroteWanted (held held' : Option (List ℕ)) (has_errors : Bool) : Type 0 where
     pub directory : D
     pub items : List Given
-    pub wanted : OnTrips (λ trip s listed. KeepsWanted (law.tells directory) trip s listed items)
+    pub wanted : OnRequests (λ request s listed. KeepsWanted (law.tells directory) request s listed items)
     pub writes : Appends held held' (candidate_lines items)
     pub errors : has_errors ≡ list_any is_error items
 
   -- a beginning of the lines of what is wanted was written
   abbrev pub WroteFirst : Option (List ℕ) → Option (List ℕ) → Type 0
   WroteFirst held held' = (bytes : List ℕ) × Appends held held' bytes
-      × OnTrips (λ trip s _. (unwritten : List ℕ)
-      × (bytes ++ unwritten ≡ candidate_lines (preorder (trip_walk trip s))))
+      × OnRequests (λ request s _. (unwritten : List ℕ)
+      × (bytes ++ unwritten ≡ candidate_lines (preorder (request_walk request s))))

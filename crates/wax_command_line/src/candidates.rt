@@ -16,7 +16,7 @@ use wax_exclude::law_of_walks;
 use wax_filter::filter::{Feed, SeparatingFilter, Separation, TreeResidue};
 use wax_glob_walk::{FilterAny, GlobWalk, NameTest};
 use wax_lines::{Counted, LinesError, write_whole};
-use wax_walk::{Entry, FileIterator, Rule, WalkError};
+use wax_walk::{Entry, Exclude, FileIterator, WalkError};
 
 /// Lines are written once that many bytes of them wait.
 const CHUNK: usize = 8192;
@@ -40,7 +40,7 @@ where
     D: Directory,
     P: Program,
     C: NameTest,
-    R: Rule,
+    R: Exclude,
     W: Write,
     F: Write,
     requires can { ⟦<GlobWalk<'g, D, P, C> as SeparatingFilter>⟧.can_feed walk }
@@ -53,11 +53,11 @@ where
         (W.contents output.old.inner) (W.contents output.new.inner)) }
     ensures quiet { IfOk result (λ has_errors. has_errors ≡ false → faults.new ≡ faults.old) }
 {
-    write_less(alloc, walk, rules, output, faults)
+    write_excluding(alloc, walk, rules, output, faults)
 }
 
 // The generic body of `write_wanted`: at its concrete types the check would be too large.
-fn write_less<I, R, W, F>(
+fn write_excluding<I, R, W, F>(
     alloc: Global,
     walk: I,
     rules: Vec<R>,
@@ -66,7 +66,7 @@ fn write_less<I, R, W, F>(
 ) -> Result<bool, LinesError>
 where
     I: FileIterator,
-    R: Rule,
+    R: Exclude,
     W: Write,
     F: Write,
     requires can { I.can_feed walk }
@@ -78,7 +78,7 @@ where
     ensures quiet { IfOk result (λ has_errors. has_errors ≡ false → faults.new ≡ faults.old) }
 {
     law_of_walks();
-    let kept = walk.without(alloc, FilterAny::new(rules));
+    let kept = walk.excluding(alloc, FilterAny::new(rules));
     write_candidates(alloc, kept, output, faults)
 }
 

@@ -4,13 +4,13 @@ use Rattle.std.specs.Prelude.{Result, Ok, Err, OnOk, chars, codes}
 use Rattle.std.proofs.lemmas.List.{map-append}
 use Rattle.wax.specs.Exclusions.{IsNotRule}
 use Rattle.wax.specs.Patterns.{Spells}
-use Rattle.wax_exclude.specs.Trips.{AreRulesOf, IsRuleOf}
+use Rattle.wax_exclude.specs.GlobRequests.{AreRulesOf, IsRuleOf}
 use Rattle.wax_token.specs.Reads.{Span}
 use Rattle.wax_token.specs.Syntax.{Tree}
 use Rattle.wax_walk.specs.Given.{Facts, Mark}
 use Rattle.wax_exclude.specs.Ignored.{Line}
 use Rattle.wax_exclude.specs.Wanted.{Filter, not_ignored, not_meant}
-use Rattle.wax_command_line.specs.Commands.{WalkOption, without, ignoring, at_least, at_most, IsOption}
+use Rattle.wax_command_line.specs.Commands.{WalkOption, excluding, ignoring, at_least, at_most, IsOption}
 use Rattle.wax_commands.specs.Files.{FileAnswers, IsListIn}
 use Rattle.wax_commands.specs.Walked.{AreAskedBy, IsNotOf}
 use Rattle.wax_command_line.proofs.OptionWords.{same_option}
@@ -41,7 +41,7 @@ module _ {Z : Type 0} (answers : FileAnswers Z) (name word : List ℕ) (P : List
   Adds o = (xs : List (Filter Span)) × (rules : List (Facts → Mark)) × AreAskedBy answers o xs × AreRulesOf xs rules × P rules
 
   pub none_asked : (name ≡ codes "not" → ⊥) → (name ≡ codes "ignore" → ⊥) → P [] → (o : WalkOption) → IsOption name word o → Adds o
-  none_asked n i p (without e) s = absurd (n s.0)
+  none_asked n i p (excluding e) s = absurd (n s.0)
   none_asked n i p (ignoring file) s = absurd (i s.0)
   none_asked n i p (at_least m) s = ([], [], tt, tt, p)
   none_asked n i p (at_most m) s = ([], [], tt, tt, p)
@@ -50,7 +50,7 @@ module _ {Z : Type 0} (answers : FileAnswers Z) (name word : List ℕ) (P : List
     pub pattern_asked : name ≡ codes "not" → OnOk r ((t : Tree Span) × (rules : List (Facts → Mark)) × IsNotOf word t × AreRulesOf (not_meant t ∷ []) rules × P rules)
         → OnOk r ((o : WalkOption) → IsOption name word o → Adds o)
     pattern_asked e added = map_on_ok (λ h o s.
-        subst Adds (sym (same_option name word o (without word) s (e, refl))) (not_meant h.0 ∷ [], h.1, h.2, h.3, h.4)) r added
+        subst Adds (sym (same_option name word o (excluding word) s (e, refl))) (not_meant h.0 ∷ [], h.1, h.2, h.3, h.4)) r added
 
     pub list_asked : name ≡ codes "ignore" → OnOk r ((lines : List (Line Span)) × (rules : List (Facts → Mark)) × IsListIn answers word lines × AreRulesOf (not_ignored lines ∷ []) rules × P rules)
         → OnOk r ((o : WalkOption) → IsOption name word o → Adds o)

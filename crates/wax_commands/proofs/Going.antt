@@ -3,7 +3,7 @@ use Rattle.std.proofs.Common.{◌≡◌, ℕ, ◌-◌, ◌^◌, true, false, ◌
 use Rattle.std.specs.Prelude.{Option, chars}
 use Rattle.wax.specs.Headline.{IsGlob}
 use Rattle.wax.specs.GlobView.{GlobView}
-use Rattle.wax_exclude.specs.Trips.{AreRulesOf, KeepsWanted, Trip, goes, trip_walk}
+use Rattle.wax_exclude.specs.GlobRequests.{AreRulesOf, KeepsWanted, GlobRequest, goes, request_walk}
 use Rattle.wax_directory.specs.Law.{Law}
 use Rattle.wax_directory.specs.Shown.{Shown}
 use Rattle.wax_token.specs.Reads.{Span}
@@ -13,28 +13,28 @@ use Rattle.wax_tree.specs.declared.behavior.WalkBehavior.{WalkBehavior}
 use Rattle.wax_walk.specs.Given.{Facts, Mark}
 use Rattle.wax_walk.specs.View.{WalkView}
 use Rattle.wax_exclude.specs.Wanted.{Filter}
-use Rattle.wax.specs.GlobWalks.{BeginsGlob, trip_of}
+use Rattle.wax.specs.GlobWalks.{BeginsGlob, request_of}
 use Rattle.wax_walk.specs.Forest.{preorder}
 use Rattle.wax_command_line.specs.Candidates.{candidate_lines}
 use Rattle.wax_commands.specs.Files.{FileAnswers}
 use Rattle.wax_command_line.specs.Commands.{SayEach, WalkOption, WalkRequest}
 use Rattle.wax_commands.specs.Refused.{IsRefused}
-use Rattle.wax_commands.specs.Walked.{AreAskedByAll, AreBuilt, Ground, HasRefused, OnWalk, WalkEnds, WalkGlobs, done, faulty, no_filter, no_glob}
+use Rattle.wax_commands.specs.Walked.{AreAskedByAll, AreBuilt, Environment, HasRefused, OnWalk, WalkEnds, WalkGlobs, done, faulty, no_filter, no_glob}
 use Rattle.wax_commands.specs.Walked.{range_in, refused, stopped}
 use Rattle.wax_command_line.specs.declared.walk_words.WalkWords.{WalkWords}
-use Rattle.wax_command_line.specs.Wanted.{OnTrips, WroteFirst, WroteWanted}
+use Rattle.wax_command_line.specs.Wanted.{OnRequests, WroteFirst, WroteWanted}
 use Rattle.wax_command_line.specs.WalkWords.{IsRead}
 
 module _ {D C : Type 0} (law : Law D C) (d : D) (asked : WalkRequest) (globs : WalkGlobs) (view : WalkView D) where
-  -- what holds on the trips of the walk holds on the walk
-  pub on_walk : (rules : List (Facts → Mark)) (P : Trip → Shown → List (List ℕ) → Type 0)
+  -- what holds on the requests of the walk holds on the walk
+  pub on_walk : (rules : List (Facts → Mark)) (P : GlobRequest → Shown → List (List ℕ) → Type 0)
       → BeginsGlob globs.glob.tree law d asked.start (range_in asked.options) view → AreRulesOf globs.filters rules
-      → OnTrips law view rules P → OnWalk law d asked globs P
+      → OnRequests law view rules P → OnWalk law d asked globs P
   on_walk rules P h are on = (
     h.depth,
     h.depth_is,
     λ b s listed plain shows told.
-        on d (trip_of asked.start (range_in asked.options) h.depth b []) globs.filters s listed
+        on d (request_of asked.start (range_in asked.options) h.depth b []) globs.filters s listed
         (h.comes b plain) are (goes (h.can b globs.filters plain)) shows told,
   )
 
@@ -50,10 +50,10 @@ range_read : (walk : WalkWords) (asked : WalkRequest) (b : WalkBehavior) → IsR
 range_read walk asked b read e =
     ap behavior_range e ∙ (λ i. record { min = read.lower i; max = or_greatest (read.upper i); budget = 2 ^ 32 - 1 })
 
-abbrev pub ground : {D C Z : Type 0} → Law D C → D → FileAnswers Z → Ground D C Z
-ground law d answers = record { law = law; directory = d; answers = answers }
+abbrev pub environment : {D C Z : Type 0} → Law D C → D → FileAnswers Z → Environment D C Z
+environment law d answers = record { law = law; directory = d; answers = answers }
 
-module _ {D C Z : Type 0} (over : Ground D C Z) (walk : WalkWords) (asked : WalkRequest) (read : IsRead walk asked) where
+module _ {D C Z : Type 0} (over : Environment D C Z) (walk : WalkWords) (asked : WalkRequest) (read : IsRead walk asked) where
   -- what the filters are seen as
   abbrev pub AreLeftOut : List (Facts → Mark) → Type 0
   AreLeftOut rules = (os : List WalkOption) → SayEach walk.options.now os
@@ -81,18 +81,18 @@ module _ {D C Z : Type 0} (over : Ground D C Z) (walk : WalkWords) (asked : Walk
       all_built : AreBuilt over.answers asked globs
       all_built = record { glob = glob_asked; filters = built.1 }
 
-      on : (P : Trip → Shown → List (List ℕ) → Type 0) → OnTrips over.law view rules P → OnWalk over.law over.directory asked globs P
+      on : (P : GlobRequest → Shown → List (List ℕ) → Type 0) → OnRequests over.law view rules P → OnWalk over.law over.directory asked globs P
       on P h = on_walk over.law over.directory asked globs view rules P
           (begins_so over.law over.directory asked globs view walk.start.now b read.start (range_read walk asked b read is) begins) built.2 h
 
       pub ends_done : WroteWanted over.law view rules held held' false → WalkEnds over asked held held' 0
       ends_done w = done globs w.items all_built
-          (w.directory, on (λ trip s listed. KeepsWanted (over.law.tells w.directory) trip s listed w.items) w.wanted) w.writes (sym w.errors) refl
+          (w.directory, on (λ request s listed. KeepsWanted (over.law.tells w.directory) request s listed w.items) w.wanted) w.writes (sym w.errors) refl
 
       pub ends_faulty : WroteWanted over.law view rules held held' true → WalkEnds over asked held held' 3
       ends_faulty w = faulty globs w.items all_built
-          (w.directory, on (λ trip s listed. KeepsWanted (over.law.tells w.directory) trip s listed w.items) w.wanted) w.writes (sym w.errors) refl
+          (w.directory, on (λ request s listed. KeepsWanted (over.law.tells w.directory) request s listed w.items) w.wanted) w.writes (sym w.errors) refl
 
       pub ends_stopped : WroteFirst over.law view rules held held' → WalkEnds over asked held held' 1
       ends_stopped w = stopped globs w.0 all_built w.1
-          (on (λ trip s _. (rest : List ℕ) × (w.0 ++ rest ≡ candidate_lines (preorder (trip_walk trip s)))) w.2) refl
+          (on (λ request s _. (rest : List ℕ) × (w.0 ++ rest ≡ candidate_lines (preorder (request_walk request s)))) w.2) refl

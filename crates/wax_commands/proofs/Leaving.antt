@@ -2,7 +2,7 @@
 use Rattle.std.proofs.Common.{◌≡◌, ℕ, List, [], ◌∷◌, ◌++◌, refl, sym, ap, subst, ◌∙◌, append_assoc}
 use Rattle.std.specs.Prelude.{Option, Some, None, String}
 use Rattle.std.proofs.lemmas.List.{append-nil}
-use Rattle.wax_exclude.specs.Trips.{AreRulesOf}
+use Rattle.wax_exclude.specs.GlobRequests.{AreRulesOf}
 use Rattle.wax_token.specs.Reads.{Span}
 use Rattle.wax_walk.specs.Given.{Facts, Mark}
 use Rattle.wax_exclude.specs.Wanted.{Filter}

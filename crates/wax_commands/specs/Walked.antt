@@ -5,10 +5,10 @@ use Rattle.std.specs.List.{list_any}
 use Rattle.wax.specs.Headline.{IsGlob}
 use Rattle.wax.specs.Exclusions.{FitsAlone, NoExclusion}
 use Rattle.wax.specs.GlobView.{GlobView}
-use Rattle.wax.specs.GlobWalks.{Beginning, trip_of, way_from}
+use Rattle.wax.specs.GlobWalks.{Beginning, request_of, origin_from}
 use Rattle.wax.specs.Patterns.{Refuses, Spells}
 use Rattle.wax_error.specs.declared.build_error.BuildError.{BuildError}
-use Rattle.wax_exclude.specs.Trips.{KeepsWanted, Trip, trip_walk}
+use Rattle.wax_exclude.specs.GlobRequests.{KeepsWanted, GlobRequest, request_walk}
 use Rattle.wax_components.specs.Depth.{Depth}
 use Rattle.wax_directory.specs.Law.{Law}
 use Rattle.wax_directory.specs.Shown.{Shown}
@@ -17,18 +17,18 @@ use Rattle.wax_token.specs.Reads.{Span}
 use Rattle.wax_token.specs.Syntax.{Tree}
 use Rattle.wax_tree.specs.Begins.{or_greatest}
 use Rattle.wax_tree.specs.Prefix.{ArePlain}
-use Rattle.wax_tree.specs.declared.steps.Range.{Range}
+use Rattle.wax_tree.specs.declared.steps.DepthRange.{DepthRange}
 use Rattle.wax_walk.specs.Forest.{preorder}
 use Rattle.wax_walk.specs.Given.{Given}
 use Rattle.wax_command_line.specs.Candidates.{candidate_lines, is_error}
 use Rattle.wax_exclude.specs.Wanted.{Filter, not_meant, not_ignored}
-use Rattle.wax_command_line.specs.Commands.{WalkOption, without, ignoring, at_least, at_most, WalkRequest}
+use Rattle.wax_command_line.specs.Commands.{WalkOption, excluding, ignoring, at_least, at_most, WalkRequest}
 use Rattle.wax_command_line.specs.Commands.{greatest_in, least_in}
 use Rattle.wax_commands.specs.Files.{FileAnswers, IsListIn, IsUnlisted}
 use Rattle.wax_commands.specs.Refused.{IsRefused}
 
 -- what a walk is run over: a directory, with its law, and what may be answered of files
-pub record Ground (D C Z : Type 0) : Type 1 where
+pub record Environment (D C Z : Type 0) : Type 1 where
   pub law : Law D C
   pub directory : D
   pub answers : FileAnswers Z
@@ -47,7 +47,7 @@ pub record WalkGlobs : Type 0 where
 module _ {Z : Type 0} (answers : FileAnswers Z) where
   -- the filters that an option asks for: one, or none
   abbrev pub AreAskedBy : WalkOption → List (Filter Span) → Type 0
-  AreAskedBy (without e) (not_meant t ∷ []) = IsNotOf e t
+  AreAskedBy (excluding e) (not_meant t ∷ []) = IsNotOf e t
   AreAskedBy (ignoring file) (not_ignored lines ∷ []) = IsListIn answers file lines
   AreAskedBy (at_least n) [] = ⊤
   AreAskedBy (at_most n) [] = ⊤
@@ -61,7 +61,7 @@ module _ {Z : Type 0} (answers : FileAnswers Z) where
 
   -- what an option asks for is refused
   abbrev pub IsRefusedOption : WalkOption → Type 0
-  IsRefusedOption (without e) =
+  IsRefusedOption (excluding e) =
       (error : BuildError) × NoExclusion (Spells (chars e)) (Refuses (chars e)) error
   IsRefusedOption (ignoring file) = IsUnlisted answers file
   IsRefusedOption (at_least n) = ⊥
@@ -91,7 +91,7 @@ module _ {Z : Type 0} (answers : FileAnswers Z) where
 -- ---- walks
 
 -- the depths that are asked for
-abbrev pub range_in : List WalkOption → Range
+abbrev pub range_in : List WalkOption → DepthRange
 range_in options = record {
   min = least_in options;
   max = or_greatest (greatest_in options);
@@ -100,25 +100,25 @@ range_in options = record {
 
 module _ {D C : Type 0} (law : Law D C) (d : D) (asked : WalkRequest) (globs : WalkGlobs) where
   -- what holds of the walk, from wherever it begins, of whatever the directory shows there
-  abbrev pub OnWalk : (Trip → Shown → List (List ℕ) → Type 0) → Type 0
+  abbrev pub OnWalk : (GlobRequest → Shown → List (List ℕ) → Type 0) → Type 0
   OnWalk P = (depth : Bounds) × Depth globs.glob.tree depth
       × ((b : Beginning globs.glob.tree) (s : Shown) (listed : List (List ℕ)) → ArePlain b.names
-      → law.shows d (way_from asked.start b.rooted b.names).path s → law.tells d listed
-      → P (trip_of asked.start (range_in asked.options) depth b globs.filters) s listed)
+      → law.shows d (origin_from asked.start b.rooted b.names).path s → law.tells d listed
+      → P (request_of asked.start (range_in asked.options) depth b globs.filters) s listed)
 
   -- these items were kept of the walk, to its end
   abbrev pub KeepsAllWanted : List Given → Type 0
   KeepsAllWanted items =
-      (d' : D) × OnWalk (λ trip s listed. KeepsWanted (law.tells d') trip s listed items)
+      (d' : D) × OnWalk (λ request s listed. KeepsWanted (law.tells d') request s listed items)
 
   -- these bytes are a beginning of the lines of all that is kept of the walk
   abbrev pub StartsLines : List ℕ → Type 0
-  StartsLines bytes = OnWalk (λ trip s listed.
-      (rest : List ℕ) × (bytes ++ rest ≡ candidate_lines (preorder (trip_walk trip s))))
+  StartsLines bytes = OnWalk (λ request s listed.
+      (rest : List ℕ) × (bytes ++ rest ≡ candidate_lines (preorder (request_walk request s))))
 
 -- The walk that is asked for was run. `held` is what the writer holds, before and after.
-pub data WalkEnds {D C Z : Type 0} (over : Ground D C Z) (asked : WalkRequest) (held held' : Option (List ℕ))
-    (status : ℕ) : Type 0 where
+pub data WalkEnds {D C Z : Type 0} (over : Environment D C Z) (asked : WalkRequest)
+    (held held' : Option (List ℕ)) (status : ℕ) : Type 0 where
   -- the candidates of all that is kept were written, and no item was an error
   done : (globs : WalkGlobs) (items : List Given) → AreBuilt over.answers asked globs
       → KeepsAllWanted over.law over.directory asked globs items → Appends held held' (candidate_lines items)

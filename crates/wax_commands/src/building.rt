@@ -5,7 +5,7 @@ ghost use Rattle.std.specs.Prelude.{IfSome, IfNone, IfOk, OnOk, OnErr, IsSome};
 ghost use Rattle.wax.specs.Headline.{IsGlob};
 ghost use Rattle.wax.specs.Exclusions.{NoExclusion};
 ghost use Rattle.wax.specs.Patterns.{Refuses, Spells};
-ghost use Rattle.wax_exclude.specs.Trips.{AreRulesOf};
+ghost use Rattle.wax_exclude.specs.GlobRequests.{AreRulesOf};
 ghost use Rattle.wax_token.specs.Reads.{Span};
 ghost use Rattle.wax_token.specs.Syntax.{Tree};
 ghost use Rattle.wax_walk.specs.Given.{Facts, Mark};
@@ -24,7 +24,7 @@ use thiserror::Error;
 use wax::walk::WalkFilter;
 use wax::{BuildError, Glob};
 use wax_command_line::next_option;
-use wax_walk::Rule;
+use wax_walk::Exclude;
 
 /// Why a filter of a walk wasn't built.
 #[derive(Debug, Drop, Error)]
@@ -79,7 +79,7 @@ where
     requires { B.IsAlwaysCallable read.now }
     ensures some { IfSome result (λ filters. (asked : List WalkOption) → SayEach options.now asked
         → (xs : List (Filter Span)) × AreAskedByAll (FnReturnsAt B.Fn read.now) asked xs
-        × AreRulesOf xs (map ⟦<WalkFilter as Rule>⟧.rule filters.items)) }
+        × AreRulesOf xs (map ⟦<WalkFilter as Exclude>⟧.rule filters.items)) }
     ensures none { IfNone result ((asked : List WalkOption) → SayEach options.now asked
         → HasRefused (FnReturnsAt B.Fn read.now) asked) }
     ensures quiet { IsSome result → faults.new ≡ faults.old }
@@ -104,7 +104,7 @@ where
     requires { B.IsAlwaysCallable read.now }
     ensures ok { IfOk result (λ filters. (asked : List WalkOption) → SayEach options.now asked
         → (xs : List (Filter Span)) × AreAskedByAll (FnReturnsAt B.Fn read.now) asked xs
-        × AreRulesOf xs (map ⟦<WalkFilter as Rule>⟧.rule filters.items)) }
+        × AreRulesOf xs (map ⟦<WalkFilter as Exclude>⟧.rule filters.items)) }
     ensures err { OnErr result ((asked : List WalkOption) → SayEach options.now asked
         → HasRefused (FnReturnsAt B.Fn read.now) asked) }
 {
@@ -131,8 +131,8 @@ where
     ensures ok { OnOk result ((o : WalkOption) → IsOption name.now word.now o
         → (xs : List (Filter Span)) × (rules : List (Facts → Mark))
         × AreAskedBy (FnReturnsAt B.Fn read.now) o xs × AreRulesOf xs rules
-        × (map ⟦<WalkFilter as Rule>⟧.rule filters.new.items
-        ≡ map ⟦<WalkFilter as Rule>⟧.rule filters.old.items ++ rules)) }
+        × (map ⟦<WalkFilter as Exclude>⟧.rule filters.new.items
+        ≡ map ⟦<WalkFilter as Exclude>⟧.rule filters.old.items ++ rules)) }
     ensures err { OnErr result ((o : WalkOption) → IsOption name.now word.now o
         → IsRefusedOption (FnReturnsAt B.Fn read.now) o) }
 {
@@ -152,8 +152,8 @@ fn add_pattern<'w>(
 ) -> Result<(), FilterFault<'w>>
     ensures ok { OnOk result ((t : Tree Span) × (rules : List (Facts → Mark)) × IsNotOf expression.now t
         × AreRulesOf (not_meant t ∷ []) rules
-        × (map ⟦<WalkFilter as Rule>⟧.rule filters.new.items
-        ≡ map ⟦<WalkFilter as Rule>⟧.rule filters.old.items ++ rules)) }
+        × (map ⟦<WalkFilter as Exclude>⟧.rule filters.new.items
+        ≡ map ⟦<WalkFilter as Exclude>⟧.rule filters.old.items ++ rules)) }
     ensures err { OnErr result ((error : BuildError)
         × NoExclusion (Spells (chars expression.now)) (Refuses (chars expression.now)) error) }
 {
@@ -174,8 +174,8 @@ where
     requires { B.IsAlwaysCallable read.now }
     ensures ok { OnOk result ((lines : List (Line Span)) × (rules : List (Facts → Mark))
         × IsListIn (FnReturnsAt B.Fn read.now) file.now lines × AreRulesOf (not_ignored lines ∷ []) rules
-        × (map ⟦<WalkFilter as Rule>⟧.rule filters.new.items
-        ≡ map ⟦<WalkFilter as Rule>⟧.rule filters.old.items ++ rules)) }
+        × (map ⟦<WalkFilter as Exclude>⟧.rule filters.new.items
+        ≡ map ⟦<WalkFilter as Exclude>⟧.rule filters.old.items ++ rules)) }
     ensures err { OnErr result (IsUnlisted (FnReturnsAt B.Fn read.now) file.now) }
 {
     let list = list_in(alloc, file, read)?;

@@ -31,7 +31,7 @@ usage: globs match EXPR
 /// What is written for a line that matches: the line, or the line with its captures.
 #[derive(Clone, Copy)]
 enum Lines {
-    Meant,
+    Matching,
     Captured,
 }
 
@@ -85,7 +85,7 @@ where
     ensures quiet { result ≡ 0 → faults.new ≡ faults.old }
 {
     if let Some(expression) = expression_after("match", words) {
-        return run_lines(alloc, Lines::Meant, expression, input, output, faults);
+        return run_lines(alloc, Lines::Matching, expression, input, output, faults);
     }
     if let Some(expression) = expression_after("captures", words) {
         return run_lines(alloc, Lines::Captured, expression, input, output, faults);
@@ -158,7 +158,7 @@ fn write_lines<R: Read, W: Write>(
         (W.contents output.old.inner) (W.contents output.new.inner)) }
 {
     match lines {
-        Lines::Meant => filter_lines(alloc, input, output, glob),
+        Lines::Matching => filter_lines(alloc, input, output, glob),
         Lines::Captured => capture_lines(alloc, input, output, glob),
     }
 }

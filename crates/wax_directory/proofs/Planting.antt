@@ -1,4 +1,4 @@
--- What a node is that is made of routes.
+-- What a node is that is made of tails.
 use Rattle.std.proofs.Common.{◌≡◌, ℕ, ◌+◌, ◌<◌, ◌≤◌, arith, zero, suc, Bool, true, false, cond, ◌||◌, ◌⊎◌}
 use Rattle.std.proofs.Common.{inl, inr, List, [], ◌∷◌, ◌++◌, map, drop, get_or, length, Option, Some, None}
 use Rattle.std.proofs.Common.{MatchBool, string_bytes, slice_get, if◌then◌else◌, refl, sym, ◌∙◌, ap, subst}
@@ -27,9 +27,9 @@ use Rattle.wax_directory.specs.Nodes.{to_node, to_nothing, named_before, named_i
 use Rattle.wax_directory.specs.Nodes.{shown_reached}
 use Rattle.wax_directory.specs.Trees.{shown_in, tree_shows}
 use Rattle.wax_directory.specs.TreeLaw.{layer_shown, shown_layer, item_layer_shown, item_layer}
-use Rattle.wax_directory.specs.Routes.{Route, route, leads_on, first_name, rest_after, below_name, rests, holds_name}
-use Rattle.wax_directory.specs.Routes.{added, with_new, names_by, kind_by, listing_by, HoldsBy, StandsBy}
-use Rattle.wax_directory.specs.Routes.{routes_from, routes_to}
+use Rattle.wax_directory.specs.PathTails.{PathTail, tail, leads_on, first_name, rest_after, below_name, rests, holds_name}
+use Rattle.wax_directory.specs.PathTails.{added, with_new, names_by, kind_by, listing_by, HoldsBy, StandsBy}
+use Rattle.wax_directory.specs.PathTails.{tails_from, tails_to}
 use Rattle.wax_directory.specs.inner.Places.{layer_has_name, has_name}
 use Rattle.wax_directory.specs.inner.Growing.{new_name, Grows}
 use Rattle.wax_directory.proofs.Finding.{out_entry, out_folder, folder_held, folder_distinct, leaf_distinct}
@@ -38,86 +38,86 @@ use Rattle.wax_directory.proofs.PathNames.{bytes_eq-swap}
 
 -- ---- how many names there are in all
 
-abbrev pub names_left : Route → ℕ
-names_left (route names is_folder) = length names
+abbrev pub names_left : PathTail → ℕ
+names_left (tail names is_folder) = length names
 
-abbrev pub total : List Route → ℕ
+abbrev pub total : List PathTail → ℕ
 total [] = 0
-total (r ∷ routes) = names_left r + total routes
+total (r ∷ tails) = names_left r + total tails
 
-abbrev pub left_of : Option Route → ℕ
+abbrev pub left_of : Option PathTail → ℕ
 left_of None = 0
 left_of (Some r) = names_left r
 
-total_cons : (o : Option Route) (routes : List Route)
-    → total (cons_option o routes) ≡ left_of o + total routes
-total_cons None routes = omega arith
-total_cons (Some r) routes = refl
+total_cons : (o : Option PathTail) (tails : List PathTail)
+    → total (cons_option o tails) ≡ left_of o + total tails
+total_cons None tails = omega arith
+total_cons (Some r) tails = refl
 
-after_fewer : (x : List ℕ) (r : Route) → left_of (rest_after x r) ≤ names_left r
-after_fewer x (route [] f) = omega arith
-after_fewer x (route (y ∷ names) f) = elim (bytes_eq y x) as
-    (λ b. left_of (cond b (Some (route names f)) None) ≤ names_left (route (y ∷ names) f))
+after_fewer : (x : List ℕ) (r : PathTail) → left_of (rest_after x r) ≤ names_left r
+after_fewer x (tail [] f) = omega arith
+after_fewer x (tail (y ∷ names) f) = elim (bytes_eq y x) as
+    (λ b. left_of (cond b (Some (tail names f)) None) ≤ names_left (tail (y ∷ names) f))
     [ true ↦ omega arith | false ↦ omega arith ]
 
--- what is left of a route that begins with a name
-abbrev pub BeginsWith : List ℕ → Route → Type 0
-BeginsWith x r = (rest : Route) × (rest_after x r ≡ Some rest) × (names_left rest < names_left r)
+-- what is left of a tail that begins with a name
+abbrev pub BeginsWith : List ℕ → PathTail → Type 0
+BeginsWith x r = (rest : PathTail) × (rest_after x r ≡ Some rest) × (names_left rest < names_left r)
 
-begins_with : (x : List ℕ) (r : Route) → first_name r ≡ Some x → BeginsWith x r
-begins_with x (route [] f) e = absurd (let g : None ≡ Some x = e in cc)
-begins_with x (route (y ∷ names) f) e =
+begins_with : (x : List ℕ) (r : PathTail) → first_name r ≡ Some x → BeginsWith x r
+begins_with x (tail [] f) e = absurd (let g : None ≡ Some x = e in cc)
+begins_with x (tail (y ∷ names) f) e =
     let g : Some y ≡ Some x = e in
     let same : y ≡ x = cc in (
-      route names f,
-      ap (λ b. cond b (Some (route names f)) None) ((bytes_eq-Decides y x).1 same),
+      tail names f,
+      ap (λ b. cond b (Some (tail names f)) None) ((bytes_eq-Decides y x).1 same),
       omega arith,
     )
 
-below_fewer : (x : List ℕ) (routes : List Route) → total (below_name x routes) ≤ total routes
+below_fewer : (x : List ℕ) (tails : List PathTail) → total (below_name x tails) ≤ total tails
 below_fewer x [] = omega arith
-below_fewer x (r ∷ routes) =
-    let h : total (below_name x routes) ≤ total routes = below_fewer x routes in
-    let k : total (below_name x (r ∷ routes)) ≡ left_of (rest_after x r) + total (below_name x routes) =
-    total_cons (rest_after x r) (below_name x routes) in
+below_fewer x (r ∷ tails) =
+    let h : total (below_name x tails) ≤ total tails = below_fewer x tails in
+    let k : total (below_name x (r ∷ tails)) ≡ left_of (rest_after x r) + total (below_name x tails) =
+    total_cons (rest_after x r) (below_name x tails) in
     omega (arith, h, k, after_fewer x r)
 
 -- fewer are left below the first name of one of them
-pub below_less : (x : List ℕ) (routes : List Route) (k : ℕ) (d : Route) → k < length routes
-    → first_name (get_or routes k d) ≡ Some x → total (below_name x routes) < total routes
+pub below_less : (x : List ℕ) (tails : List PathTail) (k : ℕ) (d : PathTail) → k < length tails
+    → first_name (get_or tails k d) ≡ Some x → total (below_name x tails) < total tails
 below_less x [] k d lt e = absurd (omega (arith, lt))
-below_less x (r ∷ routes) zero d lt e =
+below_less x (r ∷ tails) zero d lt e =
     let b : BeginsWith x r = begins_with x r e in
-    let h : total (below_name x routes) ≤ total routes = below_fewer x routes in
+    let h : total (below_name x tails) ≤ total tails = below_fewer x tails in
     let s : left_of (rest_after x r) ≡ names_left b.0 = ap left_of b.1 in
-    let k : total (below_name x (r ∷ routes)) ≡ left_of (rest_after x r) + total (below_name x routes) =
-    total_cons (rest_after x r) (below_name x routes) in
+    let k : total (below_name x (r ∷ tails)) ≡ left_of (rest_after x r) + total (below_name x tails) =
+    total_cons (rest_after x r) (below_name x tails) in
     omega (arith, h, k, s, b.2)
-below_less x (r ∷ routes) (suc k) d lt e =
-    let h : total (below_name x routes) < total routes = below_less x routes k d (omega (arith, lt)) e in
-    let s : total (below_name x (r ∷ routes)) ≡ left_of (rest_after x r) + total (below_name x routes) =
-    total_cons (rest_after x r) (below_name x routes) in
+below_less x (r ∷ tails) (suc k) d lt e =
+    let h : total (below_name x tails) < total tails = below_less x tails k d (omega (arith, lt)) e in
+    let s : total (below_name x (r ∷ tails)) ≡ left_of (rest_after x r) + total (below_name x tails) =
+    total_cons (rest_after x r) (below_name x tails) in
     omega (arith, h, s, after_fewer x r)
 
-cons_some : (o : Option Route) (r : Route) (routes : List Route) → o ≡ Some r
-    → ¬ (cons_option o routes ≡ [])
-cons_some None r routes e h = absurd (let g : None ≡ Some r = e in cc)
-cons_some (Some q) r routes e h = absurd (let g : q ∷ routes ≡ [] = h in cc)
+cons_some : (o : Option PathTail) (r : PathTail) (tails : List PathTail) → o ≡ Some r
+    → ¬ (cons_option o tails ≡ [])
+cons_some None r tails e h = absurd (let g : None ≡ Some r = e in cc)
+cons_some (Some q) r tails e h = absurd (let g : q ∷ tails ≡ [] = h in cc)
 
-cons_later : (o : Option Route) (routes : List Route) → ¬ (routes ≡ []) → ¬ (cons_option o routes ≡ [])
-cons_later None routes some h = some h
-cons_later (Some q) routes some h = absurd (let g : q ∷ routes ≡ [] = h in cc)
+cons_later : (o : Option PathTail) (tails : List PathTail) → ¬ (tails ≡ []) → ¬ (cons_option o tails ≡ [])
+cons_later None tails some h = some h
+cons_later (Some q) tails some h = absurd (let g : q ∷ tails ≡ [] = h in cc)
 
 -- something is left below the first name of one of them
-pub below_some : (x : List ℕ) (routes : List Route) (k : ℕ) (d : Route) → k < length routes
-    → first_name (get_or routes k d) ≡ Some x → ¬ (below_name x routes ≡ [])
+pub below_some : (x : List ℕ) (tails : List PathTail) (k : ℕ) (d : PathTail) → k < length tails
+    → first_name (get_or tails k d) ≡ Some x → ¬ (below_name x tails ≡ [])
 below_some x [] k d lt e = absurd (omega (arith, lt))
-below_some x (r ∷ routes) zero d lt e =
-    let b : BeginsWith x r = begins_with x r e in cons_some (rest_after x r) b.0 (below_name x routes) b.1
-below_some x (r ∷ routes) (suc k) d lt e =
-    cons_later (rest_after x r) (below_name x routes) (below_some x routes k d (omega (arith, lt)) e)
+below_some x (r ∷ tails) zero d lt e =
+    let b : BeginsWith x r = begins_with x r e in cons_some (rest_after x r) b.0 (below_name x tails) b.1
+below_some x (r ∷ tails) (suc k) d lt e =
+    cons_later (rest_after x r) (below_name x tails) (below_some x tails k d (omega (arith, lt)) e)
 
--- ---- the names with which routes begin
+-- ---- the names with which tails begin
 
 added_holds : (names : List (List ℕ)) (x : List ℕ) → holds_name x (added names x) ≡ true
 added_holds names x =
@@ -143,17 +143,17 @@ kept x [] names h = h
 kept x (y ∷ more) names h = kept x more (added names y) (kept_added x names y h)
 
 -- with a name that is not among them none begins
-absent : (x : List ℕ) (routes : List Route) (names : List (List ℕ))
-    → holds_name x (with_new names (filter_map first_name routes)) ≡ false → below_name x routes ≡ []
+absent : (x : List ℕ) (tails : List PathTail) (names : List (List ℕ))
+    → holds_name x (with_new names (filter_map first_name tails)) ≡ false → below_name x tails ≡ []
 absent x [] names h = refl
-absent x (route [] f ∷ routes) names h = absent x routes names h
-absent x (route (y ∷ rest) f ∷ routes) names h =
-    let later : below_name x routes ≡ [] = absent x routes (added names y) h in
+absent x (tail [] f ∷ tails) names h = absent x tails names h
+absent x (tail (y ∷ rest) f ∷ tails) names h =
+    let later : below_name x tails ≡ [] = absent x tails (added names y) h in
     elim (bytes_eq y x) as
-    (λ b. bytes_eq y x ≡ b → cons_option (cond b (Some (route rest f)) None) (below_name x routes) ≡ []) [
+    (λ b. bytes_eq y x ≡ b → cons_option (cond b (Some (tail rest f)) None) (below_name x tails) ≡ []) [
       | true ↦ λ e. absurd
           (false≢true
-          (sym h ∙ kept x (filter_map first_name routes) (added names y)
+          (sym h ∙ kept x (filter_map first_name tails) (added names y)
           (subst (λ z. holds_name z (added names y) ≡ true) ((bytes_eq-Decides y x).0 e)
           (added_holds names y))))
       | false ↦ λ e. later
@@ -193,13 +193,13 @@ option_step : (names : List (List ℕ)) (o : Option (List ℕ)) (more : List (Li
 option_step names None more = refl
 option_step names (Some x) more = refl
 
-names_step : (names : List (List ℕ)) (routes : List Route) (k : ℕ) (r : Route) → k < length routes
-    → r ≡ get_or routes k r → with_new names (filter_map first_name (drop k routes)) ≡ with_new
-    (with_option names (first_name r)) (filter_map first_name (drop (k + 1) routes))
-names_step names routes k r lt is =
-    at_drop_more (λ l. with_new names (filter_map first_name l)) routes k r lt
-    ∙ ap (λ q. with_new names (filter_map first_name (q ∷ drop (k + 1) routes))) (sym is)
-    ∙ option_step names (first_name r) (filter_map first_name (drop (k + 1) routes))
+names_step : (names : List (List ℕ)) (tails : List PathTail) (k : ℕ) (r : PathTail) → k < length tails
+    → r ≡ get_or tails k r → with_new names (filter_map first_name (drop k tails)) ≡ with_new
+    (with_option names (first_name r)) (filter_map first_name (drop (k + 1) tails))
+names_step names tails k r lt is =
+    at_drop_more (λ l. with_new names (filter_map first_name l)) tails k r lt
+    ∙ ap (λ q. with_new names (filter_map first_name (q ∷ drop (k + 1) tails))) (sym is)
+    ∙ option_step names (first_name r) (filter_map first_name (drop (k + 1) tails))
 
 not_new : (o : Option (List ℕ)) (names : List (List ℕ)) → None ≡ new_name names o
     → with_option names o ≡ names
@@ -211,7 +211,7 @@ not_new (Some x) names e =
       | false ↦ λ g. absurd (let f : None ≡ Some x = g in cc)
     ] e
 
--- a name that is new is the first of its route, and not among the others
+-- a name that is new is the first of its tail, and not among the others
 abbrev pub IsNewOf : List (List ℕ) → Option (List ℕ) → List ℕ → Type 0
 IsNewOf names o x = (o ≡ Some x) × (holds_name x names ≡ false)
 
@@ -226,35 +226,35 @@ new_of (Some y) names x e =
           (ap Some (sym same), subst (λ z. holds_name z names ≡ false) (sym same) h)
     ] refl e
 
--- a route whose first name is not new adds none
-pub names_same : (names : List (List ℕ)) (routes : List Route) (k : ℕ) (r : Route) → k < length routes
-    → r ≡ get_or routes k r → None ≡ new_name names (first_name r) → with_new names
-    (filter_map first_name (drop k routes)) ≡ with_new names (filter_map first_name (drop (k + 1) routes))
-names_same names routes k r lt is e =
-    names_step names routes k r lt is ∙ ap
-    (λ l. with_new l (filter_map first_name (drop (k + 1) routes))) (not_new (first_name r) names e)
+-- a tail whose first name is not new adds none
+pub names_same : (names : List (List ℕ)) (tails : List PathTail) (k : ℕ) (r : PathTail) → k < length tails
+    → r ≡ get_or tails k r → None ≡ new_name names (first_name r) → with_new names
+    (filter_map first_name (drop k tails)) ≡ with_new names (filter_map first_name (drop (k + 1) tails))
+names_same names tails k r lt is e =
+    names_step names tails k r lt is ∙ ap
+    (λ l. with_new l (filter_map first_name (drop (k + 1) tails))) (not_new (first_name r) names e)
 
 -- and one whose first name is new adds that
-pub names_grown : (names more : List (List ℕ)) (routes : List Route) (k : ℕ) (r : Route) (x : List ℕ)
-    → k < length routes → r ≡ get_or routes k r → IsNewOf names (first_name r) x → more ≡ names ++ x ∷ []
-    → with_new names (filter_map first_name (drop k routes)) ≡ with_new more
-    (filter_map first_name (drop (k + 1) routes))
-names_grown names more routes k r x lt is new e =
-    names_step names routes k r lt is
-    ∙ ap (λ o. with_new (with_option names o) (filter_map first_name (drop (k + 1) routes))) new.0
-    ∙ ap (λ b. with_new (cond b names (names ++ x ∷ [])) (filter_map first_name (drop (k + 1) routes))) new.1
-    ∙ ap (λ l. with_new l (filter_map first_name (drop (k + 1) routes))) (sym e)
+pub names_grown : (names more : List (List ℕ)) (tails : List PathTail) (k : ℕ) (r : PathTail) (x : List ℕ)
+    → k < length tails → r ≡ get_or tails k r → IsNewOf names (first_name r) x → more ≡ names ++ x ∷ []
+    → with_new names (filter_map first_name (drop k tails)) ≡ with_new more
+    (filter_map first_name (drop (k + 1) tails))
+names_grown names more tails k r x lt is new e =
+    names_step names tails k r lt is
+    ∙ ap (λ o. with_new (with_option names o) (filter_map first_name (drop (k + 1) tails))) new.0
+    ∙ ap (λ b. with_new (cond b names (names ++ x ∷ [])) (filter_map first_name (drop (k + 1) tails))) new.1
+    ∙ ap (λ l. with_new l (filter_map first_name (drop (k + 1) tails))) (sym e)
 
 -- at the end all are there
-pub names_all : (names whole : List (List ℕ)) (routes : List Route) (k : ℕ) → length routes ≤ k
-    → with_new names (filter_map first_name (drop k routes)) ≡ whole → names ≡ whole
-names_all names whole routes k le e =
-    sym (at_drop_all (λ l. with_new names (filter_map first_name l)) routes k le) ∙ e
+pub names_all : (names whole : List (List ℕ)) (tails : List PathTail) (k : ℕ) → length tails ≤ k
+    → with_new names (filter_map first_name (drop k tails)) ≡ whole → names ≡ whole
+names_all names whole tails k le e =
+    sym (at_drop_all (λ l. with_new names (filter_map first_name l)) tails k le) ∙ e
 
-pub first_of : (r : Route) (names rest : List (Bor (List ℕ))) (x : Bor (List ℕ)) (f : Bool)
-    → route (map (λ y. y.now) names) f ≡ r → names ≡ x ∷ rest → first_name r ≡ Some x.now
+pub first_of : (r : PathTail) (names rest : List (Bor (List ℕ))) (x : Bor (List ℕ)) (f : Bool)
+    → tail (map (λ y. y.now) names) f ≡ r → names ≡ x ∷ rest → first_name r ≡ Some x.now
 first_of r names rest x f e h =
-    sym (ap first_name e) ∙ ap (λ (l : List (Bor (List ℕ))). first_name (route (map (λ y. y.now) l) f)) h
+    sym (ap first_name e) ∙ ap (λ (l : List (Bor (List ℕ))). first_name (tail (map (λ y. y.now) l) f)) h
 
 pub name_taken : (names : List (List ℕ)) (o : Option (List ℕ)) (x : List ℕ) → o ≡ Some x
     → holds_name x names ≡ true → None ≡ new_name names o
@@ -272,31 +272,31 @@ rests_none : (names : List (List ℕ)) → rests names [] ≡ []
 rests_none [] = refl
 rests_none (x ∷ names) = rests_none names
 
-stands_none : (routes : List Route) (s : Shown) → routes ≡ [] → s ≡ missing → StandsBy routes s
-stands_none routes s e h = subst (λ l. StandsBy l s) (sym e) h
+stands_none : (tails : List PathTail) (s : Shown) → tails ≡ [] → s ≡ missing → StandsBy tails s
+stands_none tails s e h = subst (λ l. StandsBy l s) (sym e) h
 
-below_ended : (x : List ℕ) (routes : List Route) → list_any leads_on routes ≡ false → below_name x routes ≡ []
+below_ended : (x : List ℕ) (tails : List PathTail) → list_any leads_on tails ≡ false → below_name x tails ≡ []
 below_ended x [] h = refl
-below_ended x (route [] f ∷ routes) h = below_ended x routes (or_parts f (list_any leads_on routes) h).1
-below_ended x (route (y ∷ rest) f ∷ routes) h = absurd (false≢true (sym h))
+below_ended x (tail [] f ∷ tails) h = below_ended x tails (or_parts f (list_any leads_on tails) h).1
+below_ended x (tail (y ∷ rest) f ∷ tails) h = absurd (false≢true (sym h))
 
 out_file : out-Node N.File ≡ O.File
 out_file = search (rules, the_lemmas)
 
-file_stands : (routes : List Route) → ¬ (routes ≡ []) → list_any leads_on routes ≡ false → StandsBy routes
+file_stands : (tails : List PathTail) → ¬ (tails ≡ []) → list_any leads_on tails ≡ false → StandsBy tails
     (shown_of N.File)
 file_stands [] some h = absurd (some refl)
-file_stands (r ∷ routes) some h =
-    let P : Bool → Type 0 = λ b. MatchBool b (HoldsBy (r ∷ routes) (shown_of N.File))
+file_stands (r ∷ tails) some h =
+    let P : Bool → Type 0 = λ b. MatchBool b (HoldsBy (r ∷ tails) (shown_of N.File))
     (shown_of N.File ≡ a_leaf false) in
     subst P (sym h) (shown_layer N.File ∙ ap layer_shown out_file)
 
-pub file_grows : (routes : List Route) → ¬ (routes ≡ []) → list_any leads_on routes ≡ false
-    → Grows routes N.File
-file_grows routes some h [] = file_stands routes some h
-file_grows routes some h (x ∷ names) =
-    stands_none (rests names (below_name x routes)) (shown_reached (reached (x ∷ names) N.File))
-    (ap (rests names) (below_ended x routes h) ∙ rests_none names)
+pub file_grows : (tails : List PathTail) → ¬ (tails ≡ []) → list_any leads_on tails ≡ false
+    → Grows tails N.File
+file_grows tails some h [] = file_stands tails some h
+file_grows tails some h (x ∷ names) =
+    stands_none (rests names (below_name x tails)) (shown_reached (reached (x ∷ names) N.File))
+    (ap (rests names) (below_ended x tails h) ∙ rests_none names)
     (ap (λ k. shown_reached (onward (reached names) (below_layer x k))) out_file)
 
 pub file_distinct : HasDistinctNames N.File
@@ -304,30 +304,30 @@ file_distinct = leaf_distinct N.File (ap held_layer out_file)
 
 -- ---- the items of a folder
 
-abbrev pub GrownLayer : List Route → TreeItem-F Node TreeItem → Type 0
-GrownLayer routes (O.Entry name n) = ¬ (below_name (string_bytes name) routes ≡ []) × Grows
-    (below_name (string_bytes name) routes) n × HasDistinctNames n
-GrownLayer routes O.Failed = ⊥
-GrownLayer routes O.NotText = ⊥
+abbrev pub GrownLayer : List PathTail → TreeItem-F Node TreeItem → Type 0
+GrownLayer tails (O.Entry name n) = ¬ (below_name (string_bytes name) tails ≡ []) × Grows
+    (below_name (string_bytes name) tails) n × HasDistinctNames n
+GrownLayer tails O.Failed = ⊥
+GrownLayer tails O.NotText = ⊥
 
-abbrev pub AreGrown : List Route → List TreeItem → Type 0
-AreGrown routes [] = Unit {0}
-AreGrown routes (i ∷ items) = GrownLayer routes (out-TreeItem i) × AreGrown routes items
+abbrev pub AreGrown : List PathTail → List TreeItem → Type 0
+AreGrown tails [] = Unit {0}
+AreGrown tails (i ∷ items) = GrownLayer tails (out-TreeItem i) × AreGrown tails items
 
-grown_push : (routes : List Route) (items : List TreeItem) (i : TreeItem) → AreGrown routes items
-    → GrownLayer routes (out-TreeItem i) → AreGrown routes (items ++ i ∷ [])
-grown_push routes [] i g h = (h, tt)
-grown_push routes (j ∷ items) i g h = (g.0, grown_push routes items i g.1 h)
+grown_push : (tails : List PathTail) (items : List TreeItem) (i : TreeItem) → AreGrown tails items
+    → GrownLayer tails (out-TreeItem i) → AreGrown tails (items ++ i ∷ [])
+grown_push tails [] i g h = (h, tt)
+grown_push tails (j ∷ items) i g h = (g.0, grown_push tails items i g.1 h)
 
-pub entry_grown : (routes : List Route) (items more : List TreeItem) (name : _) (n : Node) (x : List ℕ)
-    → more ≡ items ++ Entry name n ∷ [] → string_bytes name ≡ x → AreGrown routes items
-    → ¬ (below_name x routes ≡ []) → Grows (below_name x routes) n → HasDistinctNames n → AreGrown routes more
-entry_grown routes items more name n x is e g some grows distinct =
-    let P : List ℕ → Type 0 = λ y. ¬ (below_name y routes ≡ []) × Grows (below_name y routes) n ×
+pub entry_grown : (tails : List PathTail) (items more : List TreeItem) (name : _) (n : Node) (x : List ℕ)
+    → more ≡ items ++ Entry name n ∷ [] → string_bytes name ≡ x → AreGrown tails items
+    → ¬ (below_name x tails ≡ []) → Grows (below_name x tails) n → HasDistinctNames n → AreGrown tails more
+entry_grown tails items more name n x is e g some grows distinct =
+    let P : List ℕ → Type 0 = λ y. ¬ (below_name y tails ≡ []) × Grows (below_name y tails) n ×
     HasDistinctNames n in
-    let layer : GrownLayer routes (O.Entry name n) = subst P (sym e) (some, grows, distinct) in
-    subst (AreGrown routes) (sym is)
-    (grown_push routes items (Entry name n) g (subst (GrownLayer routes) (sym (out_entry name n)) layer))
+    let layer : GrownLayer tails (O.Entry name n) = subst P (sym e) (some, grows, distinct) in
+    subst (AreGrown tails) (sym is)
+    (grown_push tails items (Entry name n) g (subst (GrownLayer tails) (sym (out_entry name n)) layer))
 
 pub entry_named : (items more : List TreeItem) (name : _) (n : Node) (x : List ℕ)
     → more ≡ items ++ Entry name n ∷ [] → string_bytes name ≡ x → names_of more ≡ names_of items ++ x ∷ []
@@ -348,12 +348,12 @@ listed_file y rest = elim (is_plain y) as
     (λ b. listing (cond b (with_plain y (a_leaf false) rest) (misnamed y (kind_of (a_leaf false)) rest)) ≡
     named y File ∷ listing rest) [ true ↦ refl | false ↦ refl ]
 
-listed_entry : (y : List ℕ) (routes : List Route) (s : Shown) (rest : Items) → ¬ (routes ≡ [])
-    → StandsBy routes s → listing (with_entry y s rest) ≡ named y (kind_by routes) ∷ listing rest
+listed_entry : (y : List ℕ) (tails : List PathTail) (s : Shown) (rest : Items) → ¬ (tails ≡ [])
+    → StandsBy tails s → listing (with_entry y s rest) ≡ named y (kind_by tails) ∷ listing rest
 listed_entry y [] s rest some h = absurd (some refl)
-listed_entry y (r ∷ routes) s rest some h =
-    elim (list_any leads_on (r ∷ routes)) as
-    (λ b. MatchBool b (HoldsBy (r ∷ routes) s) (s ≡ a_leaf false)
+listed_entry y (r ∷ tails) s rest some h =
+    elim (list_any leads_on (r ∷ tails)) as
+    (λ b. MatchBool b (HoldsBy (r ∷ tails) s) (s ≡ a_leaf false)
     → listing (with_entry y s rest) ≡ named y (cond b Folder File) ∷ listing rest) [
       | true ↦ λ g. subst (λ v. listing (with_entry y v rest) ≡ named y Folder ∷ listing rest) (sym g.1)
           (listed_folder y g.0 rest)
@@ -361,126 +361,126 @@ listed_entry y (r ∷ routes) s rest some h =
           (listed_file y rest)
     ] h
 
-abbrev listed_by : List Route → List ℕ → Listed
-listed_by routes x = named x (kind_by (below_name x routes))
+abbrev listed_by : List PathTail → List ℕ → Listed
+listed_by tails x = named x (kind_by (below_name x tails))
 
-listed_first : (routes : List Route) (k : TreeItem-F Node TreeItem) (rest : Items) (names : List (List ℕ))
-    → GrownLayer routes k → listing rest ≡ map (listed_by routes) names
-    → listing (item_layer_shown k rest) ≡ map (listed_by routes) (name_before k names)
-listed_first routes (O.Entry name n) rest names g h =
-    listed_entry (string_bytes name) (below_name (string_bytes name) routes) (shown_of n) rest g.0 (g.1 [])
-    ∙ ap (λ l. listed_by routes (string_bytes name) ∷ l) h
-listed_first routes O.Failed rest names g h = absurd g
-listed_first routes O.NotText rest names g h = absurd g
+listed_first : (tails : List PathTail) (k : TreeItem-F Node TreeItem) (rest : Items) (names : List (List ℕ))
+    → GrownLayer tails k → listing rest ≡ map (listed_by tails) names
+    → listing (item_layer_shown k rest) ≡ map (listed_by tails) (name_before k names)
+listed_first tails (O.Entry name n) rest names g h =
+    listed_entry (string_bytes name) (below_name (string_bytes name) tails) (shown_of n) rest g.0 (g.1 [])
+    ∙ ap (λ l. listed_by tails (string_bytes name) ∷ l) h
+listed_first tails O.Failed rest names g h = absurd g
+listed_first tails O.NotText rest names g h = absurd g
 
-listed_items : (routes : List Route) (items : List TreeItem) → AreGrown routes items
-    → listing (items_shown items) ≡ map (listed_by routes) (names_of items)
-listed_items routes [] g = refl
-listed_items routes (i ∷ items) g =
+listed_items : (tails : List PathTail) (items : List TreeItem) → AreGrown tails items
+    → listing (items_shown items) ≡ map (listed_by tails) (names_of items)
+listed_items tails [] g = refl
+listed_items tails (i ∷ items) g =
     ap (λ (f : Items → Items). listing (f (items_shown items))) (item_layer i)
-    ∙ listed_first routes (out-TreeItem i) (items_shown items) (names_of items) g.0
-    (listed_items routes items g.1)
+    ∙ listed_first tails (out-TreeItem i) (items_shown items) (names_of items) g.0
+    (listed_items tails items g.1)
 
 -- a name among the items leads to what was made of what is left, and any other to nothing
-abbrev FoundBy : List ℕ → List Route → Reached → List (List ℕ) → Type 0
-FoundBy x routes r names = ((n : Node) × (r ≡ to_node n) × Grows (below_name x routes) n) ⊎
+abbrev FoundBy : List ℕ → List PathTail → Reached → List (List ℕ) → Type 0
+FoundBy x tails r names = ((n : Node) × (r ≡ to_node n) × Grows (below_name x tails) n) ⊎
     ((r ≡ to_nothing) × (holds_name x names ≡ false))
 
-found_layer : (x : List ℕ) (routes : List Route) (k : TreeItem-F Node TreeItem) (r : Reached)
-    (names : List (List ℕ)) → GrownLayer routes k → FoundBy x routes r names
-    → FoundBy x routes (named_before x k r) (name_before k names)
-found_layer x routes (O.Entry name n) r names g h =
+found_layer : (x : List ℕ) (tails : List PathTail) (k : TreeItem-F Node TreeItem) (r : Reached)
+    (names : List (List ℕ)) → GrownLayer tails k → FoundBy x tails r names
+    → FoundBy x tails (named_before x k r) (name_before k names)
+found_layer x tails (O.Entry name n) r names g h =
     elim (bytes_eq (string_bytes name) x) as
     (λ b. bytes_eq (string_bytes name) x ≡ b
-    → ((m : Node) × (cond b (to_node n) r ≡ to_node m) × Grows (below_name x routes) m) ⊎
+    → ((m : Node) × (cond b (to_node n) r ≡ to_node m) × Grows (below_name x tails) m) ⊎
     ((cond b (to_node n) r ≡ to_nothing) × ((b || holds_name x names) ≡ false))) [
       | true ↦ λ e. inl (
         n,
         refl,
-        subst (λ y. Grows (below_name y routes) n)
+        subst (λ y. Grows (below_name y tails) n)
             ((bytes_eq-Decides (string_bytes name) x).0 e) g.1,
       )
       | false ↦ λ e. h
     ] refl
-found_layer x routes O.Failed r names g h = absurd g
-found_layer x routes O.NotText r names g h = absurd g
+found_layer x tails O.Failed r names g h = absurd g
+found_layer x tails O.NotText r names g h = absurd g
 
-found_items : (x : List ℕ) (routes : List Route) (items : List TreeItem) → AreGrown routes items
-    → FoundBy x routes (named_in x items) (names_of items)
-found_items x routes [] g = inr (refl, refl)
-found_items x routes (i ∷ items) g = found_layer x routes (out-TreeItem i) (named_in x items) (names_of items)
-    g.0 (found_items x routes items g.1)
+found_items : (x : List ℕ) (tails : List PathTail) (items : List TreeItem) → AreGrown tails items
+    → FoundBy x tails (named_in x items) (names_of items)
+found_items x tails [] g = inr (refl, refl)
+found_items x tails (i ∷ items) g = found_layer x tails (out-TreeItem i) (named_in x items) (names_of items)
+    g.0 (found_items x tails items g.1)
 
 -- ---- a folder
 
-stands_folder : (routes : List Route) (s : Shown) (l : Items) → list_any leads_on routes ≡ true
-    → s ≡ a_folder l → listing l ≡ listing_by routes → StandsBy routes s
+stands_folder : (tails : List PathTail) (s : Shown) (l : Items) → list_any leads_on tails ≡ true
+    → s ≡ a_folder l → listing l ≡ listing_by tails → StandsBy tails s
 stands_folder [] s l leads e h = absurd (false≢true leads)
-stands_folder (r ∷ routes) s l leads e h =
-    let P : Bool → Type 0 = λ b. MatchBool b (HoldsBy (r ∷ routes) s) (s ≡ a_leaf false) in
+stands_folder (r ∷ tails) s l leads e h =
+    let P : Bool → Type 0 = λ b. MatchBool b (HoldsBy (r ∷ tails) s) (s ≡ a_leaf false) in
     subst P (sym leads) (l, e, h)
 
-below_stands : (routes : List Route) (x : List ℕ) (more : List (List ℕ)) (items : List TreeItem) (q : Reached)
-    → q ≡ named_in x items → names_of items ≡ names_by routes → AreGrown routes items
-    → StandsBy (rests more (below_name x routes)) (shown_reached (onward (reached more) q))
-below_stands routes x more items q led names g = elim (found_items x routes items g) [
-  | inl f ↦ subst (λ r. StandsBy (rests more (below_name x routes)) (shown_reached (onward (reached more) r)))
+below_stands : (tails : List PathTail) (x : List ℕ) (more : List (List ℕ)) (items : List TreeItem) (q : Reached)
+    → q ≡ named_in x items → names_of items ≡ names_by tails → AreGrown tails items
+    → StandsBy (rests more (below_name x tails)) (shown_reached (onward (reached more) q))
+below_stands tails x more items q led names g = elim (found_items x tails items g) [
+  | inl f ↦ subst (λ r. StandsBy (rests more (below_name x tails)) (shown_reached (onward (reached more) r)))
       (sym (led ∙ f.1)) (f.2 more)
-  | inr f ↦ stands_none (rests more (below_name x routes)) (shown_reached (onward (reached more) q))
-      (ap (rests more) (absent x routes [] (ap (holds_name x) (sym names) ∙ f.1)) ∙ rests_none more)
+  | inr f ↦ stands_none (rests more (below_name x tails)) (shown_reached (onward (reached more) q))
+      (ap (rests more) (absent x tails [] (ap (holds_name x) (sym names) ∙ f.1)) ∙ rests_none more)
       (ap (λ r. shown_reached (onward (reached more) r)) (led ∙ f.0))
 ]
 
-pub folder_grows : (routes : List Route) (n : Node) (items : _) → n ≡ V.Folder items
-    → list_any leads_on routes ≡ true → names_of items.items ≡ names_by routes
-    → AreGrown routes items.items → Grows routes n
-folder_grows routes n items is leads names g [] =
-    stands_folder routes (shown_of n) (items_shown items.items) leads
+pub folder_grows : (tails : List PathTail) (n : Node) (items : _) → n ≡ V.Folder items
+    → list_any leads_on tails ≡ true → names_of items.items ≡ names_by tails
+    → AreGrown tails items.items → Grows tails n
+folder_grows tails n items is leads names g [] =
+    stands_folder tails (shown_of n) (items_shown items.items) leads
     (shown_layer n ∙ ap layer_shown (ap out-Node is ∙ out_folder items))
-    (listed_items routes items.items g ∙ ap (map (listed_by routes)) names)
-folder_grows routes n items is leads names g (x ∷ more) =
-    below_stands routes x more items.items (below_layer x (out-Node n))
+    (listed_items tails items.items g ∙ ap (map (listed_by tails)) names)
+folder_grows tails n items is leads names g (x ∷ more) =
+    below_stands tails x more items.items (below_layer x (out-Node n))
     (ap (below_layer x) (ap out-Node is ∙ out_folder items)) names g
 
-distinct_layer : (routes : List Route) (k : TreeItem-F Node TreeItem) (m : Node) → GrownLayer routes k
+distinct_layer : (tails : List PathTail) (k : TreeItem-F Node TreeItem) (m : Node) → GrownLayer tails k
     → node_layer k ≡ Some m → HasDistinctNames m
-distinct_layer routes (O.Entry name n) m g e =
+distinct_layer tails (O.Entry name n) m g e =
     let f : Some n ≡ Some m = e in let same : n ≡ m = cc in subst HasDistinctNames same g.2
-distinct_layer routes O.Failed m g e = absurd g
-distinct_layer routes O.NotText m g e = absurd g
+distinct_layer tails O.Failed m g e = absurd g
+distinct_layer tails O.NotText m g e = absurd g
 
-distinct_items : (routes : List Route) (items : List TreeItem) (place : ℕ) (m : Node) → AreGrown routes items
+distinct_items : (tails : List PathTail) (items : List TreeItem) (place : ℕ) (m : Node) → AreGrown tails items
     → entry_node (slice_get items place) ≡ Some m → HasDistinctNames m
-distinct_items routes [] place m g e =
+distinct_items tails [] place m g e =
     let lt = entry_within [] place m e in absurd (omega (arith, lt))
-distinct_items routes (i ∷ items) zero m g e = distinct_layer routes (out-TreeItem i) m g.0 e
-distinct_items routes (i ∷ items) (suc place) m g e = distinct_items routes items place m g.1 e
+distinct_items tails (i ∷ items) zero m g e = distinct_layer tails (out-TreeItem i) m g.0 e
+distinct_items tails (i ∷ items) (suc place) m g e = distinct_items tails items place m g.1 e
 
-pub grown_distinct : (routes : List Route) (n : Node) (items : _) → n ≡ V.Folder items
-    → are_distinct (names_of items.items) ≡ true → AreGrown routes items.items → HasDistinctNames n
-grown_distinct routes n items is distinct g = folder_distinct n items.items (folder_held n items is) distinct
-    (λ place m e. distinct_items routes items.items place m g e)
+pub grown_distinct : (tails : List PathTail) (n : Node) (items : _) → n ≡ V.Folder items
+    → are_distinct (names_of items.items) ≡ true → AreGrown tails items.items → HasDistinctNames n
+grown_distinct tails n items is distinct g = folder_distinct n items.items (folder_held n items is) distinct
+    (λ place m e. distinct_items tails items.items place m g e)
 
 -- ---- a tree
 
 pub planted_stands : (working root : Node) (path : List ℕ) (texts : List (List ℕ))
-    → Grows (routes_from false texts) working → Grows (routes_from true texts) root
-    → StandsBy (routes_to path texts) (shown_in working root path)
+    → Grows (tails_from false texts) working → Grows (tails_from true texts) root
+    → StandsBy (tails_to path texts) (shown_in working root path)
 planted_stands working root path texts lower upper =
     elim (is_rooted path) as
-    (λ b. StandsBy (rests (names_in_path path) (routes_from b texts))
+    (λ b. StandsBy (rests (names_in_path path) (tails_from b texts))
     (shown_reached (reached (names_in_path path) (if b then root else working)))) [
       | true ↦ upper (names_in_path path)
       | false ↦ lower (names_in_path path)
     ]
 
 pub tree_stands : (t : Tree) (working root : Node) (texts : List (List ℕ)) (path : List ℕ)
-    → t.working ≡ working → t.root ≡ root → Grows (routes_from false texts) working
-    → Grows (routes_from true texts) root → HasDistinctNames working → HasDistinctNames root
-    → (s : Shown) × tree_shows t path s × StandsBy (routes_to path texts) s
+    → t.working ≡ working → t.root ≡ root → Grows (tails_from false texts) working
+    → Grows (tails_from true texts) root → HasDistinctNames working → HasDistinctNames root
+    → (s : Shown) × tree_shows t path s × StandsBy (tails_to path texts) s
 tree_stands t working root texts path w r lower upper one two = (
   shown_in t.working t.root path,
   (subst HasDistinctNames (sym w) one, subst HasDistinctNames (sym r) two, refl),
-  planted_stands t.working t.root path texts (subst (Grows (routes_from false texts)) (sym w) lower)
-      (subst (Grows (routes_from true texts)) (sym r) upper),
+  planted_stands t.working t.root path texts (subst (Grows (tails_from false texts)) (sym w) lower)
+      (subst (Grows (tails_from true texts)) (sym r) upper),
 )

@@ -6,7 +6,7 @@ pub mod Calls
 pub mod Listing
 pub mod Names
 pub mod Nodes
-pub mod Routes
+pub mod PathTails
 pub mod Copies
 pub mod Trees
 pub mod TreeCursors

@@ -340,9 +340,9 @@ abbrev pub FoundLayer : List TreeItem → TreeItem-F Node TreeItem → Type 0
 FoundLayer all (O.Entry name n) = named_in (string_bytes name) all ≡ to_node n
 FoundLayer all k = Unit {0}
 
-abbrev pub Found : List TreeItem → List TreeItem → Type 0
-Found all [] = Unit {0}
-Found all (i ∷ items) = FoundLayer all (out-TreeItem i) × Found all items
+abbrev pub AreFound : List TreeItem → List TreeItem → Type 0
+AreFound all [] = Unit {0}
+AreFound all (i ∷ items) = FoundLayer all (out-TreeItem i) × AreFound all items
 
 -- no later name is that of this item
 abbrev pub ApartLayer : TreeItem-F Node TreeItem → List (List ℕ) → Type 0
@@ -376,7 +376,8 @@ found_step i items a O.Failed names is h f = tt
 found_step i items a O.NotText names is h f = tt
 
 found_later : (i : TreeItem) (items suffix : List TreeItem) (a : TreeItem-F Node TreeItem)
-    → out-TreeItem i ≡ a → ApartLayer a (names_of suffix) → Found items suffix → Found (i ∷ items) suffix
+    → out-TreeItem i ≡ a → ApartLayer a (names_of suffix) → AreFound items suffix
+    → AreFound (i ∷ items) suffix
 found_later i items [] a is h f = tt
 found_later i items (j ∷ suffix) a is h f = (
   found_step i items a (out-TreeItem j) (names_of suffix) is h f.0,
@@ -403,7 +404,7 @@ distinct_parts (O.Entry name n) names h =
 distinct_parts O.Failed names h = (tt, h)
 distinct_parts O.NotText names h = (tt, h)
 
-found_all : (items : List TreeItem) → are_distinct (names_of items) ≡ true → Found items items
+found_all : (items : List TreeItem) → are_distinct (names_of items) ≡ true → AreFound items items
 found_all [] h = tt
 found_all (i ∷ items) h =
     let d : ApartLayer (out-TreeItem i) (names_of items) × (are_distinct (names_of items) ≡ true) =
@@ -440,7 +441,7 @@ module _ (shows : List ℕ → Shown → Type 0) (path : List ℕ) (all : List T
   shows_layer O.Failed rest f later = later
   shows_layer O.NotText rest f later = later
 
-  shows_items : (items : List TreeItem) → Found all items → ShowsIn shows path (items_shown items)
+  shows_items : (items : List TreeItem) → AreFound all items → ShowsIn shows path (items_shown items)
   shows_items [] f = tt
   shows_items (i ∷ items) f =
       let P : (Items → Items) → Type 0 = λ g. ShowsIn shows path (g (items_shown items)) in

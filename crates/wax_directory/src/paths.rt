@@ -4,8 +4,8 @@ ghost use Rattle.std.specs.Prelude.{◌≡◌, ℕ, [], List, map, option_map, I
 ghost use Rattle.std.specs.List.{list_any};
 ghost use Rattle.wax_directory.specs.Counting.{no_counts};
 ghost use Rattle.wax_directory.specs.Nodes.{names_of, HasDistinctNames};
-ghost use Rattle.wax_directory.specs.Routes.{below_name, first_name, leads_on, rest_after, routes_from};
-ghost use Rattle.wax_directory.specs.Routes.{routes_to, starts_at, StandsBy};
+ghost use Rattle.wax_directory.specs.PathTails.{below_name, first_name, leads_on, rest_after, tails_from};
+ghost use Rattle.wax_directory.specs.PathTails.{tails_to, starts_at, StandsBy};
 ghost use Rattle.wax_directory.specs.Shown.{Shown, is_open};
 ghost use Rattle.wax_directory.specs.Trees.{tree_law};
 ghost use Rattle.wax_directory.specs.inner.Growing.{new_name, Grows};
@@ -32,7 +32,7 @@ impl Tree {
     /// Returns `NoMemory` if allocation fails.
     pub fn from_paths(alloc: Global, paths: &[&str]) -> Result<Tree, NoMemory>
         ensures shows { IfOk result (λ t. (path : List ℕ) → (s : Shown) × tree_law.shows t path s
-            × StandsBy (routes_to path (map (λ x. x.now) paths.now)) s) }
+            × StandsBy (tails_to path (map (λ x. x.now) paths.now)) s) }
         ensures untold { IfOk result (λ t. tree_law.tells t [] × (tree_law.tally t ≡ no_counts)) }
     {
         let working = planted(alloc, paths, false)?;
@@ -43,21 +43,21 @@ impl Tree {
 
 // What remains of a path below some folder. Contracts see the names and whether it is a folder's.
 #[derive(Drop)]
-struct Route<'a> {
+struct PathTail<'a> {
     names: &'a [&'a str],
     is_folder: bool,
 }
 
-impl<'a> Model for Route<'a> {
+impl<'a> Model for PathTail<'a> {
     ghost use Rattle.std.specs.Prelude.{map};
-    ghost use Rattle.wax_directory.specs.Routes.{Route as RouteValue, route};
+    ghost use Rattle.wax_directory.specs.PathTails.{PathTail as TailValue, tail};
 
-    ghost Value = { RouteValue };
+    ghost Value = { TailValue };
 
-    ghost view = { λ r. route (map (λ x. x.now) r.names.now) r.is_folder };
+    ghost view = { λ r. tail (map (λ x. x.now) r.names.now) r.is_folder };
 }
 
-impl<'a> Route<'a> {
+impl<'a> PathTail<'a> {
     // Returns whether it leads to a folder, or into one.
     fn leads_on(&self) -> bool
         ensures { result ≡ leads_on self.now }
@@ -76,22 +76,22 @@ impl<'a> Route<'a> {
         Some(name)
     }
 
-    // Returns what remains after this name, if the route begins with it.
-    fn after(&self, name: &str) -> Option<Route<'a>>
+    // Returns what remains after this name, if the tail begins with it.
+    fn after(&self, name: &str) -> Option<PathTail<'a>>
         ensures { result ≡ rest_after name.now self.now }
     {
         let (first, names) = self.names.split_first()?;
         if *first != name {
             return None;
         }
-        Some(Route {
+        Some(PathTail {
             names,
             is_folder: self.is_folder,
         })
     }
 }
 
-// A path of the list, split into its names. Contracts see it as a route.
+// A path of the list, split into its names. Contracts see it as a tail.
 #[derive(Drop)]
 struct GivenPath<'a> {
     names: Vec<&'a str>,
@@ -100,18 +100,18 @@ struct GivenPath<'a> {
 
 impl<'a> Model for GivenPath<'a> {
     ghost use Rattle.std.specs.Prelude.{map};
-    ghost use Rattle.wax_directory.specs.Routes.{Route as RouteValue, route};
+    ghost use Rattle.wax_directory.specs.PathTails.{PathTail as TailValue, tail};
 
-    ghost Value = { RouteValue };
+    ghost Value = { TailValue };
 
-    ghost view = { λ p. route (map (λ x. x.now) p.names.items) p.is_folder };
+    ghost view = { λ p. tail (map (λ x. x.now) p.names.items) p.is_folder };
 }
 
 impl<'a> GivenPath<'a> {
-    fn route(&self) -> Route<'_>
+    fn tail(&self) -> PathTail<'_>
         ensures { result ≡ self.now }
     {
-        Route {
+        PathTail {
             names: self.names.as_slice(),
             is_folder: self.is_folder,
         }
@@ -133,38 +133,38 @@ fn is_taken_from(text: &str, at_root: bool) -> bool
     begins_at_root(text) == at_root
 }
 
-fn lead_on(routes: &[Route<'_>]) -> bool
-    ensures { result ≡ list_any leads_on routes.now }
+fn lead_on(tails: &[PathTail<'_>]) -> bool
+    ensures { result ≡ list_any leads_on tails.now }
 {
-    routes.iter().any(|route| route.leads_on())
+    tails.iter().any(|tail| tail.leads_on())
 }
 
-fn routes_below<'a>(
+fn tails_below<'a>(
     alloc: Global,
-    routes: &[Route<'a>],
+    tails: &[PathTail<'a>],
     name: &str,
-) -> Result<Vec<Route<'a>>, AllocError>
-    ensures { IfOk result (λ v. v.items ≡ below_name name.now routes.now) }
+) -> Result<Vec<PathTail<'a>>, AllocError>
+    ensures { IfOk result (λ v. v.items ≡ below_name name.now tails.now) }
 {
-    routes
+    tails
         .iter()
-        .filter_map(|route| route.after(name))
+        .filter_map(|tail| tail.after(name))
         .collect(alloc)
 }
 
-// Builds what is at the place where the routes begin: a file if none leads on, and otherwise a
+// Builds what is at the place where the tails begin: a file if none leads on, and otherwise a
 // folder with each first name once.
-fn grown(alloc: Global, routes: &[Route<'_>]) -> Result<Node, AllocError>
-    ensures stands { IfOk result (λ n. ¬ (routes.now ≡ []) → Grows routes.now n) }
+fn grown(alloc: Global, tails: &[PathTail<'_>]) -> Result<Node, AllocError>
+    ensures stands { IfOk result (λ n. ¬ (tails.now ≡ []) → Grows tails.now n) }
     ensures distinct { IfOk result (λ n. HasDistinctNames n) }
 {
-    if !lead_on(routes) {
+    if !lead_on(tails) {
         return Ok(Node::File);
     }
     let mut items = Vec::new(alloc);
-    for route in routes {
-        if let Some(name) = route.new_name(items.as_slice()) {
-            let node = grown(alloc, routes_below(alloc, routes, name)?.as_slice())?;
+    for tail in tails {
+        if let Some(name) = tail.new_name(items.as_slice()) {
+            let node = grown(alloc, tails_below(alloc, tails, name)?.as_slice())?;
             items.push(TreeItem::Entry(String::from_str(alloc, name)?, node))?;
         }
     }
@@ -178,7 +178,7 @@ fn given_paths<'a>(
     texts: &[&'a str],
     at_root: bool,
 ) -> Result<Vec<GivenPath<'a>>, AllocError>
-    ensures { IfOk result (λ v. v.items ≡ routes_from at_root (map (λ x. x.now) texts.now)) }
+    ensures { IfOk result (λ v. v.items ≡ tails_from at_root (map (λ x. x.now) texts.now)) }
 {
     let mut paths = Vec::new(alloc);
     paths.push(GivenPath {
@@ -198,10 +198,10 @@ fn given_paths<'a>(
 
 // Builds the root or the working folder.
 fn planted(alloc: Global, texts: &[&str], at_root: bool) -> Result<Node, AllocError>
-    ensures stands { IfOk result (λ n. Grows (routes_from at_root (map (λ x. x.now) texts.now)) n) }
+    ensures stands { IfOk result (λ n. Grows (tails_from at_root (map (λ x. x.now) texts.now)) n) }
     ensures distinct { IfOk result (λ n. HasDistinctNames n) }
 {
     let paths = given_paths(alloc, texts, at_root)?;
-    let routes: Vec<Route<'_>> = paths.iter().map(|path| path.route()).collect(alloc)?;
-    grown(alloc, routes.as_slice())
+    let tails: Vec<PathTail<'_>> = paths.iter().map(|path| path.tail()).collect(alloc)?;
+    grown(alloc, tails.as_slice())
 }

@@ -13,7 +13,7 @@ use Rattle.wax_token.specs.Syntax.{Tree}
 use Rattle.wax_tree.specs.Prefix.{ArePlain}
 use Rattle.wax_exclude.specs.Candidates.{AreNames, base, joined_names, slashed, text_at}
 use Rattle.wax_exclude.specs.Premises.{BeginsWith, BoundsNames, IsUnmeant}
-use Rattle.wax_exclude.specs.Prefix.{HasEmptyName, IsPrefixWay, IsWay}
+use Rattle.wax_exclude.specs.Prefix.{HasEmptyName, PrefixSplitsInto, SplitsInto}
 use Rattle.wax_exclude.proofs.Adjacent.{none_adjacent}
 use Rattle.wax_exclude.proofs.Names.{chars_joined, names_chars}
 use Rattle.wax_exclude.proofs.Texts.{chars_ended, empty_bytes, empty_chars}
@@ -140,11 +140,11 @@ module _ (rooted : Bool) (front names : List (List ℕ)) (are_front : AreNames f
       e ∙ append_assoc (text_at rooted front) (47 ∷ []) q ∙ append_assoc (base rooted) (joined_names front) (47 ∷ q) in
       joined_begin names front (47 ∷ q) are_names are_front (inr (q, refl)) (unbased rooted (joined_names names) (joined_names front ++ 47 ∷ q) f)
 
-pub begins_with : {A : Type 0} (t : Tree A) (n : ℕ) (text : List ℕ) (rooted : Bool) (names : List (List ℕ)) → Full t → Prefix t n (chars text) → IsWay text rooted names → ArePlain names → BeginsWith rooted t (map chars names)
-begins_with t n text rooted names full prefix way plain others are_others meant =
+pub begins_with : {A : Type 0} (t : Tree A) (n : ℕ) (text : List ℕ) (rooted : Bool) (names : List (List ℕ)) → Full t → Prefix t n (chars text) → SplitsInto text rooted names → ArePlain names → BeginsWith rooted t (map chars names)
+begins_with t n text rooted names full prefix parted plain others are_others meant =
     let s : Seam (chars text) (text_at rooted others) = prefix_seam t n (chars text) (text_at rooted others) full prefix meant in
     let are_names = names_chars names plain in
-    elim way.whole [
+    elim parted.whole [
       | inl e ↦ (
           let w : chars text ≡ text_at rooted (map chars names) = ap chars e ∙ chars_joined rooted names plain in
           whole_begin rooted (map chars names) others are_names are_others s.0 (s.1 ∙ ap (λ v. v ++ s.0) w) (subst (λ v. IsSeam v s.0) w s.2))
@@ -163,13 +163,13 @@ none_meant t n text full u prefix empty rooted names are_names meant =
 
 -- ---- what is told of a prefix
 
-pub told_names : (text p : List ℕ) (rooted : Bool) (names : List (List ℕ)) → IsUtf8 text → p ≡ chars text → ¬ (HasEmptyName text) × IsWay text rooted names → IsPrefixWay p rooted names
+pub told_names : (text p : List ℕ) (rooted : Bool) (names : List (List ℕ)) → IsUtf8 text → p ≡ chars text → ¬ (HasEmptyName text) × SplitsInto text rooted names → PrefixSplitsInto p rooted names
 told_names text p rooted names u e k = record {
   text = text;
   encoded = u;
   characters = sym e;
   unbroken = λ h. k.0 (empty_bytes text u (subst HasEmptyName e h));
-  way = k.1;
+  split = k.1;
 }
 
 pub if_ok_map : {T E : Type 0} (r : Result T E) {P Q : T → Type 0} → ((t : T) → P t → Q t) → IfOk r P → IfOk r Q

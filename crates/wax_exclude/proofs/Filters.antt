@@ -11,8 +11,8 @@ use Rattle.wax_exclude.specs.Ignored.{is_ignored}
 use Rattle.wax_exclude.specs.inner.Descents.{Descends}
 use Rattle.wax_exclude.specs.inner.Stacks.{keeps, all_keep}
 use Rattle.wax_exclude.specs.Marks.{covered_mark}
-use Rattle.wax_exclude.specs.Walked.{LeavesOutBelow}
-use Rattle.wax_exclude.specs.Wanted.{Filter, not_meant, not_ignored, leaves_out, none_leaves_out, filter_mark}
+use Rattle.wax_exclude.specs.Walked.{ExcludesBelow}
+use Rattle.wax_exclude.specs.Wanted.{Filter, not_meant, not_ignored, excludes, none_excludes, filter_mark}
 use Rattle.wax_exclude.specs.Wanted.{filter_rules}
 
 module _ {A : Type 0} where
@@ -21,19 +21,19 @@ module _ {A : Type 0} where
   filter_descends rooted (not_ignored lines) = ignore_descends rooted lines
 
   -- a filter keeps exactly what it doesn't leave out
-  filter_keeps : (x : Filter A) (c : Candidate) → keeps (filter_mark x c) ≡ not (leaves_out x c.text)
+  filter_keeps : (x : Filter A) (c : Candidate) → keeps (filter_mark x c) ≡ not (excludes x c.text)
   filter_keeps (not_meant t) c = not_keeps t c
   filter_keeps (not_ignored lines) c = ignore_keeps lines c
 
   pub filters_keep : (filters : List (Filter A)) (f : Facts)
-      → all_keep (filter_rules filters) f ≡ none_leaves_out filters (chars f.candidate)
+      → all_keep (filter_rules filters) f ≡ none_excludes filters (chars f.candidate)
   filters_keep [] f = refl
   filters_keep (x ∷ filters) f =
       ap (λ b. b && all_keep (filter_rules filters) f) (filter_keeps x (candidate_of f))
-      ∙ ap (λ b. not (leaves_out x (chars f.candidate)) && b) (filters_keep filters f)
+      ∙ ap (λ b. not (excludes x (chars f.candidate)) && b) (filters_keep filters f)
 
   -- what is left out with all that lies below it is said to be so
-  pub below_said : (x : Filter A) (c : Candidate) → LeavesOutBelow x c → filter_mark x c ≡ with_tree
+  pub below_said : (x : Filter A) (c : Candidate) → ExcludesBelow x c → filter_mark x c ≡ with_tree
   below_said (not_meant t) c h =
       ap (λ b. covered_mark b (means_test t false false c.text)) ((covers_tested (alternatives t) c).1 h)
   below_said (not_ignored lines) c h =

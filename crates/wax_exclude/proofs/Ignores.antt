@@ -3,8 +3,8 @@ use Rattle.std.proofs.Common.{◌≡◌, ℕ, Bool, true, false, ◌&&◌, List,
 use Rattle.std.specs.Prelude.{filter, ⊤}
 use Rattle.wax_directory.specs.Shown.{Shown}
 use Rattle.wax_tree.specs.Begins.{scope_in}
-use Rattle.wax_tree.specs.declared.steps.Range.{Range}
-use Rattle.wax_tree.specs.Plain.{Scope, Spot, start_spot, plain, plain_at}
+use Rattle.wax_tree.specs.declared.steps.DepthRange.{DepthRange}
+use Rattle.wax_tree.specs.Plain.{WalkScope, Location, start_location, plain, plain_at}
 use Rattle.wax_tree.specs.Whole.{is_in, whole}
 use Rattle.wax_walk.specs.Forest.{nothing, preorder}
 use Rattle.wax_walk.specs.Given.{Facts}
@@ -26,7 +26,7 @@ and_yes true = refl
 and_yes false = refl
 
 -- the entries of a walk that are kept after a list's filter are those that it doesn't ignore, in order
-pub ignored_walk : {A : Type 0} (lines : List (Line A)) (rooted : Bool) (scope : Scope) (at : Spot)
+pub ignored_walk : {A : Type 0} (lines : List (Line A)) (rooted : Bool) (scope : WalkScope) (at : Location)
     (names : List (List ℕ)) (s : Shown) → At rooted at names → IsPlainShown s
     → filter is_kept_entry (preorder (stacked (ignore_rules lines) (plain_at scope at s nothing)))
     ≡ filter (is_unignored lines) (preorder (plain_at scope at s nothing))
@@ -47,11 +47,11 @@ ignored_walk lines rooted scope at names s h x =
     and_yes (keeps (ignore_mark lines (candidate_of facts))) ∙ ignore_keeps lines (candidate_of facts))
     (λ k p d. refl) at names s h x tt)
 
-pub gives_unignored : {A : Type 0} (lines : List (Line A)) (range : Range) (start : List ℕ) (s : Shown)
+pub gives_unignored : {A : Type 0} (lines : List (Line A)) (range : DepthRange) (start : List ℕ) (s : Shown)
     → IsPlainShown s
     → filter is_kept_entry (preorder (stacked (ignore_rules lines) (plain (scope_in range start) s)))
     ≡ filter (λ x. is_in range x && is_unignored lines x) (whole start s)
 gives_unignored lines range start s h =
-    ignored_walk lines false (scope_in range start) (start_spot start) [] s
+    ignored_walk lines false (scope_in range start) (start_location start) [] s
     (record { candidate_is = refl; depth_is = refl; are_plain = tt }) h
-    ∙ at_whole (is_unignored lines) (λ k p d. refl) range start (start_spot start) s (omega arith)
+    ∙ at_whole (is_unignored lines) (λ k p d. refl) range start (start_location start) s (omega arith)

@@ -19,43 +19,43 @@ use Rattle.wax_exclude.specs.Wanted.{is_kept_entry}
 use Rattle.wax_exclude.proofs.ListingLines.{says_lines}
 use Rattle.wax_exclude.specs.Held.{HasLines}
 use Rattle.wax_exclude.specs.Kept as K
-use Rattle.wax_exclude.specs.Kept.{KeepsUnignored, Tour, tour_plain, tour_walk}
+use Rattle.wax_exclude.specs.Kept.{KeepsUnignored, PlainRequest, requested_plain, unignored_walk}
 use Rattle.wax_exclude.specs.declared.rules.IgnoreLine.{IgnoreLine}
 use Rattle.wax_exclude.specs.inner.Listed.{listed_mark}
 
 -- ---- what comes
 
-abbrev tour_pending : Tour → Shown → List (List ℕ) → Pending Given
-tour_pending tour s listed = pending nothing (tour_walk tour s) listed (count_shown s)
+abbrev unignored_pending : PlainRequest → Shown → List (List ℕ) → Pending Given
+unignored_pending request s listed = pending nothing (unignored_walk request s) listed (count_shown s)
 
-module _ {D C : Type 0} (law : Law D C) (d : D) (tour : Tour) (rule : List IgnoreLine) (v u : WalkView D)
-    (held : HasLines rule tour.lines) (begins : Begins law d tour.start tour.range v)
+module _ {D C : Type 0} (law : Law D C) (d : D) (request : PlainRequest) (rule : List IgnoreLine) (v u : WalkView D)
+    (held : HasLines rule request.lines) (begins : Begins law d request.start request.range v)
     (seen : IsSeenAs (ruled_view v (λ f. listed_mark rule f) false) u) where
-  comes : (s : Shown) (listed : List (List ℕ)) → law.shows d tour.start s → law.tells d listed → u.to_come (tour_pending tour s listed)
+  comes : (s : Shown) (listed : List (List ℕ)) → law.shows d request.start s → law.tells d listed → u.to_come (unignored_pending request s listed)
   comes s listed shows told =
-      let ignoring : IsSeenAs (ruled_view v (of_candidate (ignore_mark tour.lines)) false) u = subst (λ r. IsSeenAs (ruled_view v r false) u) (says_lines rule tour.lines held) seen in
-      ignoring.to_come (tour_pending tour s listed) (
+      let ignoring : IsSeenAs (ruled_view v (of_candidate (ignore_mark request.lines)) false) u = subst (λ r. IsSeenAs (ruled_view v r false) u) (says_lines rule request.lines held) seen in
+      ignoring.to_come (unignored_pending request s listed) (
         refl,
-        (pending nothing (tour_plain tour s) listed (count_shown s), begins.shown s listed shows told, refl),
+        (pending nothing (requested_plain request s) listed (count_shown s), begins.shown s listed shows told, refl),
       )
 
-  pub tour_gave : (tells : List (List ℕ) → Type 0) (s : Shown) (listed : List (List ℕ)) (xs : List Given) → law.shows d tour.start s → law.tells d listed
-      → ((p : Pending Given) → u.to_come p → GaveAll tells u.listings_left p xs) → GaveAll tells (tour.range.budget + 1) (tour_pending tour s listed) xs
-  tour_gave tells s listed xs shows told all =
-      subst (λ n. GaveAll tells n (tour_pending tour s listed) xs) (seen.listings_left ∙ begins.listings)
-      (all (tour_pending tour s listed) (comes s listed shows told))
+  pub unignored_gave : (tells : List (List ℕ) → Type 0) (s : Shown) (listed : List (List ℕ)) (xs : List Given) → law.shows d request.start s → law.tells d listed
+      → ((p : Pending Given) → u.to_come p → GaveAll tells u.listings_left p xs) → GaveAll tells (request.range.budget + 1) (unignored_pending request s listed) xs
+  unignored_gave tells s listed xs shows told all =
+      subst (λ n. GaveAll tells n (unignored_pending request s listed) xs) (seen.listings_left ∙ begins.listings)
+      (all (unignored_pending request s listed) (comes s listed shows told))
 
 -- ---- what is kept
 
 module _ (gives_unignored : GivesUnignored) (loses_ignored : LosesIgnored) where
-  pub keeps_unignored : (tells : List (List ℕ) → Type 0) (tour : Tour) (s : Shown) (listed : List (List ℕ)) (xs : List Given) → IsPlainShown s
-      → GaveAll tells (tour.range.budget + 1) (tour_pending tour s listed) xs → KeepsUnignored tells tour s listed (filter is_kept xs)
-  keeps_unignored tells tour s listed xs plain (whole e t) =
+  pub keeps_unignored : (tells : List (List ℕ) → Type 0) (request : PlainRequest) (s : Shown) (listed : List (List ℕ)) (xs : List Given) → IsPlainShown s
+      → GaveAll tells (request.range.budget + 1) (unignored_pending request s listed) xs → KeepsUnignored tells request s listed (filter is_kept xs)
+  keeps_unignored tells request s listed xs plain (whole e t) =
       K.gives (ap (filter is_kept) e)
-      (kept_entries xs ∙ (ap (filter is_kept_entry) e ∙ gives_unignored tour.lines tour.range tour.start s plain)) t
-      (loses_ignored tour.lines tour.range tour.start s plain)
-  keeps_unignored tells tour s listed xs plain (lacks_memory c) =
+      (kept_entries xs ∙ (ap (filter is_kept_entry) e ∙ gives_unignored request.lines request.range request.start s plain)) t
+      (loses_ignored request.lines request.range request.start s plain)
+  keeps_unignored tells request s listed xs plain (lacks_memory c) =
       K.lacks_memory (cut_kept _ no_memory xs refl c)
-  keeps_unignored tells tour s listed xs plain (over_budget path depth few contains c) =
-      let l : tour.range.budget + 1 ≤ count_shown s = few in
+  keeps_unignored tells request s listed xs plain (over_budget path depth few contains c) =
+      let l : request.range.budget + 1 ≤ count_shown s = few in
       K.over_budget path depth (omega (arith, l)) (cut_kept _ (fault Budget path depth) xs refl c)

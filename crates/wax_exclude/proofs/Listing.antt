@@ -9,9 +9,9 @@ use Rattle.wax_directory.specs.declared.directory.FileType.TheVariants.{Folder}
 use Rattle.wax_directory.specs.Shown.{Items, end, leaf, folder, sealed, misnamed, unread, not_text, Shown}
 use Rattle.wax_directory.specs.Shown.{a_leaf, a_folder, a_sealed, missing, failing, leaf_kind, join, IsPlain}
 use Rattle.wax_token.specs.Decided.{means_test}
-use Rattle.wax_tree.specs.Begins.{Way, scope_in}
-use Rattle.wax_tree.specs.declared.steps.Range.{Range}
-use Rattle.wax_tree.specs.Plain.{Scope, Spot, one_deeper, plain_entry, items_forest, plain_at}
+use Rattle.wax_tree.specs.Begins.{Origin, scope_in}
+use Rattle.wax_tree.specs.declared.steps.DepthRange.{DepthRange}
+use Rattle.wax_tree.specs.Plain.{WalkScope, Location, one_deeper, plain_entry, items_forest, plain_at}
 use Rattle.wax_walk.specs.declared.error.FaultKind.TheVariants.{Listing}
 use Rattle.wax_walk.specs.Forest.{Forest, nothing, item, lists, listings, followed_by, filtered}
 use Rattle.wax_walk.specs.Given.{Facts, Mark, kept, alone, with_tree, Given, entry, fault, combined_mark}
@@ -21,7 +21,7 @@ use Rattle.wax_exclude.proofs.Filters.{filter_descends, below_said}
 use Rattle.wax_exclude.proofs.Names.{at_join, at_sees, names_chars}
 use Rattle.wax_exclude.proofs.Tests.{lead_tested}
 use Rattle.wax_exclude.specs.Candidates.{AreNames, candidate_at, text_at}
-use Rattle.wax_exclude.specs.inner.Descents.{said_of, At, child_spot}
+use Rattle.wax_exclude.specs.inner.Descents.{said_of, At, child_location}
 use Rattle.wax_exclude.specs.Leading.{leading_of, lead_test}
 use Rattle.wax_exclude.specs.Marks.{led_mark, glob_mark}
 use Rattle.wax_exclude.specs.Premises.{ArePlainItems, IsPlainShown}
@@ -155,30 +155,30 @@ pub path_last : (path : List ℕ) (names : List (List ℕ)) (x : List ℕ)
 path_last path [] x = refl
 path_last path (n ∷ names) x = path_last (join path n) names x
 
-module _ (rooted : Bool) (scope : Scope) (start : List ℕ) (prefix : List (List ℕ)) where
-  -- the spot of some names below the path
-  record IsBelow (at : Spot) : Type 0 where
+module _ (rooted : Bool) (scope : WalkScope) (start : List ℕ) (prefix : List (List ℕ)) where
+  -- the location of some names below the path
+  record IsBelow (at : Location) : Type 0 where
     names : List (List ℕ)
     path_is : at.path ≡ path_from start names
     place : At rooted at (prefix ++ names)
 
-  abbrev spot_of : Facts → List ℕ → Spot
-  spot_of f path = record { path = path; candidate = f.candidate; depth = f.depth }
+  abbrev location_at : Facts → List ℕ → Location
+  location_at f path = record { path = path; candidate = f.candidate; depth = f.depth }
 
   abbrev OfFolder : Facts → List ℕ → Type 0
-  OfFolder f path = IsBelow (spot_of f path) × (f.depth < scope.max)
+  OfFolder f path = IsBelow (location_at f path) × (f.depth < scope.max)
 
   abbrev AboveLeast : List ℕ → Type 0
-  AboveLeast path = (at : Spot) × (at.path ≡ path) × IsBelow
+  AboveLeast path = (at : Location) × (at.path ≡ path) × IsBelow
       at × (at.depth < scope.max) × (at.depth < scope.min)
 
   abbrev IsWell : Forest Given → Type 0
   IsWell f = Well OfFolder AboveLeast [] f
 
-  abbrev in_folder : Spot → Items → Forest Given
+  abbrev in_folder : Location → Items → Forest Given
   in_folder at l = items_forest scope (one_deeper at) l
 
-  well_folder : (at : Spot) → IsBelow at → (b c : Bool) → nat_lt at.depth scope.min ≡ b
+  well_folder : (at : Location) → IsBelow at → (b c : Bool) → nat_lt at.depth scope.min ≡ b
       → nat_lt at.depth scope.max ≡ c
       → (inner rest : Forest Given) → IsWell inner → IsWell rest
       → IsWell (cond b (followed_by (cond c (lists at.path inner) nothing) rest)
@@ -210,31 +210,31 @@ module _ (rooted : Bool) (scope : Scope) (start : List ℕ) (prefix : List (List
   )
   well_folder at s false false e f inner rest h k = (tt, k)
 
-  well_leaf : (at : Spot) (kind : FileType) (b : Bool) (rest : Forest Given) → IsWell rest
+  well_leaf : (at : Location) (kind : FileType) (b : Bool) (rest : Forest Given) → IsWell rest
       → IsWell (cond b (followed_by nothing rest) (item (plain_entry scope at kind) nothing rest))
   well_leaf at kind true rest k = k
   well_leaf at kind false rest k = (tt, k)
 
-  below_child : (at : Spot) (x : List ℕ) → IsBelow at → IsPlain x → IsBelow (child_spot at x)
+  below_child : (at : Location) (x : List ℕ) → IsBelow at → IsPlain x → IsBelow (child_location at x)
   below_child at x s t = record {
     names = s.names ++ x ∷ [];
     path_is = ap (λ v. join v x) s.path_is ∙ sym (path_last start s.names x);
-    place = subst (λ v. At rooted (child_spot at x) v) (append_assoc prefix s.names (x ∷ []))
+    place = subst (λ v. At rooted (child_location at x) v) (append_assoc prefix s.names (x ∷ []))
         (at_join rooted at (prefix ++ s.names) x s.place t);
   }
 
-  well_inside : (at : Spot) (l : Items) → IsBelow at → ArePlainItems l → IsWell (in_folder at l)
+  well_inside : (at : Location) (l : Items) → IsBelow at → ArePlainItems l → IsWell (in_folder at l)
   well_inside at end s t = tt
   well_inside at (leaf x link rest) s t =
-      let c = child_spot at x in
+      let c = child_location at x in
       well_leaf c (leaf_kind link) (nat_lt c.depth scope.min) (in_folder at rest) (well_inside at rest s t.1)
   well_inside at (folder x inner rest) s t =
-      let c = child_spot at x in
+      let c = child_location at x in
       let r = below_child at x s t.0 in
       well_folder c r (nat_lt c.depth scope.min) (nat_lt c.depth scope.max) refl refl (in_folder c inner)
       (in_folder at rest) (well_inside c inner r t.1) (well_inside at rest s t.2)
   well_inside at (sealed x rest) s t =
-      let c = child_spot at x in
+      let c = child_location at x in
       well_folder c (below_child at x s t.0) (nat_lt c.depth scope.min) (nat_lt c.depth scope.max) refl refl
       (item (fault Listing c.path c.depth) nothing nothing) (in_folder at rest) (tt, tt)
       (well_inside at rest s t.1)
@@ -242,7 +242,7 @@ module _ (rooted : Bool) (scope : Scope) (start : List ℕ) (prefix : List (List
   well_inside at (unread rest) s t = (tt, well_inside at rest s t)
   well_inside at (not_text rest) s t = (tt, well_inside at rest s t)
 
-  well_at : (at : Spot) (s : Shown) → IsBelow at → IsPlainShown s → IsWell (plain_at scope at s nothing)
+  well_at : (at : Location) (s : Shown) → IsBelow at → IsPlainShown s → IsWell (plain_at scope at s nothing)
   well_at at (a_leaf link) s t = well_leaf at (leaf_kind link) (nat_lt at.depth scope.min) nothing tt
   well_at at (a_folder l) s t =
       well_folder at s (nat_lt at.depth scope.min) (nat_lt at.depth scope.max) refl refl (in_folder at l)
@@ -262,7 +262,7 @@ module _ (rooted : Bool) (scope : Scope) (start : List ℕ) (prefix : List (List
   is_led false m n = absurd (n refl)
 
   none_covers : {A : Type 0} (filters : List (Filter A)) (f : Facts) (path : List ℕ) (names : List (List ℕ))
-      → At rooted (spot_of f path) names → NoneLeaves (filter_rules filters) f
+      → At rooted (location_at f path) names → NoneLeaves (filter_rules filters) f
       → AreUncovered rooted filters (map chars names)
   none_covers [] f path names a h = tt
   none_covers (x ∷ filters) f path names a h = (
@@ -270,30 +270,30 @@ module _ (rooted : Bool) (scope : Scope) (start : List ℕ) (prefix : List (List
         let n = names_chars names a.are_plain in
         let w : said_of rooted (filter_mark x) front ≡ with_tree =
         below_said x (candidate_at rooted front) c in
-        h.0 (ap (filter_mark x) (at_sees rooted (spot_of f path) names a)
+        h.0 (ap (filter_mark x) (at_sees rooted (location_at f path) names a)
         ∙ ap (said_of rooted (filter_mark x)) (sym e)
         ∙ filter_descends rooted x front back (subst AreNames (sym e) n) w),
     none_covers filters f path names a h.1,
   )
 
--- the walk from the end of a way on, in a range
-module _ {A : Type 0} (w : Wanted A) (range : Range) (way : Way) where
-  abbrev scope : Scope
-  scope = scope_in range way.root
+-- the walk from the last name of a origin on, in a range
+module _ {A : Type 0} (w : Wanted A) (range : DepthRange) (origin : Origin) where
+  abbrev scope : WalkScope
+  scope = scope_in range origin.root
 
-  abbrev pub way_end : List ℕ
-  way_end = path_from way.path way.names
+  abbrev pub origin_end : List ℕ
+  origin_end = path_from origin.path origin.names
 
   abbrev OfFolders : Facts → List ℕ → Type 0
-  OfFolders f path = OfFolder w.rooted scope way_end way.names f path
+  OfFolders f path = OfFolder w.rooted scope origin_end origin.names f path
 
   abbrev Above : List ℕ → Type 0
-  Above path = AboveLeast w.rooted scope way_end way.names path
+  Above path = AboveLeast w.rooted scope origin_end origin.names path
 
   abbrev all_rules : List (Facts → Mark)
   all_rules = done_with OfFolders Above (rules_of w) []
 
-  may_list : (path : List ℕ) → Chosen OfFolders Above all_rules path → MayList w range way path
+  may_list : (path : List ℕ) → Chosen OfFolders Above all_rules path → MayList w range origin path
   may_list path (inl (at, e, s, low, small)) = record {
     names = s.names;
     path_is = sym e ∙ s.path_is;
@@ -304,8 +304,8 @@ module _ {A : Type 0} (w : Wanted A) (range : Range) (way : Way) where
   }
   may_list path (inr (f, s, none)) =
       let n = (none_done OfFolders Above (rules_of w) [] f none).0 in
-      let names = map chars (way.names ++ s.0.names) in
-      let at = spot_of w.rooted scope way_end way.names f path in
+      let names = map chars (origin.names ++ s.0.names) in
+      let at = location_at w.rooted scope origin_end origin.names f path in
       let lead = lead_test (leading_of w.rooted w.glob) names in
       let meant = means_test w.glob false false (text_at w.rooted names) in
       record {
@@ -314,25 +314,25 @@ module _ {A : Type 0} (w : Wanted A) (range : Range) (way : Way) where
         are_plain = s.0.place.are_plain;
         above_greatest = omega (arith, s.1, s.0.place.depth_is);
         are_led = λ h. (lead_tested (leading_of w.rooted w.glob) names).0
-            (is_led w.rooted scope way_end way.names lead meant
-            (λ e. n.0 (ap (glob_mark w.rooted w.glob) (at_sees w.rooted at (way.names ++ s.0.names) s.0.place)
+            (is_led w.rooted scope origin_end origin.names lead meant
+            (λ e. n.0 (ap (glob_mark w.rooted w.glob) (at_sees w.rooted at (origin.names ++ s.0.names) s.0.place)
             ∙ e)));
         uncovered = λ h.
-            none_covers w.rooted scope way_end way.names w.filters f path (way.names ++ s.0.names) s.0.place n.1;
+            none_covers w.rooted scope origin_end origin.names w.filters f path (origin.names ++ s.0.names) s.0.place n.1;
       }
 
   -- each folder that is listed may be
-  pub walk_lists : (at : Spot) (s : Shown) → at.path ≡ way_end → At w.rooted at way.names → IsPlainShown s
-      → All (MayList w range way) (listings (stacked (rules_of w) (plain_at scope at s nothing)))
+  pub walk_lists : (at : Location) (s : Shown) → at.path ≡ origin_end → At w.rooted at origin.names → IsPlainShown s
+      → All (MayList w range origin) (listings (stacked (rules_of w) (plain_at scope at s nothing)))
   walk_lists at s e a x =
       let f = plain_at scope at s nothing in
-      let below : IsBelow w.rooted scope way_end way.names at = record {
+      let below : IsBelow w.rooted scope origin_end origin.names at = record {
         names = [];
         path_is = e;
-        place = subst (λ v. At w.rooted at v) (sym (append-nil way.names)) a;
+        place = subst (λ v. At w.rooted at v) (sym (append-nil origin.names)) a;
       } in
       let well = well_stacked OfFolders Above (rules_of w) [] f
-      (well_at w.rooted scope way_end way.names at s below x) in
-      All-weaker (Chosen OfFolders Above all_rules) (MayList w range way) may_list
+      (well_at w.rooted scope origin_end origin.names at s below x) in
+      All-weaker (Chosen OfFolders Above all_rules) (MayList w range origin) may_list
       (listings (stacked (rules_of w) f))
       (each_listed OfFolders Above all_rules (stacked (rules_of w) f) well)

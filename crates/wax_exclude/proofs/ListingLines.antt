@@ -18,11 +18,11 @@ use Rattle.wax_exclude.specs.inner.Stacks.{keeps}
 use Rattle.wax_exclude.specs.Marks.{covered_mark, of_candidate}
 use Rattle.wax_exclude.specs.Held.{HasLines, line_of}
 use Rattle.wax_exclude.specs.declared.rules.IgnoreLine.{IgnoreLine}
-use Rattle.wax_exclude.specs.inner.Listed.{below_by, ignored_by, listed_mark, mark_after, none_takes_back}
+use Rattle.wax_exclude.specs.inner.Listed.{below_by, ignored_by, listed_mark, mark_after, none_reincludes}
 
 -- ---- the lines of globs
 
-all_held : (lines : List (Line Span)) → none_takes_back (map line_of lines) ≡ all_ignore lines
+all_held : (lines : List (Line Span)) → none_reincludes (map line_of lines) ≡ all_ignore lines
 all_held [] = refl
 all_held (line ∷ lines) = ap (λ b. line.ignores && b) (all_held lines)
 
@@ -65,7 +65,7 @@ is_below with_tree = true
 abbrev pub mark_from : Mark → List IgnoreLine → Facts → Mark
 mark_from before lines f =
     let c = candidate_of f in
-    covered_mark ((is_below before && none_takes_back lines) || below_by lines c) (ignored_by (is_out before) lines c.text)
+    covered_mark ((is_below before && none_reincludes lines) || below_by lines c) (ignored_by (is_out before) lines c.text)
 
 pub at_end : (before : Mark) (f : Facts) → mark_from before [] f ≡ before
 at_end kept f = refl
@@ -118,4 +118,4 @@ pub after_line : (before : Mark) (line : IgnoreLine) (lines : List IgnoreLine) (
     mark_from before (line ∷ lines) f ≡ mark_from (mark_after line.ignores before (excluded_mark line.exclusion f)) lines f
 after_line before line lines f =
     let c = candidate_of f in
-    one_line (λ b. ignored_by b lines c.text) line.ignores before (covers_test line.exclusion c) (some_test line.exclusion c.text) (none_takes_back lines) (below_by lines c) (covered_meant line c)
+    one_line (λ b. ignored_by b lines c.text) line.ignores before (covers_test line.exclusion c) (some_test line.exclusion c.text) (none_reincludes lines) (below_by lines c) (covered_meant line c)

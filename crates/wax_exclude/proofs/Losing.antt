@@ -11,8 +11,8 @@ use Rattle.wax_directory.specs.declared.directory.FileType.TheVariants.{Folder}
 use Rattle.wax_directory.specs.Shown.{Items, end, leaf, folder, sealed, misnamed, unread, not_text, Shown}
 use Rattle.wax_directory.specs.Shown.{a_leaf, a_folder, a_sealed, missing, failing, leaf_kind, join}
 use Rattle.wax_tree.specs.Begins.{scope_in}
-use Rattle.wax_tree.specs.declared.steps.Range.{Range}
-use Rattle.wax_tree.specs.Plain.{Scope, Spot, start_spot, one_deeper, plain_entry, items_forest, below_forest}
+use Rattle.wax_tree.specs.declared.steps.DepthRange.{DepthRange}
+use Rattle.wax_tree.specs.Plain.{WalkScope, Location, start_location, one_deeper, plain_entry, items_forest, below_forest}
 use Rattle.wax_tree.specs.Plain.{plain, plain_at}
 use Rattle.wax_walk.proofs.Collecting.{listings_append}
 use Rattle.wax_walk.proofs.Filtering.{filtered_append}
@@ -25,7 +25,7 @@ use Rattle.wax_exclude.proofs.Names.{at_join, at_sees, seen_at}
 use Rattle.wax_exclude.proofs.Stacking.{cut_left}
 use Rattle.wax_exclude.specs.Candidates.{candidate_at}
 use Rattle.wax_exclude.specs.Ignored.{Line, is_ignored, IgnoresBelow, below_test, ignore_mark}
-use Rattle.wax_exclude.specs.inner.Descents.{At, child_spot}
+use Rattle.wax_exclude.specs.inner.Descents.{At, child_location}
 use Rattle.wax_exclude.specs.Marks.{of_candidate}
 use Rattle.wax_exclude.specs.Premises.{ArePlainItems, IsPlainShown}
 use Rattle.wax_exclude.specs.Walked.{path_from}
@@ -99,18 +99,18 @@ module _ (rule : Facts → Mark) (Gone : List ℕ → Type 0) where
   stay_fault : (kind : _) (path : List ℕ) (depth : ℕ) → Stay (item (fault kind path depth) nothing nothing)
   stay_fault kind path depth = All-nil (Stays [])
 
--- ---- folders below a spot
+-- ---- folders below a location
 
-module _ (scope : Scope) (start : List ℕ) where
+module _ (scope : WalkScope) (start : List ℕ) where
   -- the path of these names and more
   abbrev Under : List (List ℕ) → List ℕ → Type 0
   Under names path = (more : List (List ℕ)) × (path ≡ path_from start (names ++ more))
 
-  abbrev in_folder : Spot → Items → Forest Given
+  abbrev in_folder : Location → Items → Forest Given
   in_folder at l = items_forest scope (one_deeper at) l
 
-  path_child : (at : Spot) (names : List (List ℕ)) (x : List ℕ) → at.path ≡ path_from start names
-      → (child_spot at x).path ≡ path_from start (names ++ x ∷ [])
+  path_child : (at : Location) (names : List (List ℕ)) (x : List ℕ) → at.path ≡ path_from start names
+      → (child_location at x).path ≡ path_from start (names ++ x ∷ [])
   path_child at names x e = ap (λ v. join v x) e ∙ sym (path_last start names x)
 
   under_more : (names : List (List ℕ)) (x path : List ℕ) → Under (names ++ x ∷ []) path → Under names path
@@ -130,19 +130,19 @@ module _ (scope : Scope) (start : List ℕ) where
   under_listed P true path f p h = All-cons P path (listings f) p h
   under_listed P false path f p h = All-nil P
 
-  under_itself : (at : Spot) (names : List (List ℕ)) → at.path ≡ path_from start names → Under names at.path
+  under_itself : (at : Location) (names : List (List ℕ)) → at.path ≡ path_from start names → Under names at.path
   under_itself at names e = ([], e ∙ ap (path_from start) (sym (append-nil names)))
 
-  under_items : (at : Spot) (names : List (List ℕ)) (l : Items) → at.path ≡ path_from start names
+  under_items : (at : Location) (names : List (List ℕ)) (l : Items) → at.path ≡ path_from start names
       → All (Under names) (listings (in_folder at l))
   under_items at names end e = All-nil (Under names)
   under_items at names (leaf x link rest) e =
-      under_unless (Under names) (nat_lt (child_spot at x).depth scope.min)
-      (plain_entry scope (child_spot at x) (leaf_kind link)) nothing (in_folder at rest)
+      under_unless (Under names) (nat_lt (child_location at x).depth scope.min)
+      (plain_entry scope (child_location at x) (leaf_kind link)) nothing (in_folder at rest)
       (All-nil (Under names))
       (under_items at names rest e)
   under_items at names (folder x inner rest) e =
-      let c = child_spot at x in
+      let c = child_location at x in
       let p = path_child at names x e in
       under_unless (Under names) (nat_lt c.depth scope.min) (plain_entry scope c Folder)
       (below_forest scope c (a_folder inner)) (in_folder at rest)
@@ -152,7 +152,7 @@ module _ (scope : Scope) (start : List ℕ) where
       (under_items c (names ++ x ∷ []) inner p)))
       (under_items at names rest e)
   under_items at names (sealed x rest) e =
-      let c = child_spot at x in
+      let c = child_location at x in
       let p = path_child at names x e in
       under_unless (Under names) (nat_lt c.depth scope.min) (plain_entry scope c Folder)
       (below_forest scope c a_sealed) (in_folder at rest)
@@ -165,18 +165,18 @@ module _ (scope : Scope) (start : List ℕ) where
 
 -- ---- a list of lines
 
-module _ {A : Type 0} (lines : List (Line A)) (scope : Scope) (start : List ℕ) where
+module _ {A : Type 0} (lines : List (Line A)) (scope : WalkScope) (start : List ℕ) where
   abbrev rule : Facts → Mark
   rule = of_candidate (ignore_mark lines)
 
   abbrev Gone : List ℕ → Type 0
   Gone path = IsIgnoredBelow lines start path
 
-  abbrev folder_items : Spot → Items → Forest Given
+  abbrev folder_items : Location → Items → Forest Given
   folder_items at l = items_forest scope (one_deeper at) l
 
   -- an entry that is cut is covered
-  cut_covered : (at : Spot) (kind : FileType) (names : List (List ℕ)) → At false at names
+  cut_covered : (at : Location) (kind : FileType) (names : List (List ℕ)) → At false at names
       → cut_by rule (plain_entry scope at kind) ≡ true
       → IgnoresBelow lines (candidate_at false (map chars names))
   cut_covered at kind names a e =
@@ -185,14 +185,14 @@ module _ {A : Type 0} (lines : List (Line A)) (scope : Scope) (start : List ℕ)
       ((below_tested lines (seen_at at)).0
       (covered (below_test lines (seen_at at)) (is_ignored lines (seen_at at).text) w))
 
-  gone_below : (at : Spot) (kind : FileType) (names : List (List ℕ)) (paths : List (List ℕ))
+  gone_below : (at : Location) (kind : FileType) (names : List (List ℕ)) (paths : List (List ℕ))
       → At false at names
       → All (Under scope start names) paths → cut_by rule (plain_entry scope at kind) ≡ true → All Gone paths
   gone_below at kind names paths a h e =
       let c = cut_covered at kind names a e in
       All-weaker (Under scope start names) Gone (λ path u. (names, u.0, u.1, c)) paths h
 
-  stay_folder : (at : Spot) (names : List (List ℕ)) (inner after : Forest Given) → At false at names
+  stay_folder : (at : Location) (names : List (List ℕ)) (inner after : Forest Given) → At false at names
       → at.path ≡ path_from start names → All (Under scope start names) (listings inner)
       → Stay rule Gone inner → Stay rule Gone after
       → Stay rule Gone (cond (nat_lt at.depth scope.min)
@@ -209,23 +209,23 @@ module _ {A : Type 0} (lines : List (Line A)) (scope : Scope) (start : List ℕ)
       (stay_lists rule Gone at.path inner h))
       k
 
-  stay_inside : (at : Spot) (names : List (List ℕ)) (l : Items) → At false at names → ArePlainItems l
+  stay_inside : (at : Location) (names : List (List ℕ)) (l : Items) → At false at names → ArePlainItems l
       → at.path ≡ path_from start names → Stay rule Gone (folder_items at l)
   stay_inside at names end a t e = All-nil (Stays rule Gone [])
   stay_inside at names (leaf x link rest) a t e =
-      let c = child_spot at x in
+      let c = child_location at x in
       stay_unless rule Gone (nat_lt c.depth scope.min) (plain_entry scope c (leaf_kind link)) nothing
       (folder_items at rest) (λ i. All-nil Gone) (All-nil (Stays rule Gone []))
       (stay_inside at names rest a t.1 e)
   stay_inside at names (folder x inner rest) a t e =
-      let c = child_spot at x in
+      let c = child_location at x in
       let h = at_join false at names x a t.0 in
       let p = path_child scope start at names x e in
       stay_folder c (names ++ x ∷ []) (folder_items c inner) (folder_items at rest) h p
       (under_items scope start c (names ++ x ∷ []) inner p) (stay_inside c (names ++ x ∷ []) inner h t.1 p)
       (stay_inside at names rest a t.2 e)
   stay_inside at names (sealed x rest) a t e =
-      let c = child_spot at x in
+      let c = child_location at x in
       let h = at_join false at names x a t.0 in
       let p = path_child scope start at names x e in
       stay_folder c (names ++ x ∷ []) (item (fault _ c.path c.depth) nothing nothing) (folder_items at rest) h
@@ -236,7 +236,7 @@ module _ {A : Type 0} (lines : List (Line A)) (scope : Scope) (start : List ℕ)
   stay_inside at names (unread rest) a t e = stay_inside at names rest a t e
   stay_inside at names (not_text rest) a t e = stay_inside at names rest a t e
 
-  stay_at : (at : Spot) (names : List (List ℕ)) (s : Shown) → At false at names → IsPlainShown s
+  stay_at : (at : Location) (names : List (List ℕ)) (s : Shown) → At false at names → IsPlainShown s
       → at.path ≡ path_from start names → Stay rule Gone (plain_at scope at s nothing)
   stay_at at names (a_leaf link) a t e =
       stay_unless rule Gone (nat_lt at.depth scope.min) (plain_entry scope at (leaf_kind link)) nothing
@@ -252,10 +252,10 @@ module _ {A : Type 0} (lines : List (Line A)) (scope : Scope) (start : List ℕ)
   stay_at at names failing a t e = All-nil (Stays rule Gone [])
 
 -- each folder of the plain walk is still listed, or it is or lies below what is ignored with all below it
-pub loses_ignored : {A : Type 0} (lines : List (Line A)) (range : Range) (start : List ℕ) (s : Shown)
+pub loses_ignored : {A : Type 0} (lines : List (Line A)) (range : DepthRange) (start : List ℕ) (s : Shown)
     → IsPlainShown s → All (λ path. Contains (listings
     (stacked (ignore_rules lines) (plain (scope_in range start) s)))
     path ⊎ IsIgnoredBelow lines start path) (listings (plain (scope_in range start) s))
 loses_ignored lines range start s h =
-    stay_at lines (scope_in range start) start (start_spot start) [] s
+    stay_at lines (scope_in range start) start (start_location start) [] s
     (record { candidate_is = refl; depth_is = refl; are_plain = tt }) h refl

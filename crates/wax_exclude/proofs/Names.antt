@@ -12,17 +12,17 @@ use Rattle.std.proofs.lemmas.Str.{chars-append, encodes-chars, encodes-append, c
 use Rattle.wax_directory.specs.Names.{is_some_name, names_in_path}
 use Rattle.wax_directory.specs.Shown.{is_open, join, IsPlain}
 use Rattle.wax_token.specs.Meaning.{HasNoSlash}
-use Rattle.wax_tree.specs.Plain.{Spot}
+use Rattle.wax_tree.specs.Plain.{Location}
 use Rattle.wax_tree.specs.Prefix.{ArePlain}
 use Rattle.wax_exclude.specs.Candidates.{slashed, joined_names, base, text_at, AreNames, Candidate}
 use Rattle.wax_exclude.specs.Candidates.{candidate_at}
-use Rattle.wax_exclude.specs.inner.Descents.{At, child_spot}
+use Rattle.wax_exclude.specs.inner.Descents.{At, child_location}
 
 abbrev candidate_from : List (List ℕ) → List ℕ → ℕ → Candidate
 candidate_from names text depth = record { names = names; text = text; depth = depth }
 
--- what is seen of an entry at a spot
-abbrev pub seen_at : Spot → Candidate
+-- what is seen of an entry at a location
+abbrev pub seen_at : Location → Candidate
 seen_at at = candidate_from (map chars (names_in_path at.candidate)) (chars at.candidate) at.depth
 
 differ : (c d : ℕ) → c ≢ d → nat_eq c d ≡ false
@@ -147,9 +147,9 @@ plain_last [] x h k = (k, tt)
 plain_last (n ∷ names) x h k = (h.0, plain_last names x h.1 k)
 
 -- an entry in a folder
-pub at_join : (rooted : Bool) (at : Spot) (names : List (List ℕ)) (x : List ℕ) → At rooted at names
+pub at_join : (rooted : Bool) (at : Location) (names : List (List ℕ)) (x : List ℕ) → At rooted at names
     → IsPlain x
-    → At rooted (child_spot at x) (names ++ x ∷ [])
+    → At rooted (child_location at x) (names ++ x ∷ [])
 at_join rooted at names x h k = record {
   candidate_is = ap (λ v. join v x) h.candidate_is
       ∙ join_names rooted names x (names_bytes names h.are_plain);
@@ -194,7 +194,7 @@ names_in_joined true (n ∷ names) h = ap (filter is_some_name) (parts_slashed (
     ∙ all_some (n ∷ names) h
 
 -- what a rule sees of it
-pub at_sees : (rooted : Bool) (at : Spot) (names : List (List ℕ)) → At rooted at names
+pub at_sees : (rooted : Bool) (at : Location) (names : List (List ℕ)) → At rooted at names
     → seen_at at ≡ candidate_at rooted (map chars names)
 at_sees rooted at names h =
     let ns : names_in_path at.candidate ≡ names = ap names_in_path h.candidate_is

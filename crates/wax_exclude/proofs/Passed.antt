@@ -21,7 +21,7 @@ use Rattle.wax_exclude.specs.Excluded.{excluded_mark, some_test}
 use Rattle.wax_exclude.specs.Marks.{covered_mark}
 use Rattle.wax_exclude.specs.declared.blocks.Block.{Block}
 use Rattle.wax_exclude.specs.declared.rules.IgnoreLine.{IgnoreLine}
-use Rattle.wax_exclude.specs.inner.Blocks.{AcceptsLines, IsBlockOf, SomeMeans, alternatives_in, lines_between, mark_passed, marks_after, some_takes_back}
+use Rattle.wax_exclude.specs.inner.Blocks.{AcceptsLines, IsBlockOf, SomeMeans, alternatives_in, lines_between, mark_passed, marks_after, some_reincludes}
 use Rattle.wax_exclude.specs.inner.Listed.{ignored_by, listed_mark, mark_after}
 
 -- ---- line after line
@@ -104,19 +104,19 @@ one_passed false false alone = refl
 one_passed false false with_tree = refl
 
 none_said : (lines : List IgnoreLine) (before : Mark) (f : Facts) → (SomeMeans lines (chars f.candidate) → ⊥)
-    → mark_passed (some_takes_back lines) before ≡ marks_after before lines f
+    → mark_passed (some_reincludes lines) before ≡ marks_after before lines f
 none_said [] before f none = refl
 none_said (line ∷ lines) before f none =
-    sym (one_passed line.ignores (some_takes_back lines) before)
-    ∙ ap (λ m. mark_passed (some_takes_back lines) (mark_after line.ignores before m)) (sym (says_nothing line f (λ m. none (inl m))))
+    sym (one_passed line.ignores (some_reincludes lines) before)
+    ∙ ap (λ m. mark_passed (some_reincludes lines) (mark_after line.ignores before m)) (sym (says_nothing line f (λ m. none (inl m))))
     ∙ none_said lines (mark_after line.ignores before (excluded_mark line.exclusion f)) f (λ m. none (inr m))
 
 -- what is said from the end of a block on, none of whose lines means the entry
 pub said_past : (lines : List IgnoreLine) (block : Block) (before after : Mark) (f : Facts) (text : List ℕ) → IsBlockOf lines block → text ≡ chars f.candidate
-    → (Accepts block.matcher 0 text → ⊥) → after ≡ mark_passed block.takes_back before → marks_after after (drop block.end lines) f ≡ marks_after before (drop block.start lines) f
+    → (Accepts block.matcher 0 text → ⊥) → after ≡ mark_passed block.reincludes before → marks_after after (drop block.end lines) f ≡ marks_after before (drop block.start lines) f
 said_past lines block before after f text b same none e =
     said_on lines block.start block.end before after f b.forward
-    (e ∙ ap (λ t. mark_passed t before) b.takes_back
+    (e ∙ ap (λ t. mark_passed t before) b.reincludes
     ∙ none_said (lines_between block.start block.end lines) before f (λ m. none (b.accepts text (subst (SomeMeans (lines_between block.start block.end lines)) (sym same) m))))
 
 -- ---- programs of lines

@@ -5,13 +5,13 @@ use Rattle.std.specs.Prelude.{nat_lt}
 use Rattle.wax_directory.specs.declared.directory.FileType.TheVariants.{Folder}
 use Rattle.wax_directory.specs.Shown.{Items, end, leaf, folder, sealed, misnamed, unread, not_text, Shown}
 use Rattle.wax_directory.specs.Shown.{a_leaf, a_folder, a_sealed, missing, failing, leaf_kind, IsPlain}
-use Rattle.wax_tree.specs.Plain.{Scope, Spot, one_deeper, plain_entry, unlisted, items_forest, below_forest}
+use Rattle.wax_tree.specs.Plain.{WalkScope, Location, one_deeper, plain_entry, unlisted, items_forest, below_forest}
 use Rattle.wax_tree.specs.Plain.{plain_at}
 use Rattle.wax_walk.specs.Forest.{Forest, nothing, item, lists, followed_by}
 use Rattle.wax_walk.specs.Given.{Facts, Mark, with_tree, Given}
 use Rattle.wax_exclude.proofs.Names.{at_join, at_sees, names_chars, seen_at}
 use Rattle.wax_exclude.specs.Candidates.{AreNames, Candidate}
-use Rattle.wax_exclude.specs.inner.Descents.{said_of, Descends, At, child_spot}
+use Rattle.wax_exclude.specs.inner.Descents.{said_of, Descends, At, child_location}
 use Rattle.wax_exclude.specs.inner.Stacks.{LeavesOutWhole, LeavesOutAll, IsEntryLeftOut, PassesDown}
 use Rattle.wax_exclude.specs.Marks.{of_candidate}
 use Rattle.wax_exclude.specs.Premises.{ArePlainItems, IsPlainShown}
@@ -55,34 +55,34 @@ module _ (rule : Facts → Mark) where
   passes_listed true path f h = h
   passes_listed false path f h = tt
 
-  left_sealed : (scope : Scope) (b : Bool) (path : List ℕ) (depth : ℕ)
+  left_sealed : (scope : WalkScope) (b : Bool) (path : List ℕ) (depth : ℕ)
       → LeavesOutAll rule (cond b (unlisted scope path depth) nothing)
   left_sealed scope true path depth = (tt, tt, tt)
   left_sealed scope false path depth = tt
 
-  passes_sealed : (scope : Scope) (b : Bool) (path : List ℕ) (depth : ℕ)
+  passes_sealed : (scope : WalkScope) (b : Bool) (path : List ℕ) (depth : ℕ)
       → PassesDown rule (cond b (unlisted scope path depth) nothing)
   passes_sealed scope true path depth = ((λ e. tt), tt, tt)
   passes_sealed scope false path depth = tt
 
-module _ (rooted : Bool) (mark : Candidate → Mark) (descends : Descends rooted mark) (scope : Scope) where
+module _ (rooted : Bool) (mark : Candidate → Mark) (descends : Descends rooted mark) (scope : WalkScope) where
   abbrev rule : Facts → Mark
   rule = of_candidate mark
 
-  abbrev in_folder : Spot → Items → Forest Given
+  abbrev in_folder : Location → Items → Forest Given
   in_folder at l = items_forest scope (one_deeper at) l
 
-  abbrev low : Spot → Bool
+  abbrev low : Location → Bool
   low at = nat_lt at.depth scope.min
 
-  abbrev high : Spot → Bool
+  abbrev high : Location → Bool
   high at = nat_lt at.depth scope.max
 
   -- what is said of these names
   abbrev says : List (List ℕ) → Mark
   says names = said_of rooted mark (map chars names)
 
-  left_below : (at : Spot) (names others : List (List ℕ)) → At rooted at (names ++ others)
+  left_below : (at : Location) (names others : List (List ℕ)) → At rooted at (names ++ others)
       → says names ≡ with_tree → mark (seen_at at) ≡ with_tree
   left_below at names others h e =
       let m = map-append names others in
@@ -90,25 +90,25 @@ module _ (rooted : Bool) (mark : Candidate → Mark) (descends : Descends rooted
       ∙ descends (map chars names) (map chars others)
       (subst AreNames m (names_chars (names ++ others) h.are_plain)) e
 
-  at_below : (at : Spot) (names others : List (List ℕ)) (x : List ℕ) → At rooted at (names ++ others)
+  at_below : (at : Location) (names others : List (List ℕ)) (x : List ℕ) → At rooted at (names ++ others)
       → IsPlain x
-      → At rooted (child_spot at x) (names ++ (others ++ x ∷ []))
-  at_below at names others x h p = subst (λ v. At rooted (child_spot at x) v)
+      → At rooted (child_location at x) (names ++ (others ++ x ∷ []))
+  at_below at names others x h p = subst (λ v. At rooted (child_location at x) v)
       (append_assoc names others (x ∷ []))
       (at_join rooted at (names ++ others) x h p)
 
   -- all that is in a folder below these names, and below those others
-  left_inside : (at : Spot) (names others : List (List ℕ)) (l : Items) → At rooted at (names ++ others)
+  left_inside : (at : Location) (names others : List (List ℕ)) (l : Items) → At rooted at (names ++ others)
       → ArePlainItems l → says names ≡ with_tree → LeavesOutAll rule (in_folder at l)
   left_inside at names others end h t e = tt
   left_inside at names others (leaf x link rest) h t e =
       let a = at_below at names others x h t.0 in
-      left_unless rule (low (child_spot at x)) (plain_entry scope (child_spot at x) (leaf_kind link)) nothing
-      (in_folder at rest) (left_below (child_spot at x) names (others ++ x ∷ []) a e) tt
+      left_unless rule (low (child_location at x)) (plain_entry scope (child_location at x) (leaf_kind link)) nothing
+      (in_folder at rest) (left_below (child_location at x) names (others ++ x ∷ []) a e) tt
       (left_inside at names others rest h t.1 e)
   left_inside at names others (folder x inner rest) h t e =
       let a = at_below at names others x h t.0 in
-      let c = child_spot at x in
+      let c = child_location at x in
       left_unless rule (low c) (plain_entry scope c Folder) (below_forest scope c (a_folder inner))
       (in_folder at rest) (left_below c names (others ++ x ∷ []) a e)
       (left_listed rule (high c) c.path (in_folder c inner)
@@ -116,7 +116,7 @@ module _ (rooted : Bool) (mark : Candidate → Mark) (descends : Descends rooted
       (left_inside at names others rest h t.2 e)
   left_inside at names others (sealed x rest) h t e =
       let a = at_below at names others x h t.0 in
-      let c = child_spot at x in
+      let c = child_location at x in
       left_unless rule (low c) (plain_entry scope c Folder) (below_forest scope c a_sealed)
       (in_folder at rest)
       (left_below c names (others ++ x ∷ []) a e) (left_sealed rule scope (high c) c.path c.depth)
@@ -125,22 +125,22 @@ module _ (rooted : Bool) (mark : Candidate → Mark) (descends : Descends rooted
   left_inside at names others (unread rest) h t e = (tt, tt, left_inside at names others rest h t e)
   left_inside at names others (not_text rest) h t e = (tt, tt, left_inside at names others rest h t e)
 
-  left_within : (at : Spot) (names : List (List ℕ)) (l : Items) → At rooted at names → ArePlainItems l
+  left_within : (at : Location) (names : List (List ℕ)) (l : Items) → At rooted at names → ArePlainItems l
       → mark (seen_at at) ≡ with_tree → LeavesOutAll rule (in_folder at l)
   left_within at names l h t e =
       left_inside at names [] l (subst (λ v. At rooted at v) (sym (append-nil names)) h) t
       (sym (ap mark (at_sees rooted at names h)) ∙ e)
 
-  passes_inside : (at : Spot) (names : List (List ℕ)) (l : Items) → At rooted at names → ArePlainItems l
+  passes_inside : (at : Location) (names : List (List ℕ)) (l : Items) → At rooted at names → ArePlainItems l
       → PassesDown rule (in_folder at l)
   passes_inside at names end h t = tt
   passes_inside at names (leaf x link rest) h t =
-      passes_unless rule (low (child_spot at x)) (plain_entry scope (child_spot at x) (leaf_kind link))
+      passes_unless rule (low (child_location at x)) (plain_entry scope (child_location at x) (leaf_kind link))
       nothing
       (in_folder at rest) (λ e. tt) tt (passes_inside at names rest h t.1)
   passes_inside at names (folder x inner rest) h t =
       let a = at_join rooted at names x h t.0 in
-      let c = child_spot at x in
+      let c = child_location at x in
       passes_unless rule (low c) (plain_entry scope c Folder) (below_forest scope c (a_folder inner))
       (in_folder at rest)
       (λ e. left_listed rule (high c) c.path (in_folder c inner)
@@ -148,7 +148,7 @@ module _ (rooted : Bool) (mark : Candidate → Mark) (descends : Descends rooted
       (passes_listed rule (high c) c.path (in_folder c inner) (passes_inside c (names ++ x ∷ []) inner a t.1))
       (passes_inside at names rest h t.2)
   passes_inside at names (sealed x rest) h t =
-      let c = child_spot at x in
+      let c = child_location at x in
       passes_unless rule (low c) (plain_entry scope c Folder) (below_forest scope c a_sealed)
       (in_folder at rest)
       (λ e. left_sealed rule scope (high c) c.path c.depth) (passes_sealed rule scope (high c) c.path c.depth)
@@ -157,8 +157,8 @@ module _ (rooted : Bool) (mark : Candidate → Mark) (descends : Descends rooted
   passes_inside at names (unread rest) h t = ((λ e. tt), tt, passes_inside at names rest h t)
   passes_inside at names (not_text rest) h t = ((λ e. tt), tt, passes_inside at names rest h t)
 
-  -- the walk from a spot on
-  pub passes_at : (at : Spot) (names : List (List ℕ)) (s : Shown) → At rooted at names → IsPlainShown s
+  -- the walk from a location on
+  pub passes_at : (at : Location) (names : List (List ℕ)) (s : Shown) → At rooted at names → IsPlainShown s
       → PassesDown rule (plain_at scope at s nothing)
   passes_at at names (a_leaf link) h t =
       passes_unless rule (low at) (plain_entry scope at (leaf_kind link)) nothing nothing (λ e. tt) tt tt

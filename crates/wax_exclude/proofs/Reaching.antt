@@ -1,4 +1,4 @@
--- Of the whole walk nothing is wanted but what lies at or below the end of the way, above the greatest depth.
+-- Of the whole walk nothing is wanted but what lies at or below the last name of the origin, above the greatest depth.
 use Rattle.std.proofs.Common.{◌≡◌, ℕ, ◌<◌, ◌≤◌, Bool, true, false, cond, List, [], ◌∷◌, ◌++◌, length, refl}
 use Rattle.std.proofs.Common.{sym, ap, subst, ◌∙◌, inl, inr, arith, append_assoc, append-nil, length-append}
 use Rattle.std.specs.Prelude.{filter, nat_lt}
@@ -12,7 +12,7 @@ use Rattle.wax_directory.specs.declared.directory.FileType.TheVariants.{Folder}
 use Rattle.wax_directory.specs.Shown.{Items, end, leaf, folder, sealed, misnamed, unread, not_text, Shown}
 use Rattle.wax_directory.specs.Shown.{a_leaf, a_folder, a_sealed, missing, failing, leaf_kind, IsPlain}
 use Rattle.wax_directory.specs.Shown.{child_in, IsNew, AreDistinct, IsDistinct}
-use Rattle.wax_tree.specs.Plain.{Scope, Spot, one_deeper, plain_entry, items_forest, below_forest, plain_at}
+use Rattle.wax_tree.specs.Plain.{WalkScope, Location, one_deeper, plain_entry, items_forest, below_forest, plain_at}
 use Rattle.wax_tree.specs.Prefix.{ArePlain, walk_from}
 use Rattle.wax_walk.proofs.Collecting.{preorder_append}
 use Rattle.wax_walk.specs.declared.error.FaultKind.{FaultKind}
@@ -21,7 +21,7 @@ use Rattle.wax_walk.specs.Forest.{Forest, nothing, item, lists, preorder, follow
 use Rattle.wax_walk.specs.Given.{Given, fault}
 use Rattle.wax_exclude.proofs.Names.{at_join}
 use Rattle.wax_exclude.proofs.Walked.{same_filter, agree_inside}
-use Rattle.wax_exclude.specs.inner.Descents.{At, child_spot}
+use Rattle.wax_exclude.specs.inner.Descents.{At, child_location}
 use Rattle.wax_exclude.specs.Premises.{ArePlainItems, IsPlainShown}
 
 same_name : (y x : List ℕ) → bytes_eq y x ≡ true → y ≡ x
@@ -120,22 +120,22 @@ module _ (p : Given → Bool)
     -- ---- nothing is wanted past a depth
 
     module _ (min : ℕ) (root : List ℕ) (less max : ℕ) (le : less ≤ max) where
-      abbrev few : Scope
+      abbrev few : WalkScope
       few = record { min = min; max = less; root = root }
 
-      abbrev all : Scope
+      abbrev all : WalkScope
       all = record { min = min; max = max; root = root }
 
-      abbrev few_in : Spot → Items → Forest Given
+      abbrev few_in : Location → Items → Forest Given
       few_in at l = items_forest few (one_deeper at) l
 
-      abbrev all_in : Spot → Items → Forest Given
+      abbrev all_in : Location → Items → Forest Given
       all_in at l = items_forest all (one_deeper at) l
 
-      module _ (past : (at : Spot) (kind : FileType) (names : List (List ℕ)) → At rooted at names
+      module _ (past : (at : Location) (kind : FileType) (names : List (List ℕ)) → At rooted at names
           → less < at.depth
           → p (plain_entry all at kind) ≡ false) where
-        deep_none : (at : Spot) (names : List (List ℕ)) (l : Items) → less ≤ at.depth → At rooted at names
+        deep_none : (at : Location) (names : List (List ℕ)) (l : Items) → less ≤ at.depth → At rooted at names
             → ArePlainItems l → of (all_in at l) ≡ []
         deep_none at names l d a t =
             same_filter p never (all_in at l)
@@ -146,7 +146,7 @@ module _ (p : Given → Bool)
             ∙ none_of (preorder (all_in at l))
 
         -- what is wanted below a folder, to the one depth or the other
-        same_below : (at : Spot) (f g : Forest Given) → of f ≡ of g → (less ≤ at.depth → of g ≡ [])
+        same_below : (at : Location) (f g : Forest Given) → of f ≡ of g → (less ≤ at.depth → of g ≡ [])
             → (b c : Bool)
             → nat_lt at.depth less ≡ b → nat_lt at.depth max ≡ c
             → of (cond b (lists at.path f) nothing) ≡ of (cond c (lists at.path g) nothing)
@@ -163,7 +163,7 @@ module _ (p : Given → Bool)
         same_below at f g e n false false i j = refl
 
         -- the same of an entry with what lies below it
-        same_entry : (at : Spot) (f g after after' : Forest Given) → of f ≡ of g
+        same_entry : (at : Location) (f g after after' : Forest Given) → of f ≡ of g
             → (less ≤ at.depth → of g ≡ [])
             → of after ≡ of after'
             → of (cond (nat_lt at.depth min) (followed_by
@@ -178,22 +178,22 @@ module _ (p : Given → Bool)
             (cond (nat_lt at.depth max) (lists at.path g) nothing) after after'
             (same_below at f g e n (nat_lt at.depth less) (nat_lt at.depth max) refl refl) i
 
-        same_inside : (at : Spot) (names : List (List ℕ)) (l : Items) → At rooted at names → ArePlainItems l
+        same_inside : (at : Location) (names : List (List ℕ)) (l : Items) → At rooted at names → ArePlainItems l
             → of (few_in at l) ≡ of (all_in at l)
         same_inside at names end a t = refl
         same_inside at names (leaf x link rest) a t =
-            let c = child_spot at x in
+            let c = child_location at x in
             same_unless (nat_lt c.depth min) (plain_entry all c (leaf_kind link)) nothing nothing
             (few_in at rest)
             (all_in at rest) refl (same_inside at names rest a t.1)
         same_inside at names (folder x inner rest) a t =
             let h = at_join rooted at names x a t.0 in
-            let c = child_spot at x in
+            let c = child_location at x in
             same_entry c (few_in c inner) (all_in c inner) (few_in at rest) (all_in at rest)
             (same_inside c (names ++ x ∷ []) inner h t.1) (λ d. deep_none c (names ++ x ∷ []) inner d h t.1)
             (same_inside at names rest a t.2)
         same_inside at names (sealed x rest) a t =
-            let c = child_spot at x in
+            let c = child_location at x in
             let f = item (fault Listing c.path c.depth) nothing nothing in
             same_entry c f f (few_in at rest) (all_in at rest) refl
             (λ d. of_fault Listing c.path c.depth nothing)
@@ -208,7 +208,7 @@ module _ (p : Given → Bool)
             of_fault _ _ _ (few_in at rest) ∙ same_inside at names rest a t
             ∙ sym (of_fault _ _ _ (all_in at rest))
 
-        same_depths : (at : Spot) (names : List (List ℕ)) (s : Shown) → At rooted at names → IsPlainShown s
+        same_depths : (at : Location) (names : List (List ℕ)) (s : Shown) → At rooted at names → IsPlainShown s
             → of (plain_at few at s nothing) ≡ of (plain_at all at s nothing)
         same_depths at names (a_leaf link) a t = refl
         same_depths at names (a_folder l) a t =
@@ -221,7 +221,7 @@ module _ (p : Given → Bool)
         same_depths at names failing a t = refl
 
         -- a walk that ends where nothing more is wanted
-        pub same_walk : (names : List (List ℕ)) (at : Spot) (done : List (List ℕ)) (s : Shown)
+        pub same_walk : (names : List (List ℕ)) (at : Location) (done : List (List ℕ)) (s : Shown)
             → ArePlain names
             → At rooted at done → IsPlainShown s
             → of (walk_from few at s names nothing) ≡ of (walk_from all at s names nothing)
@@ -231,22 +231,22 @@ module _ (p : Given → Bool)
         same_walk (x ∷ names) at done missing n a t = refl
         same_walk (x ∷ names) at done failing n a t = refl
         same_walk (x ∷ names) at done (a_folder l) n a t =
-            same_walk names (child_spot at x) (done ++ x ∷ []) (child_in x l) n.1
+            same_walk names (child_location at x) (done ++ x ∷ []) (child_in x l) n.1
             (at_join rooted at done x a n.0)
             (plain_child x l t)
 
-    -- ---- nothing is wanted that isn't at or below the end of the way
+    -- ---- nothing is wanted that isn't at or below the last name of the origin
 
-    module _ (scope : Scope) (target : List (List ℕ))
-        (beyond : (at : Spot) (kind : FileType) (names : List (List ℕ)) → At rooted at names
+    module _ (scope : WalkScope) (target : List (List ℕ))
+        (beyond : (at : Location) (kind : FileType) (names : List (List ℕ)) → At rooted at names
         → ((rest : List (List ℕ)) → ¬ (names ≡ target ++ rest)) → p (plain_entry scope at kind) ≡ false) where
-      abbrev in_folder : Spot → Items → Forest Given
+      abbrev in_folder : Location → Items → Forest Given
       in_folder at l = items_forest scope (one_deeper at) l
 
-      abbrev low : Spot → Bool
+      abbrev low : Location → Bool
       low at = nat_lt at.depth scope.min
 
-      abbrev high : Spot → Bool
+      abbrev high : Location → Bool
       high at = nat_lt at.depth scope.max
 
       apart : (done names rest more : List (List ℕ)) (x y : List ℕ) → done ++ x ∷ names ≡ target
@@ -267,12 +267,12 @@ module _ (p : Given → Bool)
 
       module _ (done names : List (List ℕ)) (x : List ℕ) (aim : done ++ x ∷ names ≡ target) where
         -- an item of another name, and what lies below it
-        sibling : (at : Spot) (kind : FileType) (y : List ℕ) → At rooted at (done ++ y ∷ []) → ¬ (y ≡ x)
+        sibling : (at : Location) (kind : FileType) (y : List ℕ) → At rooted at (done ++ y ∷ []) → ¬ (y ≡ x)
             → p (plain_entry scope at kind) ≡ false
         sibling at kind y a n =
             beyond at kind (done ++ y ∷ []) a (λ rest e. n (apart done names rest [] x y aim e))
 
-        below_sibling : (at : Spot) (y : List ℕ) (l : Items) → At rooted at (done ++ y ∷ []) → ArePlainItems l
+        below_sibling : (at : Location) (y : List ℕ) (l : Items) → At rooted at (done ++ y ∷ []) → ArePlainItems l
             → ¬ (y ≡ x) → of (in_folder at l) ≡ []
         below_sibling at y l a t n =
             same_filter p never (in_folder at l)
@@ -287,39 +287,39 @@ module _ (p : Given → Bool)
         of_listed true path f e = e
         of_listed false path f e = refl
 
-        unwanted_leaf : (at : Spot) (y : List ℕ) (kind : FileType) (rest : Forest Given) → At rooted at done
+        unwanted_leaf : (at : Location) (y : List ℕ) (kind : FileType) (rest : Forest Given) → At rooted at done
             → IsPlain y → ¬ (y ≡ x)
-            → of (cond (low (child_spot at y)) (followed_by nothing rest)
-            (item (plain_entry scope (child_spot at y) kind) nothing rest)) ≡ of rest
+            → of (cond (low (child_location at y)) (followed_by nothing rest)
+            (item (plain_entry scope (child_location at y) kind) nothing rest)) ≡ of rest
         unwanted_leaf at y kind rest a t n =
-            of_unless (low (child_spot at y)) (plain_entry scope (child_spot at y) kind) nothing rest
-            (sibling (child_spot at y) kind y (at_join rooted at done y a t) n)
+            of_unless (low (child_location at y)) (plain_entry scope (child_location at y) kind) nothing rest
+            (sibling (child_location at y) kind y (at_join rooted at done y a t) n)
 
-        abbrev folder_forest : Spot → Forest Given → Forest Given → Forest Given
+        abbrev folder_forest : Location → Forest Given → Forest Given → Forest Given
         folder_forest at inner rest = cond (low at) (followed_by
             (cond (high at) (lists at.path inner) nothing) rest)
             (item (plain_entry scope at Folder) (cond (high at) (lists at.path inner) nothing) rest)
 
-        unwanted_folder : (at : Spot) (y : List ℕ) (inner rest : Forest Given) → At rooted at done → IsPlain y
-            → ¬ (y ≡ x) → of inner ≡ [] → of (folder_forest (child_spot at y) inner rest) ≡ of rest
+        unwanted_folder : (at : Location) (y : List ℕ) (inner rest : Forest Given) → At rooted at done → IsPlain y
+            → ¬ (y ≡ x) → of inner ≡ [] → of (folder_forest (child_location at y) inner rest) ≡ of rest
         unwanted_folder at y inner rest a t n e =
-            let c = child_spot at y in
+            let c = child_location at y in
             of_unless (low c) (plain_entry scope c Folder) (cond (high c) (lists c.path inner) nothing) rest
             (sibling c Folder y (at_join rooted at done y a t) n)
             ∙ ap (λ v. v ++ of rest) (of_listed (high c) c.path inner e)
 
         -- where no item has the name nothing is wanted
-        none_in : (at : Spot) (l : Items) → At rooted at done → ArePlainItems l → IsNew x l
+        none_in : (at : Location) (l : Items) → At rooted at done → ArePlainItems l → IsNew x l
             → of (in_folder at l) ≡ []
         none_in at end a t n = refl
         none_in at (leaf y link rest) a t n =
             unwanted_leaf at y (leaf_kind link) (in_folder at rest) a t.0 n.0 ∙ none_in at rest a t.1 n.1
         none_in at (folder y inner rest) a t n =
-            unwanted_folder at y (in_folder (child_spot at y) inner) (in_folder at rest) a t.0 n.0
-            (below_sibling (child_spot at y) y inner (at_join rooted at done y a t.0) t.1 n.0)
+            unwanted_folder at y (in_folder (child_location at y) inner) (in_folder at rest) a t.0 n.0
+            (below_sibling (child_location at y) y inner (at_join rooted at done y a t.0) t.1 n.0)
             ∙ none_in at rest a t.2 n.1
         none_in at (sealed y rest) a t n =
-            let c = child_spot at y in
+            let c = child_location at y in
             unwanted_folder at y (item (fault Listing c.path c.depth) nothing nothing) (in_folder at rest) a
             t.0 n.0
             (of_fault Listing c.path c.depth nothing) ∙ none_in at rest a t.1 n.1
@@ -327,60 +327,60 @@ module _ (p : Given → Bool)
         none_in at (unread rest) a t n = of_fault _ _ _ (in_folder at rest) ∙ none_in at rest a t n
         none_in at (not_text rest) a t n = of_fault _ _ _ (in_folder at rest) ∙ none_in at rest a t n
 
-        abbrev only : Spot → Shown → Forest Given
-        only at s = plain_at scope (child_spot at x) s nothing
+        abbrev only : Location → Shown → Forest Given
+        only at s = plain_at scope (child_location at x) s nothing
 
-        abbrev IsRest : Spot → Items → Type 0
+        abbrev IsRest : Location → Items → Type 0
         IsRest at rest = of (in_folder at rest) ≡ of (only at (child_in x rest))
 
-        only_leaf : (at : Spot) (y : List ℕ) (link : Bool) (rest : Items) → At rooted at done → IsPlain y
+        only_leaf : (at : Location) (y : List ℕ) (link : Bool) (rest : Items) → At rooted at done → IsPlain y
             → ArePlainItems rest → IsRest at rest → (b : Bool) → (b ≡ true → y ≡ x) → (b ≡ false → ¬ (y ≡ x))
             → (y ≡ x → IsNew x rest)
             → of (in_folder at (leaf y link rest)) ≡ of (only at (cond b (a_leaf link) (child_in x rest)))
         only_leaf at y link rest a t u ih true e f new =
-            same_unless (low (child_spot at y)) (plain_entry scope (child_spot at y) (leaf_kind link)) nothing
+            same_unless (low (child_location at y)) (plain_entry scope (child_location at y) (leaf_kind link)) nothing
             nothing
             (in_folder at rest) nothing refl (none_in at rest a u (new (e refl)))
-            ∙ ap (λ v. of (plain_at scope (child_spot at v) (a_leaf link) nothing)) (e refl)
+            ∙ ap (λ v. of (plain_at scope (child_location at v) (a_leaf link) nothing)) (e refl)
         only_leaf at y link rest a t u ih false e f new =
             unwanted_leaf at y (leaf_kind link) (in_folder at rest) a t (f refl) ∙ ih
 
-        only_folder : (at : Spot) (y : List ℕ) (inner rest : Items) → At rooted at done → IsPlain y
+        only_folder : (at : Location) (y : List ℕ) (inner rest : Items) → At rooted at done → IsPlain y
             → ArePlainItems inner → ArePlainItems rest → IsRest at rest → (b : Bool) → (b ≡ true → y ≡ x)
             → (b ≡ false → ¬ (y ≡ x)) → (y ≡ x → IsNew x rest)
             → of (in_folder at (folder y inner rest)) ≡ of
             (only at (cond b (a_folder inner) (child_in x rest)))
         only_folder at y inner rest a t v u ih true e f new =
-            let c = child_spot at y in
+            let c = child_location at y in
             let below = below_forest scope c (a_folder inner) in
             same_unless (low c) (plain_entry scope c Folder) below below (in_folder at rest) nothing refl
             (none_in at rest a u (new (e refl)))
-            ∙ ap (λ v. of (plain_at scope (child_spot at v) (a_folder inner) nothing)) (e refl)
+            ∙ ap (λ v. of (plain_at scope (child_location at v) (a_folder inner) nothing)) (e refl)
         only_folder at y inner rest a t v u ih false e f new =
-            unwanted_folder at y (in_folder (child_spot at y) inner) (in_folder at rest) a t (f refl)
-            (below_sibling (child_spot at y) y inner (at_join rooted at done y a t) v (f refl)) ∙ ih
+            unwanted_folder at y (in_folder (child_location at y) inner) (in_folder at rest) a t (f refl)
+            (below_sibling (child_location at y) y inner (at_join rooted at done y a t) v (f refl)) ∙ ih
 
-        only_sealed : (at : Spot) (y : List ℕ) (rest : Items) → At rooted at done → IsPlain y
+        only_sealed : (at : Location) (y : List ℕ) (rest : Items) → At rooted at done → IsPlain y
             → ArePlainItems rest
             → IsRest at rest → (b : Bool) → (b ≡ true → y ≡ x) → (b ≡ false → ¬ (y ≡ x))
             → (y ≡ x → IsNew x rest)
             → of (in_folder at (sealed y rest)) ≡ of (only at (cond b a_sealed (child_in x rest)))
         only_sealed at y rest a t u ih true e f new =
-            let c = child_spot at y in
+            let c = child_location at y in
             let below = below_forest scope c a_sealed in
             same_unless (low c) (plain_entry scope c Folder) below below (in_folder at rest) nothing refl
             (none_in at rest a u (new (e refl)))
-            ∙ ap (λ v. of (plain_at scope (child_spot at v) a_sealed nothing)) (e refl)
+            ∙ ap (λ v. of (plain_at scope (child_location at v) a_sealed nothing)) (e refl)
         only_sealed at y rest a t u ih false e f new =
-            let c = child_spot at y in
+            let c = child_location at y in
             unwanted_folder at y (item (fault Listing c.path c.depth) nothing nothing) (in_folder at rest) a t
             (f refl)
             (of_fault Listing c.path c.depth nothing) ∙ ih
 
         -- of a folder only what has the name is wanted
-        only_child : (at : Spot) (l : Items) → At rooted at done → ArePlainItems l → AreDistinct l
+        only_child : (at : Location) (l : Items) → At rooted at done → ArePlainItems l → AreDistinct l
             → of (in_folder at l) ≡ of (only at (child_in x l))
-        only_child at end a t u = sym (of_fault NotFound (child_spot at x).path (child_spot at x).depth
+        only_child at end a t u = sym (of_fault NotFound (child_location at x).path (child_location at x).depth
             nothing)
         only_child at (leaf y link rest) a t u =
             only_leaf at y link rest a t.0 t.1 (only_child at rest a t.1 u.1) (bytes_eq y x) (same_name y x)
@@ -397,11 +397,11 @@ module _ (p : Given → Bool)
         only_child at (unread rest) a t u = of_fault _ _ _ (in_folder at rest) ∙ only_child at rest a t u
         only_child at (not_text rest) a t u = of_fault _ _ _ (in_folder at rest) ∙ only_child at rest a t u
 
-        short : (at : Spot) (kind : FileType) → At rooted at done → p (plain_entry scope at kind) ≡ false
+        short : (at : Location) (kind : FileType) → At rooted at done → p (plain_entry scope at kind) ≡ false
         short at kind a = beyond at kind done a (λ rest e. too_few done names rest x aim e)
 
         -- of what is shown here only what has the name is wanted
-        step_in : (at : Spot) (l : Items) → At rooted at done → ArePlainItems l → AreDistinct l
+        step_in : (at : Location) (l : Items) → At rooted at done → ArePlainItems l → AreDistinct l
             → length target ≤ scope.max
             → of (plain_at scope at (a_folder l) nothing) ≡ of (only at (child_in x l))
         step_in at l a t u m =
@@ -414,13 +414,13 @@ module _ (p : Given → Bool)
             ∙ ap (λ b. of (cond b (lists at.path (in_folder at l)) nothing)) lt
             ∙ only_child at l a t u
 
-        stuck_leaf : (at : Spot) (link : Bool) → At rooted at done
+        stuck_leaf : (at : Location) (link : Bool) → At rooted at done
             → of (plain_at scope at (a_leaf link) nothing) ≡ []
         stuck_leaf at link a =
             of_unless (low at) (plain_entry scope at (leaf_kind link)) nothing nothing
             (short at (leaf_kind link) a)
 
-        stuck_sealed : (at : Spot) → At rooted at done → of (plain_at scope at a_sealed nothing) ≡ []
+        stuck_sealed : (at : Location) → At rooted at done → of (plain_at scope at a_sealed nothing) ≡ []
         stuck_sealed at a =
             of_unless (low at) (plain_entry scope at Folder) (below_forest scope at a_sealed) nothing
             (short at Folder a)
@@ -428,8 +428,8 @@ module _ (p : Given → Bool)
             ∙ of_listed (high at) at.path (item (fault Listing at.path at.depth) nothing nothing)
             (of_fault Listing at.path at.depth nothing)
 
-      -- what is wanted of the whole walk is what is wanted of the walk from the end of the way
-      pub reached : (names : List (List ℕ)) (at : Spot) (done : List (List ℕ)) (s : Shown)
+      -- what is wanted of the whole walk is what is wanted of the walk from the last name of the origin
+      pub reached : (names : List (List ℕ)) (at : Location) (done : List (List ℕ)) (s : Shown)
           → done ++ names ≡ target
           → ArePlain names → At rooted at done → IsPlainShown s → IsDistinct s → length target ≤ scope.max
           → of (walk_from scope at s names nothing) ≡ of (plain_at scope at s nothing)
@@ -437,12 +437,12 @@ module _ (p : Given → Bool)
       reached (x ∷ names) at done (a_leaf link) e n a t u m =
           of_fault NotAFolder at.path at.depth nothing ∙ sym (stuck_leaf done names x e at link a)
       reached (x ∷ names) at done a_sealed e n a t u m =
-          let c = child_spot at x in
+          let c = child_location at x in
           of_fault Listing c.path c.depth nothing ∙ sym (stuck_sealed done names x e at a)
       reached (x ∷ names) at done missing e n a t u m = refl
       reached (x ∷ names) at done failing e n a t u m = refl
       reached (x ∷ names) at done (a_folder l) e n a t u m =
-          reached names (child_spot at x) (done ++ x ∷ []) (child_in x l)
+          reached names (child_location at x) (done ++ x ∷ []) (child_in x l)
           (append_assoc done (x ∷ []) names ∙ e) n.1
           (at_join rooted at done x a n.0) (plain_child x l t) (distinct_child x l u) m
           ∙ sym (step_in done names x e at l a t u m)

@@ -11,7 +11,7 @@ use Rattle.wax_directory.specs.Shown.{a_leaf, a_folder, a_sealed, missing, faili
 use Rattle.wax_token.specs.Decided.{means_test}
 use Rattle.wax_token.specs.Spelled.{LiteralsHaveNoSlash}
 use Rattle.wax_token.specs.Syntax.{Tree}
-use Rattle.wax_tree.specs.Plain.{Scope, Spot, one_deeper, plain_entry, unlisted, items_forest, below_forest}
+use Rattle.wax_tree.specs.Plain.{WalkScope, Location, one_deeper, plain_entry, unlisted, items_forest, below_forest}
 use Rattle.wax_tree.specs.Plain.{plain_at}
 use Rattle.wax_walk.specs.declared.error.FaultKind.{FaultKind}
 use Rattle.wax_walk.specs.Forest.{Forest, nothing, item, lists, preorder, followed_by}
@@ -22,7 +22,7 @@ use Rattle.wax_exclude.proofs.Names.{at_join, at_sees, names_chars, seen_at}
 use Rattle.wax_exclude.proofs.Passing.{passes_at}
 use Rattle.wax_exclude.proofs.Stacking.{stacked_entries}
 use Rattle.wax_exclude.specs.Candidates.{Candidate}
-use Rattle.wax_exclude.specs.inner.Descents.{At, child_spot}
+use Rattle.wax_exclude.specs.inner.Descents.{At, child_location}
 use Rattle.wax_exclude.specs.inner.Stacks.{keeps, all_keep, is_left, AllPassDown}
 use Rattle.wax_exclude.specs.Marks.{glob_mark}
 use Rattle.wax_exclude.specs.Premises.{ArePlainItems, IsPlainShown}
@@ -64,19 +64,19 @@ module _ (p q : Given → Bool) where
   agree_if false f h = tt
 
   -- on entries of names that have Good, and on faults
-  module _ (rooted : Bool) (scope : Scope) (Good : List (List ℕ) → Type 0)
+  module _ (rooted : Bool) (scope : WalkScope) (Good : List (List ℕ) → Type 0)
       (good_more : (names : List (List ℕ)) (x : List ℕ) → Good names → Good (names ++ x ∷ []))
-      (of_entries : (at : Spot) (kind : FileType) (names : List (List ℕ)) → At rooted at names → Good names
+      (of_entries : (at : Location) (kind : FileType) (names : List (List ℕ)) → At rooted at names → Good names
       → p (plain_entry scope at kind) ≡ q (plain_entry scope at kind))
       (of_faults : (kind : FaultKind) (path : List ℕ) (depth : ℕ)
       → p (fault kind path depth) ≡ q (fault kind path depth)) where
-    abbrev in_folder : Spot → Items → Forest Given
+    abbrev in_folder : Location → Items → Forest Given
     in_folder at l = items_forest scope (one_deeper at) l
 
-    abbrev low : Spot → Bool
+    abbrev low : Location → Bool
     low at = nat_lt at.depth scope.min
 
-    abbrev high : Spot → Bool
+    abbrev high : Location → Bool
     high at = nat_lt at.depth scope.max
 
     agree_sealed : (b : Bool) (path : List ℕ) (depth : ℕ)
@@ -84,24 +84,24 @@ module _ (p q : Given → Bool) where
     agree_sealed true path depth = (of_faults _ path depth, tt, tt)
     agree_sealed false path depth = tt
 
-    pub agree_inside : (at : Spot) (names : List (List ℕ)) (l : Items) → At rooted at names → ArePlainItems l
+    pub agree_inside : (at : Location) (names : List (List ℕ)) (l : Items) → At rooted at names → ArePlainItems l
         → ((x : List ℕ) → Good (names ++ x ∷ [])) → Agree p q (in_folder at l)
     agree_inside at names end h t g = tt
     agree_inside at names (leaf x link rest) h t g =
-        let c = child_spot at x in
+        let c = child_location at x in
         agree_unless (low c) (plain_entry scope c (leaf_kind link)) nothing (in_folder at rest)
         (of_entries c (leaf_kind link) (names ++ x ∷ []) (at_join rooted at names x h t.0) (g x)) tt
         (agree_inside at names rest h t.1 g)
     agree_inside at names (folder x inner rest) h t g =
         let a = at_join rooted at names x h t.0 in
-        let c = child_spot at x in
+        let c = child_location at x in
         agree_unless (low c) (plain_entry scope c Folder) (below_forest scope c (a_folder inner))
         (in_folder at rest) (of_entries c Folder (names ++ x ∷ []) a (g x))
         (agree_if (high c) (lists c.path (in_folder c inner))
         (agree_inside c (names ++ x ∷ []) inner a t.1 (λ y. good_more (names ++ x ∷ []) y (g x))))
         (agree_inside at names rest h t.2 g)
     agree_inside at names (sealed x rest) h t g =
-        let c = child_spot at x in
+        let c = child_location at x in
         agree_unless (low c) (plain_entry scope c Folder) (below_forest scope c a_sealed) (in_folder at rest)
         (of_entries c Folder (names ++ x ∷ []) (at_join rooted at names x h t.0) (g x))
         (agree_sealed (high c) c.path c.depth) (agree_inside at names rest h t.1 g)
@@ -110,7 +110,7 @@ module _ (p q : Given → Bool) where
     agree_inside at names (unread rest) h t g = (of_faults _ _ _, tt, agree_inside at names rest h t g)
     agree_inside at names (not_text rest) h t g = (of_faults _ _ _, tt, agree_inside at names rest h t g)
 
-    pub agree_at : (at : Spot) (names : List (List ℕ)) (s : Shown) → At rooted at names → IsPlainShown s
+    pub agree_at : (at : Location) (names : List (List ℕ)) (s : Shown) → At rooted at names → IsPlainShown s
         → Good names → Agree p q (plain_at scope at s nothing)
     agree_at at names (a_leaf link) h t g =
         agree_unless (low at) (plain_entry scope at (leaf_kind link)) nothing nothing
@@ -128,7 +128,7 @@ module _ (p q : Given → Bool) where
 
 -- ---- what the filters keep
 
-glob_keep : {A : Type 0} (rooted : Bool) (t : Tree A) (at : Spot) (names : List (List ℕ))
+glob_keep : {A : Type 0} (rooted : Bool) (t : Tree A) (at : Location) (names : List (List ℕ))
     → LiteralsHaveNoSlash t
     → At rooted at names
     → keeps (glob_mark rooted t (seen_at at)) ≡ means_test t false false (chars at.candidate)
@@ -138,8 +138,8 @@ glob_keep rooted t at names p h =
     ∙ glob_keeps rooted t (map chars names) p (names_chars names h.are_plain)
     ∙ sym (ap (λ (c : Candidate). means_test t false false c.text) e)
 
-module _ {A : Type 0} (w : Wanted A) (scope : Scope) where
-  pass_filters : (at : Spot) (names : List (List ℕ)) (s : Shown) → At w.rooted at names → IsPlainShown s
+module _ {A : Type 0} (w : Wanted A) (scope : WalkScope) where
+  pass_filters : (at : Location) (names : List (List ℕ)) (s : Shown) → At w.rooted at names → IsPlainShown s
       → (filters : List (Filter A)) → AllPassDown (filter_rules filters) (plain_at scope at s nothing)
   pass_filters at names s h x [] = tt
   pass_filters at names s h x (y ∷ filters) = (
@@ -148,7 +148,7 @@ module _ {A : Type 0} (w : Wanted A) (scope : Scope) where
   )
 
   -- the entries that are kept are those of the whole walk from there that are wanted, in order
-  pub walk_wanted : (at : Spot) (names : List (List ℕ)) (s : Shown) → LiteralsHaveNoSlash w.glob
+  pub walk_wanted : (at : Location) (names : List (List ℕ)) (s : Shown) → LiteralsHaveNoSlash w.glob
       → At w.rooted at names → IsPlainShown s
       → filter is_kept_entry (preorder (stacked (rules_of w) (plain_at scope at s nothing)))
       ≡ filter (is_wanted w) (preorder (plain_at scope at s nothing))

@@ -10,8 +10,8 @@ use Rattle.wax_directory.specs.declared.directory.FileType.TheVariants.{Folder}
 use Rattle.wax_directory.specs.Shown.{Items, end, leaf, folder, sealed, misnamed, unread, not_text, Shown}
 use Rattle.wax_directory.specs.Shown.{a_leaf, a_folder, a_sealed, missing, failing, leaf_kind}
 use Rattle.wax_tree.specs.Begins.{scope_in}
-use Rattle.wax_tree.specs.declared.steps.Range.{Range}
-use Rattle.wax_tree.specs.Plain.{Scope, Spot, item_spot, one_deeper, items_forest, below_forest, unlisted}
+use Rattle.wax_tree.specs.declared.steps.DepthRange.{DepthRange}
+use Rattle.wax_tree.specs.Plain.{WalkScope, Location, item_location, one_deeper, items_forest, below_forest, unlisted}
 use Rattle.wax_tree.specs.Plain.{plain_at}
 use Rattle.wax_tree.specs.Whole.{whole_entry, whole_items, whole_at, is_in}
 use Rattle.wax_walk.specs.declared.error.FaultKind.{FaultKind}
@@ -34,8 +34,8 @@ not_past false n = refl
 
 module _ (p : Given → Bool)
     (no_faults : (kind : FaultKind) (path : List ℕ) (depth : ℕ) → p (fault kind path depth) ≡ false)
-    (range : Range) (root : List ℕ) where
-  abbrev scope : Scope
+    (range : DepthRange) (root : List ℕ) where
+  abbrev scope : WalkScope
   scope = scope_in range root
 
   abbrev in_range : Given → Bool
@@ -47,10 +47,10 @@ module _ (p : Given → Bool)
   abbrev of_whole : List Given → List Given
   of_whole xs = filter in_range xs
 
-  abbrev low : Spot → Bool
+  abbrev low : Location → Bool
   low at = nat_lt at.depth range.min
 
-  abbrev high : Spot → Bool
+  abbrev high : Location → Bool
   high at = nat_lt range.max at.depth
 
   -- an entry is left out above the least depth
@@ -60,20 +60,20 @@ module _ (p : Given → Bool)
   of_low true x below after = of_followed p no_faults below after
   of_low false x below after = of_item p no_faults x below after
 
-  test_within : (at : Spot) (kind : FileType) → at.depth ≤ range.max
+  test_within : (at : Location) (kind : FileType) → at.depth ≤ range.max
       → in_range (whole_entry root at kind) ≡ (not (low at) && p (whole_entry root at kind))
   test_within at kind h =
       within (not (low at)) (high at) (p (whole_entry root at kind))
       (not_past (high at) (λ e. (let l = ltb-true range.max at.depth e in omega (arith, l, h))))
 
-  test_past : (at : Spot) (kind : FileType) → range.max < at.depth
+  test_past : (at : Location) (kind : FileType) → range.max < at.depth
       → in_range (whole_entry root at kind) ≡ false
   test_past at kind h =
       ap (λ b. not (low at) && not b && p (whole_entry root at kind)) (lt-ltb range.max at.depth h)
       ∙ past (not (low at)) (p (whole_entry root at kind))
 
   -- an entry and what follows it
-  kept_within : (at : Spot) (kind : FileType) (below after : Forest Given) (xs ys : List Given)
+  kept_within : (at : Location) (kind : FileType) (below after : Forest Given) (xs ys : List Given)
       → at.depth ≤ range.max → of below ≡ of_whole xs → of after ≡ of_whole ys
       → of (cond (low at) (followed_by below after) (item (whole_entry root at kind) below after))
       ≡ of_whole (whole_entry root at kind ∷ (xs ++ ys))
@@ -85,32 +85,32 @@ module _ (p : Given → Bool)
       ∙ ap (λ zs. cond (in_range x) (x ∷ (of_whole xs ++ zs)) (of_whole xs ++ zs)) f
       ∙ ap (λ zs. cond (in_range x) (x ∷ zs) zs) (sym (filter-append in_range xs ys))
 
-  left_past : (at : Spot) (kind : FileType) (xs : List Given) → range.max < at.depth → of_whole xs ≡ []
+  left_past : (at : Location) (kind : FileType) (xs : List Given) → range.max < at.depth → of_whole xs ≡ []
       → of_whole (whole_entry root at kind ∷ xs) ≡ []
   left_past at kind xs h e =
       ap (λ b. cond b (whole_entry root at kind ∷ of_whole xs) (of_whole xs)) (test_past at kind h) ∙ e
 
   -- nothing below the greatest depth is in range
-  none_deeper : (at : Spot) (l : Items) → range.max < at.depth → of_whole (whole_items root at l) ≡ []
+  none_deeper : (at : Location) (l : Items) → range.max < at.depth → of_whole (whole_items root at l) ≡ []
   none_deeper at end h = refl
   none_deeper at (leaf x link rest) h =
-      left_past (item_spot at x) (leaf_kind link) (whole_items root at rest) h (none_deeper at rest h)
+      left_past (item_location at x) (leaf_kind link) (whole_items root at rest) h (none_deeper at rest h)
   none_deeper at (folder x inner rest) h =
-      let deep = one_deeper (item_spot at x) in
+      let deep = one_deeper (item_location at x) in
       let below = whole_items root deep inner in
-      left_past (item_spot at x) Folder (below ++ whole_items root at rest) h
+      left_past (item_location at x) Folder (below ++ whole_items root at rest) h
       (filter-append in_range below (whole_items root at rest)
       ∙ ap (λ zs. zs ++ of_whole (whole_items root at rest)) (none_deeper deep inner (omega (arith, h)))
       ∙ none_deeper at rest h)
   none_deeper at (sealed x rest) h =
-      left_past (item_spot at x) Folder (fault Listing (item_spot at x).path at.depth ∷ whole_items root at
+      left_past (item_location at x) Folder (fault Listing (item_location at x).path at.depth ∷ whole_items root at
       rest) h
       (none_deeper at rest h)
   none_deeper at (misnamed x kind rest) h = none_deeper at rest h
   none_deeper at (unread rest) h = none_deeper at rest h
   none_deeper at (not_text rest) h = none_deeper at rest h
 
-  below_whole : (at : Spot) (l : Items)
+  below_whole : (at : Location) (l : Items)
       → (at.depth + 1 ≤ range.max
       → of (items_forest scope (one_deeper at) l) ≡ of_whole (whole_items root (one_deeper at) l))
       → (b : Bool) → nat_lt at.depth range.max ≡ b
@@ -127,20 +127,20 @@ module _ (p : Given → Bool)
   below_sealed true path depth = of_fault p no_faults Listing path depth nothing
   below_sealed false path depth = refl
 
-  items_whole : (at : Spot) (l : Items) → at.depth ≤ range.max
+  items_whole : (at : Location) (l : Items) → at.depth ≤ range.max
       → of (items_forest scope at l) ≡ of_whole (whole_items root at l)
   items_whole at end h = refl
   items_whole at (leaf x link rest) h =
-      kept_within (item_spot at x) (leaf_kind link) nothing (items_forest scope at rest) []
+      kept_within (item_location at x) (leaf_kind link) nothing (items_forest scope at rest) []
       (whole_items root at rest) h refl (items_whole at rest h)
   items_whole at (folder x inner rest) h =
-      let c = item_spot at x in
+      let c = item_location at x in
       kept_within c Folder (below_forest scope c (a_folder inner)) (items_forest scope at rest)
       (whole_items root (one_deeper c) inner) (whole_items root at rest) h
       (below_whole c inner (λ d. items_whole (one_deeper c) inner d) (nat_lt c.depth range.max) refl)
       (items_whole at rest h)
   items_whole at (sealed x rest) h =
-      let c = item_spot at x in
+      let c = item_location at x in
       kept_within c Folder (below_forest scope c a_sealed) (items_forest scope at rest)
       (fault Listing c.path c.depth ∷ []) (whole_items root at rest) h
       (below_sealed (nat_lt c.depth range.max) c.path c.depth) (items_whole at rest h)
@@ -151,7 +151,7 @@ module _ (p : Given → Bool)
   items_whole at (not_text rest) h =
       of_fault p no_faults _ _ _ (items_forest scope at rest) ∙ items_whole at rest h
 
-  pub at_whole : (at : Spot) (s : Shown) → at.depth ≤ range.max
+  pub at_whole : (at : Location) (s : Shown) → at.depth ≤ range.max
       → of (plain_at scope at s nothing) ≡ of_whole (whole_at root at s)
   at_whole at (a_leaf link) h = kept_within at (leaf_kind link) nothing nothing [] [] h refl refl
   at_whole at (a_folder l) h =

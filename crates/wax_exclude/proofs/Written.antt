@@ -2,7 +2,7 @@
 use Rattle.std.proofs.Common.{inl, inr, map, ◌≡◌, ◌≢◌, ◌==◌, ◌+◌, ◌<◌, ◌∙◌, ℕ, true, false, if◌then◌else◌, List, [], ◌∷◌, ◌++◌, drop, length, get_or, refl, sym, ap, append_assoc}
 use Rattle.std.proofs.lemmas.Bool.{cases_Bool, eqb-true}
 use Rattle.std.proofs.lemmas.List.{drop_more}
-use Rattle.wax_exclude.specs.Lines.{Written, is_skipped, line_at, lines_from, said_at, takes_back, without_return}
+use Rattle.wax_exclude.specs.Lines.{Written, is_skipped, line_at, lines_from, said_at, reincludes, without_return}
 
 -- ---- the carriage return at the end
 
@@ -33,7 +33,7 @@ pub says_taken_back : (number : ℕ) (part line expression : List ℕ) → line 
 says_taken_back number part line expression e h back =
     sym (ap (λ l. said_at number l ∷ []) back) ∙ says_something number part line e h
 
-not_back : (line : List ℕ) → ((rest : List ℕ) → line ≢ 33 ∷ rest) → takes_back line ≡ false
+not_back : (line : List ℕ) → ((rest : List ℕ) → line ≢ 33 ∷ rest) → reincludes line ≡ false
 not_back [] h = refl
 not_back (b ∷ line) h = elim (cases_Bool (b == 33)) [ inl e ↦ absurd (h line (ap (λ v. v ∷ line) (eqb-true b 33 e))) | inr e ↦ e ]
 

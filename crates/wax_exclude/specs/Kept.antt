@@ -4,7 +4,7 @@ use Rattle.std.specs.List.{Contains}
 use Rattle.wax_directory.specs.Shown.{Shown}
 use Rattle.wax_token.specs.Reads.{Span}
 use Rattle.wax_tree.specs.Begins.{scope_in}
-use Rattle.wax_tree.specs.declared.steps.Range.{Range}
+use Rattle.wax_tree.specs.declared.steps.DepthRange.{DepthRange}
 use Rattle.wax_tree.specs.Plain.{count_shown, plain}
 use Rattle.wax_tree.specs.Whole.{is_in, whole}
 use Rattle.wax_walk.specs.Collected.{IsCutShort}
@@ -16,39 +16,39 @@ use Rattle.wax_exclude.specs.Unignored.{ignore_rules, is_unignored, IsIgnoredBel
 use Rattle.wax_exclude.specs.Wanted.{is_kept_entry, stacked}
 
 -- a plain walk from a start, of the depths in range, less what these lines ignore
-pub record Tour : Type 0 where
+pub record PlainRequest : Type 0 where
   pub lines : List (Line Span)
-  pub range : Range
+  pub range : DepthRange
   pub start : List ℕ
 
 -- the plain walk, and what comes of it
-abbrev pub tour_plain : Tour → Shown → Forest Given
-tour_plain tour s = plain (scope_in tour.range tour.start) s
+abbrev pub requested_plain : PlainRequest → Shown → Forest Given
+requested_plain request s = plain (scope_in request.range request.start) s
 
-abbrev pub tour_walk : Tour → Shown → Forest Given
-tour_walk tour s = stacked (ignore_rules tour.lines) (tour_plain tour s)
+abbrev pub unignored_walk : PlainRequest → Shown → Forest Given
+unignored_walk request s = stacked (ignore_rules request.lines) (requested_plain request s)
 
 -- the entries of the whole walk that are in range and aren't ignored, in order
-abbrev pub unignored_entries : Tour → Shown → List Given
-unignored_entries tour s =
-    filter (λ x. is_in tour.range x && is_unignored tour.lines x) (whole tour.start s)
+abbrev pub unignored_entries : PlainRequest → Shown → List Given
+unignored_entries request s =
+    filter (λ x. is_in request.range x && is_unignored request.lines x) (whole request.start s)
 
 -- each folder that the plain walk lists is listed, or is or lies below what is ignored with all below it
-abbrev pub ListsUnignored : Tour → Shown → Type 0
-ListsUnignored tour s = All (λ path. Contains (listings (tour_walk tour s)) path
-    ⊎ IsIgnoredBelow tour.lines tour.start path) (listings (tour_plain tour s))
+abbrev pub ListsUnignored : PlainRequest → Shown → Type 0
+ListsUnignored request s = All (λ path. Contains (listings (unignored_walk request s)) path
+    ⊎ IsIgnoredBelow request.lines request.start path) (listings (requested_plain request s))
 
 -- These items were kept: all that comes, of which the entries are those of the whole walk that are in range
 -- and aren't ignored, in order, and only folders weren't listed below which all is ignored; or a beginning of
 -- it, and then that memory was refused, or that the budget is reached.
-pub data KeepsUnignored (tells : List (List ℕ) → Type 0) (tour : Tour) (s : Shown) (listed : List (List ℕ))
-    (ys : List Given) : Type 0 where
-  gives : ys ≡ filter is_kept (preorder (tour_walk tour s))
-      → filter is_kept_entry ys ≡ unignored_entries tour s
-      → tells (listed ++ listings (tour_walk tour s)) → ListsUnignored tour s
-      → KeepsUnignored tells tour s listed ys
-  lacks_memory : IsCutShort (filter is_kept (preorder (tour_walk tour s))) no_memory ys
-      → KeepsUnignored tells tour s listed ys
-  over_budget : (path : List ℕ) (depth : ℕ) → tour.range.budget < count_shown s
-      → IsCutShort (filter is_kept (preorder (tour_walk tour s))) (fault Budget path depth) ys
-      → KeepsUnignored tells tour s listed ys
+pub data KeepsUnignored (tells : List (List ℕ) → Type 0) (request : PlainRequest) (s : Shown)
+    (listed : List (List ℕ)) (ys : List Given) : Type 0 where
+  gives : ys ≡ filter is_kept (preorder (unignored_walk request s))
+      → filter is_kept_entry ys ≡ unignored_entries request s
+      → tells (listed ++ listings (unignored_walk request s)) → ListsUnignored request s
+      → KeepsUnignored tells request s listed ys
+  lacks_memory : IsCutShort (filter is_kept (preorder (unignored_walk request s))) no_memory ys
+      → KeepsUnignored tells request s listed ys
+  over_budget : (path : List ℕ) (depth : ℕ) → request.range.budget < count_shown s
+      → IsCutShort (filter is_kept (preorder (unignored_walk request s))) (fault Budget path depth) ys
+      → KeepsUnignored tells request s listed ys

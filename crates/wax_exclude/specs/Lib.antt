@@ -9,10 +9,10 @@ pub mod Law
 pub mod Leading
 pub mod Lines
 pub mod Marks
-pub mod PlainTrips
+pub mod TreeRequests
 pub mod Prefix
 pub mod Premises
-pub mod Trips
+pub mod GlobRequests
 pub mod Unignored
 pub mod Walked
 pub mod Wanted

@@ -33,14 +33,14 @@ is_skipped [] = true
 is_skipped (b ∷ line) = b == 35
 
 -- one that begins with `!`
-abbrev pub takes_back : List ℕ → Bool
-takes_back [] = false
-takes_back (b ∷ line) = b == 33
+abbrev pub reincludes : List ℕ → Bool
+reincludes [] = false
+reincludes (b ∷ line) = b == 33
 
 -- what a line of this number says, where it isn't skipped
 abbrev pub said_at : ℕ → List ℕ → Written
 said_at number line =
-    if takes_back line then record { number = number; ignores = false; expression = drop 1 line }
+    if reincludes line then record { number = number; ignores = false; expression = drop 1 line }
     else record { number = number; ignores = true; expression = line }
 
 -- what is said between two line feeds: a line, or nothing

@@ -10,11 +10,11 @@ use Rattle.wax_exclude.specs.Leading.{leading_of, lead_test}
 
 -- an entry that isn't led is left out with what lies below it, and one that isn't meant alone
 abbrev pub led_mark : Bool → Bool → Mark
-led_mark is_led is_meant = if is_led then (if is_meant then kept else alone) else with_tree
+led_mark is_led is_matched = if is_led then (if is_matched then kept else alone) else with_tree
 
 -- an entry that is covered is left out with what lies below it, and one that is meant alone
 abbrev pub covered_mark : Bool → Bool → Mark
-covered_mark is_covered is_meant = if is_covered then with_tree else (if is_meant then alone else kept)
+covered_mark is_covered is_matched = if is_covered then with_tree else (if is_matched then alone else kept)
 
 -- what the walk of a glob says, from the root or not
 abbrev pub glob_mark : {A : Type 0} → Bool → Tree A → Candidate → Mark

@@ -9,15 +9,15 @@ HasEmptyName p = (x y : List ℕ) × (p ≡ x ++ 47 ∷ 47 ∷ y)
 
 -- The names of a prefix, rooted or not: with a `/` between each two they are the prefix, but for a `/` at its
 -- end.
-pub record IsWay (p : List ℕ) (rooted : Bool) (names : List (List ℕ)) : Type 0 where
+pub record SplitsInto (p : List ℕ) (rooted : Bool) (names : List (List ℕ)) : Type 0 where
   pub root : rooted ≡ is_rooted p
   pub parts : names ≡ names_in_path p
   pub whole : (p ≡ text_at rooted names) ⊎ (¬ (names ≡ []) × (p ≡ text_at rooted names ++ 47 ∷ []))
 
 -- the same of a prefix as characters, and of names as bytes, where no two `/` stand side by side
-pub record IsPrefixWay (p : List ℕ) (rooted : Bool) (names : List (List ℕ)) : Type 0 where
+pub record PrefixSplitsInto (p : List ℕ) (rooted : Bool) (names : List (List ℕ)) : Type 0 where
   pub text : List ℕ
   pub encoded : IsUtf8 text
   pub characters : chars text ≡ p
   pub unbroken : ¬ (HasEmptyName p)
-  pub way : IsWay text rooted names
+  pub split : SplitsInto text rooted names

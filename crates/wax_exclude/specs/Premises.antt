@@ -5,8 +5,8 @@ use Rattle.wax_directory.specs.Shown.{a_folder, IsPlain, IsDistinct}
 use Rattle.wax_token.specs.Meaning.{Means}
 use Rattle.wax_token.specs.Spelled.{LiteralsHaveNoSlash}
 use Rattle.wax_token.specs.Syntax.{Tree}
-use Rattle.wax_tree.specs.Begins.{Way}
-use Rattle.wax_tree.specs.declared.steps.Range.{Range}
+use Rattle.wax_tree.specs.Begins.{Origin}
+use Rattle.wax_tree.specs.declared.steps.DepthRange.{DepthRange}
 use Rattle.wax_tree.specs.Prefix.{ArePlain}
 use Rattle.wax_exclude.specs.Candidates.{AreNames, base, text_at}
 use Rattle.wax_exclude.specs.Wanted.{Wanted}
@@ -25,17 +25,17 @@ BeginsWith rooted t prefix = (names : List (List ℕ)) → AreNames names
 abbrev pub IsUnmeant : {A : Type 0} → Bool → Tree A → Type 0
 IsUnmeant rooted t = (names : List (List ℕ)) → AreNames names → Means t false false (text_at rooted names) → ⊥
 
--- The glob's walk may go this way, to the greatest depth of the range walked, where another range is asked
--- for: each candidate that is meant begins with the names of the way, and none has more names than that
--- depth, where it isn't the one asked for.
-pub record CanWalk {A : Type 0} (w : Wanted A) (asked walked : Range) (way : Way) : Type 0 where
+-- The glob's walk may begin at this origin, to the greatest depth of the range walked, where another range is
+-- asked for: each candidate that is meant begins with the names of the origin, and none has more names than
+-- that depth, where it isn't the one asked for.
+pub record CanWalk {A : Type 0} (w : Wanted A) (asked walked : DepthRange) (origin : Origin) : Type 0 where
   pub spelled : LiteralsHaveNoSlash w.glob
   pub least : walked.min ≡ asked.min
   pub greatest : (walked.max ≡ asked.max)
       ⊎ ((walked.max ≤ asked.max) × BoundsNames w.rooted w.glob walked.max)
-  pub candidate : way.candidate ≡ base w.rooted
-  pub begins : BeginsWith w.rooted w.glob (map chars way.names)
-  pub plain : ArePlain way.names
+  pub candidate : origin.candidate ≡ base w.rooted
+  pub begins : BeginsWith w.rooted w.glob (map chars origin.names)
+  pub plain : ArePlain origin.names
 
 -- the names of the entries, at whatever depth, are plain
 abbrev pub ArePlainItems : Items → Type 0

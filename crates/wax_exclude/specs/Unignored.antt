@@ -5,7 +5,7 @@ use Rattle.std.specs.List.{Contains}
 use Rattle.wax_directory.specs.Shown.{Shown}
 use Rattle.wax_token.specs.Reads.{Span}
 use Rattle.wax_tree.specs.Begins.{scope_in}
-use Rattle.wax_tree.specs.declared.steps.Range.{Range}
+use Rattle.wax_tree.specs.declared.steps.DepthRange.{DepthRange}
 use Rattle.wax_tree.specs.Plain.{plain}
 use Rattle.wax_tree.specs.Whole.{is_in, whole}
 use Rattle.wax_walk.specs.Forest.{preorder, listings}
@@ -32,7 +32,7 @@ ignore_rules lines = of_candidate (ignore_mark lines) ∷ []
 -- the entries of the plain walk that are kept after a list's filter are those of the whole walk in range that
 -- it doesn't ignore, in order
 abbrev pub GivesUnignored : Type 0
-GivesUnignored = (lines : List (Line Span)) (range : Range) (start : List ℕ) (s : Shown) → IsPlainShown s
+GivesUnignored = (lines : List (Line Span)) (range : DepthRange) (start : List ℕ) (s : Shown) → IsPlainShown s
     → filter is_kept_entry (preorder (stacked (ignore_rules lines) (plain (scope_in range start) s)))
     ≡ filter (λ x. is_in range x && is_unignored lines x) (whole start s)
 
@@ -43,6 +43,6 @@ IsIgnoredBelow lines start path = (front back : List (List ℕ)) × (path ≡ pa
 
 -- each folder that the plain walk lists is listed, unless it is or lies below such an entry
 abbrev pub LosesIgnored : Type 0
-LosesIgnored = (lines : List (Line Span)) (range : Range) (start : List ℕ) (s : Shown) → IsPlainShown s
+LosesIgnored = (lines : List (Line Span)) (range : DepthRange) (start : List ℕ) (s : Shown) → IsPlainShown s
     → All (λ path. Contains (listings (stacked (ignore_rules lines) (plain (scope_in range start) s))) path
     ⊎ IsIgnoredBelow lines start path) (listings (plain (scope_in range start) s))

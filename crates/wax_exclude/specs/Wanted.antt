@@ -20,18 +20,18 @@ pub record Wanted (A : Type 0) : Type 0 where
   pub glob : Tree A
   pub filters : List (Filter A)
 
-abbrev pub leaves_out : {A : Type 0} → Filter A → List ℕ → Bool
-leaves_out (not_meant t) s = means_test t false false s
-leaves_out (not_ignored lines) s = is_ignored lines s
+abbrev pub excludes : {A : Type 0} → Filter A → List ℕ → Bool
+excludes (not_meant t) s = means_test t false false s
+excludes (not_ignored lines) s = is_ignored lines s
 
 -- none of them leaves the text out
-abbrev pub none_leaves_out : {A : Type 0} → List (Filter A) → List ℕ → Bool
-none_leaves_out [] s = true
-none_leaves_out (x ∷ filters) s = not (leaves_out x s) && none_leaves_out filters s
+abbrev pub none_excludes : {A : Type 0} → List (Filter A) → List ℕ → Bool
+none_excludes [] s = true
+none_excludes (x ∷ filters) s = not (excludes x s) && none_excludes filters s
 
 abbrev pub is_wanted : {A : Type 0} → Wanted A → Given → Bool
 is_wanted w (entry kept f) =
-    means_test w.glob false false (chars f.candidate) && none_leaves_out w.filters (chars f.candidate)
+    means_test w.glob false false (chars f.candidate) && none_excludes w.filters (chars f.candidate)
 is_wanted w (entry alone f) = false
 is_wanted w (entry with_tree f) = false
 is_wanted w (fault kind path depth) = false

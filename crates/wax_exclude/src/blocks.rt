@@ -5,13 +5,13 @@ ghost use Rattle.wax_program.specs.Machine.{Accepts};
 ghost use Rattle.wax_token.specs.Syntax.{alternation};
 ghost use Rattle.wax_token.specs.Words.{trees};
 ghost use Rattle.wax_exclude.specs.inner.Blocks.{AcceptsLines, IsBlockOf, alternatives_in};
-ghost use Rattle.wax_exclude.specs.inner.Blocks.{some_takes_back};
+ghost use Rattle.wax_exclude.specs.inner.Blocks.{some_reincludes};
 
 use crate::rules::IgnoreLine;
 use std::alloc::Global;
 use wax_lazy::OwnedMatcher;
 use wax_match::encode;
-use wax_match::encode::Program;
+use wax_match::encode::CompiledProgram;
 use wax_query::diagnostics::{NoMemory, Refusal};
 use wax_token::token::{Alternation, BranchKind, ExpressionMetadata, Token, new_branch};
 
@@ -35,7 +35,7 @@ pub struct Block {
     /// The index after the last line.
     pub end: usize,
     /// True if one of the lines begins with `!`.
-    pub takes_back: bool,
+    pub reincludes: bool,
     matcher: OwnedMatcher,
 }
 
@@ -100,20 +100,23 @@ fn add_block(
     let block = Block {
         start,
         end,
-        takes_back: some_takes_back(held),
+        reincludes: some_reincludes(held),
         matcher: OwnedMatcher::new(alloc, program, most_bytes),
     };
     push(blocks, block)
 }
 
-fn some_takes_back(lines: &[IgnoreLine]) -> bool
-    ensures { result ≡ some_takes_back lines.now }
+fn some_reincludes(lines: &[IgnoreLine]) -> bool
+    ensures { result ≡ some_reincludes lines.now }
 {
     lines.iter().any(|line| !line.ignores)
 }
 
 // Compiles the lines into one program, or returns `None` if it would be too large.
-fn program_of_lines(alloc: Global, lines: &[IgnoreLine]) -> Result<Option<Program>, NoMemory>
+fn program_of_lines(
+    alloc: Global,
+    lines: &[IgnoreLine],
+) -> Result<Option<CompiledProgram>, NoMemory>
     ensures { IfOk result (λ made. IfSome made (λ p. AcceptsLines p.0 lines.now)) }
 {
     let token = token_of_lines(alloc, lines)?;

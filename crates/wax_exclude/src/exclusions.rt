@@ -15,10 +15,10 @@ use std::marker::Model;
 use wax_alternatives::into_alternatives;
 use wax_lazy::OwnedMatcher;
 use wax_match::encode;
-use wax_match::encode::{CompileError, Program};
+use wax_match::encode::{CompileError, CompiledProgram};
 use wax_query::diagnostics::{NoMemory, Refusal};
 use wax_token::token::{ExpressionMetadata, LeafKind, Token, Wildcard};
-use wax_walk::{Entry, EntryResidue, Rule};
+use wax_walk::{Entry, EntryResidue, Exclude};
 
 /// How many bytes may be kept of earlier texts.
 const MOST_BYTES: usize = 2_097_152;
@@ -32,7 +32,7 @@ pub struct Exclusion {
     /// Accepts what at least one alternative matches.
     whole: OwnedMatcher,
     /// One program for each alternative that ends with `**`.
-    covering: Vec<Program>,
+    covering: Vec<CompiledProgram>,
     /// True if an alternative is only an unrooted `**`.
     covers_all: bool,
 }
@@ -80,7 +80,7 @@ impl Exclusion {
     ) -> Result<Exclusion, Refusal<CompileError>>
         ensures alternatives { IfOk result (λ e. e ≡ alternatives pattern.entry) }
         ensures says { IfOk result (λ e.
-            ⟦<Exclusion as Rule>⟧.rule e ≡ of_candidate (not_mark pattern.entry)) }
+            ⟦<Exclusion as Exclude>⟧.rule e ≡ of_candidate (not_mark pattern.entry)) }
         ensures fits { MatchBuild result (λ _. program_length pattern.entry ≤ 1048576)
             (λ _. 1048576 < program_length pattern.entry) }
     {
@@ -112,14 +112,14 @@ impl Exclusion {
     /// # Errors
     ///
     /// Returns `NoMemory` if allocation fails.
-    pub(crate) fn means(&self, alloc: Global, text: &str) -> Result<bool, NoMemory>
+    pub(crate) fn is_match(&self, alloc: Global, text: &str) -> Result<bool, NoMemory>
         ensures { IfOk result (λ answer. answer ≡ some_test self.now (chars text.now)) }
     {
         accepts(alloc, self.whole.program(), text)
     }
 
-    /// Returns what `means` does, with the help of what is kept of earlier texts.
-    fn means_again(&mut self, text: &str) -> Result<bool, NoMemory>
+    /// Returns what `is_match` does, with the help of what is kept of earlier texts.
+    fn is_match_cached(&mut self, text: &str) -> Result<bool, NoMemory>
         ensures decides { IfOk result (λ answer. answer ≡ some_test self.old (chars text.now)) }
         ensures same { self.new ≡ self.old }
     {
@@ -128,19 +128,19 @@ impl Exclusion {
 
     /// Returns what to exclude of an entry, once it is known whether an alternative matches its
     /// candidate.
-    fn left_out<E: Entry>(
+    fn excluded<E: Entry>(
         &self,
         alloc: Global,
         entry: &E,
-        is_meant: bool,
+        is_matched: bool,
     ) -> Result<Option<EntryResidue>, NoMemory>
-        requires { is_meant ≡ some_test self.now (chars (E.facts entry.now).candidate) }
+        requires { is_matched ≡ some_test self.now (chars (E.facts entry.now).candidate) }
         ensures { IfOk result (λ r. mark_of r ≡ excluded_mark self.now (E.facts entry.now)) }
     {
         if self.covers_all {
             return Ok(Some(EntryResidue::Tree));
         }
-        if !is_meant {
+        if !is_matched {
             return Ok(None);
         }
         let (_, candidate) = entry.root_relative_paths();
@@ -164,12 +164,12 @@ impl Exclusion {
         ensures { IfOk result (λ r. mark_of r ≡ excluded_mark self.now (E.facts entry.now)) }
     {
         let (_, candidate) = entry.root_relative_paths();
-        let is_meant = self.means(alloc, candidate)?;
-        self.left_out(alloc, entry, is_meant)
+        let is_matched = self.is_match(alloc, candidate)?;
+        self.excluded(alloc, entry, is_matched)
     }
 }
 
-impl Rule for Exclusion {
+impl Exclude for Exclusion {
     ghost use Rattle.wax_exclude.specs.Excluded.{excluded_mark};
 
     ghost rule = { λ e f. excluded_mark e f };
@@ -180,8 +180,8 @@ impl Rule for Exclusion {
         entry: &E,
     ) -> Result<Option<EntryResidue>, NoMemory> {
         let (_, candidate) = entry.root_relative_paths();
-        let is_meant = self.means_again(candidate)?;
-        self.left_out(alloc, entry, is_meant)
+        let is_matched = self.is_match_cached(candidate)?;
+        self.excluded(alloc, entry, is_matched)
     }
 }
 
@@ -189,7 +189,7 @@ impl Rule for Exclusion {
 fn covering_programs<'t>(
     alloc: Global,
     alternatives: &[Token<'t, ExpressionMetadata>],
-) -> Result<Vec<Program>, NoMemory>
+) -> Result<Vec<CompiledProgram>, NoMemory>
     requires { All (λ t. cost t < 1048576) alternatives.now }
     ensures { IfOk result (λ programs. CoverAll programs.items alternatives.now) }
 {
@@ -205,7 +205,7 @@ fn covering_programs<'t>(
     Ok(programs)
 }
 
-fn some_accepts(alloc: Global, programs: &[Program], text: &str) -> Result<bool, NoMemory>
+fn some_accepts(alloc: Global, programs: &[CompiledProgram], text: &str) -> Result<bool, NoMemory>
     ensures { IfOk result (λ answer. IsTrue answer ↔ SomeAccepts programs.now (chars text.now)) }
 {
     for program in programs {

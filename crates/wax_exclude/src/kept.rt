@@ -5,7 +5,7 @@ ghost use Rattle.wax_directory.specs.Shown.{Shown};
 ghost use Rattle.wax_tree.specs.Begins.{Begins};
 ghost use Rattle.wax_walk.specs.Entries.{given_outcome};
 ghost use Rattle.wax_exclude.specs.Held.{HasLines};
-ghost use Rattle.wax_exclude.specs.Kept.{KeepsUnignored, Tour};
+ghost use Rattle.wax_exclude.specs.Kept.{KeepsUnignored, PlainRequest};
 
 use crate::law::law_of_ignoring;
 use crate::rules::IgnoreRule;
@@ -29,13 +29,13 @@ pub fn collect_unignored<D: Directory>(
     rule: IgnoreRule,
 ) -> Result<(Vec<Result<TreeEntry, WalkError>>, D), NoMemory>
     requires { IsFinite (⟦<WalkTree<D> as SeparatingFilter>⟧.left walk) }
-    ensures { IfOk result (λ r. (d : D) (tour : Tour) (s : Shown) (listed : List (List ℕ))
-        → HasLines rule tour.lines
-        → Begins D.law d tour.start tour.range (⟦<WalkTree<D> as FileIterator>⟧.view walk)
-        → D.law.shows d tour.start s → D.law.tells d listed
-        → KeepsUnignored (D.law.tells r.1) tour s listed
+    ensures { IfOk result (λ r. (d : D) (request : PlainRequest) (s : Shown) (listed : List (List ℕ))
+        → HasLines rule request.lines
+        → Begins D.law d request.start request.range (⟦<WalkTree<D> as FileIterator>⟧.view walk)
+        → D.law.shows d request.start s → D.law.tells d listed
+        → KeepsUnignored (D.law.tells r.1) request s listed
         (map (given_outcome ⟦<TreeEntry as Entry>⟧.facts ⟦<TreeEntry as Entry>⟧.facts) r.0.items)) }
 {
     law_of_ignoring();
-    collect(alloc, walk.without(alloc, rule))
+    collect(alloc, walk.excluding(alloc, rule))
 }

@@ -4,13 +4,13 @@ ghost use Rattle.std.specs.Prelude.{List, ℕ};
 ghost use Rattle.wax_token.specs.Reads.{Span};
 ghost use Rattle.wax_tree.specs.Begins.{Begins};
 ghost use Rattle.wax_exclude.specs.Law.{GivesWanted, ListsFew, WantsNothing};
-ghost use Rattle.wax_exclude.specs.PlainTrips.{plain_trip, WantsUnfiltered};
-ghost use Rattle.wax_exclude.specs.Trips.{ComesWanted, MayGo, trip_less};
+ghost use Rattle.wax_exclude.specs.TreeRequests.{tree_request, WantsUnfiltered};
+ghost use Rattle.wax_exclude.specs.GlobRequests.{ComesWanted, CanBegin, request_excluding};
 ghost use Rattle.wax_exclude.specs.Unignored.{GivesUnignored, LosesIgnored};
 ghost use Rattle.wax_exclude.specs.Wanted.{Filter};
 
 use wax_directory::directory::Directory;
-use wax_tree::{Range, WalkTree};
+use wax_tree::{DepthRange, WalkTree};
 use wax_walk::FileIterator;
 
 /// States that a glob's walk keeps exactly the wanted entries of the plain walk, in order, and
@@ -33,11 +33,11 @@ pub fn law_of_ignoring()
 /// exclude from a glob's walk. Without what filters exclude, its entries are those in range that no
 /// filter excludes, in order.
 pub fn law_of_plain_walks<D: Directory>(walk: &WalkTree<D>)
-    ensures comes { (d : D) (range : Range) (start : List ℕ)
+    ensures comes { (d : D) (range : DepthRange) (start : List ℕ)
         → Begins D.law d start range (⟦<WalkTree<D> as FileIterator>⟧.view walk.now)
-        → ComesWanted D.law d (plain_trip range start) (⟦<WalkTree<D> as FileIterator>⟧.view walk.now) }
-    ensures goes { (range : Range) (start : List ℕ) (filters : List (Filter Span))
-        → MayGo (trip_less (plain_trip range start) filters) }
+        → ComesWanted D.law d (tree_request range start) (⟦<WalkTree<D> as FileIterator>⟧.view walk.now) }
+    ensures goes { (range : DepthRange) (start : List ℕ) (filters : List (Filter Span))
+        → CanBegin (request_excluding (tree_request range start) filters) }
     ensures wanted { WantsUnfiltered }
 {
     let _walk = walk;

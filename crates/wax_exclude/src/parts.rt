@@ -13,18 +13,18 @@ use std::alloc::Global;
 use std::marker::Model;
 use wax_components::components;
 use wax_glob_walk::NameTest;
-use wax_match::encode::Program;
+use wax_match::encode::CompiledProgram;
 use wax_query::diagnostics::NoMemory;
 use wax_token::token::{ExpressionMetadata, Token};
 
 /// A component of a glob with a program of its own. Contracts see its tokens.
 #[derive(Drop)]
-pub struct Component<'g, 't> {
+pub struct LeadingComponent<'g, 't> {
     tokens: &'g [Token<'t, ExpressionMetadata>],
-    program: Program,
+    program: CompiledProgram,
 }
 
-impl<'g, 't> Model for Component<'g, 't> {
+impl<'g, 't> Model for LeadingComponent<'g, 't> {
     ghost use Rattle.std.specs.Prelude.{List};
     ghost use Rattle.wax_token.specs.Reads.{Span};
     ghost use Rattle.wax_token.specs.Syntax.{Tree};
@@ -39,7 +39,7 @@ impl<'g, 't> Model for Component<'g, 't> {
     ghost invariant = { λ c. AcceptsEach c.program c.tokens.now };
 }
 
-impl<'g, 't> NameTest for Component<'g, 't> {
+impl<'g, 't> NameTest for LeadingComponent<'g, 't> {
     ghost use Rattle.wax_exclude.specs.Leading.{component_test};
 
     ghost decides = { λ component name. component_test component name };
@@ -61,12 +61,12 @@ impl<'g, 't> NameTest for Component<'g, 't> {
 fn compiled<'g, 't>(
     alloc: Global,
     tokens: &'g [Token<'t, ExpressionMetadata>],
-) -> Result<Component<'g, 't>, NoMemory>
+) -> Result<LeadingComponent<'g, 't>, NoMemory>
     requires { costs (trees tokens.now) < 1048576 }
     ensures { IfOk result (λ c. c ≡ tokens.now) }
 {
     let program = program_of(alloc, tokens)?;
-    Ok(Component { tokens, program })
+    Ok(LeadingComponent { tokens, program })
 }
 
 fn hold_boundary<'t>(tokens: &[Token<'t, ExpressionMetadata>]) -> bool
@@ -95,7 +95,7 @@ pub fn leading<'g, 't>(
     alloc: Global,
     token: &'g Token<'t, ExpressionMetadata>,
     is_rooted: bool,
-) -> Result<Vec<Component<'g, 't>>, NoMemory>
+) -> Result<Vec<LeadingComponent<'g, 't>>, NoMemory>
     requires { program_length token.now ≤ 1048576 }
     ensures { IfOk result (λ leading. leading.items ≡ leading_of is_rooted token.now) }
 {

@@ -5,7 +5,7 @@ ghost use Rattle.wax_facts.specs.Orderly.{Full};
 ghost use Rattle.wax_facts.specs.Prefix.{Prefix};
 ghost use Rattle.wax_tree.specs.Prefix.{ArePlain, from_last};
 ghost use Rattle.wax_exclude.specs.Premises.{BeginsWith, IsUnmeant};
-ghost use Rattle.wax_exclude.specs.Prefix.{HasEmptyName, IsPrefixWay, IsWay};
+ghost use Rattle.wax_exclude.specs.Prefix.{HasEmptyName, PrefixSplitsInto, SplitsInto};
 
 use std::alloc::{AllocError, Global};
 use wax_facts::invariant_text_prefix;
@@ -15,7 +15,7 @@ use wax_token::token::{ExpressionMetadata, Token};
 /// Where the walk of a glob begins: at the names of the glob's prefix, below the root or below the
 /// start. The first name is the last in the list, so that names can be popped.
 #[derive(Drop)]
-pub struct Way {
+pub struct PrefixNames {
     pub is_rooted: bool,
     pub names: Vec<String>,
 }
@@ -27,28 +27,29 @@ pub struct Way {
 /// # Errors
 ///
 /// Returns `NoMemory` if allocation fails.
-pub fn way_of<'t>(
+pub fn prefix_names_of<'t>(
     alloc: Global,
     token: &Token<'t, ExpressionMetadata>,
-) -> Result<Option<Way>, NoMemory>
-    ensures names { IfOk result (λ way. (n : ℕ) (p : List ℕ) → Prefix token.now n p
-        → MatchOption way (HasEmptyName p) (λ w. IsPrefixWay p w.is_rooted (from_last w.names.items))) }
-    ensures meant { Full token.now → IfOk result (λ way. MatchOption way
+) -> Result<Option<PrefixNames>, NoMemory>
+    ensures names { IfOk result (λ prefix_names. (n : ℕ) (p : List ℕ) → Prefix token.now n p
+        → MatchOption prefix_names (HasEmptyName p)
+        (λ w. PrefixSplitsInto p w.is_rooted (from_last w.names.items))) }
+    ensures meant { Full token.now → IfOk result (λ prefix_names. MatchOption prefix_names
         ((rooted : Bool) → IsUnmeant rooted token.now) (λ w. ArePlain (from_last w.names.items)
         → BeginsWith w.is_rooted token.now (map chars (from_last w.names.items)))) }
 {
     let (_, prefix) = invariant_text_prefix(alloc, token)?;
-    way_in(alloc, prefix.as_str())
+    split_prefix(alloc, prefix.as_str())
 }
 
-fn way_in(alloc: Global, prefix: &str) -> Result<Option<Way>, NoMemory>
-    ensures { IfOk result (λ way. MatchOption way (HasEmptyName prefix.now)
-        (λ w. ¬ (HasEmptyName prefix.now) × IsWay prefix.now w.is_rooted (from_last w.names.items))) }
+fn split_prefix(alloc: Global, prefix: &str) -> Result<Option<PrefixNames>, NoMemory>
+    ensures { IfOk result (λ prefix_names. MatchOption prefix_names (HasEmptyName prefix.now)
+        (λ w. ¬ (HasEmptyName prefix.now) × SplitsInto prefix.now w.is_rooted (from_last w.names.items))) }
 {
     if has_empty_name(prefix.as_bytes()) {
         return Ok(None);
     }
-    Ok(Some(Way {
+    Ok(Some(PrefixNames {
         is_rooted: begins_with_slash(prefix.as_bytes()),
         names: names_from_last(alloc, prefix)?,
     }))

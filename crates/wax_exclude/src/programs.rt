@@ -7,7 +7,7 @@ ghost use Rattle.wax_token.specs.Words.{trees};
 
 use std::alloc::Global;
 use wax_match::encode;
-use wax_match::encode::{Meter, Program};
+use wax_match::encode::{CompiledProgram, Meter};
 use wax_query::diagnostics::{NoMemory, Refusal};
 use wax_token::token::{ExpressionMetadata, Token};
 
@@ -19,7 +19,7 @@ use wax_token::token::{ExpressionMetadata, Token};
 pub fn program_of<'t>(
     alloc: Global,
     tokens: &[Token<'t, ExpressionMetadata>],
-) -> Result<Program, NoMemory>
+) -> Result<CompiledProgram, NoMemory>
     requires { costs (trees tokens.now) < 1048576 }
     ensures { IfOk result (λ p. (s : List ℕ)
         → Accepts p.0 0 s ↔ MeansEach (trees tokens.now) false false s) }
@@ -36,7 +36,7 @@ pub fn program_of<'t>(
 /// # Errors
 ///
 /// Returns `NoMemory` if allocation fails.
-pub fn accepts(alloc: Global, program: &Program, text: &str) -> Result<bool, NoMemory>
+pub fn accepts(alloc: Global, program: &CompiledProgram, text: &str) -> Result<bool, NoMemory>
     ensures { IfOk result (λ answer. IsTrue answer ↔ Accepts program.now.0 0 (chars text.now)) }
 {
     let mut meter = Meter::new();

@@ -19,7 +19,7 @@ use wax_candidate::CandidatePath;
 use wax_match::encode::CompileError;
 use wax_query::diagnostics::{NoMemory, Refusal};
 use wax_token::token::{ExpressionMetadata, Token};
-use wax_walk::{Entry, EntryResidue, Rule};
+use wax_walk::{Entry, EntryResidue, Exclude};
 
 /// A line of an ignore list: a glob, and whether it ignores what the glob matches or stops ignoring
 /// it.
@@ -93,7 +93,7 @@ impl IgnoreRule {
     pub fn new(alloc: Global, lines: Vec<IgnoreLine>) -> Result<IgnoreRule, NoMemory>
         ensures lines { IfOk result (λ rule. rule ≡ lines.items) }
         ensures says { IfOk result (λ rule. (ls : List (Line Span)) → HasLines rule ls
-            → ⟦<IgnoreRule as Rule>⟧.rule rule ≡ of_candidate (ignore_mark ls)) }
+            → ⟦<IgnoreRule as Exclude>⟧.rule rule ≡ of_candidate (ignore_mark ls)) }
     {
         let blocks = blocks_of(alloc, lines.as_slice())?;
         Ok(IgnoreRule { lines, blocks })
@@ -112,7 +112,7 @@ impl IgnoreRule {
     }
 }
 
-impl Rule for IgnoreRule {
+impl Exclude for IgnoreRule {
     ghost use Rattle.wax_exclude.specs.inner.Listed.{listed_mark};
 
     ghost rule = { λ rule f. listed_mark rule f };
@@ -131,7 +131,7 @@ fn is_ignored_by(alloc: Global, lines: &[IgnoreLine], text: &str) -> Result<bool
 {
     let mut is_ignored = false;
     for line in lines {
-        if line.exclusion.means(alloc, text)? {
+        if line.exclusion.is_match(alloc, text)? {
             is_ignored = line.ignores;
         }
     }
@@ -191,7 +191,7 @@ fn after_block<E: Entry>(
     if block.is_passed(candidate)? {
         return Ok(Said {
             at: block.end,
-            residue: passed(block.takes_back, residue),
+            residue: passed(block.reincludes, residue),
         });
     }
     Ok(Said {
@@ -202,10 +202,10 @@ fn after_block<E: Entry>(
 
 // Returns the decision after lines none of which matches the entry. If one of them begins with `!`,
 // it may match something below the entry, which can't be excluded as a whole any more.
-fn passed(takes_back: bool, residue: Option<EntryResidue>) -> Option<EntryResidue>
-    ensures { mark_of result ≡ mark_passed takes_back (mark_of residue) }
+fn passed(reincludes: bool, residue: Option<EntryResidue>) -> Option<EntryResidue>
+    ensures { mark_of result ≡ mark_passed reincludes (mark_of residue) }
 {
-    match (takes_back, residue) {
+    match (reincludes, residue) {
         (true, Some(_)) => Some(EntryResidue::File),
         (_, _) => residue,
     }

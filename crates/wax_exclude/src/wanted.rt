@@ -4,8 +4,8 @@ ghost use Rattle.std.specs.Prelude.{◌≡◌, ◌+◌, ◌≤◌, All, List, �
 ghost use Rattle.std.specs.Iterator.{IsFinite, size};
 ghost use Rattle.wax_directory.specs.Shown.{Shown};
 ghost use Rattle.wax_glob_walk.specs.Programs.{any_mark};
-ghost use Rattle.wax_exclude.specs.Trips.{AreRulesOf, ComesWanted, KeepsWanted, MayGo, Trip};
-ghost use Rattle.wax_exclude.specs.Trips.{trip_less, trip_pending};
+ghost use Rattle.wax_exclude.specs.GlobRequests.{AreRulesOf, ComesWanted, KeepsWanted, CanBegin, GlobRequest};
+ghost use Rattle.wax_exclude.specs.GlobRequests.{request_excluding, request_pending};
 ghost use Rattle.wax_token.specs.Reads.{Span};
 ghost use Rattle.wax_walk.specs.Collected.{GaveAll, Took};
 ghost use Rattle.wax_walk.specs.Entries.{given_of, given_outcome};
@@ -20,7 +20,7 @@ use wax_filter::filter::Separation;
 use wax_glob_walk::FilterAny;
 use wax_query::diagnostics::NoMemory;
 use wax_walk::{
-    Entry, FileIterator, Rule, WalkError, collect as collect_items,
+    Entry, Exclude, FileIterator, WalkError, collect as collect_items,
     collect_feed as collect_feed_items,
 };
 
@@ -45,11 +45,11 @@ where
         × (length xs ≤ size (I.left walk))
         × (map (given_outcome I.Entry.facts I.Residue.facts) r.0.items ≡ filter is_kept xs)) }
     ensures known { IfOk result (λ r. All (KnownOutcome (I.known walk)) r.0.items) }
-    ensures wanted { IfOk result (λ r. (d : I.Directory) (trip : Trip) (s : Shown) (listed : List (List ℕ))
-        → ComesWanted I.Directory.law d trip (I.view walk)
-        → MayGo trip
-        → I.Directory.law.shows d trip.way.path s → I.Directory.law.tells d listed
-        → KeepsWanted (I.Directory.law.tells r.1) trip s listed
+    ensures wanted { IfOk result (λ r. (d : I.Directory) (request : GlobRequest) (s : Shown)
+        (listed : List (List ℕ)) → ComesWanted I.Directory.law d request (I.view walk)
+        → CanBegin request
+        → I.Directory.law.shows d request.origin.path s → I.Directory.law.tells d listed
+        → KeepsWanted (I.Directory.law.tells r.1) request s listed
         (map (given_outcome I.Entry.facts I.Residue.facts) r.0.items)) }
 {
     law_of_walks();
@@ -75,10 +75,10 @@ where
         (map (given_of I.Entry.facts I.Residue.facts) r.0.items)) }
     ensures few { IfOk result (λ r. length r.0.items ≤ size (I.left walk)) }
     ensures known { IfOk result (λ r. All (KnownItem (I.known walk)) r.0.items) }
-    ensures wanted { IfOk result (λ r. (d : I.Directory) (trip : Trip) (s : Shown) (listed : List (List ℕ))
-        → ComesWanted I.Directory.law d trip (I.view walk)
-        → I.Directory.law.shows d trip.way.path s → I.Directory.law.tells d listed
-        → GaveAll (I.Directory.law.tells r.1) (trip.walked.budget + 1) (trip_pending trip s listed)
+    ensures wanted { IfOk result (λ r. (d : I.Directory) (request : GlobRequest) (s : Shown)
+        (listed : List (List ℕ)) → ComesWanted I.Directory.law d request (I.view walk)
+        → I.Directory.law.shows d request.origin.path s → I.Directory.law.tells d listed
+        → GaveAll (I.Directory.law.tells r.1) (request.walked.budget + 1) (request_pending request s listed)
         (map (given_of I.Entry.facts I.Residue.facts) r.0.items)) }
 {
     collect_feed_items(alloc, walk)
@@ -93,14 +93,14 @@ where
 ///
 /// Returns `NoMemory` if allocation fails for the list itself. If it fails in the walk, the last
 /// item is that error.
-pub fn collect_less<I, R>(
+pub fn collect_excluding<I, R>(
     alloc: Global,
     walk: I,
     rules: Vec<R>,
 ) -> Result<(Vec<Result<I::Entry, WalkError>>, I::Directory), NoMemory>
 where
     I: FileIterator,
-    R: Rule,
+    R: Exclude,
     requires can { I.can_feed walk }
     requires ends { IsFinite (I.left walk) }
     ensures took { IfOk result (λ r. (xs : List Given)
@@ -108,13 +108,14 @@ where
         × (length xs ≤ size (I.left walk))
         × (map (given_outcome I.Entry.facts I.Residue.facts) r.0.items ≡ filter is_kept xs)) }
     ensures known { IfOk result (λ r. All (KnownOutcome (I.known walk)) r.0.items) }
-    ensures wanted { IfOk result (λ r. (d : I.Directory) (trip : Trip) (filters : List (Filter Span))
-        (s : Shown) (listed : List (List ℕ)) → ComesWanted I.Directory.law d trip (I.view walk)
-        → AreRulesOf filters (map R.rule rules.items) → MayGo (trip_less trip filters)
-        → I.Directory.law.shows d trip.way.path s → I.Directory.law.tells d listed
-        → KeepsWanted (I.Directory.law.tells r.1) (trip_less trip filters) s listed
+    ensures wanted { IfOk result (λ r. (d : I.Directory) (request : GlobRequest)
+        (filters : List (Filter Span))
+        (s : Shown) (listed : List (List ℕ)) → ComesWanted I.Directory.law d request (I.view walk)
+        → AreRulesOf filters (map R.rule rules.items) → CanBegin (request_excluding request filters)
+        → I.Directory.law.shows d request.origin.path s → I.Directory.law.tells d listed
+        → KeepsWanted (I.Directory.law.tells r.1) (request_excluding request filters) s listed
         (map (given_outcome I.Entry.facts I.Residue.facts) r.0.items)) }
 {
-    let kept = walk.without(alloc, FilterAny::new(rules));
+    let kept = walk.excluding(alloc, FilterAny::new(rules));
     collect(alloc, kept)
 }

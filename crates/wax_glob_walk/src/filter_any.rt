@@ -5,7 +5,7 @@ ghost use Rattle.wax_glob_walk.specs.Programs.{any_mark};
 
 use std::alloc::Global;
 use wax_query::diagnostics::NoMemory;
-use wax_walk::{Entry, EntryResidue, Rule};
+use wax_walk::{Entry, EntryResidue, Exclude};
 
 /// A rule that excludes what at least one of several rules excludes: an entry with everything below
 /// it if one of them does so, and otherwise the entry by itself.
@@ -14,16 +14,16 @@ pub struct FilterAny<R> {
     rules: Vec<R>,
 }
 
-impl<R: Rule> FilterAny<R> {
+impl<R: Exclude> FilterAny<R> {
     /// Combines rules into one. Their order doesn't matter.
     pub fn new(rules: Vec<R>) -> Self
-        ensures { ⟦<FilterAny<R> as Rule>⟧.rule result ≡ any_mark (map R.rule rules.items) }
+        ensures { ⟦<FilterAny<R> as Exclude>⟧.rule result ≡ any_mark (map R.rule rules.items) }
     {
         FilterAny { rules }
     }
 }
 
-impl<R: Rule> Rule for FilterAny<R> {
+impl<R: Exclude> Exclude for FilterAny<R> {
     ghost rule = { λ s. any_mark (map R.rule s.rules.items) };
 
     fn residue<E: Entry>(
@@ -31,15 +31,15 @@ impl<R: Rule> Rule for FilterAny<R> {
         alloc: Global,
         entry: &E,
     ) -> Result<Option<EntryResidue>, NoMemory> {
-        let mut is_left_out = false;
+        let mut is_excluded = false;
         for at in 0..self.rules.len() {
             match self.rules[at].residue(alloc, entry)? {
                 None => {}
-                Some(EntryResidue::File) => is_left_out = true,
+                Some(EntryResidue::File) => is_excluded = true,
                 Some(EntryResidue::Tree) => return Ok(Some(EntryResidue::Tree)),
             }
         }
-        if is_left_out {
+        if is_excluded {
             Ok(Some(EntryResidue::File))
         } else {
             Ok(None)

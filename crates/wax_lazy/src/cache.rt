@@ -10,7 +10,7 @@ ghost use Rattle.wax_program.specs.Threads.{AnyOf};
 
 use crate::table::{COLUMNS, DEAD, FIRST, State, Table};
 use std::alloc::{AllocError, Global};
-use wax_program::{Program, Stepper};
+use wax_program::{CompiledProgram, Stepper};
 
 /// How many bytes of texts a state has to serve, on average, to be worth the cost of building it.
 const LEAST_READ: usize = 10;
@@ -45,7 +45,7 @@ impl Cache {
     /// Returns `AllocError` if allocation fails.
     pub fn new(
         alloc: Global,
-        program: &Program,
+        program: &CompiledProgram,
         start: usize,
         most_bytes: usize,
     ) -> Result<Cache, AllocError>
@@ -72,7 +72,7 @@ impl Cache {
     /// # Errors
     ///
     /// Returns `AllocError` if allocation fails.
-    pub fn begin(&mut self, program: &Program, len: usize) -> Result<usize, AllocError>
+    pub fn begin(&mut self, program: &CompiledProgram, len: usize) -> Result<usize, AllocError>
         requires { IsCacheOf program.now.0 self.old }
         ensures cache { IsCacheOf program.now.0 self.new }
         ensures start { self.new.start ≡ self.old.start }
@@ -98,7 +98,7 @@ impl Cache {
     #[inline]
     pub fn advance(
         &mut self,
-        program: &Program,
+        program: &CompiledProgram,
         at: usize,
         c: char,
     ) -> Result<Option<usize>, AllocError>
@@ -124,7 +124,7 @@ impl Cache {
     #[inline(always)]
     pub fn advance_ascii(
         &mut self,
-        program: &Program,
+        program: &CompiledProgram,
         at: usize,
         c: u8,
     ) -> Result<Option<usize>, AllocError>
@@ -149,7 +149,12 @@ impl Cache {
     /// Follows a character by a step of the program, and fills its cell if it is ASCII. If the
     /// cache is full, first removes all states but the current one.
     #[inline(never)]
-    fn fill(&mut self, program: &Program, at: usize, c: char) -> Result<Option<usize>, AllocError>
+    fn fill(
+        &mut self,
+        program: &CompiledProgram,
+        at: usize,
+        c: char,
+    ) -> Result<Option<usize>, AllocError>
         requires cache { IsCacheOf program.now.0 self.old }
         requires placed { IsStatePlace self.old.table.states.items at }
         ensures cache { IsCacheOf program.now.0 self.new }
@@ -165,7 +170,12 @@ impl Cache {
     }
 
     /// Follows a character by a step of the program, if there is room for one more state.
-    fn follow(&mut self, program: &Program, at: usize, c: char) -> Result<Option<usize>, AllocError>
+    fn follow(
+        &mut self,
+        program: &CompiledProgram,
+        at: usize,
+        c: char,
+    ) -> Result<Option<usize>, AllocError>
         requires cache { IsCacheOf program.now.0 self.old }
         requires placed { IsStatePlace self.old.table.states.items at }
         requires few { length self.old.table.states.items < 65535 }
@@ -186,7 +196,7 @@ impl Cache {
 
     /// Finds the state of the set that the stepper reached, and adds it if it is new. Returns where
     /// its cells begin.
-    fn intern(&mut self, program: &Program) -> Result<usize, AllocError>
+    fn intern(&mut self, program: &CompiledProgram) -> Result<usize, AllocError>
         requires cache { IsCacheOf program.now.0 self.old }
         requires few { length self.old.table.states.items < 65535 }
         ensures cache { IsCacheOf program.now.0 self.new }

@@ -7,7 +7,7 @@ ghost use Rattle.wax_program.specs.Machine.{Accepts};
 use crate::cache::Cache;
 use crate::walk::walk;
 use std::alloc::{AllocError, Global};
-use wax_program::{Meter, Program, last_name, reads_last, run_known};
+use wax_program::{CompiledProgram, Meter, last_name, reads_last, run_known};
 use wax_query::diagnostics::NoMemory;
 
 /// The least number of instructions of a program for which a cache is faster than running it.
@@ -27,7 +27,7 @@ pub struct Known {
 impl Known {
     /// Creates what is known of a program before the first text. The cache will keep at most about
     /// `most_bytes` bytes. Doesn't allocate.
-    pub fn new(program: &Program, most_bytes: usize) -> Known
+    pub fn new(program: &CompiledProgram, most_bytes: usize) -> Known
         ensures { IsKnownOf program.now.0 result }
     {
         Known {
@@ -42,7 +42,7 @@ impl Known {
     /// # Errors
     ///
     /// Returns `AllocError` if allocation fails.
-    pub fn prepare(&mut self, alloc: Global, program: &Program) -> Result<(), AllocError>
+    pub fn prepare(&mut self, alloc: Global, program: &CompiledProgram) -> Result<(), AllocError>
         requires { IsKnownOf program.now.0 self.old }
         ensures { IsKnownOf program.now.0 self.new }
     {
@@ -61,7 +61,7 @@ impl Known {
     pub fn is_match(
         &mut self,
         alloc: Global,
-        program: &Program,
+        program: &CompiledProgram,
         text: &str,
     ) -> Result<bool, NoMemory>
         requires { IsKnownOf program.now.0 self.old }
@@ -85,7 +85,7 @@ impl Known {
 }
 
 /// Returns whether the program is known to depend only on the last component of a text.
-fn reads_only_name(program: &Program) -> bool
+fn reads_only_name(program: &CompiledProgram) -> bool
     ensures last { IsTrue result → ReadsLast program.now.0 }
     ensures long { IsTrue result → 2 ≤ length program.now.0 }
 {
@@ -95,7 +95,7 @@ fn reads_only_name(program: &Program) -> bool
 /// Creates a cache for last components, which begin at the place 2, or for whole texts.
 fn empty_cache(
     alloc: Global,
-    program: &Program,
+    program: &CompiledProgram,
     reads_last: bool,
     most_bytes: usize,
 ) -> Result<Cache, AllocError>
@@ -112,7 +112,7 @@ fn empty_cache(
 /// Decides a text by the cache, or by the program itself once the cache gave up.
 fn decide(
     alloc: Global,
-    program: &Program,
+    program: &CompiledProgram,
     reads_last: bool,
     cache: &mut Cache,
     text: &str,
@@ -133,7 +133,7 @@ fn decide(
 
 fn decide_once(
     alloc: Global,
-    program: &Program,
+    program: &CompiledProgram,
     reads_last: bool,
     text: &str,
 ) -> Result<bool, NoMemory>

@@ -5,7 +5,7 @@ ghost use Rattle.wax_program.specs.Machine.{Accepts};
 use crate::known::Known;
 use std::alloc::Global;
 use std::marker::Model;
-use wax_program::Program;
+use wax_program::CompiledProgram;
 use wax_query::diagnostics::NoMemory;
 
 /// How many bytes states and their cells may take, about.
@@ -15,7 +15,7 @@ const MOST_BYTES: usize = 2_097_152;
 /// that later texts take less time. Contracts see the instructions.
 pub struct Matcher<'p> {
     alloc: Global,
-    program: &'p Program,
+    program: &'p CompiledProgram,
     known: Known,
 }
 
@@ -51,7 +51,7 @@ impl<'p> Matcher<'p> {
     /// # Errors
     ///
     /// Returns `NoMemory` if allocation fails.
-    pub fn new(alloc: Global, program: &'p Program) -> Result<Matcher<'p>, NoMemory>
+    pub fn new(alloc: Global, program: &'p CompiledProgram) -> Result<Matcher<'p>, NoMemory>
         ensures { IfOk result (λ m. m ≡ program.now.0) }
     {
         Matcher::with_most(alloc, program, MOST_BYTES)
@@ -65,7 +65,7 @@ impl<'p> Matcher<'p> {
     /// Returns `NoMemory` if allocation fails.
     pub fn with_most(
         alloc: Global,
-        program: &'p Program,
+        program: &'p CompiledProgram,
         most_bytes: usize,
     ) -> Result<Matcher<'p>, NoMemory>
         ensures { IfOk result (λ m. m ≡ program.now.0) }
@@ -97,7 +97,7 @@ impl<'p> Matcher<'p> {
 /// An owned program for matching many texts, as a [`Matcher`] does. Contracts see the instructions.
 pub struct OwnedMatcher {
     alloc: Global,
-    program: Program,
+    program: CompiledProgram,
     known: Known,
 }
 
@@ -130,7 +130,7 @@ impl Model for OwnedMatcher {
 impl OwnedMatcher {
     /// Creates a matcher that has seen no text. It keeps at most about `most_bytes` bytes, but at
     /// least what 16 states need. Doesn't allocate before the first text.
-    pub fn new(alloc: Global, program: Program, most_bytes: usize) -> OwnedMatcher
+    pub fn new(alloc: Global, program: CompiledProgram, most_bytes: usize) -> OwnedMatcher
         ensures { result ≡ program.0 }
     {
         let known = Known::new(&program, most_bytes);
@@ -142,7 +142,7 @@ impl OwnedMatcher {
     }
 
     /// Returns the program.
-    pub fn program(&self) -> &Program
+    pub fn program(&self) -> &CompiledProgram
         ensures { result.now.0 ≡ self.now }
     {
         &self.program

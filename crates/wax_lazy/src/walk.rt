@@ -6,14 +6,14 @@ ghost use Rattle.wax_program.specs.Machine.{Accepts};
 
 use crate::cache::Cache;
 use std::alloc::AllocError;
-use wax_program::Program;
+use wax_program::CompiledProgram;
 
 /// Returns whether the program, begun at the cache's place, accepts the text.
 ///
 /// # Errors
 ///
 /// Returns `AllocError` if allocation fails.
-pub fn walk(program: &Program, cache: &mut Cache, text: &str) -> Result<bool, AllocError>
+pub fn walk(program: &CompiledProgram, cache: &mut Cache, text: &str) -> Result<bool, AllocError>
     requires { IsCacheOf program.now.0 cache.old }
     ensures cache { IsCacheOf program.now.0 cache.new }
     ensures start { cache.new.start ≡ cache.old.start }
@@ -27,7 +27,7 @@ pub fn walk(program: &Program, cache: &mut Cache, text: &str) -> Result<bool, Al
 }
 
 /// Decides a text of only ASCII characters, by its bytes.
-fn walk_ascii(program: &Program, cache: &mut Cache, text: &[u8]) -> Result<bool, AllocError>
+fn walk_ascii(program: &CompiledProgram, cache: &mut Cache, text: &[u8]) -> Result<bool, AllocError>
     requires cache { IsCacheOf program.now.0 cache.old }
     requires ascii { IsAscii text.now }
     ensures cache { IsCacheOf program.now.0 cache.new }
@@ -45,7 +45,7 @@ fn walk_ascii(program: &Program, cache: &mut Cache, text: &[u8]) -> Result<bool,
 }
 
 /// Decides any text, character by character.
-fn walk_chars(program: &Program, cache: &mut Cache, text: &str) -> Result<bool, AllocError>
+fn walk_chars(program: &CompiledProgram, cache: &mut Cache, text: &str) -> Result<bool, AllocError>
     requires { IsCacheOf program.now.0 cache.old }
     ensures cache { IsCacheOf program.now.0 cache.new }
     ensures start { cache.new.start ≡ cache.old.start }

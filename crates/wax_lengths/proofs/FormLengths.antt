@@ -10,12 +10,12 @@ use Rattle.wax_program.specs.Threads.{HoldsPlace}
 use Rattle.wax_query.specs.Components.{BeginsWithSlash, EndsWithSlash}
 use Rattle.wax_token.specs.Meaning.{HasNoSlash, TreeMeans}
 use Rattle.wax_lengths.specs.Forms.{IsLetter, SpelledBy}
-use Rattle.wax_lengths.specs.inner.Names.{name_end, least_of, marks_of, name_len}
+use Rattle.wax_lengths.specs.inner.Names.{tree_end, tree_low, tree_marks, name_len}
 use Rattle.wax_lengths.specs.Spans.{AreLengths, IsMarked}
 use Rattle.wax_lengths.specs.declared.span.Marks.TheVariants.{All, AfterSlash}
-use Rattle.wax_lengths.specs.declared.span.Span.{Span}
+use Rattle.wax_lengths.specs.declared.span.LengthSpan.{LengthSpan}
 
-abbrev pub between : ℕ → ℕ → Span
+abbrev pub between : ℕ → ℕ → LengthSpan
 between low end = record { low = low; end = end; marks = All }
 
 pub has_within : (flags : List Bool) (n : ℕ) → HoldsPlace flags n → n < length flags
@@ -237,34 +237,34 @@ marked_none s zero e = tt
 marked_none s (suc n) e = absurd (omega (arith, e))
 
 -- at most so many, if a `/` has to come first and doesn't
-abbrev tree_span : Bool → Bool → Bool → Bool → ℕ → Span
-tree_span before after rooted begins rest = record { low = least_of before after rooted; end = name_end (before || rooted) begins rest; marks = marks_of after }
+abbrev tree_span : Bool → Bool → Bool → Bool → ℕ → LengthSpan
+tree_span before after rooted begins rest = record { low = tree_low before after rooted; end = tree_end (before || rooted) begins rest; marks = tree_marks after }
 
 module _ (s : List ℕ) (b : Bool) (is : IsTrue b ↔ BeginsWithSlash s) where
   -- a `/` comes first
-  bound_to : (n : ℕ) → n ≤ length s → BeginsWithSlash (take n s) → (1 ≤ n) × (n < name_end true b (length s))
+  bound_to : (n : ℕ) → n ≤ length s → BeginsWithSlash (take n s) → (1 ≤ n) × (n < tree_end true b (length s))
   bound_to n le h =
       let r = begins_taken s n le h in
-      let e : name_end true b (length s) ≡ length s + 1 = ap (λ z. name_end true z (length s)) (is.1 r.1) in
+      let e : tree_end true b (length s) ≡ length s + 1 = ap (λ z. tree_end true z (length s)) (is.1 r.1) in
       (r.0, omega (arith, e, le))
 
-  bound_from : (n : ℕ) → 1 ≤ n → n < name_end true b (length s) → BeginsWithSlash (take n s)
+  bound_from : (n : ℕ) → 1 ≤ n → n < tree_end true b (length s) → BeginsWithSlash (take n s)
   bound_from n some lt = elim (either b) [
     | inl so ↦ taken_begins s n some (is.0 so)
-    | inr fails ↦ (let e : name_end true b (length s) ≡ 1 = ap (λ z. name_end true z (length s)) fails in absurd (past e))
+    | inr fails ↦ (let e : tree_end true b (length s) ≡ 1 = ap (λ z. tree_end true z (length s)) fails in absurd (past e))
   ]
     where
       either : (b : Bool) → (b ≡ true) ⊎ (b ≡ false)
       either true = inl refl
       either false = inr refl
 
-      past : name_end true b (length s) ≡ 1 → ⊥
+      past : tree_end true b (length s) ≡ 1 → ⊥
       past e = omega (arith, some, lt, e)
 
-  none_bound : (n : ℕ) → n ≡ 0 → n < name_end true b (length s)
+  none_bound : (n : ℕ) → n ≡ 0 → n < tree_end true b (length s)
   none_bound n e = bounded b e
     where
-      bounded : (b : Bool) → n ≡ 0 → n < name_end true b (length s)
+      bounded : (b : Bool) → n ≡ 0 → n < tree_end true b (length s)
       bounded true e = omega (arith, e)
       bounded false e = omega (arith, e)
 

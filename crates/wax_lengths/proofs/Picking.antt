@@ -7,7 +7,7 @@ use Rattle.wax_lengths.proofs.Lists.{slice_read}
 use Rattle.wax_lengths.specs.Spans.{InSpan, IsMarked, IsNarrowed, IsPicked, looks, looks_of}
 use Rattle.wax_lengths.specs.declared.span.Marks.{Marks}
 use Rattle.wax_lengths.specs.declared.span.Marks.TheVariants.{All, AfterSlash, Flags}
-use Rattle.wax_lengths.specs.declared.span.Span.{Span}
+use Rattle.wax_lengths.specs.declared.span.LengthSpan.{LengthSpan}
 
 -- the character before the part's end
 pub slash_before : (text : List ℕ) (at n c : ℕ) → n ≢ 0 → at + n ≤ length text → c ≡ get_or text (at + n - 1) c → (c ≡ 47) ↔ IsMarked AfterSlash (drop at text) n
@@ -21,11 +21,11 @@ slash_before text at (suc n) c some within is =
     other xs i d lt e = get_or_from_slice_get xs i d 0 (slice_read xs i d lt e)
 
 -- ---- what is left of a span
-pub record IsLeftOf (old now : Span) (s : List ℕ) : Type 0 where
+pub record IsLeftOf (old now : LengthSpan) (s : List ℕ) : Type 0 where
   pub to : (m : ℕ) → InSpan old s m → InSpan now s m
   pub from : (m : ℕ) → InSpan now s m → InSpan old s m
 
-pub left_whole : (span : Span) (s : List ℕ) → IsLeftOf span span s
+pub left_whole : (span : LengthSpan) (s : List ℕ) → IsLeftOf span span s
 left_whole span s = record { to = λ m h. h; from = λ m h. h }
 
 pub looks_less : (marks : Marks) (less more : ℕ) → less + 1 ≤ more → looks_of marks less + looks_of marks 1 ≤ looks_of marks more
@@ -34,7 +34,7 @@ looks_less AfterSlash less more le = omega (arith, le)
 looks_less (Flags flags) less more le = omega arith
 
 -- by the greatest length
-module _ (old now new : Span) (s : List ℕ) (some : now.low < now.end) (low : new.low ≡ now.low) (end : new.end ≡ now.end - 1) (marks : new.marks ≡ now.marks) (left : IsLeftOf old now s) where
+module _ (old now new : LengthSpan) (s : List ℕ) (some : now.low < now.end) (low : new.low ≡ now.low) (end : new.end ≡ now.end - 1) (marks : new.marks ≡ now.marks) (left : IsLeftOf old now s) where
   pub longest_within : (m : ℕ) → InSpan new s m → InSpan now s m
   longest_within m h = (omega (arith, h.0, low), omega (arith, h.1, end), subst (λ z. IsMarked z s m) marks h.2)
 
@@ -63,7 +63,7 @@ module _ (old now new : Span) (s : List ℕ) (some : now.low < now.end) (low : n
   longest_looks = subst (λ z. looks_of z (new.end - new.low) + looks_of now.marks 1 ≤ looks now) (sym marks) (looks_less now.marks (new.end - new.low) (now.end - now.low) (omega (arith, some, low, end)))
 
 -- by the least one
-module _ (old now new : Span) (s : List ℕ) (some : now.low < now.end) (low : new.low ≡ now.low + 1) (end : new.end ≡ now.end) (marks : new.marks ≡ now.marks) (left : IsLeftOf old now s) where
+module _ (old now new : LengthSpan) (s : List ℕ) (some : now.low < now.end) (low : new.low ≡ now.low + 1) (end : new.end ≡ now.end) (marks : new.marks ≡ now.marks) (left : IsLeftOf old now s) where
   shortest_within : (m : ℕ) → InSpan new s m → InSpan now s m
   shortest_within m h = (omega (arith, h.0, low), omega (arith, h.1, end), subst (λ z. IsMarked z s m) marks h.2)
 
@@ -92,5 +92,5 @@ module _ (old now new : Span) (s : List ℕ) (some : now.low < now.end) (low : n
   shortest_looks = subst (λ z. looks_of z (new.end - new.low) + looks_of now.marks 1 ≤ looks now) (sym marks) (looks_less now.marks (new.end - new.low) (now.end - now.low) (omega (arith, some, low, end)))
 
 -- nothing is left
-pub left_none : (old now : Span) (s : List ℕ) → now.end ≤ now.low → IsLeftOf old now s → (m : ℕ) → InSpan old s m → ⊥
+pub left_none : (old now : LengthSpan) (s : List ℕ) → now.end ≤ now.low → IsLeftOf old now s → (m : ℕ) → InSpan old s m → ⊥
 left_none old now s over left m h = let g = left.to m h in omega (arith, g.0, g.1, over)

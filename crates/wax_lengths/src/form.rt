@@ -1,6 +1,6 @@
 //! Forms: sets of texts that a token can take.
 
-use wax_program::Program;
+use wax_program::CompiledProgram;
 use wax_program::instruction::Test;
 
 /// A set of texts that a token can take. The sets that globs have most often need no program.
@@ -22,5 +22,5 @@ pub enum Form {
         has_root: bool,
     },
     /// The texts that a program accepts.
-    Coded(Program),
+    Coded(CompiledProgram),
 }

@@ -5,18 +5,18 @@ ghost use Rattle.wax_program.specs.Machine.{Accepts, PassesTest};
 ghost use Rattle.wax_query.specs.Components.{BeginsWithSlash};
 ghost use Rattle.wax_token.specs.Meaning.{HasNoSlash, TreeMeans};
 ghost use Rattle.wax_lengths.specs.Forms.{IsLetter, SpelledBy, form_size, program_size};
-ghost use Rattle.wax_lengths.specs.inner.Names.{name_end, least_of, marks_of, name_len};
+ghost use Rattle.wax_lengths.specs.inner.Names.{tree_end, tree_low, tree_marks, name_len};
 ghost use Rattle.wax_lengths.specs.Spans.{AreLengths, HasLengths, looks};
 
 use crate::form::Form;
-use crate::span::{Marks, Span};
+use crate::span::{LengthSpan, Marks};
 use crate::visits::Visits;
 use std::alloc::{AllocError, Global};
-use wax_program::Program;
+use wax_program::CompiledProgram;
 use wax_program::instruction::{Test, folds_to};
 
 /// Returns the lengths for one character that passes the test.
-fn of_one(test: &Test, text: &[char], at: usize, visits: &mut Visits) -> Span
+fn lengths_of_char(test: &Test, text: &[char], at: usize, visits: &mut Visits) -> LengthSpan
     requires { at ≤ length text.now }
     ensures lengths { AreLengths (λ x. (c : ℕ) × (x ≡ c ∷ []) × PassesTest test.now c)
         (drop at text.now) result }
@@ -25,13 +25,13 @@ fn of_one(test: &Test, text: &[char], at: usize, visits: &mut Visits) -> Span
     ensures steady { visits.old ≤ visits.new }
 {
     if at == text.len() {
-        return Span::new(0, 0);
+        return LengthSpan::new(0, 0);
     }
     visits.add(1);
     if test.passes(text[at]) {
-        Span::new(1, 2)
+        LengthSpan::new(1, 2)
     } else {
-        Span::new(0, 0)
+        LengthSpan::new(0, 0)
     }
 }
 
@@ -72,7 +72,13 @@ fn is_spelled(
 }
 
 /// Returns the lengths for the letters: only theirs, if the text has them at the place.
-fn of_text(letters: &[char], is_folded: bool, text: &[char], at: usize, visits: &mut Visits) -> Span
+fn lengths_of_text(
+    letters: &[char],
+    is_folded: bool,
+    text: &[char],
+    at: usize,
+    visits: &mut Visits,
+) -> LengthSpan
     requires { at ≤ length text.now }
     ensures lengths { AreLengths (SpelledBy is_folded letters.now) (drop at text.now) result }
     ensures end { at + result.end ≤ length text.now + 1 }
@@ -81,12 +87,12 @@ fn of_text(letters: &[char], is_folded: bool, text: &[char], at: usize, visits: 
 {
     let len = letters.len();
     if len > text.len() - at {
-        return Span::new(0, 0);
+        return LengthSpan::new(0, 0);
     }
     if is_spelled(letters, is_folded, text, at, visits) {
-        return Span::new(len, len + 1);
+        return LengthSpan::new(len, len + 1);
     }
-    Span::new(0, 0)
+    LengthSpan::new(0, 0)
 }
 
 /// Returns the number of characters from the place to the next `/`, or to the text's end.
@@ -103,7 +109,7 @@ fn name_len(text: &[char], at: usize) -> usize
 }
 
 /// Returns the lengths for zero or more characters other than `/`.
-fn of_name(text: &[char], at: usize, visits: &mut Visits) -> Span
+fn lengths_of_name(text: &[char], at: usize, visits: &mut Visits) -> LengthSpan
     requires { at ≤ length text.now }
     ensures lengths { AreLengths HasNoSlash (drop at text.now) result }
     ensures end { at + result.end ≤ length text.now + 1 }
@@ -112,7 +118,7 @@ fn of_name(text: &[char], at: usize, visits: &mut Visits) -> Span
 {
     let end = name_len(text, at) + 1;
     visits.add(end);
-    Span::new(0, end)
+    LengthSpan::new(0, end)
 }
 
 fn begins_with_slash(text: &[char], at: usize) -> bool
@@ -123,7 +129,7 @@ fn begins_with_slash(text: &[char], at: usize) -> bool
 }
 
 /// Returns the lengths for the empty text or `/`.
-fn of_slash_or_nothing(text: &[char], at: usize, visits: &mut Visits) -> Span
+fn lengths_of_slash_or_nothing(text: &[char], at: usize, visits: &mut Visits) -> LengthSpan
     requires { at ≤ length text.now }
     ensures lengths { AreLengths (λ x. (x ≡ []) ⊎ (x ≡ 47 ∷ [])) (drop at text.now) result }
     ensures end { at + result.end ≤ length text.now + 1 }
@@ -132,15 +138,15 @@ fn of_slash_or_nothing(text: &[char], at: usize, visits: &mut Visits) -> Span
 {
     visits.add(1);
     if begins_with_slash(text, at) {
-        Span::new(0, 2)
+        LengthSpan::new(0, 2)
     } else {
-        Span::new(0, 1)
+        LengthSpan::new(0, 1)
     }
 }
 
 /// Returns the least length of what a `**` matches.
-fn least(before: bool, after: bool, has_root: bool) -> usize
-    ensures { result ≡ least_of before after has_root }
+fn tree_low(before: bool, after: bool, has_root: bool) -> usize
+    ensures { result ≡ tree_low before after has_root }
 {
     if before {
         after as usize
@@ -151,17 +157,17 @@ fn least(before: bool, after: bool, has_root: bool) -> usize
 
 /// Returns the end of the span, one more than its greatest length `rest`. If a `/` has to come
 /// first and doesn't, only the length 0 is left.
-fn end(is_bound: bool, begins: bool, rest: usize) -> usize
+fn tree_end(is_bound: bool, begins: bool, rest: usize) -> usize
     requires { rest + 1 < 18446744073709551616 }
-    ensures { result ≡ name_end is_bound begins rest }
+    ensures { result ≡ tree_end is_bound begins rest }
 {
     if is_bound && !begins { 1 } else { rest + 1 }
 }
 
 /// Returns which lengths count: if something is after the `**`, only 0 and those that end with a
 /// `/`.
-fn marks(after: bool) -> Marks
-    ensures { result ≡ marks_of after }
+fn tree_marks(after: bool) -> Marks
+    ensures { result ≡ tree_marks after }
 {
     if after { Marks::AfterSlash } else { Marks::All }
 }
@@ -174,14 +180,14 @@ fn is_bound(before: bool, has_root: bool) -> bool
 }
 
 /// Returns the lengths for a `**`.
-fn of_tree(
+fn lengths_of_tree(
     before: bool,
     after: bool,
     has_root: bool,
     text: &[char],
     at: usize,
     visits: &mut Visits,
-) -> Span
+) -> LengthSpan
     requires { at ≤ length text.now }
     ensures lengths { AreLengths (TreeMeans before after has_root) (drop at text.now) result }
     ensures end { at + result.end ≤ length text.now + 1 }
@@ -190,21 +196,21 @@ fn of_tree(
 {
     visits.add(1);
     let begins = begins_with_slash(text, at);
-    Span {
-        low: least(before, after, has_root),
-        end: end(is_bound(before, has_root), begins, text.len() - at),
-        marks: marks(after),
+    LengthSpan {
+        low: tree_low(before, after, has_root),
+        end: tree_end(is_bound(before, has_root), begins, text.len() - at),
+        marks: tree_marks(after),
     }
 }
 
 /// Returns the lengths for a program, by one pass over the rest of the text.
-fn of_program(
+fn lengths_of_program(
     alloc: Global,
-    program: &Program,
+    program: &CompiledProgram,
     text: &[char],
     at: usize,
     visits: &mut Visits,
-) -> Result<Span, AllocError>
+) -> Result<LengthSpan, AllocError>
     requires { at ≤ length text.now }
     ensures lengths { IfOk result (AreLengths (Accepts program.now.0 0) (drop at text.now)) }
     ensures end { IfOk result (λ span. at + span.end ≤ length text.now + 1) }
@@ -214,7 +220,7 @@ fn of_program(
 {
     let mut flags = Vec::with_capacity(alloc, text.len() - at + 1)?;
     visits.run_ends(alloc, program, &text[at..], &mut flags)?;
-    Ok(Span {
+    Ok(LengthSpan {
         low: 0,
         end: flags.len(),
         marks: Marks::Flags(flags),
@@ -233,7 +239,7 @@ pub fn lengths_of(
     text: &[char],
     at: usize,
     visits: &mut Visits,
-) -> Result<Span, AllocError>
+) -> Result<LengthSpan, AllocError>
     requires { at ≤ length text.now }
     ensures lengths { IfOk result (HasLengths form.now (drop at text.now)) }
     ensures end { IfOk result (λ span. at + span.end ≤ length text.now + 1) }
@@ -243,17 +249,17 @@ pub fn lengths_of(
     ensures steady { visits.old ≤ visits.new }
 {
     match form {
-        Form::One(test) => Ok(of_one(test, text, at, visits)),
+        Form::One(test) => Ok(lengths_of_char(test, text, at, visits)),
         Form::Text(letters, is_folded) => {
-            Ok(of_text(letters.as_slice(), *is_folded, text, at, visits))
+            Ok(lengths_of_text(letters.as_slice(), *is_folded, text, at, visits))
         }
-        Form::Name => Ok(of_name(text, at, visits)),
-        Form::SlashOrNothing => Ok(of_slash_or_nothing(text, at, visits)),
+        Form::Name => Ok(lengths_of_name(text, at, visits)),
+        Form::SlashOrNothing => Ok(lengths_of_slash_or_nothing(text, at, visits)),
         Form::Tree {
             before,
             after,
             has_root,
-        } => Ok(of_tree(*before, *after, *has_root, text, at, visits)),
-        Form::Coded(program) => of_program(alloc, program, text, at, visits),
+        } => Ok(lengths_of_tree(*before, *after, *has_root, text, at, visits)),
+        Form::Coded(program) => lengths_of_program(alloc, program, text, at, visits),
     }
 }

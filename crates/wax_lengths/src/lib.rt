@@ -8,5 +8,5 @@ mod visits;
 
 pub use form::Form;
 pub use lengths::lengths_of;
-pub use span::{Marks, Span, pick};
+pub use span::{LengthSpan, Marks, pick};
 pub use visits::Visits;

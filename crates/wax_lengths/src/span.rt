@@ -19,18 +19,18 @@ pub enum Marks {
 
 /// A set of lengths from `low` on and below `end`, in characters.
 #[derive(Drop)]
-pub struct Span {
+pub struct LengthSpan {
     pub low: usize,
     pub end: usize,
     pub marks: Marks,
 }
 
-impl Span {
+impl LengthSpan {
     /// Creates the span of all lengths from `low` on and below `end`.
-    pub fn new(low: usize, end: usize) -> Span
+    pub fn new(low: usize, end: usize) -> LengthSpan
         ensures { result ≡ record { low = low; end = end; marks = Marks.All } }
     {
-        Span {
+        LengthSpan {
             low,
             end,
             marks: Marks::All,
@@ -77,7 +77,12 @@ fn is_marked(text: &[char], at: usize, n: usize, marks: &Marks, visits: &mut Vis
 }
 
 /// Takes the greatest length out of the span. Smaller ones stay in it.
-fn pick_longest(text: &[char], at: usize, span: &mut Span, visits: &mut Visits) -> Option<usize>
+fn pick_longest(
+    text: &[char],
+    at: usize,
+    span: &mut LengthSpan,
+    visits: &mut Visits,
+) -> Option<usize>
     requires { at + span.old.end ≤ length text.now + 1 }
     ensures picked { MatchOption result ((m : ℕ) → InSpan span.old (drop at text.now) m → ⊥)
         (IsPicked span.old span.new (drop at text.now) false) }
@@ -97,7 +102,12 @@ fn pick_longest(text: &[char], at: usize, span: &mut Span, visits: &mut Visits) 
 }
 
 /// Takes the least length out of the span. Greater ones stay in it.
-fn pick_shortest(text: &[char], at: usize, span: &mut Span, visits: &mut Visits) -> Option<usize>
+fn pick_shortest(
+    text: &[char],
+    at: usize,
+    span: &mut LengthSpan,
+    visits: &mut Visits,
+) -> Option<usize>
     requires { at + span.old.end ≤ length text.now + 1 }
     ensures picked { MatchOption result ((m : ℕ) → InSpan span.old (drop at text.now) m → ⊥)
         (IsPicked span.old span.new (drop at text.now) true) }
@@ -122,7 +132,7 @@ fn pick_shortest(text: &[char], at: usize, span: &mut Span, visits: &mut Visits)
 pub fn pick(
     text: &[char],
     at: usize,
-    span: &mut Span,
+    span: &mut LengthSpan,
     is_lazy: bool,
     visits: &mut Visits,
 ) -> Option<usize>

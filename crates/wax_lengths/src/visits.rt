@@ -4,7 +4,7 @@ ghost use Rattle.wax_program.specs.Ends.{MarksBeginnings};
 
 use std::alloc::{AllocError, Global};
 use std::marker::Model;
-use wax_program::{Meter, Program, run_ends};
+use wax_program::{CompiledProgram, Meter, run_ends};
 
 /// The number of instructions that were read, and of characters that were looked at without one. It
 /// stays at its greatest number once it reaches it.
@@ -59,7 +59,7 @@ impl Visits {
     pub fn run_ends(
         &mut self,
         alloc: Global,
-        program: &Program,
+        program: &CompiledProgram,
         text: &[char],
         ends: &mut Vec<bool>,
     ) -> Result<(), AllocError>

@@ -14,7 +14,7 @@ use wax_query::diagnostics::NoMemory;
 mod line_writer;
 mod sieve;
 
-use line_writer::{CapturedLines, LineWriter, MeantLines};
+use line_writer::{CapturedLines, LineWriter, MatchingLines};
 use sieve::Sieve;
 
 /// How many bytes are read at once. Output is written once that many bytes of it wait.
@@ -90,7 +90,7 @@ pub fn filter_lines<'p, R: Read, W: Write, P: BuildMatcher<'p>>(
         (output.old.failures < output.new.failures) ⊎ (output.new.failures ≡ greatest_count) }
 {
     let matcher = program.build_matcher(alloc)?;
-    sift_lines(alloc, input, output, &mut MeantLines { matcher })
+    sift_lines(alloc, input, output, &mut MatchingLines { matcher })
 }
 
 /// Writes each line of the input that the program matches, with its captures, a tab before each,

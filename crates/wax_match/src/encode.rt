@@ -22,7 +22,7 @@ mod sides;
 mod tail;
 
 pub use folding::case_folded_eq;
-pub use wax_program::{Meter, Program, last_name, reads_last, run, run_known};
+pub use wax_program::{CompiledProgram, Meter, last_name, reads_last, run, run_known};
 
 /// Tokens cost more than a program may (error 9).
 #[derive(Clone, Copy, Debug, Error)]
@@ -45,7 +45,7 @@ pub fn compile<'t, A>(
     tokens: &[Token<'t, A>],
     before: bool,
     after: bool,
-) -> Result<Program, Refusal<CompileError>>
+) -> Result<CompiledProgram, Refusal<CompileError>>
     ensures means { IfOk result
         (λ p. (s : List ℕ) → Accepts p.0 0 s ↔ MeansEach (trees tokens.now) before after s) }
     ensures length { MatchBuild result
@@ -58,5 +58,5 @@ pub fn compile<'t, A>(
     }
     let mut tail = Tail::new(alloc);
     tail.put_sequence(tokens, Sides { before, after })?;
-    Ok(Program::new(tail.into_instructions(), cost + 1))
+    Ok(CompiledProgram::new(tail.into_instructions(), cost + 1))
 }

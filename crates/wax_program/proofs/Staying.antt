@@ -7,11 +7,11 @@ use Rattle.wax_program.specs.declared.instruction.Test.TheVariants.{NotSlash, An
 use Rattle.wax_program.specs.declared.instruction.Instruction.{Instruction}
 use Rattle.wax_program.specs.declared.instruction.Instruction.TheVariants.{Check, Repeat, Components, Fork, Jump, Back}
 use Rattle.wax_program.specs.declared.steady.Steady.{Steady}
-use Rattle.wax_program.specs.declared.steady.Watch.{Watch}
-use Rattle.wax_program.specs.declared.steady.Watch.TheVariants.{Nothing, Place, Lost}
+use Rattle.wax_program.specs.declared.steady.Watched.{Watched}
+use Rattle.wax_program.specs.declared.steady.Watched.TheVariants.{Nothing, CheckAt, Unknown}
 use Rattle.wax_program.specs.Bits.{places_of}
 use Rattle.wax_program.specs.Machine.{PassesTest, Moves, AcceptsIn}
-use Rattle.wax_program.specs.inner.Steady.{Alike, Comes, ActsAlike, IsAbsorbing, IsKnown, Lets, Noted, NotedMiss, NotedRepeat}
+use Rattle.wax_program.specs.inner.Steady.{Alike, LedBack, ActsAlike, IsAbsorbing, IsKnown, MissesWatched, Noted, NotedMiss, NotedRepeat}
 use Rattle.wax_program.specs.Threads.{HoldsPlace, Position, IsDone, IsReached, Taken, Followed, Round, Led, AnyOf, Advances}
 use Rattle.wax_program.proofs.Advancing.{in_range, round_end, was_read}
 
@@ -20,45 +20,45 @@ some_same : {i j : Instruction} → Some i ≡ Some j → i ≡ j
 some_same e = cc
 
 module _ (code : List Instruction) (c k : ℕ) where
-  covers_as : (watch : Watch) (i : Instruction) → slice_get code k ≡ Some i → ((d : ℕ) → c ≢ 47 → d ≢ 47 → Lets code watch d → Alike i c d) → ActsAlike code c watch k
+  covers_as : (watch : Watched) (i : Instruction) → slice_get code k ≡ Some i → ((d : ℕ) → c ≢ 47 → d ≢ 47 → MissesWatched code watch d → Alike i c d) → ActsAlike code c watch k
   covers_as watch i is h j js d cn dn lets = subst (λ z. Alike z c d) (some_same (sym is ∙ js)) (h d cn dn lets)
 
-  pub noted_lost : (old : Watch) → Noted code c k old Lost
-  noted_lost old = record {
+  pub noted_unknown : (old : Watched) → Noted code c k old Unknown
+  noted_unknown old = record {
     stricter = λ d h. absurd h;
     covers = λ j js d cn dn lets. absurd lets;
   }
 
-  pub noted_fork : (watch : Watch) (n : ℕ) → slice_get code k ≡ Some (Fork n) → Noted code c k watch watch
+  pub noted_fork : (watch : Watched) (n : ℕ) → slice_get code k ≡ Some (Fork n) → Noted code c k watch watch
   noted_fork watch n is = record { stricter = λ d h. h; covers = covers_as watch (Fork n) is (λ d cn dn lets. tt) }
 
-  pub noted_jump : (watch : Watch) (n : ℕ) → slice_get code k ≡ Some (Jump n) → Noted code c k watch watch
+  pub noted_jump : (watch : Watched) (n : ℕ) → slice_get code k ≡ Some (Jump n) → Noted code c k watch watch
   noted_jump watch n is = record { stricter = λ d h. h; covers = covers_as watch (Jump n) is (λ d cn dn lets. tt) }
 
-  pub noted_back : (watch : Watch) (n : ℕ) → slice_get code k ≡ Some (Back n) → Noted code c k watch watch
+  pub noted_back : (watch : Watched) (n : ℕ) → slice_get code k ≡ Some (Back n) → Noted code c k watch watch
   noted_back watch n is = record { stricter = λ d h. h; covers = covers_as watch (Back n) is (λ d cn dn lets. tt) }
 
-  pub noted_components : (watch : Watch) → slice_get code k ≡ Some Components → Noted code c k watch watch
+  pub noted_components : (watch : Watched) → slice_get code k ≡ Some Components → Noted code c k watch watch
   noted_components watch is = record { stricter = λ d h. h; covers = covers_as watch Components is (λ d cn dn lets. ((λ e. absurd (cn e)), (λ e. absurd (dn e)))) }
 
-  same_watch : (old new : Watch) → new ≡ old → (d : ℕ) → Lets code new d → Lets code old d
-  same_watch old new e d h = subst (λ z. Lets code z d) e h
+  same_watch : (old new : Watched) → new ≡ old → (d : ℕ) → MissesWatched code new d → MissesWatched code old d
+  same_watch old new e d h = subst (λ z. MissesWatched code z d) e h
 
-  pub noted_miss : (old new : Watch) (t : Test) → slice_get code k ≡ Some (Check t) → (PassesTest t c → ⊥) → NotedMiss old new k t → Noted code c k old new
+  pub noted_miss : (old new : Watched) (t : Test) → slice_get code k ≡ Some (Check t) → (PassesTest t c → ⊥) → NotedMiss old new k t → Noted code c k old new
   noted_miss old new t is missed (inl h) = record {
     stricter = same_watch old new h.0;
     covers = covers_as new (Check t) is (λ d cn dn lets. ((λ p. absurd (missed p)), (λ p. absurd (dn (subst (λ z. PassesTest z d) h.1 p)))));
   }
-  noted_miss old new t is missed (inr (inl h)) = subst (Noted code c k old) (sym h) (noted_lost old)
+  noted_miss old new t is missed (inr (inl h)) = subst (Noted code c k old) (sym h) (noted_unknown old)
   noted_miss old new t is missed (inr (inr h)) = subst (λ z. Noted code c k z new) (sym h.0) (subst (Noted code c k Nothing) (sym h.1) placed)
     where
-      placed : Noted code c k Nothing (Place k)
+      placed : Noted code c k Nothing (CheckAt k)
       placed = record {
         stricter = λ d g. tt;
-        covers = covers_as (Place k) (Check t) is (λ d cn dn lets. ((λ p. absurd (missed p)), (λ p. absurd (lets t is p))));
+        covers = covers_as (CheckAt k) (Check t) is (λ d cn dn lets. ((λ p. absurd (missed p)), (λ p. absurd (lets t is p))));
       }
 
-  pub noted_repeat : (old new : Watch) (t : Test) → slice_get code k ≡ Some (Repeat t) → NotedRepeat old new t → Noted code c k old new
+  pub noted_repeat : (old new : Watched) (t : Test) → slice_get code k ≡ Some (Repeat t) → NotedRepeat old new t → Noted code c k old new
   noted_repeat old new t is (inl h) = record {
     stricter = same_watch old new h.0;
     covers = covers_as new (Repeat t) is (λ d cn dn lets. taken h.1 d cn dn);
@@ -67,10 +67,10 @@ module _ (code : List Instruction) (c k : ℕ) where
       taken : (t ≡ NotSlash) ⊎ (t ≡ Any) → (d : ℕ) → c ≢ 47 → d ≢ 47 → PassesTest t c ↔ PassesTest t d
       taken (inl e) d cn dn = subst (λ z. PassesTest z c ↔ PassesTest z d) (sym e) ((λ _. dn), (λ _. cn))
       taken (inr e) d cn dn = subst (λ z. PassesTest z c ↔ PassesTest z d) (sym e) ((λ _. tt), (λ _. tt))
-  noted_repeat old new t is (inr h) = subst (Noted code c k old) (sym h) (noted_lost old)
+  noted_repeat old new t is (inr h) = subst (Noted code c k old) (sym h) (noted_unknown old)
 
 -- ---- all that were read in a round are noted
-pub watched_step : (code : List Instruction) (c k : ℕ) (p q r : Position) (old new : Watch) → Taken p q k → Followed code c k q r → Noted code c k old new →
+pub watched_step : (code : List Instruction) (c k : ℕ) (p q r : Position) (old new : Watched) → Taken p q k → Followed code c k q r → Noted code c k old new →
     ((x : ℕ) → HoldsPlace p.read x → ActsAlike code c old x) → (x : ℕ) → HoldsPlace r.read x → ActsAlike code c new x
 watched_step code c k p q r old new t f n h x g = elim (t.only x (subst (λ z. HoldsPlace z x) f.read g)) [
   | inl m ↦ (λ j js d cn dn lets. h x m j js d cn dn (n.stricter d lets))
@@ -112,7 +112,7 @@ module _ (code : List Instruction) (c : ℕ) (old : List Bool) (p : Position) (s
   flip (Jump n) a b h = tt
   flip (Back n) a b h = tt
 
-  pub round_steady : (watch : Watch) → ((x : ℕ) → HoldsPlace p.read x → ActsAlike code c watch x) → c ≢ 47 → p.next ≡ old → (d : ℕ) → d ≢ 47 → Lets code watch d → Advances code d old old
+  pub round_steady : (watch : Watched) → ((x : ℕ) → HoldsPlace p.read x → ActsAlike code c watch x) → c ≢ 47 → p.next ≡ old → (d : ℕ) → d ≢ 47 → MissesWatched code watch d → Advances code d old old
   round_steady watch covers cn back d dn lets = record {
     onward = λ s h. subst (λ z. AnyOf code z s) back (ends.onward s (h.0, h.1, (h.2.0, alike_accepts d c (λ x i read is. flip i c d (like x i read is)) h.2.0 h.0 s (r.begins h.0 h.1) h.2.1)));
     backward = λ s h. turned s (ends.backward s (subst (λ z. AnyOf code z s) (sym back) h));
@@ -128,12 +128,12 @@ module _ (code : List Instruction) (c : ℕ) (old : List Bool) (p : Position) (s
       turned s h = (h.0, h.1, (h.2.0, alike_accepts c d like h.2.0 h.0 s (r.begins h.0 h.1) h.2.1))
 
   -- what a round that leads back tells
-  pub round_known : (watch : Watch) → ((x : ℕ) → HoldsPlace p.read x → ActsAlike code c watch x) → (here : Option ℕ) → IfSome here (λ word. old ≡ places_of word) →
-      (result : Option Steady) → IfSome result (Comes code c p.next here watch) → IfSome result (IsKnown code)
+  pub round_known : (watch : Watched) → ((x : ℕ) → HoldsPlace p.read x → ActsAlike code c watch x) → (here : Option ℕ) → IfSome here (λ word. old ≡ places_of word) →
+      (result : Option Steady) → IfSome result (LedBack code c p.next here watch) → IfSome result (IsKnown code)
   round_known watch covers here began None h = tt
   round_known watch covers here began (Some s) h = let known : IsKnown code s = record {
     below = h.below;
-    steady = λ d dn missed. steady d dn (h.lets d missed);
+    steady = λ d dn missed. steady d dn (h.misses d missed);
     slash = λ t. absurd (h.not_by_slash t);
     others = λ t d dn. steady d dn (h.others t d);
   } in known
@@ -141,7 +141,7 @@ module _ (code : List Instruction) (c : ℕ) (old : List Bool) (p : Position) (s
       is : old ≡ places_of s.word
       is = let e : IfSome (Some s.word) (λ word. old ≡ places_of word) = subst (λ z. IfSome z (λ word. old ≡ places_of word)) h.began began in e
 
-      steady : (d : ℕ) → d ≢ 47 → Lets code watch d → Advances code d (places_of s.word) (places_of s.word)
+      steady : (d : ℕ) → d ≢ 47 → MissesWatched code watch d → Advances code d (places_of s.word) (places_of s.word)
       steady d dn lets = subst (λ z. Advances code d z z) is (round_steady watch covers h.other (h.back ∙ sym is) d dn lets)
 
 -- a round by `/` that leads back

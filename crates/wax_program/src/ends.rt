@@ -4,7 +4,7 @@ ghost use Rattle.wax_program.specs.Ends.{MarksBeginnings};
 ghost use Rattle.wax_program.specs.Threads.{IsEmpty};
 
 use crate::heap_sets::HeapSets;
-use crate::machine::{Meter, Program};
+use crate::machine::{CompiledProgram, Meter};
 use crate::rounds::{advance, finish};
 use crate::sets::Sets;
 use crate::word_sets::WordSets;
@@ -19,7 +19,7 @@ use std::alloc::{AllocError, Global};
 /// Returns `AllocError` if allocation fails.
 pub fn run_ends(
     alloc: Global,
-    program: &Program,
+    program: &CompiledProgram,
     text: &[char],
     ends: &mut Vec<bool>,
     meter: &mut Meter,
@@ -43,7 +43,7 @@ pub fn run_ends(
 
 /// Fills `ends` as `run_ends` does. The sets must be empty.
 fn ends_over<R: Sets>(
-    program: &Program,
+    program: &CompiledProgram,
     text: &[char],
     sets: &mut R,
     ends: &mut Vec<bool>,

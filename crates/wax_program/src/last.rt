@@ -8,7 +8,7 @@ ghost use Rattle.wax_program.specs.Machine.{Accepts};
 ghost use Rattle.wax_program.specs.Meter.{most_ticks};
 
 use crate::instruction::Instruction;
-use crate::machine::{Meter, Program, Visits};
+use crate::machine::{CompiledProgram, Meter, Visits};
 use crate::matching::{run, run_at};
 use std::alloc::Global;
 use wax_query::diagnostics::NoMemory;
@@ -22,7 +22,7 @@ use wax_query::diagnostics::NoMemory;
 /// Returns `NoMemory` if allocation fails.
 pub fn run_known(
     alloc: Global,
-    program: &Program,
+    program: &CompiledProgram,
     reads_last: bool,
     text: &str,
     meter: &mut Meter,
@@ -45,7 +45,7 @@ pub fn run_known(
 /// that take other components.
 fn run_name(
     alloc: Global,
-    program: &Program,
+    program: &CompiledProgram,
     text: &str,
     meter: &mut Meter,
 ) -> Result<bool, NoMemory>
@@ -77,13 +77,13 @@ pub fn last_name(text: &str) -> &str
 
 /// Returns whether the program is known to depend only on the last component: it begins with zero
 /// or more components, and takes no `/` after them. Reads each instruction at most once.
-pub fn reads_last(program: &Program) -> bool
+pub fn reads_last(program: &CompiledProgram) -> bool
     ensures { IsTrue result → ReadsLast program.now.0 }
 {
     begins_with_components(program) && stay_in_name(program)
 }
 
-fn begins_with_components(program: &Program) -> bool
+fn begins_with_components(program: &CompiledProgram) -> bool
     ensures fork { IsTrue result → slice_get program.now.0 0 ≡ Some (Fork 1) }
     ensures components { IsTrue result → slice_get program.now.0 1 ≡ Some Components }
 {
@@ -116,7 +116,7 @@ fn is_components(instruction: &Instruction) -> bool
 }
 
 /// Returns whether no instruction from the place 2 on takes a `/` or leads to a place before it.
-fn stay_in_name(program: &Program) -> bool
+fn stay_in_name(program: &CompiledProgram) -> bool
     ensures { IsTrue result → StayInName program.now.0 (length program.now.0) }
 {
     let mut meter = Meter::new();

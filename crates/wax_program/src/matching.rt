@@ -5,7 +5,7 @@ ghost use Rattle.wax_program.specs.Meter.{most_ticks};
 ghost use Rattle.wax_program.specs.Threads.{IsEmpty};
 
 use crate::heap_sets::HeapSets;
-use crate::machine::{Meter, Program};
+use crate::machine::{CompiledProgram, Meter};
 use crate::rounds::{finish, step};
 use crate::sets::Sets;
 use crate::steady::absorbs;
@@ -24,7 +24,7 @@ use wax_query::diagnostics::NoMemory;
 /// Returns `NoMemory` if allocation fails.
 pub fn run(
     alloc: Global,
-    program: &Program,
+    program: &CompiledProgram,
     text: &str,
     meter: &mut Meter,
 ) -> Result<bool, NoMemory>
@@ -40,7 +40,7 @@ pub fn run(
 /// Returns whether the program, begun at the place `start`, accepts the text.
 pub(crate) fn run_at(
     alloc: Global,
-    program: &Program,
+    program: &CompiledProgram,
     start: usize,
     text: &str,
     meter: &mut Meter,
@@ -66,7 +66,7 @@ pub(crate) fn run_at(
 /// Once no character can change the sets, the rest of the text is counted at once, by its bytes.
 /// These are at least as many as its characters, and at most four times as many.
 fn run_over<R: Sets>(
-    program: &Program,
+    program: &CompiledProgram,
     start: usize,
     text: &str,
     sets: &mut R,

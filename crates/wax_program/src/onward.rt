@@ -4,7 +4,7 @@ ghost use Rattle.wax_program.specs.Ends.{Reaches};
 ghost use Rattle.wax_program.specs.Threads.{AnyOf, HoldsPlace, IsEmpty};
 
 use crate::heap_sets::HeapSets;
-use crate::machine::{Meter, Program};
+use crate::machine::{CompiledProgram, Meter};
 use crate::rounds::{advance, finish};
 use crate::sets::Sets;
 use crate::word_sets::WordSets;
@@ -20,7 +20,7 @@ use std::alloc::{AllocError, Global};
 /// Returns `AllocError` if allocation fails.
 pub fn run_from(
     alloc: Global,
-    program: &Program,
+    program: &CompiledProgram,
     text: &[char],
     starts: &[bool],
     ends: &mut [bool],
@@ -79,7 +79,7 @@ fn mark(ends: &mut [bool], at: usize, ended: bool)
 /// Moves to the next position by the character, and returns whether a part ends before it. Reads
 /// nothing if no instruction is left to be read.
 #[inline(always)]
-fn go_on<R: Sets>(program: &Program, c: char, sets: &mut R, meter: &mut Meter) -> bool
+fn go_on<R: Sets>(program: &CompiledProgram, c: char, sets: &mut R, meter: &mut Meter) -> bool
     requires size { (R.position sets.old).size ≡ length program.now.0 }
     requires read { IsEmpty (R.position sets.old).read }
     requires next { IsEmpty (R.position sets.old).next }
@@ -105,7 +105,7 @@ fn go_on<R: Sets>(program: &Program, c: char, sets: &mut R, meter: &mut Meter) -
 
 /// Sets flags as `run_from` does. The sets must be empty.
 fn onward_over<R: Sets>(
-    program: &Program,
+    program: &CompiledProgram,
     text: &[char],
     starts: &[bool],
     sets: &mut R,

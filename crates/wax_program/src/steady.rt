@@ -2,11 +2,12 @@
 ghost use Rattle.std.specs.Prelude.{◌≡◌, ◌+◌, ◌≤◌, ℕ, List, IfSome, IsTrue, min};
 ghost use Rattle.wax_program.specs.Machine.{PassesTest};
 ghost use Rattle.wax_program.specs.Meter.{most_ticks};
-ghost use Rattle.wax_program.specs.inner.Steady.{IsAbsorbing, IsKnown, Lets, Misses, NotedMiss, NotedRepeat};
+ghost use Rattle.wax_program.specs.inner.Steady.{IsAbsorbing, IsKnown, MissesWatched, Misses, NotedMiss};
+ghost use Rattle.wax_program.specs.inner.Steady.{NotedRepeat};
 ghost use Rattle.wax_program.specs.Threads.{Advances};
 
 use crate::instruction::{Instruction, Test};
-use crate::machine::{Meter, Program, Visits};
+use crate::machine::{CompiledProgram, Meter, Visits};
 use crate::sets::Sets;
 
 /// A set of places, held by a word, that leads back to itself by each character that the check at
@@ -24,16 +25,16 @@ pub struct Steady {
 /// Which characters other than `/` have the effect that the character of a round had, as far as the
 /// instructions that were read show.
 #[derive(Clone, Copy)]
-pub enum Watch {
+pub enum Watched {
     /// All of them.
     Nothing,
     /// Those that the check at this place doesn't take.
-    Place(usize),
+    CheckAt(usize),
     /// Not known.
-    Lost,
+    Unknown,
 }
 
-impl Watch {
+impl Watched {
     /// Records that the check at the place didn't take the round's character.
     #[inline(always)]
     pub fn miss(&mut self, at: usize, test: &Test)
@@ -43,8 +44,8 @@ impl Watch {
             return;
         }
         *self = match self {
-            Watch::Nothing => Watch::Place(at),
-            _ => Watch::Lost,
+            Watched::Nothing => Watched::CheckAt(at),
+            _ => Watched::Unknown,
         };
     }
 
@@ -55,7 +56,7 @@ impl Watch {
     {
         match test {
             Test::NotSlash | Test::Any => {}
-            _ => *self = Watch::Lost,
+            _ => *self = Watched::Unknown,
         }
     }
 
@@ -64,22 +65,22 @@ impl Watch {
     #[inline(always)]
     pub fn place(self) -> Option<usize>
         ensures { IfSome result
-            (λ k. (code : List Instruction) (d : ℕ) → Misses code k d → Lets code self d) }
+            (λ k. (code : List Instruction) (d : ℕ) → Misses code k d → MissesWatched code self d) }
     {
         match self {
-            Watch::Nothing => Some(0),
-            Watch::Place(at) => Some(at),
-            Watch::Lost => None,
+            Watched::Nothing => Some(0),
+            Watched::CheckAt(at) => Some(at),
+            Watched::Unknown => None,
         }
     }
 
     /// Returns whether all characters other than `/` have the effect of the round's.
     #[inline(always)]
     pub fn is_nothing(self) -> bool
-        ensures { IsTrue result → (code : List Instruction) (d : ℕ) → Lets code self d }
+        ensures { IsTrue result → (code : List Instruction) (d : ℕ) → MissesWatched code self d }
     {
         match self {
-            Watch::Nothing => true,
+            Watched::Nothing => true,
             _ => false,
         }
     }
@@ -100,7 +101,7 @@ fn misses(instruction: &Instruction, c: char) -> bool
 /// Reads at most one instruction.
 #[inline(always)]
 pub fn stays<R: Sets>(
-    program: &Program,
+    program: &CompiledProgram,
     c: char,
     sets: &R,
     steady: Option<Steady>,
@@ -129,7 +130,7 @@ pub fn stays<R: Sets>(
 /// them. The rest of the text then changes nothing.
 #[inline(always)]
 #[tactic(auto, using(crate::proofs::Staying::absorbing))]
-pub fn absorbs<R: Sets>(program: &Program, sets: &R, steady: Option<Steady>) -> bool
+pub fn absorbs<R: Sets>(program: &CompiledProgram, sets: &R, steady: Option<Steady>) -> bool
     requires known { IfSome steady (IsKnown program.now.0) }
     ensures { IsTrue result → IsAbsorbing program.now.0 (R.position sets.now).pending }
 {

@@ -5,7 +5,7 @@ ghost use Rattle.wax_program.specs.Machine.{Accepts};
 ghost use Rattle.wax_program.specs.Threads.{Advances, AnyOf, IsEmpty, Within};
 
 use crate::heap_sets::HeapSets;
-use crate::machine::{Meter, Program};
+use crate::machine::{CompiledProgram, Meter};
 use crate::rounds::{advance, finish};
 use crate::sets::Sets;
 use std::alloc::{AllocError, Global};
@@ -65,7 +65,7 @@ impl Stepper {
     }
 
     /// Reaches only the place `start`.
-    pub fn begin(&mut self, program: &Program, start: usize)
+    pub fn begin(&mut self, program: &CompiledProgram, start: usize)
         requires size { self.old.size ≡ length program.now.0 }
         requires start { start ≤ length program.now.0 }
         ensures size { self.new.size ≡ self.old.size }
@@ -78,7 +78,7 @@ impl Stepper {
 
     /// Reaches the places to which those of the row lead by the character. Reads at most `size`
     /// instructions.
-    pub fn step(&mut self, program: &Program, row: &[u64], c: char)
+    pub fn step(&mut self, program: &CompiledProgram, row: &[u64], c: char)
         requires size { self.old.size ≡ length program.now.0 }
         requires room { length row.now ≡ self.old.size / 64 + 1 }
         requires within { Within (self.old.size + 1) (bits_of row.now) }
@@ -94,7 +94,7 @@ impl Stepper {
     /// Returns whether the text ends here: whether the program, begun at a place of the row,
     /// accepts the empty text. Reads at most `size` instructions. The places that are reached
     /// afterwards are unspecified.
-    pub fn accepts(&mut self, program: &Program, row: &[u64]) -> bool
+    pub fn accepts(&mut self, program: &CompiledProgram, row: &[u64]) -> bool
         requires size { self.old.size ≡ length program.now.0 }
         requires room { length row.now ≡ self.old.size / 64 + 1 }
         requires within { Within (self.old.size + 1) (bits_of row.now) }

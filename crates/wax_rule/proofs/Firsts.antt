@@ -6,7 +6,7 @@ use Rattle.std.specs.List.{flat_map, range_with_len}
 use Rattle.itertools.specs.Consumer.{find_at}
 use Rattle.wax_break.specs.declared.Break.{Break}
 use Rattle.wax_rule.specs.declared.rule.Rule.{Rule}
-use Rattle.wax_rule.specs.FirstBreak.{head_of, breaks_beside, breaks_of, first_in, is_broken_at, oversized}
+use Rattle.wax_rule.specs.FirstBreak.{head_of, shape_breaks, breaks_of, first_in, is_broken_at, oversized}
 use Rattle.wax_rule.specs.declared.rule.Rule.TheVariants.{Boundary, Bounds, Branch}
 use Rattle.wax_break.specs.declared.Sort.TheVariants.{Alternation}
 use Rattle.wax_break.specs.declared.Side.{Side}
@@ -49,10 +49,10 @@ found_first rule tokens o e =
     find_first rule tokens tokens 0 0 (λ k. (let n : 0 + k ≡ k = omega arith in ap (slice_get tokens) n)) ∙ ap (first_found rule tokens) (sym e)
 
 -- ---- all rules
-pub first_beside : (row : List Situated) (a b c o p : Option Break) →
+pub first_shape_break : (row : List Situated) (a b c o p : Option Break) →
     a ≡ head_of (flat_map (breaks_of Boundary) row) → b ≡ head_of (flat_map (breaks_of Bounds) row) → c ≡ head_of (flat_map (breaks_of Branch) row) →
-    o ≡ option_or a b → p ≡ option_or o c → p ≡ head_of (breaks_beside row)
-first_beside row a b c o p x y z j k =
+    o ≡ option_or a b → p ≡ option_or o c → p ≡ head_of (shape_breaks row)
+first_shape_break row a b c o p x y z j k =
     let u : List Break = flat_map (breaks_of Boundary) row in
     let v : List Break = flat_map (breaks_of Bounds) row in
     let w : List Break = flat_map (breaks_of Branch) row in
@@ -60,8 +60,8 @@ first_beside row a b c o p x y z j k =
     ∙ ap (λ a. option_or (option_or a b) c) x ∙ ap (λ b. option_or (option_or (head_of u) b) c) y ∙ ap (option_or (option_or (head_of u) (head_of v))) z
     ∙ ap (λ o. option_or o (head_of w)) (sym (head_of_append u v)) ∙ sym (head_of_append (u ++ v) w)
 
-pub first_among : (row : List Situated) → head_of (breaks_among row) ≡ option_or (head_of (breaks_beside row)) (head_of (oversized row))
-first_among row = head_of_append (breaks_beside row) (oversized row)
+pub first_among : (row : List Situated) → head_of (breaks_among row) ≡ option_or (head_of (shape_breaks row)) (head_of (oversized row))
+first_among row = head_of_append (shape_breaks row) (oversized row)
 
 pub oversized_step : (row : List Situated) (i : ℕ) (s : Situated) → i < length row → s ≡ get_or row i s →
     head_of (oversized (drop i row)) ≡ option_or (head_of (size_breaks s.token)) (head_of (oversized (drop (i + 1) row)))

@@ -63,8 +63,8 @@ abbrev pub is_broken_at : Rule → List Situated → ℕ → Bool
 is_broken_at rule row i = is_some (first_in rule (slice_get row i))
 
 -- the breaks of all but sizes
-abbrev pub breaks_beside : List Situated → List Break
-breaks_beside row =
+abbrev pub shape_breaks : List Situated → List Break
+shape_breaks row =
     flat_map (breaks_of Boundary) row ++ flat_map (breaks_of Bounds) row ++ flat_map (breaks_of Branch) row
 
 abbrev pub oversized : List Situated → List Break

@@ -7,7 +7,7 @@ ghost use Rattle.itertools.specs.Consumer.{find_at};
 ghost use Rattle.wax_query.specs.Outcome.{MatchBuild};
 ghost use Rattle.wax_break.specs.Situated.{breadth_first};
 ghost use Rattle.wax_break.specs.Rules.{broken, break_here, breaks_among, size_breaks};
-ghost use Rattle.wax_rule.specs.FirstBreak.{TellsFirst, head_of, breaks_of, breaks_beside, oversized};
+ghost use Rattle.wax_rule.specs.FirstBreak.{TellsFirst, head_of, breaks_of, shape_breaks, oversized};
 ghost use Rattle.wax_rule.specs.FirstBreak.{first_in, is_broken_at};
 
 mod boundary;
@@ -187,7 +187,7 @@ fn is_broken_at(rule: Rule, row: &[Situated<'_, '_>], index: usize) -> bool
 
 /// Finds the first token that breaks the rule. `find_position` returns its position with the item,
 /// and here both are its index.
-fn find_broken(rule: Rule, row: &[Situated<'_, '_>]) -> Option<(usize, usize)>
+fn find_broken_index(rule: Rule, row: &[Situated<'_, '_>]) -> Option<(usize, usize)>
     ensures { result ≡ find_at (is_broken_at rule row.now) 0 (range_with_len 0 (length row.now)) }
 {
     (0..row.len()).find_position(|index| is_broken_at(rule, row, *index))
@@ -195,20 +195,20 @@ fn find_broken(rule: Rule, row: &[Situated<'_, '_>]) -> Option<(usize, usize)>
 
 /// Finds the first break of the rule. The token that was found is checked once more, since finding
 /// it keeps no break.
-fn find_break(rule: Rule, row: &[Situated<'_, '_>]) -> Option<Break>
+fn find_rule_break(rule: Rule, row: &[Situated<'_, '_>]) -> Option<Break>
     ensures { result ≡ head_of (flat_map (breaks_of rule) row.now) }
 {
-    let (_, index) = find_broken(rule, row)?;
+    let (_, index) = find_broken_index(rule, row)?;
     first_break_at(rule, row, index)
 }
 
 /// Finds the first break of any rule but that of sizes, in the order of the rules.
-fn find_beside(row: &[Situated<'_, '_>]) -> Option<Break>
-    ensures { result ≡ head_of (breaks_beside row.now) }
+fn find_shape_break(row: &[Situated<'_, '_>]) -> Option<Break>
+    ensures { result ≡ head_of (shape_breaks row.now) }
 {
-    find_break(Rule::Boundary, row)
-        .or(find_break(Rule::Bounds, row))
-        .or(find_break(Rule::Branch, row))
+    find_rule_break(Rule::Boundary, row)
+        .or(find_rule_break(Rule::Bounds, row))
+        .or(find_rule_break(Rule::Branch, row))
 }
 
 /// Returns the break of the rule of sizes at this token itself, not inside it.
@@ -239,24 +239,24 @@ fn find_oversized(alloc: Global, row: &[Situated<'_, '_>]) -> Result<Option<Brea
 
 /// Finds the first break of any rule in a list of tokens. Sizes are computed only if no other rule
 /// is broken.
-fn find_among(alloc: Global, row: &[Situated<'_, '_>]) -> Result<Option<Break>, AllocError>
+fn find_break_in_row(alloc: Global, row: &[Situated<'_, '_>]) -> Result<Option<Break>, AllocError>
     ensures { IfOk result (λ found. found ≡ head_of (breaks_among row.now)) }
 {
-    match find_beside(row) {
+    match find_shape_break(row) {
         Some(found) => Ok(Some(found)),
         None => find_oversized(alloc, row),
     }
 }
 
 /// Finds the first break of any rule in a token, at any depth.
-fn find_first<'t>(
+fn find_break_in_tree<'t>(
     alloc: Global,
     token: &Token<'t, ExpressionMetadata>,
 ) -> Result<Option<Break>, AllocError>
     ensures { IfOk result (λ found. found ≡ head_of (broken token.now)) }
 {
     let row = breadth_first(alloc, token)?;
-    find_among(alloc, row.as_slice())
+    find_break_in_row(alloc, row.as_slice())
 }
 
 /// Checks the rules, and returns the tokens unchanged if they break none.
@@ -277,7 +277,7 @@ pub fn check<'t>(
     ensures expression { MatchBuild result (λ _. Unit {0})
         (λ e. e.expression ≡ chars (cow_str_bytes tokenized.entry.expression)) }
 {
-    let Some(found) = find_first(alloc, &tokenized.token)? else {
+    let Some(found) = find_break_in_tree(alloc, &tokenized.token)? else {
         return Ok(Checked { inner: tokenized });
     };
     let (expression, _) = tokenized.into_parts();

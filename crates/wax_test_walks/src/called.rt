@@ -6,7 +6,7 @@ use crate::faults::Directories;
 use crate::row::{Row, Unanswered, list_of, parted, words};
 use crate::walked;
 use std::alloc::Global;
-use wax::walk::{FileIterator, FileIteratorExt, without_ignored, without_meant};
+use wax::walk::{FileIterator, FileIteratorExt, excluding_ignored, excluding_pattern};
 use wax::{Pattern, any};
 
 /// Appends what a walk yields without what the named call excludes.
@@ -30,14 +30,14 @@ where
     match parted(call) {
         ("not", pattern) => push_not(alloc, row, walk, pattern, text),
         ("not_any", patterns) => push_not_any(alloc, row, walk, patterns, text),
-        ("without_meant", pattern) => push_without_meant(alloc, row, walk, pattern, text),
+        ("excluding_pattern", pattern) => push_excluding_pattern(alloc, row, walk, pattern, text),
         ("ignore", list) => {
             let list = list_of(alloc, list)?;
             walked::push(alloc, row, walk.ignore(alloc, list), text)
         }
-        ("without_ignored", list) => {
+        ("excluding_ignored", list) => {
             let list = list_of(alloc, list)?;
-            walked::push(alloc, row, without_ignored(alloc, walk, list), text)
+            walked::push(alloc, row, excluding_ignored(alloc, walk, list), text)
         }
         _ => Err(Unanswered::NotBuilt),
     }
@@ -83,7 +83,7 @@ where
     push_not(alloc, row, walk, set, text)
 }
 
-fn push_without_meant<I>(
+fn push_excluding_pattern<I>(
     alloc: Global,
     row: Row<'_>,
     walk: I,
@@ -95,7 +95,7 @@ where
     requires can { I.can_feed walk }
     requires ends { IsFinite (I.left walk) }
 {
-    match without_meant(alloc, walk, pattern) {
+    match excluding_pattern(alloc, walk, pattern) {
         Ok(walk) => walked::push(alloc, row, walk, text),
         Err(_) => Err(Unanswered::NotBuilt),
     }

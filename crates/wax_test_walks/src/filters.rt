@@ -3,7 +3,7 @@
 use crate::row::{Row, Unanswered, list_of, number, residue_of};
 use std::alloc::Global;
 use wax::NoMemory;
-use wax::walk::{Entry, EntryResidue, Exclusion, IgnoreList, Rule, exclusion_of};
+use wax::walk::{Entry, EntryResidue, Exclude, Exclusion, IgnoreList, exclusion_of};
 
 /// One rule of a row.
 #[derive(Drop)]
@@ -15,10 +15,10 @@ pub enum Filter {
     From(usize, EntryResidue),
 }
 
-impl Rule for Filter {
+impl Exclude for Filter {
     ghost use Rattle.wax_test_walks.specs.Filters.{rule_of};
 
-    ghost rule = { rule_of ⟦<Exclusion as Rule>⟧.rule ⟦<IgnoreList as Rule>⟧.rule };
+    ghost rule = { rule_of ⟦<Exclusion as Exclude>⟧.rule ⟦<IgnoreList as Exclude>⟧.rule };
 
     fn residue<E: Entry>(
         &mut self,

@@ -4,7 +4,7 @@ use crate::draws::Draws;
 use crate::row::{Unanswered, behavior_of, number};
 use std::alloc::{AllocError, Global};
 use wax::walk::{
-    Entry, GlobEntry, IgnoreList, Range, Tree, TreeEntry, WalkBehavior, WalkError, WalkFilter,
+    DepthRange, Entry, GlobEntry, IgnoreList, Tree, TreeEntry, WalkBehavior, WalkError, WalkFilter,
     entries,
 };
 use wax::{CandidatePath, Glob, NoMemory, Program};
@@ -20,7 +20,7 @@ struct Drawn {
     /// The text of an ignore list.
     list: String,
     start: &'static str,
-    range: Range,
+    range: DepthRange,
 }
 
 /// How many walks differ, how many entries they yielded, and how many folders they didn't list.
@@ -104,7 +104,7 @@ fn draw_walk(alloc: Global, draws: &mut Draws, has_list: bool) -> Result<Drawn, 
         nots,
         list,
         start: draws.start(),
-        range: Range {
+        range: DepthRange {
             min,
             max,
             budget: u32::MAX,
@@ -217,7 +217,8 @@ fn push_glob(
     let filters = filters_of(alloc, drawn)?;
     let behavior = behavior_of(drawn.range).unwrap_or(WalkBehavior::default());
     let tree = tree_of(alloc, drawn)?;
-    let Ok((items, tree)) = glob.collect_less(alloc, tree, drawn.start, behavior, filters) else {
+    let Ok((items, tree)) = glob.collect_excluding(alloc, tree, drawn.start, behavior, filters)
+    else {
         return Err(Unanswered::Memory);
     };
     push_entries(items.as_slice(), counts, text)?;

@@ -4,7 +4,7 @@ use crate::faults::Directories;
 use std::alloc::{AllocError, Global};
 use wax::NoMemory;
 use wax::walk::{
-    DepthMax, DepthMin, DepthMinMax, EntryResidue, IgnoreList, Node, Range, Starving, Tree,
+    DepthMax, DepthMin, DepthMinMax, DepthRange, EntryResidue, IgnoreList, Node, Starving, Tree,
     TreeItem, WalkBehavior,
 };
 use wax_test_kit::plans::{self, PROJECT, ROOT};
@@ -131,8 +131,8 @@ impl<'r> Row<'r> {
         }
     }
 
-    pub fn range(self) -> Range {
-        Range {
+    pub fn range(self) -> DepthRange {
+        DepthRange {
             min: usize::try_from(self.number("min", 0)).unwrap_or(0),
             max: usize::try_from(self.number("max", u64::MAX)).unwrap_or(usize::MAX),
             budget: u32::try_from(self.number("budget", u64::MAX)).unwrap_or(u32::MAX),
@@ -153,8 +153,8 @@ impl<'r> Row<'r> {
 }
 
 /// Returns the behavior of a walk with a bound, or `None` if there is no bound.
-pub fn behavior_of(range: Range) -> Option<WalkBehavior> {
-    let Range { min, max, budget } = range;
+pub fn behavior_of(range: DepthRange) -> Option<WalkBehavior> {
+    let DepthRange { min, max, budget } = range;
     let behavior = match (min, max, budget) {
         (0, usize::MAX, u32::MAX) => return None,
         (0, usize::MAX, _) => WalkBehavior::default(),

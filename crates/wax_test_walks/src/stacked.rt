@@ -95,7 +95,7 @@ where
     requires ends { IsFinite (I.left walk) }
 {
     match filter_of(alloc, row, 0) {
-        Ok(filter) => push_ruled_again(alloc, row, walk.without(alloc, filter), text),
+        Ok(filter) => push_ruled_again(alloc, row, walk.excluding(alloc, filter), text),
         Err(error) => Err(error),
     }
 }
@@ -113,7 +113,7 @@ where
     requires ends { IsFinite (I.left walk) }
 {
     match filter_of(alloc, row, 1) {
-        Ok(filter) => push_ruled_thrice(alloc, row, walk.without(alloc, filter), text),
+        Ok(filter) => push_ruled_thrice(alloc, row, walk.excluding(alloc, filter), text),
         Err(error) => Err(error),
     }
 }
@@ -131,7 +131,7 @@ where
     requires ends { IsFinite (I.left walk) }
 {
     match filter_of(alloc, row, 2) {
-        Ok(filter) => walked::push(alloc, row, walk.without(alloc, filter), text),
+        Ok(filter) => walked::push(alloc, row, walk.excluding(alloc, filter), text),
         Err(error) => Err(error),
     }
 }

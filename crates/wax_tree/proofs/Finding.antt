@@ -18,19 +18,19 @@ use Rattle.wax_walk.specs.declared.error.WalkError.TheVariants as W
 use Rattle.wax_walk.specs.Forest.{Forest, nothing, item}
 use Rattle.wax_walk.specs.Given.{Given, entry, fault, no_memory}
 use Rattle.wax_walk.specs.View.{Takes, fault_counts}
-use Rattle.wax_tree.specs.declared.steps.Found.TheVariants.{Entry, Fault}
+use Rattle.wax_tree.specs.declared.steps.FoundItem.TheVariants.{Entry, Fault}
 use Rattle.wax_tree.specs.declared.steps.Step.{Step}
 use Rattle.wax_tree.specs.declared.steps.Step.TheVariants.{Gives}
 use Rattle.wax_tree.specs.declared.steps.Steps.{Steps}
-use Rattle.wax_tree.specs.Plain.{Scope, Spot, count_shown, entry_forest}
+use Rattle.wax_tree.specs.Plain.{WalkScope, Location, count_shown, entry_forest}
 use Rattle.wax_tree.specs.inner.Finding.{IsFault, IsFound}
 use Rattle.wax_tree.specs.inner.Heads.{first_item_forest, own_count}
-use Rattle.wax_tree.specs.Stepping.{Asked, IsCounted, Settles, nothing_asked}
+use Rattle.wax_tree.specs.Stepping.{Asked, IsCounted, UsesAnswer, nothing_asked}
 use Rattle.wax_tree.specs.Walking.{HasKind, allowance, names_left, step_given}
-use Rattle.wax_tree.proofs.Settling.{gives_settles}
+use Rattle.wax_tree.proofs.UsingAnswers.{gives_uses_answer}
 use Rattle.wax_tree.proofs.Showing.{takes_name, takes_misnamed, takes_failed, takes_not_text}
 
-module _ (scope : Scope) (at : Spot) (shows : List ℕ → Shown → Type 0) where
+module _ (scope : WalkScope) (at : Location) (shows : List ℕ → Shown → Type 0) where
   -- an entry of the folder
   pub found_entry : (x : ListItem) (path candidate : String Global) (kind : FileType) (depth : ℕ) (l : Items)
       (g : Forest Given) → IsFound at x (Entry path candidate kind) → at.depth ≡ depth
@@ -112,10 +112,10 @@ takes_more (Some (fault K.Budget path depth)) n m left e h = (omega (arith, e, h
 
 module _ {D C : Type 0} where
   -- nothing was asked for an entry
-  pub entry_settles : (x : ListItem) (names : ℕ) (w new : Steps D C) (r : Step)
-      → Settles (nothing_asked names) w r new
-      → Settles (record { counts = item_counts x; taken = 0; names = names }) w r new
-  entry_settles x names w new r s = record {
+  pub entry_uses_answer : (x : ListItem) (names : ℕ) (w new : Steps D C) (r : Step)
+      → UsesAnswer (nothing_asked names) w r new
+      → UsesAnswer (record { counts = item_counts x; taken = 0; names = names }) w r new
+  entry_uses_answer x names w new r s = record {
     goes_on = s.goes_on;
     directory = s.directory;
     counts = counted_none (fault_counts (step_given r)) (item_counts x) s.counts;
@@ -125,38 +125,38 @@ module _ {D C : Type 0} where
     misplaced = s.misplaced;
   }
 
-  fault_settles : (at : Spot) (asked : Asked) (w : Steps D C) (kind k : FaultKind) (path : String Global)
+  fault_uses_answer : (at : Location) (asked : Asked) (w : Steps D C) (kind k : FaultKind) (path : String Global)
       (depth : ℕ) → IsFault at kind (Fault k path)
-      → Settles asked w (Gives (Err (W.Fault kind path depth))) w
-      → Settles asked w (Gives (Err (W.Fault k path depth))) w
-  fault_settles at asked w kind k path depth f s =
-      subst (λ v. Settles asked w (Gives (Err (W.Fault v path depth))) w) (sym f.0) s
+      → UsesAnswer asked w (Gives (Err (W.Fault kind path depth))) w
+      → UsesAnswer asked w (Gives (Err (W.Fault k path depth))) w
+  fault_uses_answer at asked w kind k path depth f s =
+      subst (λ v. UsesAnswer asked w (Gives (Err (W.Fault v path depth))) w) (sym f.0) s
 
   -- a fault was counted
-  pub found_settles : (at : Spot) (x : ListItem) (kind : FaultKind) (path : String Global) (depth : ℕ)
+  pub found_uses_answer : (at : Location) (x : ListItem) (kind : FaultKind) (path : String Global) (depth : ℕ)
       (w : Steps D C) → IsFound at x (Fault kind path)
-      → Settles (record { counts = item_counts x; taken = 0; names = names_left w }) w
+      → UsesAnswer (record { counts = item_counts x; taken = 0; names = names_left w }) w
       (Gives (Err (W.Fault kind path depth))) w
-  found_settles at (I.Name name k) kind path depth w f = elim f [
+  found_uses_answer at (I.Name name k) kind path depth w f = elim f [
     | inl a ↦ absurd a.1
     | inr a ↦
-        fault_settles at _ w K.BadName kind path depth a.1
-        (gives_settles _ w (Err (W.Fault K.BadName path depth))
+        fault_uses_answer at _ w K.BadName kind path depth a.1
+        (gives_uses_answer _ w (Err (W.Fault K.BadName path depth))
         (misnamed_counted name k (string_bytes path) depth a.0) (omega arith) (λ i. i) (λ i. i)
         (omega arith))
   ]
-  found_settles at I.Failed kind path depth w f =
-      fault_settles at _ w K.Listing kind path depth f
-      (gives_settles _ w (Err (W.Fault K.Listing path depth))
+  found_uses_answer at I.Failed kind path depth w f =
+      fault_uses_answer at _ w K.Listing kind path depth f
+      (gives_uses_answer _ w (Err (W.Fault K.Listing path depth))
       (record {
         misses = omega arith;
         leaves = omega arith;
         failures = omega arith;
         bad_names = omega arith;
       }) (omega arith) (λ i. i) (λ i. i) (omega arith))
-  found_settles at I.NotText kind path depth w f =
-      fault_settles at _ w K.NotText kind path depth f
-      (gives_settles _ w (Err (W.Fault K.NotText path depth))
+  found_uses_answer at I.NotText kind path depth w f =
+      fault_uses_answer at _ w K.NotText kind path depth f
+      (gives_uses_answer _ w (Err (W.Fault K.NotText path depth))
       (record {
         misses = omega arith;
         leaves = omega arith;
@@ -165,11 +165,11 @@ module _ {D C : Type 0} where
       }) (omega arith) (λ i. i) (λ i. i) (omega arith))
 
   -- an item was taken before
-  pub taken_settles : (counts : Tally) (names : ℕ) (w mid new : Steps D C) (r : Step)
+  pub taken_uses_answer : (counts : Tally) (names : ℕ) (w mid new : Steps D C) (r : Step)
       → mid.directory ≡ w.directory → allowance w ≡ allowance mid + 1
-      → Settles (record { counts = counts; taken = 0; names = names }) mid r new
-      → Settles (record { counts = counts; taken = 1; names = names }) w r new
-  taken_settles counts names w mid new r d a s = record {
+      → UsesAnswer (record { counts = counts; taken = 0; names = names }) mid r new
+      → UsesAnswer (record { counts = counts; taken = 1; names = names }) w r new
+  taken_uses_answer counts names w mid new r d a s = record {
     goes_on = s.goes_on;
     directory = s.directory ∙ d;
     counts = s.counts;

@@ -8,9 +8,9 @@ use Rattle.wax_directory.specs.declared.directory.FileType.{FileType}
 use Rattle.wax_directory.specs.declared.directory.FileType.TheVariants.{Folder}
 use Rattle.wax_directory.specs.Shown.{Items, end, leaf, folder, sealed, misnamed, unread, not_text, Shown}
 use Rattle.wax_directory.specs.Shown.{a_leaf, a_folder, a_sealed, missing, failing, leaf_kind, join}
-use Rattle.wax_tree.specs.declared.steps.Range.{Range}
+use Rattle.wax_tree.specs.declared.steps.DepthRange.{DepthRange}
 use Rattle.wax_tree.specs.Begins.{scope_in}
-use Rattle.wax_tree.specs.Plain.{Spot, start_spot, item_spot, one_deeper, count_shown, at_depth}
+use Rattle.wax_tree.specs.Plain.{Location, start_location, item_location, one_deeper, count_shown, at_depth}
 use Rattle.wax_tree.specs.Plain.{above_max, unlisted, items_forest}
 use Rattle.wax_tree.specs.Plain.{plain}
 use Rattle.wax_tree.specs.Whole.{whole_entry, whole_items, whole, is_in, EntriesAre, all_in_range}
@@ -25,12 +25,12 @@ use Rattle.wax_walk.proofs.Collecting.{preorder_append}
 not_less : (a b : ℕ) → nat_lt a b ≡ false → b ≤ a
 not_less a b h = grind (arith, nat_tests)
 
-module _ (range : Range) (root : List ℕ) where
+module _ (range : DepthRange) (root : List ℕ) where
   abbrev wanted : List Given → List Given
   wanted xs = filter (is_in range) xs
 
   -- an entry, what lies below it, and what comes after: the same where it is in range or not
-  at_depth_wanted : (at : Spot) (kind : FileType) (below after : Forest Given)
+  at_depth_wanted : (at : Location) (kind : FileType) (below after : Forest Given)
       → wanted (preorder (at_depth (scope_in range root) at.depth (whole_entry root at kind) below after))
       ≡ wanted (whole_entry root at kind ∷ []) ++ (wanted (preorder below) ++ wanted (preorder after))
   at_depth_wanted at kind below after = go (nat_lt at.depth range.min) refl where
@@ -45,7 +45,7 @@ module _ (range : Range) (root : List ℕ) where
         (preorder below ++ preorder after) ∙ ap (λ ys. wanted (whole_entry root at kind ∷ []) ++ ys)
         (filter-append (is_in range) (preorder below) (preorder after))
 
-  too_deep : (at : Spot) (kind : FileType) → range.max < at.depth
+  too_deep : (at : Location) (kind : FileType) → range.max < at.depth
       → wanted (whole_entry root at kind ∷ []) ≡ []
   too_deep at kind h = go (nat_lt at.depth range.min) (nat_lt range.max at.depth)
       (lt-ltb range.max at.depth h) where
@@ -55,24 +55,24 @@ module _ (range : Range) (root : List ℕ) where
         go false false e = cc
 
   -- nothing below the greatest depth is in range
-  none_deeper : (at : Spot) (l : Items) → range.max < at.depth → wanted (whole_items root at l) ≡ []
+  none_deeper : (at : Location) (l : Items) → range.max < at.depth → wanted (whole_items root at l) ≡ []
   none_deeper at end h = refl
   none_deeper at (leaf x link rest) h = filter-append (is_in range)
-      (whole_entry root (item_spot at x) (leaf_kind link) ∷ []) (whole_items root at rest) ∙
-      (ap (λ ys. ys ++ wanted (whole_items root at rest)) (too_deep (item_spot at x) (leaf_kind link) h) ∙
+      (whole_entry root (item_location at x) (leaf_kind link) ∷ []) (whole_items root at rest) ∙
+      (ap (λ ys. ys ++ wanted (whole_items root at rest)) (too_deep (item_location at x) (leaf_kind link) h) ∙
       none_deeper at rest h)
   none_deeper at (folder x inner rest) h =
-      let below = whole_items root (one_deeper (item_spot at x)) inner in
-      filter-append (is_in range) (whole_entry root (item_spot at x) Folder ∷ [])
+      let below = whole_items root (one_deeper (item_location at x)) inner in
+      filter-append (is_in range) (whole_entry root (item_location at x) Folder ∷ [])
       (below ++ whole_items root at rest)
-      ∙ (ap (λ ys. ys ++ wanted (below ++ whole_items root at rest)) (too_deep (item_spot at x) Folder h)
+      ∙ (ap (λ ys. ys ++ wanted (below ++ whole_items root at rest)) (too_deep (item_location at x) Folder h)
       ∙ (filter-append (is_in range) below (whole_items root at rest)
       ∙ (ap (λ ys. ys ++ wanted (whole_items root at rest))
-      (none_deeper (one_deeper (item_spot at x)) inner (omega (arith, h))) ∙ none_deeper at rest h)))
+      (none_deeper (one_deeper (item_location at x)) inner (omega (arith, h))) ∙ none_deeper at rest h)))
   none_deeper at (sealed x rest) h = filter-append (is_in range)
-      (whole_entry root (item_spot at x) Folder ∷ [])
+      (whole_entry root (item_location at x) Folder ∷ [])
       (fault Listing (join at.path x) at.depth ∷ whole_items root at rest) ∙
-      (ap (λ ys. ys ++ wanted (whole_items root at rest)) (too_deep (item_spot at x) Folder h) ∙ none_deeper
+      (ap (λ ys. ys ++ wanted (whole_items root at rest)) (too_deep (item_location at x) Folder h) ∙ none_deeper
       at rest h)
   none_deeper at (misnamed x kind rest) h = none_deeper at rest h
   none_deeper at (unread rest) h = none_deeper at rest h
@@ -96,28 +96,28 @@ module _ (range : Range) (root : List ℕ) where
     go true = refl
     go false = refl
 
-  items_wanted : (at : Spot) (l : Items) → wanted (preorder (items_forest (scope_in range root) at l)) ≡
+  items_wanted : (at : Location) (l : Items) → wanted (preorder (items_forest (scope_in range root) at l)) ≡
       wanted (whole_items root at l)
   items_wanted at end = refl
   items_wanted at (leaf x link rest) =
-      at_depth_wanted (item_spot at x) (leaf_kind link) nothing (items_forest (scope_in range root) at rest)
-      ∙ (ap (λ ys. wanted (whole_entry root (item_spot at x) (leaf_kind link) ∷ []) ++ ys)
+      at_depth_wanted (item_location at x) (leaf_kind link) nothing (items_forest (scope_in range root) at rest)
+      ∙ (ap (λ ys. wanted (whole_entry root (item_location at x) (leaf_kind link) ∷ []) ++ ys)
       (items_wanted at rest) ∙ sym
-      (filter-append (is_in range) (whole_entry root (item_spot at x) (leaf_kind link) ∷ [])
+      (filter-append (is_in range) (whole_entry root (item_location at x) (leaf_kind link) ∷ [])
       (whole_items root at rest)))
   items_wanted at (folder x inner rest) =
-      let deep = one_deeper (item_spot at x) in
+      let deep = one_deeper (item_location at x) in
       let below = whole_items root deep inner in
-      let first = whole_entry root (item_spot at x) Folder ∷ [] in
-      at_depth_wanted (item_spot at x) Folder _ (items_forest (scope_in range root) at rest)
+      let first = whole_entry root (item_location at x) Folder ∷ [] in
+      at_depth_wanted (item_location at x) Folder _ (items_forest (scope_in range root) at rest)
       ∙ (ap (λ ys. wanted first ++ (ys ++ wanted (preorder (items_forest (scope_in range root) at rest))))
       (below_wanted at.depth (join at.path x) _ below (items_wanted deep inner) (none_deeper deep inner))
       ∙ (ap (λ ys. wanted first ++ (wanted below ++ ys)) (items_wanted at rest)
       ∙ (ap (λ ys. wanted first ++ ys) (sym (filter-append (is_in range) below (whole_items root at rest))) ∙
       sym (filter-append (is_in range) first (below ++ whole_items root at rest)))))
   items_wanted at (sealed x rest) =
-      let first = whole_entry root (item_spot at x) Folder ∷ [] in
-      at_depth_wanted (item_spot at x) Folder _ (items_forest (scope_in range root) at rest)
+      let first = whole_entry root (item_location at x) Folder ∷ [] in
+      at_depth_wanted (item_location at x) Folder _ (items_forest (scope_in range root) at rest)
       ∙ (ap (λ ys. wanted first ++ (ys ++ wanted (preorder (items_forest (scope_in range root) at rest))))
       (unlisted_wanted at.depth (join at.path x))
       ∙ (ap (λ ys. wanted first ++ ys) (items_wanted at rest) ∙ sym
@@ -132,27 +132,27 @@ append-nil [] = refl
 append-nil (x ∷ xs) = ap (λ ys. x ∷ ys) (append-nil xs)
 
 -- the walk of some depths gives of the whole walk what is in range
-pub plain_wanted : (range : Range) (start : List ℕ) (s : Shown)
+pub plain_wanted : (range : DepthRange) (start : List ℕ) (s : Shown)
     → filter (is_in range) (preorder (plain (scope_in range start) s)) ≡ filter (is_in range) (whole start s)
-plain_wanted range start (a_leaf link) = at_depth_wanted range start (start_spot start) (leaf_kind link)
+plain_wanted range start (a_leaf link) = at_depth_wanted range start (start_location start) (leaf_kind link)
     nothing nothing ∙ append-nil _
 plain_wanted range start (a_folder l) =
-    let first = whole_entry start (start_spot start) Folder ∷ [] in
-    let deep = one_deeper (start_spot start) in
-    at_depth_wanted range start (start_spot start) Folder _ nothing
+    let first = whole_entry start (start_location start) Folder ∷ [] in
+    let deep = one_deeper (start_location start) in
+    at_depth_wanted range start (start_location start) Folder _ nothing
     ∙ (ap (λ ys. filter (is_in range) first ++ ys)
     (append-nil _ ∙ below_wanted range start 0 start _ (whole_items start deep l)
     (items_wanted range start deep l) (none_deeper range start deep l))
     ∙ sym (filter-append (is_in range) first (whole_items start deep l)))
 plain_wanted range start a_sealed =
-    let first = whole_entry start (start_spot start) Folder ∷ [] in
-    at_depth_wanted range start (start_spot start) Folder _ nothing ∙
+    let first = whole_entry start (start_location start) Folder ∷ [] in
+    at_depth_wanted range start (start_location start) Folder _ nothing ∙
     (ap (λ ys. filter (is_in range) first ++ (ys ++ [])) (unlisted_wanted range start 0 start) ∙ sym
     (filter-append (is_in range) first (fault Listing start 0 ∷ [])))
 plain_wanted range start missing = refl
 plain_wanted range start failing = refl
 
-pub entries_are : (range : Range) (start : List ℕ) (s : Shown) (tells : List (List ℕ) → Type 0)
+pub entries_are : (range : DepthRange) (start : List ℕ) (s : Shown) (tells : List (List ℕ) → Type 0)
     (listed : List (List ℕ)) (xs : List Given) → GaveAll tells (range.budget + 1)
     (pending nothing (plain (scope_in range start) s) listed (count_shown s)) xs → EntriesAre range start s xs
 entries_are range start s tells listed xs (given.whole e t) =

@@ -9,7 +9,7 @@ use Rattle.wax_walk.specs.Collected.{IsCutShort, GaveAll, whole, lacks_memory, o
 use Rattle.wax_walk.specs.Forest.{Forest, nothing, item, lists, followed_by, preorder, Pending, pending}
 use Rattle.wax_walk.specs.Forest.{all_pending}
 use Rattle.wax_walk.specs.Given.{Given, is_kept}
-use Rattle.wax_tree.specs.Plain.{Scope, Spot, start_spot, item_spot, one_deeper, at_depth, unlisted}
+use Rattle.wax_tree.specs.Plain.{WalkScope, Location, start_location, item_location, one_deeper, at_depth, unlisted}
 use Rattle.wax_tree.specs.Plain.{items_forest, below_forest, entry_forest, plain}
 
 -- each item is kept
@@ -50,21 +50,21 @@ kept_either : (b : Bool) (f g : Forest Given) → AllKeptIn f → AllKeptIn g �
 kept_either true f g h k = h
 kept_either false f g h k = k
 
-module _ (scope : Scope) where
+module _ (scope : WalkScope) where
   kept_at : (depth : ℕ) (x : Given) (below after : Forest Given) → is_kept x ≡ true → AllKeptIn below
       → AllKeptIn after → AllKeptIn (at_depth scope depth x below after)
   kept_at depth x below after e h k = kept_either (nat_lt depth scope.min) (followed_by below after)
       (item x below after) (kept_followed below after h k) (e, h, k)
 
-  kept_items : (at : Spot) (l : Items) → AllKeptIn (items_forest scope at l)
+  kept_items : (at : Location) (l : Items) → AllKeptIn (items_forest scope at l)
   kept_items at end = tt
   kept_items at (leaf x link rest) = kept_at at.depth _ nothing (items_forest scope at rest) refl tt
       (kept_items at rest)
   kept_items at (folder x inner rest) =
       kept_at at.depth _ _ (items_forest scope at rest) refl
       (kept_either (nat_lt at.depth scope.max)
-      (lists (join at.path x) (items_forest scope (one_deeper (item_spot at x)) inner)) nothing
-      (kept_items (one_deeper (item_spot at x)) inner) tt)
+      (lists (join at.path x) (items_forest scope (one_deeper (item_location at x)) inner)) nothing
+      (kept_items (one_deeper (item_location at x)) inner) tt)
       (kept_items at rest)
   kept_items at (sealed x rest) =
       kept_at at.depth _ _ (items_forest scope at rest) refl
@@ -75,7 +75,7 @@ module _ (scope : Scope) where
   kept_items at (unread rest) = (refl, tt, kept_items at rest)
   kept_items at (not_text rest) = (refl, tt, kept_items at rest)
 
-  kept_below : (at : Spot) (s : Shown) → AllKeptIn (below_forest scope at s)
+  kept_below : (at : Location) (s : Shown) → AllKeptIn (below_forest scope at s)
   kept_below at (a_leaf link) = tt
   kept_below at (a_folder l) = kept_either (nat_lt at.depth scope.max)
       (lists at.path (items_forest scope (one_deeper at) l)) nothing (kept_items (one_deeper at) l) tt
@@ -85,9 +85,9 @@ module _ (scope : Scope) where
   kept_below at failing = tt
 
   kept_entry : (kind : FileType) (s : Shown)
-      → AllKeptIn (entry_forest scope (start_spot scope.root) kind s nothing)
-  kept_entry kind s = kept_at 0 _ (below_forest scope (start_spot scope.root) s) nothing refl
-      (kept_below (start_spot scope.root) s) tt
+      → AllKeptIn (entry_forest scope (start_location scope.root) kind s nothing)
+  kept_entry kind s = kept_at 0 _ (below_forest scope (start_location scope.root) s) nothing refl
+      (kept_below (start_location scope.root) s) tt
 
   kept_plain : (s : Shown) → AllKeptIn (plain scope s)
   kept_plain (a_leaf link) = kept_entry (leaf_kind link) (a_leaf link)

@@ -3,7 +3,7 @@ pub mod Showing
 pub mod Resting
 pub mod Stepping
 pub mod Naming
-pub mod Settling
+pub mod UsingAnswers
 pub mod Finding
 pub mod Making
 pub mod Kept

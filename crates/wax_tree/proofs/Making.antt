@@ -8,24 +8,24 @@ use Rattle.wax_directory.specs.Shown.{Shown}
 use Rattle.wax_walk.specs.Forest.{Forest, nothing, item, lists, Pending, pending, all_pending, FirstIs}
 use Rattle.wax_walk.specs.Given.{Given}
 use Rattle.wax_walk.specs.View.{WalkView, GivesOrStops, lacks_memory, over_budget, gives, FeedStep}
-use Rattle.wax_tree.specs.declared.steps.Place.{Place}
-use Rattle.wax_tree.specs.declared.steps.Range.{Range}
+use Rattle.wax_tree.specs.declared.steps.StartPoint.{StartPoint}
+use Rattle.wax_tree.specs.declared.steps.DepthRange.{DepthRange}
 use Rattle.wax_tree.specs.declared.steps.Steps.{Steps}
 use Rattle.wax_tree.specs.declared.walk_tree.WalkTree.{WalkTree}
-use Rattle.wax_tree.specs.Begins.{Begins, BeginsAt, HasEnded, LacksMemory, Way}
+use Rattle.wax_tree.specs.Begins.{Begins, BeginsAt, HasEnded, LacksMemory, Origin}
 use Rattle.wax_tree.specs.Lacking.{MayCome, lacks, goes, tree_view}
-use Rattle.wax_tree.specs.Plain.{Spot, count_shown}
+use Rattle.wax_tree.specs.Plain.{Location, count_shown}
 use Rattle.wax_tree.specs.Prefix.{ArePlain, from_last, walk_from}
-use Rattle.wax_tree.specs.Walking.{PlainToCome, scope_of, steps_view, place_spot}
+use Rattle.wax_tree.specs.Walking.{PlainToCome, scope_of, steps_view, start_point_location}
 
 module _ {D C : Type 0} (law : Law D C) where
-  made_comes : (w : Steps D C) (place : Place) (s : Shown) (listed : List (List ℕ)) → w.first ≡ Some place
+  made_comes : (w : Steps D C) (place : StartPoint) (s : Shown) (listed : List (List ℕ)) → w.first ≡ Some place
       → w.entered ≡ None → w.levels.items ≡ [] → w.has_ended ≡ false
       → law.shows w.directory (string_bytes place.path) s → ArePlain (from_last place.names.items)
       → place.depth + length place.names.items ≤ 2 ^ 64 - 1 → law.tells w.directory listed
       → law.holds w.directory [] []
       → PlainToCome law w (pending nothing
-      (walk_from (scope_of w) (place_spot place) s (from_last place.names.items) nothing) listed
+      (walk_from (scope_of w) (start_point_location place) s (from_last place.names.items) nothing) listed
       (count_shown s))
   made_comes w place s listed e n l f h p d told held = record {
     has = [];
@@ -44,7 +44,7 @@ module _ {D C : Type 0} (law : Law D C) where
     ended = λ t. absurd (let b : true ≡ false = sym t ∙ f in (cc));
   }
 
-  pub made_at : (w : Steps D C) (root : List ℕ) (place : Place) (at : Spot) (names : List (String Global))
+  pub made_at : (w : Steps D C) (root : List ℕ) (place : StartPoint) (at : Location) (names : List (String Global))
       (s : Shown) (listed : List (List ℕ)) → w.first ≡ Some place → w.entered ≡ None → w.levels.items ≡ []
       → w.has_ended ≡ false
       → string_bytes w.root ≡ root → string_bytes place.path ≡ at.path
@@ -124,11 +124,11 @@ module _ {D C : Type 0} (law : Law D C) where
     known p (goes t c) = goes_on w v p r d (f.gives p c)
 
 -- where there are more names than the greatest depth, nothing comes
-pub ended_at : {D C : Type 0} (law : Law D C) (d : D) (way : Way) (range : Range) (view : WalkView D)
-    → HasEnded law d range view → range.max < length way.names → BeginsAt law d way range view
-ended_at law d way range view h l = record {
+pub ended_at : {D C : Type 0} (law : Law D C) (d : D) (origin : Origin) (range : DepthRange) (view : WalkView D)
+    → HasEnded law d range view → range.max < length origin.names → BeginsAt law d origin range view
+ended_at law d origin range view h l = record {
   shown = λ s listed k told p m. absurd (omega (arith, l, m));
-  beyond = λ s listed k told m. h.comes way.path s listed k told;
+  beyond = λ s listed k told m. h.comes origin.path s listed k told;
   above = λ m. h.ended;
   listings = h.listings;
   names = omega (arith, h.names);
@@ -136,9 +136,9 @@ ended_at law d way range view h l = record {
 }
 
 -- where memory was refused, want of it comes
-pub lacking_at : {D C : Type 0} (law : Law D C) (d : D) (way : Way) (range : Range) (view : WalkView D)
-    → LacksMemory law d range view → length way.names ≤ range.max → BeginsAt law d way range view
-lacking_at law d way range view h l = record {
+pub lacking_at : {D C : Type 0} (law : Law D C) (d : D) (origin : Origin) (range : DepthRange) (view : WalkView D)
+    → LacksMemory law d range view → length origin.names ≤ range.max → BeginsAt law d origin range view
+lacking_at law d origin range view h l = record {
   shown = λ s listed k told p m. h.comes _ told;
   beyond = λ s listed k told m. h.comes _ told;
   above = λ m. absurd (omega (arith, l, m));
@@ -155,7 +155,7 @@ from_last_length (x ∷ names) = let e : length (from_last names) ≡ length nam
 
 -- with no names to come it is the plain walk
 pub begins_plain : {D C : Type 0} (law : Law D C) (d : D) (start : List ℕ) (names : List (List ℕ))
-    (range : Range) (view : WalkView D) → names ≡ []
+    (range : DepthRange) (view : WalkView D) → names ≡ []
     → BeginsAt law d (record { root = start; path = start; candidate = []; names = names }) range view
     → Begins law d start range view
 begins_plain law d start names range view e b =

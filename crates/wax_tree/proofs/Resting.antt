@@ -12,16 +12,16 @@ use Rattle.wax_directory.specs.Shown.{Items, Shown, a_leaf, a_folder, a_sealed, 
 use Rattle.wax_walk.specs.Forest.{Forest, nothing, lists, followed_by, pending}
 use Rattle.wax_walk.specs.Given.{Given}
 use Rattle.wax_tree.specs.declared.steps.Folder.{Folder}
-use Rattle.wax_tree.specs.declared.steps.Level.{Level}
+use Rattle.wax_tree.specs.declared.steps.OpenFolder.{OpenFolder}
 use Rattle.wax_tree.specs.declared.steps.Steps.{Steps}
-use Rattle.wax_tree.specs.Plain.{Scope, Spot, count, count_shown, below_forest, items_forest, unlisted}
-use Rattle.wax_tree.specs.Walking.{HasKind, IsAlone, folder_spot, scope_of}
+use Rattle.wax_tree.specs.Plain.{WalkScope, Location, count, count_shown, below_forest, items_forest, unlisted}
+use Rattle.wax_tree.specs.Walking.{HasKind, IsAlone, folder_location, scope_of}
 use Rattle.wax_tree.specs.Walking.{cursors_of, Rest, FirstShows, EnteredShows, LevelsShow, AtRest}
 use Rattle.wax_tree.specs.Walking.{PlainToCome, WereListed}
 use Rattle.wax_tree.proofs.Showing.{followed_nothing, followed_assoc, shows_in_moved}
 
-pub levels_moved : {C : Type 0} (old new : List ℕ → Shown → Type 0) (scope : Scope)
-    (same : (at : List ℕ) (s : Shown) → old at s → new at s) (ls : List (Level C)) (has : List Items)
+pub levels_moved : {C : Type 0} (old new : List ℕ → Shown → Type 0) (scope : WalkScope)
+    (same : (at : List ℕ) (s : Shown) → old at s → new at s) (ls : List (OpenFolder C)) (has : List Items)
     (f : Forest Given) (n : ℕ)
     → LevelsShow old scope ls has f n → LevelsShow new scope ls has f n
 levels_moved old new scope same [] [] f n h = h
@@ -36,42 +36,42 @@ levels_moved old new scope same (lv ∷ inner) (l ∷ has) f n h = (
   h.5,
 )
 
-module _ {C : Type 0} (shows : List ℕ → Shown → Type 0) (scope : Scope) where
+module _ {C : Type 0} (shows : List ℕ → Shown → Type 0) (scope : WalkScope) where
   -- one more level
-  pub levels_pushed : (ls : List (Level C)) (has : List Items) (lv : Level C) (l : Items) (f : Forest Given)
+  pub levels_pushed : (ls : List (OpenFolder C)) (has : List Items) (lv : OpenFolder C) (l : Items) (f : Forest Given)
       (n : ℕ) → LevelsShow shows scope ls has f n → ShowsIn shows (string_bytes lv.folder.path) l
       → LevelsShow shows scope (ls ++ lv ∷ []) (has ++ l ∷ [])
-      (followed_by (items_forest scope (folder_spot lv.folder) l) f) (n + count l)
+      (followed_by (items_forest scope (folder_location lv.folder) l) f) (n + count l)
   levels_pushed [] [] lv l f n h i = (
     nothing,
     0,
     i,
     (refl, refl),
-    ap (followed_by (items_forest scope (folder_spot lv.folder) l)) h.0 ∙
-        followed_nothing (items_forest scope (folder_spot lv.folder) l),
+    ap (followed_by (items_forest scope (folder_location lv.folder) l)) h.0 ∙
+        followed_nothing (items_forest scope (folder_location lv.folder) l),
     omega (arith, h.1),
   )
   levels_pushed [] (m ∷ has) lv l f n h i = absurd h
   levels_pushed (lw ∷ inner) [] lv l f n h i = absurd h
   levels_pushed (lw ∷ inner) (m ∷ has) lv l f n h i = (
-    followed_by (items_forest scope (folder_spot lv.folder) l) h.0,
+    followed_by (items_forest scope (folder_location lv.folder) l) h.0,
     h.1 + count l,
     h.2,
     levels_pushed inner has lv l h.0 h.1 h.3 i,
-    ap (followed_by (items_forest scope (folder_spot lv.folder) l)) h.4 ∙ sym
-        (followed_assoc (items_forest scope (folder_spot lv.folder) l) h.0
-        (items_forest scope (folder_spot lw.folder) m)),
+    ap (followed_by (items_forest scope (folder_location lv.folder) l)) h.4 ∙ sym
+        (followed_assoc (items_forest scope (folder_location lv.folder) l) h.0
+        (items_forest scope (folder_location lw.folder) m)),
     omega (arith, h.5),
   )
 
   -- what the innermost level has to give, and what comes of the others
-  abbrev pub Popped : List (Level C) → Level C → List Items → Forest Given → ℕ → Type 0
+  abbrev pub Popped : List (OpenFolder C) → OpenFolder C → List Items → Forest Given → ℕ → Type 0
   Popped ls lv has f n = (outer : List Items) × (l : Items) × (g : Forest Given) × (m : ℕ) ×
       (has ≡ outer ++ l ∷ []) × ShowsIn shows (string_bytes lv.folder.path) l × LevelsShow shows scope ls
       outer g m
-      × (f ≡ followed_by (items_forest scope (folder_spot lv.folder) l) g) × (n ≡ m + count l)
+      × (f ≡ followed_by (items_forest scope (folder_location lv.folder) l) g) × (n ≡ m + count l)
 
-  pub levels_popped : (ls : List (Level C)) (lv : Level C) (has : List Items) (f : Forest Given) (n : ℕ)
+  pub levels_popped : (ls : List (OpenFolder C)) (lv : OpenFolder C) (has : List Items) (f : Forest Given) (n : ℕ)
       → LevelsShow shows scope (ls ++ lv ∷ []) has f n → Popped ls lv has f n
   levels_popped [] lv [] f n h = absurd h
   levels_popped [] lv (l ∷ []) f n h = (
@@ -82,15 +82,15 @@ module _ {C : Type 0} (shows : List ℕ → Shown → Type 0) (scope : Scope) wh
     refl,
     h.2,
     (refl, refl),
-    h.4 ∙ (ap (λ v. followed_by v (items_forest scope (folder_spot lv.folder) l)) h.3.0 ∙ sym
-        (followed_nothing (items_forest scope (folder_spot lv.folder) l))),
+    h.4 ∙ (ap (λ v. followed_by v (items_forest scope (folder_location lv.folder) l)) h.3.0 ∙ sym
+        (followed_nothing (items_forest scope (folder_location lv.folder) l))),
     omega (arith, h.5, h.3.1),
   )
   levels_popped [] lv (l ∷ m ∷ has) f n h = absurd h.3
   levels_popped (lw ∷ inner) lv [] f n h = absurd h
   levels_popped (lw ∷ inner) lv (l ∷ has) f n h =
       let p = levels_popped inner lv has h.0 h.1 h.3 in
-      let back = items_forest scope (folder_spot lw.folder) l in (
+      let back = items_forest scope (folder_location lw.folder) l in (
         l ∷ p.0,
         p.1,
         followed_by p.2 back,
@@ -99,18 +99,18 @@ module _ {C : Type 0} (shows : List ℕ → Shown → Type 0) (scope : Scope) wh
         p.5,
         (p.2, p.3, h.2, p.6, refl, refl),
         h.4 ∙ (ap (λ v. followed_by v back) p.7 ∙ followed_assoc
-            (items_forest scope (folder_spot lv.folder) p.1) p.2 back),
+            (items_forest scope (folder_location lv.folder) p.1) p.2 back),
         omega (arith, h.5, p.8),
       )
 
-  pub levels_none : (ls : List (Level C)) (has : List Items) (f : Forest Given) (n : ℕ)
+  pub levels_none : (ls : List (OpenFolder C)) (has : List Items) (f : Forest Given) (n : ℕ)
       → LevelsShow shows scope ls has f n → ls ≡ [] → f ≡ nothing
   levels_none [] [] f n h e = h.0
   levels_none [] (l ∷ has) f n h e = absurd h
   levels_none (lv ∷ inner) has f n h e = cc
 
 -- a folder that will be entered
-pub enters_later : (shows : List ℕ → Shown → Type 0) (scope : Scope) (e : Folder) (at : Spot) (s : Shown)
+pub enters_later : (shows : List ℕ → Shown → Type 0) (scope : WalkScope) (e : Folder) (at : Location) (s : Shown)
     → shows at.path s → HasKind s F.Folder → at.depth < scope.max → string_bytes e.path ≡ at.path
     → string_bytes e.candidate ≡ at.candidate → e.depth ≡ at.depth + 1
     → (n : ℕ) × (n ≤ count_shown s) × EnteredShows shows scope (Some e) (below_forest scope at s) n
@@ -146,25 +146,25 @@ enters_later shows scope e at (a_leaf false) h k d p q i = cc
 enters_later shows scope e at missing h k d p q i = absurd k
 enters_later shows scope e at failing h k d p q i = absurd k
 
-pub cursors_pushed : {C : Type 0} (ls : List (Level C)) (lv : Level C)
+pub cursors_pushed : {C : Type 0} (ls : List (OpenFolder C)) (lv : OpenFolder C)
     → cursors_of (ls ++ lv ∷ []) ≡ cursors_of ls ++ lv.cursor ∷ []
 cursors_pushed ls lv = map-append (λ level. level.cursor) ls (lv ∷ [])
 
 module _ {C : Type 0} where
-  listed_pushed : (levels : List (Level C)) (last : Level C) (listed : List (List ℕ))
+  listed_pushed : (levels : List (OpenFolder C)) (last : OpenFolder C) (listed : List (List ℕ))
       → WereListed levels listed → Contains listed (string_bytes last.folder.path)
       → WereListed (levels ++ last ∷ []) listed
   listed_pushed [] last listed h k = (k, tt)
   listed_pushed (level ∷ levels) last listed h k = (h.0, listed_pushed levels last listed h.1 k)
 
-  pub listed_popped : (levels : List (Level C)) (last : Level C) (listed : List (List ℕ))
+  pub listed_popped : (levels : List (OpenFolder C)) (last : OpenFolder C) (listed : List (List ℕ))
       → WereListed (levels ++ last ∷ []) listed
       → WereListed levels listed × Contains listed (string_bytes last.folder.path)
   listed_popped [] last listed h = (tt, h.0)
   listed_popped (level ∷ levels) last listed h =
       let rest = listed_popped levels last listed h.1 in ((h.0, rest.0), rest.1)
 
-  pub listed_more : (levels : List (Level C)) (listed more : List (List ℕ)) → WereListed levels listed
+  pub listed_more : (levels : List (OpenFolder C)) (listed more : List (List ℕ)) → WereListed levels listed
       → WereListed levels (listed ++ more)
   listed_more [] listed more h = tt
   listed_more (level ∷ levels) listed more h =
@@ -258,7 +258,7 @@ module _ {D C : Type 0} (law : Law D C) where
   }
 
   -- a folder was opened, or an item taken from it
-  pub rest_pushed : (w v : Steps D C) (lv : Level C) (l : Items) (rest : Rest) → AtRest law w rest
+  pub rest_pushed : (w v : Steps D C) (lv : OpenFolder C) (l : Items) (rest : Rest) → AtRest law w rest
       → HoldsLast law w.directory (cursors_of w.levels.items) rest.has lv.cursor l
       → ShowsIn (law.shows w.directory) (string_bytes lv.folder.path) l
       → Contains rest.listed (string_bytes lv.folder.path)
@@ -267,14 +267,14 @@ module _ {D C : Type 0} (law : Law D C) where
       (record {
         has = rest.has ++ l ∷ [];
         forest =
-            followed_by (items_forest (scope_of w) (folder_spot lv.folder) l) rest.forest;
+            followed_by (items_forest (scope_of w) (folder_location lv.folder) l) rest.forest;
         count =
             rest.count + count l;
         listed = rest.listed;
       })
   rest_pushed w v lv l rest r held shown opened e = record {
     levels = subst (λ ls. LevelsShow (law.shows w.directory) (scope_of w) ls (rest.has ++ l ∷ [])
-        (followed_by (items_forest (scope_of w) (folder_spot lv.folder) l) rest.forest)
+        (followed_by (items_forest (scope_of w) (folder_location lv.folder) l) rest.forest)
         (rest.count + count l)) (sym e)
         (levels_pushed (law.shows w.directory) (scope_of w) w.levels.items rest.has lv l rest.forest
         rest.count r.levels shown);

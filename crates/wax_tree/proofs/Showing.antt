@@ -17,25 +17,25 @@ use Rattle.wax_walk.specs.declared.error.FaultKind.TheVariants.{NotFound, NotAFo
 use Rattle.wax_walk.specs.declared.error.FaultKind.TheVariants.{BadName}
 use Rattle.wax_walk.specs.Forest.{Forest, nothing, item, lists, followed_by}
 use Rattle.wax_walk.specs.Given.{Given, fault}
-use Rattle.wax_tree.specs.Plain.{Scope, Spot, item_spot, one_deeper, count, count_shown, at_depth}
+use Rattle.wax_tree.specs.Plain.{WalkScope, Location, item_location, one_deeper, count, count_shown, at_depth}
 use Rattle.wax_tree.specs.Plain.{entry_forest, plain_at, items_forest}
 use Rattle.wax_tree.specs.Prefix.{from_last, walk_from}
 use Rattle.wax_tree.specs.inner.Heads.{first_item_forest, own_count}
 use Rattle.wax_tree.specs.Walking.{HasKind}
 
-pub silent : (scope : Scope) (depth : ℕ) (x : Given) (below after : Forest Given) → depth < scope.min
+pub silent : (scope : WalkScope) (depth : ℕ) (x : Given) (below after : Forest Given) → depth < scope.min
     → at_depth scope depth x below after ≡ followed_by below after
 silent scope depth x below after h = ap (λ b. cond b (followed_by below after) (item x below after))
     (lt-ltb depth scope.min h)
 
-pub in_range : (scope : Scope) (depth : ℕ) (x : Given) (below after : Forest Given) → scope.min ≤ depth
+pub in_range : (scope : WalkScope) (depth : ℕ) (x : Given) (below after : Forest Given) → scope.min ≤ depth
     → at_depth scope depth x below after ≡ item x below after
 in_range scope depth x below after h = ap (λ b. cond b (followed_by below after) (item x below after))
     (le-ltb depth scope.min h)
 
 -- ---- the answer at the start
 
-pub begins_missing : (scope : Scope) (at : Spot) (s : Shown) (names : List (List ℕ)) (g : Forest Given)
+pub begins_missing : (scope : WalkScope) (at : Location) (s : Shown) (names : List (List ℕ)) (g : Forest Given)
     → KindIs s (Ok None) → walk_from scope at s names g ≡ item (fault NotFound at.path at.depth) nothing g
 begins_missing scope at missing [] g h = refl
 begins_missing scope at missing (x ∷ names) g h = refl
@@ -44,7 +44,7 @@ begins_missing scope at (a_folder l) names g h = cc
 begins_missing scope at a_sealed names g h = cc
 begins_missing scope at failing names g h = cc
 
-pub begins_failing : (scope : Scope) (at : Spot) (s : Shown) (names : List (List ℕ)) (g : Forest Given)
+pub begins_failing : (scope : WalkScope) (at : Location) (s : Shown) (names : List (List ℕ)) (g : Forest Given)
     → KindIs s (Err Fault_of.Failed) → walk_from scope at s names g ≡ item (fault Listing at.path at.depth)
     nothing g
 begins_failing scope at failing [] g h = refl
@@ -61,7 +61,7 @@ has_kind a_sealed kind h = cc
 has_kind missing kind h = cc
 has_kind failing kind h = cc
 
-pub plain_is : (scope : Scope) (at : Spot) (s : Shown) (kind : FileType) (g : Forest Given) → HasKind s kind
+pub plain_is : (scope : WalkScope) (at : Location) (s : Shown) (kind : FileType) (g : Forest Given) → HasKind s kind
     → plain_at scope at s g ≡ entry_forest scope at kind s g
 plain_is scope at (a_leaf link) kind g h = ap (λ k. entry_forest scope at k (a_leaf link) g) (sym h)
 plain_is scope at (a_folder l) kind g h = ap (λ k. entry_forest scope at k (a_folder l) g) (sym h)
@@ -81,7 +81,7 @@ none_left [] h = refl
 none_left (x ∷ xs) h = absurd (h (omega arith))
 
 -- a name follows what is no folder
-pub follows_leaf : (scope : Scope) (at : Spot) (s : Shown) (kind : FileType) (x : List ℕ)
+pub follows_leaf : (scope : WalkScope) (at : Location) (s : Shown) (kind : FileType) (x : List ℕ)
     (names : List (List ℕ)) (g : Forest Given) → HasKind s kind → ¬ (kind ≡ F.Folder)
     → walk_from scope at s (x ∷ names) g ≡ item (fault NotAFolder at.path at.depth) nothing g
 follows_leaf scope at (a_leaf link) kind x names g h n = refl
@@ -91,9 +91,9 @@ follows_leaf scope at missing kind x names g h n = absurd h
 follows_leaf scope at failing kind x names g h n = absurd h
 
 -- a name follows a folder
-pub follows_folder : (scope : Scope) (at : Spot) (s : Shown) (x : List ℕ) (names : List (List ℕ))
+pub follows_folder : (scope : WalkScope) (at : Location) (s : Shown) (x : List ℕ) (names : List (List ℕ))
     (g : Forest Given) → HasKind s F.Folder
-    → walk_from scope at s (x ∷ names) g ≡ walk_from scope (one_deeper (item_spot at x)) (child_shown x s)
+    → walk_from scope at s (x ∷ names) g ≡ walk_from scope (one_deeper (item_location at x)) (child_shown x s)
     names g
 follows_folder scope at (a_folder l) x names g h = refl
 follows_folder scope at a_sealed x [] g h = refl
@@ -184,7 +184,7 @@ followed_assoc nothing g h = refl
 followed_assoc (item x below after) g h = ap (item x below) (followed_assoc after g h)
 followed_assoc (lists path after) g h = ap (lists path) (followed_assoc after g h)
 
-at_depth_followed : (scope : Scope) (depth : ℕ) (x : Given) (below f g : Forest Given)
+at_depth_followed : (scope : WalkScope) (depth : ℕ) (x : Given) (below f g : Forest Given)
     → followed_by (at_depth scope depth x below f) g ≡ at_depth scope depth x below (followed_by f g)
 at_depth_followed scope depth x below f g = go (nat_lt depth scope.min) where
   go : (b : Bool) → followed_by (cond b (followed_by below f) (item x below f)) g ≡ cond b
@@ -193,7 +193,7 @@ at_depth_followed scope depth x below f g = go (nat_lt depth scope.min) where
   go false = refl
 
 -- the first item of a folder and what comes after it
-pub headed_is : (scope : Scope) (at : Spot) (x : Listed) (l : Items) (g : Forest Given) → Some x ≡ first_item l
+pub headed_is : (scope : WalkScope) (at : Location) (x : Listed) (l : Items) (g : Forest Given) → Some x ≡ first_item l
     → followed_by (items_forest scope at l) g ≡ first_item_forest scope at l
     (followed_by (items_forest scope at (rest_of l)) g)
 headed_is scope at x end g h = cc
@@ -208,12 +208,12 @@ headed_is scope at x (not_text rest) g h = refl
 
 -- ---- the first item of a folder
 
-module _ (scope : Scope) (at : Spot) where
+module _ (scope : WalkScope) (at : Location) where
   -- what stands under a plain name
   pub takes_name : (shows : List ℕ → Shown → Type 0) (x : List ℕ) (kind : FileType) (l : Items)
       (g : Forest Given) → Some (named x kind) ≡ first_item l → IsPlain x → ShowsIn shows at.path l
       → (s : Shown) × shows (join at.path x) s × HasKind s kind × (own_count l ≡ count_shown s) ×
-      (first_item_forest scope at l g ≡ entry_forest scope (item_spot at x) kind s g)
+      (first_item_forest scope at l g ≡ entry_forest scope (item_location at x) kind s g)
   takes_name shows x kind end g h q i = cc
   takes_name shows x kind (leaf y link rest) g h q i =
       let e : x ≡ y = cc in let k : kind ≡ leaf_kind link = cc in

@@ -22,28 +22,28 @@ use Rattle.wax_walk.specs.Forest.{FirstIs, IsListed, listed_next}
 use Rattle.wax_walk.specs.Given.{Given, fault}
 use Rattle.wax_walk.specs.View.{GivesOrStops, lacks_memory, over_budget, gives, IsLast}
 use Rattle.wax_tree.specs.declared.steps.Folder.{Folder}
-use Rattle.wax_tree.specs.declared.steps.Level.{Level}
-use Rattle.wax_tree.specs.declared.steps.Place.{Place}
+use Rattle.wax_tree.specs.declared.steps.OpenFolder.{OpenFolder}
+use Rattle.wax_tree.specs.declared.steps.StartPoint.{StartPoint}
 use Rattle.wax_tree.specs.declared.steps.Steps.{Steps}
 use Rattle.wax_tree.specs.declared.steps.Step.{Step}
 use Rattle.wax_tree.specs.declared.steps.Step.TheVariants.{Gives, GoesOn, Ends}
 use Rattle.wax_tree.proofs.Lead.{after_listing, ListsBetween}
-use Rattle.wax_tree.specs.Plain.{Spot, count, count_shown, below_forest, entry_forest, plain_entry}
+use Rattle.wax_tree.specs.Plain.{Location, count, count_shown, below_forest, entry_forest, plain_entry}
 use Rattle.wax_tree.specs.Plain.{items_forest}
 use Rattle.wax_tree.specs.Prefix.{ArePlain, from_last, walk_from}
 use Rattle.wax_tree.specs.Walking.{HasKind, IsAlone, IsFolder, tree_given, entered_forest}
-use Rattle.wax_tree.specs.Walking.{folder_spot, place_spot, scope_of, cursors_of, allowance}
+use Rattle.wax_tree.specs.Walking.{folder_location, start_point_location, scope_of, cursors_of, allowance}
 use Rattle.wax_tree.specs.Walking.{Rest, FirstShows, EnteredShows, LevelsShow, AtRest}
 use Rattle.wax_tree.specs.Walking.{PlainToCome, WereListed, steps_view, MovesOn}
-use Rattle.wax_tree.specs.Stepping.{StepIs, Beside}
-use Rattle.wax_tree.specs.Stepping.{listing_pending, Adds, AddsFirst, Saves, items_left, steps_left}
+use Rattle.wax_tree.specs.Stepping.{StepIs, IsPopped}
+use Rattle.wax_tree.specs.Stepping.{listing_pending, IncreasesBy, IncreasesByNames, WeaklyDecreases, items_left, steps_left}
 use Rattle.wax_tree.proofs.Showing.{silent, in_range, from_last_end, follows_folder, child_counts}
 use Rattle.wax_tree.proofs.Resting.{comes_after, comes_rest, rest_pushed}
 use Rattle.wax_tree.proofs.Resting.{levels_popped, levels_none, cursors_pushed, listed_popped}
 
 module _ {D C : Type 0} (law : Law D C) where
   -- an entry below the least depth isn't given
-  pub goes_silently : (w new : Steps D C) (e : Option Folder) (at : Spot) (kind : FileType) (s : Shown)
+  pub goes_silently : (w new : Steps D C) (e : Option Folder) (at : Location) (kind : FileType) (s : Shown)
       (k items : ℕ) (rest : Rest) → new ≡ record w { entered = e } → at.depth < new.min
       → AtRest law w rest → EnteredShows (law.shows w.directory) (scope_of w) e
       (below_forest (scope_of w) at s) k → k ≤ count_shown s → count_shown s + rest.count ≤ items
@@ -63,7 +63,7 @@ module _ {D C : Type 0} (law : Law D C) where
         omega (arith, a),
       )
 
-  pub gives_entry : (w new : Steps D C) (e : Option Folder) (at : Spot) (kind : FileType) (s : Shown)
+  pub gives_entry : (w new : Steps D C) (e : Option Folder) (at : Location) (kind : FileType) (s : Shown)
       (k items : ℕ) (rest : Rest) (x : Result TreeEntry WalkError) → new ≡ record w { entered = e }
       → new.min ≤ at.depth → tree_given x ≡ plain_entry (scope_of w) at kind
       → AtRest law w rest → EnteredShows (law.shows w.directory) (scope_of w) e
@@ -96,7 +96,7 @@ module _ {D C : Type 0} (law : Law D C) where
       (ap Some e, c))
 
   -- a folder was opened
-  pub enters : (w v : Steps D C) (d : D) (lv : Level C) (s : Shown) (rest : Rest) (items : ℕ)
+  pub enters : (w v : Steps D C) (d : D) (lv : OpenFolder C) (s : Shown) (rest : Rest) (items : ℕ)
       → IsFolder s → Opens (HoldsLast law d (cursors_of w.levels.items) rest.has) s (Ok lv.cursor)
       → law.shows d (string_bytes lv.folder.path) s
       → ((l : Items) → law.shows d (string_bytes lv.folder.path) (a_folder l)
@@ -106,14 +106,14 @@ module _ {D C : Type 0} (law : Law D C) where
       (record rest { listed = rest.listed ++ string_bytes lv.folder.path ∷ [] }))
       → v.levels.items ≡ w.levels.items ++ lv ∷ [] → count_shown s + rest.count ≤ items
       → StepIs law w (pending nothing
-      (followed_by (entered_forest (scope_of w) (folder_spot lv.folder) s) rest.forest) rest.listed items)
+      (followed_by (entered_forest (scope_of w) (folder_location lv.folder) s) rest.forest) rest.listed items)
       GoesOn (record w { directory = d; levels = v.levels })
   enters w v d lv (a_folder l) rest items i o h inner r e few =
       let path = string_bytes lv.folder.path in
       let pushed = rest_pushed law (record w { directory = d }) v lv l
       (record rest { listed = rest.listed ++ path ∷ [] }) (r l o) o (inner l h)
       (Contains-append_right rest.listed (path ∷ []) path (Contains-push [] path)) e in (
-        pending nothing (followed_by (items_forest (scope_of w) (folder_spot lv.folder) l) rest.forest)
+        pending nothing (followed_by (items_forest (scope_of w) (folder_location lv.folder) l) rest.forest)
             (rest.listed ++ path ∷ []) items,
         comes_rest law (record w { directory = d; levels = v.levels }) items _ pushed (omega (arith, few)),
         inr (path, refl, refl),
@@ -125,7 +125,7 @@ module _ {D C : Type 0} (law : Law D C) where
   enters w v d lv failing rest items i o h inner r e few = absurd i
 
   -- a folder couldn't be opened
-  pub enters_sealed : (w : Steps D C) (d : D) (at : Spot) (s : Shown) (rest : Rest) (items : ℕ)
+  pub enters_sealed : (w : Steps D C) (d : D) (at : Location) (s : Shown) (rest : Rest) (items : ℕ)
       (r : Result TreeEntry WalkError)
       → IsFolder s → Opens {C = C} (HoldsLast law d (cursors_of w.levels.items) rest.has) s
       (Err Fault_of.Failed) → tree_given r ≡ fault Listing at.path (at.depth - 1)
@@ -141,7 +141,7 @@ module _ {D C : Type 0} (law : Law D C) where
   enters_sealed w d at failing rest items r i o e h few = absurd i
 
   -- the end of a folder
-  pub goes_up : (w new : Steps D C) (at : Spot) (l : Items) (rest after : Rest) (items : ℕ)
+  pub goes_up : (w new : Steps D C) (at : Location) (l : Items) (rest after : Rest) (items : ℕ)
       → None ≡ first_item l → after.forest ≡ rest.forest → after.listed ≡ rest.listed → AtRest law new after
       → allowance new ≡ allowance w → after.count ≤ items
       → StepIs law w (listing_pending (scope_of w) at l rest items) GoesOn new
@@ -159,7 +159,7 @@ module _ {D C : Type 0} (law : Law D C) where
   goes_up w new at (not_text l) rest after items h f t r a few = cc
 
   -- a name follows a folder
-  pub follows : (w : Steps D C) (place next : Place) (x : String Global) (s : Shown) (rest : Rest) (items : ℕ)
+  pub follows : (w : Steps D C) (place next : StartPoint) (x : String Global) (s : Shown) (rest : Rest) (items : ℕ)
       → AtRest law w rest → law.shows w.directory (string_bytes place.path) s → HasKind s F.Folder
       → ArePlain (from_last place.names.items) → place.depth + length place.names.items ≤ 2 ^ 64 - 1
       → w.levels.items ≡ [] → count_shown s + rest.count ≤ items
@@ -170,7 +170,7 @@ module _ {D C : Type 0} (law : Law D C) where
       → string_bytes next.candidate ≡ join (string_bytes place.candidate) (string_bytes x)
       → next.depth ≡ place.depth + 1
       → StepIs law w (pending nothing
-      (walk_from (scope_of w) (place_spot place) s (from_last place.names.items) rest.forest) rest.listed
+      (walk_from (scope_of w) (start_point_location place) s (from_last place.names.items) rest.forest) rest.listed
       items) GoesOn (record w { first = Some next })
   follows w place next x s rest items r h k p d none few child e path candidate depth =
       let names : from_last place.names.items ≡ string_bytes x ∷ from_last next.names.items =
@@ -183,7 +183,7 @@ module _ {D C : Type 0} (law : Law D C) where
       subst (λ v. law.shows w.directory v below) (sym path)
       (child (string_bytes place.path) (string_bytes x) s h plain.0) in
       let fewer : count_shown below ≤ count_shown s = child_counts (string_bytes x) s in (
-        pending nothing (walk_from (scope_of w) (place_spot next) below (from_last next.names.items)
+        pending nothing (walk_from (scope_of w) (start_point_location next) below (from_last next.names.items)
             rest.forest) rest.listed items,
         record {
           has = rest.has;
@@ -203,8 +203,8 @@ module _ {D C : Type 0} (law : Law D C) where
           ended = λ t. absurd (let b : true ≡ false = sym t ∙ r.running in (cc));
         },
         inl (
-          (ap (λ v. walk_from (scope_of w) (place_spot place) s v rest.forest) names
-              ∙ follows_folder (scope_of w) (place_spot place) s (string_bytes x) (from_last next.names.items)
+          (ap (λ v. walk_from (scope_of w) (start_point_location place) s v rest.forest) names
+              ∙ follows_folder (scope_of w) (start_point_location place) s (string_bytes x) (from_last next.names.items)
               rest.forest k)
               ∙ (λ i. walk_from (scope_of w)
               (record { path = sym path i; candidate = sym candidate i; depth = sym depth i }) below
@@ -216,13 +216,13 @@ module _ {D C : Type 0} (law : Law D C) where
 
   -- ---- what the parts of a state have to give
 
-  pub steps_begin : (w : Steps D C) (place : Place) (a : Option Place) (b : Option Folder) (p : Pending Given)
+  pub steps_begin : (w : Steps D C) (place : StartPoint) (a : Option StartPoint) (b : Option Folder) (p : Pending Given)
       → PlainToCome law w p → w.first ≡ Some place → a ≡ None → b ≡ None → w.has_ended ≡ false
       → (s : Shown) × (rest : Rest) × AtRest law (record w { first = a; entered = b }) rest × law.shows
       w.directory (string_bytes place.path) s × ArePlain (from_last place.names.items) ×
       (place.depth + length place.names.items ≤ 2 ^ 64 - 1) × (w.levels.items ≡ [])
       × (count_shown s + rest.count ≤ p.items) × (p ≡ pending p.below p.after rest.listed p.items) ×
-      (all_pending p ≡ walk_from (scope_of w) (place_spot place) s (from_last place.names.items)
+      (all_pending p ≡ walk_from (scope_of w) (start_point_location place) s (from_last place.names.items)
       rest.forest)
   steps_begin w place a b p h e i j running =
       let f = subst (λ v. FirstShows (law.shows w.directory) (scope_of w) v p.after h.back h.of_first) e
@@ -250,12 +250,12 @@ module _ {D C : Type 0} (law : Law D C) where
         ap (λ v. followed_by v p.after) below.0 ∙ f.5,
       )
 
-  pub steps_enter : (w : Steps D C) (e : Folder) (a : Option Place) (b : Option Folder) (p : Pending Given)
+  pub steps_enter : (w : Steps D C) (e : Folder) (a : Option StartPoint) (b : Option Folder) (p : Pending Given)
       → PlainToCome law w p → w.first ≡ None → w.entered ≡ Some e → a ≡ None → b ≡ None → w.has_ended ≡ false
       → (s : Shown) × (rest : Rest) × AtRest law (record w { first = a; entered = b }) rest × law.shows
       w.directory (string_bytes e.path) s × IsFolder s
       × (count_shown s + rest.count ≤ p.items) × (p ≡ pending p.below p.after rest.listed p.items) ×
-      (all_pending p ≡ followed_by (entered_forest (scope_of w) (folder_spot e) s) rest.forest)
+      (all_pending p ≡ followed_by (entered_forest (scope_of w) (folder_location e) s) rest.forest)
   steps_enter w e a b p h first is i j running =
       let f = subst (λ v. FirstShows (law.shows w.directory) (scope_of w) v p.after h.back h.of_first) first
       h.first in
@@ -277,17 +277,17 @@ module _ {D C : Type 0} (law : Law D C) where
         omega (arith, h.few, below.4),
         refl,
         ap (λ v. followed_by v p.after) below.3 ∙ ap
-            (followed_by (entered_forest (scope_of w) (folder_spot e) below.0)) f.0,
+            (followed_by (entered_forest (scope_of w) (folder_location e) below.0)) f.0,
       )
 
-  pub steps_list : (w v : Steps D C) (lv : Level C) (a : Option Place) (b : Option Folder) (p : Pending Given)
+  pub steps_list : (w v : Steps D C) (lv : OpenFolder C) (a : Option StartPoint) (b : Option Folder) (p : Pending Given)
       → PlainToCome law w p → w.first ≡ None → w.entered ≡ None → a ≡ None → b ≡ None → w.has_ended ≡ false
       → w.levels.items ≡ v.levels.items ++ lv ∷ []
       → ((cs : List C) (ls : List Items) (c : C) (l : Items) → HoldsLast law w.directory cs ls c l
       → law.holds w.directory cs ls)
-      → (l : Items) × (rest : Rest) × Beside law (record w { first = a; entered = b; levels = v.levels }) lv l
+      → (l : Items) × (rest : Rest) × IsPopped law (record w { first = a; entered = b; levels = v.levels }) lv l
       rest × (rest.count + count l ≤ p.items) × (p ≡ pending p.below p.after rest.listed p.items)
-      × (all_pending p ≡ followed_by (items_forest (scope_of w) (folder_spot lv.folder) l) rest.forest)
+      × (all_pending p ≡ followed_by (items_forest (scope_of w) (folder_location lv.folder) l) rest.forest)
   steps_list w v lv a b p h first is i j running e drop =
       let f = subst (λ v. FirstShows (law.shows w.directory) (scope_of w) v p.after h.back h.of_first) first
       h.first in
@@ -335,7 +335,7 @@ module _ {D C : Type 0} (law : Law D C) where
       (refl, subst (PlainToCome law w) whole h))
 
   -- nothing is left
-  pub steps_none : (w v : Steps D C) (a : Option Place) (b : Option Folder) (p : Pending Given)
+  pub steps_none : (w v : Steps D C) (a : Option StartPoint) (b : Option Folder) (p : Pending Given)
       → PlainToCome law w p → w.first ≡ None → w.entered ≡ None → w.levels.items ≡ [] → v.levels.items ≡ []
       → a ≡ None → b ≡ None
       → StepIs law w p Ends (record w { first = a; entered = b; levels = v.levels })
@@ -375,16 +375,16 @@ module _ {D C : Type 0} (law : Law D C) where
 
 module _ {D C : Type 0} where
   pub saves_after : (old mid new : Steps D C) (r : Step) → items_left mid + 2 ≡ items_left old
-      → steps_left mid + 2 ≡ steps_left old → Adds 1 2 mid r new → Saves old r new
+      → steps_left mid + 2 ≡ steps_left old → IncreasesBy 1 2 mid r new → WeaklyDecreases old r new
   saves_after old mid new (Gives x) h k a = omega arith
   saves_after old mid new GoesOn h k a = (omega arith, omega arith)
   saves_after old mid new Ends h k a = tt
 
-pub adds_first : {D C : Type 0} (names : ℕ) (old new : Steps D C) (r : Step) → Adds 1 2 old r new
-    → AddsFirst names old r new
-adds_first names old new (Gives x) a = a
-adds_first names old new GoesOn a = (omega (arith, a.0), omega (arith, a.1))
-adds_first names old new Ends a = a
+pub increases_by_names : {D C : Type 0} (names : ℕ) (old new : Steps D C) (r : Step) → IncreasesBy 1 2 old r new
+    → IncreasesByNames names old r new
+increases_by_names names old new (Gives x) a = a
+increases_by_names names old new GoesOn a = (omega (arith, a.0), omega (arith, a.1))
+increases_by_names names old new Ends a = a
 
 append-nil : {A : Type 0} (xs : List A) → xs ++ [] ≡ xs
 append-nil [] = refl

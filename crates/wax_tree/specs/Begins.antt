@@ -5,8 +5,8 @@ use Rattle.wax_tree.specs.declared.behavior.WalkBehavior.{WalkBehavior}
 use Rattle.wax_tree.specs.Depths.{least, greatest}
 use Rattle.wax_directory.specs.Law.{Law}
 use Rattle.wax_directory.specs.Shown.{Shown}
-use Rattle.wax_tree.specs.declared.steps.Range.{Range}
-use Rattle.wax_tree.specs.Plain.{Scope, plain, count_shown}
+use Rattle.wax_tree.specs.declared.steps.DepthRange.{DepthRange}
+use Rattle.wax_tree.specs.Plain.{WalkScope, plain, count_shown}
 use Rattle.wax_tree.specs.Prefix.{ArePlain, walk_from}
 use Rattle.wax_walk.specs.Forest.{Pending, pending, nothing}
 use Rattle.wax_walk.specs.Given.{Given}
@@ -17,10 +17,10 @@ abbrev pub or_greatest : Option ℕ → ℕ
 or_greatest (Some n) = n
 or_greatest None = 2 ^ 64 - 1
 
-abbrev pub behavior_range : WalkBehavior → Range
+abbrev pub behavior_range : WalkBehavior → DepthRange
 behavior_range b = record { min = least b.depth; max = or_greatest (greatest b.depth); budget = b.budget }
 
-abbrev pub scope_in : Range → List ℕ → Scope
+abbrev pub scope_in : DepthRange → List ℕ → WalkScope
 scope_in range root = record { min = range.min; max = range.max; root = root }
 
 -- it ends, and gives no more items than so many
@@ -30,7 +30,7 @@ pub record EndsWithin (most : ℕ) (left : Count) : Type 0 where
 
 -- a walk over this directory, of which this is seen: what is shown at the start will come, of the depths in
 -- range, and no name is to be followed
-pub record Begins {D C : Type 0} (law : Law D C) (d : D) (start : List ℕ) (range : Range)
+pub record Begins {D C : Type 0} (law : Law D C) (d : D) (start : List ℕ) (range : DepthRange)
     (view : WalkView D) : Type 0 where
   pub shown : (s : Shown) (listed : List (List ℕ)) → law.shows d start s → law.tells d listed
       → view.to_come (pending nothing (plain (scope_in range start) s) listed (count_shown s))
@@ -38,9 +38,9 @@ pub record Begins {D C : Type 0} (law : Law D C) (d : D) (start : List ℕ) (ran
   pub names : view.names_left ≡ 0
   pub directory : view.directory ≡ d
 
--- the start that the entries of a walk tell, the path where it begins to ask, the candidate of that path, and
+-- where a walk begins: the start that its entries tell, the path that it asks of first, its candidate, and
 -- the names below it that it follows
-pub record Way : Type 0 where
+pub record Origin : Type 0 where
   pub root : List ℕ
   pub path : List ℕ
   pub candidate : List ℕ
@@ -49,24 +49,25 @@ pub record Way : Type 0 where
 -- the walk to the place of these names, and from there on: one question a name on the way, and one error and
 -- the end where the names don't lead there; where there are more names than the greatest depth nothing comes,
 -- and the walk has ended
-pub record BeginsAt {D C : Type 0} (law : Law D C) (d : D) (way : Way) (range : Range) (view : WalkView D) :
-    Type 0 where
-  pub shown : (s : Shown) (listed : List (List ℕ)) → law.shows d way.path s → law.tells d listed
-      → ArePlain way.names → length way.names ≤ range.max
+pub record BeginsAt {D C : Type 0} (law : Law D C) (d : D) (origin : Origin) (range : DepthRange)
+    (view : WalkView D) : Type 0 where
+  pub shown : (s : Shown) (listed : List (List ℕ)) → law.shows d origin.path s → law.tells d listed
+      → ArePlain origin.names → length origin.names ≤ range.max
       → view.to_come (pending nothing
-      (walk_from (scope_in range way.root)
-      (record { path = way.path; candidate = way.candidate; depth = 0 }) s way.names nothing) listed
+      (walk_from (scope_in range origin.root)
+      (record { path = origin.path; candidate = origin.candidate; depth = 0 }) s origin.names nothing) listed
       (count_shown s))
-  pub beyond : (s : Shown) (listed : List (List ℕ)) → law.shows d way.path s → law.tells d listed
-      → range.max < length way.names
+  pub beyond : (s : Shown) (listed : List (List ℕ)) → law.shows d origin.path s → law.tells d listed
+      → range.max < length origin.names
       → view.to_come (pending nothing nothing listed 0)
-  pub above : range.max < length way.names → view.has_ended
+  pub above : range.max < length origin.names → view.has_ended
   pub listings : view.listings_left ≡ range.budget + 1
-  pub names : view.names_left ≤ length way.names
+  pub names : view.names_left ≤ length origin.names
   pub directory : view.directory ≡ d
 
 -- a walk over this directory of which nothing comes
-pub record HasEnded {D C : Type 0} (law : Law D C) (d : D) (range : Range) (view : WalkView D) : Type 0 where
+pub record HasEnded {D C : Type 0} (law : Law D C) (d : D) (range : DepthRange)
+    (view : WalkView D) : Type 0 where
   pub comes : (path : List ℕ) (s : Shown) (listed : List (List ℕ)) → law.shows d path s → law.tells d listed
       → view.to_come (pending nothing nothing listed 0)
   pub ended : view.has_ended
@@ -75,7 +76,7 @@ pub record HasEnded {D C : Type 0} (law : Law D C) (d : D) (range : Range) (view
   pub directory : view.directory ≡ d
 
 -- a walk over this directory for whose start there was no memory: whatever is to come, want of memory comes
-pub record LacksMemory {D C : Type 0} (law : Law D C) (d : D) (range : Range)
+pub record LacksMemory {D C : Type 0} (law : Law D C) (d : D) (range : DepthRange)
     (view : WalkView D) : Type 0 where
   pub comes : (p : Pending Given) → law.tells d p.listed → view.to_come p
   pub listings : view.listings_left ≡ range.budget + 1

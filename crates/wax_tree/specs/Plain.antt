@@ -23,28 +23,28 @@ count_shown (a_folder l) = count l
 count_shown x = 0
 
 -- the depths of the entries that a walk gives, and the start that they tell
-pub record Scope : Type 0 where
+pub record WalkScope : Type 0 where
   pub min : ℕ
   pub max : ℕ
   pub root : List ℕ
 
 -- a path, the names that lead there from the start, and how many they are
-pub record Spot : Type 0 where
+pub record Location : Type 0 where
   pub path : List ℕ
   pub candidate : List ℕ
   pub depth : ℕ
 
-abbrev pub start_spot : List ℕ → Spot
-start_spot root = record { path = root; candidate = []; depth = 0 }
+abbrev pub start_location : List ℕ → Location
+start_location root = record { path = root; candidate = []; depth = 0 }
 
--- where a name in a folder stands; a folder's spot, where its items are meant, has their depth
-abbrev pub item_spot : Spot → List ℕ → Spot
-item_spot at x = record { path = join at.path x; candidate = join at.candidate x; depth = at.depth }
+-- where a name in a folder stands; a folder's location, where its items are meant, has their depth
+abbrev pub item_location : Location → List ℕ → Location
+item_location at x = record { path = join at.path x; candidate = join at.candidate x; depth = at.depth }
 
-abbrev pub one_deeper : Spot → Spot
+abbrev pub one_deeper : Location → Location
 one_deeper at = record { path = at.path; candidate = at.candidate; depth = at.depth + 1 }
 
-module _ (scope : Scope) where
+module _ (scope : WalkScope) where
   -- an entry at a depth, where it is in range, and what lies below it
   abbrev pub at_depth : ℕ → Given → Forest Given → Forest Given → Forest Given
   at_depth depth x below after = cond (nat_lt depth scope.min) (followed_by below after) (item x below after)
@@ -57,7 +57,7 @@ module _ (scope : Scope) where
   abbrev pub unlisted : List ℕ → ℕ → Forest Given
   unlisted path depth = lists path (item (fault Listing path depth) nothing nothing)
 
-  abbrev pub plain_entry : Spot → FileType → Given
+  abbrev pub plain_entry : Location → FileType → Given
   plain_entry at kind =
       entry kept (record {
         path = at.path;
@@ -68,16 +68,16 @@ module _ (scope : Scope) where
       })
 
   -- what is in a folder
-  abbrev pub items_forest : Spot → Items → Forest Given
+  abbrev pub items_forest : Location → Items → Forest Given
   items_forest at end = nothing
-  items_forest at (leaf x link rest) = at_depth at.depth (plain_entry (item_spot at x) (leaf_kind link))
+  items_forest at (leaf x link rest) = at_depth at.depth (plain_entry (item_location at x) (leaf_kind link))
       nothing (items_forest at rest)
   items_forest at (folder x inner rest) =
-      at_depth at.depth (plain_entry (item_spot at x) Folder)
-      (above_max at.depth (lists (join at.path x) (items_forest (one_deeper (item_spot at x)) inner)))
+      at_depth at.depth (plain_entry (item_location at x) Folder)
+      (above_max at.depth (lists (join at.path x) (items_forest (one_deeper (item_location at x)) inner)))
       (items_forest at rest)
   items_forest at (sealed x rest) =
-      at_depth at.depth (plain_entry (item_spot at x) Folder)
+      at_depth at.depth (plain_entry (item_location at x) Folder)
       (above_max at.depth (unlisted (join at.path x) at.depth)) (items_forest at rest)
   items_forest at (misnamed x kind rest) = item (fault BadName at.path (at.depth - 1)) nothing
       (items_forest at rest)
@@ -85,17 +85,17 @@ module _ (scope : Scope) where
   items_forest at (not_text rest) = item (fault NotText at.path (at.depth - 1)) nothing (items_forest at rest)
 
   -- what lies below an entry
-  abbrev pub below_forest : Spot → Shown → Forest Given
+  abbrev pub below_forest : Location → Shown → Forest Given
   below_forest at (a_folder l) = above_max at.depth (lists at.path (items_forest (one_deeper at) l))
   below_forest at a_sealed = above_max at.depth (unlisted at.path at.depth)
   below_forest at x = nothing
 
   -- an entry, what lies below it, and after it what comes
-  abbrev pub entry_forest : Spot → FileType → Shown → Forest Given → Forest Given
+  abbrev pub entry_forest : Location → FileType → Shown → Forest Given → Forest Given
   entry_forest at kind s after = at_depth at.depth (plain_entry at kind) (below_forest at s) after
 
-  -- the walk from a spot on, and after it what comes
-  abbrev pub plain_at : Spot → Shown → Forest Given → Forest Given
+  -- the walk from a location on, and after it what comes
+  abbrev pub plain_at : Location → Shown → Forest Given → Forest Given
   plain_at at (a_leaf link) after = entry_forest at (leaf_kind link) (a_leaf link) after
   plain_at at (a_folder l) after = entry_forest at Folder (a_folder l) after
   plain_at at a_sealed after = entry_forest at Folder a_sealed after
@@ -104,4 +104,4 @@ module _ (scope : Scope) where
 
   -- the walk from the start
   abbrev pub plain : Shown → Forest Given
-  plain s = plain_at (start_spot scope.root) s nothing
+  plain s = plain_at (start_location scope.root) s nothing

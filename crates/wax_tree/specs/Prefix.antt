@@ -6,7 +6,7 @@ use Rattle.wax_directory.specs.Shown.{child_in}
 use Rattle.wax_walk.specs.declared.error.FaultKind.TheVariants.{NotFound, NotAFolder, Listing}
 use Rattle.wax_walk.specs.Forest.{Forest, nothing, item}
 use Rattle.wax_walk.specs.Given.{Given, fault}
-use Rattle.wax_tree.specs.Plain.{Scope, Spot, item_spot, one_deeper, plain_at}
+use Rattle.wax_tree.specs.Plain.{WalkScope, Location, item_location, one_deeper, plain_at}
 
 -- names that paths can hold
 abbrev pub ArePlain : List (List ℕ) → Type 0
@@ -18,11 +18,11 @@ abbrev pub from_last : List (String Global) → List (List ℕ)
 from_last [] = []
 from_last (x ∷ names) = from_last names ++ string_bytes x ∷ []
 
--- the kind of what stands at the spot is asked for, and then that of each name; one error, and after it what
--- comes, where they don't lead on; else the walk from the last of them
-abbrev pub walk_from : Scope → Spot → Shown → List (List ℕ) → Forest Given → Forest Given
+-- the kind of what stands at the location is asked for, and then that of each name; one error, and after it
+-- what comes, where they don't lead on; else the walk from the last of them
+abbrev pub walk_from : WalkScope → Location → Shown → List (List ℕ) → Forest Given → Forest Given
 walk_from scope at s [] after = plain_at scope at s after
-walk_from scope at (a_folder l) (x ∷ names) after = walk_from scope (one_deeper (item_spot at x))
+walk_from scope at (a_folder l) (x ∷ names) after = walk_from scope (one_deeper (item_location at x))
     (child_in x l) names after
 walk_from scope at a_sealed (x ∷ names) after = item (fault Listing (join at.path x) (at.depth + 1)) nothing
     after

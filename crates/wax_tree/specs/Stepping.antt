@@ -9,12 +9,12 @@ use Rattle.wax_directory.specs.Shown.{Items, ShowsIn}
 use Rattle.wax_walk.specs.Forest.{Forest, nothing, followed_by, Pending, pending}
 use Rattle.wax_walk.specs.Given.{Given}
 use Rattle.wax_walk.specs.View.{Accounts, GivesOrStops, IsLast, IsMisplaced, Takes, fault_counts}
-use Rattle.wax_tree.specs.declared.steps.Level.{Level}
-use Rattle.wax_tree.specs.declared.steps.Place.{Place}
+use Rattle.wax_tree.specs.declared.steps.OpenFolder.{OpenFolder}
+use Rattle.wax_tree.specs.declared.steps.StartPoint.{StartPoint}
 use Rattle.wax_tree.specs.declared.steps.Step.{Step}
 use Rattle.wax_tree.specs.declared.steps.Step.TheVariants.{Gives, GoesOn, Ends}
 use Rattle.wax_tree.specs.declared.steps.Steps.{Steps}
-use Rattle.wax_tree.specs.Plain.{Scope, Spot, items_forest}
+use Rattle.wax_tree.specs.Plain.{WalkScope, Location, items_forest}
 use Rattle.wax_tree.specs.Walking.{if_some, step_given, cursors_of, Rest, HasStopped, allowance, names_left}
 use Rattle.wax_tree.specs.Walking.{AtRest, PlainToCome, steps_view, MovesOn}
 
@@ -36,13 +36,13 @@ abbrev pub nothing_asked : ℕ → Asked
 nothing_asked names = record { counts = no_counts; taken = 0; names = names }
 
 -- at most how many steps a walk makes for the place to begin at
-abbrev pub first_steps : Option Place → ℕ
+abbrev pub first_steps : Option StartPoint → ℕ
 first_steps None = 0
 first_steps (Some place) = 4 + length place.names.items
 
 module _ {D C : Type 0} where
   -- what a step makes of an answer, with no further question
-  pub record Settles (asked : Asked) (old : Steps D C) (r : Step) (new : Steps D C) : Type 0 where
+  pub record UsesAnswer (asked : Asked) (old : Steps D C) (r : Step) (new : Steps D C) : Type 0 where
     pub goes_on : r ≡ Ends → ⊥
     pub directory : new.directory ≡ old.directory
     pub counts : IsCounted (fault_counts (step_given r)) asked.counts
@@ -60,30 +60,31 @@ module _ {D C : Type 0} where
   steps_left w = 3 * w.budget + (first_steps w.first + (if_some w.entered 2 + length w.levels.items))
 
   -- at most so many more items and steps are left, where nothing or an item was given
-  abbrev pub Adds : ℕ → ℕ → Steps D C → Step → Steps D C → Type 0
-  Adds a b old GoesOn new = (items_left new ≤ items_left old + a) × (steps_left new ≤ steps_left old + b)
-  Adds a b old r new = items_left new ≤ items_left old + a
+  abbrev pub IncreasesBy : ℕ → ℕ → Steps D C → Step → Steps D C → Type 0
+  IncreasesBy a b old GoesOn new = (items_left new ≤ items_left old + a)
+      × (steps_left new ≤ steps_left old + b)
+  IncreasesBy a b old r new = items_left new ≤ items_left old + a
 
   -- at most so many more items and steps are left, where so many names were to come
-  abbrev pub AddsFirst : ℕ → Steps D C → Step → Steps D C → Type 0
-  AddsFirst names old GoesOn new =
+  abbrev pub IncreasesByNames : ℕ → Steps D C → Step → Steps D C → Type 0
+  IncreasesByNames names old GoesOn new =
       (items_left new ≤ items_left old + 2) × (steps_left new ≤ steps_left old + (3 + names))
-  AddsFirst names old r new = items_left new ≤ items_left old + 1
+  IncreasesByNames names old r new = items_left new ≤ items_left old + 1
 
   -- an item takes one of those that are left
-  abbrev pub Saves : Steps D C → Step → Steps D C → Type 0
-  Saves old (Gives x) new = items_left new < items_left old
-  Saves old GoesOn new = (items_left new ≤ items_left old) × (steps_left new ≤ steps_left old)
-  Saves old Ends new = ⊤
+  abbrev pub WeaklyDecreases : Steps D C → Step → Steps D C → Type 0
+  WeaklyDecreases old (Gives x) new = items_left new < items_left old
+  WeaklyDecreases old GoesOn new = (items_left new ≤ items_left old) × (steps_left new ≤ steps_left old)
+  WeaklyDecreases old Ends new = ⊤
 
   -- a step that gives an item leaves fewer items, and one that gives none leaves fewer steps
-  abbrev pub Spends : Steps D C → Step → Steps D C → Type 0
-  Spends old (Gives x) new = items_left new < items_left old
-  Spends old GoesOn new = (items_left new ≤ items_left old) × (steps_left new < steps_left old)
-  Spends old Ends new = ⊤
+  abbrev pub Decreases : Steps D C → Step → Steps D C → Type 0
+  Decreases old (Gives x) new = items_left new < items_left old
+  Decreases old GoesOn new = (items_left new ≤ items_left old) × (steps_left new < steps_left old)
+  Decreases old Ends new = ⊤
 
 -- what is to come of a folder and of what is at rest behind it
-abbrev pub listing_pending : Scope → Spot → Items → Rest → ℕ → Pending Given
+abbrev pub listing_pending : WalkScope → Location → Items → Rest → ℕ → Pending Given
 listing_pending scope at l rest items = pending nothing (followed_by (items_forest scope at l) rest.forest)
     rest.listed items
 
@@ -100,8 +101,8 @@ module _ {D C : Type 0} (law : Law D C) where
   Continues old head k r new = (rest : Rest) (items : ℕ) → AtRest law old rest → k + rest.count ≤ items
       → StepIs old (pending nothing (head rest.forest) rest.listed items) r new
 
-  -- what a level has to give that stands beside a walk at rest
-  pub record Beside (w : Steps D C) (level : Level C) (l : Items) (rest : Rest) : Type 0 where
+  -- what a folder that was popped has to give, beside a walk at rest
+  pub record IsPopped (w : Steps D C) (level : OpenFolder C) (l : Items) (rest : Rest) : Type 0 where
     pub rests : AtRest law w rest
     pub held : HoldsLast law w.directory (cursors_of w.levels.items) rest.has level.cursor l
     pub shown : ShowsIn (law.shows w.directory) (string_bytes level.folder.path) l

@@ -13,12 +13,12 @@ use Rattle.wax_walk.specs.Forest.{Forest, nothing, lists, followed_by, Pending, 
 use Rattle.wax_walk.specs.Given.{Given}
 use Rattle.wax_walk.specs.View.{WalkView}
 use Rattle.wax_tree.specs.declared.steps.Folder.{Folder}
-use Rattle.wax_tree.specs.declared.steps.Level.{Level}
-use Rattle.wax_tree.specs.declared.steps.Place.{Place}
+use Rattle.wax_tree.specs.declared.steps.OpenFolder.{OpenFolder}
+use Rattle.wax_tree.specs.declared.steps.StartPoint.{StartPoint}
 use Rattle.wax_tree.specs.declared.steps.Step.{Step}
 use Rattle.wax_tree.specs.declared.steps.Step.TheVariants.{Gives}
 use Rattle.wax_tree.specs.declared.steps.Steps.{Steps}
-use Rattle.wax_tree.specs.Plain.{Scope, Spot, count, count_shown, items_forest, unlisted}
+use Rattle.wax_tree.specs.Plain.{WalkScope, Location, count, count_shown, items_forest, unlisted}
 use Rattle.wax_tree.specs.Prefix.{ArePlain, from_last, walk_from}
 
 abbrev pub if_some : {A : Type 0} → Option A → ℕ → ℕ
@@ -39,28 +39,28 @@ abbrev pub tree_answer : Option (Result TreeEntry WalkError) → Option Given
 tree_answer None = None
 tree_answer (Some x) = Some (tree_given x)
 
-abbrev pub place_spot : Place → Spot
-place_spot place = record {
+abbrev pub start_point_location : StartPoint → Location
+start_point_location place = record {
   path = string_bytes place.path;
   candidate = string_bytes place.candidate;
   depth =
       place.depth;
 }
 
-abbrev pub folder_spot : Folder → Spot
-folder_spot folder = record {
+abbrev pub folder_location : Folder → Location
+folder_location folder = record {
   path = string_bytes folder.path;
   candidate = string_bytes folder.candidate;
   depth = folder.depth;
 }
 
 -- of a folder that was entered
-abbrev pub entered_forest : Scope → Spot → Shown → Forest Given
+abbrev pub entered_forest : WalkScope → Location → Shown → Forest Given
 entered_forest scope at (a_folder l) = lists at.path (items_forest scope at l)
 entered_forest scope at s = unlisted scope at.path (at.depth - 1)
 
 -- at the start no folder was entered
-abbrev pub IsAlone : {C : Type 0} → Option Place → Option Folder → List (Level C) → Type 0
+abbrev pub IsAlone : {C : Type 0} → Option StartPoint → Option Folder → List (OpenFolder C) → Type 0
 IsAlone None e levels = ⊤
 IsAlone (Some place) e levels = (e ≡ None) × (levels ≡ [])
 
@@ -77,11 +77,11 @@ HasKind (a_folder l) k = k ≡ F.Folder
 HasKind a_sealed k = k ≡ F.Folder
 HasKind s k = ⊥
 
-abbrev pub cursors_of : {C : Type 0} → List (Level C) → List C
+abbrev pub cursors_of : {C : Type 0} → List (OpenFolder C) → List C
 cursors_of levels = map (λ level. level.cursor) levels
 
 -- the folders of these levels were listed
-abbrev pub WereListed : {C : Type 0} → List (Level C) → List (List ℕ) → Type 0
+abbrev pub WereListed : {C : Type 0} → List (OpenFolder C) → List (List ℕ) → Type 0
 WereListed [] listed = ⊤
 WereListed (level ∷ inner) listed =
     Contains listed (string_bytes level.folder.path) × WereListed inner listed
@@ -94,30 +94,31 @@ pub record Rest : Type 0 where
   pub count : ℕ
   pub listed : List (List ℕ)
 
-module _ (shows : List ℕ → Shown → Type 0) (scope : Scope) where
+module _ (shows : List ℕ → Shown → Type 0) (scope : WalkScope) where
   -- what comes of the place to begin at, and after it, and at most how many items are listed for it
-  abbrev pub FirstShows : Option Place → Forest Given → Forest Given → ℕ → Type 0
+  abbrev pub FirstShows : Option StartPoint → Forest Given → Forest Given → ℕ → Type 0
   FirstShows None f after n = (f ≡ after) × (n ≡ 0)
   FirstShows (Some place) f after n = (s : Shown) × shows (string_bytes place.path) s × ArePlain
       (from_last place.names.items) × (place.depth + length place.names.items ≤ 2 ^ 64 - 1)
-      × (count_shown s ≤ n) × (f ≡ walk_from scope (place_spot place) s (from_last place.names.items) after)
+      × (count_shown s ≤ n) × (f ≡ walk_from scope (start_point_location place) s
+      (from_last place.names.items) after)
 
   -- what comes of the folder that was given last
   abbrev pub EnteredShows : Option Folder → Forest Given → ℕ → Type 0
   EnteredShows None f n = (f ≡ nothing) × (n ≡ 0)
   EnteredShows (Some e) f n = (s : Shown) × shows (string_bytes e.path) s × IsFolder s ×
-      (f ≡ entered_forest scope (folder_spot e) s) × (n ≡ count_shown s)
+      (f ≡ entered_forest scope (folder_location e) s) × (n ≡ count_shown s)
 
   -- what comes of the levels, the outermost first, whose cursors have this
-  abbrev pub LevelsShow : {C : Type 0} → List (Level C) → List Items → Forest Given → ℕ → Type 0
+  abbrev pub LevelsShow : {C : Type 0} → List (OpenFolder C) → List Items → Forest Given → ℕ → Type 0
   LevelsShow [] [] f n = (f ≡ nothing) × (n ≡ 0)
   LevelsShow [] (l ∷ has) f n = ⊥
   LevelsShow (level ∷ inner) [] f n = ⊥
   LevelsShow (level ∷ inner) (l ∷ has) f n = (g : Forest Given) × (m : ℕ) × ShowsIn shows
       (string_bytes level.folder.path) l × LevelsShow inner has g m
-      × (f ≡ followed_by g (items_forest scope (folder_spot level.folder) l)) × (n ≡ m + count l)
+      × (f ≡ followed_by g (items_forest scope (folder_location level.folder) l)) × (n ≡ m + count l)
 
-abbrev pub scope_of : {D C : Type 0} → Steps D C → Scope
+abbrev pub scope_of : {D C : Type 0} → Steps D C → WalkScope
 scope_of w = record { min = w.min; max = w.max; root = string_bytes w.root }
 
 -- nothing more comes
@@ -129,7 +130,7 @@ abbrev pub allowance : {D C : Type 0} → Steps D C → ℕ
 allowance w = cond w.has_ended 0 (w.budget + 1)
 
 -- how many names it still has to follow
-abbrev pub names_of_first : Option Place → ℕ
+abbrev pub names_of_first : Option StartPoint → ℕ
 names_of_first None = 0
 names_of_first (Some place) = length place.names.items
 

@@ -5,20 +5,20 @@ use Rattle.wax_directory.specs.declared.directory.FileType.{FileType}
 use Rattle.wax_directory.specs.declared.directory.FileType.TheVariants.{Folder}
 use Rattle.wax_directory.specs.Shown.{Items, end, leaf, folder, sealed, misnamed, unread, not_text, Shown}
 use Rattle.wax_directory.specs.Shown.{a_leaf, a_folder, a_sealed, missing, failing, leaf_kind, join}
-use Rattle.wax_tree.specs.declared.steps.Range.{Range}
+use Rattle.wax_tree.specs.declared.steps.DepthRange.{DepthRange}
 use Rattle.wax_tree.specs.Begins.{scope_in}
-use Rattle.wax_tree.specs.Plain.{Spot, start_spot, item_spot, one_deeper, count_shown, plain}
+use Rattle.wax_tree.specs.Plain.{Location, start_location, item_location, one_deeper, count_shown, plain}
 use Rattle.wax_walk.specs.Collected.{IsCutShort}
 use Rattle.wax_walk.specs.declared.error.FaultKind.TheVariants.{NotFound, Listing, BadName, NotText, Budget}
 use Rattle.wax_walk.specs.Forest.{Pending, pending, nothing, preorder}
 use Rattle.wax_walk.specs.Given.{Given, entry, fault, no_memory, kept}
 
 -- what is to come of a plain walk from a start where this is shown
-abbrev pub plain_pending : Range → List ℕ → Shown → List (List ℕ) → Pending Given
+abbrev pub plain_pending : DepthRange → List ℕ → Shown → List (List ℕ) → Pending Given
 plain_pending range start s listed = pending nothing (plain (scope_in range start) s) listed (count_shown s)
 
 module _ (root : List ℕ) where
-  abbrev pub whole_entry : Spot → FileType → Given
+  abbrev pub whole_entry : Location → FileType → Given
   whole_entry at kind =
       entry kept (record {
         path = at.path;
@@ -30,19 +30,19 @@ module _ (root : List ℕ) where
       })
 
   -- what is in a folder, each folder before what is in it, and faults at their places
-  abbrev pub whole_items : Spot → Items → List Given
+  abbrev pub whole_items : Location → Items → List Given
   whole_items at end = []
-  whole_items at (leaf x link rest) = whole_entry (item_spot at x) (leaf_kind link) ∷ whole_items at rest
-  whole_items at (folder x inner rest) = whole_entry (item_spot at x) Folder ∷
-      (whole_items (one_deeper (item_spot at x)) inner ++ whole_items at rest)
-  whole_items at (sealed x rest) = whole_entry (item_spot at x) Folder ∷ fault Listing (join at.path x)
+  whole_items at (leaf x link rest) = whole_entry (item_location at x) (leaf_kind link) ∷ whole_items at rest
+  whole_items at (folder x inner rest) = whole_entry (item_location at x) Folder ∷
+      (whole_items (one_deeper (item_location at x)) inner ++ whole_items at rest)
+  whole_items at (sealed x rest) = whole_entry (item_location at x) Folder ∷ fault Listing (join at.path x)
       at.depth ∷ whole_items at rest
   whole_items at (misnamed x kind rest) = fault BadName at.path (at.depth - 1) ∷ whole_items at rest
   whole_items at (unread rest) = fault Listing at.path (at.depth - 1) ∷ whole_items at rest
   whole_items at (not_text rest) = fault NotText at.path (at.depth - 1) ∷ whole_items at rest
 
-  -- the walk from a spot on
-  abbrev pub whole_at : Spot → Shown → List Given
+  -- the walk from a location on
+  abbrev pub whole_at : Location → Shown → List Given
   whole_at at (a_leaf link) = whole_entry at (leaf_kind link) ∷ []
   whole_at at (a_folder l) = whole_entry at Folder ∷ whole_items (one_deeper at) l
   whole_at at a_sealed = whole_entry at Folder ∷ fault Listing at.path at.depth ∷ []
@@ -51,16 +51,16 @@ module _ (root : List ℕ) where
 
 -- the whole walk from a start
 abbrev pub whole : List ℕ → Shown → List Given
-whole start s = whole_at start (start_spot start) s
+whole start s = whole_at start (start_location start) s
 
 -- an entry whose depth is in range
-abbrev pub is_in : Range → Given → Bool
+abbrev pub is_in : DepthRange → Given → Bool
 is_in range (entry m f) = not (nat_lt f.depth range.min) && not (nat_lt range.max f.depth)
 is_in range x = false
 
 -- the entries are those of the whole walk whose depth is in range, unless memory was refused or the budget
 -- reached
-pub data EntriesAre (range : Range) (start : List ℕ) (s : Shown) (xs : List Given) : Type 0 where
+pub data EntriesAre (range : DepthRange) (start : List ℕ) (s : Shown) (xs : List Given) : Type 0 where
   all_in_range : filter (is_in range) xs ≡ filter (is_in range) (whole start s) → EntriesAre range start s xs
   lacks_memory : IsCutShort (preorder (plain (scope_in range start) s)) no_memory xs
       → EntriesAre range start s xs

@@ -11,5 +11,5 @@ mod walk_tree;
 pub use behavior::{DepthBehavior, DepthMax, DepthMin, DepthMinMax, LinkBehavior, WalkBehavior};
 pub use path_ext::PathExt;
 pub use plain::entries;
-pub use steps::Range;
+pub use steps::DepthRange;
 pub use walk_tree::{TreeFeed, WalkTree};

@@ -6,7 +6,7 @@ ghost use Rattle.wax_tree.specs.declared.behavior.DepthBehavior.TheVariants.{Unb
 ghost use Rattle.wax_tree.specs.Begins.{EndsWithin, Begins, or_greatest, behavior_range};
 
 use crate::behavior::{DepthBehavior, WalkBehavior};
-use crate::steps::Range;
+use crate::steps::DepthRange;
 use crate::walk_tree::WalkTree;
 use std::alloc::Global;
 use wax_directory::directory::Directory;
@@ -57,10 +57,10 @@ fn greatest_or_all(depth: &DepthBehavior) -> usize
 impl WalkBehavior {
     /// Returns the depths and the budget as numbers. If there is no greatest depth, it is
     /// `usize::MAX`.
-    pub fn range(&self) -> Range
+    pub fn range(&self) -> DepthRange
         ensures { result ≡ behavior_range self.now }
     {
-        Range {
+        DepthRange {
             min: self.depth.least(),
             max: greatest_or_all(&self.depth),
             budget: self.budget,

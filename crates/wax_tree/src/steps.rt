@@ -12,14 +12,14 @@ ghost use Rattle.wax_walk.specs.Given.{Given, fault};
 ghost use Rattle.wax_walk.specs.View.{Accounts, FeedStep};
 ghost use Rattle.wax_tree.specs.inner.Finding.{IsEntry, IsFault, IsFound};
 ghost use Rattle.wax_tree.specs.inner.Heads.{first_item_forest, own_count};
-ghost use Rattle.wax_tree.specs.Plain.{Spot, entry_forest, below_forest, count, count_shown};
+ghost use Rattle.wax_tree.specs.Plain.{Location, entry_forest, below_forest, count, count_shown};
 ghost use Rattle.wax_tree.specs.Prefix.{ArePlain, from_last, walk_from};
-ghost use Rattle.wax_tree.specs.Stepping.{Settles, nothing_asked, Adds, AddsFirst, Saves, Spends, StepIs};
-ghost use Rattle.wax_tree.specs.Stepping.{Continues, Beside, listing_pending, StepAnswers, IsStep};
-ghost use Rattle.wax_tree.specs.Stepping.{items_left};
+ghost use Rattle.wax_tree.specs.Stepping.{UsesAnswer, nothing_asked, IncreasesBy, IncreasesByNames};
+ghost use Rattle.wax_tree.specs.Stepping.{WeaklyDecreases, Decreases, StepIs, Continues, IsPopped};
+ghost use Rattle.wax_tree.specs.Stepping.{listing_pending, StepAnswers, IsStep, items_left};
 ghost use Rattle.wax_tree.specs.Walking.{HasKind, IsFolder, EnteredShows, PlainToCome, entered_forest};
-ghost use Rattle.wax_tree.specs.Walking.{place_spot, folder_spot, scope_of, steps_view, names_left};
-ghost use Rattle.wax_tree.specs.Walking.{step_given, tree_answer, Rest};
+ghost use Rattle.wax_tree.specs.Walking.{start_point_location, folder_location, scope_of, steps_view};
+ghost use Rattle.wax_tree.specs.Walking.{names_left, step_given, tree_answer, Rest};
 
 use crate::path_text::join;
 use std::alloc::{AllocError, Global};
@@ -38,7 +38,7 @@ pub(crate) struct Folder {
 /// The place where a walk begins, or that it has reached on its way through the given names.
 /// `names` are those that follow, the first of them last, so that they can be popped.
 #[derive(Drop)]
-pub(crate) struct Place {
+pub(crate) struct StartPoint {
     pub(crate) path: String,
     pub(crate) candidate: String,
     pub(crate) depth: usize,
@@ -47,7 +47,7 @@ pub(crate) struct Place {
 
 /// A folder that is being listed.
 #[derive(Drop)]
-struct Level<C> {
+struct OpenFolder<C> {
     folder: Folder,
     cursor: C,
 }
@@ -63,7 +63,7 @@ enum Step {
 /// What an item of a folder becomes: an entry with its path, candidate and kind, or a fault of the
 /// folder with this path.
 #[derive(Drop)]
-enum Found {
+enum FoundItem {
     Entry(String, String, FileType),
     Fault(FaultKind, String),
 }
@@ -77,39 +77,44 @@ pub(crate) struct Steps<D: Directory> {
     min: usize,
     max: usize,
     root: String,
-    first: Option<Place>,
+    first: Option<StartPoint>,
     pub(crate) entered: Option<Folder>,
-    levels: Vec<Level<D::Cursor>>,
+    levels: Vec<OpenFolder<D::Cursor>>,
     budget: u32,
     pub(crate) has_ended: bool,
 }
 
 /// Depths from `min` to `max`, and a budget of items from folders.
 #[derive(Clone, Copy)]
-pub struct Range {
+pub struct DepthRange {
     pub min: usize,
     pub max: usize,
     pub budget: u32,
 }
 
-fn entry_in(alloc: Global, folder: &Folder, name: &str, kind: FileType) -> Result<Found, AllocError>
-    ensures { IfOk result (IsEntry (folder_spot folder.now) name.now kind) }
+fn entry_in(
+    alloc: Global,
+    folder: &Folder,
+    name: &str,
+    kind: FileType,
+) -> Result<FoundItem, AllocError>
+    ensures { IfOk result (IsEntry (folder_location folder.now) name.now kind) }
 {
     let path = join(alloc, folder.path.as_str(), name)?;
     let candidate = join(alloc, folder.candidate.as_str(), name)?;
-    Ok(Found::Entry(path, candidate, kind))
+    Ok(FoundItem::Entry(path, candidate, kind))
 }
 
-fn fault_in(folder: &Folder, kind: FaultKind) -> Result<Found, AllocError>
-    ensures { IfOk result (IsFault (folder_spot folder.now) kind) }
+fn fault_in(folder: &Folder, kind: FaultKind) -> Result<FoundItem, AllocError>
+    ensures { IfOk result (IsFault (folder_location folder.now) kind) }
 {
     let path = folder.path.clone()?;
-    Ok(Found::Fault(kind, path))
+    Ok(FoundItem::Fault(kind, path))
 }
 
 // Checks the name of an item before it becomes a part of a path.
-fn found_in(alloc: Global, folder: &Folder, item: ListItem) -> Result<Found, AllocError>
-    ensures { IfOk result (IsFound (folder_spot folder.now) item) }
+fn found_in(alloc: Global, folder: &Folder, item: ListItem) -> Result<FoundItem, AllocError>
+    ensures { IfOk result (IsFound (folder_location folder.now) item) }
 {
     match item {
         ListItem::Name(name, kind) => {
@@ -130,9 +135,9 @@ impl<D: Directory> Steps<D> {
     pub(crate) fn new(
         alloc: Global,
         directory: D,
-        first: Option<Place>,
+        first: Option<StartPoint>,
         root: String,
-        range: Range,
+        range: DepthRange,
     ) -> Steps<D>
         ensures fields { result ≡ record {
           alloc = alloc;
@@ -198,7 +203,7 @@ impl<D: Directory> Steps<D> {
         ensures rest { self.new ≡ record self.old { entered = self.new.entered } }
         ensures entered { OnOk result ((s : Shown) → (self.old.entered ≡ None)
             → D.law.shows self.old.directory path.now s → HasKind s kind
-            → let at : Spot = record { path = path.now; candidate = candidate.now; depth = depth } in
+            → let at : Location = record { path = path.now; candidate = candidate.now; depth = depth } in
             (n : ℕ) × (n ≤ count_shown s) × EnteredShows (D.law.shows self.old.directory) (scope_of self.old)
             self.new.entered (below_forest (scope_of self.old) at s) n) }
     {
@@ -216,10 +221,10 @@ impl<D: Directory> Steps<D> {
 
     // Yields an entry if its depth is in range, and remembers it as a folder to be opened.
     fn give(&mut self, path: String, candidate: String, kind: FileType, depth: usize) -> Step
-        ensures settles { Settles (nothing_asked (names_left self.old)) self.old result self.new }
+        ensures uses_answer { UsesAnswer (nothing_asked (names_left self.old)) self.old result self.new }
         ensures continues { (s : Shown) → D.law.shows self.old.directory (string_bytes path) s
             → HasKind s kind
-            → let at : Spot = record {
+            → let at : Location = record {
               path = string_bytes path;
               candidate = string_bytes candidate;
               depth =
@@ -227,7 +232,7 @@ impl<D: Directory> Steps<D> {
             } in
             Continues D.law self.old (entry_forest (scope_of self.old) at kind s) (count_shown s) result
             self.new }
-        ensures adds { (self.old.entered ≡ None) → Adds 1 2 self.old result self.new }
+        ensures measure { (self.old.entered ≡ None) → IncreasesBy 1 2 self.old result self.new }
     {
         let Ok(()) = self.enter_later(path.as_str(), candidate.as_str(), kind, depth) else {
             return self.fail();
@@ -243,8 +248,8 @@ impl<D: Directory> Steps<D> {
 
     // Goes on to the next name of a place, which has to be a folder; without a next name, yields
     // the entry of the place.
-    fn follow(&mut self, place: Place, kind: FileType) -> Step
-        ensures settles { Settles (record {
+    fn follow(&mut self, place: StartPoint, kind: FileType) -> Step
+        ensures uses_answer { UsesAnswer (record {
           counts = kind_counts (Ok (Some kind));
           taken = 0;
           names = names_left self.old + length place.names.items;
@@ -254,13 +259,13 @@ impl<D: Directory> Steps<D> {
             → let names = from_last place.names.items in
             ArePlain names → place.depth + length place.names.items ≤ 2 ^ 64 - 1
             → (self.old.levels.items ≡ [])
-            → Continues D.law self.old (walk_from (scope_of self.old) (place_spot place) s names)
+            → Continues D.law self.old (walk_from (scope_of self.old) (start_point_location place) s names)
             (count_shown s)
             result self.new }
-        ensures adds { (self.old.entered ≡ None) → AddsFirst (length place.names.items) self.old result
-            self.new }
+        ensures measure { (self.old.entered ≡ None)
+            → IncreasesByNames (length place.names.items) self.old result self.new }
     {
-        let Place {
+        let StartPoint {
             path,
             candidate,
             depth,
@@ -278,7 +283,7 @@ impl<D: Directory> Steps<D> {
         let Ok(candidate) = join(self.alloc, candidate.as_str(), name.as_str()) else {
             return self.fail();
         };
-        self.first = Some(Place {
+        self.first = Some(StartPoint {
             path,
             candidate,
             depth: depth.saturating_add(1),
@@ -288,18 +293,18 @@ impl<D: Directory> Steps<D> {
     }
 
     // Looks up what is at a place.
-    fn begin(&mut self, place: Place) -> Step
+    fn begin(&mut self, place: StartPoint) -> Step
         ensures answers { StepAnswers D.law (names_left self.old + length place.names.items) self.old result
             self.new }
         ensures continues { (s : Shown) → D.law.shows self.old.directory (string_bytes place.path) s
             → let names = from_last place.names.items in
             ArePlain names → place.depth + length place.names.items ≤ 2 ^ 64 - 1
             → (self.old.levels.items ≡ [])
-            → Continues D.law self.old (walk_from (scope_of self.old) (place_spot place) s names)
+            → Continues D.law self.old (walk_from (scope_of self.old) (start_point_location place) s names)
             (count_shown s)
             result self.new }
-        ensures adds { (self.old.entered ≡ None) → AddsFirst (length place.names.items) self.old result
-            self.new }
+        ensures measure { (self.old.entered ≡ None)
+            → IncreasesByNames (length place.names.items) self.old result self.new }
     {
         match self.directory.kind(self.alloc, place.path.as_str()) {
             Ok(Some(kind)) => self.follow(place, kind),
@@ -321,12 +326,12 @@ impl<D: Directory> Steps<D> {
         ensures answers { StepAnswers D.law (names_left self.old) self.old result self.new }
         ensures continues { (s : Shown) → D.law.shows self.old.directory (string_bytes folder.path) s
             → IsFolder s
-            → let entered = entered_forest (scope_of self.old) (folder_spot folder) s in
+            → let entered = entered_forest (scope_of self.old) (folder_location folder) s in
             Continues D.law self.old (followed_by entered) (count_shown s) result self.new }
-        ensures adds { Adds 0 1 self.old result self.new }
+        ensures measure { IncreasesBy 0 1 self.old result self.new }
     {
         match self.directory.open(self.alloc, folder.path.as_str()) {
-            Ok(cursor) => match self.levels.push(Level { folder, cursor }) {
+            Ok(cursor) => match self.levels.push(OpenFolder { folder, cursor }) {
                 Ok(()) => Step::GoesOn,
                 Err(_) => self.fail(),
             },
@@ -339,19 +344,19 @@ impl<D: Directory> Steps<D> {
     }
 
     // Yields what was found in a folder. `depth` is that of the folder's items.
-    fn give_found(&mut self, found: Found, depth: usize) -> Step
-        ensures settles { (at : Spot) (x : ListItem) → IsFound at x found
-            → Settles (record { counts = item_counts x; taken = 0; names = names_left self.old })
+    fn give_found(&mut self, found: FoundItem, depth: usize) -> Step
+        ensures uses_answer { (at : Location) (x : ListItem) → IsFound at x found
+            → UsesAnswer (record { counts = item_counts x; taken = 0; names = names_left self.old })
             self.old result self.new }
-        ensures continues { (at : Spot) (x : ListItem) (l : Items) → IsFound at x found → at.depth ≡ depth
+        ensures continues { (at : Location) (x : ListItem) (l : Items) → IsFound at x found → at.depth ≡ depth
             → Some (listed_of x) ≡ first_item l → ShowsIn (D.law.shows self.old.directory) at.path l
             → Continues D.law self.old (first_item_forest (scope_of self.old) at l) (own_count l) result
             self.new }
-        ensures adds { (self.old.entered ≡ None) → Adds 1 2 self.old result self.new }
+        ensures measure { (self.old.entered ≡ None) → IncreasesBy 1 2 self.old result self.new }
     {
         match found {
-            Found::Entry(path, candidate, kind) => self.give(path, candidate, kind, depth),
-            Found::Fault(kind, path) => {
+            FoundItem::Entry(path, candidate, kind) => self.give(path, candidate, kind, depth),
+            FoundItem::Fault(kind, path) => {
                 Step::Gives(Err(WalkError::Fault(kind, path, depth.saturating_sub(1))))
             }
         }
@@ -360,17 +365,17 @@ impl<D: Directory> Steps<D> {
     // Takes an item of a folder, unless the budget is used up, and puts the folder back on the
     // stack: the cursor has its rest.
     fn take_from(&mut self, folder: Folder, cursor: D::Cursor, item: ListItem) -> Step
-        ensures settles { (self.old.has_ended ≡ false)
-            → Settles (record { counts = item_counts item; taken = 1; names = names_left self.old })
+        ensures uses_answer { (self.old.has_ended ≡ false)
+            → UsesAnswer (record { counts = item_counts item; taken = 1; names = names_left self.old })
             self.old result self.new }
         ensures lists { (l : Items) (rest : Rest) (items : ℕ) → Some (listed_of item) ≡ first_item l
-            → Beside D.law self.old (record { folder = folder; cursor = cursor }) (rest_of l) rest
+            → IsPopped D.law self.old (record { folder = folder; cursor = cursor }) (rest_of l) rest
             → ShowsIn (D.law.shows self.old.directory) (string_bytes folder.path) l
             → rest.count + count l ≤ items
-            → let p = listing_pending (scope_of self.old) (folder_spot folder) l rest items in
+            → let p = listing_pending (scope_of self.old) (folder_location folder) l rest items in
             StepIs D.law self.old p result self.new }
-        ensures saves { (self.old.entered ≡ None) → (self.old.has_ended ≡ false)
-            → Saves self.old result self.new }
+        ensures measure { (self.old.entered ≡ None) → (self.old.has_ended ≡ false)
+            → WeaklyDecreases self.old result self.new }
     {
         if self.budget == 0 {
             let depth = folder.depth.saturating_sub(1);
@@ -381,24 +386,24 @@ impl<D: Directory> Steps<D> {
             return self.fail();
         };
         let depth = folder.depth;
-        let Ok(()) = self.levels.push(Level { folder, cursor }) else {
+        let Ok(()) = self.levels.push(OpenFolder { folder, cursor }) else {
             return self.fail();
         };
         self.give_found(found, depth)
     }
 
     // Moves on in the innermost folder. At its end it isn't put back on the stack.
-    fn list_next(&mut self, level: Level<D::Cursor>) -> Step
+    fn list_next(&mut self, level: OpenFolder<D::Cursor>) -> Step
         ensures answers { (self.old.has_ended ≡ false)
             → StepAnswers D.law (names_left self.old) self.old result self.new }
-        ensures lists { (l : Items) (rest : Rest) (items : ℕ) → Beside D.law self.old level l rest
+        ensures lists { (l : Items) (rest : Rest) (items : ℕ) → IsPopped D.law self.old level l rest
             → rest.count + count l ≤ items
-            → let p = listing_pending (scope_of self.old) (folder_spot level.folder) l rest items in
+            → let p = listing_pending (scope_of self.old) (folder_location level.folder) l rest items in
             StepIs D.law self.old p result self.new }
-        ensures saves { (self.old.entered ≡ None) → (self.old.has_ended ≡ false)
-            → Saves self.old result self.new }
+        ensures measure { (self.old.entered ≡ None) → (self.old.has_ended ≡ false)
+            → WeaklyDecreases self.old result self.new }
     {
-        let Level { folder, mut cursor } = level;
+        let OpenFolder { folder, mut cursor } = level;
         match self.directory.next(self.alloc, &mut cursor) {
             Err(_) => self.fail(),
             Ok(None) => Step::GoesOn,
@@ -412,7 +417,7 @@ impl<D: Directory> Steps<D> {
         ensures is_step { IsStep D.law self.old result self.new }
         ensures step { (p : Pending Given) → PlainToCome D.law self.old p
             → StepIs D.law self.old p result self.new }
-        ensures spends { Spends self.old result self.new }
+        ensures measure { Decreases self.old result self.new }
     {
         if self.has_ended {
             return Step::Ends;

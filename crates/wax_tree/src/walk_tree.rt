@@ -9,7 +9,7 @@ ghost use Rattle.wax_tree.specs.Prefix.{from_last};
 ghost use Rattle.wax_walk.specs.Entries.{entry_in, facts_of, answer_of};
 ghost use Rattle.wax_walk.specs.View.{FeedStep};
 
-use crate::steps::{Place, Range, Steps};
+use crate::steps::{DepthRange, StartPoint, Steps};
 use std::alloc::{AllocError, Global};
 use wax_directory::directory::Directory;
 use wax_filter::filter::{
@@ -56,14 +56,14 @@ fn place_at(
     path: &str,
     candidate: &str,
     names: Vec<String>,
-) -> Result<Place, AllocError>
+) -> Result<StartPoint, AllocError>
     ensures texts { IfOk result
         (λ r. (string_bytes r.path ≡ path.now) × (string_bytes r.candidate ≡ candidate.now)) }
     ensures rest { IfOk result (λ r. (r.depth ≡ 0) × (r.names ≡ names)) }
 {
     let path = String::from_str(alloc, path)?;
     let candidate = String::from_str(alloc, candidate)?;
-    Ok(Place {
+    Ok(StartPoint {
         path,
         candidate,
         depth: 0,
@@ -73,7 +73,12 @@ fn place_at(
 
 impl<D: Directory> WalkTree<D> {
     // Begins at a start, for a range of depths that is already a pair of numbers.
-    pub(crate) fn with_range(alloc: Global, directory: D, start: &str, range: Range) -> WalkTree<D>
+    pub(crate) fn with_range(
+        alloc: Global,
+        directory: D,
+        start: &str,
+        range: DepthRange,
+    ) -> WalkTree<D>
         ensures begins { Begins D.law directory start.now range
             (⟦<WalkTree<D> as FileIterator>⟧.view result) }
         ensures gives { EndsWithin (2 * range.budget + 3) (⟦<WalkTree<D> as SeparatingFilter>⟧.left result) }
@@ -97,7 +102,7 @@ impl<D: Directory> WalkTree<D> {
         start: &str,
         candidate: &str,
         names: Vec<String>,
-        range: Range,
+        range: DepthRange,
     ) -> WalkTree<D>
         ensures begins { BeginsAt D.law directory (record {
           root = root.now;
@@ -123,7 +128,7 @@ impl<D: Directory> WalkTree<D> {
     }
 
     /// Builds a walk that has ended: it yields nothing and doesn't call the directory.
-    pub fn ended(alloc: Global, directory: D, range: Range) -> WalkTree<D>
+    pub fn ended(alloc: Global, directory: D, range: DepthRange) -> WalkTree<D>
         ensures ended { HasEnded D.law directory range (⟦<WalkTree<D> as FileIterator>⟧.view result) }
         ensures gives { EndsWithin (2 * range.budget + 3) (⟦<WalkTree<D> as SeparatingFilter>⟧.left result) }
     {
@@ -134,7 +139,7 @@ impl<D: Directory> WalkTree<D> {
     }
 
     /// Builds a walk whose only item is an error for memory. It doesn't call the directory.
-    pub fn refused(alloc: Global, directory: D, range: Range) -> WalkTree<D>
+    pub fn refused(alloc: Global, directory: D, range: DepthRange) -> WalkTree<D>
         ensures lacks { LacksMemory D.law directory range (⟦<WalkTree<D> as FileIterator>⟧.view result) }
         ensures gives { EndsWithin (2 * range.budget + 3) (⟦<WalkTree<D> as SeparatingFilter>⟧.left result) }
     {

@@ -1,6 +1,6 @@
 pub mod ByRule
 pub mod Filtered
-pub mod LessMeant
+pub mod ExcludingMatches
 pub mod Meanings
 pub mod OneComponents
 pub mod Pictures

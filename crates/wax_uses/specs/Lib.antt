@@ -1,3 +1,3 @@
-pub mod Less
+pub mod Excluding
 pub mod Names
 pub mod Walks

@@ -12,7 +12,10 @@ mod walks;
 pub use captured::picture_stem;
 pub use components::glob_of_component;
 pub use ignored::is_ignored_by;
-pub use lines::meant_lines;
-pub use names::{is_meant, is_picture};
+pub use lines::matching_lines;
+pub use names::{expression_matches, is_picture};
 pub use skipping::{has_no_deeper, means_all_below, means_single_names};
-pub use walks::{NotKept, meant_less, meant_unignored, unmeant_unignored, without_links};
+pub use walks::{
+    NotKept, collect_excluding_glob, collect_excluding_links, collect_glob_excluding,
+    collect_plain_excluding,
+};

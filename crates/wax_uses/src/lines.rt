@@ -11,7 +11,7 @@ use wax::{Counted, Glob, LinesError, filter_lines};
 /// # Errors
 ///
 /// Returns the errors of `filter_lines`.
-pub fn meant_lines(alloc: Global, bytes: &[u8], glob: &Glob<'_>) -> Result<Vec<u8>, LinesError>
+pub fn matching_lines(alloc: Global, bytes: &[u8], glob: &Glob<'_>) -> Result<Vec<u8>, LinesError>
     ensures { IfOk result
         (λ out. (bad : ℕ) × Filters (WritesMeant (IsMeant glob.now)) (lines bytes.now) out.items bad) }
 {

@@ -10,7 +10,7 @@ use wax::{BuildError, CandidatePath, Glob, Program};
 /// # Errors
 ///
 /// Returns the errors of `Glob::new`.
-pub fn is_meant(alloc: Global, expression: &str, path: &str) -> Result<bool, BuildError>
+pub fn expression_matches(alloc: Global, expression: &str, path: &str) -> Result<bool, BuildError>
     ensures { IfOk result (λ answer. IsTrue answer ↔ IsMeantBy (chars expression.now) (chars path.now)) }
 {
     let glob = Glob::new(alloc, expression)?;

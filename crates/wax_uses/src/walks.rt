@@ -2,8 +2,8 @@
 ghost use Rattle.std.specs.Iterator.{IsFinite};
 ghost use Rattle.std.specs.List.{AllZip};
 ghost use Rattle.std.specs.Prelude.{◌≡◌, ◌∷◌, [], All, IfOk, List, map, ℕ};
-ghost use Rattle.wax_uses.specs.Less.{AreEntriesLeft, AreEntriesLess, AreFilters, IsKnownFrom, IsMeantEntry};
-ghost use Rattle.wax_uses.specs.Less.{IsUnmeantEntry, KeepsFiltered, KeepsLess};
+ghost use Rattle.wax_uses.specs.Excluding.{AreEntriesLeft, AreEntriesExcluding, AreFilters, IsKnownFrom};
+ghost use Rattle.wax_uses.specs.Excluding.{IsMeantEntry, IsUnmeantEntry, KeepsFiltered, KeepsExcluding};
 ghost use Rattle.wax_uses.specs.Walks.{KeepsByRule, link_mark};
 ghost use Rattle.wax.specs.Ignoring.{IsReadAs, Line, written_lines};
 ghost use Rattle.wax.specs.Language.{Span, Tree};
@@ -23,7 +23,7 @@ use wax::{BuildError, Glob, NoMemory, Pattern};
 /// # Errors
 ///
 /// Returns `NoMemory` if allocation fails for the list itself.
-pub fn without_links<I: FileIterator>(
+pub fn collect_excluding_links<I: FileIterator>(
     alloc: Global,
     walk: I,
 ) -> Result<(Vec<Result<I::Entry, WalkError>>, I::Directory), NoMemory>
@@ -54,7 +54,7 @@ fn link_residue(entry: &TreeEntry) -> Option<EntryResidue>
 ///
 /// Returns `Compile` if the program of the other glob would be too large, and `Memory` if
 /// allocation fails.
-pub fn meant_less<D: Directory>(
+pub fn collect_excluding_glob<D: Directory>(
     alloc: Global,
     glob: &Glob<'_>,
     directory: D,
@@ -65,14 +65,14 @@ pub fn meant_less<D: Directory>(
     ensures unmeant { IfOk result (λ r. IsKnownFrom glob.now D.law directory start.now
         → All (KnownOutcome (IsUnmeantEntry other.entry)) r.0.items) }
     ensures entries { IfOk result (λ r. (known : IsKnownFrom glob.now D.law directory start.now)
-        → AreEntriesLess known other.entry
+        → AreEntriesExcluding known other.entry
         (map (given_outcome ⟦<GlobEntry as Entry>⟧.facts ⟦<TreeEntry as Entry>⟧.facts) r.0.items)) }
 {
     let filter = WalkFilter::not(alloc, other)?;
     let Ok(filters) = Vec::from_array(alloc, [filter]) else {
         return Err(BuildError::Memory);
     };
-    Ok(glob.collect_less(alloc, directory, start, WalkBehavior::default(), filters)?)
+    Ok(glob.collect_excluding(alloc, directory, start, WalkBehavior::default(), filters)?)
 }
 
 /// Why nothing is kept of a walk with filters.
@@ -93,7 +93,7 @@ pub enum NotKept {
 ///
 /// Returns `NotBuilt` if a pattern or the list has an error, and `NoMemory` if allocation fails for
 /// the list of entries.
-pub fn meant_unignored<D, P, Q>(
+pub fn collect_glob_excluding<D, P, Q>(
     alloc: Global,
     glob: &Glob<'_>,
     directory: D,
@@ -113,7 +113,7 @@ where
         (map (given_outcome ⟦<GlobEntry as Entry>⟧.facts ⟦<TreeEntry as Entry>⟧.facts) r.0.items))) }
 {
     let walk = glob.walk(alloc, directory, start);
-    collect_unmeant(alloc, walk, first, second, list)
+    collect_excluding_patterns(alloc, walk, first, second, list)
 }
 
 /// Walks from a start, without what two patterns match and what the list of the text ignores, and
@@ -124,7 +124,7 @@ where
 ///
 /// Returns `NotBuilt` if a pattern or the list has an error, and `NoMemory` if allocation fails for
 /// the list of entries.
-pub fn unmeant_unignored<D, P, Q>(
+pub fn collect_plain_excluding<D, P, Q>(
     alloc: Global,
     directory: D,
     start: &str,
@@ -144,12 +144,12 @@ where
 {
     let walk = start.walk(alloc, directory);
     law_of_plain_walks(&walk);
-    collect_unmeant(alloc, walk, first, second, list)
+    collect_excluding_patterns(alloc, walk, first, second, list)
 }
 
 // The borrow checker doesn't cover `not` or `ignore` of a walk whose type is written out yet. So each
 // of these functions makes one such call, of a walk of any type.
-fn collect_unmeant<I, P, Q>(
+fn collect_excluding_patterns<I, P, Q>(
     alloc: Global,
     walk: I,
     first: P,
@@ -164,16 +164,16 @@ where
     requires ends { IsFinite (I.left walk) }
     ensures { IfOk result (λ r. (filters : List (Filter Span))
         × AreFilters (P.spells first) (Q.spells second) list.now filters
-        × KeepsLess I.Directory.law (I.view walk) filters r.1
+        × KeepsExcluding I.Directory.law (I.view walk) filters r.1
         (map (given_outcome I.Entry.facts I.Residue.facts) r.0.items)) }
 {
     match walk.not(alloc, first) {
-        Ok(walk) => collect_without(alloc, walk, second, list),
+        Ok(walk) => collect_excluding_pattern(alloc, walk, second, list),
         Err(_) => Err(NotKept::NotBuilt),
     }
 }
 
-fn collect_without<I, P>(
+fn collect_excluding_pattern<I, P>(
     alloc: Global,
     walk: I,
     pattern: P,
@@ -186,7 +186,7 @@ where
     requires ends { IsFinite (I.left walk) }
     ensures { IfOk result (λ r. (t : Tree Span) × IsOnly (P.spells pattern) t × (lines : List (Line Span))
         × AllZip IsReadAs (written_lines list.now) lines
-        × KeepsLess I.Directory.law (I.view walk) (not_meant t ∷ not_ignored lines ∷ []) r.1
+        × KeepsExcluding I.Directory.law (I.view walk) (not_meant t ∷ not_ignored lines ∷ []) r.1
         (map (given_outcome I.Entry.facts I.Residue.facts) r.0.items)) }
 {
     match walk.not(alloc, pattern) {
@@ -204,7 +204,7 @@ fn collect_unignored<I: FileIterator>(
     requires ends { IsFinite (I.left walk) }
     ensures { IfOk result (λ r. (lines : List (Line Span))
         × AllZip IsReadAs (written_lines list.now) lines
-        × KeepsLess I.Directory.law (I.view walk) (not_ignored lines ∷ []) r.1
+        × KeepsExcluding I.Directory.law (I.view walk) (not_ignored lines ∷ []) r.1
         (map (given_outcome I.Entry.facts I.Residue.facts) r.0.items)) }
 {
     match IgnoreList::parse(alloc, list) {

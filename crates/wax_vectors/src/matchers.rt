@@ -4,7 +4,7 @@
 use crate::answer::Answer;
 use crate::row::Row;
 use std::alloc::{AllocError, Global};
-use wax::encode::{Matcher, Meter, Program, compile, run};
+use wax::encode::{CompiledProgram, Matcher, Meter, compile, run};
 use wax::token::{ExpressionMetadata, Tokenized, parse};
 use wax::{BuildMatcher, CandidatePath, NoMemory, PathMatcher};
 
@@ -143,7 +143,7 @@ fn compare_tokens(
 /// keeps is drawn, too: from sixteen, which it removes every few characters, to about a hundred.
 fn differing(
     alloc: Global,
-    program: &Program,
+    program: &CompiledProgram,
     row: &Row,
     draws: &mut Draws,
 ) -> Result<u64, NoMemory> {

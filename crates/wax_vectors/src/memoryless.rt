@@ -73,7 +73,7 @@ fn add_match(matched: &MatchedText<'_>, made: &mut Answer) {
 
 fn add_tokens(
     tokenized: &Tokenized<'_, ExpressionMetadata>,
-    program: &encode::Program,
+    program: &encode::CompiledProgram,
     made: &mut Answer,
 ) {
     made.tab();

@@ -6,7 +6,7 @@ use crate::answers::add_within;
 use crate::kinds::ProgramFact;
 use crate::row::Row;
 use std::alloc::Global;
-use wax::encode::{Meter, Program, compile, run};
+use wax::encode::{CompiledProgram, Meter, compile, run};
 use wax::token::{ExpressionMetadata, Tokenized, parse};
 use wax::{NoMemory, Refusal};
 
@@ -48,7 +48,7 @@ fn of_program(
     alloc: Global,
     fact: ProgramFact,
     row: &Row,
-    program: &Program,
+    program: &CompiledProgram,
     made: &mut Answer,
 ) -> Result<(), NoMemory> {
     if let ProgramFact::Length = fact {

@@ -12,8 +12,8 @@ ghost use Rattle.wax_walk.specs.View.{FeedStep};
 
 use crate::entry::{Entry, TreeEntry};
 use crate::error::WalkError;
+use crate::excluding::{cuts, separated};
 use crate::iterator::{EntryResidue, FileIterator};
-use crate::without::{cuts, separated};
 use wax_filter::filter::{CancelWalk, Feed, SeparatingFilter, Separation, TreeResidue, filtrate};
 
 // Calls the closure for the entry of an item, kept or excluded, and never for an error.

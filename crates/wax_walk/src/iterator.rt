@@ -10,8 +10,8 @@ ghost use Rattle.wax_walk.specs.View.{WalkView, FeedStep, CancelStep, IsSeenAs};
 
 use crate::entry::{Entry, TreeEntry};
 use crate::error::WalkError;
+use crate::excluding::{Exclude, Excluding};
 use crate::filter_entry::FilterEntry;
-use crate::without::{Rule, Without};
 use std::alloc::Global;
 use wax_directory::directory::Directory;
 use wax_filter::filter::{CancelWalk, Feed, SeparatingFilter, TreeResidue};
@@ -85,16 +85,16 @@ pub trait FileIterator: CancelWalk<
 
     /// Excludes what a rule excludes. The rule sees each entry, even one that was excluded before,
     /// and no error. If the rule returns an error, the walk yields it and ends.
-    final fn without<P: Rule>(self, alloc: Global, rule: P) -> Without<Self, P>
+    final fn excluding<P: Exclude>(self, alloc: Global, rule: P) -> Excluding<Self, P>
     where
         Self: Sized,
         ensures view { IsSeenAs (ruled_view (view self) (P.rule rule) false)
-            (⟦<Without<Self, P> as FileIterator>⟧.view result) }
-        ensures ends { ⟦<Without<Self, P> as SeparatingFilter>⟧.left result ≡ Self.left self }
-        ensures feeds { Self.can_feed self → ⟦<Without<Self, P> as SeparatingFilter>⟧.can_feed result }
-        ensures known { StaysKnown (Self.known self) (⟦<Without<Self, P> as FileIterator>⟧.known result) }
+            (⟦<Excluding<Self, P> as FileIterator>⟧.view result) }
+        ensures ends { ⟦<Excluding<Self, P> as SeparatingFilter>⟧.left result ≡ Self.left self }
+        ensures feeds { Self.can_feed self → ⟦<Excluding<Self, P> as SeparatingFilter>⟧.can_feed result }
+        ensures known { StaysKnown (Self.known self) (⟦<Excluding<Self, P> as FileIterator>⟧.known result) }
     {
-        Without::new(alloc, self, rule)
+        Excluding::new(alloc, self, rule)
     }
 
     /// Excludes what a closure excludes. For each entry, `None` keeps the item as it is, `File`

@@ -3,14 +3,14 @@
 
 mod entry;
 mod error;
+mod excluding;
 mod filter_entry;
 mod gather;
 mod iterator;
-mod without;
 
 pub use entry::{Entry, TreeEntry};
 pub use error::{FaultKind, WalkError, WalkErrorKind};
+pub use excluding::{Exclude, Excluding};
 pub use filter_entry::FilterEntry;
 pub use gather::{collect, collect_feed};
 pub use iterator::{EntryResidue, FileIterator};
-pub use without::{Rule, Without};

@@ -12,22 +12,22 @@ ghost use Rattle.wax_tree.specs.Prefix.{from_last};
 ghost use Rattle.wax_tree.specs.declared.behavior.DepthBehavior.TheVariants.{Unbounded};
 ghost use Rattle.wax_walk.specs.Known.{StaysKnown};
 ghost use Rattle.wax.specs.GlobView.{HasCaptures, IsKept, IsMeant};
-ghost use Rattle.wax.specs.GlobWalks.{BeginsGlob, IsPlan, way_from, within};
+ghost use Rattle.wax.specs.GlobWalks.{BeginsGlob, IsPlan, origin_from, within};
 
 use crate::glob::Glob;
 use std::alloc::Global;
 use wax_candidate::Program;
 use wax_directory::directory::Directory;
-use wax_exclude::{Component, Way, collect_less, leading, way_of};
+use wax_exclude::{LeadingComponent, PrefixNames, collect_excluding, leading, prefix_names_of};
 use wax_filter::filter::SeparatingFilter;
 use wax_glob_walk::{GlobEntry, walk_of};
 use wax_query::diagnostics::NoMemory;
-use wax_tree::{Range, WalkBehavior, WalkTree};
-use wax_walk::{Entry, FileIterator, Rule, TreeEntry, WalkError};
+use wax_tree::{DepthRange, WalkBehavior, WalkTree};
+use wax_walk::{Entry, Exclude, FileIterator, TreeEntry, WalkError};
 
 /// The walk of a glob through a directory. It keeps every entry that the glob matches. A folder
 /// that the names in the glob rule out is excluded before it is listed.
-pub type GlobWalk<'g, 't, D> = wax_glob_walk::GlobWalk<'g, D, Glob<'t>, Component<'g, 't>>;
+pub type GlobWalk<'g, 't, D> = wax_glob_walk::GlobWalk<'g, D, Glob<'t>, LeadingComponent<'g, 't>>;
 
 impl<'t> Glob<'t> {
     ghost use Rattle.wax_tree.specs.declared.behavior.WalkBehavior.{WalkBehavior};
@@ -109,13 +109,13 @@ impl<'t> Glob<'t> {
     }
 
     // Lowers the greatest depth of `range` to that of the glob.
-    fn within(&self, range: Range) -> Range
+    fn within(&self, range: DepthRange) -> DepthRange
         ensures { (depth : Bounds) × Depth self.now.tree depth
             × ((s : List ℕ) → IsMeant self.now s → AtMost (component_total s) depth.1)
             × (result ≡ within range depth) }
     {
         match self.depth().upper() {
-            Some(upper) => Range {
+            Some(upper) => DepthRange {
                 max: range.max.min(upper),
                 ..range
             },
@@ -129,35 +129,35 @@ impl<'t> Glob<'t> {
 fn needs<'g, 't>(
     alloc: Global,
     glob: &'g Glob<'t>,
-) -> Result<Option<(Way, Vec<Component<'g, 't>>)>, NoMemory>
+) -> Result<Option<(PrefixNames, Vec<LeadingComponent<'g, 't>>)>, NoMemory>
     ensures { IfOk result (λ plan. (taken : ℕ) (prefix : List ℕ) → Prefix glob.now.tree taken prefix
         → MatchOption plan (HasEmptyName prefix) (λ r.
         IsPlan glob.now.tree prefix r.0.is_rooted (from_last r.0.names.items) r.1.items)) }
 {
     let token = glob.tokenized.as_token();
-    match way_of(alloc, token)? {
-        Some(way) => {
-            let leading = leading(alloc, token, way.is_rooted)?;
-            Ok(Some((way, leading)))
+    match prefix_names_of(alloc, token)? {
+        Some(prefix_names) => {
+            let leading = leading(alloc, token, prefix_names.is_rooted)?;
+            Ok(Some((prefix_names, leading)))
         }
         None => Ok(None),
     }
 }
 
-// Begins a plain walk at the names of `way` below `start`, or below the root if `way` is rooted.
+// Begins a plain walk at the prefix below `start`, or below the root if the prefix is rooted.
 fn walk_along<D: Directory>(
     alloc: Global,
     directory: D,
     start: &str,
-    way: Way,
-    range: Range,
+    prefix_names: PrefixNames,
+    range: DepthRange,
 ) -> WalkTree<D>
     ensures begins { BeginsAt D.law directory
-        (way_from start.now way.is_rooted (from_last way.names.items)) range
+        (origin_from start.now prefix_names.is_rooted (from_last prefix_names.names.items)) range
         (⟦<WalkTree<D> as FileIterator>⟧.view result) }
     ensures gives { EndsWithin (2 * range.budget + 3) (⟦<WalkTree<D> as SeparatingFilter>⟧.left result) }
 {
-    let Way { is_rooted, names } = way;
+    let PrefixNames { is_rooted, names } = prefix_names;
     if is_rooted {
         WalkTree::to_place(alloc, directory, "", "/", "/", names, range)
     } else {
@@ -183,8 +183,8 @@ fn walk_in<'g, 't, D: Directory>(
     glob.keeps_rules();
     let range = glob.within(behavior.range());
     match needs(alloc, glob) {
-        Ok(Some((way, leading))) => {
-            let walk = walk_along(alloc, directory, start, way, range);
+        Ok(Some((prefix_names, leading))) => {
+            let walk = walk_along(alloc, directory, start, prefix_names, range);
             walk_of(alloc, walk, leading, glob)
         }
         Ok(None) => {
@@ -200,7 +200,7 @@ fn walk_in<'g, 't, D: Directory>(
 
 impl<'t> Glob<'t> {
     ghost use Rattle.std.specs.Prelude.{All, filter};
-    ghost use Rattle.wax_exclude.specs.Trips.{AreRulesOf, KeepsWanted};
+    ghost use Rattle.wax_exclude.specs.GlobRequests.{AreRulesOf, KeepsWanted};
     ghost use Rattle.wax_directory.specs.Shown.{Shown};
     ghost use Rattle.wax_token.specs.Reads.{Span};
     ghost use Rattle.wax_tree.specs.Prefix.{ArePlain};
@@ -208,7 +208,7 @@ impl<'t> Glob<'t> {
     ghost use Rattle.wax_walk.specs.Given.{Given, is_kept};
     ghost use Rattle.wax_walk.specs.Known.{KnownOutcome};
     ghost use Rattle.wax_exclude.specs.Wanted.{Filter};
-    ghost use Rattle.wax.specs.GlobWalks.{Beginning, GaveWithin, KeepsNothing, trip_of};
+    ghost use Rattle.wax.specs.GlobWalks.{Beginning, GaveWithin, KeepsNothing, request_of};
 
     /// Collects the walk of the glob from `start` without what the rules exclude: returns what is
     /// kept, in order, errors included, and the directory.
@@ -228,7 +228,7 @@ impl<'t> Glob<'t> {
     /// let filters = vec![in alloc; WalkFilter::not(alloc, "target/**")?, WalkFilter::ignore(list)]?;
     /// let glob = Glob::new(alloc, "**/*.rs")?;
     /// let behavior = WalkBehavior::default();
-    /// let (items, _) = glob.collect_less(alloc, tree, "", behavior, filters)?;
+    /// let (items, _) = glob.collect_excluding(alloc, tree, "", behavior, filters)?;
     /// println!(rt; "{}", items.len())?; // 1
     /// ```
     ///
@@ -236,7 +236,7 @@ impl<'t> Glob<'t> {
     ///
     /// Returns `NoMemory` if allocation fails for the list itself. If it fails in the walk, the
     /// last item is that error.
-    pub fn collect_less<D, R>(
+    pub fn collect_excluding<D, R>(
         &self,
         alloc: Global,
         directory: D,
@@ -246,7 +246,7 @@ impl<'t> Glob<'t> {
     ) -> Result<(Vec<Result<GlobEntry, WalkError>>, D), NoMemory>
     where
         D: Directory,
-        R: Rule,
+        R: Exclude,
         ensures took { IfOk result (λ r. (xs : List Given)
             × GaveWithin self.now.tree D.law directory behavior.budget r.1 xs
             × (map (given_outcome ⟦<GlobEntry as Entry>⟧.facts ⟦<TreeEntry as Entry>⟧.facts) r.0.items
@@ -261,13 +261,13 @@ impl<'t> Glob<'t> {
         ensures wanted { IfOk result (λ r. (depth : Bounds) × Depth self.now.tree depth
             × ((b : Beginning self.now.tree) (filters : List (Filter Span)) (s : Shown)
             (listed : List (List ℕ)) → AreRulesOf filters (map R.rule rules.items) → ArePlain b.names
-            → D.law.shows directory (way_from start.now b.rooted b.names).path s
+            → D.law.shows directory (origin_from start.now b.rooted b.names).path s
             → D.law.tells directory listed
             → KeepsWanted (D.law.tells r.1)
-            (trip_of start.now (behavior_range behavior) depth b filters) s listed
+            (request_of start.now (behavior_range behavior) depth b filters) s listed
             (map (given_outcome ⟦<GlobEntry as Entry>⟧.facts ⟦<TreeEntry as Entry>⟧.facts) r.0.items))) }
     {
         let walk = walk_in(alloc, self, directory, start, behavior);
-        collect_less(alloc, walk, rules)
+        collect_excluding(alloc, walk, rules)
     }
 }

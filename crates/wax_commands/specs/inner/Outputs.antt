@@ -4,11 +4,11 @@ use Rattle.wax.specs.GlobView.{GlobView, HasCaptures, IsMeant}
 use Rattle.wax_lines.specs.Lines.{WritesCaptures, WritesMeant}
 use Rattle.wax_commands.specs.LineCommands.{LineCommand}
 use Rattle.wax_commands.specs.declared.run.Lines.{Lines}
-use Rattle.wax_commands.specs.declared.run.Lines.TheVariants.{Meant, Captured}
+use Rattle.wax_commands.specs.declared.run.Lines.TheVariants.{Matching, Captured}
 
 -- the bytes that may be written for a text
 abbrev pub writes_of : Lines → GlobView → List ℕ → List ℕ → Type 0
-writes_of Meant = λ g. WritesMeant (IsMeant g)
+writes_of Matching = λ g. WritesMeant (IsMeant g)
 writes_of Captured = λ g. WritesCaptures (IsMeant g) (HasCaptures g)
 
 abbrev pub command_of : Lines → List ℕ → LineCommand

@@ -32,8 +32,8 @@ abbrev pub AcceptsLines : List Instruction → List IgnoreLine → Type 0
 AcceptsLines code lines = (s : List ℕ) → SomeMeans lines s → Accepts code 0 s
 
 -- one of the lines takes back
-abbrev pub some_takes_back : List IgnoreLine → Bool
-some_takes_back lines = list_any (λ line. not line.ignores) lines
+abbrev pub some_reincludes : List IgnoreLine → Bool
+some_reincludes lines = list_any (λ line. not line.ignores) lines
 
 -- the lines from a place to another
 abbrev pub lines_between : ℕ → ℕ → List IgnoreLine → List IgnoreLine
@@ -43,7 +43,7 @@ lines_between start end lines = take (end - start) (drop start lines)
 pub record IsBlockOf (lines : List IgnoreLine) (block : Block) : Type 0 where
   pub forward : block.start ≤ block.end
   pub within : block.end ≤ length lines
-  pub takes_back : block.takes_back ≡ some_takes_back (lines_between block.start block.end lines)
+  pub reincludes : block.reincludes ≡ some_reincludes (lines_between block.start block.end lines)
   pub accepts : AcceptsLines block.matcher (lines_between block.start block.end lines)
 
 -- ---- what lines say

@@ -1,6 +1,6 @@
 -- What is said of candidates by their names.
 use Rattle.std.specs.Prelude.{◌≡◌, ℕ, Bool, List, ◌++◌, length}
-use Rattle.wax_tree.specs.Plain.{Spot, item_spot, one_deeper}
+use Rattle.wax_tree.specs.Plain.{Location, item_location, one_deeper}
 use Rattle.wax_tree.specs.Prefix.{ArePlain}
 use Rattle.wax_walk.specs.Given.{Mark, with_tree}
 use Rattle.wax_exclude.specs.Candidates.{AreNames, Candidate, candidate_at, text_at}
@@ -14,12 +14,12 @@ abbrev pub Descends : Bool → (Candidate → Mark) → Type 0
 Descends rooted mark = (names others : List (List ℕ)) → AreNames (names ++ others)
     → said_of rooted mark names ≡ with_tree → said_of rooted mark (names ++ others) ≡ with_tree
 
--- these names lead to the spot
-pub record At (rooted : Bool) (at : Spot) (names : List (List ℕ)) : Type 0 where
+-- these names lead to the location
+pub record At (rooted : Bool) (at : Location) (names : List (List ℕ)) : Type 0 where
   pub candidate_is : at.candidate ≡ text_at rooted names
   pub depth_is : at.depth ≡ length names
   pub are_plain : ArePlain names
 
--- where a name in the folder at a spot stands
-abbrev pub child_spot : Spot → List ℕ → Spot
-child_spot at x = item_spot (one_deeper at) x
+-- where a name in the folder at a location stands
+abbrev pub child_location : Location → List ℕ → Location
+child_location at x = item_location (one_deeper at) x

@@ -14,15 +14,15 @@ ignored_by was (line ∷ lines) s =
     ignored_by (if some_test line.exclusion s then line.ignores else was) lines s
 
 -- no line takes back
-abbrev pub none_takes_back : List IgnoreLine → Bool
-none_takes_back [] = true
-none_takes_back (line ∷ lines) = line.ignores && none_takes_back lines
+abbrev pub none_reincludes : List IgnoreLine → Bool
+none_reincludes [] = true
+none_reincludes (line ∷ lines) = line.ignores && none_reincludes lines
 
 -- a line that ignores covers the candidate, and no line that takes back stands after that
 abbrev pub below_by : List IgnoreLine → Candidate → Bool
 below_by [] c = false
 below_by (line ∷ lines) c =
-    (line.ignores && (none_takes_back lines && covers_test line.exclusion c)) || below_by lines c
+    (line.ignores && (none_reincludes lines && covers_test line.exclusion c)) || below_by lines c
 
 -- what the lines say
 abbrev pub listed_mark : List IgnoreLine → Facts → Mark

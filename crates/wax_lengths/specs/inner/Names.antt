@@ -9,18 +9,18 @@ name_len [] = 0
 name_len (c ∷ s) = if c == 47 then 0 else suc (name_len s)
 
 -- the least length of what a tree wildcard means
-abbrev pub least_of : Bool → Bool → Bool → ℕ
-least_of true true rooted = 1
-least_of true false rooted = 0
-least_of false after true = 1
-least_of false after false = 0
+abbrev pub tree_low : Bool → Bool → Bool → ℕ
+tree_low true true rooted = 1
+tree_low true false rooted = 0
+tree_low false after true = 1
+tree_low false after false = 0
 
 -- the number above the lengths: where a `/` has to come first and doesn't, only 0 is left
-abbrev pub name_end : Bool → Bool → ℕ → ℕ
-name_end true true n = n + 1
-name_end true false n = 1
-name_end false begins n = n + 1
+abbrev pub tree_end : Bool → Bool → ℕ → ℕ
+tree_end true true n = n + 1
+tree_end true false n = 1
+tree_end false begins n = n + 1
 
-abbrev pub marks_of : Bool → Marks
-marks_of true = AfterSlash
-marks_of false = All
+abbrev pub tree_marks : Bool → Marks
+tree_marks true = AfterSlash
+tree_marks false = All

@@ -32,11 +32,11 @@ pub trait LineWriter {
 
 /// A writer of each line that a matcher accepts, with a line feed.
 #[derive(Drop)]
-pub struct MeantLines<M> {
+pub struct MatchingLines<M> {
     pub matcher: M,
 }
 
-impl<M: PathMatcher> LineWriter for MeantLines<M> {
+impl<M: PathMatcher> LineWriter for MatchingLines<M> {
     ghost View = { List ℕ → Bool };
 
     ghost view = { λ lines. M.decides lines.matcher };

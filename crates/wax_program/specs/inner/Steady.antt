@@ -7,8 +7,8 @@ use Rattle.wax_program.specs.declared.instruction.Instruction.{Instruction}
 use Rattle.wax_program.specs.declared.instruction.Instruction.TheVariants.{Check, Repeat, Components, Fork}
 use Rattle.wax_program.specs.declared.instruction.Instruction.TheVariants.{Jump, Back}
 use Rattle.wax_program.specs.declared.steady.Steady.{Steady}
-use Rattle.wax_program.specs.declared.steady.Watch.{Watch}
-use Rattle.wax_program.specs.declared.steady.Watch.TheVariants.{Nothing, Place, Lost}
+use Rattle.wax_program.specs.declared.steady.Watched.{Watched}
+use Rattle.wax_program.specs.declared.steady.Watched.TheVariants.{Nothing, CheckAt, Unknown}
 use Rattle.wax_program.specs.Bits.{places_of}
 use Rattle.wax_program.specs.Machine.{PassesTest}
 use Rattle.wax_program.specs.Threads.{Advances}
@@ -42,36 +42,37 @@ Alike (Jump n) c d = ⊤
 Alike (Back n) c d = ⊤
 
 -- the watched check doesn't take the character
-abbrev pub Lets : List Instruction → Watch → ℕ → Type 0
-Lets code Nothing d = ⊤
-Lets code (Place k) d = Misses code k d
-Lets code Lost d = ⊥
+abbrev pub MissesWatched : List Instruction → Watched → ℕ → Type 0
+MissesWatched code Nothing d = ⊤
+MissesWatched code (CheckAt k) d = Misses code k d
+MissesWatched code Unknown d = ⊥
 
 -- the instruction at k does by each such character what it does by c
-abbrev pub ActsAlike : List Instruction → ℕ → Watch → ℕ → Type 0
+abbrev pub ActsAlike : List Instruction → ℕ → Watched → ℕ → Type 0
 ActsAlike code c watch k = (i : Instruction) → slice_get code k ≡ Some i
-    → (d : ℕ) → c ≢ 47 → d ≢ 47 → Lets code watch d → Alike i c d
+    → (d : ℕ) → c ≢ 47 → d ≢ 47 → MissesWatched code watch d → Alike i c d
 
 -- the instruction at k was read, and what was watched still is
-pub record Noted (code : List Instruction) (c k : ℕ) (old new : Watch) : Type 0 where
-  pub stricter : (d : ℕ) → Lets code new d → Lets code old d
+pub record Noted (code : List Instruction) (c k : ℕ) (old new : Watched) : Type 0 where
+  pub stricter : (d : ℕ) → MissesWatched code new d → MissesWatched code old d
   pub covers : ActsAlike code c new k
 
 -- a check at k that doesn't take the round's character is watched, if it asks for more than `/`
-abbrev pub NotedMiss : Watch → Watch → ℕ → Test → Type 0
-NotedMiss old new k t = ((new ≡ old) × (t ≡ Char 47)) ⊎ ((new ≡ Lost) ⊎ ((old ≡ Nothing) × (new ≡ Place k)))
+abbrev pub NotedMiss : Watched → Watched → ℕ → Test → Type 0
+NotedMiss old new k t =
+    ((new ≡ old) × (t ≡ Char 47)) ⊎ ((new ≡ Unknown) ⊎ ((old ≡ Nothing) × (new ≡ CheckAt k)))
 
 -- a repeated test is one that takes each character but `/`, or it isn't known any more what is watched
-abbrev pub NotedRepeat : Watch → Watch → Test → Type 0
-NotedRepeat old new t = ((new ≡ old) × ((t ≡ NotSlash) ⊎ (t ≡ Any))) ⊎ (new ≡ Lost)
+abbrev pub NotedRepeat : Watched → Watched → Test → Type 0
+NotedRepeat old new t = ((new ≡ old) × ((t ≡ NotSlash) ⊎ (t ≡ Any))) ⊎ (new ≡ Unknown)
 
 -- a round by c with that watch led from the set back to it
-pub record Comes (code : List Instruction) (c : ℕ) (next : List Bool) (here : Option ℕ) (watch : Watch)
+pub record LedBack (code : List Instruction) (c : ℕ) (next : List Bool) (here : Option ℕ) (watch : Watched)
     (s : Steady) : Type 0 where
   pub other : c ≢ 47
   pub back : next ≡ places_of s.word
   pub began : here ≡ Some s.word
   pub below : s.watch < length code
-  pub lets : (d : ℕ) → Misses code s.watch d → Lets code watch d
+  pub misses : (d : ℕ) → Misses code s.watch d → MissesWatched code watch d
   pub not_by_slash : IsTrue s.by_slash → ⊥
-  pub others : IsTrue s.by_others → (d : ℕ) → Lets code watch d
+  pub others : IsTrue s.by_others → (d : ℕ) → MissesWatched code watch d

@@ -57,34 +57,34 @@ impl<'i, 't> Situated<'i, 't> {
 /// What was found at one side of a token: a boundary, a `*` or `$`, both (in different branches) or
 /// neither.
 #[derive(Clone, Copy)]
-struct Found {
+struct Edge {
     boundary: bool,
     zero_or_more: bool,
 }
 
-impl Found {
-    const NOTHING: Found = Found {
+impl Edge {
+    const NOTHING: Edge = Edge {
         boundary: false,
         zero_or_more: false,
     };
 
     /// Returns what was found in one or the other.
-    fn or(self, other: Found) -> Found
+    fn or(self, other: Edge) -> Edge
         ensures boundary { result.boundary ≡ (self.boundary || other.boundary) }
         ensures zero_or_more { result.zero_or_more ≡ (self.zero_or_more || other.zero_or_more) }
     {
-        Found {
+        Edge {
             boundary: self.boundary || other.boundary,
             zero_or_more: self.zero_or_more || other.zero_or_more,
         }
     }
 }
 
-fn found_in_leaf(leaf: &LeafKind<'_>) -> Found
+fn found_in_leaf(leaf: &LeafKind<'_>) -> Edge
     ensures boundary { result.boundary ≡ is_boundary_leaf (leaf_of leaf.now) }
     ensures zero_or_more { result.zero_or_more ≡ is_zero_or_more_leaf (leaf_of leaf.now) }
 {
-    Found {
+    Edge {
         boundary: leaf.is_boundary(),
         zero_or_more: leaf.is_zero_or_more(),
     }
@@ -92,7 +92,7 @@ fn found_in_leaf(leaf: &LeafKind<'_>) -> Found
 
 /// Returns what first tokens, bodies and branches lead to.
 #[cycle(found_at_start)]
-fn found_at_start<'t>(token: &Token<'t, ExpressionMetadata>) -> Found
+fn found_at_start<'t>(token: &Token<'t, ExpressionMetadata>) -> Edge
     ensures boundary { result.boundary ≡ starts_with_leaf is_boundary_leaf token.now }
     ensures zero_or_more { result.zero_or_more ≡ starts_with_leaf is_zero_or_more_leaf token.now }
 {
@@ -101,7 +101,7 @@ fn found_at_start<'t>(token: &Token<'t, ExpressionMetadata>) -> Found
             BranchKind::Alternation(a) => found_at_starts(a.tokens.as_slice()),
             BranchKind::Concatenation(c) => match c.tokens.first() {
                 Some(first) => found_at_start(first),
-                None => Found::NOTHING,
+                None => Edge::NOTHING,
             },
             BranchKind::Repetition(r) => found_at_start(&r.token),
         },
@@ -112,11 +112,11 @@ fn found_at_start<'t>(token: &Token<'t, ExpressionMetadata>) -> Found
 /// Returns what is found at the start of any of the tokens.
 #[cycle(found_at_start)]
 #[tactic(auto, using(wax_token::proofs::Sizes::element_size))]
-fn found_at_starts<'t>(tokens: &[Token<'t, ExpressionMetadata>]) -> Found
+fn found_at_starts<'t>(tokens: &[Token<'t, ExpressionMetadata>]) -> Edge
     ensures boundary { result.boundary ≡ some_starts_in is_boundary_leaf (trees tokens.now) }
     ensures zero_or_more { result.zero_or_more ≡ some_starts_in is_zero_or_more_leaf (trees tokens.now) }
 {
-    let mut found = Found::NOTHING;
+    let mut found = Edge::NOTHING;
     for token in tokens {
         found = found.or(found_at_start(token));
     }
@@ -125,7 +125,7 @@ fn found_at_starts<'t>(tokens: &[Token<'t, ExpressionMetadata>]) -> Found
 
 /// Returns what last tokens, bodies and branches lead to.
 #[cycle(found_at_end)]
-fn found_at_end<'t>(token: &Token<'t, ExpressionMetadata>) -> Found
+fn found_at_end<'t>(token: &Token<'t, ExpressionMetadata>) -> Edge
     ensures boundary { result.boundary ≡ ends_in is_boundary_leaf token.now }
     ensures zero_or_more { result.zero_or_more ≡ ends_in is_zero_or_more_leaf token.now }
 {
@@ -134,7 +134,7 @@ fn found_at_end<'t>(token: &Token<'t, ExpressionMetadata>) -> Found
             BranchKind::Alternation(a) => found_at_ends(a.tokens.as_slice()),
             BranchKind::Concatenation(c) => match c.tokens.last() {
                 Some(last) => found_at_end(last),
-                None => Found::NOTHING,
+                None => Edge::NOTHING,
             },
             BranchKind::Repetition(r) => found_at_end(&r.token),
         },
@@ -145,18 +145,18 @@ fn found_at_end<'t>(token: &Token<'t, ExpressionMetadata>) -> Found
 /// Returns what is found at the end of any of the tokens.
 #[cycle(found_at_end)]
 #[tactic(auto, using(wax_token::proofs::Sizes::element_size))]
-fn found_at_ends<'t>(tokens: &[Token<'t, ExpressionMetadata>]) -> Found
+fn found_at_ends<'t>(tokens: &[Token<'t, ExpressionMetadata>]) -> Edge
     ensures boundary { result.boundary ≡ some_ends_in is_boundary_leaf (trees tokens.now) }
     ensures zero_or_more { result.zero_or_more ≡ some_ends_in is_zero_or_more_leaf (trees tokens.now) }
 {
-    let mut found = Found::NOTHING;
+    let mut found = Edge::NOTHING;
     for token in tokens {
         found = found.or(found_at_end(token));
     }
     found
 }
 
-fn side_of<'t>(token: &Token<'t, ExpressionMetadata>, found: Found) -> Side
+fn side_of<'t>(token: &Token<'t, ExpressionMetadata>, found: Edge) -> Side
     ensures { result ≡ record {
       span = annotation_of token.now;
       has_boundary = found.boundary;

@@ -7,23 +7,23 @@ use Rattle.wax_directory.specs.Names.{is_plain}
 use Rattle.wax_directory.specs.Shown.{join}
 use Rattle.wax_walk.specs.declared.error.FaultKind.{FaultKind}
 use Rattle.wax_walk.specs.declared.error.FaultKind.TheVariants as K
-use Rattle.wax_tree.specs.declared.steps.Found.{Found}
-use Rattle.wax_tree.specs.declared.steps.Found.TheVariants.{Entry, Fault}
-use Rattle.wax_tree.specs.Plain.{Spot}
+use Rattle.wax_tree.specs.declared.steps.FoundItem.{FoundItem}
+use Rattle.wax_tree.specs.declared.steps.FoundItem.TheVariants.{Entry, Fault}
+use Rattle.wax_tree.specs.Plain.{Location}
 
 -- the entry of this name and kind in the folder at this place
-abbrev pub IsEntry : Spot → List ℕ → FileType → Found → Type 0
+abbrev pub IsEntry : Location → List ℕ → FileType → FoundItem → Type 0
 IsEntry at name kind (Entry path candidate k) = (string_bytes path ≡ join at.path name) ×
     (string_bytes candidate ≡ join at.candidate name) × (k ≡ kind)
 IsEntry at name kind (Fault k path) = ⊥
 
 -- this fault of the folder at this place
-abbrev pub IsFault : Spot → FaultKind → Found → Type 0
+abbrev pub IsFault : Location → FaultKind → FoundItem → Type 0
 IsFault at kind (Entry path candidate k) = ⊥
 IsFault at kind (Fault k path) = (k ≡ kind) × (string_bytes path ≡ at.path)
 
 -- what an item of the folder at this place stands for
-abbrev pub IsFound : Spot → ListItem → Found → Type 0
+abbrev pub IsFound : Location → ListItem → FoundItem → Type 0
 IsFound at (Name name kind) found =
     ((is_plain (string_bytes name) ≡ true) × IsEntry at (string_bytes name) kind found)
     ⊎ ((is_plain (string_bytes name) ≡ false) × IsFault at K.BadName found)

@@ -1,11 +1,11 @@
 use Rattle.std.proofs.Common.{rules, refl, arith}
-use Rattle.wax_command_line.specs.Commands.{without, ignoring, at_least, at_most}
+use Rattle.wax_command_line.specs.Commands.{excluding, ignoring, at_least, at_most}
 use Rattle.std.proofs.lemmas.List.{append-nil}
 use Rattle.wax_command_line.proofs.walk_words.with_option.Goals as goal
 
 pub returns-then-eq-clause-some : goal.returns-then-eq-clause-some
 returns-then-eq-clause-some c =
-    (without c.args.word.now, (search rules, refl), record { least = search (rules, append-nil); greatest = search (rules, append-nil); lists = omega arith })
+    (excluding c.args.word.now, (search rules, refl), record { least = search (rules, append-nil); greatest = search (rules, append-nil); lists = omega arith })
 
 pub returns-then-eq-2-clause-some : goal.returns-then-eq-2-clause-some
 returns-then-eq-2-clause-some c =

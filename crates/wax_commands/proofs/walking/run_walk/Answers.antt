@@ -2,13 +2,13 @@ use Rattle.std.proofs.Common.{◌≡◌, subst}
 use Rattle.std.specs.Fn.{FnReturnsAt}
 use Rattle.wax_tree.specs.Depths.{behavior_at}
 use Rattle.wax_command_line.specs.Wanted.{WroteWanted}
-use Rattle.wax_commands.proofs.Going.{ends_done, ends_faulty, ends_stopped, ground}
+use Rattle.wax_commands.proofs.Going.{ends_done, ends_faulty, ends_stopped, environment}
 use Rattle.wax_commands.proofs.walking.run_walk.Goals as goal
 
 pub returns-in-Ok-true-clause-ends : goal.returns-in-Ok-true-clause-ends
 returns-in-Ok-true-clause-ends g c asked read =
     let law = g.D.Directory.law in
-    let over = ground law c.args.directory (FnReturnsAt g.B.Fn c.args.read.now) in
+    let over = environment law c.args.directory (FnReturnsAt g.B.Fn c.args.read.now) in
     let held = g.W.Write.contents c.args.output.now.inner in
     let held' = g.W.Write.contents c.write_wanted.new.output.inner in
     let walk = c.walk_with_behavior-entries.ensures.begins in
@@ -19,7 +19,7 @@ returns-in-Ok-true-clause-ends g c asked read =
 pub returns-in-Ok-false-clause-ends : goal.returns-in-Ok-false-clause-ends
 returns-in-Ok-false-clause-ends g c asked read =
     let law = g.D.Directory.law in
-    let over = ground law c.args.directory (FnReturnsAt g.B.Fn c.args.read.now) in
+    let over = environment law c.args.directory (FnReturnsAt g.B.Fn c.args.read.now) in
     let held = g.W.Write.contents c.args.output.now.inner in
     let held' = g.W.Write.contents c.write_wanted.new.output.inner in
     let walk = c.walk_with_behavior-entries.ensures.begins in
@@ -30,7 +30,7 @@ returns-in-Ok-false-clause-ends g c asked read =
 pub returns-clause-ends : goal.returns-clause-ends
 returns-clause-ends g c asked read =
     let law = g.D.Directory.law in
-    let over = ground law c.args.directory (FnReturnsAt g.B.Fn c.args.read.now) in
+    let over = environment law c.args.directory (FnReturnsAt g.B.Fn c.args.read.now) in
     let held = g.W.Write.contents c.args.output.now.inner in
     let held' = g.W.Write.contents c.write_wanted.new.output.inner in
     let walk = c.walk_with_behavior-entries.ensures.begins in

@@ -10,11 +10,11 @@ pub returns : goal.returns
 returns c =
     let lines = c.args.lines.now in
     let end = c.args.start + c.min.result in
-    let block : Block = record { start = c.args.start; end = end; takes_back = c.some_takes_back.result; matcher = c.new.result } in
+    let block : Block = record { start = c.args.start; end = end; reincludes = c.some_reincludes.result; matcher = c.new.result } in
     let is : IsBlockOf lines block = record {
       forward = omega arith;
       within = omega (arith, c.min.ensures, c.requires.start);
-      takes_back = c.some_takes_back.ensures;
+      reincludes = c.some_reincludes.ensures;
       accepts = subst (λ code. AcceptsLines code (lines_between c.args.start end lines)) (sym c.new.ensures) (rw c.in-Some.is at c.in_ok-program.ensures);
     } in
     map_ok (λ r h. subst (All (IsBlockOf lines)) (sym h) (All-push (IsBlockOf lines) c.args.blocks.now.items block c.requires.blocks is)) c.push.result c.push.ensures

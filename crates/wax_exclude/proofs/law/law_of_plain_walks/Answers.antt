@@ -1,4 +1,4 @@
-use Rattle.wax_exclude.proofs.PlainTrips.{plain_comes, plain_goes, wants_unfiltered}
+use Rattle.wax_exclude.proofs.TreeRequests.{plain_comes, plain_goes, wants_unfiltered}
 use Rattle.wax_exclude.proofs.law.law_of_plain_walks.Goals as goal
 
 pub returns-clause-comes : goal.returns-clause-comes

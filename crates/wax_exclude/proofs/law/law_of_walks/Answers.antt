@@ -5,10 +5,10 @@ use Rattle.wax_exclude.proofs.law.law_of_walks.Goals as goal
 
 pub returns : goal.returns
 returns c = record {
-  gives = λ w asked walked way s can named fits. gives_wanted w asked walked way can s named fits;
-  lists = λ w asked walked way s can named. lists_few w asked walked way can s named.plain;
-  nothing = λ w asked way s plain start h. elim h [
-    | inl f ↦ none_in_range w asked way s plain start f.0 f.1 f.2
-    | inr n ↦ none_meant w asked way s plain start n
+  gives = λ w asked walked origin s can named fits. gives_wanted w asked walked origin can s named fits;
+  lists = λ w asked walked origin s can named. lists_few w asked walked origin can s named.plain;
+  nothing = λ w asked origin s plain start h. elim h [
+    | inl f ↦ none_in_range w asked origin s plain start f.0 f.1 f.2
+    | inr n ↦ none_meant w asked origin s plain start n
   ];
 }

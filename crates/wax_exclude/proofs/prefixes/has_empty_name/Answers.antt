@@ -2,7 +2,7 @@ use Rattle.std.proofs.Common.{◌≡◌, ◌∙◌, ◌∷◌, refl, subst, sym,
 use Rattle.std.proofs.lemmas.Bool.{false≢true}
 use Rattle.wax_directory.specs.Names.{is_rooted}
 use Rattle.wax_exclude.specs.Prefix.{HasEmptyName}
-use Rattle.wax_exclude.proofs.Ways.{empty_later, pair_here, pair_past}
+use Rattle.wax_exclude.proofs.SplitPrefixes.{empty_later, pair_here, pair_past}
 use Rattle.wax_exclude.proofs.prefixes.has_empty_name.Goals as goal
 use Rattle.wax_exclude.proofs.prefixes.has_empty_name.Goals.{else-first-eq47-via-then-first-eq47+else-begins_with_slash, else-first-eq47-via-else-first-eq47}
 

@@ -1,7 +1,7 @@
 use Rattle.std.proofs.Common.{◌∙◌, ◌++◌, ap, append-nil, map, string_bytes, sym}
 use Rattle.std.proofs.Math.ListN.{drop_of_length-le}
 use Rattle.wax_tree.specs.Prefix.{from_last}
-use Rattle.wax_exclude.proofs.Ways.{reversed_last}
+use Rattle.wax_exclude.proofs.SplitPrefixes.{reversed_last}
 use Rattle.wax_exclude.proofs.prefixes.names_from_last.Goals as goal
 
 pub returns : goal.returns

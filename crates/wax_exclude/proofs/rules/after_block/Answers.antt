@@ -14,7 +14,7 @@ returns-then-branch-clause-left g c =
     let refuses = c.in_ok-is_passed.ensures.refuses in
     rw same
     (said_past lines c.args.block.now before (mark_of c.passed.result) f (chars c.root_relative_paths.result.1.now) c.requires.block
-    (ap chars c.root_relative_paths.ensures.candidate) (refuses c.if-branch.true) (c.passed.ensures ∙ ap (λ b. mark_passed b.takes_back before) same)
+    (ap chars c.root_relative_paths.ensures.candidate) (refuses c.if-branch.true) (c.passed.ensures ∙ ap (λ b. mark_passed b.reincludes before) same)
     ∙ said_on lines said.at c.args.block.now.start (mark_of said.residue) before f (omega (arith, c.if-block-said.false)) c.in_ok-residue.ensures)
 
 pub returns-clause-left : goal.returns-clause-left

@@ -1,7 +1,7 @@
 use Rattle.std.proofs.Common.{subst, sym}
 use Rattle.wax_walk.proofs.Collecting.{map_ok}
 use Rattle.wax_exclude.proofs.Shown.{well_named}
-use Rattle.wax_exclude.specs.Trips.{KeepsWanted}
+use Rattle.wax_exclude.specs.GlobRequests.{KeepsWanted}
 use Rattle.wax_exclude.proofs.Wanting.{all_gave, keeps_wanted}
 use Rattle.wax_exclude.proofs.wanted.collect.Goals as goal
 
@@ -10,10 +10,10 @@ returns-clause-wanted g c =
     let law = g.I.Directory.Directory.law in
     let laws = g.met.I.Directory.Directory in
     let wanted = c.law_of_walks.ensures in
-    map_ok (λ r h d trip s listed comes can shows told.
+    map_ok (λ r h d request s listed comes can shows told.
     let tells = law.tells r.1 in
-    let named = well_named law d trip.way.path s (λ p l. laws.inner d p l) (λ p t. laws.distinct d p t) shows in
-    let all = all_gave law d trip _ tells s listed h.0 comes shows told h.1.all in
-    subst (KeepsWanted tells trip s listed) (sym h.3)
-    (keeps_wanted wanted.gives wanted.lists wanted.nothing tells trip s listed h.0 can named all))
+    let named = well_named law d request.origin.path s (λ p l. laws.inner d p l) (λ p t. laws.distinct d p t) shows in
+    let all = all_gave law d request _ tells s listed h.0 comes shows told h.1.all in
+    subst (KeepsWanted tells request s listed) (sym h.3)
+    (keeps_wanted wanted.gives wanted.lists wanted.nothing tells request s listed h.0 can named all))
     c.collect.result c.collect.ensures.took

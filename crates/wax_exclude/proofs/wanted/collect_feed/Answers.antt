@@ -5,6 +5,6 @@ use Rattle.wax_exclude.proofs.wanted.collect_feed.Goals as goal
 pub returns-clause-wanted : goal.returns-clause-wanted
 returns-clause-wanted g c =
     let law = g.I.Directory.Directory.law in
-    map_ok (λ r h d trip s listed comes shows told.
-    all_gave law d trip _ (law.tells r.1) s listed _ comes shows told h.all)
+    map_ok (λ r h d request s listed comes shows told.
+    all_gave law d request _ (law.tells r.1) s listed _ comes shows told h.all)
     c.collect_feed.result c.collect_feed.ensures.took

@@ -1,7 +1,7 @@
 use Rattle.wax_lengths.proofs.lengths.lengths_of.Goals as goal
 
 pub returns-in-One-clause-lengths : goal.returns-in-One-clause-lengths
-returns-in-One-clause-lengths c = rw c.in-One.is c.of_one.ensures.lengths
+returns-in-One-clause-lengths c = rw c.in-One.is c.lengths_of_char.ensures.lengths
 
 pub returns-in-Coded-clause-lengths : goal.returns-in-Coded-clause-lengths
-returns-in-Coded-clause-lengths c = rw c.in-Coded.is c.of_program.ensures.lengths
+returns-in-Coded-clause-lengths c = rw c.in-Coded.is c.lengths_of_program.ensures.lengths

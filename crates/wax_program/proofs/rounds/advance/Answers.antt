@@ -60,4 +60,4 @@ returns-clause-known g c =
     let round : Round c.args.program.now.0 c.args.c (g.R.Sets.position c.args.sets.now).pending q = rw same c.loop-at.invariant.round in
     let watched : (x : ℕ) → HoldsPlace q.read x → ActsAlike c.args.program.now.0 c.args.c c.loop-at.watch x = rw same c.loop-at.invariant.watched in
     round_known c.args.program.now.0 c.args.c (g.R.Sets.position c.args.sets.now).pending q (ap (λ p. p.size) same ∙ c.loop-at.invariant.size) done round
-    c.loop-at.watch watched c.word-here.result c.word-here.ensures c.settle.result c.settle.ensures
+    c.loop-at.watch watched c.word-here.result c.word-here.ensures c.steady_set.result c.steady_set.ensures

@@ -1,7 +1,7 @@
 use Rattle.std.proofs.Common.{Some, IsTrue, ◌∙◌, ap, rules}
 use Rattle.wax_program.specs.Machine.{PassesTest}
 use Rattle.wax_program.proofs.Advancing.{followed_any, followed_back, followed_fork, followed_jump, followed_last, followed_more, followed_pass, followed_slash}
-use Rattle.wax_program.proofs.Staying.{noted_back, noted_components, noted_fork, noted_jump, noted_lost, noted_miss, noted_repeat}
+use Rattle.wax_program.proofs.Staying.{noted_back, noted_components, noted_fork, noted_jump, noted_unknown, noted_miss, noted_repeat}
 use Rattle.wax_program.proofs.rounds.follow.Goals as goal
 
 pub returns-then-passes-clause-followed : goal.returns-then-passes-clause-followed
@@ -48,7 +48,7 @@ returns-in-Back-clause-followed g c =
     (c.fetch.ensures.instruction ∙ ap (λ i. Some i) c.in-Back.is) (rw c.saturating_sub.ensures at c.insert-in-Back.ensures)
 
 pub returns-then-passes-clause-noted : goal.returns-then-passes-clause-noted
-returns-then-passes-clause-noted g c = noted_lost c.args.program.now.0 c.args.c c.args.at c.args.watch.now
+returns-then-passes-clause-noted g c = noted_unknown c.args.program.now.0 c.args.c c.args.at c.args.watch.now
 
 pub returns-else-passes-clause-noted : goal.returns-else-passes-clause-noted
 returns-else-passes-clause-noted g c =

@@ -1,4 +1,4 @@
-use Rattle.wax.specs.Walks.{not_ignored, trip_less}
+use Rattle.wax.specs.Walks.{not_ignored, request_excluding}
 use Rattle.std.proofs.Common.{◌∷◌, []}
 use Rattle.wax_uses.proofs.walks.collect_unignored.Goals as goal
 
@@ -7,7 +7,7 @@ returns-in-Ok-collect g c =
     let read = c.in-Ok.ensures in (
       read.0,
       read.1,
-      λ d trip s opened comes may shows told.
-          c.in-Ok-collect.ensures.wanted d (trip_less trip (not_ignored read.0 ∷ [])) s opened
-          (c.ignore.ensures.comes read.0 read.2 d trip comes) may shows told,
+      λ d request s opened comes may shows told.
+          c.in-Ok-collect.ensures.wanted d (request_excluding request (not_ignored read.0 ∷ [])) s opened
+          (c.ignore.ensures.comes read.0 read.2 d request comes) may shows told,
     )

@@ -4,9 +4,9 @@ use Rattle.wax_prefilter.proofs.Lengths.{chars_short}
 use Rattle.wax.proofs.glob.GlobProgram.is_match_counted.Goals as goal
 
 pub returns-clause-below : goal.returns-clause-below
-returns-clause-below c is_meant =
+returns-clause-below c is_matched =
     let text = c.as_str-text.result.now in
-    omega (arith, c.in_ok-answer.ensures.below is_meant, chars_short text c.as_str-text.utf8, c.as_str-text.type_inv.0, ap length c.as_str-text.ensures, c.ticks.ensures, c.new-meter.ensures)
+    omega (arith, c.in_ok-answer.ensures.below is_matched, chars_short text c.as_str-text.utf8, c.as_str-text.type_inv.0, ap length c.as_str-text.ensures, c.ticks.ensures, c.new-meter.ensures)
 
 pub returns-then-not-may_match-clause-decides : goal.returns-then-not-may_match-clause-decides
 returns-then-not-may_match-clause-decides c = (

@@ -14,9 +14,9 @@ returns-in-Ok-Some-clause-begins g c =
     let asked = behavior_range c.args.behavior in
     let w = c.within-range.ensures in
     let same : c.within-range.result ≡ within asked w.0 = w.3 ∙ ap (λ r. within r w.0) c.range.ensures in
-    let way = c.in-Ok-Some.way in
+    let prefix_names = c.in-Ok-Some.prefix_names in
     begins_along glob g.D.Directory.law c.args.directory start asked w.0 w.1 (λ b filters plain. can_walk glob.tree c.keeps_rules.ensures w.0 w.2 start asked b filters plain) _
-    _ c.within-range.result same way.is_rooted (from_last way.names.items) c.in-Ok-Some.leading.items
+    _ c.within-range.result same prefix_names.is_rooted (from_last prefix_names.names.items) c.in-Ok-Some.leading.items
     (λ taken prefix p. subst (λ o. MatchOption o (HasEmptyName prefix) (λ r. IsPlan glob.tree prefix r.0.is_rooted (from_last r.0.names.items) r.1.items)) c.in-Ok-Some.field-0-is (c.in-Ok-Some.ensures taken prefix p))
     c.walk_along-walk.ensures.begins c.walk_of.ensures.view
 

@@ -6,11 +6,11 @@ use Rattle.wax_walk.specs.declared.error.FaultKind.TheVariants.{NotFound, Listin
 use Rattle.wax_walk.specs.declared.error.WalkError.TheVariants.{Fault}
 use Rattle.wax_walk.specs.Given.{fault}
 use Rattle.wax_tree.specs.Prefix.{from_last}
-use Rattle.wax_tree.specs.Walking.{scope_of, place_spot, cursors_of, names_left}
+use Rattle.wax_tree.specs.Walking.{scope_of, start_point_location, cursors_of, names_left}
 use Rattle.wax_tree.proofs.Showing.{has_kind, begins_missing, begins_failing}
 use Rattle.wax_tree.proofs.Resting.{rest_moved, comes_rest}
-use Rattle.wax_tree.proofs.Settling.{counted_same, answers_settled, failed_settles, gives_settles}
-use Rattle.wax_tree.proofs.Settling.{stopped_settles, stops_with, step_from}
+use Rattle.wax_tree.proofs.UsingAnswers.{counted_same, answer_used, failed_uses_answer, gives_uses_answer}
+use Rattle.wax_tree.proofs.UsingAnswers.{stopped_uses_answer, stops_with, step_from}
 use Rattle.wax_tree.proofs.Stepping.{gives_fault}
 use Rattle.wax_tree.proofs.steps.Steps.begin.Goals as goal
 
@@ -30,7 +30,7 @@ pub returns-in-Ok-None-clause-answers : goal.returns-in-Ok-None-clause-answers
 returns-in-Ok-None-clause-answers g c =
     let w = c.args.self.now in
     let o = rw c.in-Ok-None.field-0-is at c.in-Ok-None.ensures in
-    answers_settled g.D.Directory.law
+    answer_used g.D.Directory.law
     (record {
       counts = kind_counts (Ok None);
       taken = 0;
@@ -38,7 +38,7 @@ returns-in-Ok-None-clause-answers g c =
           names_left w + length c.args.place.names.items;
     }) w c.kind.new.self c.stop.result c.stop.new.self
     o.counted refl
-    (stopped_settles _ (record w { directory = c.kind.new.self }) c.stop.new.self c.stop.result
+    (stopped_uses_answer _ (record w { directory = c.kind.new.self }) c.stop.new.self c.stop.result
     (fault NotFound (string_bytes c.args.place.path) c.args.place.depth) c.stop.ensures.gives
     c.stop.ensures.ended (counted_same _) (omega arith) (λ i. absurd i) (omega arith))
 
@@ -48,7 +48,7 @@ returns-in-Ok-None-clause-continues g c s h p d none rest items r e =
     let w = c.args.self.now in
     let v = record w { directory = c.kind.new.self } in
     let o = rw (c.as_str.ensures.value, c.in-Ok-None.field-0-is) at c.in-Ok-None.ensures in
-    let is = begins_missing (scope_of w) (place_spot c.args.place) s (from_last c.args.place.names.items)
+    let is = begins_missing (scope_of w) (start_point_location c.args.place) s (from_last c.args.place.names.items)
     rest.forest (o.kind s h) in
     let moved = rest_moved law w c.kind.new.self rest.listed rest r o.shown
     (o.held (cursors_of w.levels.items) rest.has r.held) (o.told rest.listed r.told) r.opened in
@@ -61,14 +61,14 @@ pub returns-in-Err-Failed-clause-answers : goal.returns-in-Err-Failed-clause-ans
 returns-in-Err-Failed-clause-answers g c =
     let w = c.args.self.now in
     let o = rw c.in-Err-Failed.field-0-is at c.in-Err-Failed.ensures in
-    answers_settled g.D.Directory.law
+    answer_used g.D.Directory.law
     (record {
       counts = kind_counts (Err F.Failed);
       taken = 0;
       names =
           names_left w + length c.args.place.names.items;
     }) w c.kind.new.self _ _ o.counted refl
-    (gives_settles _ (record w { directory = c.kind.new.self })
+    (gives_uses_answer _ (record w { directory = c.kind.new.self })
     (Err (Fault Listing c.args.place.path c.args.place.depth)) (counted_same _) (omega arith) (λ i. i)
     (λ i. i) (omega arith))
 
@@ -78,7 +78,7 @@ returns-in-Err-Failed-clause-continues g c s h p d none rest items r e =
     let w = c.args.self.now in
     let v = record w { directory = c.kind.new.self } in
     let o = rw (c.as_str.ensures.value, c.in-Err-Failed.field-0-is) at c.in-Err-Failed.ensures in
-    let is = begins_failing (scope_of w) (place_spot c.args.place) s (from_last c.args.place.names.items)
+    let is = begins_failing (scope_of w) (start_point_location c.args.place) s (from_last c.args.place.names.items)
     rest.forest (o.kind s h) in
     let moved = rest_moved law w c.kind.new.self rest.listed rest r o.shown
     (o.held (cursors_of w.levels.items) rest.has r.held) (o.told rest.listed r.told) r.opened in
@@ -92,11 +92,11 @@ returns-in-Err-Memory-clause-answers g c =
     let w = c.args.self.now in
     let o = rw c.in-Err-Memory.field-0-is at c.in-Err-Memory.ensures in
     rw (c.fail.ensures.memory, c.fail.ensures.ended)
-    (answers_settled g.D.Directory.law
+    (answer_used g.D.Directory.law
     (record {
       counts = kind_counts (Err F.Memory);
       taken = 0;
       names =
           names_left w + length c.args.place.names.items;
     }) w c.kind.new.self _ _ o.counted refl
-    (failed_settles _ (record w { directory = c.kind.new.self }) (omega arith) (omega arith)))
+    (failed_uses_answer _ (record w { directory = c.kind.new.self }) (omega arith) (omega arith)))

@@ -7,9 +7,9 @@ use Rattle.wax_walk.specs.Forest.{pending, nothing}
 use Rattle.wax_walk.specs.Given.{fault}
 use Rattle.wax_tree.specs.Prefix.{from_last, walk_from}
 use Rattle.wax_tree.specs.Stepping.{StepIs}
-use Rattle.wax_tree.specs.Walking.{HasKind, scope_of, place_spot}
+use Rattle.wax_tree.specs.Walking.{HasKind, scope_of, start_point_location}
 use Rattle.wax_tree.proofs.Showing.{none_left, plain_is, from_last_end, follows_leaf}
-use Rattle.wax_tree.proofs.Settling.{leaf_counted, stopped_settles, stops_with}
+use Rattle.wax_tree.proofs.UsingAnswers.{leaf_counted, stopped_uses_answer, stops_with}
 use Rattle.wax_tree.proofs.Stepping.{follows}
 use Rattle.wax_tree.proofs.steps.Steps.follow.Goals as goal
 
@@ -19,17 +19,17 @@ returns-in_default-clause-continues g c s h k p d empty rest items r e =
     let none : c.args.place.names.items ≡ [] = none_left c.args.place.names.items
     (λ i. let bad : false ≡ true = c.in_default.ensures.variant.1
     (omega (arith, i, c.args.place.names.ok.0)) in (cc)) in
-    let is = ap (λ v. walk_from (scope_of w) (place_spot c.args.place) s (from_last v) rest.forest) none ∙
-    plain_is (scope_of w) (place_spot c.args.place) s c.args.kind rest.forest k in
+    let is = ap (λ v. walk_from (scope_of w) (start_point_location c.args.place) s (from_last v) rest.forest) none ∙
+    plain_is (scope_of w) (start_point_location c.args.place) s c.args.kind rest.forest k in
     subst (λ v. StepIs g.D.Directory.law w (pending nothing v rest.listed items) c.give.result
     c.give.new.self) (sym is) (c.give.ensures.continues s h k rest items r e)
 
-pub returns-then-ne-clause-settles : goal.returns-then-ne-clause-settles
-returns-then-ne-clause-settles g c =
+pub returns-then-ne-clause-uses_answer : goal.returns-then-ne-clause-uses_answer
+returns-then-ne-clause-uses_answer g c =
     let no_folder : c.args.kind ≡ Folder → ⊥ = search rules in
     let long : length c.args.place.names.items ≡ length c.pop.new.self.items + 1 =
     ap length c.in-Some.ensures.items ∙ length-append c.pop.new.self.items (c.in-Some.name ∷ []) in
-    stopped_settles _ c.args.self.now c.stop.new.self c.stop.result
+    stopped_uses_answer _ c.args.self.now c.stop.new.self c.stop.result
     (fault NotAFolder (string_bytes c.args.place.path) c.args.place.depth) c.stop.ensures.gives
     c.stop.ensures.ended (leaf_counted c.args.kind no_folder) (omega arith) (λ i. omega (arith, long))
     (omega arith)
@@ -41,8 +41,8 @@ returns-then-ne-clause-continues g c s h k p d empty rest items r e =
     let names : from_last c.args.place.names.items ≡ string_bytes c.in-Some.name ∷ from_last
     c.pop.new.self.items = ap from_last c.in-Some.ensures.items ∙ from_last_end c.pop.new.self.items
     c.in-Some.name in
-    let is = ap (λ v. walk_from (scope_of w) (place_spot c.args.place) s v rest.forest) names ∙ follows_leaf
-    (scope_of w) (place_spot c.args.place) s c.args.kind (string_bytes c.in-Some.name)
+    let is = ap (λ v. walk_from (scope_of w) (start_point_location c.args.place) s v rest.forest) names ∙ follows_leaf
+    (scope_of w) (start_point_location c.args.place) s c.args.kind (string_bytes c.in-Some.name)
     (from_last c.pop.new.self.items) rest.forest k no_folder in
     stops_with g.D.Directory.law w c.stop.new.self _ rest items
     (fault NotAFolder (string_bytes c.args.place.path) c.args.place.depth) c.stop.result

@@ -4,15 +4,15 @@ use Rattle.wax_walk.specs.declared.error.WalkError.TheVariants as W
 use Rattle.wax_walk.specs.Given.{fault}
 use Rattle.wax_tree.specs.Plain.{count_shown}
 use Rattle.wax_tree.specs.Walking.{names_left, scope_of}
-use Rattle.wax_tree.proofs.Finding.{found_entry, found_fault, entry_settles, found_settles}
+use Rattle.wax_tree.proofs.Finding.{found_entry, found_fault, entry_uses_answer, found_uses_answer}
 use Rattle.wax_tree.proofs.Resting.{comes_rest}
 use Rattle.wax_tree.proofs.Stepping.{gives_fault}
 use Rattle.wax_tree.proofs.steps.Steps.give_found.Goals as goal
 
-pub returns-in-Entry-clause-settles : goal.returns-in-Entry-clause-settles
-returns-in-Entry-clause-settles g c at x f =
-    entry_settles x (names_left c.args.self.now) c.args.self.now c.give.new.self c.give.result
-    c.give.ensures.settles
+pub returns-in-Entry-clause-uses_answer : goal.returns-in-Entry-clause-uses_answer
+returns-in-Entry-clause-uses_answer g c at x f =
+    entry_uses_answer x (names_left c.args.self.now) c.args.self.now c.give.new.self c.give.result
+    c.give.ensures.uses_answer
 
 pub returns-in-Entry-clause-continues : goal.returns-in-Entry-clause-continues
 returns-in-Entry-clause-continues g c at x l f d h i rest items r e =
@@ -23,9 +23,9 @@ returns-in-Entry-clause-continues g c at x l f d h i rest items r e =
     let few : count_shown t.0 + rest.count ≤ items = omega (arith, e, t.3) in
     rw t.4 (c.give.ensures.continues t.0 t.1 t.2 rest items r few)
 
-pub returns-in-Fault-clause-settles : goal.returns-in-Fault-clause-settles
-returns-in-Fault-clause-settles g c at x f =
-    found_settles at x c.in-Fault.kind c.in-Fault.path c.saturating_sub.result c.args.self.now
+pub returns-in-Fault-clause-uses_answer : goal.returns-in-Fault-clause-uses_answer
+returns-in-Fault-clause-uses_answer g c at x f =
+    found_uses_answer at x c.in-Fault.kind c.in-Fault.path c.saturating_sub.result c.args.self.now
     (rw c.in-Fault.is at f)
 
 pub returns-in-Fault-clause-continues : goal.returns-in-Fault-clause-continues

@@ -20,7 +20,7 @@ returns-in-Gives g c =
         names = omega (arith, st.names, i.names);
         misplaced = λ m. omega (arith, st.misplaced m, i.names);
       };
-      fewer = omega (arith, c.in-Gives.ensures.spends, i.fewer);
+      fewer = omega (arith, c.in-Gives.ensures.measure, i.fewer);
     }
 
 pub returns-in-Ends : goal.returns-in-Ends
@@ -47,7 +47,7 @@ loop-item-preserved g c =
     let i = c.loop-item.invariant in
     let st = c.in-GoesOn.ensures.is_step in
     record {
-      fewer = omega (arith, c.in-GoesOn.ensures.spends.0, i.fewer);
+      fewer = omega (arith, c.in-GoesOn.ensures.measure.0, i.fewer);
       stays = λ e. (st.stays (i.stays e)).1;
       names = omega (arith, st.names, i.names);
       accounts = accounts_then law _ _ _ _ i.accounts st.accounts;

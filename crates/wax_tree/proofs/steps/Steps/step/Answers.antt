@@ -1,5 +1,5 @@
 use Rattle.std.proofs.Common.{rules, ◌≡◌, ◌∙◌, false, true, [], ap, arith, sym, refl}
-use Rattle.wax_tree.proofs.Settling.{step_from}
+use Rattle.wax_tree.proofs.UsingAnswers.{step_from}
 use Rattle.wax_tree.proofs.Showing.{none_left}
 use Rattle.wax_tree.proofs.Stepping.{steps_begin, steps_enter, steps_list, steps_none, steps_ended}
 use Rattle.wax_tree.proofs.steps.Steps.step.Goals as goal

@@ -5,10 +5,10 @@ use Rattle.wax_directory.specs.Counting.{item_counts}
 use Rattle.wax_directory.specs.Shown.{rest_of}
 use Rattle.wax_tree.specs.inner.Heads.{own_count}
 use Rattle.wax_tree.specs.Plain.{count}
-use Rattle.wax_tree.specs.Walking.{scope_of, folder_spot, allowance, names_left}
-use Rattle.wax_tree.proofs.Finding.{taken_settles}
+use Rattle.wax_tree.specs.Walking.{scope_of, folder_location, allowance, names_left}
+use Rattle.wax_tree.proofs.Finding.{taken_uses_answer}
 use Rattle.wax_tree.proofs.Resting.{rest_pushed, rest_spent}
-use Rattle.wax_tree.proofs.Settling.{stops_over, step_from}
+use Rattle.wax_tree.proofs.UsingAnswers.{stops_over, step_from}
 use Rattle.wax_tree.proofs.Showing.{headed_is, count_rest}
 use Rattle.wax_tree.proofs.Stepping.{saves_after}
 use Rattle.wax_tree.proofs.steps.Steps.take_from.Goals as goal
@@ -22,16 +22,16 @@ returns-then-self-eq0-clause-lists g c l rest items h b i e =
     stops_over g.D.Directory.law w c.stop.new.self _ (string_bytes c.args.folder.path) _ c.stop.result
     c.stop.ensures.gives (omega (arith, none, allowed, one, e)) b.opened
 
-pub returns-clause-settles : goal.returns-clause-settles
-returns-clause-settles g c running =
+pub returns-clause-uses_answer : goal.returns-clause-uses_answer
+returns-clause-uses_answer g c running =
     let w = c.args.self.now in
     let none : w.budget ≡ 0 → ⊥ = c.if-self-eq0.false in
     let mid = record w { levels = c.push.new.self; budget = w.budget - 1 } in
     let allowed : allowance w ≡ w.budget + 1 = ap (λ v. cond v 0 (w.budget + 1)) running in
     let allowed_then : allowance mid ≡ w.budget - 1 + 1 = ap (λ v. cond v 0 (w.budget - 1 + 1)) running in
-    taken_settles (item_counts c.args.item) (names_left w) w mid c.give_found.new.self c.give_found.result
+    taken_uses_answer (item_counts c.args.item) (names_left w) w mid c.give_found.new.self c.give_found.result
     refl (omega (arith, none, allowed, allowed_then))
-    (c.give_found.ensures.settles (folder_spot c.args.folder) c.args.item c.in-Ok.ensures)
+    (c.give_found.ensures.uses_answer (folder_location c.args.folder) c.args.item c.in-Ok.ensures)
 
 pub returns-clause-lists : goal.returns-clause-lists
 returns-clause-lists g c l rest items h b i e =
@@ -48,16 +48,16 @@ returns-clause-lists g c l rest items h b i e =
     (rest_pushed law w pushed (record { folder = c.args.folder; cursor = c.args.cursor }) (rest_of l) rest
     b.rests b.held b.shown b.opened c.in-Ok-push.ensures.items) in
     let few : own_count l + (rest.count + count (rest_of l)) ≤ items - 1 = omega (arith, one, e) in
-    let st = c.give_found.ensures.continues (folder_spot c.args.folder) c.args.item l c.in-Ok.ensures refl h i
+    let st = c.give_found.ensures.continues (folder_location c.args.folder) c.args.item l c.in-Ok.ensures refl h i
     _ (items - 1) at_rest few in
     step_from law w mid c.give_found.new.self _ _ c.give_found.result
-    (headed_is (scope_of w) (folder_spot c.args.folder) (listed_of c.args.item) l rest.forest h) refl
+    (headed_is (scope_of w) (folder_location c.args.folder) (listed_of c.args.item) l rest.forest h) refl
     (omega (arith, none, allowed, allowed_then, one, e)) st
 
-pub returns-clause-saves : goal.returns-clause-saves
-returns-clause-saves g c e n =
+pub returns-clause-measure : goal.returns-clause-measure
+returns-clause-measure g c e n =
     let none : c.args.self.now.budget ≡ 0 → ⊥ = c.if-self-eq0.false in
     let mid = record c.args.self.now { levels = c.push.new.self; budget = c.args.self.now.budget - 1 } in
     let long = ap length c.in-Ok-push.ensures.items ∙ length-append c.args.self.now.levels.items _ in
     saves_after c.args.self.now mid c.give_found.new.self c.give_found.result (omega arith)
-    (omega (arith, long)) (c.give_found.ensures.adds e)
+    (omega (arith, long)) (c.give_found.ensures.measure e)

@@ -1,0 +1,6 @@
+use Rattle.wax.proofs.Excluding.{comes_excluding_pattern}
+use Rattle.wax.proofs.exclusions.excluding_pattern.Goals as goal
+
+pub returns-in-Ok-clause-comes : goal.returns-in-Ok-clause-comes
+returns-in-Ok-clause-comes g c =
+    comes_excluding_pattern g.I.Directory.Directory.law _ _ _ _ c.in-Ok.ensures c.excluding.ensures.view

@@ -1,0 +1,57 @@
+use Rattle.std.proofs.Common.{[], refl, subst, arith}
+use Rattle.wax_exclude.specs.GlobRequests.{goes}
+use Rattle.wax_tree.specs.Begins.{behavior_range}
+use Rattle.wax_walk.proofs.Collecting.{map_ok}
+use Rattle.wax_walk.proofs.Knowing.{all_before}
+use Rattle.wax_walk.specs.Collected.{GaveAll}
+use Rattle.wax_walk.specs.Forest.{nothing, pending}
+use Rattle.wax.specs.GlobWalks.{request_of}
+use Rattle.wax.proofs.Kept.{gave_within, keeps_nothing}
+use Rattle.wax.proofs.glob.Glob.collect_excluding.Goals as goal
+
+pub returns-clause-took : goal.returns-clause-took
+returns-clause-took g c =
+    let h = c.walk_in-walk.ensures.begins in
+    let ends = c.walk_in-walk.ensures.gives in
+    map_ok (λ r k. (
+      k.0,
+      gave_within c.args.self.now.tree g.D.Directory.law c.args.directory c.args.behavior.budget _ _ r.1 k.0
+          h.names h.directory h.listings
+          (omega (arith, k.2, ends.gives)) k.1,
+      k.3,
+    ))
+    c.collect_excluding.result c.collect_excluding.ensures.took
+
+pub returns-clause-unmeant : goal.returns-clause-unmeant
+returns-clause-unmeant g c =
+    let law = g.D.Directory.law in
+    let h = c.walk_in-walk.ensures.begins in
+    map_ok (λ r k taken prefix path s listed is empty shows told.
+    let all = k.1.all (pending nothing nothing listed 0)
+    (refl, (pending nothing nothing listed 0, h.unmeant taken prefix is empty path s listed shows told, refl)) in
+    keeps_nothing (law.tells r.1) c.args.behavior.budget listed k.0 _
+    (subst (λ n. GaveAll (law.tells r.1) n (pending nothing nothing listed 0) k.0) h.listings all) k.3)
+    c.collect_excluding.result c.collect_excluding.ensures.took
+
+pub returns-clause-matched : goal.returns-clause-matched
+returns-clause-matched g c =
+    map_ok (λ r h. all_before _ _ r.0.items c.walk_in-walk.ensures.known h)
+    c.collect_excluding.result c.collect_excluding.ensures.known
+
+pub returns-clause-wanted : goal.returns-clause-wanted
+returns-clause-wanted g c =
+    let law = g.D.Directory.law in
+    let d = c.args.directory in
+    let start = c.args.start.now in
+    let asked = behavior_range c.args.behavior in
+    let h = c.walk_in-walk.ensures.begins in
+    map_ok
+    (λ r k. (
+      h.depth,
+      h.depth_is,
+      λ b filters s listed are plain shows told.
+          k d (request_of start asked h.depth b []) filters s listed
+          (h.comes b plain) are
+          (goes (h.can b filters plain)) shows told,
+    ))
+    c.collect_excluding.result c.collect_excluding.ensures.wanted

@@ -1,0 +1,101 @@
+-- What a walk of a glob, less what filters leave out, gives to its end.
+use Rattle.std.specs.Prelude.{◌≡◌, ℕ, ◌+◌, ◌<◌, Bool, if◌then◌else◌, nat_lt, ⊤, List, [], ◌∷◌, ◌++◌}
+use Rattle.std.specs.Prelude.{All, filter, length}
+use Rattle.wax_directory.specs.Law.{Law}
+use Rattle.wax_directory.specs.Shown.{Shown}
+use Rattle.wax_token.specs.Reads.{Span}
+use Rattle.wax_tree.specs.Begins.{Origin}
+use Rattle.wax_tree.specs.declared.steps.DepthRange.{DepthRange}
+use Rattle.wax_tree.specs.Plain.{count_shown}
+use Rattle.wax_walk.specs.Collected.{IsCutShort}
+use Rattle.wax_walk.specs.declared.error.FaultKind.TheVariants.{Budget}
+use Rattle.wax_walk.specs.Forest.{Forest, nothing, Pending, pending, preorder, listings}
+use Rattle.wax_walk.specs.Given.{Facts, Mark, Given, fault, no_memory, is_kept}
+use Rattle.wax_walk.specs.View.{WalkView}
+use Rattle.wax_exclude.specs.Candidates.{base}
+use Rattle.wax_exclude.specs.Marks.{of_candidate}
+use Rattle.wax_exclude.specs.Premises.{CanWalk, IsUnmeant}
+use Rattle.wax_exclude.specs.Walked.{glob_walk, wanted_entries, MayList}
+use Rattle.wax_exclude.specs.Wanted.{Filter, Wanted, filter_mark, is_kept_entry}
+
+-- ---- rules of filters
+
+-- the rule says what the filter says
+abbrev pub IsRuleOf : {A : Type 0} → Filter A → (Facts → Mark) → Type 0
+IsRuleOf x rule = (f : Facts) → rule f ≡ of_candidate (filter_mark x) f
+
+abbrev pub AreRulesOf : {A : Type 0} → List (Filter A) → List (Facts → Mark) → Type 0
+AreRulesOf [] [] = ⊤
+AreRulesOf [] (rule ∷ rules) = ⊥
+AreRulesOf (x ∷ filters) [] = ⊥
+AreRulesOf (x ∷ filters) (rule ∷ rules) = IsRuleOf x rule × AreRulesOf filters rules
+
+-- what more is left out
+abbrev pub excluding : {A : Type 0} → Wanted A → List (Filter A) → Wanted A
+excluding w filters = record w { filters = w.filters ++ filters }
+
+-- ---- walks
+
+-- what is wanted, of which depths, the range that is walked for it, and the origin
+pub record GlobRequest : Type 0 where
+  pub wanted : Wanted Span
+  pub asked : DepthRange
+  pub walked : DepthRange
+  pub origin : Origin
+
+abbrev pub request_excluding : GlobRequest → List (Filter Span) → GlobRequest
+request_excluding request filters = record request { wanted = excluding request.wanted filters }
+
+-- the glob's walk may begin at this origin; or no candidate is meant, and the origin has more names than the
+-- greatest depth
+pub data CanBegin (request : GlobRequest) : Type 0 where
+  goes : CanWalk request.wanted request.asked request.walked request.origin → CanBegin request
+  unmeant : IsUnmeant request.wanted.rooted request.wanted.glob
+      → request.origin.candidate ≡ base request.wanted.rooted
+      → request.walked.max < length request.origin.names → CanBegin request
+
+-- the origin has more names than the greatest depth
+abbrev pub is_beyond : GlobRequest → Bool
+is_beyond request = nat_lt request.walked.max (length request.origin.names)
+
+-- what comes: nothing where the origin has more names than the greatest depth, else the glob's walk
+abbrev pub request_walk : GlobRequest → Shown → Forest Given
+request_walk request s = if is_beyond request then nothing else glob_walk request.wanted request.walked
+    request.origin s
+
+-- how many items are taken for it, at most
+abbrev pub request_items : GlobRequest → Shown → ℕ
+request_items request s = if is_beyond request then 0 else count_shown s
+
+-- what is to come at first
+abbrev pub request_pending : GlobRequest → Shown → List (List ℕ) → Pending Given
+request_pending request s listed = pending nothing (request_walk request s) listed (request_items request s)
+
+-- a walk over this directory, of which this is seen: what is shown at the path of the origin will come
+pub record ComesWanted {D C : Type 0} (law : Law D C) (d : D) (request : GlobRequest)
+    (view : WalkView D) : Type 0 where
+  pub comes : (s : Shown) (listed : List (List ℕ)) → law.shows d request.origin.path s → law.tells d listed
+      → view.to_come (request_pending request s listed)
+  pub listings : view.listings_left ≡ request.walked.budget + 1
+
+-- whatever is wanted of the inner walk: if it comes, then what the filter doesn't leave out of it comes of
+-- the outer walk
+abbrev pub ComesExcluding : {D C : Type 0} → Law D C → Filter Span → WalkView D → WalkView D → Type 0
+ComesExcluding {D} law x inner outer = (d : D) (request : GlobRequest) → ComesWanted law d request inner
+    → ComesWanted law d (request_excluding request (x ∷ [])) outer
+
+-- These items were kept: all that comes, of which the entries are those of the whole walk that are in the
+-- range asked for, that the glob means and that no filter leaves out, in order, and only folders were listed
+-- that may be; or a beginning of it, and then that memory was refused, or that the budget is reached.
+pub data KeepsWanted (tells : List (List ℕ) → Type 0) (request : GlobRequest) (s : Shown)
+    (listed : List (List ℕ)) (ys : List Given) : Type 0 where
+  gives : ys ≡ filter is_kept (preorder (request_walk request s))
+      → filter is_kept_entry ys ≡ wanted_entries request.wanted request.asked request.origin s
+      → tells (listed ++ listings (request_walk request s))
+      → All (MayList request.wanted request.walked request.origin) (listings (request_walk request s))
+      → KeepsWanted tells request s listed ys
+  lacks_memory : IsCutShort (filter is_kept (preorder (request_walk request s))) no_memory ys
+      → KeepsWanted tells request s listed ys
+  over_budget : (path : List ℕ) (depth : ℕ) → request.walked.budget < count_shown s
+      → IsCutShort (filter is_kept (preorder (request_walk request s))) (fault Budget path depth) ys
+      → KeepsWanted tells request s listed ys

@@ -1,0 +1,40 @@
+-- A plain walk, as the walk of `**`.
+use Rattle.std.specs.Prelude.{◌≡◌, ℕ, Bool, false, ◌&&◌, List, [], chars, filter}
+use Rattle.wax_directory.specs.Shown.{Shown}
+use Rattle.wax_token.specs.Reads.{Span}
+use Rattle.wax_token.specs.Syntax.{Tree, leaf, tree, concatenation, none, more}
+use Rattle.wax_tree.specs.declared.steps.DepthRange.{DepthRange}
+use Rattle.wax_tree.specs.Whole.{is_in, whole}
+use Rattle.wax_walk.specs.Given.{kept, alone, with_tree, Given, entry, fault, no_memory}
+use Rattle.wax_exclude.specs.GlobRequests.{GlobRequest, request_excluding}
+use Rattle.wax_exclude.specs.Walked.{wanted_entries}
+use Rattle.wax_exclude.specs.Wanted.{Filter, none_excludes}
+
+-- `**`, which means each text
+abbrev pub tree_alone : Tree Span
+tree_alone = concatenation (0, 2) (more (leaf (0, 2) (tree false)) none)
+
+-- the plain walk of these depths from a start, as the walk of `**`
+abbrev pub tree_request : DepthRange → List ℕ → GlobRequest
+tree_request range start = record {
+  wanted = record { rooted = false; glob = tree_alone; filters = [] };
+  asked = range;
+  walked = range;
+  origin = record { root = start; path = start; candidate = []; names = [] };
+}
+
+-- an entry that is kept and that no filter leaves out
+abbrev pub is_unfiltered : {A : Type 0} → List (Filter A) → Given → Bool
+is_unfiltered filters (entry kept f) = none_excludes filters (chars f.candidate)
+is_unfiltered filters (entry alone f) = false
+is_unfiltered filters (entry with_tree f) = false
+is_unfiltered filters (fault kind path depth) = false
+is_unfiltered filters no_memory = false
+
+-- what is wanted of it, less what filters leave out: the entries of the whole walk in range that none of them
+-- leaves out, in order
+abbrev pub WantsUnfiltered : Type 0
+WantsUnfiltered = (filters : List (Filter Span)) (range : DepthRange) (start : List ℕ) (s : Shown)
+    → wanted_entries (request_excluding (tree_request range start) filters).wanted range
+    (tree_request range start).origin s
+    ≡ filter (λ x. is_in range x && is_unfiltered filters x) (whole start s)
