@@ -5,6 +5,7 @@ use Rattle.std.specs.List.{AllZip}
 use Rattle.std.proofs.lemmas.Bool.{and_from, and_parts, and_right, false≢true, or_cases, or_left, or_right}
 use Rattle.std.proofs.lemmas.List.Elements.{filter-append}
 use Rattle.wax_alternatives.specs.Alternatives.{alternatives, MeansOneOf}
+use Rattle.wax_prefilter.specs.Facts.{PassesFacts, PrefilterView}
 use Rattle.wax_program.specs.Machine.{Accepts}
 use Rattle.wax_program.specs.declared.instruction.Instruction.{Instruction}
 use Rattle.wax_token.specs.Decided.{holds_truly, means_test, means_tested, some_decided}
@@ -111,7 +112,12 @@ whole_of t ts program one means s = (
   (λ m. (means s).1 ((members_mean t s).1 ((one false false s).1 m))),
 )
 
-module _ (ts : List (Tree Span)) (code : List Instruction) (covering : List Instructions) (covers_all : Bool) (x : IsExclusion ts code covering covers_all) where
+module _ (ts : List (Tree Span)) (code : List Instruction) (prefilter : PrefilterView) (covering : List Instructions)
+    (covers_all : Bool) (x : IsExclusion ts code prefilter covering covers_all) where
+  -- what is matched passes the prefilter
+  pub some_passes : (s : List ℕ) → IsTrue (some_test ts s) → PassesFacts prefilter s
+  some_passes s e = x.passes s ((x.whole s).1 ((holds_truly (some_decided (trees ts) false false s)).0 e))
+
   -- what the program decides
   pub decides_some : (b : Bool) (s : List ℕ) → (IsTrue b ↔ Accepts code 0 s) → b ≡ some_test ts s
   decides_some b s h =

@@ -2,6 +2,7 @@
 use Rattle.std.specs.Prelude.{◌≡◌, ◌↔◌, ◌⊎◌, ℕ, Bool, false, List, [], ◌∷◌, filter}
 use Rattle.std.specs.Coded.{Coded, coded×, coded_list, coded_ℕ}
 use Rattle.std.specs.List.{AllZip}
+use Rattle.wax_prefilter.specs.Facts.{PassesFacts, PrefilterView}
 use Rattle.wax_program.specs.Machine.{Accepts}
 use Rattle.wax_program.specs.declared.instruction.Instruction.{Instruction}
 use Rattle.wax_token.specs.Meaning.{Means, MeansEach, MeansSome}
@@ -41,9 +42,10 @@ abbrev pub CoverAll : List Instructions → List (Tree Span) → Type 0
 CoverAll programs ts = AllZip AcceptsTree programs (wild ts)
 
 -- These are the programs of the alternatives, and of those that end with a tree wildcard, and whether one
--- covers everything.
-pub record IsExclusion (ts : List (Tree Span)) (code : List Instruction) (covering : List Instructions)
-    (covers_all : Bool) : Type 0 where
+-- covers everything. What the first accepts passes the prefilter.
+pub record IsExclusion (ts : List (Tree Span)) (code : List Instruction) (prefilter : PrefilterView)
+    (covering : List Instructions) (covers_all : Bool) : Type 0 where
   pub whole : (s : List ℕ) → Accepts code 0 s ↔ MeansSome (trees ts) false false s
+  pub passes : (s : List ℕ) → Accepts code 0 s → PassesFacts prefilter s
   pub covers : CoverAll covering ts
   pub all : covers_all ≡ some_everything ts

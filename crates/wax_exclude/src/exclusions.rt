@@ -16,6 +16,7 @@ use wax_alternatives::into_alternatives;
 use wax_lazy::OwnedMatcher;
 use wax_match::encode;
 use wax_match::encode::{CompileError, CompiledProgram};
+use wax_prefilter::Prefilter;
 use wax_query::diagnostics::{NoMemory, Refusal};
 use wax_token::token::{ExpressionMetadata, LeafKind, Token, Wildcard};
 use wax_walk::{Entry, EntryResidue, Exclude};
@@ -31,6 +32,8 @@ pub struct Exclusion {
     alternatives: Vec<Token<'static, ExpressionMetadata>>,
     /// Accepts what at least one alternative matches.
     whole: OwnedMatcher,
+    /// Rejects most texts that no alternative matches.
+    prefilter: Prefilter,
     /// One program for each alternative that ends with `**`.
     covering: Vec<CompiledProgram>,
     /// True if an alternative is only an unrooted `**`.
@@ -43,6 +46,7 @@ impl Drop for Exclusion {
         let Exclusion {
             alternatives: _,
             whole: _,
+            prefilter: _,
             covering: _,
             covers_all: _,
         } = self;
@@ -61,7 +65,8 @@ impl Model for Exclusion {
 
     ghost view = { λ e. e.alternatives.items };
 
-    ghost invariant = { λ e. IsExclusion e.alternatives.items e.whole e.covering.items e.covers_all };
+    ghost invariant = { λ e. IsExclusion e.alternatives.items e.whole e.prefilter e.covering.items
+        e.covers_all };
 }
 
 impl Exclusion {
@@ -84,13 +89,16 @@ impl Exclusion {
         ensures fits { MatchBuild result (λ _. program_length pattern.entry ≤ 1048576)
             (λ _. 1048576 < program_length pattern.entry) }
     {
-        let program = encode::compile(alloc, pattern.concatenation(), false, false)?;
+        let tokens = pattern.concatenation();
+        let program = encode::compile(alloc, tokens, false, false)?;
+        let prefilter = Prefilter::new(alloc, tokens)?;
         let alternatives = into_alternatives(alloc, pattern)?;
         let covering = covering_programs(alloc, alternatives.as_slice())?;
         let covers_all = some_everything(alternatives.as_slice());
         Ok(Exclusion {
             alternatives,
             whole: OwnedMatcher::new(alloc, program, MOST_BYTES),
+            prefilter,
             covering,
             covers_all,
         })
@@ -107,6 +115,13 @@ impl Exclusion {
         self.alternatives.as_slice()
     }
 
+    /// Returns `false` only if no alternative matches the text. Doesn't allocate.
+    fn may_match(&self, text: &str) -> bool
+        ensures { IsTrue (some_test self.now (chars text.now)) → IsTrue result }
+    {
+        self.prefilter.may_match(text)
+    }
+
     /// Returns whether an alternative matches the text.
     ///
     /// # Errors
@@ -115,6 +130,9 @@ impl Exclusion {
     pub(crate) fn is_match(&self, alloc: Global, text: &str) -> Result<bool, NoMemory>
         ensures { IfOk result (λ answer. answer ≡ some_test self.now (chars text.now)) }
     {
+        if !self.may_match(text) {
+            return Ok(false);
+        }
         accepts(alloc, self.whole.program(), text)
     }
 
@@ -123,6 +141,9 @@ impl Exclusion {
         ensures decides { IfOk result (λ answer. answer ≡ some_test self.old (chars text.now)) }
         ensures same { self.new ≡ self.old }
     {
+        if !self.may_match(text) {
+            return Ok(false);
+        }
         self.whole.is_match(text)
     }
 

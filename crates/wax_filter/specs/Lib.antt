@@ -2,4 +2,3 @@ pub mod Leaving
 pub mod Separating
 pub mod Transposing
 pub mod Feeding
-pub mod inner

@@ -8,7 +8,7 @@ use Rattle.wax_filter.specs.declared.filter.separation.Separation.{Separation}
 use Rattle.wax_filter.specs.declared.filter.separation.Separation.TheVariants.{Filtrate, Residue}
 use Rattle.wax_filter.specs.declared.filter.tree_residue.TreeResidue.{TreeResidue}
 use Rattle.wax_filter.specs.declared.filter.tree_residue.TreeResidue.TheVariants.{Node, Tree}
-use Rattle.wax_filter.specs.Leaving.{tree_of}
+use Rattle.wax_filter.specs.Leaving.{residue_item, tree_of}
 
 -- ---- one item
 
@@ -58,6 +58,11 @@ abbrev pub MapsLeftOut : {S T F R Q : Type 0} → (R → Q → Type 0) → Separ
 MapsLeftOut {Q = Q} makes (Filtrate x) r = r ≡ Filtrate x
 MapsLeftOut {Q = Q} makes (Residue x) r = (y : Product ResidueKind Q) × makes x.inner y.inner
     × (r ≡ Residue y)
+
+-- the entry of an item, where what is kept and what is left out are entries
+abbrev pub separated_entry : {S A : Type 0} → Separation S A (TreeResidue A) → A
+separated_entry (Filtrate x) = x.inner
+separated_entry (Residue x) = residue_item x.inner
 
 -- references to the item, kept or left out as it is
 abbrev pub RefersTo : {S T F R : Type 0} → Separation S F R → Separation T (Bor F) (Bor R) → Type 0

@@ -68,7 +68,7 @@ fn captured<P: Program>(
 
 // Decides what becomes of an entry that no filter excluded before. The boolean is true if
 // everything below it is to be cancelled.
-fn separated_entry<P, C>(
+fn separate_entry<P, C>(
     alloc: Global,
     program: &P,
     leading: &[C],
@@ -125,7 +125,7 @@ where
 {
     match separation {
         Separation::Filtrate(filtrate) => match filtrate.into_inner() {
-            Ok(entry) => separated_entry(alloc, program, leading, entry),
+            Ok(entry) => separate_entry(alloc, program, leading, entry),
             Err(error) => Ok((Separation::Filtrate(Product::new(Err(error))), false)),
         },
         Separation::Residue(residue) => match residue.into_inner() {

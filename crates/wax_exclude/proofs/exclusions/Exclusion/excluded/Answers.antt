@@ -13,7 +13,7 @@ returns-then-not-is_matched g c =
     let inside = c.self.inside in
     let f = g.E.Entry.facts c.args.entry.now in
     subst (λ ts. kept ≡ excluded_mark ts f) c.self.view_is
-    (says_kept inside.alternatives.items inside.whole inside.covering.items inside.covers_all c.self.invariant f c.if-self.false
+    (says_kept inside.alternatives.items inside.whole inside.prefilter inside.covering.items inside.covers_all c.self.invariant f c.if-self.false
     (ap (λ ts. some_test ts (chars f.candidate)) c.self.view_is ∙ sym c.requires ∙ c.if-not-is_matched.true))
 
 pub returns-then-branch : goal.returns-then-branch
@@ -24,7 +24,7 @@ returns-then-branch g c =
     let deep : nat_lt 0 f.depth ≡ true = ap (nat_lt 0) (sym c.depth.ensures) ∙ lt-ltb 0 c.depth.result c.if-depth-gt0.true in
     let some = c.in_ok-some_accepts.ensures.0 c.if-branch.true in
     subst (λ ts. with_tree ≡ excluded_mark ts f) c.self.view_is
-    (says_tree inside.alternatives.items inside.whole inside.covering.items inside.covers_all c.self.invariant f c.if-self.false deep
+    (says_tree inside.alternatives.items inside.whole inside.prefilter inside.covering.items inside.covers_all c.self.invariant f c.if-self.false deep
     (subst (λ z. SomeAccepts inside.covering.items (chars z)) same (subst (λ z. SomeAccepts z (chars c.root_relative_paths.result.1.now)) c.as_slice.ensures.value some)))
 
 pub returns : goal.returns
@@ -33,7 +33,7 @@ returns g c =
     let f = g.E.Entry.facts c.args.entry.now in
     let same = c.root_relative_paths.ensures.candidate in
     subst (λ ts. alone ≡ excluded_mark ts f) c.self.view_is
-    (says_alone inside.alternatives.items inside.whole inside.covering.items inside.covers_all c.self.invariant f c.if-self.false
+    (says_alone inside.alternatives.items inside.whole inside.prefilter inside.covering.items inside.covers_all c.self.invariant f c.if-self.false
     (ap (λ ts. some_test ts (chars f.candidate)) c.self.view_is ∙ sym c.requires ∙ c.if-not-is_matched.false)
     (λ d a. elim c.else-depth-gt0.branch [
       | else-depth-gt0-via-then-depth-gt0+in_ok-some_accepts+else-branch w ↦ false≢true (sym w.if-branch.false ∙ w.in_ok-some_accepts.ensures.1
