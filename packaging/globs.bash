@@ -1,5 +1,5 @@
 # Completion of globs for bash. To try it: source packaging/globs.bash
-# With bash-completion, words such as a:b stay one; without it bash splits them.
+# With bash-completion, a word such as a:b stays whole; without it, bash splits the word.
 
 _globs() {
     local cur words=("${COMP_WORDS[@]}") cword=$COMP_CWORD
@@ -15,7 +15,7 @@ _globs() {
     fi
 }
 
-# walk START EXPR, and then pairs of an option and its word
+# Completes the words after `walk`: START, EXPR, and then pairs of an option and its argument.
 _globs_walk() {
     if ((cword == 2)); then
         compopt -o filenames 2> /dev/null

@@ -1,6 +1,6 @@
-// Calls the C library, and compares each answer with what docs/LANGUAGE.md, docs/ERRORS.md and docs/IGNORE.md say. An
-// argument `fail` has each allocation fail in turn instead: each call then gives its answer or the error 10, and frees
-// what it took.
+// Calls the C library, and compares each result with docs/LANGUAGE.md, docs/ERRORS.md and docs/IGNORE.md. With the argument
+// `fail`, each allocation fails in turn instead: each call then has to return its result or the error 10, and to free what it
+// allocated.
 #include "refusing.h"
 #include "wax.h"
 #include <stdio.h>

@@ -1,5 +1,5 @@
-// Loaded before a program, refuses its requests for memory from the number REFUSE_FROM to REFUSE_TO, counted from 1, and
-// writes into the file REFUSE_COUNT how many there were. It needs no header, so any C compiler will do.
+// If this is loaded before a program, the program's allocations from number REFUSE_FROM to REFUSE_TO fail, counted from 1.
+// Their number in all is written into the file REFUSE_COUNT. No header is needed, so any C compiler will do.
 typedef __SIZE_TYPE__ size_t;
 
 void *__libc_malloc(size_t size);

@@ -1,5 +1,5 @@
-// Is linked with the C library under `--wrap=malloc,--wrap=realloc,--wrap=free`: it counts the library's requests for
-// memory, and refuses one of them.
+// Linked with the C library under `--wrap=malloc,--wrap=realloc,--wrap=free`, this counts the library's allocations, and lets
+// one of them fail.
 #include "refusing.h"
 #include <stddef.h>
 

@@ -2,13 +2,13 @@
 #ifndef REFUSING_H
 #define REFUSING_H
 
-// Counts requests for memory from 0 on, and refuses the one of this number, from 1; none where it is 0.
+// Counts allocations anew, and lets the one with this number fail, counted from 1. If it is 0, none fails.
 void wax_refuse(long number);
 
-// Returns how many requests there were.
+// Returns the number of allocations.
 long wax_requests(void);
 
-// Returns how many blocks were taken and not freed.
+// Returns the number of blocks that were allocated and not freed.
 long wax_blocks(void);
 
 #endif

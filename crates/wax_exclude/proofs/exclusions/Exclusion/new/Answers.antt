@@ -30,9 +30,9 @@ invariant_of-result c =
     let pass : MeantPass (members t) c.in_ok-prefilter.prefilter =
     subst (λ z. MeantPass z c.in_ok-prefilter.prefilter) c.concatenation-tokens.ensures c.in_ok-prefilter.ensures in
     record {
-      whole = λ s. subst (λ code. Accepts code 0 s ↔ MeansSome (trees c.in_ok-alternatives.alternatives.items) false false s) (sym c.new.ensures)
+      whole = λ s. subst (λ code. Accepts code 0 s ↔ MeansSome (trees c.in_ok-alternatives.alternatives.items) false false s) (sym c.new-2.ensures)
           (whole_of t c.in_ok-alternatives.alternatives.items program c.in_ok-alternatives.ensures.means means s);
-      passes = λ s a. pass s ((means s).0 (subst (λ code. Accepts code 0 s) c.new.ensures a));
+      passes = λ s a. pass s ((means s).0 (subst (λ code. Accepts code 0 s) c.new-2.ensures a));
       covers = subst (CoverAll c.in_ok-covering.covering.items) c.as_slice.ensures.value c.in_ok-covering.ensures;
       all = c.some_everything-covers_all.ensures ∙ ap some_everything c.as_slice-2.ensures.value;
     }
