@@ -52,6 +52,7 @@ bench: globs
 	bench/families
 	bench/alternatives
 	bench/walk
+	bench/lists
 	bench/shards
 
 install:

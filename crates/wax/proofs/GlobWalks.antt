@@ -19,7 +19,7 @@ use Rattle.wax_walk.specs.Ruled.{ruled_view}
 use Rattle.wax_walk.specs.View.{IsSeenAs, WalkView}
 use Rattle.wax_tree.specs.Prefix.{ArePlain}
 use Rattle.wax_exclude.specs.Wanted.{Filter}
-use Rattle.wax_exclude.specs.Premises.{CanWalk}
+use Rattle.wax_exclude.specs.Premises.{CanWalk, IsUnmeant}
 use Rattle.wax_exclude.specs.Walked.{glob_walk, origin_walk}
 use Rattle.wax_token.specs.Decided.{means_test}
 use Rattle.wax_token.specs.Reads.{Span}
@@ -153,6 +153,7 @@ module _ {D C : Type 0} {t : Tree Span} (law : Law D C) (d : D) (start : List �
 
 module _ {D C : Type 0} (g : GlobView) (law : Law D C) (d : D) (start : List ℕ) (asked : DepthRange) (depth : Bounds) (depth_is : Depth g.tree depth)
     (can : (b : Beginning g.tree) (filters : List (Filter Span)) → ArePlain b.names → CanWalk (wants g.tree b filters) asked (within asked depth) (origin_from start b.rooted b.names))
+    (none_match : (taken : ℕ) (prefix : List ℕ) → Prefix g.tree taken prefix → HasEmptyName prefix → (rooted : Bool) → IsUnmeant rooted g.tree)
     (view : WalkView D) where
   abbrev walked : DepthRange
   walked = within asked depth
@@ -204,6 +205,7 @@ module _ {D C : Type 0} (g : GlobView) (law : Law D C) (d : D) (start : List ℕ
       depth = depth;
       depth_is = depth_is;
       can = can;
+      none_match = none_match;
       shown = λ a s listed h told plain fits. shown_along a plain s listed h told fits;
       beyond = beyond_along;
       unmeant = λ taken prefix p e path s listed h told. absurd ((plan taken prefix p).0.unbroken e);
@@ -220,6 +222,7 @@ module _ {D C : Type 0} (g : GlobView) (law : Law D C) (d : D) (start : List ℕ
     depth = depth;
     depth_is = depth_is;
     can = can;
+    none_match = none_match;
     shown = λ a s listed h told plain fits. absurd (a.names_are.unbroken (known a.taken a.prefix a.prefix_is));
     beyond = λ a s listed h told less. absurd (a.names_are.unbroken (known a.taken a.prefix a.prefix_is));
     unmeant = λ taken prefix p e path s listed h told.
@@ -237,6 +240,7 @@ module _ {D C : Type 0} (g : GlobView) (law : Law D C) (d : D) (start : List ℕ
     depth = depth;
     depth_is = depth_is;
     can = can;
+    none_match = none_match;
     shown = λ a s listed h told plain fits. shown_refused a s listed h told fits;
     beyond = λ a s listed h told less. nothing_comes listed told;
     unmeant = λ taken prefix p e path s listed h told. nothing_comes listed told;

@@ -4,6 +4,7 @@ use Rattle.std.specs.List.{list_any}
 use Rattle.std.proofs.lemmas.Bool.{cases_lt, or_parts}
 use Rattle.wax_facts.specs.Orderly.{Worded, WordedEach, WordedLeaf}
 use Rattle.wax_facts.specs.Prefix.{Prefix}
+use Rattle.wax_exclude.proofs.Beginnings as beginnings
 use Rattle.wax_exclude.proofs.Beginnings.{begins_with, bounds_names}
 use Rattle.wax_query.specs.Components.{component_total}
 use Rattle.wax_query.specs.Ranges.{AtMost, Bounds}
@@ -15,7 +16,8 @@ use Rattle.wax_tree.specs.Prefix.{ArePlain}
 use Rattle.wax_tree.specs.declared.steps.DepthRange.{DepthRange}
 use Rattle.wax_exclude.specs.Candidates.{base}
 use Rattle.wax_exclude.specs.Wanted.{Filter}
-use Rattle.wax_exclude.specs.Premises.{BeginsWith, BoundsNames, CanWalk}
+use Rattle.wax_exclude.specs.Premises.{BeginsWith, BoundsNames, CanWalk, IsUnmeant}
+use Rattle.wax_exclude.specs.Prefix.{HasEmptyName}
 use Rattle.wax.specs.GlobView.{IsKept}
 use Rattle.wax.specs.GlobWalks.{Beginning, up_to, wants, origin_from, within}
 use Rattle.wax.proofs.Parts.{full}
@@ -87,3 +89,6 @@ can_walk t kept depth bound start asked b filters plain =
       begins = subst (λ ns. BeginsWith b.rooted t (map chars ns)) same (begins_with t b.taken k.text b.rooted b.names (full t kept) prefix k.split plain);
       plain = subst ArePlain same plain;
     }
+
+pub none_match : (t : Tree Span) → IsKept t → (taken : ℕ) (prefix : List ℕ) → Prefix t taken prefix → HasEmptyName prefix → (rooted : Bool) → IsUnmeant rooted t
+none_match t kept taken prefix p empty = beginnings.none_match t taken prefix (full t kept) p empty

@@ -34,9 +34,9 @@ empty_tree = leaf (0, 0) (literal false [])
 abbrev pub IsKept : Tree Span → Type 0
 IsKept t = Orderly t ⊎ (t ≡ empty_tree)
 
--- The program accepts what the tree means with nothing around it, and has the length of the tree's cost,
--- which fits; with the flag, it reads the last component alone; each meant text passes the prefilter; and the
--- pieces are those of the tree's tokens.
+-- What is stored for a tree: a program that accepts exactly the texts that the tree matches, of the length
+-- `program_length`, which is within the limit; if the flag is set, the program reads only the last component;
+-- every text that matches passes the prefilter; and the pieces are those of the tree's tokens.
 pub record IsCompiled (t : Tree Span) (program : List Instruction × ℕ) (reads_last : Bool)
     (prefilter : PrefilterView) (pieces : List Piece) : Type 0 where
   pub accepts : (text : List ℕ) → Accepts program.0 0 text ↔ Means t false false text

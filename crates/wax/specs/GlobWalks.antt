@@ -22,7 +22,7 @@ use Rattle.wax_walk.specs.Forest.{pending, nothing}
 use Rattle.wax_walk.specs.Given.{Given, fault, no_memory}
 use Rattle.wax_walk.specs.View.{CountsFaults, WalkView}
 use Rattle.wax_exclude.specs.Leading.{leading_of}
-use Rattle.wax_exclude.specs.Premises.{CanWalk}
+use Rattle.wax_exclude.specs.Premises.{CanWalk, IsUnmeant}
 use Rattle.wax_exclude.specs.Walked.{glob_walk}
 use Rattle.wax_exclude.specs.Wanted.{Filter, Wanted}
 
@@ -90,6 +90,9 @@ pub record BeginsGlob {D C : Type 0} (t : Tree Span) (law : Law D C) (d : D) (st
   pub unmeant : (taken : ℕ) (prefix : List ℕ) → Prefix t taken prefix → HasEmptyName prefix
       → (path : List ℕ) (s : Shown) (listed : List (List ℕ)) → law.shows d path s → law.tells d listed
       → view.to_come (pending nothing nothing listed 0)
+  -- and then no candidate matches
+  pub none_match : (taken : ℕ) (prefix : List ℕ) → Prefix t taken prefix → HasEmptyName prefix
+      → (rooted : Bool) → IsUnmeant rooted t
   -- so what is wanted comes: filters over the walk take from this, and what is collected is the rest
   pub comes : (b : Beginning t) → ArePlain b.names
       → ComesWanted law d (request_of start asked depth b []) view

@@ -1,29 +1,29 @@
--- What is proved of globs, on one page: which expressions are accepted, which texts are matched, and what is
--- kept of a walk. Public clauses of `Glob` cite these words.
+-- What is proved of globs, on one page: which expressions are accepted, which texts match, and what a walk
+-- yields. The contracts of `Glob` are written in these words.
 use Rattle.std.specs.Prelude.{◌≡◌, ◌<◌, ◌≤◌, ℕ, List, [], Result, Ok, Err, ⊤}
 use Rattle.wax_error.specs.declared.build_error.BuildError.{BuildError}
 use Rattle.wax_error.specs.declared.build_error.BuildError.TheVariants.{Parse, Rule, Compile, Memory}
 use Rattle.wax_parse.specs.Accepted.{IsPlace}
 use Rattle.wax_rule.specs.FirstBreak.{TellsFirst}
 use Rattle.wax_token.specs.Syntax.{Tree}
--- ---- Kept (`Glob::collect_excluding`; or `walk`, then `not` and `ignore`, then `collect`): of the whole
--- walk over what a lawful directory shows (`whole_at`), the entries in range (`is_in`) that the glob means
--- and that no pattern means and no list ignores (`is_wanted`), all of them and in order (`wanted_entries`).
--- So no folder that was skipped hides a match. `KeepsWanted` says how such a walk ends, and `MayList` which
--- folders it may list. In a chain of calls `ComesWanted` says what is to come, and `ComesExcluding` what a
--- filter takes from it.
+-- ---- Walks (`Glob::collect_excluding`; or `walk`, then `not` and `ignore`, then `collect`). Over a lawful
+-- directory, a walk yields exactly the entries of the whole tree (`whole_at`) that are in range (`is_in`),
+-- that the glob matches, and that no pattern and no ignore list excludes (`is_wanted`), in order
+-- (`wanted_entries`). So no folder that was skipped hides a match. `KeepsWanted` states how such a walk ends,
+-- and `MayList` which folders it may list. For a chain of calls, `ComesWanted` states what is to come, and
+-- `ComesExcluding` what a filter removes from it.
 pub use Rattle.wax_directory.specs.Law.{Law}
 pub use Rattle.wax_exclude.specs.Ignored.{is_ignored}
 pub use Rattle.wax_exclude.specs.GlobRequests.{ComesExcluding, ComesWanted, KeepsWanted}
 pub use Rattle.wax_exclude.specs.Walked.{MayList, wanted_entries}
 pub use Rattle.wax_exclude.specs.Wanted.{Wanted, is_wanted}
 pub use Rattle.wax_tree.specs.Whole.{is_in, whole_at}
--- ---- Matched (`Glob::is_match`): exactly the texts that the tree means (`IsMeant`, by `Means` of trees).
--- `is_match_counted` visits at most `program_length` instructions a character, and as many once more. What
--- `matched` captures is what `HasCaptures` says.
+-- ---- Matches (`Glob::is_match`): exactly the texts in the meaning of the tree (`IsMeant`, by `Means`).
+-- `is_match_counted` visits at most `program_length` instructions for each character, and as many once more
+-- at the end. `HasCaptures` defines what `matched` captures.
 pub use Rattle.wax.specs.GlobView.{GlobView, HasCaptures, IsMeant}
 pub use Rattle.wax_token.specs.Meaning.{Means}
--- ---- Accepted (`Glob::new`): exactly the expressions that spell a tree (`Reads`) which breaks no rule
+-- ---- Expressions (`Glob::new`): accepted are exactly those that spell a tree (`Reads`) which breaks no rule
 -- (`broken`) and fits (`program_length`).
 pub use Rattle.wax_break.specs.Rules.{broken}
 pub use Rattle.wax_token.specs.Cost.{program_length}
@@ -44,8 +44,8 @@ pub record IsOversized (e : List ℕ) : Type 0 where
   pub keeps_rules : broken tree ≡ []
   pub oversized : 1048576 < program_length tree
 
--- what a build of the expression e answers: a glob, or the first reason against one; nothing is said where
--- memory was refused
+-- the result of building the expression e: a glob, or the first reason why there is none; nothing is claimed
+-- if allocation fails
 abbrev pub MatchGlob : List ℕ → Result GlobView BuildError → Type 0
 MatchGlob e (Ok g) = IsGlob e g
 MatchGlob e (Err (Parse place)) = ((t : Tree Span) → Reads e t → ⊥) × IsPlace e place

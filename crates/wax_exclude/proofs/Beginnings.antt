@@ -155,11 +155,13 @@ begins_with t n text rooted names full prefix parted plain others are_others mea
 
 -- ---- no names hold two `/` side by side
 
+pub none_match : {A : Type 0} (t : Tree A) (n : ℕ) (p : List ℕ) → Full t → Prefix t n p → HasEmptyName p → (rooted : Bool) → IsUnmeant rooted t
+none_match t n p full prefix empty rooted names are_names meant =
+    let s : Seam p (text_at rooted names) = prefix_seam t n p (text_at rooted names) full prefix meant in
+    none_adjacent rooted names are_names empty.0 (empty.1 ++ s.0) (s.1 ∙ ap (λ v. v ++ s.0) empty.2 ∙ append_assoc empty.0 (47 ∷ 47 ∷ empty.1) s.0)
+
 pub none_meant : {A : Type 0} (t : Tree A) (n : ℕ) (text : List ℕ) → Full t → IsUtf8 text → Prefix t n (chars text) → HasEmptyName text → (rooted : Bool) → IsUnmeant rooted t
-none_meant t n text full u prefix empty rooted names are_names meant =
-    let s : Seam (chars text) (text_at rooted names) = prefix_seam t n (chars text) (text_at rooted names) full prefix meant in
-    let k : HasEmptyName (chars text) = empty_chars text u empty in
-    none_adjacent rooted names are_names k.0 (k.1 ++ s.0) (s.1 ∙ ap (λ v. v ++ s.0) k.2 ∙ append_assoc k.0 (47 ∷ 47 ∷ k.1) s.0)
+none_meant t n text full u prefix empty = none_match t n (chars text) full prefix (empty_chars text u empty)
 
 -- ---- what is told of a prefix
 

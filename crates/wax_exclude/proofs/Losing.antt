@@ -190,7 +190,7 @@ module _ {A : Type 0} (lines : List (Line A)) (scope : WalkScope) (start : List 
       → All (Under scope start names) paths → cut_by rule (plain_entry scope at kind) ≡ true → All Gone paths
   gone_below at kind names paths a h e =
       let c = cut_covered at kind names a e in
-      All-weaker (Under scope start names) Gone (λ path u. (names, u.0, u.1, c)) paths h
+      All-weaker (Under scope start names) Gone (λ path u. (names, u.0, a.are_plain, u.1, c)) paths h
 
   stay_folder : (at : Location) (names : List (List ℕ)) (inner after : Forest Given) → At false at names
       → at.path ≡ path_from start names → All (Under scope start names) (listings inner)

@@ -78,15 +78,15 @@ pub record ComesWanted {D C : Type 0} (law : Law D C) (d : D) (request : GlobReq
       → view.to_come (request_pending request s listed)
   pub listings : view.listings_left ≡ request.walked.budget + 1
 
--- whatever is wanted of the inner walk: if it comes, then what the filter doesn't leave out of it comes of
--- the outer walk
+-- whatever is wanted of the inner walk: if it is to come there, then what the filter doesn't exclude of it is
+-- to come of the outer walk
 abbrev pub ComesExcluding : {D C : Type 0} → Law D C → Filter Span → WalkView D → WalkView D → Type 0
 ComesExcluding {D} law x inner outer = (d : D) (request : GlobRequest) → ComesWanted law d request inner
     → ComesWanted law d (request_excluding request (x ∷ [])) outer
 
--- These items were kept: all that comes, of which the entries are those of the whole walk that are in the
--- range asked for, that the glob means and that no filter leaves out, in order, and only folders were listed
--- that may be; or a beginning of it, and then that memory was refused, or that the budget is reached.
+-- A walk yielded these items: all that it keeps, whose entries are exactly the wanted ones, in order, and it
+-- listed only folders that it may list; or a prefix of these and then one error, because allocation failed or
+-- the budget was reached.
 pub data KeepsWanted (tells : List (List ℕ) → Type 0) (request : GlobRequest) (s : Shown)
     (listed : List (List ℕ)) (ys : List Given) : Type 0 where
   gives : ys ≡ filter is_kept (preorder (request_walk request s))

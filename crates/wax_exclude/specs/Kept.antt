@@ -38,9 +38,9 @@ abbrev pub ListsUnignored : PlainRequest → Shown → Type 0
 ListsUnignored request s = All (λ path. Contains (listings (unignored_walk request s)) path
     ⊎ IsIgnoredBelow request.lines request.start path) (listings (requested_plain request s))
 
--- These items were kept: all that comes, of which the entries are those of the whole walk that are in range
--- and aren't ignored, in order, and only folders weren't listed below which all is ignored; or a beginning of
--- it, and then that memory was refused, or that the budget is reached.
+-- A plain walk yielded these items: all that it keeps, whose entries are exactly those in range that aren't
+-- ignored, in order, and it skipped only folders below which everything is ignored; or a prefix of these and
+-- then one error, because allocation failed or the budget was reached.
 pub data KeepsUnignored (tells : List (List ℕ) → Type 0) (request : PlainRequest) (s : Shown)
     (listed : List (List ℕ)) (ys : List Given) : Type 0 where
   gives : ys ≡ filter is_kept (preorder (unignored_walk request s))

@@ -17,8 +17,8 @@ abbrev pub begins_with_separator : {A : Type 0} → List (Tree A) → Bool
 begins_with_separator [] = false
 begins_with_separator (t ∷ ts) = is_separator t
 
--- the components that lead a walk. In one from the root a candidate begins with `/`: where the glob's first
--- token isn't that `/`, its components don't stand where the names do, and none of them leads.
+-- The leading components of a walk. In a walk from the root, candidates begin with `/`: if the glob's first
+-- token isn't that `/`, its components aren't at the places of the names, and none is a leading component.
 abbrev pub leading_of : {A : Type 0} → Bool → Tree A → List (List (Tree A))
 leading_of rooted t = if rooted && not (begins_with_separator (tokens_of t)) then [] else leading t
 

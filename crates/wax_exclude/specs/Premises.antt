@@ -21,13 +21,13 @@ abbrev pub BeginsWith : {A : Type 0} → Bool → Tree A → List (List ℕ) →
 BeginsWith rooted t prefix = (names : List (List ℕ)) → AreNames names
     → Means t false false (text_at rooted names) → (rest : List (List ℕ)) × (names ≡ prefix ++ rest)
 
--- no candidate is meant
+-- no candidate matches
 abbrev pub IsUnmeant : {A : Type 0} → Bool → Tree A → Type 0
 IsUnmeant rooted t = (names : List (List ℕ)) → AreNames names → Means t false false (text_at rooted names) → ⊥
 
--- The glob's walk may begin at this origin, to the greatest depth of the range walked, where another range is
--- asked for: each candidate that is meant begins with the names of the origin, and none has more names than
--- that depth, where it isn't the one asked for.
+-- A walk of the glob may begin at this origin and go down to `walked.max`, although `asked` was requested:
+-- each candidate that matches begins with the names of the origin, and unless the two greatest depths are
+-- equal, none has more than `walked.max` names.
 pub record CanWalk {A : Type 0} (w : Wanted A) (asked walked : DepthRange) (origin : Origin) : Type 0 where
   pub spelled : LiteralsHaveNoSlash w.glob
   pub least : walked.min ≡ asked.min

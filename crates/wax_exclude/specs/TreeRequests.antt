@@ -31,8 +31,8 @@ is_unfiltered filters (entry with_tree f) = false
 is_unfiltered filters (fault kind path depth) = false
 is_unfiltered filters no_memory = false
 
--- what is wanted of it, less what filters leave out: the entries of the whole walk in range that none of them
--- leaves out, in order
+-- of a plain walk with filters, the wanted entries are those of the whole walk that are in range and that no
+-- filter excludes, in order
 abbrev pub WantsUnfiltered : Type 0
 WantsUnfiltered = (filters : List (Filter Span)) (range : DepthRange) (start : List ℕ) (s : Shown)
     → wanted_entries (request_excluding (tree_request range start) filters).wanted range

@@ -7,6 +7,7 @@ use Rattle.wax_token.specs.Reads.{Span}
 use Rattle.wax_tree.specs.Begins.{scope_in}
 use Rattle.wax_tree.specs.declared.steps.DepthRange.{DepthRange}
 use Rattle.wax_tree.specs.Plain.{plain}
+use Rattle.wax_tree.specs.Prefix.{ArePlain}
 use Rattle.wax_tree.specs.Whole.{is_in, whole}
 use Rattle.wax_walk.specs.Forest.{preorder, listings}
 use Rattle.wax_walk.specs.Given.{Facts, Mark, kept, alone, with_tree, Given, entry, fault, no_memory}
@@ -36,10 +37,11 @@ GivesUnignored = (lines : List (Line Span)) (range : DepthRange) (start : List �
     → filter is_kept_entry (preorder (stacked (ignore_rules lines) (plain (scope_in range start) s)))
     ≡ filter (λ x. is_in range x && is_unignored lines x) (whole start s)
 
--- the path is that of some names, the first of which lead to what is ignored with all that lies below it
+-- the path is that of some names, the first of which, all plain, lead to what is ignored with everything
+-- below it
 abbrev pub IsIgnoredBelow : {A : Type 0} → List (Line A) → List ℕ → List ℕ → Type 0
-IsIgnoredBelow lines start path = (front back : List (List ℕ)) × (path ≡ path_from start (front ++ back))
-    × IgnoresBelow lines (candidate_at false (map chars front))
+IsIgnoredBelow lines start path = (front back : List (List ℕ)) × ArePlain front
+    × (path ≡ path_from start (front ++ back)) × IgnoresBelow lines (candidate_at false (map chars front))
 
 -- each folder that the plain walk lists is listed, unless it is or lies below such an entry
 abbrev pub LosesIgnored : Type 0

@@ -8,8 +8,8 @@ use Rattle.wax.specs.Walks.{Facts, kept, Mark, mark_of}
 
 -- what a filter says of an entry, by what patterns and lists say
 abbrev pub rule_of : (List (Tree Span) → Facts → Mark) → (IgnoreList → Facts → Mark) → Filter → Facts → Mark
-rule_of not_rule ignore_rule Nothing facts = kept
-rule_of not_rule ignore_rule (Not alternatives) facts = not_rule alternatives facts
-rule_of not_rule ignore_rule (Ignore list) facts = ignore_rule list facts
-rule_of not_rule ignore_rule (From depth residue) facts =
-    cond (nat_lt facts.depth depth) kept (mark_of (Some residue))
+rule_of not_rule ignore_rule Nothing = λ facts. kept
+rule_of not_rule ignore_rule (Not alternatives) = not_rule alternatives
+rule_of not_rule ignore_rule (Ignore list) = ignore_rule list
+rule_of not_rule ignore_rule (From depth residue) =
+    λ facts. cond (nat_lt facts.depth depth) kept (mark_of (Some residue))

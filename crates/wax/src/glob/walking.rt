@@ -1,5 +1,5 @@
 //! Walks of globs.
-ghost use Rattle.std.specs.Prelude.{◌≡◌, ◌≤◌, ◌+◌, ◌*◌, ℕ, List, IfOk, MatchOption, map};
+ghost use Rattle.std.specs.Prelude.{◌≡◌, ◌≤◌, ◌+◌, ◌*◌, ℕ, Bool, List, IfOk, MatchOption, map};
 ghost use Rattle.wax_components.specs.Depth.{Depth};
 ghost use Rattle.wax_facts.specs.Prefix.{Prefix};
 ghost use Rattle.wax_glob_walk.specs.Matches.{IsMatchedEntry};
@@ -201,6 +201,7 @@ fn walk_in<'g, 't, D: Directory>(
 impl<'t> Glob<'t> {
     ghost use Rattle.std.specs.Prelude.{All, filter};
     ghost use Rattle.wax_exclude.specs.GlobRequests.{AreRulesOf, KeepsWanted};
+    ghost use Rattle.wax_exclude.specs.Premises.{IsUnmeant};
     ghost use Rattle.wax_directory.specs.Shown.{Shown};
     ghost use Rattle.wax_token.specs.Reads.{Span};
     ghost use Rattle.wax_tree.specs.Prefix.{ArePlain};
@@ -256,6 +257,8 @@ impl<'t> Glob<'t> {
             → D.law.shows directory path s → D.law.tells directory listed
             → KeepsNothing (D.law.tells r.1) listed
             (map (given_outcome ⟦<GlobEntry as Entry>⟧.facts ⟦<TreeEntry as Entry>⟧.facts) r.0.items)) }
+        ensures none_match { (taken : ℕ) (prefix : List ℕ) (rooted : Bool) → Prefix self.now.tree taken prefix
+            → HasEmptyName prefix → IsUnmeant rooted self.now.tree }
         ensures matched { IfOk result
             (λ r. All (KnownOutcome (IsMatchedEntry (IsMeant self.now) (HasCaptures self.now))) r.0.items) }
         ensures wanted { IfOk result (λ r. (depth : Bounds) × Depth self.now.tree depth

@@ -54,7 +54,8 @@ marks_after before [] f = before
 marks_after before (line ∷ lines) f =
     marks_after (mark_after line.ignores before (excluded_mark line.exclusion f)) lines f
 
--- what is said after lines none of which means the entry: one that takes back might mean what lies below it
+-- the mark after lines none of which matches the entry: one that begins with `!` might match something below
+-- it, so the entry is then excluded by itself at most
 abbrev pub mark_passed : Bool → Mark → Mark
 mark_passed true kept = kept
 mark_passed true alone = alone

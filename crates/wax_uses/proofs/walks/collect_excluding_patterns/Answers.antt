@@ -7,7 +7,7 @@ use Rattle.wax_uses.proofs.walks.collect_excluding_patterns.Goals as goal
 pub returns-in-Ok : goal.returns-in-Ok
 returns-in-Ok g c =
     let law = g.I.Directory.Directory.law in
-    let less = c.in-Ok.ensures.less in
+    let less = c.in-Ok.ensures.excludes in
     IfOk-weaker c.collect_excluding_pattern.result _ _ (λ r h. (
       _,
       record {

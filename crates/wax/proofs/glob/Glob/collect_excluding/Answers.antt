@@ -33,6 +33,10 @@ returns-clause-unmeant g c =
     (subst (λ n. GaveAll (law.tells r.1) n (pending nothing nothing listed 0) k.0) h.listings all) k.3)
     c.collect_excluding.result c.collect_excluding.ensures.took
 
+pub returns-clause-none_match : goal.returns-clause-none_match
+returns-clause-none_match g c = λ taken prefix rooted is empty.
+    c.walk_in-walk.ensures.begins.none_match taken prefix is empty rooted
+
 pub returns-clause-matched : goal.returns-clause-matched
 returns-clause-matched g c =
     map_ok (λ r h. all_before _ _ r.0.items c.walk_in-walk.ensures.known h)

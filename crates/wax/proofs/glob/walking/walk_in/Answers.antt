@@ -4,7 +4,7 @@ use Rattle.wax_tree.specs.Prefix.{from_last}
 use Rattle.wax_exclude.specs.Prefix.{HasEmptyName}
 use Rattle.wax.specs.GlobWalks.{IsPlan, within}
 use Rattle.wax.proofs.GlobWalks.{begins_along, begins_ended, begins_refused}
-use Rattle.wax.proofs.GoingAlong.{can_walk}
+use Rattle.wax.proofs.GoingAlong.{can_walk, none_match}
 use Rattle.wax.proofs.glob.walking.walk_in.Goals as goal
 
 pub returns-in-Ok-Some-clause-begins : goal.returns-in-Ok-Some-clause-begins
@@ -15,7 +15,8 @@ returns-in-Ok-Some-clause-begins g c =
     let w = c.within-range.ensures in
     let same : c.within-range.result ≡ within asked w.0 = w.3 ∙ ap (λ r. within r w.0) c.range.ensures in
     let prefix_names = c.in-Ok-Some.prefix_names in
-    begins_along glob g.D.Directory.law c.args.directory start asked w.0 w.1 (λ b filters plain. can_walk glob.tree c.keeps_rules.ensures w.0 w.2 start asked b filters plain) _
+    begins_along glob g.D.Directory.law c.args.directory start asked w.0 w.1 (λ b filters plain. can_walk glob.tree c.keeps_rules.ensures w.0 w.2 start asked b filters plain)
+    (none_match glob.tree c.keeps_rules.ensures) _
     _ c.within-range.result same prefix_names.is_rooted (from_last prefix_names.names.items) c.in-Ok-Some.leading.items
     (λ taken prefix p. subst (λ o. MatchOption o (HasEmptyName prefix) (λ r. IsPlan glob.tree prefix r.0.is_rooted (from_last r.0.names.items) r.1.items)) c.in-Ok-Some.field-0-is (c.in-Ok-Some.ensures taken prefix p))
     c.walk_along-walk.ensures.begins c.walk_of.ensures.view
@@ -27,7 +28,8 @@ returns-in-Ok-None-clause-begins g c =
     let asked = behavior_range c.args.behavior in
     let w = c.within-range.ensures in
     let same : c.within-range.result ≡ within asked w.0 = w.3 ∙ ap (λ r. within r w.0) c.range.ensures in
-    begins_ended glob g.D.Directory.law c.args.directory start asked w.0 w.1 (λ b filters plain. can_walk glob.tree c.keeps_rules.ensures w.0 w.2 start asked b filters plain) _
+    begins_ended glob g.D.Directory.law c.args.directory start asked w.0 w.1 (λ b filters plain. can_walk glob.tree c.keeps_rules.ensures w.0 w.2 start asked b filters plain)
+    (none_match glob.tree c.keeps_rules.ensures) _
     _ c.within-range.result _
     (λ taken prefix p. subst (λ o. MatchOption o (HasEmptyName prefix) (λ r. IsPlan glob.tree prefix r.0.is_rooted (from_last r.0.names.items) r.1.items)) c.in-Ok-None.field-0-is (c.in-Ok-None.ensures taken prefix p))
     (ap (λ r. r.budget) same) c.ended-walk.ensures.ended c.walk_of-in-Ok-None.ensures.view
@@ -39,5 +41,6 @@ returns-in-Err-clause-begins g c =
     let asked = behavior_range c.args.behavior in
     let w = c.within-range.ensures in
     let same : c.within-range.result ≡ within asked w.0 = w.3 ∙ ap (λ r. within r w.0) c.range.ensures in
-    begins_refused glob g.D.Directory.law c.args.directory start asked w.0 w.1 (λ b filters plain. can_walk glob.tree c.keeps_rules.ensures w.0 w.2 start asked b filters plain) _
+    begins_refused glob g.D.Directory.law c.args.directory start asked w.0 w.1 (λ b filters plain. can_walk glob.tree c.keeps_rules.ensures w.0 w.2 start asked b filters plain)
+    (none_match glob.tree c.keeps_rules.ensures) _
     _ c.within-range.result c.new-in-Err.result.items c.new-in-Err.ensures.items (ap (λ r. r.budget) same) c.refused-walk.ensures.lacks c.walk_of-in-Err.ensures.view
