@@ -1,12 +1,11 @@
-# make quick: builds the program as ./globs with no proof, in about a minute
-# make globs: proves it and each library below it, builds it, and leaves it as ./globs
-# make explain: proves and builds the program that explains an expression, and leaves it as ./globs_explain
-# make library: builds the C library as libwax.a and libwax.so in crates/wax_c/out, over what `make test` or
-#             `./prove wax` left
-# make test:  proves everything from nothing, runs all tests, and tries the wrong bodies
-# make bench: counts instructions of matches, and times them beside grep, and walks beside find (bench/README.md)
-# make install: puts what was built, its pages and its completions below PREFIX; make uninstall: takes them away
-#             (packaging/README.md)
+# make quick:     builds ./globs without a proof, in about a minute
+# make globs:     proves `globs` and each library that it uses, and builds ./globs
+# make explain:   proves and builds ./globs_explain, which explains an expression
+# make library:   builds the C library in crates/wax_c/out; `make test` or `./prove wax` has to run before
+# make test:      proves everything from nothing, runs all tests, and tries the wrong bodies
+# make bench:     measures matches beside grep and rg, and walks beside find (bench/README.md)
+# make install:   installs what was built, with its manual pages and completions, below PREFIX (packaging/README.md)
+# make uninstall: removes it
 # docs/GATE.md says how long they take.
 
 .PHONY: quick globs explain library test bench install uninstall
