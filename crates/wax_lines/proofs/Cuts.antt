@@ -1,14 +1,15 @@
 -- How an input falls into lines.
 use Rattle.std.proofs.Common.{◌≡◌, ◌≢◌, ℕ, ◌+◌, false, List, [], ◌∷◌, ◌++◌, ◌==◌, if◌then◌else◌, All, refl, sym, ◌∙◌, ap, inl, inr, append_assoc, append-nil, arith}
-use Rattle.std.proofs.Common.{◌<◌, Bor, MatchOption, Option, Some, None, length, get_or, length-take, true≢false, eqb-true}
+use Rattle.std.proofs.Common.{◌<◌, ◌≤◌, length, get_or, take, drop, length-take, true≢false}
 use Rattle.std.proofs.lemmas.Bool.Decides.{eqb_tells}
 use Rattle.std.proofs.lemmas.List.{get_or-take}
 use Rattle.std.proofs.lemmas.List.Elements.{All-from_get_or}
-use Rattle.std.proofs.lemmas.List.Sums.{fails_before_first, passes_at_first, split_at_first}
+use Rattle.std.proofs.lemmas.List.Sums.{fails_before_first, split_at_first}
 use Rattle.std.specs.List.{position_or_len, before_first, after_first}
 use Rattle.std.proofs.lemmas.List.Elements.{All-head, All-tail}
 use Rattle.wax_lines.specs.Lines.{onto_lines, lines, onto_whole, whole_lines, Gives, Filters}
-use Rattle.wax_lines.specs.inner.Sifted.{HasNoFeed, lines_text}
+use Rattle.wax_lines.specs.inner.Sifted.{HasNoFeed, is_feed, lines_text}
+use Rattle.wax_lines.proofs.Feeds.{byte_at_feed}
 
 is_no_feed : (b : ℕ) → b ≢ 10 → (b == 10) ≡ false
 is_no_feed b h = elim (eqb_tells b 10) [ inl e ↦ absurd (h e.1) | inr e ↦ e.0 ]
@@ -70,26 +71,23 @@ Filters-more Writes (first ∷ rest) line out more bad m h g =
 is_other : (b : ℕ) → (b == 10) ≡ false → b ≢ 10
 is_other b e h = elim (eqb_tells b 10) [ inl t ↦ true≢false (sym t.0 ∙ e) | inr f ↦ f.1 h ]
 
-no_feed : (s : List ℕ) → position_or_len (λ b. b == 10) s ≡ length s → HasNoFeed s
-no_feed s e = All-from_get_or (λ b. b ≢ 10) s 0 (λ i lt. is_other (get_or s i 0) (fails_before_first (λ b. b == 10) s i 0 (omega (arith, e, lt))))
+pub no_feed : (s : List ℕ) (at : ℕ) → at ≡ position_or_len is_feed s → length s ≤ at → HasNoFeed s
+no_feed s at found past =
+    All-from_get_or (λ b. b ≢ 10) s 0 (λ i lt. is_other (get_or s i 0) (fails_before_first is_feed s i 0 (omega (arith, found, lt))))
 
-no_feed_before : (s : List ℕ) → HasNoFeed (before_first (λ b. b == 10) s)
-no_feed_before s = All-from_get_or (λ b. b ≢ 10) (before_first (λ b. b == 10) s) 0 (λ i lt.
-    let at : i < position_or_len (λ b. b == 10) s = omega (arith, lt, length-take (position_or_len (λ b. b == 10) s) s) in
-    is_other (get_or (before_first (λ b. b == 10) s) i 0)
-    (ap (λ z. z == 10) (get_or-take (position_or_len (λ b. b == 10) s) s i 0 at) ∙ fails_before_first (λ b. b == 10) s i 0 at))
+no_feed_before : (s : List ℕ) → HasNoFeed (before_first is_feed s)
+no_feed_before s = All-from_get_or (λ b. b ≢ 10) (before_first is_feed s) 0 (λ i lt.
+    let at : i < position_or_len is_feed s = omega (arith, lt, length-take (position_or_len is_feed s) s) in
+    is_other (get_or (before_first is_feed s) i 0)
+    (ap is_feed (get_or-take (position_or_len is_feed s) s i 0 at) ∙ fails_before_first is_feed s i 0 at))
 
-feed_at : (s : List ℕ) → position_or_len (λ b. b == 10) s < length s
-    → s ≡ before_first (λ b. b == 10) s ++ 10 ∷ after_first (λ b. b == 10) s
-feed_at s lt = split_at_first (λ b. b == 10) s 0 lt
-    ∙ ap (λ z. before_first (λ b. b == 10) s ++ z ∷ after_first (λ b. b == 10) s)
-    (eqb-true (get_or s (position_or_len (λ b. b == 10) s) 0) 10 (passes_at_first (λ b. b == 10) s 0 lt))
+feed_at : (s : List ℕ) → position_or_len is_feed s < length s → s ≡ before_first is_feed s ++ 10 ∷ after_first is_feed s
+feed_at s lt = split_at_first is_feed s 0 lt ∙ ap (λ z. before_first is_feed s ++ z ∷ after_first is_feed s) (byte_at_feed s lt)
 
--- what a search of the first line feed tells
-pub feed_found : (s : List ℕ) (r : Option (Bor (List ℕ) × Bor (List ℕ)))
-    → MatchOption r (position_or_len (λ b. b == 10) s ≡ length s)
-    (λ x. (x.0.now ≡ before_first (λ b. b == 10) s) × (x.1.now ≡ after_first (λ b. b == 10) s)
-    × (position_or_len (λ b. b == 10) s < length s))
-    → MatchOption r (HasNoFeed s) (λ parts. (s ≡ parts.0.now ++ 10 ∷ parts.1.now) × HasNoFeed parts.0.now)
-feed_found s None h = no_feed s h
-feed_found s (Some x) h = (feed_at s h.2 ∙ (λ i. sym h.0 i ++ 10 ∷ sym h.1 i), rw h.0 (no_feed_before s))
+-- bytes are cut at their first line feed
+pub cut_at_feed : (s front rest : List ℕ) (at : ℕ) → at ≡ position_or_len is_feed s → at < length s
+    → front ≡ take at s → rest ≡ drop (at + 1) s → (s ≡ front ++ 10 ∷ rest) × HasNoFeed front
+cut_at_feed s front rest at found inside is_front is_rest =
+    let before = is_front ∙ ap (λ n. take n s) found in
+    let after = is_rest ∙ ap (λ n. drop (n + 1) s) found in
+    (feed_at s (omega (arith, found, inside)) ∙ (λ i. sym before i ++ 10 ∷ sym after i), rw before (no_feed_before s))

@@ -4,3 +4,4 @@ pub mod Counting
 pub mod Runs
 pub mod Same
 pub mod Tabs
+pub mod Feeds

@@ -11,6 +11,7 @@ use thiserror::Error;
 use wax_candidate::BuildMatcher;
 use wax_query::diagnostics::NoMemory;
 
+mod feed;
 mod line_writer;
 mod sieve;
 

@@ -1,7 +1,11 @@
 -- How far a filter of lines has come. Only private functions cite this file.
-use Rattle.std.specs.Prelude.{◌≡◌, ◌≢◌, ℕ, ◌+◌, List, [], ◌∷◌, ◌++◌, All}
+use Rattle.std.specs.Prelude.{◌≡◌, ◌≢◌, ◌==◌, ℕ, ◌+◌, Bool, List, [], ◌∷◌, ◌++◌, All}
 use Rattle.std.specs.Io.Iter.{u64_saturate}
 use Rattle.wax_lines.specs.Lines.{Filters}
+
+-- the byte is a line feed
+abbrev pub is_feed : ℕ → Bool
+is_feed b = b == 10
 
 -- no line feed is among the bytes
 abbrev pub HasNoFeed : List ℕ → Type 0

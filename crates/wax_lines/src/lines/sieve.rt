@@ -9,6 +9,7 @@ ghost use Rattle.wax_lines.specs.inner.Progress.{SieveSifted, TakesIn, TakesInPa
 ghost use Rattle.wax_lines.specs.Written.{WritesPart};
 
 use super::LinesError;
+use super::feed::{split_line, split_text_line};
 use super::line_writer::LineWriter;
 use crate::counted::Counted;
 use crate::writing::write_whole;
@@ -129,7 +130,7 @@ impl Sieve {
         ensures same { L.view line_writer.new ≡ L.view line_writer.old }
     {
         let mut rest = text;
-        while let Some((line, after)) = split_at_feed(rest) {
+        while let Some((line, after)) = split_text_line(rest) {
             self.take_text_line(line_writer, line)?;
             rest = after;
         }
@@ -228,23 +229,6 @@ impl Sieve {
         self.kept.bytes.clear();
         written
     }
-}
-
-// Splits bytes at the first line feed.
-fn split_line(bytes: &[u8]) -> Option<(&[u8], &[u8])>
-    ensures { MatchOption result (HasNoFeed bytes.now) (λ parts.
-        (bytes.now ≡ parts.0.now ++ 10 ∷ parts.1.now) × HasNoFeed parts.0.now) }
-{
-    let at = bytes.iter().position(|b| *b == b'\n')?;
-    Some((&bytes[..at], &bytes[at + 1..]))
-}
-
-// Splits text at the first line feed.
-fn split_at_feed(text: &str) -> Option<(&str, &str)>
-    ensures { MatchOption result (HasNoFeed text.now) (λ parts.
-        (text.now ≡ parts.0.now ++ 10 ∷ parts.1.now) × HasNoFeed parts.0.now) }
-{
-    text.split_once('\n')
 }
 
 // Splits bytes at the last line feed, if there is one and everything before it is UTF-8.
