@@ -1,3 +1,4 @@
+pub mod ByMatcher
 pub mod Combining
 pub mod Naming
 pub mod Rules

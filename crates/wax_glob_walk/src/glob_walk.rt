@@ -152,11 +152,11 @@ where
 /// itself. Each entry is matched at most once.
 #[derive(Drop)]
 pub struct Matching<'g, I, P, C> {
-    alloc: Global,
-    input: I,
-    program: &'g P,
-    leading: Vec<C>,
-    has_ended: bool,
+    pub(crate) alloc: Global,
+    pub(crate) input: I,
+    pub(crate) program: &'g P,
+    pub(crate) leading: Vec<C>,
+    pub(crate) has_ended: bool,
 }
 
 /// The walk of a glob.

@@ -3,11 +3,10 @@
 ghost use Rattle.std.specs.Prelude.{◌≡◌, ◌∷◌, [], ℕ, Bool, List, IfOk, MatchOption, chars, map};
 ghost use Rattle.wax_directory.specs.Names.{names_in_path};
 ghost use Rattle.wax_glob_walk.specs.Programs.{lead_to, leads};
-ghost use Rattle.wax_walk.specs.Entries.{facts_of};
 
 use std::alloc::Global;
 use wax_query::diagnostics::NoMemory;
-use wax_walk::{Entry, TreeEntry};
+use wax_walk::Entry;
 
 /// A leading component: a set of names.
 pub trait NameTest: Drop {
@@ -62,12 +61,12 @@ fn are_led<C: NameTest>(alloc: Global, leading: &[C], path: &str) -> Result<bool
 }
 
 // Returns whether the names of an entry's candidate are matched by the leading components.
-pub(crate) fn lead<C: NameTest>(
+pub(crate) fn lead<C: NameTest, E: Entry>(
     alloc: Global,
     leading: &[C],
-    entry: &TreeEntry,
+    entry: &E,
 ) -> Result<bool, NoMemory>
-    ensures { IfOk result (λ led. led ≡ lead_to C.decides leading.now (facts_of entry.now)) }
+    ensures { IfOk result (λ led. led ≡ lead_to C.decides leading.now (E.facts entry.now)) }
 {
     let (_, candidate) = entry.root_relative_paths();
     are_led(alloc, leading, candidate)

@@ -5,8 +5,10 @@ mod entry;
 mod filter_any;
 mod glob_walk;
 mod leading;
+mod uncaptured;
 
 pub use entry::GlobEntry;
 pub use filter_any::FilterAny;
 pub use glob_walk::{GlobFeed, GlobWalk, Matching, walk_of};
 pub use leading::NameTest;
+pub use uncaptured::{Uncaptured, Unmatched};
