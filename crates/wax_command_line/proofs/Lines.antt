@@ -93,7 +93,7 @@ module _ {D C : Type 0} (law : Law D C) (walk : WalkView D) where
   part_of bytes front rest line tail whole e f =
       append_assoc bytes front (rest ++ tail) ∙ (ap (λ v. bytes ++ v) (sym (append_assoc front rest tail) ∙ ap (λ v. v ++ tail) e) ∙ f)
 
-  -- a beginning of the lines that waited, and of one more, was written
+  -- a prefix of the waiting lines and of one more was written
   pub writing_part : (mid now : WalkView D) (most less fewer : ℕ) (held middle held' : Option (List ℕ)) (waiting : List ℕ) (had : Bool) (x : Given)
       → Writing mid most less held middle waiting had → FeedStep law mid (Some x) now → fewer < less → WritesPart middle held' (waiting ++ candidate_line x)
       → WroteSome walk held held'
@@ -112,7 +112,7 @@ module _ {D C : Type 0} (law : Law D C) (walk : WalkView D) where
             ),
       )
 
-  -- the same of the lines that waited at the end
+  -- a prefix of the lines that waited at the end was written
   pub writing_last : (mid : WalkView D) (most less : ℕ) (held middle held' : Option (List ℕ)) (waiting : List ℕ) (had : Bool)
       → Writing mid most less held middle waiting had → WritesPart middle held' waiting → WroteSome walk held held'
   writing_last mid most less held middle held' waiting had w part = (
@@ -139,7 +139,7 @@ pub err_holds : {A E P : Type 0} (r : Result A E) → P → OnErr r P
 err_holds (Ok a) p = tt
 err_holds (Err e) p = p
 
--- ---- what is left out writes nothing
+-- ---- nothing is written for what is excluded
 
 pub lines_kept : (xs : List Given) → candidate_lines xs ≡ candidate_lines (filter is_kept xs)
 lines_kept [] = refl

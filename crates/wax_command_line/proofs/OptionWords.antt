@@ -167,7 +167,7 @@ module _ {A : Type 0} (options : List (Option (String A))) (command start expres
   says_walk (None ∷ words) after rest f g h = absurd f
   says_walk (Some x ∷ words) after rest f g h = second x words rest f.0 (subst (λ ws. IsFirstWord ws start rest) f.1 g) h
 
--- what holds where there is nothing
+-- if P holds, it holds if there is nothing
 pub none_holds : {B : Type 0} {P : Type 0} (r : Option B) → P → IfNone r P
 none_holds (Some x) p = tt
 none_holds None p = p
@@ -192,7 +192,7 @@ doubled (p ∷ []) (m ∷ k ∷ ys) n d b c = absurd b
 longer : (front os : List ℕ) (xs : List ℕ) → 2 ≤ length (front ++ os) → 2 ≤ length ((front ++ os) ++ xs)
 longer front os xs h = let e = length-append (front ++ os) xs in omega (arith, e, h)
 
--- what is said again is said twice
+-- an option that occurs again occurs twice
 pub doubled_so_far : (front : List WalkOption) (o : WalkOption) (rest : List WalkOption) → IsDoubled (leasts_in front ++ leasts_in (o ∷ [])) (greatests_in front ++ greatests_in (o ∷ [])) (count_lists front + count_lists (o ∷ []))
     → AreDoubled (front ++ o ∷ rest)
 doubled_so_far front o rest d =
@@ -216,7 +216,7 @@ said_more bounds more front o h m = record {
   lists = lists_more front (o ∷ []) ∙ (ap (λ n. n + count_lists (o ∷ [])) h.lists ∙ sym m.lists);
 }
 
--- an option that can't be added is said twice
+-- an option that can't be added occurs twice
 pub doubled_by : {A : Type 0} (words now : List (Option (String A))) (name word : List ℕ) (rest : List (Option (String A))) (bounds : OptionWords) (front : List WalkOption)
     → Begins words now front → AreSaidBy bounds front → IsNext now name word rest
     → ((o : WalkOption) → IsOption name word o → IsDoubled (all_in bounds.lower ++ leasts_in (o ∷ [])) (all_in bounds.upper ++ greatests_in (o ∷ [])) (one_if bounds.has_list + count_lists (o ∷ [])))

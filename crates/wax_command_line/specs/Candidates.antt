@@ -1,9 +1,9 @@
--- The lines of a walk.
+-- The lines that a walk writes.
 use Rattle.std.specs.Prelude.{ℕ, Bool, true, false, List, [], ◌∷◌, ◌++◌}
 use Rattle.std.specs.List.{flat_map}
 use Rattle.wax_walk.specs.Given.{Given, kept, alone, with_tree, entry, fault, no_memory}
 
--- the candidate of an entry that is kept, with a line feed; nothing for what is left out, or for an error
+-- the candidate of an entry that is kept, with a line feed; nothing for an excluded entry or an error
 abbrev pub candidate_line : Given → List ℕ
 candidate_line (entry kept f) = f.candidate ++ 10 ∷ []
 candidate_line (entry alone f) = []

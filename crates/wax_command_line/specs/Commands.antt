@@ -1,31 +1,31 @@
--- What the words ask for.
+-- The commands that arguments request.
 use Rattle.std.specs.Prelude.{◌≡◌, ◌≤◌, ◌<◌, ◌+◌, ◌^◌, ⊤, ℕ, List, [], ◌∷◌, Option, Some, String}
 use Rattle.std.specs.Prelude.{string_bytes}
 use Rattle.std.specs.Prelude.{codes, slice_get, unwrap_or}
 use Rattle.std.specs.Str.Parse.{IsNumeral, digits_value}
 
--- the name of a command, and an expression
+-- the arguments are the name of a command and an expression
 abbrev pub Asks : {A : Type 0} → List ℕ → List (Option (String A)) → List ℕ → Type 0
 Asks name (Some command ∷ Some word ∷ []) e =
     (string_bytes command ≡ name) × (e ≡ string_bytes word)
 Asks name _ e = ⊥
 
--- the lines of the input that an expression means
+-- `match`: the lines of the input that an expression matches
 abbrev pub AsksMatch : {A : Type 0} → List (Option (String A)) → List ℕ → Type 0
 AsksMatch words e = Asks (codes "match") words e
 
--- these lines, with what the expression captures of each
+-- `captures`: the lines that an expression matches, with the captures of each
 abbrev pub AsksCaptures : {A : Type 0} → List (Option (String A)) → List ℕ → Type 0
 AsksCaptures words e = Asks (codes "captures") words e
 
--- what is known of an expression
+-- `query`: what is known of an expression
 abbrev pub AsksQuery : {A : Type 0} → List (Option (String A)) → List ℕ → Type 0
 AsksQuery words e = Asks (codes "query") words e
 
 -- ---- walks
 
--- an option of a walk: an expression whose entries are left out, a file with an ignore list, a least depth,
--- or a greatest
+-- an option of a walk: an expression whose matches are excluded, a file with an ignore list, a least depth,
+-- or a greatest depth
 pub data WalkOption : Type 0 where
   excluding : List ℕ → WalkOption
   ignoring : List ℕ → WalkOption
@@ -36,21 +36,21 @@ pub data WalkOption : Type 0 where
 abbrev pub IsNumber : List ℕ → ℕ → Type 0
 IsNumber word n = IsNumeral 10 word × (n ≡ digits_value 10 word) × (n < 2 ^ 64)
 
--- a name and a word say an option
+-- a name and a value spell an option
 abbrev pub IsOption : List ℕ → List ℕ → WalkOption → Type 0
 IsOption name word (excluding e) = (name ≡ codes "not") × (e ≡ word)
 IsOption name word (ignoring file) = (name ≡ codes "ignore") × (file ≡ word)
 IsOption name word (at_least n) = (name ≡ codes "min") × IsNumber word n
 IsOption name word (at_most n) = (name ≡ codes "max") × IsNumber word n
 
--- the words say these options, two words each
+-- the arguments spell these options, two arguments each
 abbrev pub SayEach : {A : Type 0} → List (Option (String A)) → List WalkOption → Type 0
 SayEach [] [] = ⊤
 SayEach (Some name ∷ Some word ∷ words) (o ∷ options) =
     IsOption (string_bytes name) (string_bytes word) o × SayEach words options
 SayEach _ _ = ⊥
 
--- how many of them name an ignore list
+-- how many of the options name an ignore list
 abbrev pub count_lists : List WalkOption → ℕ
 count_lists [] = 0
 count_lists (excluding e ∷ options) = count_lists options
@@ -72,7 +72,7 @@ greatests_in (ignoring file ∷ options) = greatests_in options
 greatests_in (at_least n ∷ options) = greatests_in options
 greatests_in (at_most n ∷ options) = n ∷ greatests_in options
 
--- each at most once, and the least no greater than the greatest
+-- at most one least depth and one greatest depth, and the least is no greater than the greatest
 abbrev pub AreBounds : List ℕ → List ℕ → Type 0
 AreBounds [] [] = ⊤
 AreBounds (m ∷ []) [] = ⊤
@@ -80,11 +80,11 @@ AreBounds [] (n ∷ []) = ⊤
 AreBounds (m ∷ []) (n ∷ []) = m ≤ n
 AreBounds _ _ = ⊥
 
--- the least depth, 0 where none is said
+-- the least depth, or 0 if there is no such option
 abbrev pub least_in : List WalkOption → ℕ
 least_in options = unwrap_or (slice_get (leasts_in options) 0) 0
 
--- the greatest depth, if one is said
+-- the greatest depth, if there is such an option
 abbrev pub greatest_in : List WalkOption → Option ℕ
 greatest_in options = slice_get (greatests_in options) 0
 
@@ -100,15 +100,16 @@ SaysWalk (Some command ∷ Some start ∷ Some expression ∷ options) asked =
     × (asked.expression ≡ string_bytes expression) × SayEach options asked.options
 SaysWalk _ asked = ⊥
 
--- what an expression means below a start, less what others mean and at most one list ignores, of some depths
+-- `walk`: what an expression matches below a start, at the requested depths, without what other expressions
+-- match and what at most one list ignores
 pub record AsksWalk {A : Type 0} (words : List (Option (String A))) (asked : WalkRequest) : Type 0 where
   pub says : SaysWalk words asked
   pub bounds : AreBounds (leasts_in asked.options) (greatests_in asked.options)
   pub lists : count_lists asked.options ≤ 1
 
--- ---- nothing
+-- ---- no command
 
--- they ask for nothing that there is
+-- the arguments request none of these commands
 abbrev pub HasNoCommand : {A : Type 0} → List (Option (String A)) → Type 0
 HasNoCommand words =
     ((e : List ℕ) → (AsksMatch words e → ⊥) × (AsksCaptures words e → ⊥) × (AsksQuery words e → ⊥))

@@ -1,10 +1,10 @@
--- What is read of the words of a walk.
+-- How the arguments of a walk are read.
 use Rattle.std.specs.Prelude.{◌≡◌, ⊤, ℕ, List, ◌∷◌, Option, Some, String, string_bytes}
 use Rattle.wax_tree.specs.Depths.{greatest, least}
 use Rattle.wax_command_line.specs.Commands.{WalkRequest, SayEach, greatest_in, least_in}
 use Rattle.wax_command_line.specs.declared.walk_words.WalkWords.{WalkWords}
 
--- a name and a word, and then the rest
+-- the arguments are a name and a value, and then the rest
 abbrev pub IsNext : {A : Type 0} → List (Option (String A)) → List ℕ → List ℕ → List (Option (String A))
     → Type 0
 IsNext (Some n ∷ Some w ∷ words) name word rest =
@@ -15,7 +15,7 @@ abbrev pub HasNoNext : {A : Type 0} → List (Option (String A)) → Type 0
 HasNoNext (Some n ∷ Some w ∷ words) = ⊥
 HasNoNext words = ⊤
 
--- what is read of the words is what they ask for
+-- what was read from the arguments is what they request
 pub record IsRead (walk : WalkWords) (asked : WalkRequest) : Type 0 where
   pub start : walk.start.now ≡ asked.start
   pub expression : walk.expression.now ≡ asked.expression

@@ -1,4 +1,4 @@
--- What is written of a walk less what filters leave out.
+-- What is written for a walk without what filters exclude.
 use Rattle.std.specs.Prelude.{◌≡◌, ℕ, Bool, List, ◌++◌, Option}
 use Rattle.std.specs.Io.KnownBytes.{Appends}
 use Rattle.std.specs.List.{list_any}
@@ -14,7 +14,7 @@ use Rattle.wax_exclude.specs.Wanted.{Filter}
 use Rattle.wax_command_line.specs.Candidates.{candidate_lines, is_error}
 
 module _ {D C : Type 0} (law : Law D C) (walk : WalkView D) (rules : List (Facts → Mark)) where
-  -- what holds of each request whose walk is seen, less what filters leave out, where the rules are theirs
+  -- P holds of each request whose walk `walk` may be, with the filters of these rules added
   abbrev pub OnRequests : (GlobRequest → Shown → List (List ℕ) → Type 0) → Type 0
   OnRequests P = (d : D) (request : GlobRequest) (filters : List (Filter Span)) (s : Shown)
       (listed : List (List ℕ))
@@ -23,7 +23,7 @@ module _ {D C : Type 0} (law : Law D C) (walk : WalkView D) (rules : List (Facts
       → law.shows d request.origin.path s → law.tells d listed
       → P (request_excluding request filters) s listed
 
-  -- what is wanted of the walk was taken to its end, and the lines of its items were written
+  -- what is wanted of the walk was taken to its end, and the lines of these items were written
   pub record WroteWanted (held held' : Option (List ℕ)) (has_errors : Bool) : Type 0 where
     pub directory : D
     pub items : List Given
@@ -31,7 +31,7 @@ module _ {D C : Type 0} (law : Law D C) (walk : WalkView D) (rules : List (Facts
     pub writes : Appends held held' (candidate_lines items)
     pub errors : has_errors ≡ list_any is_error items
 
-  -- a beginning of the lines of what is wanted was written
+  -- a prefix of the lines of what is wanted was written
   abbrev pub WroteFirst : Option (List ℕ) → Option (List ℕ) → Type 0
   WroteFirst held held' = (bytes : List ℕ) × Appends held held' bytes
       × OnRequests (λ request s _. (unwritten : List ℕ)

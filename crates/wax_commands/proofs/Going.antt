@@ -26,7 +26,7 @@ use Rattle.wax_command_line.specs.Wanted.{OnRequests, WroteFirst, WroteWanted}
 use Rattle.wax_command_line.specs.WalkWords.{IsRead}
 
 module _ {D C : Type 0} (law : Law D C) (d : D) (asked : WalkRequest) (globs : WalkGlobs) (view : WalkView D) where
-  -- what holds on the requests of the walk holds on the walk
+  -- what holds of all requests that the walk may be of holds of the walk
   pub on_walk : (rules : List (Facts → Mark)) (P : GlobRequest → Shown → List (List ℕ) → Type 0)
       → BeginsGlob globs.glob.tree law d asked.start (range_in asked.options) view → AreRulesOf globs.filters rules
       → OnRequests law view rules P → OnWalk law d asked globs P
@@ -38,7 +38,7 @@ module _ {D C : Type 0} (law : Law D C) (d : D) (asked : WalkRequest) (globs : W
         (h.comes b plain) are (goes (h.can b globs.filters plain)) shows told,
   )
 
-  -- the walk begins where it was asked to
+  -- the walk begins at the requested start
   pub begins_so : (start : List ℕ) (b : WalkBehavior) → start ≡ asked.start → behavior_range b ≡ range_in asked.options
       → BeginsGlob globs.glob.tree law d start (behavior_range b) view → BeginsGlob globs.glob.tree law d asked.start (range_in asked.options) view
   begins_so start b e f h =
@@ -54,12 +54,12 @@ abbrev pub environment : {D C Z : Type 0} → Law D C → D → FileAnswers Z �
 environment law d answers = record { law = law; directory = d; answers = answers }
 
 module _ {D C Z : Type 0} (over : Environment D C Z) (walk : WalkWords) (asked : WalkRequest) (read : IsRead walk asked) where
-  -- what the filters are seen as
+  -- the rules are those of the filters that the options request
   abbrev pub AreLeftOut : List (Facts → Mark) → Type 0
   AreLeftOut rules = (os : List WalkOption) → SayEach walk.options.now os
       → (xs : List (Filter Span)) × AreAskedByAll over.answers os xs × AreRulesOf xs rules
 
-  -- nothing is written where something is refused
+  -- nothing is written if the glob or a filter can't be built
   pub ends_no_glob : (held : Option (List ℕ)) → IsRefused walk.expression.now → WalkEnds over asked held held 1
   ends_no_glob held h = refused (no_glob (subst IsRefused read.expression h)) refl refl
 

@@ -1,4 +1,4 @@
--- What the options of a walk leave out, one after another.
+-- What the options of a walk exclude, one after another.
 use Rattle.std.proofs.Common.{◌≡◌, ℕ, List, [], ◌∷◌, ◌++◌, refl, sym, ap, subst, ◌∙◌, append_assoc}
 use Rattle.std.specs.Prelude.{Option, Some, None, String}
 use Rattle.std.proofs.lemmas.List.{append-nil}
@@ -33,7 +33,8 @@ module _ {Z : Type 0} (answers : FileAnswers Z) where
   asked_more (u ∷ os) o xs ys h k =
       (h.0, h.1 ++ ys, h.2, asked_more os o h.1 ys h.3 k, ap (λ v. v ++ ys) h.4 ∙ append_assoc h.0 h.1 ys)
 
-  -- of these options some were taken: what they ask for was built, and the rest says the others
+  -- the first of these options were taken and their filters were built; the rest of the arguments spells the
+  -- others
   pub record SoFar {A : Type 0} (rest : List (Option (String A))) (asked : List WalkOption) (rules : List (Facts → Mark)) : Type 0 where
     pub front : List WalkOption
     pub left : List WalkOption
@@ -74,7 +75,7 @@ module _ {Z : Type 0} (answers : FileAnswers Z) where
           are = subst (AreRulesOf (h.filters ++ added.0)) (sym added.4) (rules_more h.filters added.0 rules added.1 h.are added.3);
         }
 
-    -- the first that is refused
+    -- the first option whose filter can't be built
     pub so_far_refused : ((o : WalkOption) → IsOption name word o → IsRefusedOption answers o) → HasRefused answers asked
     so_far_refused refused = record {
       before = h.front;

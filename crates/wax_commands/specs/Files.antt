@@ -9,17 +9,17 @@ use Rattle.wax_token.specs.Reads.{Span}
 use Rattle.wax_exclude.specs.Ignored.{Line}
 use Rattle.wax_commands.specs.declared.files.FileFault.{FileFault}
 
--- what may be answered of a file, by its name
+-- what reading a file may return, by the name of the file
 abbrev pub FileAnswers : Type 0 → Type 1
 FileAnswers Z = List ℕ → Result (Vec ℕ Z) FileFault → Type 0
 
 module _ {Z : Type 0} (answers : FileAnswers Z) where
-  -- the file holds a text, of which these are the lines that aren't skipped
+  -- the file is UTF-8 text, whose lines that aren't skipped are read as these
   abbrev pub IsListIn : List ℕ → List (Line Span) → Type 0
   IsListIn file lines = (bytes : Vec ℕ Z) × answers file (Ok bytes) × IsUtf8 bytes.items
       × AllZip IsReadAs (written_lines bytes.items) lines
 
-  -- the file can't be read, or holds no text, or the text is no list; or memory was refused
+  -- the file can't be read, isn't UTF-8 text, or isn't an ignore list; or allocation failed
   pub data IsUnlisted (file : List ℕ) : Type 0 where
     unread : (fault : FileFault) → answers file (Err fault) → IsUnlisted file
     no_text : (bytes : Vec ℕ Z) → answers file (Ok bytes) → ¬ (IsUtf8 bytes.items) → IsUnlisted file

@@ -5,16 +5,16 @@ use Rattle.wax.specs.Headline.{IsGlob}
 use Rattle.wax.specs.GlobView.{GlobView}
 use Rattle.wax_commands.specs.Refused.{IsRefused}
 
--- some bytes were written, or none
+-- zero or more bytes were written
 abbrev pub Writes : Option (List ℕ) → Option (List ℕ) → Type 0
 Writes held held' = (bytes : List ℕ) × Appends held held' bytes
 
--- It was asked what is known of the expression e. `held` is what the writer holds, before and after.
+-- The query of the expression e was run. `held` is what the writer holds, before and after.
 pub data QueryEnds (e : List ℕ) (held held' : Option (List ℕ)) (status : ℕ) : Type 0 where
-  -- what is known of the glob was written
+  -- a glob was built, and its output was written
   done : (g : GlobView) → IsGlob (chars e) g → Writes held held'
       → status ≡ 0 → QueryEnds e held held' status
-  -- a beginning of it, or nothing
+  -- a glob was built, and a prefix of its output was written, or nothing
   stopped : (g : GlobView) → IsGlob (chars e) g → Writes held held'
       → status ≡ 1 → QueryEnds e held held' status
   -- no glob was built, and nothing was written

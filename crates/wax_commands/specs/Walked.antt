@@ -27,7 +27,7 @@ use Rattle.wax_command_line.specs.Commands.{greatest_in, least_in}
 use Rattle.wax_commands.specs.Files.{FileAnswers, IsListIn, IsUnlisted}
 use Rattle.wax_commands.specs.Refused.{IsRefused}
 
--- what a walk is run over: a directory, with its law, and what may be answered of files
+-- what a walk is run over: a directory, with its law, and what reading files may return
 pub record Environment (D C Z : Type 0) : Type 1 where
   pub law : Law D C
   pub directory : D
@@ -39,13 +39,13 @@ pub record Environment (D C Z : Type 0) : Type 1 where
 abbrev pub IsNotOf : List ℕ → Tree Span → Type 0
 IsNotOf e t = FitsAlone (Spells (chars e)) t
 
--- the glob, and what is left out
+-- the glob, and the filters of what is excluded
 pub record WalkGlobs : Type 0 where
   pub glob : GlobView
   pub filters : List (Filter Span)
 
 module _ {Z : Type 0} (answers : FileAnswers Z) where
-  -- the filters that an option asks for: one, or none
+  -- the filters that an option requests: one, or none
   abbrev pub AreAskedBy : WalkOption → List (Filter Span) → Type 0
   AreAskedBy (excluding e) (not_meant t ∷ []) = IsNotOf e t
   AreAskedBy (ignoring file) (not_ignored lines ∷ []) = IsListIn answers file lines
@@ -53,13 +53,13 @@ module _ {Z : Type 0} (answers : FileAnswers Z) where
   AreAskedBy (at_most n) [] = ⊤
   AreAskedBy _ _ = ⊥
 
-  -- those that options ask for, in order
+  -- the filters that options request, in order
   abbrev pub AreAskedByAll : List WalkOption → List (Filter Span) → Type 0
   AreAskedByAll [] filters = filters ≡ []
   AreAskedByAll (o ∷ options) filters = (first rest : List (Filter Span)) × AreAskedBy o first
       × AreAskedByAll options rest × (filters ≡ first ++ rest)
 
-  -- what an option asks for is refused
+  -- the filter that an option requests can't be built
   abbrev pub IsRefusedOption : WalkOption → Type 0
   IsRefusedOption (excluding e) =
       (error : BuildError) × NoExclusion (Spells (chars e)) (Refuses (chars e)) error
@@ -67,7 +67,7 @@ module _ {Z : Type 0} (answers : FileAnswers Z) where
   IsRefusedOption (at_least n) = ⊥
   IsRefusedOption (at_most n) = ⊥
 
-  -- one of these options is refused, and what each one before it asks for was built
+  -- the filter of one of these options can't be built, and those of the options before it were built
   pub record HasRefused (options : List WalkOption) : Type 0 where
     pub before : List WalkOption
     pub filters : List (Filter Span)
@@ -77,12 +77,12 @@ module _ {Z : Type 0} (answers : FileAnswers Z) where
     pub after : List WalkOption
     pub all : options ≡ before ++ option ∷ after
 
-  -- all that is asked for was built
+  -- the requested glob and filters were built
   pub record AreBuilt (asked : WalkRequest) (globs : WalkGlobs) : Type 0 where
     pub glob : IsGlob (chars asked.expression) globs.glob
     pub filters : AreAskedByAll asked.options globs.filters
 
-  -- the glob is refused, or else something that is left out
+  -- the glob can't be built, or it was built and a filter can't be
   pub data IsUnbuilt (asked : WalkRequest) : Type 0 where
     no_glob : IsRefused asked.expression → IsUnbuilt asked
     no_filter : (g : GlobView) → IsGlob (chars asked.expression) g → HasRefused asked.options
@@ -90,7 +90,7 @@ module _ {Z : Type 0} (answers : FileAnswers Z) where
 
 -- ---- walks
 
--- the depths that are asked for
+-- the requested depths, with the greatest budget
 abbrev pub range_in : List WalkOption → DepthRange
 range_in options = record {
   min = least_in options;
@@ -99,37 +99,37 @@ range_in options = record {
 }
 
 module _ {D C : Type 0} (law : Law D C) (d : D) (asked : WalkRequest) (globs : WalkGlobs) where
-  -- what holds of the walk, from wherever it begins, of whatever the directory shows there
+  -- P holds of the requested walk, wherever it begins and whatever the directory shows there
   abbrev pub OnWalk : (GlobRequest → Shown → List (List ℕ) → Type 0) → Type 0
   OnWalk P = (depth : Bounds) × Depth globs.glob.tree depth
       × ((b : Beginning globs.glob.tree) (s : Shown) (listed : List (List ℕ)) → ArePlain b.names
       → law.shows d (origin_from asked.start b.rooted b.names).path s → law.tells d listed
       → P (request_of asked.start (range_in asked.options) depth b globs.filters) s listed)
 
-  -- these items were kept of the walk, to its end
+  -- the walk kept these items, to its end
   abbrev pub KeepsAllWanted : List Given → Type 0
   KeepsAllWanted items =
       (d' : D) × OnWalk (λ request s listed. KeepsWanted (law.tells d') request s listed items)
 
-  -- these bytes are a beginning of the lines of all that is kept of the walk
+  -- these bytes are a prefix of the lines of all that the walk keeps
   abbrev pub StartsLines : List ℕ → Type 0
   StartsLines bytes = OnWalk (λ request s listed.
       (rest : List ℕ) × (bytes ++ rest ≡ candidate_lines (preorder (request_walk request s))))
 
--- The walk that is asked for was run. `held` is what the writer holds, before and after.
+-- The requested walk was run. `held` is what the writer holds, before and after.
 pub data WalkEnds {D C Z : Type 0} (over : Environment D C Z) (asked : WalkRequest)
     (held held' : Option (List ℕ)) (status : ℕ) : Type 0 where
-  -- the candidates of all that is kept were written, and no item was an error
+  -- the candidates of all kept entries were written, and no item was an error
   done : (globs : WalkGlobs) (items : List Given) → AreBuilt over.answers asked globs
       → KeepsAllWanted over.law over.directory asked globs items → Appends held held' (candidate_lines items)
       → list_any is_error items ≡ false → status ≡ 0 → WalkEnds over asked held held' status
-  -- the same, but some item was an error
+  -- the candidates of all kept entries were written, and some item was an error
   faulty : (globs : WalkGlobs) (items : List Given) → AreBuilt over.answers asked globs
       → KeepsAllWanted over.law over.directory asked globs items → Appends held held' (candidate_lines items)
       → list_any is_error items ≡ true → status ≡ 3 → WalkEnds over asked held held' status
-  -- a beginning of the lines was written
+  -- a prefix of the lines was written
   stopped : (globs : WalkGlobs) (bytes : List ℕ) → AreBuilt over.answers asked globs
       → Appends held held' bytes → StartsLines over.law over.directory asked globs bytes → status ≡ 1
       → WalkEnds over asked held held' status
-  -- something was refused, and nothing was written
+  -- the glob or a filter couldn't be built, and nothing was written
   refused : IsUnbuilt over.answers asked → held' ≡ held → status ≡ 1 → WalkEnds over asked held held' status

@@ -1,4 +1,4 @@
--- What a look-up finds among the items of a folder, and what a visit of all folders tells.
+-- What a look-up finds among the items of a folder, and what a visit of all folders shows.
 use Rattle.std.proofs.Common.{◌≡◌, ℕ, ◌+◌, ◌<◌, Bool, true, false, cond, List, [], ◌∷◌, ◌++◌, map, take, drop}
 use Rattle.std.proofs.Common.{get_or, length, Option, Some, None, Bor, string_bytes, slice_get, ◌||◌}
 use Rattle.std.proofs.Common.{below_more, refl, sym, ◌∙◌, ap, subst, append-nil, rules}
@@ -94,7 +94,7 @@ pub names_entry : (items : List TreeItem) (k : ℕ) (i : TreeItem) (name : _) (n
 names_entry items k i name n lt is e = names_more items k i lt is ∙ ap
     (λ l. names_of (take k items) ++ name_before l []) (ap out-TreeItem e ∙ out_entry name n)
 
--- a name that was seen before stands twice
+-- a name that was seen before occurs twice, so the names aren't distinct
 pub seen_twice : (items : List TreeItem) (k : ℕ) (i : TreeItem) (name : _) (n : Node) → k < length items
     → i ≡ get_or items k i → i ≡ Entry name n → list_any (bytes_eq (string_bytes name))
     (names_of (take k items)) ≡ true → are_distinct (names_of items) ≡ false

@@ -99,7 +99,7 @@ rest_still (misnamed y kind rest) e = absurd (cc)
 rest_still (unread rest) e = absurd (cc)
 rest_still (not_text rest) e = absurd (cc)
 
--- where there was no item, and where memory was refused, the same is to come
+-- if there was no item, and if allocation failed, the same items are still to come
 pub coming_still : {C : Type 0} (old new : C → Items → Type 0) (cursor next : C) (items : List ListItem)
     (s : Shown) (o : Option ListItem) → o ≡ None → ((l : Items) → old cursor l → NextIs new l (Ok o) next)
     → Coming (old cursor) s items → Coming (new next) s items

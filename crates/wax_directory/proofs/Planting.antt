@@ -1,4 +1,4 @@
--- What a node is that is made of tails.
+-- What a node shows that is made from tails.
 use Rattle.std.proofs.Common.{◌≡◌, ℕ, ◌+◌, ◌<◌, ◌≤◌, arith, zero, suc, Bool, true, false, cond, ◌||◌, ◌⊎◌}
 use Rattle.std.proofs.Common.{inl, inr, List, [], ◌∷◌, ◌++◌, map, drop, get_or, length, Option, Some, None}
 use Rattle.std.proofs.Common.{MatchBool, string_bytes, slice_get, if◌then◌else◌, refl, sym, ◌∙◌, ap, subst}
@@ -142,7 +142,7 @@ kept : (x : List ℕ) (more names : List (List ℕ)) → holds_name x names ≡ 
 kept x [] names h = h
 kept x (y ∷ more) names h = kept x more (added names y) (kept_added x names y h)
 
--- with a name that is not among them none begins
+-- no tail begins with a name that isn't among the first names
 absent : (x : List ℕ) (tails : List PathTail) (names : List (List ℕ))
     → holds_name x (with_new names (filter_map first_name tails)) ≡ false → below_name x tails ≡ []
 absent x [] names h = refl
@@ -234,7 +234,7 @@ names_same names tails k r lt is e =
     names_step names tails k r lt is ∙ ap
     (λ l. with_new l (filter_map first_name (drop (k + 1) tails))) (not_new (first_name r) names e)
 
--- and one whose first name is new adds that
+-- a tail whose first name is new adds that
 pub names_grown : (names more : List (List ℕ)) (tails : List PathTail) (k : ℕ) (r : PathTail) (x : List ℕ)
     → k < length tails → r ≡ get_or tails k r → IsNewOf names (first_name r) x → more ≡ names ++ x ∷ []
     → with_new names (filter_map first_name (drop k tails)) ≡ with_new more
@@ -245,7 +245,7 @@ names_grown names more tails k r x lt is new e =
     ∙ ap (λ b. with_new (cond b names (names ++ x ∷ [])) (filter_map first_name (drop (k + 1) tails))) new.1
     ∙ ap (λ l. with_new l (filter_map first_name (drop (k + 1) tails))) (sym e)
 
--- at the end all are there
+-- at the end all first names were collected
 pub names_all : (names whole : List (List ℕ)) (tails : List PathTail) (k : ℕ) → length tails ≤ k
     → with_new names (filter_map first_name (drop k tails)) ≡ whole → names ≡ whole
 names_all names whole tails k le e =
@@ -266,7 +266,7 @@ pub name_free : (names : List (List ℕ)) (o : Option (List ℕ)) (x : List ℕ)
 name_free names o x e h =
     sym (ap (new_name names) e ∙ ap (λ (b : Bool). cond b None (Some x)) h)
 
--- ---- what stands where nothing leads on
+-- ---- what is shown where no tail leads on
 
 rests_none : (names : List (List ℕ)) → rests names [] ≡ []
 rests_none [] = refl

@@ -1,4 +1,4 @@
--- What a directory answers.
+-- What the calls of a directory return.
 use Rattle.std.specs.Prelude.{◌≡◌, ℕ, map, take, Option, Some, None, Result, Ok, Err, Vec, string_bytes, ⊤}
 use Rattle.std.specs.Option.{option_map}
 use Rattle.wax_query.specs.declared.diagnostics.NoMemory.{NoMemory}
@@ -16,7 +16,7 @@ listed_of (I.Name x kind) = named (string_bytes x) kind
 listed_of I.Failed = no_item
 listed_of I.NotText = no_name
 
--- the answer to the question what stands there, unless memory was refused
+-- the result of `kind` at a path where s is shown; nothing is claimed if allocation fails
 abbrev pub KindIs : Shown → Result (Option FileType) DirectoryFault → Type 0
 KindIs s (Err Memory) = ⊤
 KindIs (a_leaf link) r = r ≡ Ok (Some (leaf_kind link))
@@ -25,22 +25,23 @@ KindIs a_sealed r = r ≡ Ok (Some F.Folder)
 KindIs missing r = r ≡ Ok None
 KindIs failing r = r ≡ Err Failed
 
--- the answer where this is opened, unless memory was refused: a folder's items are to come, and nothing else
--- can be opened
+-- the result of `open` at a path where s is shown: a cursor that has the items of a folder, and `Failed` for
+-- anything else; nothing is claimed if allocation fails
 abbrev pub Opens : {C : Type 0} → (C → Items → Type 0) → Shown → Result C DirectoryFault → Type 0
 Opens holds s (Err Memory) = ⊤
 Opens holds (a_folder l) (Ok cursor) = holds cursor l
 Opens holds (a_folder l) (Err Failed) = ⊥
 Opens holds s r = r ≡ Err Failed
 
--- the answer where these items are to come, and then the others; all of them, where memory was refused
+-- the result of `next` for a cursor that has the items l: the first of them, if any, and then the cursor has
+-- the others; if allocation fails, it still has them all
 abbrev pub NextIs : {C : Type 0} → (C → Items → Type 0) → Items → Result (Option ListItem) NoMemory → C
     → Type 0
 NextIs holds l (Ok answer) cursor = (option_map listed_of answer ≡ first_item l) × holds cursor (rest_of l)
 NextIs holds l (Err e) cursor = holds cursor l
 
--- the answer where so many items of this are asked for, unless memory was refused: the first ones of a
--- folder; and nothing else can be listed
+-- the result of listing at most `most` items at a path where s is shown: the first items of a folder, and
+-- `Failed` for anything else; nothing is claimed if allocation fails
 abbrev pub ListIs : {Z : Type 0} → ℕ → Shown → Result (Vec ListItem Z) DirectoryFault → Type 0
 ListIs most s (Err Memory) = ⊤
 ListIs most (a_folder l) (Ok answer) = map listed_of answer.items ≡ take most (listing l)

@@ -10,18 +10,20 @@ use Rattle.wax_directory.specs.Counting.{Counts, kind_counts, opening_counts, ne
 use Rattle.wax_directory.specs.Law.{Law, ShowsSame, HoldsSame, HoldsLast}
 use Rattle.wax_directory.specs.Shown.{Items, Shown}
 
--- after this answer to `open`, of the folders that were told; where memory was refused, this one may be told
--- or not
+-- the reported list of opened folders after this result of `open`: the path was appended; if allocation
+-- failed, it was appended or not
 abbrev pub TellsOpened : {A : Type 0} → (List (List ℕ) → Type 0) → List ℕ → Result A DirectoryFault
     → List (List ℕ) → Type 0
 TellsOpened tells path (Err Memory) told = tells told ⊎ tells (told ++ path ∷ [])
 TellsOpened tells path r told = tells (told ++ path ∷ [])
 
 module _ {D C : Type 0} (law : Law D C) where
+  -- `open` at the path returned r; a returned cursor is the last open one, and the others have what they had
   abbrev pub OpensAt : D → List ℕ → Result C DirectoryFault → D → Type 0
   OpensAt old path r new = (cursors : List C) (ls : List Items) (s : Shown) → law.holds old cursors ls
       → law.shows old path s → Opens (HoldsLast law new cursors ls) s r
 
+  -- `next` of the last open cursor returned r and left it as `next`; the others have what they had
   abbrev pub Nexts : D → C → Result (Option ListItem) NoMemory → D → C → Type 0
   Nexts old cursor r new next = (cursors : List C) (ls : List Items) (l : Items)
       → HoldsLast law old cursors ls cursor l → NextIs (HoldsLast law new cursors ls) l r next

@@ -1,4 +1,4 @@
--- Nodes that are alike but for the memory of their texts.
+-- Copies of nodes.
 use Rattle.std.specs.Prelude.{◌≡◌, ℕ, List, Option}
 use Rattle.std.specs.Option.{option_map}
 use Rattle.wax_directory.specs.declared.tree.Node.{Node}
@@ -8,7 +8,7 @@ use Rattle.wax_directory.specs.Nodes.{reached, shown_reached, held_of, node_at, 
 abbrev pub names_at : List ℕ → Node → Option (List (List ℕ))
 names_at places n = option_map names_of (held_of (node_at places n))
 
--- along all names it shows the same, and at all places stand the same names
+-- the copy shows the same along any names, and has the same names at any places
 pub record IsCopy (n copy : Node) : Type 0 where
   pub shows : (names : List (List ℕ)) → shown_reached (reached names copy) ≡ shown_reached (reached names n)
   pub names : (places : List ℕ) → names_at places copy ≡ names_at places n

@@ -1,4 +1,4 @@
--- What a directory counts of the calls that were made.
+-- What a directory counts of its calls.
 use Rattle.std.specs.Prelude.{◌≡◌, ℕ, ◌+◌, ◌^◌, ◌-◌, min, max, cond, List, [], ◌∷◌, Option, Some, None}
 use Rattle.std.specs.Prelude.{Result, Ok, Err, string_bytes}
 use Rattle.wax_query.specs.declared.diagnostics.NoMemory.{NoMemory}
@@ -14,7 +14,7 @@ use Rattle.wax_directory.specs.Names.{is_plain}
 abbrev pub no_counts : Tally
 no_counts = record { misses = 0; leaves = 0; failures = 0; items = 0; bad_names = 0 }
 
--- what an answer of `kind` adds: nothing is there, or a file or a link, or it failed
+-- what a result of `kind` adds: a miss if nothing is there, a leaf for a file or a link, or a failure
 abbrev pub kind_counts : Result (Option FileType) DirectoryFault → Tally
 kind_counts (Ok None) = record no_counts { misses = 1 }
 kind_counts (Ok (Some F.File)) = record no_counts { leaves = 1 }
@@ -23,7 +23,7 @@ kind_counts (Ok (Some F.Folder)) = no_counts
 kind_counts (Err Failed) = record no_counts { failures = 1 }
 kind_counts (Err Memory) = no_counts
 
--- what an answer of `open` adds
+-- what a result of `open` adds
 abbrev pub opening_counts : {A : Type 0} → Result A DirectoryFault → Tally
 opening_counts (Ok cursor) = no_counts
 opening_counts (Err Failed) = record no_counts { failures = 1 }
@@ -36,7 +36,7 @@ item_counts (I.Name name kind) =
 item_counts I.Failed = record no_counts { items = 1; failures = 1 }
 item_counts I.NotText = record no_counts { items = 1; failures = 1 }
 
--- what an answer of `next` adds
+-- what a result of `next` adds
 abbrev pub next_counts : Result (Option ListItem) NoMemory → Tally
 next_counts (Ok None) = no_counts
 next_counts (Ok (Some x)) = item_counts x
@@ -56,7 +56,7 @@ abbrev pub items_counts : List ListItem → Tally
 items_counts [] = no_counts
 items_counts (x ∷ items) = plus (item_counts x) (items_counts items)
 
--- so many more, but no more than the greatest u64
+-- n added to a count, which stops at the greatest u64
 abbrev pub grown : ℕ → ℕ → ℕ
 grown n old = max old (min (old + n) (2 ^ 64 - 1))
 
@@ -69,7 +69,7 @@ after_counting n old = record {
   bad_names = grown n.bad_names old.bad_names;
 }
 
--- so much was counted
+-- each count grew by that of n, up to the greatest u64
 pub record Counts (n old new : Tally) : Type 0 where
   pub misses : new.misses ≡ grown n.misses old.misses
   pub leaves : new.leaves ≡ grown n.leaves old.leaves

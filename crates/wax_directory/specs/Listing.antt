@@ -1,4 +1,4 @@
--- What a directory tells and counts where all items of a folder are asked for.
+-- What a directory reports and counts when the items of a folder are listed in one call.
 use Rattle.std.specs.Prelude.{ℕ, ◌≤◌, ◌⊎◌, List, [], ◌∷◌, ◌++◌, length, Result, Ok, Err, Vec}
 use Rattle.wax_directory.specs.declared.directory.ListItem.{ListItem}
 use Rattle.wax_directory.specs.declared.directory.DirectoryFault.{DirectoryFault}
@@ -8,19 +8,20 @@ use Rattle.wax_directory.specs.Counting.{Counts, no_counts, items_counts}
 use Rattle.wax_directory.specs.Law.{Law}
 use Rattle.wax_directory.specs.Shown.{Items, Shown}
 
--- where something is shown at the path, the open cursors have what they had
+-- if anything is shown at the path, the open cursors have the items that they had
 module _ {D C : Type 0} (law : Law D C) where
   abbrev pub HeldWhereShown : List ℕ → D → D → Type 0
   HeldWhereShown path old new = (s : Shown) (cursors : List C) (ls : List Items) → law.shows old path s
       → law.holds old cursors ls → law.holds new cursors ls
 
--- the folder was told; where memory was refused, it may be told or not
+-- the path was appended to the reported list of opened folders; if allocation failed, it was appended or not
 abbrev pub TellsListed : {Z : Type 0} → (List (List ℕ) → Type 0) → List ℕ
     → Result (Vec ListItem Z) DirectoryFault → List (List ℕ) → Type 0
 TellsListed tells path (Err Memory) t = tells t ⊎ tells (t ++ path ∷ [])
 TellsListed tells path r t = tells (t ++ path ∷ [])
 
--- the items that are answered were counted; where memory was refused, those that were taken till then
+-- the returned items were counted, or one failure; if allocation failed, the items that were taken until
+-- then, at most `most`
 abbrev pub CountsListed : {Z : Type 0} → ℕ → Result (Vec ListItem Z) DirectoryFault → Tally → Tally → Type 0
 CountsListed most (Ok answer) old new = Counts (items_counts answer.items) old new
 CountsListed most (Err Failed) old new = Counts (record no_counts { failures = 1 }) old new

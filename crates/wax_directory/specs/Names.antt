@@ -16,11 +16,11 @@ abbrev pub is_some_name : List ℕ → Bool
 is_some_name [] = false
 is_some_name (c ∷ name) = true
 
--- the names of a path: what stands between its `/`, but for empty parts
+-- the names of a path: its parts between `/`, without the empty ones
 abbrev pub names_in_path : List ℕ → List (List ℕ)
 names_in_path path = filter is_some_name (slice_split (λ c. c == 47) path)
 
--- the path is taken from the root
+-- the path begins with `/`, so it starts at the root
 abbrev pub is_rooted : List ℕ → Bool
 is_rooted [] = false
 is_rooted (c ∷ path) = c == 47

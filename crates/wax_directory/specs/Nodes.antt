@@ -15,12 +15,12 @@ use Rattle.wax_directory.specs.Shown.{a_leaf, a_folder, a_sealed, missing, faili
 use Rattle.wax_directory.specs.Shown.{no_name, leaf_kind}
 use Rattle.wax_directory.specs.Names.{is_plain, are_distinct}
 
--- what a folder shows is of this kind
+-- the file type of what is shown; what isn't a leaf counts as a folder
 abbrev pub kind_of : Shown → FileType
 kind_of (a_leaf link) = leaf_kind link
 kind_of s = Folder
 
--- an entry before others
+-- an entry before the rest; nothing is added if s is missing or failing
 abbrev pub with_plain : List ℕ → Shown → Items → Items
 with_plain name (a_leaf link) rest = leaf name link rest
 with_plain name (a_folder l) rest = folder name l rest
@@ -57,7 +57,7 @@ item_shown = fold-TreeItem Shown (Items → Items) node_step item_step
 abbrev pub items_shown : List TreeItem → Items
 items_shown items = all_items (map item_shown items)
 
--- an item alone
+-- an item as it is listed, without what is below it
 abbrev pub listed_layer : TreeItem-F Node TreeItem → Listed
 listed_layer (O.Entry name node) = named (string_bytes name) (kind_of (shown_of node))
 listed_layer O.Failed = no_item
@@ -91,7 +91,7 @@ abbrev pub child_of : Option (List TreeItem) → ℕ → Option Node
 child_of None place = None
 child_of (Some items) place = entry_node (slice_get items place)
 
--- what stands at the place of an item
+-- the node of the item at this place in a folder
 abbrev pub child_at : ℕ → Node → Option Node
 child_at place n = child_of (held n) place
 
@@ -99,7 +99,7 @@ abbrev pub and_below : (Node → Option Node) → Option Node → Option Node
 and_below f None = None
 and_below f (Some n) = f n
 
--- what stands below a node, from place to place
+-- the node below n that the places lead to, one place for each folder on the way
 abbrev pub node_at : List ℕ → Node → Option Node
 node_at [] n = Some n
 node_at (place ∷ places) n = and_below (node_at places) (child_at place n)
@@ -133,7 +133,7 @@ abbrev pub named_before : List ℕ → TreeItem-F Node TreeItem → Reached → 
 named_before x (O.Entry name node) later = cond (bytes_eq (string_bytes name) x) (to_node node) later
 named_before x i later = later
 
--- the entry of this name
+-- the first entry with this name
 abbrev pub named_in : List ℕ → List TreeItem → Reached
 named_in x [] = to_nothing
 named_in x (i ∷ items) = named_before x (out-TreeItem i) (named_in x items)
@@ -148,8 +148,8 @@ onward f (to_node n) = f n
 onward f to_nothing = to_nothing
 onward f to_sealed = to_sealed
 
--- from name to name: through a file or a link leads nothing, and a folder that can't be listed hides what is
--- in it
+-- follows the names from a node: nothing is below a file or a link, and a folder that can't be listed hides
+-- what is in it
 abbrev pub reached : List (List ℕ) → Node → Reached
 reached [] n = to_node n
 reached (x ∷ names) n = onward (reached names) (below_layer x (out-Node n))

@@ -1,4 +1,4 @@
--- What a directory shows: trees of files, links and folders, with faults at their places.
+-- What a directory shows: trees of files, links and folders, with errors in their places.
 use Rattle.std.specs.Prelude.{◌≡◌, ℕ, Bool, true, false, cond, List, [], ◌∷◌, ◌++◌, Option, Some, None}
 use Rattle.std.specs.Prelude.{nat_eq, ⊤}
 use Rattle.std.specs.List.{Contains}
@@ -6,7 +6,7 @@ use Rattle.std.specs.Str.{bytes_eq, IsUtf8}
 use Rattle.wax_directory.specs.declared.directory.FileType.{FileType}
 use Rattle.wax_directory.specs.declared.directory.FileType.TheVariants.{File, Link, Folder}
 
--- what a folder holds, in order: each folder with what it holds
+-- the items of a folder, in order; a folder among them has its own items
 pub data Items : Type 0 where
   end : Items
   leaf : List ℕ → Bool → Items → Items  -- a file, or a link
@@ -16,7 +16,7 @@ pub data Items : Type 0 where
   unread : Items → Items  -- an item that couldn't be read
   not_text : Items → Items  -- an item whose name isn't text
 
--- what stands at a path
+-- what is at a path
 pub data Shown : Type 0 where
   a_leaf : Bool → Shown
   a_folder : Items → Shown
@@ -32,7 +32,7 @@ pub record IsPlain (name : List ℕ) : Type 0 where
   pub not_above : ¬ (name ≡ 46 ∷ 46 ∷ [])
   pub one_name : ¬ (Contains name 47)
 
--- a path is empty or ends with `/`, so that a name may follow at once
+-- the path is empty or ends with `/`, so that a name can be appended directly
 abbrev pub is_open : List ℕ → Bool
 is_open [] = true
 is_open (c ∷ []) = nat_eq c 47
@@ -42,7 +42,7 @@ is_open (c ∷ d ∷ path) = is_open (d ∷ path)
 abbrev pub join : List ℕ → List ℕ → List ℕ
 join path name = cond (is_open path) (path ++ name) (path ++ 47 ∷ name)
 
--- each thing that a folder holds is shown at its path
+-- each entry of a folder has a plain name and is shown at its path; a misnamed entry has no plain name
 abbrev pub ShowsIn : (List ℕ → Shown → Type 0) → List ℕ → Items → Type 0
 ShowsIn shows path end = ⊤
 ShowsIn shows path (leaf x link rest) = IsPlain x × shows (join path x) (a_leaf link) × ShowsIn shows path
@@ -54,7 +54,7 @@ ShowsIn shows path (misnamed x kind rest) = ¬ (IsPlain x) × ShowsIn shows path
 ShowsIn shows path (unread rest) = ShowsIn shows path rest
 ShowsIn shows path (not_text rest) = ShowsIn shows path rest
 
--- what stands under a name in a folder
+-- what a folder has under a name
 abbrev pub child_in : List ℕ → Items → Shown
 child_in x end = missing
 child_in x (leaf y link rest) = cond (bytes_eq y x) (a_leaf link) (child_in x rest)
@@ -64,8 +64,8 @@ child_in x (misnamed y kind rest) = child_in x rest
 child_in x (unread rest) = child_in x rest
 child_in x (not_text rest) = child_in x rest
 
--- what stands under a name in what is shown: a folder that can't be listed hides it, and nothing is in a file
--- or a link
+-- what is under a name in what is shown: a folder that can't be listed hides it, and nothing is in a file or
+-- a link
 abbrev pub child_shown : List ℕ → Shown → Shown
 child_shown x (a_leaf link) = missing
 child_shown x (a_folder l) = child_in x l
@@ -73,7 +73,7 @@ child_shown x a_sealed = failing
 child_shown x missing = missing
 child_shown x failing = failing
 
--- no entry of a folder stands under this name
+-- no entry of the folder has this name
 abbrev pub IsNew : List ℕ → Items → Type 0
 IsNew x end = ⊤
 IsNew x (leaf y link rest) = ¬ (y ≡ x) × IsNew x rest
@@ -97,7 +97,7 @@ abbrev pub IsDistinct : Shown → Type 0
 IsDistinct (a_folder l) = AreDistinct l
 IsDistinct s = ⊤
 
--- an item alone
+-- an item of a listing: a name and a kind, an item that couldn't be read, or a name that isn't text
 pub data Listed : Type 0 where
   named : List ℕ → FileType → Listed
   no_item : Listed
@@ -125,7 +125,7 @@ rest_of (misnamed x kind rest) = rest
 rest_of (unread rest) = rest
 rest_of (not_text rest) = rest
 
--- the items one by one
+-- the items as they are listed, without what is below them
 abbrev pub listing : Items → List Listed
 listing end = []
 listing (leaf x link rest) = named x (leaf_kind link) ∷ listing rest

@@ -1,4 +1,4 @@
--- A directory that starves once does what the one inside does.
+-- The law of a directory that runs out of memory once: that of the directory inside.
 use Rattle.wax_directory.specs.declared.starving.Starving.{Starving}
 use Rattle.wax_directory.specs.Law.{Law}
 

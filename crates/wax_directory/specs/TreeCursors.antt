@@ -1,4 +1,4 @@
--- The open cursors of a tree, of which the last one is moved or dropped.
+-- The open cursors of a tree, when one is opened, and when the last one is advanced or dropped.
 use Rattle.std.proofs.Common.{◌≡◌, List, [], ◌∷◌, ◌++◌, Result, Ok, Err, subst}
 use Rattle.wax_directory.specs.declared.directory.DirectoryFault.{DirectoryFault}
 use Rattle.wax_directory.specs.declared.directory.DirectoryFault.TheVariants.{Failed, Memory}
@@ -39,7 +39,7 @@ module _ (working root : Node) where
   one_more (other ∷ cursors) [] cursor l h here = absurd h
   one_more (other ∷ cursors) (m ∷ ls) cursor l h here = (h.0, one_more cursors ls cursor l h.1 here)
 
-  -- a folder that is opened is one more
+  -- opening a folder adds a cursor
   pub opens_last : (cursors : List TreeCursor) (ls : List Items) → HaveEach working root cursors ls
       → (at s : Shown) → at ≡ s → (r : Result TreeCursor DirectoryFault) → Opens (HasItems working root) at r
       → Opens (λ cursor l. HaveEach working root (cursors ++ cursor ∷ []) (ls ++ l ∷ [])) s r

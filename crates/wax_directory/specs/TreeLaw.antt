@@ -1,4 +1,4 @@
--- What a folder of a tree holds is shown at its path.
+-- A tree shows each entry of a folder at its path, and its names are distinct.
 use Rattle.std.proofs.Common.{◌≡◌, ◌<◌, ◌+◌, arith, ℕ, zero, suc, Bool, true, false, not, cond, ◌&&◌, ◌==◌}
 use Rattle.std.proofs.Common.{◌⊎◌, List, [], ◌∷◌, ◌++◌, filter, Option, Some, None, string_bytes, slice_get}
 use Rattle.std.proofs.Common.{slice_index_or, if◌then◌else◌, refl, sym, ◌∙◌, ap, subst, inl, inr}
@@ -64,7 +64,7 @@ node_or d to_sealed = d
 to_node_same : (a b : Node) → to_node a ≡ to_node b → a ≡ b
 to_node_same a b e = ap (node_or a) e
 
--- an entry of this name has a place
+-- the node is that of an entry at some place
 abbrev pub IsPlaced : List TreeItem → Node → Type 0
 IsPlaced items m = (place : ℕ) × (entry_node (slice_get items place) ≡ Some m)
 
@@ -96,7 +96,7 @@ below_child_layer x n m O.File is e = absurd (cc)
 below_child_layer x n m O.Link is e = absurd (cc)
 below_child_layer x n m O.Sealed is e = absurd (cc)
 
--- names are distinct below
+-- if names are distinct in a tree, they are distinct in each node below
 distinct_onward : (x : List ℕ) (names : List (List ℕ)) (n m : Node) (r : Reached)
     → below_layer x (out-Node n) ≡ r → onward (reached names) r ≡ to_node m → HasDistinctNames n
     → ((k : Node) → reached names k ≡ to_node m → HasDistinctNames k → HasDistinctNames m)
@@ -160,7 +160,7 @@ abbrev pub items_or : Items → Shown → Items
 items_or d (a_folder l) = l
 items_or d s = d
 
--- what shows a folder is one
+-- a node that shows a folder is a folder
 folder_layer : (n : Node) (l : Items) (k : Node-F Node TreeItem) → out-Node n ≡ k → layer_shown k ≡ a_folder l
     → (items : List TreeItem) × (held n ≡ Some items) ×
     ((x : List ℕ) → below_layer x (out-Node n) ≡ named_in x items) × (items_shown items ≡ l)
@@ -190,7 +190,7 @@ onto_first-append : (x : ℕ) (one two : List (List ℕ)) (part : List ℕ) (par
 onto_first-append x one two part parts e = let P : List (List ℕ) → Type 0 =
     λ a. onto_first x (a ++ two) ≡ onto_first x a ++ two in subst P (sym e) refl
 
--- a path is cut at a `/` in it
+-- the parts of a path with a `/` in it: those before the `/`, and those after it
 split_seam : (xs ys : List ℕ) → slice_split (λ c. c == 47) (xs ++ 47 ∷ ys) ≡ slice_split (λ c. c == 47) xs ++
     slice_split (λ c. c == 47) ys
 split_seam [] ys = refl
@@ -206,7 +206,7 @@ split_seam (x ∷ xs) ys =
           (slice_split (λ c. c == 47) ys) s.0 s.1 s.2
     ]
 
--- what is said of a plain name
+-- facts about a plain name
 pub record Plainly (x : List ℕ) : Type 0 where
   pub some : is_some_name x ≡ true
   pub whole : slice_split (λ c. c == 47) x ≡ x ∷ []
@@ -452,7 +452,7 @@ same_start : (a b : Bool) (root working : Node) → a ≡ b → (if a then root 
     (if b then root else working)
 same_start a b root working e = ap (λ c. if c then root else working) e
 
--- a name in the folder to which a path leads
+-- a name in the folder that a path leads to
 reached_join : (working root : Node) (path x : List ℕ) (m n : Node) (items : List TreeItem)
     → reached_in working root path ≡ to_node m
     → ((y : List ℕ) → below_layer y (out-Node m) ≡ named_in y items) → named_in x items ≡ to_node n
@@ -492,9 +492,9 @@ pub tree_inner : (d : Tree) (path : List ℕ) (l : Items) → tree_shows d path 
     → ShowsIn (tree_shows d) path l
 tree_inner d path l h = inner_at d path l (reached_in d.working d.root path) h.0 h.1 refl h.2
 
--- ---- what stands under a name
+-- ---- what is under a name
 
--- something stands there
+-- something is there
 abbrev pub IsThere : Shown → Type 0
 IsThere missing = ⊥
 IsThere failing = ⊥
@@ -627,7 +627,7 @@ new_items x (i ∷ items) h =
     (new_layer x (out-TreeItem i) (names_of items) (items_shown items) h
     (new_items x items (none_after x (out-TreeItem i) (names_of items) h)))
 
--- each entry's names are distinct
+-- the names below an entry are distinct
 abbrev pub BelowItem : TreeItem-F Node TreeItem → Type 0
 BelowItem (O.Entry name n) = HasDistinctNames n
 BelowItem k = Unit {0}
@@ -659,7 +659,8 @@ size (misnamed x kind rest) = 1 + size rest
 size (unread rest) = 1 + size rest
 size (not_text rest) = 1 + size rest
 
--- the items of a folder whose names are distinct, to this size
+-- for folders of fewer than `most` items in all: if the names of a folder and below it are distinct, so are
+-- those in what it shows
 abbrev pub DistinctTo : ℕ → Type 0
 DistinctTo most = (items : List TreeItem) → size (items_shown items) < most
     → are_distinct (names_of items) ≡ true → AllBelow items → AreDistinct (items_shown items)

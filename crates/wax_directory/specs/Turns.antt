@@ -4,7 +4,7 @@ use Rattle.wax_directory.specs.declared.turn.Turn.{Turn}
 use Rattle.wax_directory.specs.declared.failing.Failing.{Failing}
 use Rattle.wax_directory.specs.declared.starving.Starving.{Starving}
 
--- how many calls are handed on before the one that is singled out; none where it was made
+-- how many calls are forwarded before the singled-out one; `None` after that
 abbrev pub calls_left : Turn → Option ℕ
 calls_left t = if t.is_over then None else Some t.calls
 
@@ -19,7 +19,7 @@ fails_after d = calls_left d.turn
 abbrev pub starves_after : {D : Type 0} → Starving D → Option ℕ
 starves_after d = calls_left d.turn
 
--- the directory to which calls are handed on
+-- the directory to which calls are forwarded
 abbrev pub failing_inside : {D : Type 0} → Failing D → D
 failing_inside d = d.directory
 

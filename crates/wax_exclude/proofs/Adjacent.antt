@@ -19,7 +19,7 @@ none_slashed ([] ∷ names) h x y e = h.0 refl
 none_slashed ((c ∷ n) ∷ names) h [] y e = h.1.0 (let i : c ≡ 47 = cc in i)
 none_slashed ((c ∷ n) ∷ names) h (d ∷ x) y e = after_name names (none_slashed names h.2) (c ∷ n) h.1 x y (cc)
 
--- so where each meant text holds `//`, no candidate is meant
+-- no candidate has two adjacent `/`
 pub none_adjacent : (rooted : Bool) (names : List (List ℕ)) → AreNames names → NoneIn (text_at rooted names)
 none_adjacent false [] h x y e = none_slashed [] h x y e
 none_adjacent true [] h [] y e = cc

@@ -103,7 +103,7 @@ module _ {A : Type 0} where
   abbrev run : List (Tree A) → List (Tree A)
   run ts = before_first is_boundary ts
 
-  -- at a boundary it doesn't matter what stands before
+  -- at a boundary it doesn't matter what comes before
   edge_again : (u : Tree A) (us : List (Tree A)) → is_boundary u ≡ true → Sort u
       → components_in false (u ∷ us) ≡ components_in true (u ∷ us)
   edge_again u us e (separates a s) =

@@ -1,4 +1,4 @@
--- What is left out with what lies below it is left out below too; and what the marks keep.
+-- What is below an entry that is excluded with everything below it is excluded too; and what the marks keep.
 use Rattle.std.proofs.Common.{◌≡◌, ℕ, Bool, true, false, not, ◌⊎◌, cond, List, [], ◌∷◌, ◌++◌, refl}
 use Rattle.std.proofs.Common.{sym, ap, subst, ◌∙◌, inl, inr, arith, append_assoc, append-nil}
 use Rattle.wax_alternatives.proofs.Means.{means_one_of}
@@ -51,7 +51,7 @@ glob_descends rooted t names others h e =
     ap (λ b. led_mark b (means_test t false false (text_at rooted (names ++ others))))
     (falls before after less (unled before (means_test t false false (text_at rooted names)) e))
 
--- ---- what is meant is led
+-- ---- if a candidate matches, the leading components lead to it
 
 pub as_members : {A : Type 0} (t : Tree A) (b a : Bool) (s : List ℕ) → Means t b a s
     → MeansEach (members t) b a s
@@ -248,7 +248,7 @@ keeps_uncovered true m f = sym (ap not (f refl))
 keeps_uncovered false true f = refl
 keeps_uncovered false false f = refl
 
--- a pattern that is left out keeps exactly what it doesn't mean
+-- an excluded pattern keeps exactly what it doesn't match
 pub not_keeps : {A : Type 0} (t : Tree A) (c : Candidate)
     → keeps (not_mark t c) ≡ not (means_test t false false c.text)
 not_keeps t c =

@@ -32,7 +32,7 @@ module _ {A : Type 0} where
       ap (λ b. b && all_keep (filter_rules filters) f) (filter_keeps x (candidate_of f))
       ∙ ap (λ b. not (excludes x (chars f.candidate)) && b) (filters_keep filters f)
 
-  -- what is left out with all that lies below it is said to be so
+  -- a filter marks what it excludes with everything below it in that way
   pub below_said : (x : Filter A) (c : Candidate) → ExcludesBelow x c → filter_mark x c ≡ with_tree
   below_said (not_meant t) c h =
       ap (λ b. covered_mark b (means_test t false false c.text)) ((covers_tested (alternatives t) c).1 h)

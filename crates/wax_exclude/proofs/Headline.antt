@@ -1,4 +1,4 @@
--- A glob's walk gives what is wanted of the whole walk, and lists only what it may.
+-- A glob's walk yields what is wanted of the whole walk, and lists only folders that it may list.
 use Rattle.std.proofs.Common.{◌≡◌, ℕ, ◌≤◌, Bool, false, ◌&&◌, ◌⊎◌, List, [], ◌∷◌, ◌++◌, map, length, refl}
 use Rattle.std.proofs.Common.{sym}
 use Rattle.std.proofs.Common.{ap, subst, ◌∙◌, inl, inr, arith, append_assoc, append-nil, chars}
@@ -118,7 +118,7 @@ module _ {A : Type 0} (w : Wanted A) where
         (at_join w.rooted at done x a n.0)
         (plain_child x l s) (append_assoc done (x ∷ []) names ∙ e) f
 
-  -- of the plain walk is wanted what is wanted of the whole walk
+  -- what is wanted of the plain walk is what is wanted of the whole walk
   pub plain_wanted : (asked : DepthRange) (origin : Origin) (s : Shown)
       → of (plain_walk asked origin s) ≡ wanted_entries w asked origin s
   plain_wanted asked origin s = at_whole (is_wanted w) (λ k p d. refl) asked origin.root (origin_location origin) s
@@ -186,7 +186,7 @@ module _ {A : Type 0} (w : Wanted A) where
         (fits_asked can.greatest l)
         ∙ plain_wanted asked origin s
 
-    -- only folders are listed that may be
+    -- the walk lists only folders that it may list
     pub lists_few : (s : Shown) → IsPlainShown s
         → All (MayList w walked origin) (listings (glob_walk w walked origin s))
     lists_few s t =

@@ -1,4 +1,4 @@
--- What is kept of a plain walk less what lines ignore.
+-- What is kept of a plain walk without what lines ignore.
 use Rattle.std.proofs.Common.{◌∙◌, ◌+◌, ◌≤◌, ℕ, false, List, filter, refl, ap, arith, subst}
 use Rattle.wax_directory.specs.Law.{Law}
 use Rattle.wax_directory.specs.Shown.{Shown}

@@ -1,4 +1,4 @@
--- Names of meant texts are meant by the components at their places.
+-- The names of a matching text match the components at their positions.
 use Rattle.std.proofs.Common.{◌≡◌, ℕ, Bool, true, false, ◌||◌, ◌⊎◌, cond, List, [], ◌∷◌, ◌++◌, refl, sym, ap}
 use Rattle.std.proofs.Common.{subst, ◌∙◌, inl, inr, append-nil}
 use Rattle.wax_token.specs.Kinds.{is_separator, is_tree_wildcard, has_boundary, some_has_boundary}
@@ -234,7 +234,7 @@ module _ {A : Type 0} where
       lead_rest t u us here next b a n m.0 m.1 c.0 names p.1 e f k c.1 c.2
       (no_slash_back m.0 c.0 (subst HasNoSlash c.1 q)) r m.3 m.4 (sort u)
 
-  -- the names of a meant text are meant by the leading_rows rows
+  -- the names of a matching text match the leading rows of the tokens
   pub lead : (ts : Trees A) → LeadsAlways ts
   lead none b a n names p q r w m = tt
   lead (more t none) b a n names p q r w m = lead_last t b a n names p.0 (sort t) m (has_boundary t) refl

@@ -28,13 +28,13 @@ use Rattle.wax_exclude.specs.Premises.{ArePlainItems, IsPlainShown}
 use Rattle.wax_exclude.specs.Walked.{path_from, AreUncovered, MayList}
 use Rattle.wax_exclude.specs.Wanted.{Filter, Wanted, stacked, filter_mark, filter_rules, rules_of}
 
--- no rule leaves it out with what lies below it
+-- no rule excludes the entry with everything below it
 abbrev NoneLeaves : List (Facts → Mark) → Facts → Type 0
 NoneLeaves [] f = ⊤
 NoneLeaves (rule ∷ rules) f = ¬ (rule f ≡ with_tree) × NoneLeaves rules f
 
 module _ (OfEntry : Facts → List ℕ → Type 0) (Free : List ℕ → Type 0) where
-  -- the folder is listed below its entry, which none of these rules left out with what lies below it
+  -- the folder is listed below its entry, which none of these rules excludes with everything below it
   record Guarded (rules : List (Facts → Mark)) (x : Given) (path : List ℕ) : Type 0 where
     mark : Mark
     facts : Facts
@@ -276,7 +276,7 @@ module _ (rooted : Bool) (scope : WalkScope) (start : List ℕ) (prefix : List (
     none_covers filters f path names a h.1,
   )
 
--- the walk from the last name of a origin on, in a range
+-- the walk from the last name of an origin on, in a range
 module _ {A : Type 0} (w : Wanted A) (range : DepthRange) (origin : Origin) where
   abbrev scope : WalkScope
   scope = scope_in range origin.root
@@ -321,7 +321,7 @@ module _ {A : Type 0} (w : Wanted A) (range : DepthRange) (origin : Origin) wher
             none_covers w.rooted scope origin_end origin.names w.filters f path (origin.names ++ s.0.names) s.0.place n.1;
       }
 
-  -- each folder that is listed may be
+  -- the walk lists only folders that it may list
   pub walk_lists : (at : Location) (s : Shown) → at.path ≡ origin_end → At w.rooted at origin.names → IsPlainShown s
       → All (MayList w range origin) (listings (stacked (rules_of w) (plain_at scope at s nothing)))
   walk_lists at s e a x =

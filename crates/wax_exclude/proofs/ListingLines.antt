@@ -52,7 +52,7 @@ ignores_lines held lines s h = ap (λ ls. ignored_by false ls s) h ∙ ignored_h
 
 -- ---- line after line
 
--- it is left out; and that with what lies below it
+-- the mark excludes the entry; and excludes it with everything below
 abbrev is_out : Mark → Bool
 is_out m = not (keeps m)
 
@@ -61,7 +61,7 @@ is_below kept = false
 is_below alone = false
 is_below with_tree = true
 
--- what is said where this was said before the lines
+-- the mark after the lines, if the mark before them is `before`
 abbrev pub mark_from : Mark → List IgnoreLine → Facts → Mark
 mark_from before lines f =
     let c = candidate_of f in
@@ -77,7 +77,7 @@ covered_meant : (line : IgnoreLine) (c : Candidate) → covers_test line.exclusi
 covered_meant line c h =
     (holds_truly (some_decided (trees line.exclusion) false false c.text)).1 (covers_some_meant line.exclusion c ((covers_tested line.exclusion c).0 h))
 
--- one line: it covers the text, it means it, no later line takes back, and a later line covers it
+-- one line, by whether it covers the text, matches it, no later line re-includes, and a later line covers it
 module _ (k : Bool → Bool) where
   abbrev Agrees : Bool → Mark → Bool → Bool → Bool → Bool → Type 0
   Agrees ignores before covers means all below =

@@ -41,7 +41,7 @@ module _ (rule : Facts → Mark) (Gone : List ℕ → Type 0) where
   abbrev Stays : List (List ℕ) → List ℕ → Type 0
   Stays paths path = Contains paths path ⊎ Gone path
 
-  -- each folder is still listed, or is gone
+  -- each folder is still listed, or was lost to the filter
   abbrev pub Stay : Forest Given → Type 0
   Stay f = All (Stays (listings (after_rule f))) (listings f)
 

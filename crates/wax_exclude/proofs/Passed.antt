@@ -44,7 +44,7 @@ split_at at start xs h =
     let there : at + (start - at) ≡ start = omega (arith, h) in
     sym (take-append-drop (start - at) (drop at xs)) ∙ ap (λ ys. take (start - at) (drop at xs) ++ ys) (drop-drop (start - at) at xs ∙ ap (λ k. drop k xs) there)
 
--- what is said from a place on, after the lines to there
+-- the mark after all lines, from the mark after the lines up to `start`
 pub said_on : (lines : List IgnoreLine) (at start : ℕ) (before after : Mark) (f : Facts) → at ≤ start
     → after ≡ marks_after before (lines_between at start lines) f → marks_after after (drop start lines) f ≡ marks_after before (drop at lines) f
 said_on lines at start before after f h e =
@@ -52,7 +52,7 @@ said_on lines at start before after f h e =
     ∙ sym (marks_append before (lines_between at start lines) (drop start lines) f)
     ∙ ap (λ ls. marks_after before ls f) (sym (split_at at start lines h))
 
--- one more line was asked
+-- one more line marked the entry
 pub next_said : (before after said whole : Mark) (lines : List IgnoreLine) (i : ℕ) (line : IgnoreLine) (f : Facts) → i < length lines → line ≡ get_or lines i line →
     said ≡ excluded_mark line.exclusion f → after ≡ mark_after line.ignores before said →
     marks_after before (drop i lines) f ≡ whole → marks_after after (drop (i + 1) lines) f ≡ whole
@@ -60,7 +60,7 @@ next_said before after said whole lines i line f in' here s a h =
     let split : drop i lines ≡ line ∷ drop (i + 1) lines = drop_more lines i line in' ∙ ap (λ l. l ∷ drop (i + 1) lines) (sym here) in
     ap (λ m. marks_after m (drop (i + 1) lines) f) (a ∙ ap (mark_after line.ignores before) s) ∙ ap (λ ls. marks_after before ls f) (sym split) ∙ h
 
--- all lines were asked
+-- all lines marked the entry
 pub all_said : (after whole : Mark) (lines : List IgnoreLine) (i : ℕ) (f : Facts) → length lines ≤ i →
     marks_after after (drop i lines) f ≡ whole → after ≡ whole
 all_said after whole lines i f over h = ap (λ ls. marks_after after ls f) (sym (drop_all i lines over)) ∙ h
@@ -111,7 +111,7 @@ none_said (line ∷ lines) before f none =
     ∙ ap (λ m. mark_passed (some_reincludes lines) (mark_after line.ignores before m)) (sym (says_nothing line f (λ m. none (inl m))))
     ∙ none_said lines (mark_after line.ignores before (excluded_mark line.exclusion f)) f (λ m. none (inr m))
 
--- what is said from the end of a block on, none of whose lines means the entry
+-- the mark after all lines, if no line of a block matches the entry and the block is passed over
 pub said_past : (lines : List IgnoreLine) (block : Block) (before after : Mark) (f : Facts) (text : List ℕ) → IsBlockOf lines block → text ≡ chars f.candidate
     → (Accepts block.matcher 0 text → ⊥) → after ≡ mark_passed block.reincludes before → marks_after after (drop block.end lines) f ≡ marks_after before (drop block.start lines) f
 said_past lines block before after f text b same none e =

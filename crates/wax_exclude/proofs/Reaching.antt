@@ -1,4 +1,4 @@
--- Of the whole walk nothing is wanted but what lies at or below the last name of the origin, above the greatest depth.
+-- Only what is at or below the last name of the origin, and not past the greatest depth, is wanted.
 use Rattle.std.proofs.Common.{◌≡◌, ℕ, ◌<◌, ◌≤◌, Bool, true, false, cond, List, [], ◌∷◌, ◌++◌, length, refl}
 use Rattle.std.proofs.Common.{sym, ap, subst, ◌∙◌, inl, inr, arith, append_assoc, append-nil, length-append}
 use Rattle.std.specs.Prelude.{filter, nat_lt}
@@ -162,7 +162,7 @@ module _ (p : Given → Bool)
         ]
         same_below at f g e n false false i j = refl
 
-        -- the same of an entry with what lies below it
+        -- what is wanted of an entry and below it, to the one depth or the other
         same_entry : (at : Location) (f g after after' : Forest Given) → of f ≡ of g
             → (less ≤ at.depth → of g ≡ [])
             → of after ≡ of after'

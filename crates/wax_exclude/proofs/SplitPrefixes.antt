@@ -47,7 +47,7 @@ some_push : (x : List ℕ) (c : ℕ) → ¬ (x ++ c ∷ [] ≡ [])
 some_push [] c e = cc
 some_push (d ∷ x) c e = cc
 
--- the names of a text, which aren't empty but for what a `/` at the end leaves
+-- the names of a text, none of which is empty; the text is these names, joined, perhaps with a `/` at its end
 record Told (p : List ℕ) : Type 0 where
   first : List ℕ
   others : List (List ℕ)
@@ -141,7 +141,7 @@ splits_into (c ∷ d ∷ p) h = elim (cases_eq c 47) [
   | inr n ↦ relative (c ∷ d ∷ p) (differ c n) (told (c ∷ []) (λ q. (cc)) (n, tt) (d ∷ p) h)
 ]
 
--- ---- names of which the first stands last
+-- ---- names that are stored in reverse
 
 pub reversed_last : (xs : List (String Global)) → from_last (reverse xs) ≡ map string_bytes xs
 reversed_last [] = refl

@@ -1,4 +1,4 @@
--- What all filters leave is what none of them says anything of.
+-- What all filters leave are the entries that each of them keeps.
 use Rattle.std.proofs.Common.{◌≡◌, Bool, true, false, ◌&&◌, cond, List, [], ◌∷◌, ◌++◌, refl, sym, ap, ◌∙◌}
 use Rattle.std.specs.Prelude.{filter}
 use Rattle.std.proofs.lemmas.List.Elements.{filter-append}
@@ -70,7 +70,7 @@ module _ (rule : Facts → Mark) (rules : List (Facts → Mark)) where
   below_cut below true h e = sym (none_wanted below (h refl))
   below_cut below false h e = e
 
-  -- after a filter the others want what all of them is_left before it
+  -- what the other filters keep after one filter is what all of them keep before it
   pub wanted_after : (f : Forest Given) → PassesDown rule f
       → filter (is_left rules) (preorder (filtered (changed_by rule) (cut_by rule) f)) ≡ filter
       (is_left (rule ∷ rules)) (preorder f)
@@ -89,7 +89,7 @@ module _ (rule : Facts → Mark) (rules : List (Facts → Mark)) where
       ap (λ ys. cond (is_left rules (changed_by rule x)) (changed_by rule x ∷ ys) ys) same
       ∙ pick x (filter (is_left (rule ∷ rules)) (preorder below ++ preorder after))
 
--- ---- a filter doesn't change what another says
+-- ---- a filter doesn't change what another one decides
 
 module _ (rule other : Facts → Mark) where
   left_still : (x : Given) → LeavesOutWhole other x → LeavesOutWhole other (changed_by rule x)
@@ -155,7 +155,7 @@ stacked_wanted [] f h = refl
 stacked_wanted (rule ∷ rules) f h = stacked_wanted rules (filtered (changed_by rule) (cut_by rule) f)
     (all_pass_still rule rules f h.1) ∙ wanted_after rule rules f h.0
 
--- the entries that are kept at last are those of which no filter says anything, in order
+-- the entries that are kept at last are those that each filter keeps, in order
 pub stacked_entries : (rules : List (Facts → Mark)) (f : Forest Given) → AllPassDown rules f
     → filter is_kept_entry (preorder (stacked rules f)) ≡ filter (is_left rules) (preorder f)
 stacked_entries rules f h = kept_left (preorder (stacked rules f)) ∙ stacked_wanted rules f h

@@ -31,7 +31,7 @@ use Rattle.wax_exclude.proofs.StackingRequests.{stacked_more, filter_rules_more,
 -- ---- whatever comes
 
 module _ {D C : Type 0} (law : Law D C) where
-  -- what a walk gave that is seen as this one
+  -- what a walk yielded, by a view that this one implies
   took_seen : (this that : WalkView D) (new : D) (xs : List Given) → IsSeenAs this that
       → Took law that new xs → Took law this new xs
   took_seen this that new xs seen took = record {
@@ -58,7 +58,7 @@ module _ {D C : Type 0} (law : Law D C) where
 -- ---- what comes
 
 module _ {D C : Type 0} (law : Law D C) (d : D) where
-  -- a rule that does what filters do turns what comes into what comes of another request of this origin
+  -- a rule that does what filters do turns the walk of a request into that of the request with these filters
   comes_ruled : (request : GlobRequest) (filters : List (Filter Span)) (rule : Facts → Mark) (v u : WalkView D)
       → ((f : Forest Given) → ruled rule f ≡ stacked (filter_rules filters) f)
       → ComesWanted law d request v → IsSeenAs (ruled_view v rule false) u
@@ -87,7 +87,7 @@ module _ {D C : Type 0} (law : Law D C) (d : D) where
         ∙ ap (λ rules. stacked rules (ruled (of_candidate (glob_mark request.wanted.rooted request.wanted.glob)) walk))
         (sym (filter_rules_more request.wanted.filters filters)))
 
-  -- rules that are those of filters do so
+  -- the rules of filters do so together
   pub filters_come : (request : GlobRequest) (filters : List (Filter Span)) (rules : List (Facts → Mark))
       (rule : Facts → Mark) (v u : WalkView D) → AreRulesOf filters rules → rule ≡ any_mark rules
       → ComesWanted law d request v → IsSeenAs (ruled_view v rule false) u
@@ -106,7 +106,7 @@ module _ {D C : Type 0} (law : Law D C) (d : D) where
       subst (λ n. GaveAll tells n (request_pending request s listed) xs) h.listings
       (all (request_pending request s listed) (h.comes s listed shows told))
 
--- a rule that is that of a filter does so, too
+-- the rule of one filter does so
 pub comes_excluding : {D C : Type 0} (law : Law D C) (x : Filter Span) (rule : Facts → Mark) (v u : WalkView D)
     → IsRuleOf x rule → IsSeenAs (ruled_view v rule false) u → ComesExcluding law x v u
 comes_excluding law x rule v u says seen = λ d request h.

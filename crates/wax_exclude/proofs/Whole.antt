@@ -53,7 +53,7 @@ module _ (p : Given → Bool)
   abbrev high : Location → Bool
   high at = nat_lt range.max at.depth
 
-  -- an entry is left out above the least depth
+  -- an entry is dropped if it is above the least depth, and what is below it stays
   of_low : (b : Bool) (x : Given) (below after : Forest Given)
       → of (cond b (followed_by below after) (item x below after))
       ≡ cond (not b && p x) (x ∷ (of below ++ of after)) (of below ++ of after)

@@ -28,7 +28,7 @@ base false = []
 abbrev pub text_at : Bool → List (List ℕ) → List ℕ
 text_at rooted names = base rooted ++ joined_names names
 
--- what is seen of an entry, as characters: its names from the start, its text, and how many names it has
+-- an entry as patterns see it, in characters: its names from the start, its text, and its depth
 pub record Candidate : Type 0 where
   pub names : List (List ℕ)
   pub text : List ℕ
@@ -41,6 +41,6 @@ candidate_of f = record {
   depth = f.depth;
 }
 
--- of an entry of these names
+-- the candidate of an entry with these names
 abbrev pub candidate_at : Bool → List (List ℕ) → Candidate
 candidate_at rooted names = record { names = names; text = text_at rooted names; depth = length names }

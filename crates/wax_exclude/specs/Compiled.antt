@@ -20,11 +20,11 @@ row_code = coded_list (tree_code (coded× coded_ℕ coded_ℕ))
 abbrev pub Instructions : Type 0
 Instructions = List Instruction × ℕ
 
--- the program accepts what the tokens mean one after another, with nothing around them
+-- the program accepts exactly what the tokens match one after another, with nothing around them
 abbrev pub AcceptsEach : Instructions → List (Tree Span) → Type 0
 AcceptsEach program ts = (s : List ℕ) → Accepts program.0 0 s ↔ MeansEach (trees ts) false false s
 
--- what the tree means
+-- the program accepts exactly what the tree matches
 abbrev pub AcceptsTree : Instructions → Tree Span → Type 0
 AcceptsTree program t = (s : List ℕ) → Accepts program.0 0 s ↔ Means t false false s
 
@@ -37,12 +37,12 @@ SomeAccepts (program ∷ programs) s = Accepts program.0 0 s ⊎ SomeAccepts pro
 abbrev pub wild : List (Tree Span) → List (Tree Span)
 wild ts = filter (λ t. ends_wild (members t)) ts
 
--- one program for each of them
+-- one program for each alternative that ends with a tree wildcard
 abbrev pub CoverAll : List Instructions → List (Tree Span) → Type 0
 CoverAll programs ts = AllZip AcceptsTree programs (wild ts)
 
--- These are the programs of the alternatives, and of those that end with a tree wildcard, and whether one
--- covers everything. What the first accepts passes the prefilter.
+-- `code` accepts exactly what the alternatives match, which passes the prefilter. `covering` has a program
+-- for each alternative that ends with a tree wildcard, and the flag says whether one covers everything.
 pub record IsExclusion (ts : List (Tree Span)) (code : List Instruction) (prefilter : PrefilterView)
     (covering : List Instructions) (covers_all : Bool) : Type 0 where
   pub whole : (s : List ℕ) → Accepts code 0 s ↔ MeansSome (trees ts) false false s

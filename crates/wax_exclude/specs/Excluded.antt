@@ -1,4 +1,4 @@
--- What the alternatives of a pattern that is left out say of entries.
+-- What the alternatives of an excluded pattern decide about entries.
 use Rattle.std.specs.Prelude.{ℕ, Bool, false, List}
 use Rattle.wax_token.specs.Decided.{holds, some_decided}
 use Rattle.wax_token.specs.Syntax.{Tree}
@@ -7,7 +7,7 @@ use Rattle.wax_walk.specs.Given.{Facts, Mark}
 use Rattle.wax_exclude.specs.Covers.{covers_test}
 use Rattle.wax_exclude.specs.Marks.{covered_mark, of_candidate}
 
--- whether one of the alternatives means the text
+-- whether one of the alternatives matches the text
 abbrev pub some_test : {A : Type 0} → List (Tree A) → List ℕ → Bool
 some_test ts s = holds (some_decided (trees ts) false false s)
 

@@ -1,4 +1,4 @@
--- What a walk of a glob, less what filters leave out, gives to its end.
+-- What a walk of a glob, without what filters exclude, yields to its end.
 use Rattle.std.specs.Prelude.{◌≡◌, ℕ, ◌+◌, ◌<◌, Bool, if◌then◌else◌, nat_lt, ⊤, List, [], ◌∷◌, ◌++◌}
 use Rattle.std.specs.Prelude.{All, filter, length}
 use Rattle.wax_directory.specs.Law.{Law}
@@ -20,7 +20,7 @@ use Rattle.wax_exclude.specs.Wanted.{Filter, Wanted, filter_mark, is_kept_entry}
 
 -- ---- rules of filters
 
--- the rule says what the filter says
+-- the rule marks each entry as the filter does
 abbrev pub IsRuleOf : {A : Type 0} → Filter A → (Facts → Mark) → Type 0
 IsRuleOf x rule = (f : Facts) → rule f ≡ of_candidate (filter_mark x) f
 
@@ -30,13 +30,13 @@ AreRulesOf [] (rule ∷ rules) = ⊥
 AreRulesOf (x ∷ filters) [] = ⊥
 AreRulesOf (x ∷ filters) (rule ∷ rules) = IsRuleOf x rule × AreRulesOf filters rules
 
--- what more is left out
+-- what is wanted, with more filters
 abbrev pub excluding : {A : Type 0} → Wanted A → List (Filter A) → Wanted A
 excluding w filters = record w { filters = w.filters ++ filters }
 
 -- ---- walks
 
--- what is wanted, of which depths, the range that is walked for it, and the origin
+-- what is wanted, the depths that were requested, the range that is walked for them, and the origin
 pub record GlobRequest : Type 0 where
   pub wanted : Wanted Span
   pub asked : DepthRange
@@ -46,7 +46,7 @@ pub record GlobRequest : Type 0 where
 abbrev pub request_excluding : GlobRequest → List (Filter Span) → GlobRequest
 request_excluding request filters = record request { wanted = excluding request.wanted filters }
 
--- the glob's walk may begin at this origin; or no candidate is meant, and the origin has more names than the
+-- the glob's walk may begin at this origin; or no candidate matches, and the origin has more names than the
 -- greatest depth
 pub data CanBegin (request : GlobRequest) : Type 0 where
   goes : CanWalk request.wanted request.asked request.walked request.origin → CanBegin request
@@ -58,28 +58,28 @@ pub data CanBegin (request : GlobRequest) : Type 0 where
 abbrev pub is_beyond : GlobRequest → Bool
 is_beyond request = nat_lt request.walked.max (length request.origin.names)
 
--- what comes: nothing where the origin has more names than the greatest depth, else the glob's walk
+-- what the walk yields: nothing if the origin has more names than the greatest depth, else the glob's walk
 abbrev pub request_walk : GlobRequest → Shown → Forest Given
 request_walk request s = if is_beyond request then nothing else glob_walk request.wanted request.walked
     request.origin s
 
--- how many items are taken for it, at most
+-- at most how many items are taken from listings for it
 abbrev pub request_items : GlobRequest → Shown → ℕ
 request_items request s = if is_beyond request then 0 else count_shown s
 
--- what is to come at first
+-- what is to come when the walk begins
 abbrev pub request_pending : GlobRequest → Shown → List (List ℕ) → Pending Given
 request_pending request s listed = pending nothing (request_walk request s) listed (request_items request s)
 
--- a walk over this directory, of which this is seen: what is shown at the path of the origin will come
+-- the view of a walk over the directory d, of which the walk of the request is to come
 pub record ComesWanted {D C : Type 0} (law : Law D C) (d : D) (request : GlobRequest)
     (view : WalkView D) : Type 0 where
   pub comes : (s : Shown) (listed : List (List ℕ)) → law.shows d request.origin.path s → law.tells d listed
       → view.to_come (request_pending request s listed)
   pub listings : view.listings_left ≡ request.walked.budget + 1
 
--- whatever is wanted of the inner walk: if it is to come there, then what the filter doesn't exclude of it is
--- to come of the outer walk
+-- if the walk of a request is to come of the inner walk, the walk of the request with this filter added is to
+-- come of the outer walk
 abbrev pub ComesExcluding : {D C : Type 0} → Law D C → Filter Span → WalkView D → WalkView D → Type 0
 ComesExcluding {D} law x inner outer = (d : D) (request : GlobRequest) → ComesWanted law d request inner
     → ComesWanted law d (request_excluding request (x ∷ [])) outer

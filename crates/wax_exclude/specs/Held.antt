@@ -5,10 +5,10 @@ use Rattle.wax_token.specs.Reads.{Span}
 use Rattle.wax_exclude.specs.Ignored.{Line}
 use Rattle.wax_exclude.specs.declared.rules.IgnoreLine.{IgnoreLine}
 
--- a line as it is held: its glob by the alternatives
+-- a line as it is stored: with the alternatives of its glob
 abbrev pub line_of : Line Span → IgnoreLine
 line_of line = record { ignores = line.ignores; exclusion = alternatives line.glob }
 
--- these are exactly these lines, as they are held
+-- the stored lines are exactly these lines
 abbrev pub HasLines : List IgnoreLine → List (Line Span) → Type 0
 HasLines held lines = held ≡ map line_of lines

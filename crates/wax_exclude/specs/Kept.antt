@@ -1,4 +1,4 @@
--- What a plain walk, less what lines ignore, gives to its end.
+-- What a plain walk, without what lines ignore, yields to its end.
 use Rattle.std.specs.Prelude.{◌≡◌, ◌<◌, ◌⊎◌, ◌&&◌, ◌++◌, ℕ, List, All, filter}
 use Rattle.std.specs.List.{Contains}
 use Rattle.wax_directory.specs.Shown.{Shown}
@@ -15,13 +15,13 @@ use Rattle.wax_exclude.specs.Ignored.{Line}
 use Rattle.wax_exclude.specs.Unignored.{ignore_rules, is_unignored, IsIgnoredBelow}
 use Rattle.wax_exclude.specs.Wanted.{is_kept_entry, stacked}
 
--- a plain walk from a start, of the depths in range, less what these lines ignore
+-- a plain walk from a start, of the depths in range, without what these lines ignore
 pub record PlainRequest : Type 0 where
   pub lines : List (Line Span)
   pub range : DepthRange
   pub start : List ℕ
 
--- the plain walk, and what comes of it
+-- the plain walk of a request, and what is left of it without what the lines ignore
 abbrev pub requested_plain : PlainRequest → Shown → Forest Given
 requested_plain request s = plain (scope_in request.range request.start) s
 
@@ -33,7 +33,7 @@ abbrev pub unignored_entries : PlainRequest → Shown → List Given
 unignored_entries request s =
     filter (λ x. is_in request.range x && is_unignored request.lines x) (whole request.start s)
 
--- each folder that the plain walk lists is listed, or is or lies below what is ignored with all below it
+-- each folder that the plain walk lists is listed, or is at or below what is ignored with everything below it
 abbrev pub ListsUnignored : PlainRequest → Shown → Type 0
 ListsUnignored request s = All (λ path. Contains (listings (unignored_walk request s)) path
     ⊎ IsIgnoredBelow request.lines request.start path) (listings (requested_plain request s))

@@ -10,21 +10,21 @@ use Rattle.wax_exclude.specs.Premises.{CanWalk, IsUnmeant, IsPlainShown, IsWellN
 use Rattle.wax_exclude.specs.Walked.{wanted_entries, glob_walk, MayList}
 use Rattle.wax_exclude.specs.Wanted.{Wanted, is_kept_entry}
 
--- the entries that are kept are those of the whole walk that are in the range asked for, that the glob means
--- and that no filter leaves out, in order
+-- the entries that are kept are those of the whole walk that are in the requested range, that the glob
+-- matches and that no filter excludes, in order
 abbrev pub GivesWanted : Type 0
 GivesWanted = (w : Wanted Span) (asked walked : DepthRange) (origin : Origin) (s : Shown)
     → CanWalk w asked walked origin → IsWellNamed s → length origin.names ≤ walked.max
     → filter is_kept_entry (preorder (glob_walk w walked origin s)) ≡ wanted_entries w asked origin s
 
--- only folders are listed that may be
+-- the walk lists only folders that it may list
 abbrev pub ListsFew : Type 0
 ListsFew = (w : Wanted Span) (asked walked : DepthRange) (origin : Origin) (s : Shown)
     → CanWalk w asked walked origin → IsWellNamed s
     → All (MayList w walked origin) (listings (glob_walk w walked origin s))
 
--- where the origin has more names than the greatest depth, or no candidate is meant, nothing is wanted: so a
--- walk may give nothing and ask nothing
+-- if the origin has more names than the greatest depth, or no candidate matches, nothing is wanted: so a walk
+-- may yield nothing without a call of its directory
 abbrev pub WantsNothing : Type 0
 WantsNothing = (w : Wanted Span) (asked : DepthRange) (origin : Origin) (s : Shown)
     → IsPlainShown s → origin.candidate ≡ base w.rooted

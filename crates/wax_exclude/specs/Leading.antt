@@ -1,4 +1,4 @@
--- The components of a glob that the first names of each candidate that it means are of.
+-- The leading components of a glob: those that the first names of each matching candidate match.
 use Rattle.std.specs.Prelude.{ℕ, Bool, true, false, ◌&&◌, not, if◌then◌else◌, ⊤, List, [], ◌∷◌}
 use Rattle.std.specs.List.{before_first, list_any}
 use Rattle.wax_token.specs.Decided.{holds, each_decided}
@@ -9,7 +9,7 @@ use Rattle.wax_token.specs.Words.{trees}
 use Rattle.wax_components.specs.Parts.{components}
 use Rattle.wax_components.specs.TopLevel.{tokens_of}
 
--- the components before the first that holds a boundary, at any depth
+-- the components before the first one that has a boundary, at any depth
 abbrev pub leading : {A : Type 0} → Tree A → List (List (Tree A))
 leading t = before_first (list_any has_boundary) (components t)
 
@@ -22,17 +22,17 @@ begins_with_separator (t ∷ ts) = is_separator t
 abbrev pub leading_of : {A : Type 0} → Bool → Tree A → List (List (Tree A))
 leading_of rooted t = if rooted && not (begins_with_separator (tokens_of t)) then [] else leading t
 
--- each name is meant by the component at its place; names past the last component are free
+-- each name matches the component at its position; names past the last component are free
 abbrev pub Lead : {A : Type 0} → List (List (Tree A)) → List (List ℕ) → Type 0
 Lead [] names = ⊤
 Lead (c ∷ cs) [] = ⊤
 Lead (c ∷ cs) (n ∷ names) = MeansEach (trees c) false false n × Lead cs names
 
--- whether the component means the name
+-- whether the component matches the name
 abbrev pub component_test : {A : Type 0} → List (Tree A) → List ℕ → Bool
 component_test c n = holds (each_decided (trees c) false false n)
 
--- whether they lead
+-- whether each name matches the component at its position
 abbrev pub lead_test : {A : Type 0} → List (List (Tree A)) → List (List ℕ) → Bool
 lead_test [] names = true
 lead_test (c ∷ cs) [] = true

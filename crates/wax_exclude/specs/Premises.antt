@@ -1,4 +1,4 @@
--- What is asked of a glob and its queries, and of what is shown, so that its walk gives what is wanted.
+-- What a glob, its queries and what is shown must satisfy, so that the glob's walk yields what is wanted.
 use Rattle.std.specs.Prelude.{◌≡◌, ℕ, ◌≤◌, ◌⊎◌, ◌++◌, Bool, false, ⊤, List, length, map, chars}
 use Rattle.wax_directory.specs.Shown.{Items, end, leaf, folder, sealed, misnamed, unread, not_text, Shown}
 use Rattle.wax_directory.specs.Shown.{a_folder, IsPlain, IsDistinct}
@@ -11,12 +11,12 @@ use Rattle.wax_tree.specs.Prefix.{ArePlain}
 use Rattle.wax_exclude.specs.Candidates.{AreNames, base, text_at}
 use Rattle.wax_exclude.specs.Wanted.{Wanted}
 
--- each candidate that is meant has at most so many names
+-- each candidate that matches has at most `upper` names
 abbrev pub BoundsNames : {A : Type 0} → Bool → Tree A → ℕ → Type 0
 BoundsNames rooted t upper = (names : List (List ℕ)) → AreNames names
     → Means t false false (text_at rooted names) → length names ≤ upper
 
--- the names of each candidate that is meant begin with these
+-- the names of each candidate that matches begin with these
 abbrev pub BeginsWith : {A : Type 0} → Bool → Tree A → List (List ℕ) → Type 0
 BeginsWith rooted t prefix = (names : List (List ℕ)) → AreNames names
     → Means t false false (text_at rooted names) → (rest : List (List ℕ)) × (names ≡ prefix ++ rest)
@@ -37,7 +37,7 @@ pub record CanWalk {A : Type 0} (w : Wanted A) (asked walked : DepthRange) (orig
   pub begins : BeginsWith w.rooted w.glob (map chars origin.names)
   pub plain : ArePlain origin.names
 
--- the names of the entries, at whatever depth, are plain
+-- the names of the entries, at any depth, are plain
 abbrev pub ArePlainItems : Items → Type 0
 ArePlainItems end = ⊤
 ArePlainItems (leaf x link rest) = IsPlain x × ArePlainItems rest

@@ -10,7 +10,7 @@ use Rattle.wax_exclude.specs.GlobRequests.{GlobRequest, request_excluding}
 use Rattle.wax_exclude.specs.Walked.{wanted_entries}
 use Rattle.wax_exclude.specs.Wanted.{Filter, none_excludes}
 
--- `**`, which means each text
+-- `**`, which matches every text
 abbrev pub tree_alone : Tree Span
 tree_alone = concatenation (0, 2) (more (leaf (0, 2) (tree false)) none)
 
@@ -23,7 +23,7 @@ tree_request range start = record {
   origin = record { root = start; path = start; candidate = []; names = [] };
 }
 
--- an entry that is kept and that no filter leaves out
+-- an entry that is kept and that no filter excludes
 abbrev pub is_unfiltered : {A : Type 0} → List (Filter A) → Given → Bool
 is_unfiltered filters (entry kept f) = none_excludes filters (chars f.candidate)
 is_unfiltered filters (entry alone f) = false

@@ -30,20 +30,20 @@ is_unignored lines no_memory = false
 abbrev pub ignore_rules : {A : Type 0} → List (Line A) → List (Facts → Mark)
 ignore_rules lines = of_candidate (ignore_mark lines) ∷ []
 
--- the entries of the plain walk that are kept after a list's filter are those of the whole walk in range that
--- it doesn't ignore, in order
+-- the entries of the plain walk that a list's filter keeps are those of the whole walk that are in range and
+-- that the list doesn't ignore, in order
 abbrev pub GivesUnignored : Type 0
 GivesUnignored = (lines : List (Line Span)) (range : DepthRange) (start : List ℕ) (s : Shown) → IsPlainShown s
     → filter is_kept_entry (preorder (stacked (ignore_rules lines) (plain (scope_in range start) s)))
     ≡ filter (λ x. is_in range x && is_unignored lines x) (whole start s)
 
--- the path is that of some names, the first of which, all plain, lead to what is ignored with everything
--- below it
+-- the path is that of some names from the start; the first few of them, all plain, are those of a candidate
+-- that is ignored with everything below it
 abbrev pub IsIgnoredBelow : {A : Type 0} → List (Line A) → List ℕ → List ℕ → Type 0
 IsIgnoredBelow lines start path = (front back : List (List ℕ)) × ArePlain front
     × (path ≡ path_from start (front ++ back)) × IgnoresBelow lines (candidate_at false (map chars front))
 
--- each folder that the plain walk lists is listed, unless it is or lies below such an entry
+-- each folder that the plain walk lists is listed after the list's filter, or is at or below such a candidate
 abbrev pub LosesIgnored : Type 0
 LosesIgnored = (lines : List (Line Span)) (range : DepthRange) (start : List ℕ) (s : Shown) → IsPlainShown s
     → All (λ path. Contains (listings (stacked (ignore_rules lines) (plain (scope_in range start) s))) path

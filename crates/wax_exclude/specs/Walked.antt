@@ -1,4 +1,4 @@
--- What is wanted of a walk, a glob's walk, and which folders that may list.
+-- What is wanted of a walk, a glob's walk, and which folders it may list.
 use Rattle.std.specs.Prelude.{◌≡◌, ℕ, ◌<◌, ◌≤◌, ◌++◌, ◌&&◌, Bool, ⊤, List, [], ◌∷◌, filter, length, map}
 use Rattle.std.specs.Prelude.{chars}
 use Rattle.wax_alternatives.specs.Alternatives.{alternatives}
@@ -16,16 +16,16 @@ use Rattle.wax_exclude.specs.Ignored.{IgnoresBelow}
 use Rattle.wax_exclude.specs.Leading.{leading_of, Lead}
 use Rattle.wax_exclude.specs.Wanted.{Filter, not_meant, not_ignored, Wanted, is_wanted, stacked, rules_of}
 
--- the location at the path of a origin
+-- the location at the path of an origin
 abbrev pub origin_location : Origin → Location
 origin_location origin = record { path = origin.path; candidate = origin.candidate; depth = 0 }
 
--- of the whole walk from at the path of the origin, the entries in range that are wanted
+-- the entries of the whole walk from the path of the origin that are in range and wanted, in order
 abbrev pub wanted_entries : {A : Type 0} → Wanted A → DepthRange → Origin → Shown → List Given
 wanted_entries w asked origin s =
     filter (λ x. is_in asked x && is_wanted w x) (whole_at origin.root (origin_location origin) s)
 
--- the plain walk from there
+-- the plain walk from the path of the origin
 abbrev pub plain_walk : DepthRange → Origin → Shown → Forest Given
 plain_walk range origin s = plain_at (scope_in range origin.root) (origin_location origin) s nothing
 
@@ -34,36 +34,36 @@ abbrev pub origin_walk : DepthRange → Origin → Shown → Forest Given
 origin_walk range origin s = walk_from (scope_in range origin.root)
     (origin_location origin) s origin.names nothing
 
--- the same, filtered by what is wanted
+-- the walk along the names of the origin and from there on, filtered by what is wanted
 abbrev pub glob_walk : {A : Type 0} → Wanted A → DepthRange → Origin → Shown → Forest Given
 glob_walk w range origin s = stacked (rules_of w) (origin_walk range origin s)
 
 -- ---- folders that may be listed
 
--- the path of these names from another
+-- the path that these names lead to from another one
 abbrev pub path_from : List ℕ → List (List ℕ) → List ℕ
 path_from path [] = path
 path_from path (x ∷ names) = path_from (join path x) names
 
--- the filter leaves out the candidate with all that can lie below it: an alternative of the pattern covers
--- it, or a line that ignores does and no line that takes back stands after that
+-- the filter excludes the candidate with everything that can be below it: an alternative of the pattern
+-- covers it, or a line that ignores covers it and no line after that re-includes
 abbrev pub ExcludesBelow : {A : Type 0} → Filter A → Candidate → Type 0
 ExcludesBelow (not_meant t) c = CoversSome (alternatives t) c
 ExcludesBelow (not_ignored lines) c = IgnoresBelow lines c
 
--- it doesn't do so with these names or the first of them
+-- the filter doesn't exclude these names, or the first few of them, with everything below
 abbrev pub IsUncovered : {A : Type 0} → Bool → Filter A → List (List ℕ) → Type 0
 IsUncovered rooted x names = (front back : List (List ℕ)) → front ++ back ≡ names
     → ¬ (ExcludesBelow x (candidate_at rooted front))
 
--- no filter does
+-- no filter excludes these names, or the first few of them, with everything below
 abbrev pub AreUncovered : {A : Type 0} → Bool → List (Filter A) → List (List ℕ) → Type 0
 AreUncovered rooted [] names = ⊤
 AreUncovered rooted (x ∷ filters) names = IsUncovered rooted x names × AreUncovered rooted filters names
 
--- The folder is at or below the last name of the origin, above the greatest depth; and where it isn't above
--- the least, each of its names is meant by the leading component at its place, and no filter leaves it out,
--- or a folder that it lies in, with all that lies below.
+-- The folder is at or below the last name of the origin, at less than the greatest depth. If it is at no less
+-- than the least depth, its names match the leading components at their positions, and no filter excludes it,
+-- or a folder that contains it, with everything below.
 pub record MayList {A : Type 0} (w : Wanted A) (range : DepthRange) (origin : Origin)
     (listed : List ℕ) : Type 0 where
   pub names : List (List ℕ)

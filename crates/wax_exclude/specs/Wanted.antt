@@ -1,4 +1,4 @@
--- The entries that a glob means and no filter leaves out.
+-- The entries that a glob matches and no filter excludes.
 use Rattle.std.specs.Prelude.{ℕ, Bool, true, false, ◌&&◌, not, List, [], ◌∷◌, chars}
 use Rattle.wax_token.specs.Decided.{means_test}
 use Rattle.wax_token.specs.Syntax.{Tree}
@@ -9,12 +9,12 @@ use Rattle.wax_exclude.specs.Candidates.{Candidate}
 use Rattle.wax_exclude.specs.Ignored.{Line, is_ignored, ignore_mark}
 use Rattle.wax_exclude.specs.Marks.{glob_mark, not_mark, of_candidate}
 
--- a filter of a walk: it leaves out what a pattern means, or what a list of lines ignores
+-- a filter of a walk: it excludes what a pattern matches, or what a list of lines ignores
 pub data Filter (A : Type 0) : Type 0 where
   not_meant : Tree A → Filter A
   not_ignored : List (Line A) → Filter A
 
--- what is wanted of a walk, from the root or not: what the glob means and no filter leaves out
+-- what is wanted of a walk, from the root or not: what the glob matches and no filter excludes
 pub record Wanted (A : Type 0) : Type 0 where
   pub rooted : Bool
   pub glob : Tree A
@@ -24,7 +24,7 @@ abbrev pub excludes : {A : Type 0} → Filter A → List ℕ → Bool
 excludes (not_meant t) s = means_test t false false s
 excludes (not_ignored lines) s = is_ignored lines s
 
--- none of them leaves the text out
+-- none of the filters excludes the text
 abbrev pub none_excludes : {A : Type 0} → List (Filter A) → List ℕ → Bool
 none_excludes [] s = true
 none_excludes (x ∷ filters) s = not (excludes x s) && none_excludes filters s
@@ -52,7 +52,7 @@ abbrev pub stacked : List (Facts → Mark) → Forest Given → Forest Given
 stacked [] f = f
 stacked (rule ∷ rules) f = stacked rules (filtered (changed_by rule) (cut_by rule) f)
 
--- what a filter says of a candidate
+-- the mark of a candidate by a filter
 abbrev pub filter_mark : {A : Type 0} → Filter A → Candidate → Mark
 filter_mark (not_meant t) c = not_mark t c
 filter_mark (not_ignored lines) c = ignore_mark lines c
@@ -61,6 +61,6 @@ abbrev pub filter_rules : {A : Type 0} → List (Filter A) → List (Facts → M
 filter_rules [] = []
 filter_rules (x ∷ filters) = of_candidate (filter_mark x) ∷ filter_rules filters
 
--- the glob's walk first, and each filter after it
+-- the rule of the glob's walk first, and that of each filter after it
 abbrev pub rules_of : {A : Type 0} → Wanted A → List (Facts → Mark)
 rules_of w = of_candidate (glob_mark w.rooted w.glob) ∷ filter_rules w.filters

@@ -1,4 +1,4 @@
--- Where no row holds, a branch beside a boundary has none at that side.
+-- If no row of the rules holds, a sub-glob next to a boundary has no boundary on that side.
 use Rattle.std.proofs.Common.{Bool, None, Option, Some, [], false, if◌then◌else◌, refl, true, ℕ, ◌&&◌, ◌≡◌}
 use Rattle.wax_token.specs.Reads.{Span}
 use Rattle.wax_token.specs.Syntax.{Tree, Trees, alternation, class, concatenation, leaf, literal, more, none}
@@ -49,7 +49,7 @@ abbrev pub LastBare : Trees Span → Type 0
 LastBare none = Unit {0}
 LastBare (more t ts) = is_such is_boundary_leaf (last_of t ts) ≡ false
 
--- a sub-glob beside a boundary has none at that side
+-- a sub-glob next to a boundary has no boundary on that side
 abbrev pub Bare : Situated → Trees Span → Type 0
 Bare c ts = (side_has_boundary c.left ≡ true → FirstBare ts) × (side_has_boundary c.right ≡ true → LastBare ts)
 

@@ -1,4 +1,4 @@
--- A first token that is a branch and always begins with `/` leaves the whole.
+-- If the first token is a branch that always begins with `/`, the rest matches what the glob matches.
 use Rattle.std.proofs.Common.{List, [], false, inl, inr, refl, subst, sym, ℕ, ◌↔◌, ◌∷◌, ◌≡◌}
 use Rattle.wax_token.specs.Meaning.{Means, MeansEach}
 use Rattle.wax_token.specs.Syntax.{Tree, Trees, alternation, concatenation, leaf, more, none, repetition}
@@ -10,7 +10,7 @@ use Rattle.wax_facts.proofs.OpenedMeans.{opened_from, opened_to}
 use Rattle.wax_facts.proofs.Trees.{unrooted_plain}
 use Rattle.wax_facts.proofs.WrittenRest.{rest_same}
 
--- where it is, the rest means what the glob means
+-- a list whose first token is a branch doesn't begin with `**`
 plain_branch : {A : Type 0} (ts : Trees A) → IsRooted ts → begins_with_leaf ts ≡ false → begins_with_tree ts ≡ false
 plain_branch none h e = absurd h
 plain_branch (more (leaf a l) ts) h e = absurd (let f : ⊥ = cc in f)

@@ -12,7 +12,7 @@ use Rattle.wax_facts.proofs.OneCopy.{one_copy}
 use Rattle.wax_facts.proofs.Roots.{root_sound}
 use Rattle.wax_facts.proofs.TextSound.{text_sound}
 
--- one piece for each token, whatever stands after it
+-- one piece for each token, matched with or without something after it
 abbrev pub Loosely : {A : Type 0} → Trees A → Bool → List ℕ → Type 0
 Loosely none before s = s ≡ []
 Loosely (more t ts) before s = (x : List ℕ) × (y : List ℕ) × (s ≡ x ++ y) × ((after : Bool) × Means t before after x) × Loosely ts true y

@@ -1,4 +1,4 @@
--- Beside the prefix stands a `/`.
+-- There is a `/` next to the prefix.
 use Rattle.std.proofs.Common.{Bool, List, None, Option, Some, [], ap, append-nil, false, inl, inr, refl}
 use Rattle.std.proofs.Common.{subst, suc, sym, true, zero, ℕ, ◌++◌, ◌∙◌, ◌≡◌, ◌⊎◌}
 use Rattle.wax_query.specs.Components.{BeginsWithSlash, EndsWithSlash}

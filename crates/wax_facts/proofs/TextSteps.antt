@@ -33,7 +33,7 @@ pub all_step : {A : Type 0} (t : Tree A) (us : List (Tree A)) (i : ℕ) (u : Tre
 all_step t us i u s lt e k h =
     subst (λ z. TextOfAll (more t (trees z)) s) (sym (drop_here us i u lt e)) (all_more t u (trees (drop (i + 1) us)) s k h)
 
--- where the first branch stands apart from the others
+-- if the first branch is checked apart from the others
 pub all_kept : {A : Type 0} (ts : List (Tree A)) (t : Tree A) (us : List (Tree A)) (i : ℕ) (u : Tree A) (s : List ℕ) → ts ≡ t ∷ us →
     i < length us → u ≡ get_or us i u → Text u s →
     TextOfAll (trees (take 1 ts ++ drop (i + 1) us)) s → TextOfAll (trees (take 1 ts ++ drop i us)) s

@@ -1,4 +1,4 @@
--- Whether a tree means whatever lies below the paths that it means.
+-- Whether a tree matches everything below the paths that it matches.
 use Rattle.wax_token.specs.Syntax.{Leaf, literal, class, separator, one, zero_or_more, tree, Tree, leaf}
 use Rattle.wax_token.specs.Syntax.{alternation, concatenation, repetition, Trees, none, more}
 use Rattle.wax_query.specs.declared.query.when.When.{When}

@@ -1,4 +1,4 @@
--- The one text that a tree means, where there is only one by how it is written.
+-- The invariant text of a tree: the only text that it matches, if its tokens show that there is only one.
 use Rattle.std.specs.Prelude.{◌≡◌, ◌≢◌, ℕ, zero, suc, ◌==◌, ◌&&◌, Bool, true, false, IsTrue}
 use Rattle.std.specs.Prelude.{List, [], ◌∷◌, ◌++◌, Option, Some, ⊤}
 use Rattle.std.specs.List.{list_all}
@@ -8,7 +8,7 @@ use Rattle.wax_token.specs.Syntax.{Leaf, literal, class, separator, one, zero_or
 use Rattle.wax_token.specs.Syntax.{alternation, concatenation, repetition, Trees, none, more}
 use Rattle.wax_token.specs.Meaning.{SameFold}
 
--- no other character has its folding
+-- no other character has the same case folding
 abbrev pub FoldsAlone : ℕ → Type 0
 FoldsAlone c = (d : ℕ) → SameFold c d → d ≡ c
 
@@ -16,7 +16,7 @@ abbrev pub AllFoldAlone : List ℕ → Type 0
 AllFoldAlone [] = ⊤
 AllFoldAlone (c ∷ t) = FoldsAlone c × AllFoldAlone t
 
--- a literal, as its flag and its characters, that means more than one text
+-- a literal, as its flag and its characters, that matches more than one text
 abbrev pub VariesInCase : Bool × List ℕ → Type 0
 VariesInCase l = IsTrue l.0 × (AllFoldAlone l.1 → ⊥)
 
@@ -39,11 +39,11 @@ LeafText one s = ⊥
 LeafText (zero_or_more evaluation) s = ⊥
 LeafText (tree rooted) s = ⊥
 
--- one number of copies of the one text
+-- s is a fixed number of copies of one text
 abbrev pub IsRepeated : (List ℕ → Type 0) → ℕ → Option ℕ → List ℕ → Type 0
 IsRepeated P low high s = (x : List ℕ) × P x × (high ≡ Some low) × (s ≡ times low x)
 
--- the tree's text is invariant, and is s
+-- the tree has an invariant text, which is s
 abbrev mutual
   pub Text : {A : Type 0} → Tree A → List ℕ → Type 0
   Text (leaf a l) s = LeafText l s
@@ -51,13 +51,13 @@ abbrev mutual
   Text (concatenation a ts) s = TextOfEach ts s
   Text (repetition a t low high) s = IsRepeated (Text t) low high s
 
-  -- of branches: the same text of each
+  -- of branches: each has the text s
   pub TextOfAll : {A : Type 0} → Trees A → List ℕ → Type 0
   TextOfAll none s = s ≡ []
   TextOfAll (more t none) s = Text t s
   TextOfAll (more t (more u us)) s = Text t s × TextOfAll (more u us) s
 
-  -- of tokens one after another: their texts joined
+  -- of tokens one after another: their texts, joined
   pub TextOfEach : {A : Type 0} → Trees A → List ℕ → Type 0
   TextOfEach none s = s ≡ []
   TextOfEach (more t ts) s = (x : List ℕ) × (y : List ℕ) × (s ≡ x ++ y) × Text t x × TextOfEach ts y
@@ -65,6 +65,6 @@ abbrev mutual
 abbrev pub NoText : (List ℕ → Type 0) → Type 0
 NoText P = (s : List ℕ) → P s → ⊥
 
--- the tree's text is not invariant
+-- the tree has no invariant text
 abbrev pub Variant : {A : Type 0} → Tree A → Type 0
 Variant t = NoText (Text t)

@@ -13,11 +13,11 @@ path [] r = r
 path (c ∷ []) r = if c == 47 then c ∷ r else c ∷ 47 ∷ r
 path (c ∷ d ∷ p) r = c ∷ path (d ∷ p) r
 
--- beside the border stands a `/`, unless one side is empty
+-- there is a `/` next to the border, unless one side is empty
 abbrev pub IsSeam : List ℕ → List ℕ → Type 0
 IsSeam p q = ((p ≡ []) ⊎ EndsWithSlash p) ⊎ ((q ≡ []) ⊎ BeginsWithSlash q)
 
--- the first token is no branch
+-- the first token is a leaf
 abbrev pub begins_with_leaf : {A : Type 0} → Trees A → Bool
 begins_with_leaf none = false
 begins_with_leaf (more (leaf a l) ts) = true

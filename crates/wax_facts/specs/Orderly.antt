@@ -1,4 +1,4 @@
--- What the parser and the rules keep of a glob.
+-- What the parser and the rules ensure for the tree of a glob.
 use Rattle.std.specs.Prelude.{◌≡◌, Bool, true, false, ⊤}
 use Rattle.wax_token.specs.Syntax.{Leaf, literal, class, separator, one, zero_or_more, tree, Tree, leaf}
 use Rattle.wax_token.specs.Syntax.{alternation, concatenation, repetition, Trees, none, more}
@@ -11,7 +11,7 @@ abbrev pub IsSome : {A : Type 0} → Trees A → Type 0
 IsSome none = ⊥
 IsSome (more t ts) = ⊤
 
--- no alternation and no concatenation is without a token
+-- each alternation and each concatenation has a token
 abbrev mutual
   pub Full : {A : Type 0} → Tree A → Type 0
   Full (leaf a l) = ⊤
@@ -23,13 +23,14 @@ abbrev mutual
   FullEach none = ⊤
   FullEach (more t ts) = Full t × FullEach ts
 
--- a token of a concatenation is no concatenation
+-- the tree isn't a concatenation
 abbrev pub is_token : {A : Type 0} → Tree A → Bool
 is_token (leaf a l) = true
 is_token (alternation a ts) = true
 is_token (concatenation a ts) = false
 is_token (repetition a t low high) = true
 
+-- no token of a concatenation is a concatenation
 abbrev mutual
   pub Flat : {A : Type 0} → Tree A → Type 0
   Flat (leaf a l) = ⊤
@@ -45,7 +46,7 @@ abbrev mutual
   FlatEach none = ⊤
   FlatEach (more t ts) = (is_token t ≡ true) × Flat t × FlatEach ts
 
--- each literal has a text, and no `/` in it
+-- a literal's text isn't empty, and has no `/` and no backslash
 abbrev pub WordedLeaf : Leaf → Type 0
 WordedLeaf (literal insensitive t) = IsLiteralText t
 WordedLeaf (class negated xs) = ⊤
@@ -65,8 +66,8 @@ abbrev mutual
   WordedEach none = ⊤
   WordedEach (more t ts) = Worded t × WordedEach ts
 
--- where a token of a concatenation ends in a boundary, the next one starts in none; and no repetition has
--- bounds that the rules refuse
+-- if a token of a concatenation ends in a boundary, the next one doesn't start in one; and no repetition has
+-- bounds that the rules reject
 abbrev mutual
   pub Apart : {A : Type 0} → Tree A → Type 0
   Apart (leaf a l) = ⊤
@@ -84,7 +85,7 @@ abbrev mutual
       Apart t × (ends_in is_boundary_leaf t ≡ true → first_starts_in is_boundary_leaf ts ≡ false)
       × ApartEach ts
 
--- holds of each expression that parses, isn't empty and breaks no rule, and of each rest
+-- this holds of the tree of each expression that parses, isn't empty and breaks no rule, and of each rest
 abbrev pub Orderly : {A : Type 0} → Tree A → Type 0
 Orderly t = Full t × Flat t × Worded t × Apart t
 

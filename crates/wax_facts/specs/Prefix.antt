@@ -7,8 +7,8 @@ use Rattle.wax_query.specs.declared.query.when.When.TheVariants.{Always}
 use Rattle.wax_facts.specs.Root.{root}
 use Rattle.wax_facts.specs.InvariantText.{Text, Variant}
 
--- the tokens of a glob, where a last alternation of one branch and a last repetition of exactly one
--- copy stand open
+-- the opened list of a glob: its tokens, but if the last one is an alternation of one branch or a repetition
+-- of exactly one copy, the tokens in it take its place
 abbrev mutual
   pub opened : {A : Type 0} → Tree A → Trees A
   opened (leaf a l) = more (leaf a l) none
@@ -28,13 +28,14 @@ abbrev mutual
   opened_last (more t none) = opened t
   opened_last (more t (more u us)) = more t (opened_last (more u us))
 
--- one more invariant token before the cut; a `/` before a variant token is where it falls
+-- adds an invariant token before the cut; if there is no cut after it, the cut is just after the token if
+-- that is a `/`
 abbrev pub taken : Bool → List ℕ → Option (ℕ × List ℕ) → Option (ℕ × List ℕ)
 taken is_slash x (Some cut) = Some (suc cut.0, x ++ cut.1)
 taken true x None = Some (1, x)
 taken false x None = None
 
--- how many tokens stand before the cut, and their text; none where there is no place for one
+-- how many tokens are before the cut, and their text; `None` if there is no place for a cut
 abbrev pub Cut : {A : Type 0} → Trees A → Option (ℕ × List ℕ) → Type 0
 Cut none cut = cut ≡ Some (0, [])
 Cut (more t ts) cut =
@@ -47,20 +48,20 @@ abbrev pub or_nothing : Option (ℕ × List ℕ) → ℕ × List ℕ
 or_nothing None = (0, [])
 or_nothing (Some cut) = cut
 
--- the first token always begins with `/`, and its text isn't one
+-- the first token always begins with `/`, and has no invariant text
 abbrev pub IsRooted : {A : Type 0} → Trees A → Type 0
 IsRooted none = ⊥
 IsRooted (more t ts) = (root t ≡ Always) × Variant t
 
--- so many tokens stand before the cut, with this text
+-- n tokens are before the cut, with the text p
 abbrev pub CutBefore : {A : Type 0} → Trees A → ℕ → List ℕ → Type 0
 CutBefore ts n p =
     (cut : Option (ℕ × List ℕ)) × Cut ts cut × (n ≡ (or_nothing cut).0) × (p ≡ (or_nothing cut).1)
 
--- how many tokens of the list are taken, and the prefix
+-- n tokens of the list are taken for the prefix p
 abbrev pub PrefixOf : {A : Type 0} → Trees A → ℕ → List ℕ → Type 0
 PrefixOf ts n p = (IsRooted ts × (n ≡ 0) × (p ≡ 47 ∷ [])) ⊎ ((IsRooted ts → ⊥) × CutBefore ts n p)
 
--- of a glob: how many tokens of its opened list are taken, and the prefix
+-- of a glob: n tokens of its opened list are taken for the prefix p
 abbrev pub Prefix : {A : Type 0} → Tree A → ℕ → List ℕ → Type 0
 Prefix t n p = PrefixOf (opened t) n p

@@ -10,7 +10,7 @@ abbrev pub begins_with_tree : {A : Type 0} → Trees A → Bool
 begins_with_tree none = false
 begins_with_tree (more t ts) = is_tree_wildcard t
 
--- a sub-glob is entered where a token of it is taken, or where it begins with the `**` at which the cut falls
+-- a sub-glob is entered if a token of it is taken, or if it begins with the `**` just after the cut
 abbrev pub entered : {A : Type 0} → ℕ → Bool → Tree A × ℕ → Option (Tree A × ℕ)
 entered zero false here = None
 entered zero true here = Some here
@@ -43,7 +43,8 @@ abbrev mutual
   inner_last (more t (more u us)) zero = None
   inner_last (more t (more u us)) (suc n) = inner_last (more u us) n
 
--- the glob or sub-glob to which the rest belongs, where n tokens of the opened list are taken
+-- the glob or sub-glob that the rest belongs to if n tokens of the opened list are taken, and how many of its
+-- own tokens are taken
 abbrev pub owner : {A : Type 0} → Tree A → ℕ → Tree A × ℕ
 owner t n = or_here (t, n) (inner_cut t n)
 
@@ -62,6 +63,6 @@ unrooted none = none
 unrooted (more (leaf a (tree rooted)) ts) = more (leaf a (tree false)) ts
 unrooted (more t ts) = more t ts
 
--- the tokens of the rest; none where the prefix is all
+-- the tokens of the rest; none if the prefix is the whole glob
 abbrev pub rest : {A : Type 0} → Tree A → ℕ → Trees A
 rest t n = unrooted (left t n)

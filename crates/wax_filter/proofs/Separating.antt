@@ -3,7 +3,7 @@ use Rattle.std.proofs.Common.{sym, ◌∙◌, ap, subst}
 use Rattle.std.specs.Prelude.{◌≡◌, Option, Some, None}
 use Rattle.wax_filter.specs.Separating.{Answers, SaysOf}
 
--- what stands inside, if anything does
+-- the option inside another one, or `None`
 abbrev pub inside : {B : Type 0} → Option (Option B) → Option B
 inside (Some x) = x
 inside None = None

@@ -1,4 +1,4 @@
--- What a filter gives, call by call.
+-- What a filter yields, call by call.
 use Rattle.std.specs.Prelude.{◌≡◌, ◌⊎◌, Option, Some, None, List, [], ◌∷◌}
 use denote.Ref.{Bor, MutBor}
 use Rattle.wax_filter.specs.declared.filter.cancel.WalkCancellation.{WalkCancellation}
@@ -9,42 +9,43 @@ use Rattle.wax_filter.specs.declared.filter.separation.Separation.TheVariants.{F
 use Rattle.wax_filter.specs.declared.filter.tree_residue.TreeResidue.{TreeResidue}
 use Rattle.wax_filter.specs.Separating.{SeparatesBy, CancelsBy}
 
--- these items are left out, one after another, from the first state to the last
+-- calls that yield these excluded items, one after another, lead from the state s to the state t
 abbrev pub PassesOver : {S G F R : Type 0} → (S → Option (Separation G F R) → S → Type 0) → S
     → List (Product ResidueKind R) → S → Type 0
 PassesOver {S = S} feeds s [] t = s ≡ t
 PassesOver {S = S} feeds s (x ∷ xs) t = (u : S) × feeds s (Some (Residue x)) u × PassesOver feeds u xs t
 
--- the item that is kept, or none at the end
+-- r is the item that is kept, or `None` at the end
 abbrev pub Keeps : {G F R : Type 0} → Option (Separation G F R) → Option F → Type 0
 Keeps None r = r ≡ None
 Keeps (Some (Filtrate x)) r = r ≡ Some x.inner
 Keeps (Some (Residue x)) r = ⊥
 
--- the first item that is kept, after any that are left out; none at the end
+-- r is the first item that is kept, after any that are excluded, or `None` at the end
 abbrev pub NextFiltrate : {S G F R : Type 0} → (S → Option (Separation G F R) → S → Type 0) → S → Option F
     → S → Type 0
 NextFiltrate {S = S} {G = G} {F = F} {R = R} feeds s r t = (xs : List (Product ResidueKind R)) × (u : S)
     × (o : Option (Separation G F R)) × PassesOver feeds s xs u × feeds u o t × Keeps o r
 
--- a layer's answer for the answer of the walk below it; a layer is a walk and a closure
+-- the result of a layer for a result of the walk below it; a layer is a walk and a closure
 abbrev pub Turns : {L A B : Type 0} → (L → A → B → L → Type 0) → L → Option A → Option B → L → Type 0
 Turns turns s None r t = (r ≡ None) × (t ≡ s)
 Turns {B = B} turns s (Some x) r t = (y : B) × turns s x y t × (r ≡ Some y)
 
--- a layer over a walk: the walk is asked, and its answer is turned
+-- a call of a layer: it calls the walk below it, and turns its result
 abbrev pub Feeds : {I F A B : Type 0} → (I → Option A → I → Type 0) → (I × F → A → B → I × F → Type 0)
     → I × F → Option B → I × F → Type 0
 Feeds {I = I} {A = A} feeds turns s r t = (o : Option A) × (u : I)
     × feeds s.0 o u × Turns turns (u, s.1) o r t
 
--- what a closure says of an entry, if there is one
+-- what a closure returns for an entry, if there is one
 abbrev pub SaysAt : {F A B : Type 0} → (F → Bor A → Option B → F → Type 0) → F → Option A → Option B → F
     → Type 0
 SaysAt {A = A} step f (Some x) r g = (b : Bor A) × (b.now ≡ x) × step f b r g
 SaysAt step f None r g = (r ≡ None) × (g ≡ f)
 
--- a closure's call with an entry, the entry of an item, what is left out of what is kept, and cancelling
+-- of a layer that filters entries: a call of its closure, the entry of an item, what a kept item becomes when
+-- it is excluded, and cancelling
 pub record EntryLayer (I E G F R A : Type 0) : Type 1 where
   pub step : E → Bor A → Option (TreeResidue (Unit {0})) → E → Type 0
   pub shown : Separation G F (TreeResidue R) → Option A
@@ -56,17 +57,17 @@ abbrev pub entry_layer : {I E G F R A : Type 0} → (E → Bor A → Option (Tre
     → EntryLayer I E G F R A
 entry_layer step shown makes cancels = record { step = step; shown = shown; makes = makes; cancels = cancels }
 
--- an item is separated, and what lies below is cancelled, as the closure says of the entry
+-- an item is kept or excluded, and what is below it is cancelled, as the closure decides for its entry
 abbrev pub ByEntry : {I E G F R A : Type 0} → EntryLayer I E G F R A → I × E
     → Separation G F (TreeResidue R) → Separation G F (TreeResidue R) → I × E → Type 0
 ByEntry by s x y t = (said : Option (TreeResidue (Unit {0}))) × SaysAt by.step s.1 (by.shown x) said t.1
     × SeparatesBy by.makes said x y × CancelsBy by.cancels said x s.0 t.0
 
--- the walk is as it was, or cancelled
+-- the walk is unchanged, or cancelled
 abbrev pub AtMostCancels : {I : Type 0} → (I → I → Type 0) → I → I → Type 0
 AtMostCancels cancels u j = (j ≡ u) ⊎ cancels u j
 
--- a closure that is lent a walk cancels it or leaves it, and does nothing else to it
+-- a closure that borrows a walk leaves it unchanged or cancels it, and does nothing else to it
 abbrev pub OnlyCancels : {I E A B : Type 0} → (E → MutBor (WalkCancellation I) → A → B
     → MutBor (WalkCancellation I) → E → Type 0) → (I → I → Type 0) → Type 0
 OnlyCancels {I = I} {E = E} {A = A} {B = B} step cancels =
@@ -74,14 +75,14 @@ OnlyCancels {I = I} {E = E} {A = A} {B = B} step cancels =
     → step f w x y v g → (v.now.0.ghost_name ≡ w.now.0.ghost_name)
     × AtMostCancels cancels w.now.0.now v.now.0.now
 
--- an item becomes what the closure makes of it, and the walk is what it was lent, or cancelled
+-- an item becomes what the closure returns for it, and the walk is unchanged, or cancelled
 abbrev pub ByItem : {I E A B : Type 0} → (E → MutBor (WalkCancellation I) → A → B
     → MutBor (WalkCancellation I) → E → Type 0)
     → (I → I → Type 0) → I × E → A → B → I × E → Type 0
 ByItem {I = I} step cancels s x y t = (w : MutBor (WalkCancellation I)) × (v : MutBor (WalkCancellation I))
     × (w.now.0.now ≡ s.0) × step s.1 w x y v t.1 × (v.now.0.now ≡ t.0) × AtMostCancels cancels s.0 t.0
 
--- the iterator's answer, kept
+-- the result of the iterator, as an item that is kept
 abbrev pub KeepsAll : {I G F R : Type 0} → (I → Option F → I → Type 0) → I → Option (Separation G F R) → I
     → Type 0
 KeepsAll gives s None t = gives s None t

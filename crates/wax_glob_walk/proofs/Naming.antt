@@ -22,7 +22,7 @@ unsplit (c ∷ s) h =
     let differs : (c == 47) ≡ false = ne_eqb c 47 (h 0 (grind (arith, common_steps))) in
     rw (differs, unsplit s (slashless_tail c s h))
 
--- what stands before a first `/` is a name, where it isn't empty
+-- what is before the first `/` is a name, if it isn't empty
 pub split_names : (path : List ℕ) (r : Option (Bor (List ℕ) × Bor (List ℕ))) → IsSplitOnceResult 47 path r
     → MatchOption r (names_in_path path ≡ cond (is_some_name path) (path ∷ []) [])
     (λ x. names_in_path path

@@ -13,7 +13,7 @@ left_at xs i x l is =
     let next : suc i ≡ i + 1 = omega arith in
     drop-cons xs i x l ∙ (ap (λ z. z ∷ drop (suc i) xs) (sym is) ∙ ap (λ k. x ∷ drop k xs) next)
 
--- what was said so far: nothing, or to leave it out alone
+-- the mark so far: kept, or excluded by itself
 abbrev pub so_far : Bool → Mark
 so_far b = if b then alone else kept
 
@@ -51,7 +51,7 @@ module _ {R : Type 0} (rule : R → Facts → Mark) (f : Facts) (xs : List R) (i
         now true = refl
         now false = refl
 
--- of an error nothing is said that a success promises
+-- nothing is claimed of an error by a contract about success
 pub if_ok_of_err : {T E : Type 0} (P : T → Type 0) (Q : E → Type 0) (r : Result T E) → IsErrAnd r Q → IfOk r P
 if_ok_of_err P Q (Ok x) h = absurd h
 if_ok_of_err P Q (Err e) h = tt

@@ -1,4 +1,4 @@
--- What contracts see of entries that a glob means.
+-- What contracts see of entries that a glob matches.
 use Rattle.std.specs.Prelude.{ℕ, List, Option, Some, None, Result, Ok, Err, chars}
 use Rattle.wax_candidate.specs.Matched.{MatchedView, IsMatchOf}
 use Rattle.wax_filter.specs.declared.filter.separation.Separation.{Separation}
@@ -31,7 +31,7 @@ abbrev pub shown_entry : {S : Type 0} → Separation S (Result GlobEntry WalkErr
 shown_entry (Filtrate x) = shown_outcome x.inner
 shown_entry (Residue x) = Some (residue_item x.inner)
 
--- what was captured of an entry is what is captured of its candidate
+-- the captures of an entry are those of its candidate
 abbrev pub IsMatchedEntry : (List ℕ → Type 0) → (List ℕ → List (List ℕ) → Type 0) → GlobEntry → Type 0
 IsMatchedEntry Means Captured e =
     IsMatchOf Means Captured (chars (glob_facts e).candidate) (Some (match_of e))

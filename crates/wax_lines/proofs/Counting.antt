@@ -11,12 +11,12 @@ one_more_if-above false n h = le_refl n
 pub slice_to_end : (xs : List ℕ) (n : ℕ) → take (length xs - n) (drop n xs) ≡ drop n xs
 slice_to_end xs n = take_all (length xs - n) (drop n xs) (omega (arith, length-drop n xs))
 
--- a count that grew, or stands at its greatest, after a part in which it didn't fall
+-- a count that first didn't fall, and then grew or reached the greatest, grew in all or is the greatest
 pub grew_after : (first mid last : ℕ) → first ≤ mid → (mid < last) ⊎ (last ≡ greatest_count) → (first < last) ⊎ (last ≡ greatest_count)
 grew_after first mid last h (inl k) = inl (omega (arith, h, k))
 grew_after first mid last h (inr k) = inr k
 
--- the same before such a part
+-- a count that first grew or reached the greatest, and then didn't fall, grew in all or is the greatest
 pub grew_before : (first mid last : ℕ) → (first < mid) ⊎ (mid ≡ greatest_count) → mid ≤ last → last ≤ greatest_count → (first < last) ⊎ (last ≡ greatest_count)
 grew_before first mid last (inl k) h most = inl (omega (arith, h, k))
 grew_before first mid last (inr k) h most = inr (omega (arith, h, k, most))

@@ -149,7 +149,7 @@ module _ (Writes : List ℕ → List ℕ → Type 0) where
     filters = sifted_whole Writes h.taken h.written s.carry.items s.kept.bytes.items s.kept.not_text h.sifted;
   }
 
-  -- the last writing, after want of memory
+  -- the last write, after a failed allocation
   pub Short-stopped : (left left' held mid held' : Option (List ℕ)) (s : Sieve)
       → CameShort Writes left left' held mid s → Appends mid held' s.kept.bytes.items → StoppedShort Writes left left' held held'
   Short-stopped left left' held mid held' s h written = record {
@@ -163,7 +163,7 @@ module _ (Writes : List ℕ → List ℕ → Type 0) where
     filters = sifted_whole Writes h.front h.written s.carry.items s.kept.bytes.items s.kept.not_text h.sifted;
   }
 
-  -- want of memory before the first read
+  -- allocation failed before the first read
   pub stopped_at_once : (left held : Option (List ℕ)) → StoppedShort Writes left left held held
   stopped_at_once left held = record {
     front = [];

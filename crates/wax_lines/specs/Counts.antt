@@ -5,15 +5,15 @@ use Rattle.std.specs.Prelude.{Result, Ok, Err, List, length}
 abbrev pub greatest_count : ℕ
 greatest_count = 2 ^ 64 - 1
 
--- a count that stays at its greatest
+-- adds one to a count that stops at its greatest
 abbrev pub one_more : ℕ → ℕ
 one_more n = min (n + 1) greatest_count
 
--- one more where there is something to count
+-- adds one if there is something to count
 abbrev pub one_more_if : Bool → ℕ → ℕ
 one_more_if b n = if b then one_more n else n
 
--- an error, or an answer that no byte of some was taken
+-- the write failed, or wrote none of some bytes
 abbrev pub is_failed_write : {E : Type 0} → Result ℕ E → List ℕ → Bool
 is_failed_write (Ok n) bytes = n == 0 && not (length bytes == 0)
 is_failed_write (Err e) bytes = true

@@ -111,7 +111,7 @@ takes_more (Some (fault K.NotText path depth)) n m left e h = omega (arith, e, h
 takes_more (Some (fault K.Budget path depth)) n m left e h = (omega (arith, e, h.0), h.1)
 
 module _ {D C : Type 0} where
-  -- nothing was asked for an entry
+  -- an entry needs no further call of the directory
   pub entry_uses_answer : (x : ListItem) (names : ℕ) (w new : Steps D C) (r : Step)
       → UsesAnswer (nothing_asked names) w r new
       → UsesAnswer (record { counts = item_counts x; taken = 0; names = names }) w r new

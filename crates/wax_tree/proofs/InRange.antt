@@ -29,7 +29,8 @@ module _ (range : DepthRange) (root : List ℕ) where
   abbrev wanted : List Given → List Given
   wanted xs = filter (is_in range) xs
 
-  -- an entry, what lies below it, and what comes after: the same where it is in range or not
+  -- the wanted items of an entry, of what is below it, and of what comes after it, whether it is in range or
+  -- not
   at_depth_wanted : (at : Location) (kind : FileType) (below after : Forest Given)
       → wanted (preorder (at_depth (scope_in range root) at.depth (whole_entry root at kind) below after))
       ≡ wanted (whole_entry root at kind ∷ []) ++ (wanted (preorder below) ++ wanted (preorder after))
@@ -131,7 +132,7 @@ append-nil : {A : Type 0} (xs : List A) → xs ++ [] ≡ xs
 append-nil [] = refl
 append-nil (x ∷ xs) = ap (λ ys. x ∷ ys) (append-nil xs)
 
--- the walk of some depths gives of the whole walk what is in range
+-- a walk of some depths yields the entries of the whole walk that are in range
 pub plain_wanted : (range : DepthRange) (start : List ℕ) (s : Shown)
     → filter (is_in range) (preorder (plain (scope_in range start) s)) ≡ filter (is_in range) (whole start s)
 plain_wanted range start (a_leaf link) = at_depth_wanted range start (start_location start) (leaf_kind link)
@@ -161,7 +162,7 @@ entries_are range start s tells listed xs (given.lacks_memory c) = lacks_memory 
 entries_are range start s tells listed xs (given.over_budget path depth few h c) =
     over_budget path depth (omega (arith, few)) c
 
--- what is given, whether the directory tells the folders that it listed or not
+-- what is yielded, without what the directory reports
 pub untold : (tells : List (List ℕ) → Type 0) (allowed : ℕ) (p : Pending Given) (xs : List Given)
     → GaveAll tells allowed p xs → GaveAll (λ _. Unit {0}) allowed p xs
 untold tells allowed p xs (given.whole e t) = given.whole e tt

@@ -1,4 +1,4 @@
--- A walk, when it is made and where memory was refused for its start.
+-- A walk when it is made, and if allocation failed for its start.
 use Rattle.std.proofs.Common.{◌≡◌, ℕ, ◌+◌, ◌-◌, ◌^◌, ◌<◌, ◌≤◌, length, true, false, List, [], ◌∷◌, ◌++◌, refl, sym}
 use Rattle.std.proofs.Common.{ap, subst, ◌∙◌, arith, string_bytes, length-append}
 use Rattle.std.specs.Prelude.{Option, Some, None, String}
@@ -135,7 +135,7 @@ ended_at law d origin range view h l = record {
   directory = h.directory;
 }
 
--- where memory was refused, want of it comes
+-- a walk for whose start allocation failed begins as any walk does
 pub lacking_at : {D C : Type 0} (law : Law D C) (d : D) (origin : Origin) (range : DepthRange) (view : WalkView D)
     → LacksMemory law d range view → length origin.names ≤ range.max → BeginsAt law d origin range view
 lacking_at law d origin range view h l = record {

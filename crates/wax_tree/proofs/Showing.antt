@@ -127,7 +127,7 @@ child_counts_in x (unread rest) = let e : count_shown (child_in x rest) ≤ coun
 child_counts_in x (not_text rest) = let e : count_shown (child_in x rest) ≤ count rest =
     child_counts_in x rest in omega (arith, e)
 
--- what stands under a name holds no more items
+-- what is under a name has no more items than the folder
 pub child_counts : (x : List ℕ) (s : Shown) → count_shown (child_shown x s) ≤ count_shown s
 child_counts x (a_leaf link) = omega arith
 child_counts x (a_folder l) = child_counts_in x l
@@ -209,7 +209,7 @@ headed_is scope at x (not_text rest) g h = refl
 -- ---- the first item of a folder
 
 module _ (scope : WalkScope) (at : Location) where
-  -- what stands under a plain name
+  -- what is under a plain name
   pub takes_name : (shows : List ℕ → Shown → Type 0) (x : List ℕ) (kind : FileType) (l : Items)
       (g : Forest Given) → Some (named x kind) ≡ first_item l → IsPlain x → ShowsIn shows at.path l
       → (s : Shown) × shows (join at.path x) s × HasKind s kind × (own_count l ≡ count_shown s) ×

@@ -416,7 +416,7 @@ first_listed then [] f listed items r h = subst (λ ps. FirstIs then f ps items 
 first_listed then (x ∷ paths) f listed items r h = first_listed then paths f (listed ++ x ∷ []) items r
     (subst (λ ps. FirstIs then f ps items r) (sym (append_assoc listed (x ∷ []) paths)) h)
 
--- what comes first after the listings comes first
+-- the first item after some listings is the first item
 leads_first : (then : Pending Given → Type 0) (p q : Pending Given) (items : ℕ) (r : Option Given)
     → ListsBetween p q → FirstIs then (all_pending q) q.listed items r
     → FirstIs then (all_pending p) p.listed items r

@@ -64,7 +64,7 @@ none_counted k = record {
 }
 
 module _ {D C : Type 0} where
-  -- memory was refused
+  -- allocation failed
   pub failed_uses_answer : (asked : Asked) (w : Steps D C) → names_left w ≤ asked.names
       → asked.taken ≤ allowance w → UsesAnswer asked w (Gives (Err Memory)) (record w { has_ended = true })
   failed_uses_answer asked w few taken = record {
@@ -98,7 +98,7 @@ module _ {D C : Type 0} where
   stopped_uses_answer asked w new GoesOn x e is c t m few = cc
   stopped_uses_answer asked w new Ends x e is c t m few = cc
 
-  -- one item is given and nothing asked
+  -- an item is yielded without a call of the directory
   pub gives_uses_answer : (asked : Asked) (w : Steps D C) (y : Result TreeEntry WalkError)
       → IsCounted (fault_counts (Some (tree_given y))) asked.counts
       → Takes (Some (tree_given y)) (allowance w) asked.taken (allowance w)
@@ -115,7 +115,7 @@ module _ {D C : Type 0} where
   }
 
 module _ {D C : Type 0} (law : Law D C) where
-  -- the directory answered, and the step did with it what it did
+  -- the directory was called, and the step used its result
   pub answer_used : (asked : Asked) (w : Steps D C) (d : D) (r : Step) (new : Steps D C)
       → Counts asked.counts (law.tally w.directory) (law.tally d) → asked.counts.items ≡ asked.taken
       → UsesAnswer asked (record w { directory = d }) r new → StepAnswers law asked.names w r new
@@ -163,7 +163,7 @@ module _ {D C : Type 0} (law : Law D C) where
   stops_over w new p path depth GoesOn e few h = cc
   stops_over w new p path depth Ends e few h = cc
 
-  -- the same was to come of an earlier state, but for items that were taken
+  -- from an earlier state the same was to come, except for the items taken since
   pub step_from : (w mid new : Steps D C) (p q : Pending Given) (r : Step) → all_pending p ≡ all_pending q
       → p.listed ≡ q.listed → p.items + allowance mid ≡ q.items + allowance w → StepIs law mid q r new
       → StepIs law w p r new

@@ -1,4 +1,4 @@
--- A walk that was made.
+-- What is to come of a walk when it begins.
 use Rattle.std.specs.Prelude.{◌≡◌, ◌<◌, ◌≤◌, length, ◌+◌, ◌-◌, ◌^◌, ℕ, List, Option, Some, None}
 use Rattle.std.specs.Iterator.{Count, IsFinite, size}
 use Rattle.wax_tree.specs.declared.behavior.WalkBehavior.{WalkBehavior}
@@ -12,7 +12,7 @@ use Rattle.wax_walk.specs.Forest.{Pending, pending, nothing}
 use Rattle.wax_walk.specs.Given.{Given}
 use Rattle.wax_walk.specs.View.{WalkView}
 
--- the greatest depth, where no walk counts further
+-- the greatest depth; if there is no bound, the greatest `usize`
 abbrev pub or_greatest : Option ℕ → ℕ
 or_greatest (Some n) = n
 or_greatest None = 2 ^ 64 - 1
@@ -23,13 +23,13 @@ behavior_range b = record { min = least b.depth; max = or_greatest (greatest b.d
 abbrev pub scope_in : DepthRange → List ℕ → WalkScope
 scope_in range root = record { min = range.min; max = range.max; root = root }
 
--- it ends, and gives no more items than so many
+-- the walk ends, and yields at most `most` items
 pub record EndsWithin (most : ℕ) (left : Count) : Type 0 where
   pub ends : IsFinite left
   pub gives : size left ≤ most
 
--- a walk over this directory, of which this is seen: what is shown at the start will come, of the depths in
--- range, and no name is to be followed
+-- the view of a walk over the directory d: what is shown at the start is to come, of the depths in range, and
+-- there are no names to follow
 pub record Begins {D C : Type 0} (law : Law D C) (d : D) (start : List ℕ) (range : DepthRange)
     (view : WalkView D) : Type 0 where
   pub shown : (s : Shown) (listed : List (List ℕ)) → law.shows d start s → law.tells d listed
@@ -38,17 +38,17 @@ pub record Begins {D C : Type 0} (law : Law D C) (d : D) (start : List ℕ) (ran
   pub names : view.names_left ≡ 0
   pub directory : view.directory ≡ d
 
--- where a walk begins: the start that its entries tell, the path that it asks of first, its candidate, and
--- the names below it that it follows
+-- where a walk begins: the start that its entries report, the path that it queries first, the candidate of
+-- that path, and the names below it that the walk follows
 pub record Origin : Type 0 where
   pub root : List ℕ
   pub path : List ℕ
   pub candidate : List ℕ
   pub names : List (List ℕ)
 
--- the walk to the place of these names, and from there on: one question a name on the way, and one error and
--- the end where the names don't lead there; where there are more names than the greatest depth nothing comes,
--- and the walk has ended
+-- the view of a walk over the directory d: it follows the names of the origin and goes on from there, or
+-- yields one error if they don't lead there; if there are more names than the greatest depth, it yields
+-- nothing and has ended
 pub record BeginsAt {D C : Type 0} (law : Law D C) (d : D) (origin : Origin) (range : DepthRange)
     (view : WalkView D) : Type 0 where
   pub shown : (s : Shown) (listed : List (List ℕ)) → law.shows d origin.path s → law.tells d listed
@@ -65,7 +65,7 @@ pub record BeginsAt {D C : Type 0} (law : Law D C) (d : D) (origin : Origin) (ra
   pub names : view.names_left ≤ length origin.names
   pub directory : view.directory ≡ d
 
--- a walk over this directory of which nothing comes
+-- the view of a walk over the directory d that has ended and yields nothing
 pub record HasEnded {D C : Type 0} (law : Law D C) (d : D) (range : DepthRange)
     (view : WalkView D) : Type 0 where
   pub comes : (path : List ℕ) (s : Shown) (listed : List (List ℕ)) → law.shows d path s → law.tells d listed
@@ -75,7 +75,8 @@ pub record HasEnded {D C : Type 0} (law : Law D C) (d : D) (range : DepthRange)
   pub names : view.names_left ≡ 0
   pub directory : view.directory ≡ d
 
--- a walk over this directory for whose start there was no memory: whatever is to come, want of memory comes
+-- the view of a walk over the directory d for whose start allocation failed: anything may be to come, since
+-- the walk yields that error instead
 pub record LacksMemory {D C : Type 0} (law : Law D C) (d : D) (range : DepthRange)
     (view : WalkView D) : Type 0 where
   pub comes : (p : Pending Given) → law.tells d p.listed → view.to_come p

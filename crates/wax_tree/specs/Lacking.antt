@@ -1,4 +1,4 @@
--- A walk for whose start there may have been no memory.
+-- A walk for whose start allocation may have failed.
 use Rattle.std.specs.Prelude.{◌≡◌, ℕ, ◌+◌, cond, true, false}
 use Rattle.wax_directory.specs.Law.{Law}
 use Rattle.wax_walk.specs.Forest.{Pending}
@@ -8,12 +8,12 @@ use Rattle.wax_tree.specs.declared.walk_tree.WalkTree.{WalkTree}
 use Rattle.wax_tree.specs.Stepping.{items_left}
 use Rattle.wax_tree.specs.Walking.{PlainToCome, HasStopped, allowance, names_left}
 
--- what is to come: anything, where memory was refused and that wasn't told yet
+-- what is to come: anything, if allocation failed and that error wasn't yielded yet
 pub data MayCome {D C : Type 0} (law : Law D C) (w : WalkTree D C) (p : Pending Given) : Type 0 where
   lacks : w.lacks_memory ≡ true → law.tells w.steps.directory p.listed → MayCome law w p
   goes : w.lacks_memory ≡ false → PlainToCome law w.steps p → MayCome law w p
 
--- what is seen of the walk
+-- the view of the walk
 abbrev pub tree_view : {D C : Type 0} → Law D C → WalkTree D C → WalkView D
 tree_view law w = record {
   to_come = MayCome law w;
@@ -23,6 +23,6 @@ tree_view law w = record {
   has_ended = (w.lacks_memory ≡ false) × HasStopped w.steps;
 }
 
--- at most how many items it still gives
+-- at most how many items it has yet to yield
 abbrev pub gives_at_most : {D C : Type 0} → WalkTree D C → ℕ
 gives_at_most w = items_left w.steps + cond w.lacks_memory 1 0

@@ -8,7 +8,7 @@ use Rattle.wax_walk.specs.declared.error.FaultKind.TheVariants.{NotFound, Listin
 use Rattle.wax_walk.specs.Forest.{Forest, nothing, item, lists, followed_by}
 use Rattle.wax_walk.specs.Given.{Given, entry, fault, kept}
 
--- how many items there are in all
+-- how many items there are at all depths
 abbrev pub count : Items → ℕ
 count end = 0
 count (leaf x link rest) = 1 + count rest
@@ -22,13 +22,13 @@ abbrev pub count_shown : Shown → ℕ
 count_shown (a_folder l) = count l
 count_shown x = 0
 
--- the depths of the entries that a walk gives, and the start that they tell
+-- the depths of the entries that a walk yields, and the start that they report
 pub record WalkScope : Type 0 where
   pub min : ℕ
   pub max : ℕ
   pub root : List ℕ
 
--- a path, the names that lead there from the start, and how many they are
+-- a path, its candidate (the names that lead there from the start), and its depth (how many they are)
 pub record Location : Type 0 where
   pub path : List ℕ
   pub candidate : List ℕ
@@ -37,7 +37,7 @@ pub record Location : Type 0 where
 abbrev pub start_location : List ℕ → Location
 start_location root = record { path = root; candidate = []; depth = 0 }
 
--- where a name in a folder stands; a folder's location, where its items are meant, has their depth
+-- the location of a name in a folder; `at` is the folder's, with the depth of its items
 abbrev pub item_location : Location → List ℕ → Location
 item_location at x = record { path = join at.path x; candidate = join at.candidate x; depth = at.depth }
 
@@ -45,15 +45,15 @@ abbrev pub one_deeper : Location → Location
 one_deeper at = record { path = at.path; candidate = at.candidate; depth = at.depth + 1 }
 
 module _ (scope : WalkScope) where
-  -- an entry at a depth, where it is in range, and what lies below it
+  -- an entry at a depth, unless that is less than the least; then what is below it, and what comes after it
   abbrev pub at_depth : ℕ → Given → Forest Given → Forest Given → Forest Given
   at_depth depth x below after = cond (nat_lt depth scope.min) (followed_by below after) (item x below after)
 
-  -- a folder at a depth is listed, if it isn't at the greatest
+  -- what is below a folder at a depth, if that is less than the greatest
   abbrev pub above_max : ℕ → Forest Given → Forest Given
   above_max depth f = cond (nat_lt depth scope.max) f nothing
 
-  -- a folder at a depth that can't be listed
+  -- what is below a folder that can't be listed: an error
   abbrev pub unlisted : List ℕ → ℕ → Forest Given
   unlisted path depth = lists path (item (fault Listing path depth) nothing nothing)
 
@@ -84,17 +84,17 @@ module _ (scope : WalkScope) where
   items_forest at (unread rest) = item (fault Listing at.path (at.depth - 1)) nothing (items_forest at rest)
   items_forest at (not_text rest) = item (fault NotText at.path (at.depth - 1)) nothing (items_forest at rest)
 
-  -- what lies below an entry
+  -- what is below an entry
   abbrev pub below_forest : Location → Shown → Forest Given
   below_forest at (a_folder l) = above_max at.depth (lists at.path (items_forest (one_deeper at) l))
   below_forest at a_sealed = above_max at.depth (unlisted at.path at.depth)
   below_forest at x = nothing
 
-  -- an entry, what lies below it, and after it what comes
+  -- an entry, what is below it, and what comes after it
   abbrev pub entry_forest : Location → FileType → Shown → Forest Given → Forest Given
   entry_forest at kind s after = at_depth at.depth (plain_entry at kind) (below_forest at s) after
 
-  -- the walk from a location on, and after it what comes
+  -- the walk from a location on, and what comes after it
   abbrev pub plain_at : Location → Shown → Forest Given → Forest Given
   plain_at at (a_leaf link) after = entry_forest at (leaf_kind link) (a_leaf link) after
   plain_at at (a_folder l) after = entry_forest at Folder (a_folder l) after

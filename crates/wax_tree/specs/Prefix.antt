@@ -1,4 +1,4 @@
--- The walk to a place below the start, and from there on.
+-- The walk along names below the start, and from there on.
 use Rattle.std.specs.Prelude.{ℕ, ◌+◌, List, [], ◌∷◌, ◌++◌, String, string_bytes, ⊤}
 use Rattle.std.specs.declared.alloc.Global.{Global}
 use Rattle.wax_directory.specs.Shown.{Shown, a_leaf, a_folder, a_sealed, missing, failing, IsPlain, join}
@@ -13,13 +13,13 @@ abbrev pub ArePlain : List (List ℕ) → Type 0
 ArePlain [] = ⊤
 ArePlain (x ∷ names) = IsPlain x × ArePlain names
 
--- names of which the first stands last
+-- names that are stored in reverse, the first one last
 abbrev pub from_last : List (String Global) → List (List ℕ)
 from_last [] = []
 from_last (x ∷ names) = from_last names ++ string_bytes x ∷ []
 
--- the kind of what stands at the location is asked for, and then that of each name; one error, and after it
--- what comes, where they don't lead on; else the walk from the last of them
+-- follows the names from a location where s is shown: the walk from the last of them on, or one error if they
+-- don't lead there; and what comes after it
 abbrev pub walk_from : WalkScope → Location → Shown → List (List ℕ) → Forest Given → Forest Given
 walk_from scope at s [] after = plain_at scope at s after
 walk_from scope at (a_folder l) (x ∷ names) after = walk_from scope (one_deeper (item_location at x))

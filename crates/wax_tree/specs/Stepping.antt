@@ -18,15 +18,15 @@ use Rattle.wax_tree.specs.Plain.{WalkScope, Location, items_forest}
 use Rattle.wax_tree.specs.Walking.{if_some, step_given, cursors_of, Rest, HasStopped, allowance, names_left}
 use Rattle.wax_tree.specs.Walking.{AtRest, PlainToCome, steps_view, MovesOn}
 
--- no more is counted
+-- no count of n is greater than that of k
 pub record IsCounted (n k : Tally) : Type 0 where
   pub misses : n.misses ≤ k.misses
   pub leaves : n.leaves ≤ k.leaves
   pub failures : n.failures ≤ k.failures
   pub bad_names : n.bad_names ≤ k.bad_names
 
--- what an answer of the directory counted, how many items were taken for it, and how many names the walk
--- still followed
+-- what a call of the directory counted, how many items it took from listings, and how many names were left to
+-- follow
 pub record Asked : Type 0 where
   pub counts : Tally
   pub taken : ℕ
@@ -35,13 +35,13 @@ pub record Asked : Type 0 where
 abbrev pub nothing_asked : ℕ → Asked
 nothing_asked names = record { counts = no_counts; taken = 0; names = names }
 
--- at most how many steps a walk makes for the place to begin at
+-- at most how many steps a walk makes for its start point
 abbrev pub first_steps : Option StartPoint → ℕ
 first_steps None = 0
 first_steps (Some place) = 4 + length place.names.items
 
 module _ {D C : Type 0} where
-  -- what a step makes of an answer, with no further question
+  -- what a step does with a result of the directory, without another call
   pub record UsesAnswer (asked : Asked) (old : Steps D C) (r : Step) (new : Steps D C) : Type 0 where
     pub goes_on : r ≡ Ends → ⊥
     pub directory : new.directory ≡ old.directory
@@ -51,64 +51,65 @@ module _ {D C : Type 0} where
     pub names : names_left new ≤ asked.names
     pub misplaced : IsMisplaced (step_given r) → 0 < asked.names
 
-  -- at most how many items the walk still gives
+  -- at most how many items the walk has yet to yield
   abbrev pub items_left : Steps D C → ℕ
   items_left w = 2 * w.budget + (if_some w.first 2 + (if_some w.entered 1 + cond w.has_ended 0 1))
 
-  -- at most how many steps it makes
+  -- at most how many steps it makes before the next item
   abbrev pub steps_left : Steps D C → ℕ
   steps_left w = 3 * w.budget + (first_steps w.first + (if_some w.entered 2 + length w.levels.items))
 
-  -- at most so many more items and steps are left, where nothing or an item was given
+  -- at most a more items are left and, if the walk goes on without an item, at most b more steps
   abbrev pub IncreasesBy : ℕ → ℕ → Steps D C → Step → Steps D C → Type 0
   IncreasesBy a b old GoesOn new = (items_left new ≤ items_left old + a)
       × (steps_left new ≤ steps_left old + b)
   IncreasesBy a b old r new = items_left new ≤ items_left old + a
 
-  -- at most so many more items and steps are left, where so many names were to come
+  -- if the walk goes on, at most 2 more items and `3 + names` more steps are left, else at most 1 more item
   abbrev pub IncreasesByNames : ℕ → Steps D C → Step → Steps D C → Type 0
   IncreasesByNames names old GoesOn new =
       (items_left new ≤ items_left old + 2) × (steps_left new ≤ steps_left old + (3 + names))
   IncreasesByNames names old r new = items_left new ≤ items_left old + 1
 
-  -- an item takes one of those that are left
+  -- a step that yields an item leaves fewer items; one that goes on leaves no more items and no more steps
   abbrev pub WeaklyDecreases : Steps D C → Step → Steps D C → Type 0
   WeaklyDecreases old (Gives x) new = items_left new < items_left old
   WeaklyDecreases old GoesOn new = (items_left new ≤ items_left old) × (steps_left new ≤ steps_left old)
   WeaklyDecreases old Ends new = ⊤
 
-  -- a step that gives an item leaves fewer items, and one that gives none leaves fewer steps
+  -- a step that yields an item leaves fewer items; one that goes on leaves no more items and fewer steps
   abbrev pub Decreases : Steps D C → Step → Steps D C → Type 0
   Decreases old (Gives x) new = items_left new < items_left old
   Decreases old GoesOn new = (items_left new ≤ items_left old) × (steps_left new < steps_left old)
   Decreases old Ends new = ⊤
 
--- what is to come of a folder and of what is at rest behind it
+-- what is to come of a folder's items, and after them of a walk at rest
 abbrev pub listing_pending : WalkScope → Location → Items → Rest → ℕ → Pending Given
 listing_pending scope at l rest items = pending nothing (followed_by (items_forest scope at l) rest.forest)
     rest.listed items
 
 module _ {D C : Type 0} (law : Law D C) where
-  -- what a step does where this was to come
+  -- what a step does if p was to come
   abbrev pub StepIs : Steps D C → Pending Given → Step → Steps D C → Type 0
   StepIs old p (Gives x) new = GivesOrStops (steps_view law old) p (step_given (Gives x)) (steps_view law new)
   StepIs old p GoesOn new = (q : Pending Given) × PlainToCome law new q × MovesOn p q ×
       (q.items + allowance old ≤ p.items + allowance new)
   StepIs old p Ends new = GivesOrStops (steps_view law old) p None (steps_view law new)
 
-  -- at rest, with a head that lists so many items, it does what the head and what comes after it ask for
+  -- what a step does if the walk is at rest, and `head`, for which at most k items are listed, is to come
+  -- before the rest
   abbrev pub Continues : Steps D C → (Forest Given → Forest Given) → ℕ → Step → Steps D C → Type 0
   Continues old head k r new = (rest : Rest) (items : ℕ) → AtRest law old rest → k + rest.count ≤ items
       → StepIs old (pending nothing (head rest.forest) rest.listed items) r new
 
-  -- what a folder that was popped has to give, beside a walk at rest
+  -- a folder was popped and has the items l, and the walk without it is at rest
   pub record IsPopped (w : Steps D C) (level : OpenFolder C) (l : Items) (rest : Rest) : Type 0 where
     pub rests : AtRest law w rest
     pub held : HoldsLast law w.directory (cursors_of w.levels.items) rest.has level.cursor l
     pub shown : ShowsIn (law.shows w.directory) (string_bytes level.folder.path) l
     pub opened : Contains rest.listed (string_bytes level.folder.path)
 
-  -- what a step asks, takes and counts, where so many names were to be followed
+  -- what a step takes and counts if `names` names were to be followed
   pub record StepAnswers (names : ℕ) (old : Steps D C) (r : Step) (new : Steps D C) : Type 0 where
     pub goes_on : r ≡ Ends → ⊥
     pub accounts : Accounts law (steps_view law old) (step_given r) (steps_view law new)

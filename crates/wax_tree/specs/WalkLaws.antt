@@ -11,7 +11,7 @@ use Rattle.wax_walk.specs.Given.{Given}
 use Rattle.wax_walk.specs.View.{CancelStep}
 
 module _ {D C : Type 0} where
-  -- the folder that was given last won't be entered
+  -- the walk after cancelling: the last yielded folder won't be entered
   abbrev pub uncancelled : WalkTree D C → WalkTree D C
   uncancelled w = record w { steps = record w.steps { entered = None } }
 

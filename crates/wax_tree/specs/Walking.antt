@@ -1,4 +1,4 @@
--- What a walk's state says of what is to come.
+-- What is to come of a walk, by its state.
 use Rattle.std.specs.Prelude.{◌≡◌, ℕ, ◌+◌, ◌-◌, ◌^◌, ◌≤◌, true, false, cond, length, map, List, []}
 use Rattle.std.specs.Prelude.{◌∷◌, ◌++◌, Option, Some, None, Result, string_bytes, ◌⊎◌, ⊤}
 use Rattle.std.specs.List.{Contains}
@@ -25,16 +25,16 @@ abbrev pub if_some : {A : Type 0} → Option A → ℕ → ℕ
 if_some None n = 0
 if_some (Some x) n = n
 
--- what is seen of an item of the walk
+-- an item of the walk, as contracts see it
 abbrev pub tree_given : Result TreeEntry WalkError → Given
 tree_given = given_outcome facts_of facts_of
 
--- what is seen of a step
+-- the item that a step yields, if any
 abbrev pub step_given : Step → Option Given
 step_given (Gives x) = Some (tree_given x)
 step_given x = None
 
--- what is seen of an answer
+-- the item that a call returns, if any
 abbrev pub tree_answer : Option (Result TreeEntry WalkError) → Option Given
 tree_answer None = None
 tree_answer (Some x) = Some (tree_given x)
@@ -54,23 +54,23 @@ folder_location folder = record {
   depth = folder.depth;
 }
 
--- of a folder that was entered
+-- what is below a folder that was entered
 abbrev pub entered_forest : WalkScope → Location → Shown → Forest Given
 entered_forest scope at (a_folder l) = lists at.path (items_forest scope at l)
 entered_forest scope at s = unlisted scope at.path (at.depth - 1)
 
--- at the start no folder was entered
+-- if the walk is at its start point, no folder was entered and none is open
 abbrev pub IsAlone : {C : Type 0} → Option StartPoint → Option Folder → List (OpenFolder C) → Type 0
 IsAlone None e levels = ⊤
 IsAlone (Some place) e levels = (e ≡ None) × (levels ≡ [])
 
--- it is a folder, that can be listed or not
+-- what is shown is a folder, which may be one that can't be listed
 abbrev pub IsFolder : Shown → Type 0
 IsFolder (a_folder l) = ⊤
 IsFolder a_sealed = ⊤
 IsFolder s = ⊥
 
--- it is of this kind
+-- something is shown, of this file type
 abbrev pub HasKind : Shown → FileType → Type 0
 HasKind (a_leaf link) k = k ≡ leaf_kind link
 HasKind (a_folder l) k = k ≡ F.Folder
@@ -86,8 +86,8 @@ WereListed [] listed = ⊤
 WereListed (level ∷ inner) listed =
     Contains listed (string_bytes level.folder.path) × WereListed inner listed
 
--- what a walk at rest has to give: what its cursors have, what comes of it, how many items that lists at
--- most, and the folders that were listed
+-- what a walk at rest has yet to yield: the items that its cursors have, what comes of them, how many items
+-- are listed for that, and the folders that were listed
 pub record Rest : Type 0 where
   pub has : List Items
   pub forest : Forest Given
@@ -95,7 +95,7 @@ pub record Rest : Type 0 where
   pub listed : List (List ℕ)
 
 module _ (shows : List ℕ → Shown → Type 0) (scope : WalkScope) where
-  -- what comes of the place to begin at, and after it, and at most how many items are listed for it
+  -- f is what comes of the start point, if there is one, and then `after`; at most n items are listed for it
   abbrev pub FirstShows : Option StartPoint → Forest Given → Forest Given → ℕ → Type 0
   FirstShows None f after n = (f ≡ after) × (n ≡ 0)
   FirstShows (Some place) f after n = (s : Shown) × shows (string_bytes place.path) s × ArePlain
@@ -103,13 +103,14 @@ module _ (shows : List ℕ → Shown → Type 0) (scope : WalkScope) where
       × (count_shown s ≤ n) × (f ≡ walk_from scope (start_point_location place) s
       (from_last place.names.items) after)
 
-  -- what comes of the folder that was given last
+  -- f is what comes of the last yielded folder, if it is to be entered; n items are listed for it
   abbrev pub EnteredShows : Option Folder → Forest Given → ℕ → Type 0
   EnteredShows None f n = (f ≡ nothing) × (n ≡ 0)
   EnteredShows (Some e) f n = (s : Shown) × shows (string_bytes e.path) s × IsFolder s ×
       (f ≡ entered_forest scope (folder_location e) s) × (n ≡ count_shown s)
 
-  -- what comes of the levels, the outermost first, whose cursors have this
+  -- f is what comes of the open folders, outermost first, if their cursors have these items; n items are
+  -- listed for it
   abbrev pub LevelsShow : {C : Type 0} → List (OpenFolder C) → List Items → Forest Given → ℕ → Type 0
   LevelsShow [] [] f n = (f ≡ nothing) × (n ≡ 0)
   LevelsShow [] (l ∷ has) f n = ⊥
@@ -121,15 +122,15 @@ module _ (shows : List ℕ → Shown → Type 0) (scope : WalkScope) where
 abbrev pub scope_of : {D C : Type 0} → Steps D C → WalkScope
 scope_of w = record { min = w.min; max = w.max; root = string_bytes w.root }
 
--- nothing more comes
+-- the walk yields nothing more
 abbrev pub HasStopped : {D C : Type 0} → Steps D C → Type 0
 HasStopped w = (w.has_ended ≡ true) ⊎ ((w.first ≡ None) × (w.entered ≡ None) × (w.levels.items ≡ []))
 
--- at most how many items it may still take from listings
+-- at most how many more items it may take from listings
 abbrev pub allowance : {D C : Type 0} → Steps D C → ℕ
 allowance w = cond w.has_ended 0 (w.budget + 1)
 
--- how many names it still has to follow
+-- how many names it has yet to follow
 abbrev pub names_of_first : Option StartPoint → ℕ
 names_of_first None = 0
 names_of_first (Some place) = length place.names.items
@@ -138,7 +139,7 @@ abbrev pub names_left : {D C : Type 0} → Steps D C → ℕ
 names_left w = names_of_first w.first
 
 module _ {D C : Type 0} (law : Law D C) where
-  -- nothing is to be begun or entered
+  -- the walk has no start point and no folder to enter, hasn't ended, and has `rest` yet to yield
   pub record AtRest (w : Steps D C) (rest : Rest) : Type 0 where
     pub levels : LevelsShow (law.shows w.directory) (scope_of w) w.levels.items rest.has rest.forest
         rest.count
@@ -149,7 +150,7 @@ module _ {D C : Type 0} (law : Law D C) where
     pub entered : w.entered ≡ None
     pub running : w.has_ended ≡ false
 
-  -- what is to come
+  -- p is to come of the walk
   pub record PlainToCome (w : Steps D C) (p : Pending Given) : Type 0 where
     pub has : List Items
     pub back : Forest Given
@@ -166,7 +167,7 @@ module _ {D C : Type 0} (law : Law D C) where
     pub opened : WereListed w.levels.items p.listed
     pub ended : w.has_ended ≡ true → (p.below ≡ nothing) × (p.after ≡ nothing)
 
-  -- what is seen of it
+  -- the view of the walk
   abbrev pub steps_view : Steps D C → WalkView D
   steps_view w = record {
     to_come = PlainToCome w;
@@ -176,7 +177,7 @@ module _ {D C : Type 0} (law : Law D C) where
     has_ended = HasStopped w;
   }
 
--- from p the walk goes on to q, with no item between
+-- what is to come goes from p to q without an item: both are equal, or one folder was listed
 abbrev pub MovesOn : Pending Given → Pending Given → Type 0
 MovesOn p q = ((all_pending p ≡ all_pending q) × (q.listed ≡ p.listed))
     ⊎ ((path : List ℕ) × (all_pending p ≡ lists path (all_pending q)) × (q.listed ≡ p.listed ++ path ∷ []))

@@ -1,4 +1,4 @@
--- The whole plain walk, of all depths, and what a walk of some depths gives of it.
+-- The whole plain walk, of all depths, and what a walk of some depths yields of it.
 use Rattle.std.specs.Prelude.{◌≡◌, ℕ, ◌-◌, ◌<◌, Bool, false, ◌&&◌, not, nat_lt, filter, List}
 use Rattle.std.specs.Prelude.{[], ◌∷◌, ◌++◌}
 use Rattle.wax_directory.specs.declared.directory.FileType.{FileType}
@@ -13,7 +13,7 @@ use Rattle.wax_walk.specs.declared.error.FaultKind.TheVariants.{NotFound, Listin
 use Rattle.wax_walk.specs.Forest.{Pending, pending, nothing, preorder}
 use Rattle.wax_walk.specs.Given.{Given, entry, fault, no_memory, kept}
 
--- what is to come of a plain walk from a start where this is shown
+-- what is to come of a plain walk from a start where s is shown
 abbrev pub plain_pending : DepthRange → List ℕ → Shown → List (List ℕ) → Pending Given
 plain_pending range start s listed = pending nothing (plain (scope_in range start) s) listed (count_shown s)
 
@@ -29,7 +29,7 @@ module _ (root : List ℕ) where
             kind;
       })
 
-  -- what is in a folder, each folder before what is in it, and faults at their places
+  -- what is in a folder, each folder before what is in it, with errors in their places
   abbrev pub whole_items : Location → Items → List Given
   whole_items at end = []
   whole_items at (leaf x link rest) = whole_entry (item_location at x) (leaf_kind link) ∷ whole_items at rest
@@ -58,8 +58,8 @@ abbrev pub is_in : DepthRange → Given → Bool
 is_in range (entry m f) = not (nat_lt f.depth range.min) && not (nat_lt range.max f.depth)
 is_in range x = false
 
--- the entries are those of the whole walk whose depth is in range, unless memory was refused or the budget
--- reached
+-- the entries in range are those of the whole walk; or the items are a prefix of the plain walk and then one
+-- error, because allocation failed or the budget was reached
 pub data EntriesAre (range : DepthRange) (start : List ℕ) (s : Shown) (xs : List Given) : Type 0 where
   all_in_range : filter (is_in range) xs ≡ filter (is_in range) (whole start s) → EntriesAre range start s xs
   lacks_memory : IsCutShort (preorder (plain (scope_in range start) s)) no_memory xs

@@ -90,7 +90,7 @@ grown_then n k a b c h i = omega (arith, h, i)
 
 -- ---- filters
 
--- what a filter shows of the walk that it asks, before a call and after it
+-- what the view of a filter takes from the view of the walk inside, before a call and after it
 pub record IsAsked {D : Type 0} (outer inner : WalkView D) : Type 0 where
   pub directory : outer.directory ≡ inner.directory
   pub listings_left : outer.listings_left ≡ inner.listings_left
@@ -161,7 +161,7 @@ module _ {D C : Type 0} (law : Law D C) where
 
   -- ---- the steps of a filter, by those of the walk
 
-  -- what was to come is given elsewhere
+  -- the proof of what is to come is passed in
   module _ (v w outer new : WalkView D) (b : IsAsked outer v) (a : HasAnswered new w) where
     pub step_ends : FeedStep law v None w
         → ((p : Pending Given) → outer.to_come p → GivesOrStops outer p None new)

@@ -1,4 +1,4 @@
--- A loop that takes all that a walk gives.
+-- A loop that takes all that a walk yields.
 use Rattle.std.proofs.Common.{◌≡◌, ℕ, ◌+◌, ◌<◌, ◌≤◌, true, false, length, length-append, List, []}
 use Rattle.std.proofs.Common.{◌∷◌, ◌++◌, refl, sym, ap, subst, ◌∙◌, append_assoc, inl, inr, arith}
 use Rattle.std.specs.Prelude.{◌⊎◌, Some, None, Result, Ok, Err, IfOk, filter, map}
@@ -170,7 +170,7 @@ none_split : {A : Type 0} (before after : List A) (x : A) → [] ≡ before ++ x
 none_split [] after x e = cc
 none_split (b ∷ before) after x e = cc
 
--- what was given with one more item, split at an item: the one more is that item, or it comes after it
+-- the items with one more at the end, split at an item: the last one is that item, or comes after it
 snoc_split : {A : Type 0} (xs : List A) (x : A) (before after : List A) (y : A)
     → xs ++ x ∷ [] ≡ before ++ y ∷ after
     → ((after ≡ []) × (x ≡ y)) ⊎ ((rest : List A) × (xs ≡ before ++ y ∷ rest))
@@ -199,7 +199,8 @@ ended_more mid new xs x running ends ended before after y e last =
     ]
 
 module _ {D C : Type 0} (law : Law D C) where
-  -- these items were given, and `now` is seen of the walk; at most `less` more will come, of `most` in all
+  -- these items were yielded, and `now` is the view of the walk; at most `less` more are to come, of `most`
+  -- in all
   pub record Taking (walk now : WalkView D) (most less : ℕ) (xs : List Given) : Type 0 where
     pub gave : (p : Pending Given) → walk.to_come p → GaveSoFar walk.listings_left now p xs
     pub few : length xs + less ≤ most
@@ -332,7 +333,7 @@ module _ {T R : Type 0} (of_entry : T → Facts) (of_residue : R → Facts) wher
       ∙ (ap (λ v. v ++ map given (kept_of x)) f
       ∙ (ap (λ v. filter is_kept xs ++ v) (kept_one x) ∙ sym (filter-append is_kept xs (y ∷ [])))))
 
--- what is said of a value that is answered
+-- a weaker fact holds of a returned value
 pub map_ok : {A E : Type 0} {P Q : A → Type 0} → ((a : A) → P a → Q a) → (r : Result A E) → IfOk r P
     → IfOk r Q
 map_ok f (Ok a) h = f a h

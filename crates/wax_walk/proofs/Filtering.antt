@@ -83,7 +83,7 @@ faulty : (x y : Given) (m : Mark) (z : Given) → Some x ≡ Some z → ((n : Ma
 faulty x y m z w same e = let v : x ≡ z = cc in ap Some (e ∙ (ap (λ u. with_mark u m) v ∙ same m))
 
 module _ {D : Type 0} (rule : Facts → Mark) (v w outer new : WalkView D) (p : Pending Given) where
-  -- an item goes through a filter that says m of it
+  -- an item goes through a filter that marks it with m
   layer_gives : (x y : Given) (m : Mark) → m ≡ mark_by rule x → y ≡ with_mark x m
       → outer.listings_left ≡ v.listings_left → new.listings_left ≡ w.listings_left
       → ((q : Pending Given) → w.to_come q

@@ -14,12 +14,12 @@ module _ {S T R : Type 0} where
   known_kept known (Filtrate y) (Filtrate z) h k = subst (KnownOutcome known) (sym h) k
   known_kept known (Residue y) (Filtrate z) h k = absurd h
 
-  -- the item that a walk gave is left out, or kept as it is
+  -- the item that a walk yielded is excluded, or kept unchanged
   pub keeps_passed : (before mid : T → Type 0) (x y : Separation S (Result T WalkError) R)
       → KeepsKnown before (Some x) mid → KeepsOnly x y → KeepsKnown before (Some y) mid
   keeps_passed before mid x y k h = record { answer = known_kept before x y h k.answer; stays = k.stays }
 
-  -- and then what lies below it is cancelled
+  -- and then what is below it is cancelled
   pub keeps_cut : (before mid after : T → Type 0) (x y : Separation S (Result T WalkError) R)
       → KeepsKnown before (Some x) mid → KeepsOnly x y → StaysKnown mid after
       → KeepsKnown before (Some y) after

@@ -1,4 +1,4 @@
--- What a walk gave, to its end.
+-- What a walk yielded, to its end.
 use Rattle.std.specs.Prelude.{◌≡◌, ℕ, ◌<◌, ◌≤◌, List, [], ◌∷◌, ◌++◌, Some}
 use Rattle.std.specs.List.{Contains}
 use Rattle.wax_directory.specs.Counting.{no_counts, grown, plus}
@@ -9,14 +9,14 @@ use Rattle.wax_walk.specs.Forest.{Pending, all_pending, preorder, listings}
 use Rattle.wax_walk.specs.Given.{Given, fault, no_memory}
 use Rattle.wax_walk.specs.View.{WalkView, CountsFaults, IsLast, fault_counts}
 
--- a beginning of all this, and then x
+-- the items are a prefix of `all`, and then x
 abbrev pub IsCutShort : List Given → Given → List Given → Type 0
 IsCutShort all x xs = (before : List Given) × (rest : List Given) × (xs ≡ before ++ x ∷ []) ×
     (before ++ rest ≡ all)
 
--- all that was to come was given, and these folders were listed; or a beginning of it, and then that memory
--- was refused, or that the budget is reached in a folder that is listed, since there was more to take than
--- was allowed
+-- a walk yielded all that was to come, and listed the folders for it; or a prefix of that and then one error,
+-- because allocation failed, or because the budget was reached in a listed folder, which happens only if no
+-- fewer items were to be taken than were allowed
 pub data GaveAll (tells : List (List ℕ) → Type 0) (allowed : ℕ) (p : Pending Given) (xs : List Given) : Type 0
   where
     whole : xs ≡ preorder (all_pending p) → tells (p.listed ++ listings (all_pending p))
@@ -26,17 +26,17 @@ pub data GaveAll (tells : List (List ℕ) → Type 0) (allowed : ℕ) (p : Pendi
         → Contains (p.listed ++ listings (all_pending p)) path
         → IsCutShort (preorder (all_pending p)) (fault Budget path depth) xs → GaveAll tells allowed p xs
 
--- what a directory has counted where these are given
+-- the errors among these items, as counts of a directory
 abbrev pub all_fault_counts : List Given → Tally
 all_fault_counts [] = no_counts
 all_fault_counts (x ∷ xs) = plus (fault_counts (Some x)) (all_fault_counts xs)
 
--- an item after which a walk has ended is the last of these
+-- an item that ends a walk is the last of these
 abbrev pub EndsThere : List Given → Type 0
 EndsThere xs = (before after : List Given) (x : Given) → xs ≡ before ++ x ∷ after → IsLast (Some x)
     → after ≡ []
 
--- a walk gave these items to its end, and left this directory
+-- a walk yielded these items to its end, and left the directory as `new`
 pub record Took {D C : Type 0} (law : Law D C) (walk : WalkView D) (new : D) (xs : List Given) : Type 0 where
   pub all : (p : Pending Given) → walk.to_come p → GaveAll (law.tells new) walk.listings_left p xs
   pub counts : CountsFaults (all_fault_counts xs) (law.tally walk.directory) (law.tally new)

@@ -14,7 +14,7 @@ use Rattle.wax_walk.specs.declared.error.WalkErrorKind.{WalkErrorKind}
 use Rattle.wax_walk.specs.declared.error.WalkErrorKind.TheVariants as K
 use Rattle.wax_walk.specs.Given.{Facts, Given, entry, fault, no_memory, kept, alone, with_tree}
 
--- what is known of an entry of a plain walk
+-- the facts of an entry of a plain walk
 abbrev pub facts_of : TreeEntry → Facts
 facts_of e = record {
   path = string_bytes e.path;
@@ -48,7 +48,7 @@ error_depth Memory = 0
 
 -- ---- items
 
--- an error, as it is given
+-- an error as an item of a walk
 abbrev pub given_error : WalkError → Given
 given_error (Fault kind path depth) = fault kind (string_bytes path) depth
 given_error Memory = no_memory
@@ -63,12 +63,12 @@ entry_in (Filtrate x) = outcome_entry x.inner
 entry_in (Residue x) = Some (residue_item x.inner)
 
 module _ {T R : Type 0} (of_entry : T → Facts) (of_residue : R → Facts) where
-  -- what is kept, or an error
+  -- an entry that is kept, or an error
   abbrev pub given_outcome : Result T WalkError → Given
   given_outcome (Ok e) = entry kept (of_entry e)
   given_outcome (Err e) = given_error e
 
-  -- what is left out
+  -- an entry that is excluded, by itself or with everything below it
   abbrev pub given_residue : TreeResidue R → Given
   given_residue (Node e) = entry alone (of_residue e)
   given_residue (Tree e) = entry with_tree (of_residue e)

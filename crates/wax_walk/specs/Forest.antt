@@ -1,8 +1,8 @@
--- What a walk will still give.
+-- What a walk has yet to yield.
 use Rattle.std.specs.Prelude.{◌≡◌, ℕ, List, [], ◌∷◌, ◌++◌, Option, Some, None, Bool, cond}
 use Rattle.std.specs.List.{Contains}
 
--- items in order, each with what lies below it; a path where a folder is listed
+-- items in order, each with what is below it; and paths of folders, at the points where they are listed
 pub data Forest (A : Type 0) : Type 0 where
   nothing : Forest A
   item : A → Forest A → Forest A → Forest A
@@ -14,7 +14,7 @@ followed_by nothing g = g
 followed_by (item x below after) g = item x below (followed_by after g)
 followed_by (lists path after) g = lists path (followed_by after g)
 
--- the items in order, each before what lies below it
+-- the items in order, each before what is below it
 abbrev pub preorder : {A : Type 0} → Forest A → List A
 preorder nothing = []
 preorder (item x below after) = x ∷ (preorder below ++ preorder after)
@@ -32,8 +32,8 @@ listed_next nothing = []
 listed_next (item x below after) = []
 listed_next (lists path after) = path ∷ listed_next after
 
--- what is to come: below the item that was given last, and after that; the folders that were listed; and how
--- many items are taken from listings for it, at most
+-- what is to come below the last yielded item, and after it; the folders that were listed; and at most how
+-- many items are taken from listings for what is to come
 pub record Pending (A : Type 0) : Type 0 where
   pub below : Forest A
   pub after : Forest A
@@ -43,7 +43,7 @@ pub record Pending (A : Type 0) : Type 0 where
 abbrev pub pending : {A : Type 0} → Forest A → Forest A → List (List ℕ) → ℕ → Pending A
 pending below after listed items = record { below = below; after = after; listed = listed; items = items }
 
--- what comes where nothing more is cancelled
+-- what is to come if nothing is cancelled
 abbrev pub all_pending : {A : Type 0} → Pending A → Forest A
 all_pending p = followed_by p.below p.after
 
@@ -51,17 +51,17 @@ all_pending p = followed_by p.below p.after
 abbrev pub IsListed : {A : Type 0} → Pending A → List ℕ → Type 0
 IsListed p path = Contains (p.listed ++ listed_next (all_pending p)) path
 
--- what is to come once what lies below the item that was given last is cancelled
+-- what is to come if everything below the last yielded item is cancelled
 abbrev pub cancelled : {A : Type 0} → Pending A → Pending A
 cancelled p = pending nothing p.after p.listed p.items
 
--- the answer is the first item of a forest, and `then` says what is to come after it
+-- r is the first item of a forest, if any, and `then` holds of what is to come after it
 abbrev pub FirstIs : {A : Type 0} → (Pending A → Type 0) → Forest A → List (List ℕ) → ℕ → Option A → Type 0
 FirstIs then nothing listed items r = (r ≡ None) × then (pending nothing nothing listed items)
 FirstIs then (item x below after) listed items r = (r ≡ Some x) × then (pending below after listed items)
 FirstIs then (lists path after) listed items r = FirstIs then after (listed ++ path ∷ []) items r
 
--- the forest where each item is changed, and what lies below those that are cut is left out
+-- the forest with each item changed, and without what is below the items that are cut
 abbrev pub filtered : {A B : Type 0} → (A → B) → (A → Bool) → Forest A → Forest B
 filtered change cut nothing = nothing
 filtered change cut (item x below after) = item (change x) (cond (cut x) nothing (filtered change cut below))

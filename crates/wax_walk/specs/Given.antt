@@ -1,11 +1,11 @@
--- What a walk gives.
+-- What a walk yields.
 use Rattle.std.specs.Prelude.{◌≡◌, ℕ, Bool, true, false, List}
 use Rattle.wax_directory.specs.declared.directory.FileType.{FileType}
 use Rattle.wax_walk.specs.declared.error.FaultKind.{FaultKind}
 use Rattle.wax_walk.specs.Forest.{Pending, filtered_pending}
 
--- an entry: its path, the start of its walk, the names from there joined by `/`, how many they are, and what
--- stands there
+-- an entry: its path, the path where its walk starts, its candidate (the names from there, joined by `/`),
+-- its depth (how many they are), and its file type
 pub record Facts : Type 0 where
   pub path : List ℕ
   pub root : List ℕ
@@ -13,32 +13,32 @@ pub record Facts : Type 0 where
   pub depth : ℕ
   pub kind : FileType
 
--- what is said of an entry: it is left, or left out alone, or left out with what lies below it
+-- what filters decide about an entry: it is kept, excluded by itself, or excluded with everything below it
 pub data Mark : Type 0 where
   kept : Mark
   alone : Mark
   with_tree : Mark
 
--- an entry with its mark, a fault at a path of so many names from the start, or want of memory
+-- an item of a walk: an entry with its mark, an error at a path and its depth, or that allocation failed
 pub data Given : Type 0 where
   entry : Mark → Facts → Given
   fault : FaultKind → List ℕ → ℕ → Given
   no_memory : Given
 
--- it is kept, or an error
+-- the item is a kept entry, or an error
 abbrev pub is_kept : Given → Bool
 is_kept (entry kept f) = true
 is_kept (entry m f) = false
 is_kept x = true
 
--- the mark after a filter has said something of an entry
+-- the mark of an entry after one more filter: the one of the two marks that excludes more
 abbrev pub combined_mark : Mark → Mark → Mark
 combined_mark with_tree m = with_tree
 combined_mark kept m = m
 combined_mark alone with_tree = with_tree
 combined_mark alone m = alone
 
--- what a rule says of what is given
+-- what a rule decides about an item; an error is kept
 abbrev pub mark_by : (Facts → Mark) → Given → Mark
 mark_by rule (entry m f) = rule f
 mark_by rule x = kept
@@ -47,7 +47,7 @@ abbrev pub with_mark : Given → Mark → Given
 with_mark (entry m f) mark = entry (combined_mark m mark) f
 with_mark x mark = x
 
--- what lies below is cancelled: the filter says so of an entry that was not left out with its tree before
+-- what is below an entry is cancelled: the filter excludes it with the entry, and it wasn't excluded before
 abbrev pub is_cut : Given → Mark → Bool
 is_cut (entry kept f) with_tree = true
 is_cut (entry alone f) with_tree = true
@@ -59,7 +59,7 @@ changed_by rule x = with_mark x (mark_by rule x)
 abbrev pub cut_by : (Facts → Mark) → Given → Bool
 cut_by rule x = is_cut x (mark_by rule x)
 
--- what is to come after a filter, where `inner` says what is to come before it
+-- what is to come after a filter, if `inner` holds of what is to come before it
 abbrev pub ToComeFiltered : (Pending Given → Type 0) → (Facts → Mark) → Pending Given → Type 0
 ToComeFiltered inner rule q =
     (p : Pending Given) × inner p × (q ≡ filtered_pending (changed_by rule) (cut_by rule) p)

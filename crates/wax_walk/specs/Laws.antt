@@ -69,7 +69,7 @@ module _ {F : Type 0} (step : F → Bor TreeEntry → Option EntryResidue → F 
     ends = h.ends;
   }
 
--- ---- where nothing is known
+-- ---- if nothing is known
 
 nothing_known_outcome : {T : Type 0} (x : Result T WalkError) → KnownOutcome (λ e. ⊤) x
 nothing_known_outcome (Ok e) = tt

@@ -1,9 +1,9 @@
--- A filter by a rule over a walk.
+-- The view of a walk that is filtered by a rule.
 use Rattle.std.specs.Prelude.{◌≡◌, ◌⊎◌, Bool, true, false}
 use Rattle.wax_walk.specs.Given.{Facts, Mark, ToComeFiltered}
 use Rattle.wax_walk.specs.View.{WalkView}
 
--- its view, where memory was refused for the rule's answer or not
+-- the view of the filtered walk; `lacked` says that an allocation for the rule failed, which ends the walk
 abbrev pub ruled_view : {D : Type 0} → WalkView D → (Facts → Mark) → Bool → WalkView D
 ruled_view inner rule lacked = record inner {
   to_come = λ q. (lacked ≡ false) × ToComeFiltered inner.to_come rule q;

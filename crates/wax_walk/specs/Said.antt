@@ -9,8 +9,8 @@ mark_of None = kept
 mark_of (Some File) = alone
 mark_of (Some Tree) = with_tree
 
--- A rule was called for an entry with these facts: it returns what it says of the entry, unless allocation
--- fails, and it says the same of all entries as before.
+-- A rule was called for an entry with these facts: it returns what it decides about the entry, unless
+-- allocation fails, and it decides the same about every entry as before.
 pub record RuleStep {A : Type 0} (rule : A → Facts → Mark) (old new : A) (facts : Facts)
     (outcome : Result (Option EntryResidue) NoMemory) : Type 0 where
   pub says : IfOk outcome (λ r. mark_of r ≡ rule old facts)

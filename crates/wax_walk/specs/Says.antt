@@ -1,4 +1,4 @@
--- A closure whose answer depends on the entry alone.
+-- A closure whose result depends only on the entry.
 use Rattle.std.specs.Prelude.{◌≡◌, List, [], ◌∷◌, Option, ⊤}
 use denote.Ref.{Bor}
 use Rattle.wax_walk.specs.declared.entry.TreeEntry.{TreeEntry}
@@ -9,12 +9,12 @@ use Rattle.wax_walk.specs.Said.{mark_of}
 use Rattle.wax_walk.specs.View.{WalkView}
 use Rattle.wax_walk.specs.Entries.{facts_of}
 
--- a call and its answer
+-- a call: its argument and its result
 abbrev pub Call : Type 0
 Call = Bor TreeEntry × Option EntryResidue
 
 module _ {F : Type 0} (step : F → Bor TreeEntry → Option EntryResidue → F → Type 0) where
-  -- calls led from one state to another
+  -- these calls lead from the state f to the state t
   abbrev pub Runs : F → List Call → F → Type 0
   Runs f [] t = f ≡ t
   Runs f (call ∷ calls) t = (u : F) × step f call.0 call.1 u × Runs u calls t
@@ -23,7 +23,7 @@ module _ {F : Type 0} (step : F → Bor TreeEntry → Option EntryResidue → F 
   Agrees rule [] = ⊤
   Agrees rule (call ∷ calls) = (mark_of call.1 ≡ rule (facts_of call.0.now)) × Agrees rule calls
 
-  -- each answer, in whatever calls, is what the rule says of the entry
+  -- in any sequence of calls, each result is what the rule decides about the entry
   abbrev pub SaysByRule : (Facts → Mark) → F → Type 0
   SaysByRule rule f = (calls : List Call) (t : F) → Runs f calls t → Agrees rule calls
 
@@ -31,6 +31,6 @@ module _ {F : Type 0} (step : F → Bor TreeEntry → Option EntryResidue → F 
   abbrev pub ToComeByClosure : (Pending Given → Type 0) → F → Pending Given → Type 0
   ToComeByClosure inner f q = (rule : Facts → Mark) × SaysByRule rule f × ToComeFiltered inner rule q
 
-  -- the view of the filter
+  -- the view of the filtered walk
   abbrev pub closure_view : {D : Type 0} → WalkView D → F → WalkView D
   closure_view inner f = record inner { to_come = ToComeByClosure inner.to_come f }

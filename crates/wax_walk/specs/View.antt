@@ -1,4 +1,4 @@
--- What contracts see of a walk, and what a call of `feed` and cancelling change of it.
+-- What contracts see of a walk, and how a call of `feed` and cancelling change it.
 use Rattle.std.specs.Prelude.{◌≡◌, ℕ, ◌+◌, ◌<◌, ◌≤◌, ◌^◌, ◌-◌, min, List, Option, Some, None, ⊤}
 use Rattle.wax_directory.specs.Counting.{no_counts, grown}
 use Rattle.wax_directory.specs.Law.{Law}
@@ -8,8 +8,8 @@ use Rattle.wax_walk.specs.declared.error.FaultKind.TheVariants.{NotText, Budget}
 use Rattle.wax_walk.specs.Forest.{Pending, all_pending, cancelled, FirstIs, IsListed}
 use Rattle.wax_walk.specs.Given.{Given, fault, no_memory}
 
--- what is still to come; the directory; at most how many items may still be taken from listings; how many
--- names it still has to follow to where it begins; and that nothing more comes
+-- what is to come; the directory; at most how many more items may be taken from listings; how many names are
+-- left to follow to where the walk begins; and that it has ended
 pub record WalkView (D : Type 0) : Type 1 where
   pub to_come : Pending Given → Type 0
   pub directory : D
@@ -17,9 +17,9 @@ pub record WalkView (D : Type 0) : Type 1 where
   pub names_left : ℕ
   pub has_ended : Type 0
 
--- ---- what an answer tells
+-- ---- what a result implies
 
--- what a directory has counted where this is given
+-- what a directory counted if a walk yields this: a miss, a leaf, a failure, a bad name, or nothing
 abbrev pub fault_counts : Option Given → Tally
 fault_counts (Some (fault NotFound path depth)) = record no_counts { misses = 1 }
 fault_counts (Some (fault NotAFolder path depth)) = record no_counts { leaves = 1 }
@@ -28,7 +28,7 @@ fault_counts (Some (fault BadName path depth)) = record no_counts { bad_names = 
 fault_counts (Some (fault NotText path depth)) = record no_counts { failures = 1 }
 fault_counts r = no_counts
 
--- the walk has ended with this item
+-- the item is an error that ends the walk
 abbrev pub IsLast : Option Given → Type 0
 IsLast (Some no_memory) = ⊤
 IsLast (Some (fault NotFound path depth)) = ⊤
@@ -36,13 +36,13 @@ IsLast (Some (fault NotAFolder path depth)) = ⊤
 IsLast (Some (fault Budget path depth)) = ⊤
 IsLast r = ⊥
 
--- a file or a link stands where a folder should be
+-- the item is the error that a file or a link is where a folder should be
 abbrev pub IsMisplaced : Option Given → Type 0
 IsMisplaced (Some (fault NotAFolder path depth)) = ⊤
 IsMisplaced r = ⊥
 
--- n items were taken of those that were allowed and so many are left: all the others, as long as the walk
--- goes on; and where the budget is reached, all were taken
+-- of the allowed items, n were taken and `left` remain: all the others while the walk goes on, and no more
+-- than those after an error that ends it; if the budget is reached, all were taken and none remain
 abbrev pub Takes : Option Given → ℕ → ℕ → ℕ → Type 0
 Takes (Some no_memory) allowed n left = n + left ≤ allowed
 Takes (Some (fault NotFound path depth)) allowed n left = n + left ≤ allowed
@@ -52,7 +52,7 @@ Takes r allowed n left = n + left ≡ allowed
 
 -- ---- a call
 
--- each count but that of items grew by n at least
+-- each count except that of items grew by at least that of n, or reached the greatest u64
 pub record CountsFaults (n old new : Tally) : Type 0 where
   pub misses : min (old.misses + n.misses) (2 ^ 64 - 1) ≤ new.misses
   pub leaves : min (old.leaves + n.leaves) (2 ^ 64 - 1) ≤ new.leaves
@@ -60,8 +60,8 @@ pub record CountsFaults (n old new : Tally) : Type 0 where
   pub bad_names : min (old.bad_names + n.bad_names) (2 ^ 64 - 1) ≤ new.bad_names
 
 module _ {D : Type 0} where
-  -- the answer is the first of what was to come; or memory was refused; or the budget is reached in a folder
-  -- that is listed, since there is more to take than was allowed
+  -- a call yields the first item of what was to come; or allocation failed; or the budget was reached in a
+  -- listed folder, which happens only if no fewer items were to be taken than were allowed
   pub data GivesOrStops (old : WalkView D) (p : Pending Given) (r : Option Given) (new : WalkView D) : Type 0
     where
       lacks_memory : r ≡ Some no_memory → GivesOrStops old p r new
@@ -70,8 +70,8 @@ module _ {D : Type 0} where
       gives : (items : ℕ) → ((IsLast r → ⊥) → items + old.listings_left ≤ p.items + new.listings_left)
           → FirstIs new.to_come (all_pending p) p.listed items r → GivesOrStops old p r new
 
-  -- what the directory counted, what was taken from listings, and that the walk has ended, where the item is
-  -- the last
+  -- what the directory counted, how many items were taken from listings, and that the walk has ended if the
+  -- item is its last
   pub record Accounts {C : Type 0} (law : Law D C) (old : WalkView D) (r : Option Given) (new : WalkView D) :
       Type 0 where
     pub counts : CountsFaults (fault_counts r) (law.tally old.directory) (law.tally new.directory)
@@ -80,7 +80,7 @@ module _ {D : Type 0} where
     pub counted : (law.tally new.directory).items ≡ grown taken (law.tally old.directory).items
     pub ends : IsLast r → new.has_ended
 
-  -- what a call of `feed` does that answers r
+  -- what a call of `feed` does that returns r
   pub record FeedStep {C : Type 0} (law : Law D C) (old : WalkView D) (r : Option Given) (new : WalkView D) :
       Type 0 where
     pub gives : (p : Pending Given) → old.to_come p → GivesOrStops old p r new
@@ -90,7 +90,7 @@ module _ {D : Type 0} where
     pub names : new.names_left ≤ old.names_left
     pub misplaced : IsMisplaced r → 0 < old.names_left
 
-  -- what cancelling does: it leaves out what lies below the item that was given last, and nothing else
+  -- what cancelling does: it drops what is below the last yielded item, and nothing else
   pub record CancelStep (old new : WalkView D) : Type 0 where
     pub leaves_out : (p : Pending Given) → old.to_come p → new.to_come (cancelled p)
     pub directory : new.directory ≡ old.directory
@@ -98,7 +98,8 @@ module _ {D : Type 0} where
     pub names_left : new.names_left ≡ old.names_left
     pub ends : old.has_ended → new.has_ended
 
-  -- this much is to be seen of a walk, which shows that
+  -- what is to come by `this` is to come by `that`; directory and counts are equal; and an end by `that` is
+  -- an end by `this`
   pub record IsSeenAs (this that : WalkView D) : Type 0 where
     pub to_come : (p : Pending Given) → this.to_come p → that.to_come p
     pub directory : that.directory ≡ this.directory

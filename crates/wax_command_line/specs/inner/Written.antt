@@ -1,4 +1,4 @@
--- What is written of a walk. Only private functions cite this file.
+-- What is written for a walk. Only private functions cite this file.
 use Rattle.std.specs.Prelude.{◌≡◌, ℕ, Bool, List, ◌++◌, Option}
 use Rattle.std.specs.Io.KnownBytes.{Appends}
 use Rattle.std.specs.List.{list_any}
@@ -9,8 +9,8 @@ use Rattle.wax_walk.specs.Given.{Given}
 use Rattle.wax_walk.specs.View.{WalkView}
 use Rattle.wax_command_line.specs.Candidates.{candidate_lines, is_error}
 
--- of what waits and a line, some bytes were written, and the others wait. `held` is what the writer holds,
--- before and after.
+-- A line was put after the waiting bytes; the first of these were written, and the others wait. `held` is
+-- what the writer holds, before and after.
 abbrev pub MovesBytes : (held held' : Option (List ℕ)) → (waiting waiting' line : List ℕ) → Type 0
 MovesBytes held held' waiting waiting' line =
     (bytes : List ℕ) × Appends held held' bytes × (bytes ++ waiting' ≡ waiting ++ line)
@@ -24,7 +24,7 @@ pub record WroteAll {D C : Type 0} (law : Law D C) (walk : WalkView D) (held hel
   pub writes : Appends held held' (candidate_lines given)
   pub errors : has_errors ≡ list_any is_error given
 
--- a beginning of the lines of all that was to come was written
+-- a prefix of the lines of all that was to come was written
 abbrev pub WroteSome : {D : Type 0} → WalkView D → Option (List ℕ) → Option (List ℕ) → Type 0
 WroteSome walk held held' = (bytes : List ℕ) × Appends held held' bytes
     × ((p : Pending Given) → walk.to_come p

@@ -1,4 +1,4 @@
--- What a node is that is made of tails.
+-- What a node shows that is made from tails.
 use Rattle.std.specs.Prelude.{ℕ, cond, List, Option, Some, None}
 use Rattle.wax_directory.specs.declared.tree.Node.{Node}
 use Rattle.wax_directory.specs.Nodes.{reached, shown_reached}
@@ -9,6 +9,6 @@ abbrev pub new_name : List (List ℕ) → Option (List ℕ) → Option (List ℕ
 new_name names None = None
 new_name names (Some x) = cond (holds_name x names) None (Some x)
 
--- at each names stands what is left of the tails that begin with them
+-- along any names, the node shows what the tails that begin with them lead to
 abbrev pub Grows : List PathTail → Node → Type 0
 Grows tails n = (names : List (List ℕ)) → StandsBy (rests names tails) (shown_reached (reached names n))

@@ -1,4 +1,4 @@
--- What a look-up in a tree answers.
+-- What a look-up in a tree returns.
 use Rattle.std.specs.Prelude.{◌≡◌, ℕ, Bool, false, List, Option, Some, None, Result, Ok, Err, Vec}
 use Rattle.std.specs.Prelude.{string_bytes, slice_get, ⊤}
 use Rattle.std.specs.Str.{bytes_eq}
@@ -22,18 +22,19 @@ abbrev pub to_reached : Option Node → Reached
 to_reached (Some n) = to_node n
 to_reached None = to_nothing
 
--- what is reached by a place among items
+-- what a place among items leads to
 abbrev pub reached_place : List TreeItem → Option ℕ → Reached
 reached_place items (Some place) = to_reached (entry_node (slice_get items place))
 reached_place items None = to_nothing
 
--- what is reached by this answer of one step
+-- what one step of a look-up leads to, by its result
 abbrev pub reached_at : Node → Result (Option ℕ) DirectoryFault → Reached
 reached_at n (Ok (Some place)) = to_reached (child_at place n)
 reached_at n (Ok None) = to_nothing
 reached_at n (Err e) = to_sealed
 
--- the answer tells where this is, unless memory was refused
+-- the result of a look-up says where r is: at these places below n, nowhere, or below a folder that can't be
+-- listed; nothing is claimed if allocation fails
 abbrev pub Locates : {Z : Type 0} → Reached → Node → Result (Option (Vec ℕ Z)) DirectoryFault → Type 0
 Locates r n (Ok (Some places)) = (m : Node) × (node_at places.items n ≡ Some m) × (r ≡ to_node m)
 Locates r n (Ok None) = r ≡ to_nothing

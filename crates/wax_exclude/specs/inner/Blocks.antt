@@ -1,4 +1,4 @@
--- Lines that are passed over at once.
+-- Blocks of lines that are passed over at once.
 use Rattle.std.specs.Prelude.{◌≡◌, ℕ, ◌-◌, ◌≤◌, Bool, true, false, not, ◌⊎◌, List, [], ◌∷◌, length, take}
 use Rattle.std.specs.Prelude.{drop}
 use Rattle.std.specs.List.{flat_map, list_any}
@@ -16,9 +16,9 @@ use Rattle.wax_exclude.specs.declared.rules.IgnoreLine.{IgnoreLine}
 use Rattle.wax_exclude.specs.declared.rules.Said.{Said}
 use Rattle.wax_exclude.specs.inner.Listed.{mark_after}
 
--- ---- what lines mean
+-- ---- what lines match
 
--- an alternative of one of the lines means the text
+-- an alternative of one of the lines matches the text
 abbrev pub SomeMeans : List IgnoreLine → List ℕ → Type 0
 SomeMeans [] s = ⊥
 SomeMeans (line ∷ lines) s = MeansSome (trees line.exclusion) false false s ⊎ SomeMeans lines s
@@ -27,15 +27,15 @@ SomeMeans (line ∷ lines) s = MeansSome (trees line.exclusion) false false s �
 abbrev pub alternatives_in : List IgnoreLine → List (Tree Span)
 alternatives_in lines = flat_map (λ line. line.exclusion) lines
 
--- the instructions accept what one of the lines means
+-- the instructions accept every text that one of the lines matches
 abbrev pub AcceptsLines : List Instruction → List IgnoreLine → Type 0
 AcceptsLines code lines = (s : List ℕ) → SomeMeans lines s → Accepts code 0 s
 
--- one of the lines takes back
+-- one of the lines re-includes
 abbrev pub some_reincludes : List IgnoreLine → Bool
 some_reincludes lines = list_any (λ line. not line.ignores) lines
 
--- the lines from a place to another
+-- the lines from `start` up to `end`, which isn't included
 abbrev pub lines_between : ℕ → ℕ → List IgnoreLine → List IgnoreLine
 lines_between start end lines = take (end - start) (drop start lines)
 
@@ -46,9 +46,9 @@ pub record IsBlockOf (lines : List IgnoreLine) (block : Block) : Type 0 where
   pub reincludes : block.reincludes ≡ some_reincludes (lines_between block.start block.end lines)
   pub accepts : AcceptsLines block.matcher (lines_between block.start block.end lines)
 
--- ---- what lines say
+-- ---- how lines mark entries
 
--- what is said after each of the lines was asked, where this was said before
+-- the mark after all of the lines, if the mark before them is `before`
 abbrev pub marks_after : Mark → List IgnoreLine → Facts → Mark
 marks_after before [] f = before
 marks_after before (line ∷ lines) f =
@@ -62,6 +62,6 @@ mark_passed true alone = alone
 mark_passed true with_tree = alone
 mark_passed false before = before
 
--- what is said after the lines that are left
+-- the mark after the lines that are left
 abbrev pub left_to_say : List IgnoreLine → Said → Facts → Mark
 left_to_say lines said f = marks_after (mark_of said.residue) (drop said.at lines) f

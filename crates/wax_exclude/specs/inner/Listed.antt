@@ -1,4 +1,4 @@
--- What lines say that are held by their alternatives.
+-- How lines mark entries, if they are stored by their alternatives.
 use Rattle.std.specs.Prelude.{ℕ, Bool, true, false, ◌&&◌, ◌||◌, if◌then◌else◌, List, [], ◌∷◌}
 use Rattle.wax_exclude.specs.Excluded.{some_test}
 use Rattle.wax_walk.specs.Given.{Facts, Mark, kept, alone, combined_mark}
@@ -7,29 +7,29 @@ use Rattle.wax_exclude.specs.Covers.{covers_test}
 use Rattle.wax_exclude.specs.Marks.{covered_mark, of_candidate}
 use Rattle.wax_exclude.specs.declared.rules.IgnoreLine.{IgnoreLine}
 
--- the last line that means the text decides; where there is none, it is as it was
+-- the last line that matches the text decides; if there is none, the result is `was`
 abbrev pub ignored_by : Bool → List IgnoreLine → List ℕ → Bool
 ignored_by was [] s = was
 ignored_by was (line ∷ lines) s =
     ignored_by (if some_test line.exclusion s then line.ignores else was) lines s
 
--- no line takes back
+-- no line re-includes
 abbrev pub none_reincludes : List IgnoreLine → Bool
 none_reincludes [] = true
 none_reincludes (line ∷ lines) = line.ignores && none_reincludes lines
 
--- a line that ignores covers the candidate, and no line that takes back stands after that
+-- a line that ignores covers the candidate, and no line after it re-includes
 abbrev pub below_by : List IgnoreLine → Candidate → Bool
 below_by [] c = false
 below_by (line ∷ lines) c =
     (line.ignores && (none_reincludes lines && covers_test line.exclusion c)) || below_by lines c
 
--- what the lines say
+-- the mark by the lines
 abbrev pub listed_mark : List IgnoreLine → Facts → Mark
 listed_mark lines = of_candidate (λ c. covered_mark (below_by lines c) (ignored_by false lines c.text))
 
--- what is said after one more line: whether it ignores, what was said before, and what its glob would leave
--- out
+-- the mark after one more line, from whether it ignores, the mark before it, and the mark by its glob as an
+-- excluded pattern
 abbrev pub mark_after : Bool → Mark → Mark → Mark
 mark_after true before said = combined_mark before said
 mark_after false kept said = kept

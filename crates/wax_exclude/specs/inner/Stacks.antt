@@ -1,4 +1,4 @@
--- What filters one after another leave.
+-- What filters leave, one after another.
 use Rattle.std.specs.Prelude.{◌≡◌, Bool, true, false, ◌&&◌, ⊤, List, [], ◌∷◌}
 use Rattle.wax_walk.specs.Forest.{Forest, nothing, item, lists}
 use Rattle.wax_walk.specs.Given.{Facts, Mark, kept, alone, with_tree, Given, entry, fault, no_memory}
@@ -8,12 +8,12 @@ keeps kept = true
 keeps alone = false
 keeps with_tree = false
 
--- no filter says anything of the entry
+-- each filter keeps the entry
 abbrev pub all_keep : List (Facts → Mark) → Facts → Bool
 all_keep [] f = true
 all_keep (rule ∷ rules) f = keeps (rule f) && all_keep rules f
 
--- an entry of which no filter says anything
+-- an entry that is kept, and that each filter keeps
 abbrev pub is_left : List (Facts → Mark) → Given → Bool
 is_left rules (entry kept f) = all_keep rules f
 is_left rules (entry alone f) = false
@@ -21,13 +21,13 @@ is_left rules (entry with_tree f) = false
 is_left rules (fault kind path depth) = false
 is_left rules no_memory = false
 
--- the rule leaves out this entry with what lies below it
+-- the rule excludes this entry with everything below it, or the item is an error
 abbrev pub LeavesOutWhole : (Facts → Mark) → Given → Type 0
 LeavesOutWhole rule (entry m f) = rule f ≡ with_tree
 LeavesOutWhole rule (fault kind path depth) = ⊤
 LeavesOutWhole rule no_memory = ⊤
 
--- each entry
+-- the rule excludes each entry with everything below it
 abbrev pub LeavesOutAll : (Facts → Mark) → Forest Given → Type 0
 LeavesOutAll rule nothing = ⊤
 LeavesOutAll rule (item x below after) =
@@ -39,7 +39,7 @@ IsEntryLeftOut rule (entry m f) = rule f ≡ with_tree
 IsEntryLeftOut rule (fault kind path depth) = ⊥
 IsEntryLeftOut rule no_memory = ⊥
 
--- where an entry is left out with what lies below it, the rule says the same of each entry there
+-- if the rule excludes an entry with everything below it, it excludes each entry there in that way
 abbrev pub PassesDown : (Facts → Mark) → Forest Given → Type 0
 PassesDown rule nothing = ⊤
 PassesDown rule (item x below after) = (IsEntryLeftOut rule x → LeavesOutAll rule below)

@@ -1,4 +1,4 @@
--- The sub-glob of a token that stands open at the end of a glob.
+-- The sub-glob inside the last token of a glob, if its tokens are in the opened list.
 use Rattle.std.specs.Prelude.{◌≡◌, ℕ, List, zero, suc, if◌then◌else◌, ◌||◌, nat_lt, Option, Some, None}
 use Rattle.wax_token.specs.Syntax.{Tree, leaf, alternation, concatenation, repetition, Trees, none, more}
 use Rattle.wax_facts.specs.Prefix.{opened}
@@ -7,7 +7,7 @@ use Rattle.wax_token.specs.Words.{annotation_of, members, trees}
 use Rattle.wax_facts.specs.Orderly.{Flat}
 use Rattle.wax_facts.specs.Rest.{after, begins_with_tree, owner}
 
--- an only branch, or the body of exactly one copy
+-- the only branch of an alternation, or the body of a repetition of exactly one copy
 abbrev pub open_body : {A : Type 0} → Tree A → Option (Tree A)
 open_body (leaf a l) = None
 open_body (alternation a none) = None
@@ -26,20 +26,20 @@ last_body none = None
 last_body (more t none) = open_body t
 last_body (more t (more u us)) = last_body (more u us)
 
--- it is entered where a token of it is taken, or where it begins with the `**` at which the cut falls
+-- the sub-glob is entered if a token of it is taken, or if it begins with the `**` just after the cut
 abbrev pub entered_body : {A : Type 0} → ℕ → Option (Tree A) → Option (Tree A × ℕ)
 entered_body n None = None
 entered_body n (Some b) = if nat_lt 0 n || begins_with_tree (opened b) then Some (b, n) else None
 
--- where n tokens are taken of the opened list of these: the sub-glob at their end that is entered, and how
--- many tokens of it are taken
+-- if n tokens of the opened list of these are taken: the sub-glob at their end that is entered, and how many
+-- of its tokens are taken
 abbrev pub inside : {A : Type 0} → Trees A → ℕ → Option (Tree A × ℕ)
 inside none n = None
 inside (more t none) n = entered_body n (open_body t)
 inside (more t (more u us)) zero = None
 inside (more t (more u us)) (suc n) = inside (more u us) n
 
--- so many tokens are taken of the sub-glob that is entered
+-- k tokens are taken of the sub-glob that is entered
 abbrev pub IsInside : {A : Type 0} → Trees A → ℕ → ℕ → Type 0
 IsInside {A = A} ts n k = (b : Tree A) × (inside ts n ≡ Some (b, k))
 

@@ -3,7 +3,7 @@ use Rattle.std.specs.Prelude.{◌≡◌, ⊤}
 use Rattle.wax_token.specs.Syntax.{Trees, none, more}
 use Rattle.wax_facts.specs.Prefix.{opened}
 
--- where one token is left, it doesn't stand open
+-- if there is only one token, opening it changes nothing
 abbrev pub IsOpened : {A : Type 0} → Trees A → Type 0
 IsOpened none = ⊤
 IsOpened (more t none) = opened t ≡ more t none

@@ -18,12 +18,12 @@ TakesIn Writes bytes old new =
     (taken written : List ℕ) → SieveSifted Writes taken written old
     → SieveSifted Writes (taken ++ bytes) written new
 
--- a beginning of these bytes was taken in
+-- a prefix of these bytes was taken in
 abbrev pub TakesInPart : (List ℕ → List ℕ → Type 0) → List ℕ → Sieve → Sieve → Type 0
 TakesInPart Writes bytes old new =
     (front rest : List ℕ) × (bytes ≡ front ++ rest) × TakesIn Writes front old new
 
--- what all lines give, the last one too, was written or waits
+-- the output of all lines, including the last one, was written or waits
 pub record AllSifted (Writes : List ℕ → List ℕ → Type 0) (taken written : List ℕ) (s : Sieve) : Type 0 where
   pub bad : ℕ
   pub filters : Filters Writes (lines taken) (written ++ s.kept.bytes.items) bad
@@ -43,7 +43,7 @@ pub record Came (Writes : List ℕ → List ℕ → Type 0) (left left' held hel
   pub writes : Appends held held' written
   pub sifted : SieveSifted Writes taken written s
 
--- what was read was taken in, but for a rest of the last read
+-- what was read was taken in, except a rest of the last read
 pub record CameShort (Writes : List ℕ → List ℕ → Type 0) (left left' held held' : Option (List ℕ))
     (s : Sieve) : Type 0 where
   pub front : List ℕ
@@ -64,7 +64,7 @@ pub record Finished (Writes : List ℕ → List ℕ → Type 0) (left left' held
   pub writes : Appends held held' written
   pub sifted : AllSifted Writes taken written s
 
--- how it stands after an error, before what waits is written; after a failed write nothing waits
+-- what happened until an error, before the waiting bytes are written; after a failed write nothing waits
 abbrev pub Halted : (List ℕ → List ℕ → Type 0) → (left left' held held' : Option (List ℕ)) → Sieve
     → LinesError → Type 0
 Halted Writes left left' held held' s Read = Came Writes left left' held held' s

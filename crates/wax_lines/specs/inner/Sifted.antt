@@ -7,20 +7,21 @@ use Rattle.wax_lines.specs.Lines.{Filters}
 abbrev pub is_feed : ℕ → Bool
 is_feed b = b == 10
 
--- no line feed is among the bytes
+-- the bytes have no line feed
 abbrev pub HasNoFeed : List ℕ → Type 0
 HasNoFeed bytes = All (λ b. b ≢ 10) bytes
 
--- each line and its line feed
+-- each line, followed by a line feed
 abbrev pub lines_text : List (List ℕ) → List ℕ
 lines_text [] = []
 lines_text (line ∷ rest) = line ++ 10 ∷ lines_text rest
 
--- a count that stays at the greatest u64 grew by m
+-- a count that stops at the greatest u64 grew by m
 abbrev pub CountsMore : ℕ → ℕ → ℕ → Type 0
 CountsMore old new m = (n : ℕ) → old ≡ u64_saturate n → new ≡ u64_saturate (n + m)
 
--- What was taken is whole lines and the carry, and what the lines give is what was written and what waits.
+-- The bytes that were taken are whole lines and then the carry, and the output of the lines is what was
+-- written and then what waits.
 pub record Sifted (Writes : List ℕ → List ℕ → Type 0) (taken written carry waiting : List ℕ)
     (counted : ℕ) : Type 0 where
   pub whole : List (List ℕ)

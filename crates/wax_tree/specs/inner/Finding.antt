@@ -1,4 +1,4 @@
--- What an item of a folder stands for.
+-- What an item of a folder becomes in a walk.
 use Rattle.std.specs.Prelude.{◌≡◌, ◌⊎◌, ℕ, List, true, false, string_bytes}
 use Rattle.wax_directory.specs.declared.directory.FileType.{FileType}
 use Rattle.wax_directory.specs.declared.directory.ListItem.{ListItem}
@@ -11,18 +11,18 @@ use Rattle.wax_tree.specs.declared.steps.FoundItem.{FoundItem}
 use Rattle.wax_tree.specs.declared.steps.FoundItem.TheVariants.{Entry, Fault}
 use Rattle.wax_tree.specs.Plain.{Location}
 
--- the entry of this name and kind in the folder at this place
+-- the entry of this name and kind in the folder at this location
 abbrev pub IsEntry : Location → List ℕ → FileType → FoundItem → Type 0
 IsEntry at name kind (Entry path candidate k) = (string_bytes path ≡ join at.path name) ×
     (string_bytes candidate ≡ join at.candidate name) × (k ≡ kind)
 IsEntry at name kind (Fault k path) = ⊥
 
--- this fault of the folder at this place
+-- an error of this kind in the folder at this location
 abbrev pub IsFault : Location → FaultKind → FoundItem → Type 0
 IsFault at kind (Entry path candidate k) = ⊥
 IsFault at kind (Fault k path) = (k ≡ kind) × (string_bytes path ≡ at.path)
 
--- what an item of the folder at this place stands for
+-- what an item of the folder at this location becomes: an entry if its name is plain, else an error
 abbrev pub IsFound : Location → ListItem → FoundItem → Type 0
 IsFound at (Name name kind) found =
     ((is_plain (string_bytes name) ≡ true) × IsEntry at (string_bytes name) kind found)

@@ -8,12 +8,12 @@ use Rattle.wax_walk.specs.Forest.{Forest, nothing, item}
 use Rattle.wax_walk.specs.Given.{Given, fault}
 use Rattle.wax_tree.specs.Plain.{WalkScope, Location, item_location, count, entry_forest}
 
--- how many items there are in the first of them
+-- how many items are below the first of these
 abbrev pub own_count : Items → ℕ
 own_count (folder x inner rest) = count inner
 own_count l = 0
 
--- the first item of a folder, and after it what comes
+-- the first item of a folder, if any, and what comes after it
 abbrev pub first_item_forest : WalkScope → Location → Items → Forest Given → Forest Given
 first_item_forest scope at end after = after
 first_item_forest scope at (leaf x link rest) after = entry_forest scope (item_location at x) (leaf_kind link)
