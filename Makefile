@@ -3,7 +3,7 @@
 # make explain:   proves and builds ./globs_explain, which explains an expression
 # make library:   builds the C library in crates/wax_c/out; `make test` or `./prove wax` has to run before
 # make test:      proves everything from nothing, runs all tests, and tries the wrong bodies
-# make bench:     measures matches beside grep and rg, and walks beside find (bench/README.md)
+# make bench:     measures matches beside grep and rg, and walks beside find and fd (bench/README.md)
 # make install:   installs what was built, with its manual pages and completions, below PREFIX (packaging/README.md)
 # make uninstall: removes it
 # docs/GATE.md says how long they take.
@@ -45,12 +45,10 @@ test:
 
 bench: globs
 	cd crates/wax_vectors && rt run </dev/null
-	bench/machine
-	bench/instructions
+	bench/table
 	bench/run
 	bench/families
 	bench/alternatives
-	bench/walk
 	bench/lists
 	bench/shards
 
