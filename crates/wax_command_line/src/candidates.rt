@@ -10,7 +10,7 @@ ghost use Rattle.wax_walk.specs.Entries.{given_of};
 
 use std::alloc::{AllocError, Global};
 use std::io::Write;
-use wax_candidate::Program;
+use wax_candidate::BuildMatcher;
 use wax_directory::directory::Directory;
 use wax_exclude::law_of_walks;
 use wax_filter::filter::{Feed, SeparatingFilter, Separation, TreeResidue};
@@ -27,8 +27,8 @@ const CHUNK: usize = 8192;
 ///
 /// # Errors
 ///
-/// Returns `Write` if a write fails or takes nothing, and `Memory` if allocation fails for the
-/// lines. If memory runs out in the walk, that is one of its items.
+/// Returns `Write` if a write fails or takes nothing, and `Memory` if allocation fails for the lines
+/// or for a matcher of the glob. If memory runs out in the walk, that is one of its items.
 pub fn write_wanted<'g, D, P, C, R, W, F>(
     alloc: Global,
     walk: GlobWalk<'g, D, P, C>,
@@ -38,7 +38,7 @@ pub fn write_wanted<'g, D, P, C, R, W, F>(
 ) -> Result<bool, LinesError>
 where
     D: Directory,
-    P: Program,
+    P: BuildMatcher<'g>,
     C: NameTest,
     R: Exclude,
     W: Write,
@@ -53,7 +53,7 @@ where
         (W.contents output.old.inner) (W.contents output.new.inner)) }
     ensures quiet { IfOk result (λ has_errors. has_errors ≡ false → faults.new ≡ faults.old) }
 {
-    write_excluding(alloc, walk, rules, output, faults)
+    write_excluding(alloc, walk.uncaptured()?, rules, output, faults)
 }
 
 // The generic body of `write_wanted`: at its concrete types the check would be too large.

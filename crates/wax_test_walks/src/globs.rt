@@ -56,7 +56,13 @@ fn push_walk(
         None => glob.walk(alloc, directory, row.start()),
         Some(behavior) => glob.walk_with_behavior(alloc, directory, row.start(), behavior),
     };
-    push_any(alloc, row, walk, text)
+    if row.option("without").is_none() {
+        return push_any(alloc, row, walk, text);
+    }
+    match walk.uncaptured() {
+        Ok(walk) => stacked::push(alloc, row, walk, text),
+        Err(_) => Err(Unanswered::Memory),
+    }
 }
 
 fn push_any<I>(alloc: Global, row: Row<'_>, walk: I, text: &mut String) -> Result<(), Unanswered>
