@@ -1,6 +1,6 @@
 -- A walk when it is made, and if allocation failed for its start.
 use Rattle.std.proofs.Common.{◌≡◌, ℕ, ◌+◌, ◌-◌, ◌^◌, ◌<◌, ◌≤◌, length, true, false, List, [], ◌∷◌, ◌++◌, refl, sym}
-use Rattle.std.proofs.Common.{ap, subst, ◌∙◌, arith, string_bytes, length-append}
+use Rattle.std.proofs.Common.{ap, subst, ◌∙◌, arith, inl, inr, string_bytes, length-append}
 use Rattle.std.specs.Prelude.{Option, Some, None, String}
 use Rattle.std.specs.declared.alloc.Global.{Global}
 use Rattle.wax_directory.specs.Law.{Law}
@@ -116,6 +116,10 @@ module _ {D C : Type 0} (law : Law D C) where
     };
     at_end = λ i. (d, f.at_end i);
     stays = λ i. ((f.stays i.1).0, (d, (f.stays i.1).1));
+    idles = λ i. elim i [
+      | inl lacks ↦ absurd (let b : true ≡ false = sym lacks ∙ e in (cc))
+      | inr stopped ↦ (inr (f.idles stopped).0, (f.idles stopped).1)
+    ];
     names = f.names;
     misplaced = f.misplaced;
   } where
@@ -130,6 +134,7 @@ ended_at law d origin range view h l = record {
   shown = λ s listed k told p m. absurd (omega (arith, l, m));
   beyond = λ s listed k told m. h.comes origin.path s listed k told;
   above = λ m. h.ended;
+  idle = λ m. h.idle;
   listings = h.listings;
   names = omega (arith, h.names);
   directory = h.directory;
@@ -142,6 +147,7 @@ lacking_at law d origin range view h l = record {
   shown = λ s listed k told p m. h.comes _ told;
   beyond = λ s listed k told m. h.comes _ told;
   above = λ m. absurd (omega (arith, l, m));
+  idle = λ m. h.idle;
   listings = h.listings;
   names = omega (arith, h.names);
   directory = h.directory;

@@ -48,7 +48,7 @@ pub record Origin : Type 0 where
 
 -- the view of a walk over the directory d: it follows the names of the origin and goes on from there, or
 -- yields one error if they don't lead there; if there are more names than the greatest depth, it yields
--- nothing and has ended
+-- nothing, has ended, and doesn't call the directory
 pub record BeginsAt {D C : Type 0} (law : Law D C) (d : D) (origin : Origin) (range : DepthRange)
     (view : WalkView D) : Type 0 where
   pub shown : (s : Shown) (listed : List (List ℕ)) → law.shows d origin.path s → law.tells d listed
@@ -61,25 +61,28 @@ pub record BeginsAt {D C : Type 0} (law : Law D C) (d : D) (origin : Origin) (ra
       → range.max < length origin.names
       → view.to_come (pending nothing nothing listed 0)
   pub above : range.max < length origin.names → view.has_ended
+  pub idle : range.max < length origin.names → view.is_idle
   pub listings : view.listings_left ≡ range.budget + 1
   pub names : view.names_left ≤ length origin.names
   pub directory : view.directory ≡ d
 
--- the view of a walk over the directory d that has ended and yields nothing
+-- the view of a walk over the directory d that has ended, yields nothing, and doesn't call the directory
 pub record HasEnded {D C : Type 0} (law : Law D C) (d : D) (range : DepthRange)
     (view : WalkView D) : Type 0 where
   pub comes : (path : List ℕ) (s : Shown) (listed : List (List ℕ)) → law.shows d path s → law.tells d listed
       → view.to_come (pending nothing nothing listed 0)
   pub ended : view.has_ended
+  pub idle : view.is_idle
   pub listings : view.listings_left ≡ range.budget + 1
   pub names : view.names_left ≡ 0
   pub directory : view.directory ≡ d
 
 -- the view of a walk over the directory d for whose start allocation failed: anything may be to come, since
--- the walk yields that error instead
+-- the walk yields that error instead, and it doesn't call the directory
 pub record LacksMemory {D C : Type 0} (law : Law D C) (d : D) (range : DepthRange)
     (view : WalkView D) : Type 0 where
   pub comes : (p : Pending Given) → law.tells d p.listed → view.to_come p
+  pub idle : view.is_idle
   pub listings : view.listings_left ≡ range.budget + 1
   pub names : view.names_left ≡ 0
   pub directory : view.directory ≡ d

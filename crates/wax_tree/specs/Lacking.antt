@@ -1,5 +1,5 @@
 -- A walk for whose start allocation may have failed.
-use Rattle.std.specs.Prelude.{◌≡◌, ℕ, ◌+◌, cond, true, false}
+use Rattle.std.specs.Prelude.{◌≡◌, ◌⊎◌, ℕ, ◌+◌, cond, true, false}
 use Rattle.wax_directory.specs.Law.{Law}
 use Rattle.wax_walk.specs.Forest.{Pending}
 use Rattle.wax_walk.specs.Given.{Given}
@@ -21,6 +21,7 @@ tree_view law w = record {
   listings_left = allowance w.steps;
   names_left = names_left w.steps;
   has_ended = (w.lacks_memory ≡ false) × HasStopped w.steps;
+  is_idle = (w.lacks_memory ≡ true) ⊎ HasStopped w.steps;
 }
 
 -- at most how many items it has yet to yield

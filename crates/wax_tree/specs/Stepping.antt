@@ -121,5 +121,6 @@ module _ {D C : Type 0} (law : Law D C) where
     pub accounts : Accounts law (steps_view law old) (step_given r) (steps_view law new)
     pub at_end : r ≡ Ends → HasStopped new
     pub stays : HasStopped old → (r ≡ Ends) × HasStopped new
+    pub idles : HasStopped old → new.directory ≡ old.directory
     pub names : names_left new ≤ names_left old
     pub misplaced : IsMisplaced (step_given r) → 0 < names_left old

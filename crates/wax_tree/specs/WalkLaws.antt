@@ -5,7 +5,7 @@ use Rattle.wax_directory.specs.Law.{Law}
 use Rattle.wax_tree.specs.declared.steps.Steps.{Steps}
 use Rattle.wax_tree.specs.declared.walk_tree.WalkTree.{WalkTree}
 use Rattle.wax_tree.specs.Lacking.{MayCome, lacks, goes, tree_view, gives_at_most}
-use Rattle.wax_tree.specs.Walking.{IsAlone, PlainToCome}
+use Rattle.wax_tree.specs.Walking.{HasStopped, IsAlone, PlainToCome}
 use Rattle.wax_walk.specs.Forest.{Pending, cancelled}
 use Rattle.wax_walk.specs.Given.{Given}
 use Rattle.wax_walk.specs.View.{CancelStep}
@@ -50,13 +50,17 @@ module _ {D C : Type 0} where
     cancel_now s p (lacks e t) = lacks e t
     cancel_now s p (goes e c) = goes e (cancel_steps s.steps p c)
 
+    stopped_still : (s : Steps D C) → HasStopped s → HasStopped (record s { entered = None })
+    stopped_still s e = elim e [ inl a ↦ inl a | inr b ↦ inr (b.0, refl, b.2) ]
+
     cancel_step : (s : WalkTree D C) → CancelStep (tree_view law s) (tree_view law (uncancelled s))
     cancel_step s = record {
       leaves_out = cancel_now s;
       directory = refl;
       listings_left = refl;
       names_left = refl;
-      ends = λ e. (e.0, elim e.1 [ inl a ↦ inl a | inr b ↦ inr (b.0, refl, b.2) ]);
+      ends = λ e. (e.0, stopped_still s.steps e.1);
+      idles = λ i. elim i [ inl lacks ↦ inl lacks | inr e ↦ inr (stopped_still s.steps e) ];
     }
 
     pub cancel_law : (s t : WalkTree D C) → t ≡ uncancelled s → CancelStep (tree_view law s) (tree_view law t)

@@ -175,6 +175,7 @@ module _ {D C : Type 0} (law : Law D C) where
     listings_left = allowance w;
     names_left = names_left w;
     has_ended = HasStopped w;
+    is_idle = HasStopped w;
   }
 
 -- what is to come goes from p to q without an item: both are equal, or one folder was listed

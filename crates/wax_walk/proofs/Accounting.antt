@@ -1,5 +1,5 @@
 -- What a call counts, takes and ends, call by call.
-use Rattle.std.proofs.Common.{◌≡◌, ℕ, ◌+◌, ◌<◌, ◌≤◌, refl, sym, subst, arith, inl, inr}
+use Rattle.std.proofs.Common.{◌≡◌, ℕ, ◌+◌, ◌<◌, ◌≤◌, refl, sym, subst, ◌∙◌, arith, inl, inr}
 use Rattle.std.specs.Prelude.{Option, Some, None, ◌⊎◌}
 use Rattle.wax_directory.specs.Counting.{no_counts, plus, grown}
 use Rattle.wax_directory.specs.Law.{Law}
@@ -96,12 +96,14 @@ pub record IsAsked {D : Type 0} (outer inner : WalkView D) : Type 0 where
   pub listings_left : outer.listings_left ≡ inner.listings_left
   pub names_left : outer.names_left ≡ inner.names_left
   pub ended : outer.has_ended → inner.has_ended
+  pub idle : outer.is_idle → inner.is_idle
 
 pub record HasAnswered {D : Type 0} (outer inner : WalkView D) : Type 0 where
   pub directory : outer.directory ≡ inner.directory
   pub listings_left : outer.listings_left ≡ inner.listings_left
   pub names_left : outer.names_left ≡ inner.names_left
   pub ended : inner.has_ended → outer.has_ended
+  pub idle : inner.is_idle → outer.is_idle
 
 -- what a filter makes of an item ends the walk where the item did
 pub last_marked : (x : Given) (m : Mark) → IsLast (Some x) → IsLast (Some (with_mark x m))
@@ -163,6 +165,12 @@ module _ {D C : Type 0} (law : Law D C) where
 
   -- the proof of what is to come is passed in
   module _ (v w outer new : WalkView D) (b : IsAsked outer v) (a : HasAnswered new w) where
+    idles_moved : (r : Option Given) → FeedStep law v r w → outer.is_idle
+        → new.is_idle × (new.directory ≡ outer.directory)
+    idles_moved r f i =
+        let idles = f.idles (b.idle i) in
+        (a.idle idles.0, a.directory ∙ (idles.1 ∙ sym b.directory))
+
     pub step_ends : FeedStep law v None w
         → ((p : Pending Given) → outer.to_come p → GivesOrStops outer p None new)
         → FeedStep law outer None new
@@ -171,6 +179,7 @@ module _ {D C : Type 0} (law : Law D C) where
       accounts = accounts_moved v w outer new None f.accounts b a;
       at_end = λ e. a.ended (f.at_end e);
       stays = λ e. let s = f.stays (b.ended e) in (s.0, a.ended s.1);
+      idles = idles_moved None f;
       names = omega (arith, f.names, a.names_left, b.names_left);
       misplaced = λ i. absurd i;
     }
@@ -187,6 +196,7 @@ module _ {D C : Type 0} (law : Law D C) where
               (subst A (sym e) (accounts_marked v w x m f.accounts)) b a;
           at_end = λ i. (cc);
           stays = λ i. let s : Some x ≡ None = (f.stays (b.ended i)).0 in absurd (cc);
+          idles = idles_moved (Some x) f;
           names = omega (arith, f.names, a.names_left, b.names_left);
           misplaced = λ i. omega (
             arith,

@@ -14,10 +14,10 @@ use Rattle.wax_walk.proofs.Filtering.{layer_ends, layer_cuts, layer_passes}
 
 module _ {D C F : Type 0} (law : Law D C) (step : F → Bor TreeEntry → Option EntryResidue → F → Type 0) where
   asked : (v : WalkView D) (f : F) → IsAsked (closure_view step v f) v
-  asked v f = record { directory = refl; listings_left = refl; names_left = refl; ended = λ i. i }
+  asked v f = record { directory = refl; listings_left = refl; names_left = refl; ended = λ i. i; idle = λ i. i }
 
   answered : (w : WalkView D) (f : F) → HasAnswered (closure_view step w f) w
-  answered w f = record { directory = refl; listings_left = refl; names_left = refl; ended = λ i. i }
+  answered w f = record { directory = refl; listings_left = refl; names_left = refl; ended = λ i. i; idle = λ i. i }
 
   answered_cut : (w u : WalkView D) (f : F) → CancelStep w u → HasAnswered (closure_view step u f) w
   answered_cut w u f k =
@@ -25,8 +25,8 @@ module _ {D C F : Type 0} (law : Law D C) (step : F → Bor TreeEntry → Option
         directory = k.directory;
         listings_left = k.listings_left;
         names_left = k.names_left;
-        ended =
-            k.ends;
+        ended = k.ends;
+        idle = k.idles;
       }
 
   pub closure_ends : (v w : WalkView D) (f : F) → FeedStep law v None w

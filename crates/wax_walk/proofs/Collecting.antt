@@ -1,7 +1,7 @@
 -- A loop that takes all that a walk yields.
 use Rattle.std.proofs.Common.{◌≡◌, ℕ, ◌+◌, ◌<◌, ◌≤◌, true, false, length, length-append, List, []}
 use Rattle.std.proofs.Common.{◌∷◌, ◌++◌, refl, sym, ap, subst, ◌∙◌, append_assoc, inl, inr, arith}
-use Rattle.std.specs.Prelude.{◌⊎◌, Some, None, Result, Ok, Err, IfOk, filter, map}
+use Rattle.std.specs.Prelude.{◌⊎◌, Option, Some, None, Result, Ok, Err, IfOk, filter, map}
 use Rattle.std.specs.List.{Contains}
 use Rattle.std.proofs.lemmas.List.{map-append}
 use Rattle.std.proofs.lemmas.List.Elements.{filter-append, Contains-append_left, Contains-push_cases}
@@ -215,6 +215,7 @@ module _ {D C : Type 0} (law : Law D C) where
     pub misplaced : (path : List ℕ) (depth : ℕ) → Contains xs (fault NotAFolder path depth)
         → 0 < walk.names_left
     pub ended : EndedThere now xs
+    pub idle : walk.is_idle → now.is_idle × (now.directory ≡ walk.directory)
 
   module _ (walk mid new : WalkView D) (most less fewer : ℕ) (xs : List Given) where
     -- what was taken, with what a call took that gave an item
@@ -243,6 +244,13 @@ module _ {D C : Type 0} (law : Law D C) where
       | inr d ↦ omega (arith, e, m (subst (λ v. IsMisplaced (Some v)) (sym d) tt))
     ]
 
+    idles_more : (r : Option Given) → Taking walk mid most less xs → FeedStep law mid r new → walk.is_idle
+        → new.is_idle × (new.directory ≡ walk.directory)
+    idles_more r h f i =
+        let before = h.idle i in
+        let after = f.idles before.0 in
+        (after.0, after.1 ∙ before.1)
+
     pub taking_more : (x : Given) → Taking walk mid most less xs → FeedStep law mid (Some x) new
         → fewer < less → Taking walk new most fewer (xs ++ x ∷ [])
     taking_more x h f l =
@@ -269,6 +277,7 @@ module _ {D C : Type 0} (law : Law D C) where
           misplaced = λ path depth c. misplaced_more x path depth h.names f.misplaced (h.misplaced path depth)
               c;
           ended = ended_more mid new xs x n a.ends h.ended;
+          idle = idles_more (Some x) h f;
         }
 
     pub taking_end : Taking walk mid most less xs → FeedStep law mid None new
@@ -287,6 +296,7 @@ module _ {D C : Type 0} (law : Law D C) where
           spent = λ path depth c. omega (arith, h.spent path depth c, h.within, e);
           misplaced = h.misplaced;
           ends_there = λ before after x e last. (h.ended before after x e last).0;
+          unasked = λ i. (idles_more None h f i).1;
         }
 
   pub taking_none : (walk : WalkView D) (most : ℕ) → Taking walk walk most most []
@@ -302,6 +312,7 @@ module _ {D C : Type 0} (law : Law D C) where
     names = omega arith;
     misplaced = λ path depth c. absurd (contains_none (fault NotAFolder path depth) c);
     ended = λ before after x e last. absurd (none_split before after x e);
+    idle = λ i. (i, refl);
   }
 
 -- ---- what is kept of it

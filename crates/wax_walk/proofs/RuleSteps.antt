@@ -18,12 +18,12 @@ module _ {D C : Type 0} (law : Law D C) (rule : Facts → Mark) where
     directory = refl;
     listings_left = refl;
     names_left = refl;
-    ended =
-        λ h. elim h [ inl t ↦ absurd (differ b e t) | inr i ↦ i ];
+    ended = λ h. elim h [ inl t ↦ absurd (differ b e t) | inr i ↦ i ];
+    idle = λ h. elim h [ inl t ↦ absurd (differ b e t) | inr i ↦ i ];
   }
 
   answered : (w : WalkView D) (b : Bool) → HasAnswered (ruled_view w rule b) w
-  answered w b = record { directory = refl; listings_left = refl; names_left = refl; ended = λ h. inr h }
+  answered w b = record { directory = refl; listings_left = refl; names_left = refl; ended = inr; idle = inr }
 
   answered_cut : (w u : WalkView D) (b : Bool) → CancelStep w u → HasAnswered (ruled_view u rule b) w
   answered_cut w u b k =
@@ -31,8 +31,8 @@ module _ {D C : Type 0} (law : Law D C) (rule : Facts → Mark) where
         directory = k.directory;
         listings_left = k.listings_left;
         names_left = k.names_left;
-        ended =
-            λ h. inr (k.ends h);
+        ended = λ h. inr (k.ends h);
+        idle = λ h. inr (k.idles h);
       }
 
   pub ruled_ends : (v w : WalkView D) (b : Bool) → b ≡ false → FeedStep law v None w

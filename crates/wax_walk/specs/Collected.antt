@@ -36,7 +36,7 @@ abbrev pub EndsThere : List Given → Type 0
 EndsThere xs = (before after : List Given) (x : Given) → xs ≡ before ++ x ∷ after → IsLast (Some x)
     → after ≡ []
 
--- a walk yielded these items to its end, and left the directory as `new`
+-- a walk yielded these items to its end, and left the directory as `new`, unchanged if the walk was idle
 pub record Took {D C : Type 0} (law : Law D C) (walk : WalkView D) (new : D) (xs : List Given) : Type 0 where
   pub all : (p : Pending Given) → walk.to_come p → GaveAll (law.tells new) walk.listings_left p xs
   pub counts : CountsFaults (all_fault_counts xs) (law.tally walk.directory) (law.tally new)
@@ -47,3 +47,4 @@ pub record Took {D C : Type 0} (law : Law D C) (walk : WalkView D) (new : D) (xs
   pub misplaced : (path : List ℕ) (depth : ℕ) → Contains xs (fault NotAFolder path depth)
       → 0 < walk.names_left
   pub ends_there : EndsThere xs
+  pub unasked : walk.is_idle → new ≡ walk.directory

@@ -46,6 +46,7 @@ ruled_cancelling v w rules p q b c h e f = record {
   listings_left = h.listings_left;
   names_left = h.names_left;
   ends = λ i. ended_either b c v.has_ended w.has_ended f h.ends i;
+  idles = λ i. ended_either b c v.is_idle w.is_idle f h.idles i;
 }
 
 module _ {F : Type 0} (step : F → Bor TreeEntry → Option EntryResidue → F → Type 0) where
@@ -67,6 +68,7 @@ module _ {F : Type 0} (step : F → Bor TreeEntry → Option EntryResidue → F 
     listings_left = h.listings_left;
     names_left = h.names_left;
     ends = h.ends;
+    idles = h.idles;
   }
 
 -- ---- if nothing is known

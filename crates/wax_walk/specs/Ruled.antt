@@ -8,4 +8,5 @@ abbrev pub ruled_view : {D : Type 0} → WalkView D → (Facts → Mark) → Boo
 ruled_view inner rule lacked = record inner {
   to_come = λ q. (lacked ≡ false) × ToComeFiltered inner.to_come rule q;
   has_ended = (lacked ≡ true) ⊎ inner.has_ended;
+  is_idle = (lacked ≡ true) ⊎ inner.is_idle;
 }

@@ -9,13 +9,14 @@ use Rattle.wax_walk.specs.Forest.{Pending, all_pending, cancelled, FirstIs, IsLi
 use Rattle.wax_walk.specs.Given.{Given, fault, no_memory}
 
 -- what is to come; the directory; at most how many more items may be taken from listings; how many names are
--- left to follow to where the walk begins; and that it has ended
+-- left to follow to where the walk begins; that it has ended; and that it won't call the directory again
 pub record WalkView (D : Type 0) : Type 1 where
   pub to_come : Pending Given → Type 0
   pub directory : D
   pub listings_left : ℕ
   pub names_left : ℕ
   pub has_ended : Type 0
+  pub is_idle : Type 0
 
 -- ---- what a result implies
 
@@ -87,6 +88,7 @@ module _ {D : Type 0} where
     pub accounts : Accounts law old r new
     pub at_end : r ≡ None → new.has_ended
     pub stays : old.has_ended → (r ≡ None) × new.has_ended
+    pub idles : old.is_idle → new.is_idle × (new.directory ≡ old.directory)
     pub names : new.names_left ≤ old.names_left
     pub misplaced : IsMisplaced r → 0 < old.names_left
 
@@ -97,12 +99,14 @@ module _ {D : Type 0} where
     pub listings_left : new.listings_left ≡ old.listings_left
     pub names_left : new.names_left ≡ old.names_left
     pub ends : old.has_ended → new.has_ended
+    pub idles : old.is_idle → new.is_idle
 
-  -- what is to come by `this` is to come by `that`; directory and counts are equal; and an end by `that` is
-  -- an end by `this`
+  -- what is to come by `this` is to come by `that`; directory and counts are equal; an end by `that` is an end
+  -- by `this`; and if `this` is idle, `that` is
   pub record IsSeenAs (this that : WalkView D) : Type 0 where
     pub to_come : (p : Pending Given) → this.to_come p → that.to_come p
     pub directory : that.directory ≡ this.directory
     pub listings_left : that.listings_left ≡ this.listings_left
     pub names_left : that.names_left ≡ this.names_left
     pub ends : that.has_ended → this.has_ended
+    pub idles : this.is_idle → that.is_idle

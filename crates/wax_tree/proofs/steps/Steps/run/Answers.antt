@@ -1,4 +1,4 @@
-use Rattle.std.proofs.Common.{◌≡◌, refl, arith}
+use Rattle.std.proofs.Common.{◌≡◌, ◌∙◌, refl, arith}
 use Rattle.wax_walk.proofs.Accounting.{accounts_then}
 use Rattle.wax_tree.specs.declared.steps.Step.TheVariants.{Gives, Ends}
 use Rattle.wax_tree.proofs.Stepping.{leads_on, run_gives}
@@ -17,6 +17,7 @@ returns-in-Gives g c =
         at_end = λ e. (cc);
         stays = λ e. let s : Gives c.in-Gives.item ≡ Ends =
             (st.stays (i.stays e)).0 in (cc, (st.stays (i.stays e)).1);
+        idles = λ e. ((st.stays (i.stays e)).1, st.idles (i.stays e) ∙ i.idles e);
         names = omega (arith, st.names, i.names);
         misplaced = λ m. omega (arith, st.misplaced m, i.names);
       };
@@ -35,6 +36,7 @@ returns-in-Ends g c =
         accounts = accounts_then law _ _ _ _ i.accounts st.accounts;
         at_end = λ e. st.at_end refl;
         stays = λ e. (refl, st.at_end refl);
+        idles = λ e. (st.at_end refl, st.idles (i.stays e) ∙ i.idles e);
         names = omega (arith, st.names, i.names);
         misplaced = λ m. absurd m;
       };
@@ -49,6 +51,7 @@ loop-item-preserved g c =
     record {
       fewer = omega (arith, c.in-GoesOn.ensures.measure.0, i.fewer);
       stays = λ e. (st.stays (i.stays e)).1;
+      idles = λ e. st.idles (i.stays e) ∙ i.idles e;
       names = omega (arith, st.names, i.names);
       accounts = accounts_then law _ _ _ _ i.accounts st.accounts;
       leads = λ p h.

@@ -1,4 +1,4 @@
-use Rattle.std.proofs.Common.{◌≤◌, ◌+◌}
+use Rattle.std.proofs.Common.{◌≡◌, ◌≤◌, ◌+◌}
 use Rattle.std.specs.Prelude.{None}
 use Rattle.wax_walk.specs.Forest.{Pending}
 use Rattle.wax_walk.specs.Given.{Given}
@@ -14,6 +14,7 @@ invariant-loop-item g l =
     record {
       fewer : items_left l.self ≤ items_left l.fn.self;
       stays : HasStopped l.fn.self → HasStopped l.self;
+      idles : HasStopped l.fn.self → l.self.directory ≡ l.fn.self.directory;
       names : names_left l.self ≤ names_left l.fn.self;
       accounts : Accounts law (steps_view law l.fn.self) None (steps_view law l.self);
       leads : (p : Pending Given) → PlainToCome law l.fn.self p

@@ -24,6 +24,7 @@ returns-clause-ended g c =
           listed refl refl c.new-2.ensures.levels told
           (g.met.D.Directory.none_open c.args.directory path s h));
       ended = (refl, inr (refl, refl, c.new-2.ensures.levels));
+      idle = inr (inr (refl, refl, c.new-2.ensures.levels));
       listings = refl;
       names = refl;
       directory = refl;

@@ -1,10 +1,11 @@
-use Rattle.std.proofs.Common.{refl}
+use Rattle.std.proofs.Common.{refl, inl}
 use Rattle.wax_tree.specs.Lacking.{lacks}
 use Rattle.wax_tree.proofs.walk_tree.WalkTree.refused.Goals as goal
 
 pub returns-clause-lacks : goal.returns-clause-lacks
 returns-clause-lacks g c = rw c.new-2.ensures.fields (record {
   comes = λ p told. lacks refl told;
+  idle = inl refl;
   listings = refl;
   names = refl;
   directory = refl;

@@ -56,6 +56,7 @@ returns-in-Ok-place_at-clause-begins g c =
           (g.met.D.Directory.none_open c.args.directory c.args.start.now s h));
       beyond = λ s listed h told d. absurd (omega (arith, d, less, long));
       above = λ d. absurd (omega (arith, d, less, long));
+      idle = λ d. absurd (omega (arith, d, less, long));
       listings = refl;
       names = omega (arith, ap length names, long);
       directory = refl;

@@ -7,7 +7,7 @@ returns-clause-view g c =
       to_come = λ p h. h;
       directory = refl;
       listings_left = refl;
-      names_left =
-          refl;
+      names_left = refl;
       ends = λ h. h;
+      idles = λ h. h;
     })
