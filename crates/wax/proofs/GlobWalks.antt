@@ -1,5 +1,5 @@
 -- What is to come of a glob's walk.
-use Rattle.std.proofs.Common.{◌≡◌, ◌∙◌, ◌≤◌, ◌<◌, ◌+◌, ◌&&◌, ℕ, Bool, true, false, cond, if◌then◌else◌, List, [], ◌∷◌, length, map, refl, sym, subst, ap, chars, encode_utf8_all, arith}
+use Rattle.std.proofs.Common.{◌≡◌, ◌∙◌, ◌≤◌, ◌<◌, ◌+◌, ◌&&◌, ℕ, Bool, true, false, cond, if◌then◌else◌, List, [], ◌∷◌, length, map, refl, sym, subst, ap, chars, encode_utf8_all, inr, arith}
 use Rattle.std.specs.Str.{IsUtf8}
 use Rattle.std.proofs.lemmas.Bool.{ltb-false, ltb-true}
 use Rattle.std.proofs.lemmas.Str.{encodes-chars}
@@ -30,7 +30,7 @@ use Rattle.wax_exclude.specs.Leading.{component_test, lead_test, leading_of}
 use Rattle.wax_exclude.specs.Marks.{glob_mark, led_mark, of_candidate}
 use Rattle.wax.specs.GlobView.{GlobView}
 use Rattle.wax.proofs.GoingAlong.{names_are}
-use Rattle.wax.specs.GlobWalks.{Beginning, BeginsGlob, IsPlan, request_of, wants, origin_from, within}
+use Rattle.wax.specs.GlobWalks.{Beginning, BeginsGlob, IsPlan, LeadsNowhere, has_empty_name, is_too_deep, request_of, wants, origin_from, within}
 
 -- ---- the programs say what the tree says
 
@@ -200,6 +200,11 @@ module _ {D C : Type 0} (g : GlobView) (law : Law D C) (d : D) (start : List ℕ
     listings_along : view.listings_left ≡ asked.budget + 1
     listings_along = seen.listings_left ∙ b.listings ∙ ap (λ r. r.budget + 1) same_range
 
+    idle_along : LeadsNowhere g.tree walked → view.is_idle
+    idle_along (has_empty_name taken prefix p e) = absurd ((plan taken prefix p).0.unbroken e)
+    idle_along (is_too_deep a less) =
+        seen.idles (inr ((begins_so a).idle (subst (λ ns. walked.max < length ns) (same_names a) less)))
+
     pub begins_along : BeginsGlob g.tree law d start asked view
     begins_along = record {
       depth = depth;
@@ -209,6 +214,7 @@ module _ {D C : Type 0} (g : GlobView) (law : Law D C) (d : D) (start : List ℕ
       shown = λ a s listed h told plain fits. shown_along a plain s listed h told fits;
       beyond = beyond_along;
       unmeant = λ taken prefix p e path s listed h told. absurd ((plan taken prefix p).0.unbroken e);
+      idle = idle_along;
       comes = λ a plain. comes_so law d start asked depth view a (shown_along a plain) (beyond_along a) listings_along;
       listings = listings_along;
       names = λ a. subst (λ ns. view.names_left ≤ length ns) (sym (same_names a))
@@ -227,6 +233,7 @@ module _ {D C : Type 0} (g : GlobView) (law : Law D C) (d : D) (start : List ℕ
     beyond = λ a s listed h told less. absurd (a.names_are.unbroken (known a.taken a.prefix a.prefix_is));
     unmeant = λ taken prefix p e path s listed h told.
         seen.to_come (pending nothing nothing listed 0) (refl, (pending nothing nothing listed 0, b.comes path s listed h told, refl));
+    idle = λ h. seen.idles (inr b.idle);
     comes = λ a plain. absurd (a.names_are.unbroken (known a.taken a.prefix a.prefix_is));
     listings = seen.listings_left ∙ b.listings ∙ ap (λ n. n + 1) few;
     names = λ a. omega (arith, seen.names_left, b.names);
@@ -243,6 +250,7 @@ module _ {D C : Type 0} (g : GlobView) (law : Law D C) (d : D) (start : List ℕ
     none_match = none_match;
     shown = λ a s listed h told plain fits. shown_refused a s listed h told fits;
     beyond = λ a s listed h told less. nothing_comes listed told;
+    idle = λ h. seen.idles (inr b.idle);
     unmeant = λ taken prefix p e path s listed h told. nothing_comes listed told;
     comes = λ a plain.
         comes_so law d start asked depth view a (shown_refused a) (λ s listed h told less. nothing_comes listed told)

@@ -67,6 +67,13 @@ request_of {t} start asked depth b filters = record {
   origin = origin_from start b.rooted b.names;
 }
 
+-- no candidate in range can match: two `/` are side by side in the prefix, or it has more names than the
+-- greatest depth
+pub data LeadsNowhere (t : Tree Span) (range : DepthRange) : Type 0 where
+  has_empty_name : (taken : ℕ) (prefix : List ℕ) → Prefix t taken prefix → HasEmptyName prefix
+      → LeadsNowhere t range
+  is_too_deep : (b : Beginning t) → range.max < length b.names → LeadsNowhere t range
+
 -- A walk over this directory that was made of a glob, in a range: what it means of what is shown will come.
 pub record BeginsGlob {D C : Type 0} (t : Tree Span) (law : Law D C) (d : D) (start : List ℕ)
     (asked : DepthRange) (view : WalkView D) : Type 0 where
@@ -93,6 +100,8 @@ pub record BeginsGlob {D C : Type 0} (t : Tree Span) (law : Law D C) (d : D) (st
   -- and then no candidate matches
   pub none_match : (taken : ℕ) (prefix : List ℕ) → Prefix t taken prefix → HasEmptyName prefix
       → (rooted : Bool) → IsUnmeant rooted t
+  -- the directory isn't called in either of these two cases
+  pub idle : LeadsNowhere t (within asked depth) → view.is_idle
   -- so what is wanted comes: filters over the walk take from this, and what is collected is the rest
   pub comes : (b : Beginning t) → ArePlain b.names
       → ComesWanted law d (request_of start asked depth b []) view

@@ -45,6 +45,7 @@ module _ {D C : Type 0} (law : Law D C) where
     spent = λ path depth h. took.spent path depth h ∙ seen.listings_left;
     misplaced = λ path depth h. subst (λ n. 0 < n) seen.names_left (took.misplaced path depth h);
     ends_there = took.ends_there;
+    unasked = λ i. took.unasked (seen.idles i) ∙ seen.directory;
   }
 
   -- what a walk gave that these rules filter

@@ -117,7 +117,7 @@ module _ {D C : Type 0} (law : Law D C) where
     at_end = λ i. (d, f.at_end i);
     stays = λ i. ((f.stays i.1).0, (d, (f.stays i.1).1));
     idles = λ i. elim i [
-      | inl lacks ↦ absurd (let b : true ≡ false = sym lacks ∙ e in (cc))
+      | inl failed ↦ absurd (let b : true ≡ false = sym failed ∙ e in (cc))
       | inr stopped ↦ (inr (f.idles stopped).0, (f.idles stopped).1)
     ];
     names = f.names;

@@ -60,7 +60,7 @@ module _ {D C : Type 0} where
       listings_left = refl;
       names_left = refl;
       ends = λ e. (e.0, stopped_still s.steps e.1);
-      idles = λ i. elim i [ inl lacks ↦ inl lacks | inr e ↦ inr (stopped_still s.steps e) ];
+      idles = λ i. elim i [ inl failed ↦ inl failed | inr e ↦ inr (stopped_still s.steps e) ];
     }
 
     pub cancel_law : (s t : WalkTree D C) → t ≡ uncancelled s → CancelStep (tree_view law s) (tree_view law t)

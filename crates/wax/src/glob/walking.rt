@@ -209,7 +209,7 @@ impl<'t> Glob<'t> {
     ghost use Rattle.wax_walk.specs.Given.{Given, is_kept};
     ghost use Rattle.wax_walk.specs.Known.{KnownOutcome};
     ghost use Rattle.wax_exclude.specs.Wanted.{Filter};
-    ghost use Rattle.wax.specs.GlobWalks.{Beginning, GaveWithin, KeepsNothing, request_of};
+    ghost use Rattle.wax.specs.GlobWalks.{Beginning, GaveWithin, KeepsNothing, LeadsNowhere, request_of};
 
     /// Collects the walk of the glob from `start` without what the rules exclude: returns what is
     /// kept, in order, errors included, and the directory.
@@ -218,8 +218,9 @@ impl<'t> Glob<'t> {
     /// order, the entries are exactly those of the whole walk, in range, that the glob matches,
     /// that no pattern matches and that no list ignores. If memory or the budget runs out, the list
     /// is a prefix of that and then one error. Each entry has the captures of its candidate. If two
-    /// `/` are side by side in the glob's prefix, nothing is kept or listed. Whatever the directory
-    /// shows, the walk takes and yields no more items than the budget allows.
+    /// `/` are side by side in the glob's prefix, nothing is kept. If so, or if the prefix has more
+    /// names than the greatest depth, the directory isn't called. Whatever the directory shows, the
+    /// walk takes and yields no more items than the budget allows.
     ///
     /// ```
     /// use wax::walk::{Tree, WalkBehavior, WalkFilter};
@@ -259,6 +260,8 @@ impl<'t> Glob<'t> {
             (map (given_outcome ⟦<GlobEntry as Entry>⟧.facts ⟦<TreeEntry as Entry>⟧.facts) r.0.items)) }
         ensures none_match { (taken : ℕ) (prefix : List ℕ) (rooted : Bool) → Prefix self.now.tree taken prefix
             → HasEmptyName prefix → IsUnmeant rooted self.now.tree }
+        ensures unasked { IfOk result (λ r. (depth : Bounds) × Depth self.now.tree depth
+            × (LeadsNowhere self.now.tree (within (behavior_range behavior) depth) → r.1 ≡ directory)) }
         ensures matched { IfOk result
             (λ r. All (KnownOutcome (IsMatchedEntry (IsMeant self.now) (HasCaptures self.now))) r.0.items) }
         ensures wanted { IfOk result (λ r. (depth : Bounds) × Depth self.now.tree depth

@@ -8,4 +8,5 @@ returns-clause-view g c = record {
   listings_left = refl;
   names_left = refl;
   ends = λ h. h;
+  idles = λ h. h;
 }

@@ -1,4 +1,4 @@
-use Rattle.std.proofs.Common.{[], refl, subst, arith}
+use Rattle.std.proofs.Common.{[], refl, subst, ◌∙◌, inr, arith}
 use Rattle.wax_exclude.specs.GlobRequests.{goes}
 use Rattle.wax_tree.specs.Begins.{behavior_range}
 use Rattle.wax_walk.proofs.Collecting.{map_ok}
@@ -31,6 +31,12 @@ returns-clause-unmeant g c =
     (refl, (pending nothing nothing listed 0, h.unmeant taken prefix is empty path s listed shows told, refl)) in
     keeps_nothing (law.tells r.1) c.args.behavior.budget listed k.0 _
     (subst (λ n. GaveAll (law.tells r.1) n (pending nothing nothing listed 0) k.0) h.listings all) k.3)
+    c.collect_excluding.result c.collect_excluding.ensures.took
+
+pub returns-clause-unasked : goal.returns-clause-unasked
+returns-clause-unasked g c =
+    let h = c.walk_in-walk.ensures.begins in
+    map_ok (λ r k. (h.depth, h.depth_is, λ nowhere. k.1.unasked (inr (h.idle nowhere)) ∙ h.directory))
     c.collect_excluding.result c.collect_excluding.ensures.took
 
 pub returns-clause-none_match : goal.returns-clause-none_match
