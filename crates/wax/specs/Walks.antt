@@ -43,6 +43,7 @@ pub use Rattle.wax_filter.specs.declared.filter.separation.Separation.{Separatio
 pub use Rattle.wax_filter.specs.declared.filter.separation.Separation.TheVariants.{Filtrate, Residue}
 pub use Rattle.wax_filter.specs.declared.filter.tree_residue.TreeResidue.TheVariants.{Node, Tree}
 pub use Rattle.wax_filter.specs.Separating.{separated_entry}
+pub use Rattle.wax_glob_walk.specs.Laws.{leading_cancelling}
 pub use Rattle.wax_glob_walk.specs.Matches.{IsMatchedEntry, glob_facts, match_of, tree_entry}
 pub use Rattle.wax_glob_walk.specs.Programs.{any_mark, leading_mark}
 pub use Rattle.wax_glob_walk.specs.declared.entry.GlobEntry.{GlobEntry}

@@ -101,8 +101,8 @@ module _ {D : Type 0} where
     pub ends : old.has_ended → new.has_ended
     pub idles : old.is_idle → new.is_idle
 
-  -- what is to come by `this` is to come by `that`; directory and counts are equal; an end by `that` is one by
-  -- `this`; and if `this` is idle, `that` is idle
+  -- what is to come by `this` is to come by `that`; directory and counts are equal; an end by `that` is one
+  -- by `this`; and if `this` is idle, `that` is idle
   pub record IsSeenAs (this that : WalkView D) : Type 0 where
     pub to_come : (p : Pending Given) → this.to_come p → that.to_come p
     pub directory : that.directory ≡ this.directory
