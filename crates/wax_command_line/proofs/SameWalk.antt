@@ -1,6 +1,5 @@
 -- What is written of a walk that is seen as another one.
-use Rattle.std.proofs.Common.{ℕ, Bool, List, [], refl, ◌∙◌}
-use Rattle.std.proofs.KnownBytes.{Appends-nil}
+use Rattle.std.proofs.Common.{ℕ, Bool, List, ◌∙◌}
 use Rattle.std.specs.Prelude.{Option}
 use Rattle.wax_directory.specs.Law.{Law}
 use Rattle.wax_exclude.specs.GlobRequests.{ComesWanted, GlobRequest}
@@ -31,12 +30,3 @@ module _ {D C : Type 0} (law : Law D C) (v u : WalkView D) (seen : IsSeenAs v u)
     w.1,
     λ d request filters s listed comes. w.2 d request filters s listed (comes_seen d request comes),
   )
-
--- if nothing is written, everything is unwritten
-pub nothing_written : {D C : Type 0} (law : Law D C) (v : WalkView D) (rules : List (Facts → Mark))
-    (held : Option (List ℕ)) → WroteFirst law v rules held held
-nothing_written law v rules held = (
-  [],
-  Appends-nil held,
-  λ d request filters s listed comes are can shows told. (_, refl),
-)
