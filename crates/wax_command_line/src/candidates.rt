@@ -8,14 +8,14 @@ ghost use Rattle.wax_command_line.specs.Candidates.{candidate_line, is_error};
 ghost use Rattle.wax_lines.specs.Written.{WritesPart};
 ghost use Rattle.wax_walk.specs.Entries.{given_of};
 
-use std::alloc::{AllocError, Global};
+use std::alloc::Global;
 use std::io::Write;
 use wax_candidate::BuildMatcher;
 use wax_directory::directory::Directory;
 use wax_exclude::law_of_walks;
 use wax_filter::filter::{Feed, SeparatingFilter, Separation, TreeResidue};
 use wax_glob_walk::{FilterAny, GlobWalk, NameTest};
-use wax_lines::{Counted, LinesError, write_whole};
+use wax_lines::{Counted, LinesError, push_line, write_whole};
 use wax_walk::{Entry, Exclude, FileIterator, WalkError};
 
 /// Lines are written once that many bytes of them wait.
@@ -158,7 +158,7 @@ fn write_candidate<E: Entry, W: Write>(
         (lines.old.items ++ ((E.facts entry.now).candidate ++ 10 ∷ []))) }
 {
     let (_, candidate) = entry.root_relative_paths();
-    let Ok(()) = add_line(candidate, lines) else {
+    let Ok(()) = push_line(candidate, lines) else {
         write_whole(output, lines)?;
         return Err(LinesError::Memory);
     };
@@ -166,17 +166,5 @@ fn write_candidate<E: Entry, W: Write>(
         write_whole(output, lines)?;
         lines.clear();
     }
-    Ok(())
-}
-
-// Appends a line and a line feed. Reserves the space first, so that it appends all or nothing.
-fn add_line(text: &str, lines: &mut Vec<u8>) -> Result<(), AllocError>
-    ensures ok { OnOk result (lines.new.items ≡ lines.old.items ++ (text.now ++ 10 ∷ [])) }
-    ensures err { OnErr result (lines.new.items ≡ lines.old.items) }
-{
-    let line = text.as_bytes();
-    lines.reserve(line.len() + 1)?;
-    lines.extend_from_slice(line)?;
-    lines.push(b'\n')?;
     Ok(())
 }

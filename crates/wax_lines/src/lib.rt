@@ -7,4 +7,4 @@ mod writing;
 
 pub use counted::Counted;
 pub use lines::{LinesError, capture_lines, filter_lines};
-pub use writing::write_whole;
+pub use writing::{push_line, write_whole};

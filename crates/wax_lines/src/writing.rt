@@ -1,11 +1,12 @@
-//! Writing all of some bytes.
-ghost use Rattle.std.specs.Prelude.{◌≡◌, ◌≤◌, ◌<◌, ◌⊎◌, IfErr, OnErr, OnOk};
+//! Writes of whole lines and of all of some bytes.
+ghost use Rattle.std.specs.Prelude.{◌≡◌, ◌≤◌, ◌<◌, ◌⊎◌, ◌++◌, ◌∷◌, [], IfErr, OnErr, OnOk};
 ghost use Rattle.std.specs.Io.KnownBytes.{Appends};
 ghost use Rattle.wax_lines.specs.Counts.{greatest_count};
 ghost use Rattle.wax_lines.specs.Written.{WritesPart};
 
 use crate::counted::Counted;
 use crate::lines::LinesError;
+use std::alloc::AllocError;
 use std::io::Write;
 
 /// Writes all of the bytes, by as many calls as it takes.
@@ -28,5 +29,21 @@ pub fn write_whole<W: Write>(output: &mut Counted<W>, bytes: &[u8]) -> Result<()
             Ok(taken) => rest = &rest[taken..],
         }
     }
+    Ok(())
+}
+
+/// Appends a line and a line feed. It reserves the space first, so that it appends all or nothing.
+///
+/// # Errors
+///
+/// Returns `AllocError` if allocation fails. `lines` is unchanged then.
+pub fn push_line(line: &str, lines: &mut Vec<u8>) -> Result<(), AllocError>
+    ensures ok { OnOk result (lines.new.items ≡ lines.old.items ++ (line.now ++ 10 ∷ [])) }
+    ensures err { OnErr result (lines.new.items ≡ lines.old.items) }
+{
+    let bytes = line.as_bytes();
+    lines.reserve(bytes.len() + 1)?;
+    lines.extend_from_slice(bytes)?;
+    lines.push(b'\n')?;
     Ok(())
 }

@@ -4,6 +4,7 @@ ghost use Rattle.wax_candidate.specs.Matched.{texts};
 ghost use Rattle.wax_lines.specs.Lines.{WritesMeant, WritesCaptures, tabbed};
 ghost use Rattle.wax_lines.specs.inner.Matching.{IsMatchedBy, IsMatchedByBoth};
 
+use crate::writing::push_line;
 use std::alloc::{AllocError, Global};
 use wax_candidate::{CandidatePath, MatchedText, PathMatcher, Program};
 use wax_query::diagnostics::NoMemory;
@@ -45,7 +46,7 @@ impl<M: PathMatcher> LineWriter for MatchingLines<M> {
 
     fn write_line(&mut self, line: &str, out: &mut Vec<u8>) -> Result<(), NoMemory> {
         if self.matcher.is_match(&CandidatePath::from(line))? {
-            add_whole(line.as_bytes(), out)?;
+            push_line(line, out)?;
         }
         Ok(())
     }
@@ -90,17 +91,6 @@ fn add_matched(matched: &MatchedText<'_>, out: &mut Vec<u8>) -> Result<(), NoMem
         out.truncate(old_len);
         return Err(NoMemory);
     };
-    Ok(())
-}
-
-// Appends a line and a line feed. Reserves the space first, so that it appends all or nothing.
-fn add_whole(line: &[u8], out: &mut Vec<u8>) -> Result<(), AllocError>
-    ensures ok { OnOk result (out.new.items ≡ out.old.items ++ (line.now ++ 10 ∷ [])) }
-    ensures err { OnErr result (out.new.items ≡ out.old.items) }
-{
-    out.reserve(line.len() + 1)?;
-    out.extend_from_slice(line)?;
-    out.push(b'\n')?;
     Ok(())
 }
 
