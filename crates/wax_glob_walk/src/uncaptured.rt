@@ -51,8 +51,7 @@ where
     C: NameTest,
 {
     /// Converts the walk into one that yields the same entries without their captures. That walk
-    /// takes less time and memory: it allocates nothing for an entry but what the plain walk does,
-    /// and it matches by one matcher of the glob.
+    /// takes less time: it copies nothing of an entry, and it matches by one matcher of the glob.
     ///
     /// # Errors
     ///

@@ -34,7 +34,8 @@ impl<'t> Glob<'t> {
 
     /// Walks through `directory` from `start` and yields the entries that the glob matches, at
     /// every depth, each with its captures. The walk takes at most 4,294,967,295 items from
-    /// folders.
+    /// folders. Its method `uncaptured` converts it into a walk without captures, which takes less
+    /// time.
     ///
     /// The walk begins at the glob's prefix and goes no deeper than the glob's longest matches. If
     /// the prefix begins with `/`, the walk begins at the root and `start` isn't used. If memory
