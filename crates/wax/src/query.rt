@@ -1,6 +1,6 @@
 //! The results of queries.
 
 pub use wax_query::query::{
-    Bounded, BoundedVariantRange, Boundedness, CapturingToken, DepthVariance, NaturalRange,
-    TextVariance, Unbounded, Variance, VariantRange, When,
+    Bounded, BoundedVariantRange, Boundedness, CapturingToken, DepthVariance, LocatedError,
+    NaturalRange, Span, TextVariance, Unbounded, Variance, VariantRange, When,
 };

@@ -12,8 +12,8 @@ pub use wax_parse::parse::{ErrorEntry, ParseError, parse};
 pub use wax_partition::{Partitioned, partition};
 pub use wax_rule::size;
 pub use wax_token::token::{
-    Alternation, Archetype, Boundary, BranchKind, Class, Composition, Concatenation,
+    Alternation, Annotation, Archetype, Boundary, BranchKind, Class, Composition, Concatenation,
     ConcatenationTree, Evaluation, ExpressionMetadata, LeafKind, Literal,
     ROOT_SEPARATOR_EXPRESSION, Repetition, Separator, Token, TokenComposition, TokenTopology,
-    TokenTree, Tokenized, Topology, Wildcard,
+    TokenTree, Tokenized, Topology, Wildcard, new_branch, new_leaf,
 };

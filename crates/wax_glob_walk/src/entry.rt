@@ -9,7 +9,7 @@ use wax_directory::directory::FileType;
 use wax_walk::{Entry, TreeEntry};
 
 /// An entry that a glob matches, with what the match captured of the entry's candidate.
-#[derive(Drop)]
+#[derive(Debug, Drop)]
 pub struct GlobEntry {
     pub(crate) entry: TreeEntry,
     matched: MatchedText<'static>,

@@ -1,4 +1,6 @@
-use Rattle.std.specs.Prelude.{◌≡◌, IfOk, Option, Some, None, Result}
+use Rattle.std.specs.Prelude.{◌≡◌, ⊤, IfOk, Option, Some, None, Result}
+use Rattle.wax_filter.specs.declared.filter.tree_residue.TreeResidue.{TreeResidue}
+use Rattle.wax_filter.specs.declared.filter.tree_residue.TreeResidue.TheVariants as residue
 use Rattle.wax_query.specs.declared.diagnostics.NoMemory.{NoMemory}
 use Rattle.wax_walk.specs.declared.iterator.EntryResidue.{EntryResidue}
 use Rattle.wax_walk.specs.declared.iterator.EntryResidue.TheVariants.{File, Tree}
@@ -8,6 +10,11 @@ abbrev pub mark_of : Option EntryResidue → Mark
 mark_of None = kept
 mark_of (Some File) = alone
 mark_of (Some Tree) = with_tree
+
+-- what a filter excludes, as a residue without an entry
+abbrev pub tree_residue : EntryResidue → TreeResidue ⊤
+tree_residue File = residue.Node tt
+tree_residue Tree = residue.Tree tt
 
 -- A rule was called for an entry with these facts: it returns what it decides about the entry, unless
 -- allocation fails, and it decides the same about every entry as before.

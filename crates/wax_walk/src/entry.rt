@@ -4,6 +4,7 @@ ghost use Rattle.std.specs.Prelude.{◌≡◌, string_bytes};
 ghost use Rattle.wax_walk.specs.Given.{Facts};
 ghost use Rattle.wax_walk.specs.Entries.{facts_of};
 
+use std::alloc::AllocError;
 use wax_directory::directory::FileType;
 
 /// An entry of a plain walk. A walk of a glob wraps one and adds the captures.
@@ -35,6 +36,24 @@ impl TreeEntry {
             depth,
             kind,
         }
+    }
+}
+
+/// Copies the texts of the entry.
+impl Clone for TreeEntry {
+    ghost use Rattle.std.specs.Prelude.{◌≡◌};
+    ghost use Rattle.wax_walk.specs.Entries.{facts_of};
+
+    ghost is_clone = { λ entry copy. facts_of copy ≡ facts_of entry };
+
+    fn clone(&self) -> Result<Self, AllocError> {
+        Ok(TreeEntry {
+            path: self.path.clone()?,
+            root: self.root.clone()?,
+            candidate: self.candidate.clone()?,
+            depth: self.depth,
+            kind: self.kind,
+        })
     }
 }
 

@@ -17,10 +17,24 @@ use wax_directory::directory::Directory;
 use wax_filter::filter::{CancelWalk, Feed, SeparatingFilter, TreeResidue};
 
 /// What a filter excludes: only an entry (`File`), or an entry with everything below it (`Tree`).
-#[derive(Clone, Copy, Debug, Eq, PartialEq)]
+#[derive(Clone, Copy, Debug, Eq, Hash, PartialEq)]
 pub enum EntryResidue {
     File,
     Tree,
+}
+
+impl From<EntryResidue> for TreeResidue<()> {
+    ghost use Rattle.std.specs.Prelude.{◌≡◌};
+    ghost use Rattle.wax_walk.specs.Said.{tree_residue};
+
+    ghost from_gives = { λ excluded residue. residue ≡ tree_residue excluded };
+
+    fn from(excluded: EntryResidue) -> Self {
+        match excluded {
+            EntryResidue::File => TreeResidue::Node(()),
+            EntryResidue::Tree => TreeResidue::Tree(()),
+        }
+    }
 }
 
 /// A walk through a directory, or a filter of one.
