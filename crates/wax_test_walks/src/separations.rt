@@ -13,6 +13,7 @@ use wax::filter::{
     CancelWalk, Feed, Filtrate, HierarchicalIterator, Isomeric, Product, Residue,
     SeparatingFilterInput, Separation, TreeResidue, WalkCancellation, filtrate,
 };
+use wax::walk::EntryResidue;
 
 /// A name and its depth.
 type Entry = (char, u8);
@@ -170,24 +171,28 @@ fn print_residues(rt: &HostRuntime) -> io::Result<()> {
     let tree: TreeResidue<u8> = TreeResidue::Tree(6);
     let lent = **tree.as_ref().get();
     println!(rt;
-        "left out {}, lent {lent}, half {:?}, a tree is a node {}",
+        "left out {}, lent {lent}, half {:?}, a tree is a node {}, {:?} is {:?}",
         tree.get(),
         tree.map(half),
-        tree == TreeResidue::Node(6)
+        tree == TreeResidue::Node(6),
+        EntryResidue::File,
+        TreeResidue::from(EntryResidue::File)
     )
 }
 
 /// Prints calls of separations.
 fn print_separations(rt: &HostRuntime) -> io::Result<()> {
     let kept: Separation<(u8, TreeResidue<u8>)> = Separation::Filtrate(Product::new(6));
+    let is_equal = kept.clone()? == kept;
     let item = kept.as_filtrate().map(|x| x.into_inner());
     let out = kept.filter_map_node(half);
     let is_none = out.as_filtrate().is_none();
     let third = residue_of(out.map_residue(|x| x.map(third)));
     let some: Separation<(Option<u8>, u8)> = Separation::Filtrate(Product::new(Some(6)));
     let err: Separation<(Result<u8, u8>, u8)> = Separation::Filtrate(Product::new(Err(6)));
+    print!(rt; "kept {item:?}, clone is equal {is_equal}, no longer kept {is_none}, ")?;
     println!(rt;
-        "kept {item:?}, no longer kept {is_none}, its half's third {third:?}, is there {}, went wrong {}",
+        "its half's third {third:?}, is there {}, went wrong {}",
         some.transpose_filtrate().is_some(),
         err.transpose_filtrate().is_err()
     )

@@ -6,7 +6,9 @@ use crate::faults::Directories;
 use crate::row::{Row, Unanswered, push_gap, push_quoted};
 use std::alloc::{AllocError, Global};
 use wax::filter::{Feed, Separation, TreeResidue};
-use wax::walk::{Directory, Entry, FileIterator, Tally, Tree, WalkError, collect, collect_feed};
+use wax::walk::{
+    Directory, Entry, FileIterator, Tally, Tree, TreeEntry, WalkError, collect, collect_feed,
+};
 use wax::{CandidatePath, Glob, NoMemory, Program};
 
 /// Appends what a walk yields, by the kind of the row: the items that are kept; for `feed` those
@@ -193,29 +195,23 @@ fn push_entry<E: Entry>(
     entry: &E,
     text: &mut String,
 ) -> Result<(), AllocError> {
-    let (root, candidate) = entry.root_relative_paths();
     match kind {
-        "candidates" => push_quoted(text, candidate),
-        "places" => {
-            push_place(text, entry.path(), root, candidate)?;
-            let (depth, kind) = (entry.depth(), entry.file_type());
-            text.push_str(format!(in alloc; " {depth} {kind:?};")?.as_str())
-        }
+        "candidates" => push_quoted(text, entry.root_relative_paths().1),
+        "places" => push_place(alloc, entry.as_tree_entry(), text),
+        "copies" => push_place(alloc, &entry.as_tree_entry().clone()?, text),
         _ => push_quoted(text, entry.path()),
     }
 }
 
-fn push_place(
-    text: &mut String,
-    path: &str,
-    root: &str,
-    candidate: &str,
-) -> Result<(), AllocError> {
-    push_quoted(text, path)?;
+fn push_place(alloc: Global, entry: &TreeEntry, text: &mut String) -> Result<(), AllocError> {
+    let (root, candidate) = entry.root_relative_paths();
+    push_quoted(text, entry.path())?;
     text.push(' ')?;
     push_quoted(text, root)?;
     text.push(' ')?;
-    push_quoted(text, candidate)
+    push_quoted(text, candidate)?;
+    let (depth, kind) = (entry.depth(), entry.file_type());
+    text.push_str(format!(in alloc; " {depth} {kind:?};")?.as_str())
 }
 
 /// Appends fields: the folders that were listed, how many items were requested, and all counts of

@@ -27,6 +27,7 @@ impl<T, R> Feed for (T, R) {
 
 /// An item that is kept or excluded.
 #[derive(Drop)]
+#[derive_where(Clone, Debug, Eq, Hash, PartialEq; S::Filtrate, S::Residue)]
 pub enum Separation<S>
 where
     S: Feed,
