@@ -13,7 +13,6 @@ use wax::filter::{
     CancelWalk, Feed, Filtrate, HierarchicalIterator, Isomeric, Product, Residue,
     SeparatingFilterInput, Separation, TreeResidue, WalkCancellation, filtrate,
 };
-use wax::walk::EntryResidue;
 
 /// A name and its depth.
 type Entry = (char, u8);
@@ -171,12 +170,10 @@ fn print_residues(rt: &HostRuntime) -> io::Result<()> {
     let tree: TreeResidue<u8> = TreeResidue::Tree(6);
     let lent = **tree.as_ref().get();
     println!(rt;
-        "left out {}, lent {lent}, half {:?}, a tree is a node {}, {:?} is {:?}",
+        "left out {}, lent {lent}, half {:?}, a tree is a node {}",
         tree.get(),
         tree.map(half),
-        tree == TreeResidue::Node(6),
-        EntryResidue::File,
-        TreeResidue::from(EntryResidue::File)
+        tree == TreeResidue::Node(6)
     )
 }
 
