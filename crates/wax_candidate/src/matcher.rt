@@ -1,5 +1,6 @@
 //! Matchers of many paths, and the programs that build them.
 ghost use Rattle.std.specs.Prelude.{◌≡◌, ℕ, Bool, List, IfOk};
+ghost use Rattle.wax_candidate.specs.Parts.{NoneEndsBefore};
 
 use crate::candidate::CandidatePath;
 use crate::program::Program;
@@ -21,6 +22,14 @@ pub trait PathMatcher: Drop {
     fn is_match(&mut self, path: &CandidatePath<'_>) -> Result<bool, NoMemory>
         ensures decides { IfOk result (λ answer. answer ≡ decides self.old path.now) }
         ensures same { decides self.new ≡ decides self.old };
+
+    /// Returns how many bytes at the beginning of a text can be passed over in a search for parts
+    /// of it that match: none of them ends before so many bytes. By default, that is 0.
+    fn earliest_end(&self, _text: &str) -> usize
+        ensures { NoneEndsBefore (decides self.now) _text.now result }
+    {
+        0
+    }
 }
 
 /// A program that builds matchers of itself, as a `BuildHasher` builds hashers. They may borrow it.

@@ -1,5 +1,5 @@
 -- What is below an entry that is excluded with everything below it is excluded too; and what the marks keep.
-use Rattle.std.proofs.Common.{◌≡◌, ℕ, Bool, true, false, not, ◌⊎◌, cond, List, [], ◌∷◌, ◌++◌, refl}
+use Rattle.std.proofs.Common.{◌≡◌, ℕ, Bool, IsTrue, true, false, not, ◌⊎◌, cond, List, [], ◌∷◌, ◌++◌, refl}
 use Rattle.std.proofs.Common.{sym, ap, subst, ◌∙◌, inl, inr, arith, append_assoc, append-nil}
 use Rattle.wax_alternatives.proofs.Means.{means_one_of}
 use Rattle.wax_alternatives.specs.Alternatives.{alternatives}
@@ -231,6 +231,11 @@ everything (more (alternation x us) none) s e = cc
 everything (more (concatenation x us) none) s e = cc
 everything (more (repetition x u low high) none) s e = cc
 everything (more u (more v vs)) s e = cc
+
+-- a token that is everything matches every text
+pub everything_meant : {A : Type 0} (t : Tree A) (answer : Bool) → answer ≡ is_everything (members t) → IsTrue answer
+    → (text : List ℕ) → Means t false false text
+everything_meant t answer e true_is text = of_members t false false text (everything (members t) text (sym e ∙ true_is))
 
 -- what is covered is meant
 covers_meant : {A : Type 0} (t : Tree A) (c : Candidate) → Covers t c → Means t false false c.text

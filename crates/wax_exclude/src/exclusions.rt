@@ -1,9 +1,10 @@
 //! Patterns that are excluded from a walk.
-ghost use Rattle.std.specs.Prelude.{◌≡◌, ◌↔◌, ◌<◌, ◌≤◌, IfOk, IsTrue, chars};
+ghost use Rattle.std.specs.Prelude.{◌≡◌, ◌↔◌, ◌<◌, ◌≤◌, ℕ, IfOk, IsTrue, List, chars, false};
 ghost use Rattle.std.specs.List.{All, list_any};
 ghost use Rattle.wax_alternatives.specs.Alternatives.{alternatives};
 ghost use Rattle.wax_query.specs.Outcome.{MatchBuild};
 ghost use Rattle.wax_token.specs.Cost.{cost, program_length};
+ghost use Rattle.wax_token.specs.Meaning.{Means};
 ghost use Rattle.wax_token.specs.Words.{members};
 ghost use Rattle.wax_exclude.specs.Covers.{ends_wild, is_everything, is_unrooted, some_everything};
 ghost use Rattle.wax_exclude.specs.Compiled.{CoverAll, SomeAccepts};
@@ -252,8 +253,10 @@ fn some_everything<'t>(alternatives: &[Token<'t, ExpressionMetadata>]) -> bool
     alternatives.iter().any(|token| is_everything(token))
 }
 
-fn is_everything<'t>(token: &Token<'t, ExpressionMetadata>) -> bool
-    ensures { result ≡ is_everything (members token.now) }
+/// Returns whether the token is an unrooted `**`, by itself. It matches every text.
+pub fn is_everything<'t>(token: &Token<'t, ExpressionMetadata>) -> bool
+    ensures value { result ≡ is_everything (members token.now) }
+    ensures all { IsTrue result → (text : List ℕ) → Means token.now false false text }
 {
     match token.concatenation() {
         [only] => is_unrooted(only),

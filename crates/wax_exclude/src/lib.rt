@@ -12,7 +12,7 @@ mod programs;
 mod rules;
 mod wanted;
 
-pub use exclusions::Exclusion;
+pub use exclusions::{Exclusion, is_everything};
 pub use kept::collect_unignored;
 pub use law::{law_of_ignoring, law_of_plain_walks, law_of_walks};
 pub use lines::{WrittenLine, written_lines};

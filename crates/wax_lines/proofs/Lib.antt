@@ -5,3 +5,4 @@ pub mod Runs
 pub mod Same
 pub mod Tabs
 pub mod Feeds
+mod Skips

@@ -1,5 +1,7 @@
+mod Marks
 pub mod AnyCase
 pub mod Holding
 pub mod Lengths
 pub mod MeantEdges
 pub mod MeantPieces
+mod Pairs

@@ -6,6 +6,7 @@ mod any_case;
 mod facts;
 mod least;
 mod needle;
+mod pair;
 mod prefilter;
 
 pub use prefilter::Prefilter;

@@ -1,9 +1,13 @@
 //! Needles: texts that others contain at some place.
-ghost use Rattle.std.specs.Prelude.{◌≡◌, ℕ, IsTrue, IfOk, List, ◌++◌, chars, true, false};
+ghost use Rattle.std.specs.Prelude.{◌≡◌, ℕ, IsTrue, IfOk, IfSome, List, ◌++◌, chars, true, false};
+ghost use Rattle.std.specs.Str.{IsUtf8};
 ghost use Rattle.wax_token.specs.Meaning.{SameText};
 ghost use Rattle.wax_prefilter.specs.Facts.{StandsAt};
+ghost use Rattle.wax_prefilter.specs.declared.needle.Place.{Place};
+ghost use Rattle.wax_prefilter.specs.inner.Pairs.{HasPair};
 
 use crate::any_case::{begins_in_any_case, holds_in_any_case};
+use crate::pair::Pair;
 use std::alloc::{AllocError, Global};
 use std::marker::Model;
 
@@ -44,6 +48,24 @@ impl Needle {
     /// Returns whether the needle is searched for in any case.
     pub fn is_case_insensitive(&self) -> bool {
         self.is_case_insensitive
+    }
+
+    /// Returns the first and the last byte of the needle, or `None` if it is shorter than two bytes
+    /// or is searched for in any case.
+    pub fn pair(&self) -> Option<Pair>
+        ensures { IfSome result (λ pair. (place : Place) (text : List ℕ) → IsUtf8 text
+            → StandsAt place self.now (chars text) → HasPair pair text) }
+    {
+        let bytes = self.text.as_str().as_bytes();
+        if self.is_case_insensitive || bytes.len() < 2 {
+            return None;
+        }
+        let distance = bytes.len() - 1;
+        Some(Pair {
+            first: bytes[0],
+            last: bytes[distance],
+            distance,
+        })
     }
 
     /// Returns whether the text may have the needle at the place. Always returns `true` for a

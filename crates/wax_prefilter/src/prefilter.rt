@@ -1,12 +1,16 @@
 //! The test of a text before it is matched.
-ghost use Rattle.std.specs.Prelude.{◌≡◌, ℕ, List, [], ◌∷◌, ◌++◌, IsTrue, IfOk, OnOk, chars};
+ghost use Rattle.std.specs.Prelude.{◌≡◌, ◌≤◌, ℕ, List, [], ◌∷◌, ◌++◌, IsTrue, IfOk, IfSome, OnOk, chars};
+ghost use Rattle.std.specs.Prelude.{length};
+ghost use Rattle.std.specs.Str.{IsUtf8};
 ghost use Rattle.wax_token.specs.Words.{trees};
 ghost use Rattle.wax_prefilter.specs.Facts.{HoldsOne, PassesFacts};
 ghost use Rattle.wax_prefilter.specs.Known.{MeantPass};
+ghost use Rattle.wax_prefilter.specs.inner.Pairs.{HasPair, IsPairOf};
 
 use crate::facts::all_facts;
 use crate::least::least_of_each;
 use crate::needle::{Needle, Place};
+use crate::pair::Pair;
 use std::alloc::{AllocError, Global};
 use std::marker::Model;
 use wax_query::diagnostics::NoMemory;
@@ -49,6 +53,17 @@ impl Fact {
         }
     }
 
+    /// Returns the pair of the needle, if there is only one and it has a pair.
+    fn pair(&self) -> Option<Pair>
+        ensures { IfSome result (λ pair. (text : List ℕ) → IsUtf8 text
+            → HoldsOne self.now.0 self.now.1 (chars text) → HasPair pair text) }
+    {
+        if self.needles.len() != 1 {
+            return None;
+        }
+        self.needles.first()?.pair()
+    }
+
     fn may_hold(&self, text: &str, seeks_in_any_case: bool) -> bool
         ensures { HoldsOne self.now.0 self.now.1 (chars text.now) → IsTrue result }
     {
@@ -64,6 +79,18 @@ impl Fact {
     }
 }
 
+/// Returns a pair of bytes that each text has of which the facts hold, if one is known.
+fn pair_of(facts: &[Fact]) -> Option<Pair>
+    ensures { IfSome result (IsPairOf facts.now) }
+{
+    for fact in facts {
+        if let Some(pair) = fact.pair() {
+            return Some(pair);
+        }
+    }
+    None
+}
+
 /// Facts about all texts that some tokens match: their least length, and how they begin, how they
 /// end and what they contain. Keeps at most 16 facts, each of at most 64 texts, and no tokens.
 /// Contracts see the least length in characters, and the facts.
@@ -71,14 +98,20 @@ impl Fact {
 pub struct Prefilter {
     least: usize,
     facts: Vec<Fact>,
+    /// Two bytes that each of the texts has, if some are known.
+    pair: Option<Pair>,
 }
 
 impl Model for Prefilter {
+    ghost use Rattle.std.specs.Prelude.{IfSome};
     ghost use Rattle.wax_prefilter.specs.Facts.{PrefilterView};
+    ghost use Rattle.wax_prefilter.specs.inner.Pairs.{IsPairOf};
 
     ghost Value = { PrefilterView };
 
     ghost view = { λ p. (p.least, p.facts.items) };
+
+    ghost invariant = { λ p. IfSome p.pair (IsPairOf p.facts.items) };
 }
 
 impl Prefilter {
@@ -95,9 +128,11 @@ impl Prefilter {
         ensures { IfOk result (MeantPass (trees tokens.now)) }
     {
         let facts = all_facts(alloc, tokens)?;
+        let pair = pair_of(&facts);
         Ok(Prefilter {
             least: least_of_each(tokens),
             facts,
+            pair,
         })
     }
 
@@ -116,6 +151,19 @@ impl Prefilter {
         ensures { PassesFacts self.now (chars text.now) → IsTrue result }
     {
         self.passes(text, false)
+    }
+
+    /// Returns how many bytes at the beginning of a text can be passed over in a search for parts
+    /// of it that the tokens match: none of them ends before so many bytes. Doesn't allocate. Takes
+    /// time proportional to the result or, if it is `usize::MAX`, to the text.
+    pub fn earliest_end(&self, text: &str) -> usize
+        ensures { (x y z : List ℕ) → text.now ≡ x ++ (y ++ z) → IsUtf8 y → PassesFacts self.now (chars y)
+            → result ≤ length (x ++ y) }
+    {
+        match self.pair {
+            Some(pair) => pair.find(text.as_bytes()),
+            None => 0,
+        }
     }
 
     fn passes(&self, text: &str, seeks_in_any_case: bool) -> bool

@@ -7,6 +7,7 @@ use crate::glob::Glob;
 use std::alloc::Global;
 use std::marker::Model;
 use wax_candidate::{BuildMatcher, CandidatePath, PathMatcher};
+use wax_exclude::is_everything;
 use wax_lazy::Matcher;
 use wax_query::diagnostics::NoMemory;
 
@@ -15,6 +16,8 @@ use wax_query::diagnostics::NoMemory;
 pub struct GlobMatcher<'g, 't> {
     glob: &'g Glob<'t>,
     matcher: Matcher<'g>,
+    /// Whether the glob is `**`, so that it matches without a look at the text.
+    matches_all: bool,
 }
 
 impl Drop for GlobMatcher<'_, '_> {
@@ -22,12 +25,14 @@ impl Drop for GlobMatcher<'_, '_> {
         let GlobMatcher {
             glob: _,
             matcher: _,
+            matches_all: _,
         } = self;
     }
 }
 
 impl<'g, 't> Model for GlobMatcher<'g, 't> {
-    ghost use Rattle.wax.specs.GlobView.{GlobView, glob_code};
+    ghost use Rattle.std.specs.Prelude.{IsTrue, List, ℕ};
+    ghost use Rattle.wax.specs.GlobView.{GlobView, IsMeant, glob_code};
     ghost use Rattle.wax.specs.Matching.{AcceptsMeant};
 
     ghost Value = { GlobView };
@@ -36,7 +41,8 @@ impl<'g, 't> Model for GlobMatcher<'g, 't> {
 
     ghost view = { λ m. m.glob.now };
 
-    ghost invariant = { λ m. AcceptsMeant m.matcher m.glob.now };
+    ghost invariant = { λ m. AcceptsMeant m.matcher m.glob.now
+        × (IsTrue m.matches_all → (text : List ℕ) → IsMeant m.glob.now text) };
 }
 
 impl<'t> Glob<'t> {
@@ -61,6 +67,7 @@ impl<'t> Glob<'t> {
         Ok(GlobMatcher {
             glob: self,
             matcher,
+            matches_all: is_everything(&self.tokenized.token),
         })
     }
 }
@@ -79,6 +86,9 @@ impl GlobMatcher<'_, '_> {
         ensures decides { IfOk result (λ answer. answer ≡ means_test self.old.tree false false path.now) }
         ensures same { self.new ≡ self.old }
     {
+        if self.matches_all {
+            return Ok(true);
+        }
         let text = path.as_str();
         let glob = self.glob;
         if !glob.may_match(text) {
@@ -104,6 +114,10 @@ impl PathMatcher for GlobMatcher<'_, '_> {
     #[inline]
     fn is_match(&mut self, path: &CandidatePath<'_>) -> Result<bool, NoMemory> {
         self.is_match(path)
+    }
+
+    fn earliest_end(&self, text: &str) -> usize {
+        self.glob.earliest_end(text)
     }
 }
 

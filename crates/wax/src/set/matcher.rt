@@ -81,6 +81,10 @@ impl PathMatcher for AnyMatcher<'_, '_> {
     fn is_match(&mut self, path: &CandidatePath<'_>) -> Result<bool, NoMemory> {
         self.is_match(path)
     }
+
+    fn earliest_end(&self, text: &str) -> usize {
+        self.any.earliest_end(text)
+    }
 }
 
 impl<'a, 't: 'a> BuildMatcher<'a> for Any<'t> {

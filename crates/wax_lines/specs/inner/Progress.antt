@@ -18,6 +18,10 @@ TakesIn Writes bytes old new =
     (taken written : List ℕ) → SieveSifted Writes taken written old
     → SieveSifted Writes (taken ++ bytes) written new
 
+-- a sieve at the beginning of a line takes these bytes in as it is
+abbrev pub GivesNothing : (List ℕ → List ℕ → Type 0) → List ℕ → Type 0
+GivesNothing Writes bytes = (sieve : Sieve) → sieve.carry.items ≡ [] → TakesIn Writes bytes sieve sieve
+
 -- a prefix of these bytes was taken in
 abbrev pub TakesInPart : (List ℕ → List ℕ → Type 0) → List ℕ → Sieve → Sieve → Type 0
 TakesInPart Writes bytes old new =

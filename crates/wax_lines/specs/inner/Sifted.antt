@@ -1,5 +1,6 @@
 -- How far a filter of lines has come. Only private functions cite this file.
-use Rattle.std.specs.Prelude.{◌≡◌, ◌≢◌, ◌==◌, ℕ, ◌+◌, Bool, List, [], ◌∷◌, ◌++◌, All}
+use Rattle.std.specs.Prelude.{◌≡◌, ◌≢◌, ◌≤◌, ◌<◌, ◌⊎◌, ◌==◌, ℕ, ◌+◌, ◌-◌, Bool, List, [], ◌∷◌, ◌++◌, All}
+use Rattle.std.specs.Prelude.{length, slice_index}
 use Rattle.std.specs.Io.Iter.{u64_saturate}
 use Rattle.wax_lines.specs.Lines.{Filters}
 
@@ -10,6 +11,14 @@ is_feed b = b == 10
 -- the bytes have no line feed
 abbrev pub HasNoFeed : List ℕ → Type 0
 HasNoFeed bytes = All (λ b. b ≢ 10) bytes
+
+-- the place is the beginning, or follows a line feed
+abbrev pub IsAfterFeed : ℕ → List ℕ → Type 0
+IsAfterFeed at bytes = (at ≤ length bytes) × (0 < at → slice_index bytes (at - 1) ≡ 10)
+
+-- there are no bytes, or a line feed is the last of them
+abbrev pub EndsLines : List ℕ → Type 0
+EndsLines bytes = (bytes ≡ []) ⊎ ((front : List ℕ) × (bytes ≡ front ++ 10 ∷ []))
 
 -- each line, followed by a line feed
 abbrev pub lines_text : List (List ℕ) → List ℕ

@@ -1,8 +1,9 @@
 //! Splits of bytes and of text at line feeds.
-ghost use Rattle.std.specs.Prelude.{◌≡◌, ◌++◌, ◌∷◌, map, MatchOption};
+ghost use Rattle.std.specs.Prelude.{◌≡◌, ◌≤◌, ◌++◌, ◌∷◌, List, ℕ, length, map, MatchOption};
 ghost use Rattle.std.specs.List.{position_or_len};
 ghost use Rattle.std.specs.Simd.Lanes.{mask_l};
-ghost use Rattle.wax_lines.specs.inner.Sifted.{HasNoFeed, is_feed};
+ghost use Rattle.std.specs.Str.{IsUtf8};
+ghost use Rattle.wax_lines.specs.inner.Sifted.{EndsLines, HasNoFeed, IsAfterFeed, is_feed};
 
 use std::simd::prelude::*;
 
@@ -33,6 +34,30 @@ pub fn split_text_line(text: &str) -> Option<(&str, &str)>
     } else {
         None
     }
+}
+
+/// Returns what is left of a text after whole lines within its first `most` bytes. These are all such
+/// lines.
+pub fn after_lines(text: &str, most: usize) -> &str
+    ensures { (front : List ℕ) × (text.now ≡ front ++ result.now) × (length front ≤ most)
+        × EndsLines front × IsUtf8 front }
+{
+    let at = after_last_feed(&text.as_bytes()[..most.min(text.len())]);
+    &text[at..]
+}
+
+// Returns the index after the last line feed, or 0 if there is none.
+fn after_last_feed(bytes: &[u8]) -> usize
+    ensures { IsAfterFeed result bytes.now }
+{
+    let mut end = bytes.len();
+    while end >= LANES && feeds(u8x32::from_slice(&bytes[end - LANES..])) == 0 {
+        end -= LANES;
+    }
+    while end > 0 && bytes[end - 1] != b'\n' {
+        end -= 1;
+    }
+    end
 }
 
 // Returns the index of the first line feed, or the length if there is none.

@@ -2,7 +2,7 @@
 ghost use Rattle.std.specs.Prelude.{◌≡◌, ℕ, Bool, List, [], ◌∷◌, ◌++◌, OnOk, OnErr, chars};
 ghost use Rattle.wax_candidate.specs.Matched.{texts};
 ghost use Rattle.wax_lines.specs.Lines.{WritesMeant, WritesCaptures, tabbed};
-ghost use Rattle.wax_lines.specs.inner.Matching.{IsMatchedBy, IsMatchedByBoth};
+ghost use Rattle.wax_lines.specs.inner.Matching.{IsMatchedBy, IsMatchedByBoth, WritesNothingBefore};
 
 use crate::writing::push_line;
 use std::alloc::{AllocError, Global};
@@ -29,6 +29,11 @@ pub trait LineWriter {
             × (out.new.items ≡ out.old.items ++ added)) }
         ensures err { OnErr result (out.new.items ≡ out.old.items) }
         ensures same { view self.new ≡ view self.old };
+
+    /// Returns how many bytes at the beginning of a text can be passed over: nothing is written for
+    /// a line that ends before so many bytes.
+    fn earliest_end(&self, text: &str) -> usize
+        ensures { WritesNothingBefore (writes (view self.now)) text.now result };
 }
 
 /// A writer of each line that a matcher accepts, with a line feed.
@@ -49,6 +54,10 @@ impl<M: PathMatcher> LineWriter for MatchingLines<M> {
             push_line(line, out)?;
         }
         Ok(())
+    }
+
+    fn earliest_end(&self, text: &str) -> usize {
+        self.matcher.earliest_end(text)
     }
 }
 
@@ -78,6 +87,10 @@ impl<P: Program, M: PathMatcher> LineWriter for CapturedLines<'_, P, M> {
         };
         add_matched(&matched, out)?;
         Ok(())
+    }
+
+    fn earliest_end(&self, text: &str) -> usize {
+        self.matcher.earliest_end(text)
     }
 }
 

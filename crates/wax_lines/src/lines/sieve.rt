@@ -5,11 +5,11 @@ ghost use Rattle.std.specs.Io.KnownBytes.{Appends};
 ghost use Rattle.wax_lines.specs.Counts.{greatest_count};
 ghost use Rattle.wax_lines.specs.Lines.{Gives};
 ghost use Rattle.wax_lines.specs.inner.Sifted.{HasNoFeed, CountsMore};
-ghost use Rattle.wax_lines.specs.inner.Progress.{SieveSifted, TakesIn, TakesInPart, TakesLast};
+ghost use Rattle.wax_lines.specs.inner.Progress.{GivesNothing, SieveSifted, TakesIn, TakesInPart, TakesLast};
 ghost use Rattle.wax_lines.specs.Written.{WritesPart};
 
 use super::LinesError;
-use super::feed::{split_line, split_text_line};
+use super::feed::{after_lines, split_line, split_text_line};
 use super::line_writer::LineWriter;
 use crate::counted::Counted;
 use crate::writing::write_whole;
@@ -120,7 +120,7 @@ impl Sieve {
         Ok(())
     }
 
-    // Takes text and a line feed at the beginning of a line.
+    // Takes text and a line feed at the beginning of a line, except for lines that can be passed over.
     fn take_text<L: LineWriter>(&mut self, line_writer: &mut L, text: &str) -> Result<(), NoMemory>
         requires { self.old.carry.items ≡ [] }
         ensures ok { OnOk result (TakesIn (L.writes (L.view line_writer.old))
@@ -129,10 +129,10 @@ impl Sieve {
             (text.now ++ 10 ∷ []) self.old self.new) }
         ensures same { L.view line_writer.new ≡ L.view line_writer.old }
     {
-        let mut rest = text;
+        let mut rest = pass_over(line_writer, text);
         while let Some((line, after)) = split_text_line(rest) {
             self.take_text_line(line_writer, line)?;
-            rest = after;
+            rest = pass_over(line_writer, after);
         }
         self.take_text_line(line_writer, rest)
     }
@@ -228,6 +228,17 @@ impl Sieve {
         let written = write_whole(output, &self.kept.bytes);
         self.kept.bytes.clear();
         written
+    }
+}
+
+// Returns what is left of a text after lines for which nothing is written.
+fn pass_over<'t, L: LineWriter>(line_writer: &L, text: &'t str) -> &'t str
+    ensures { (front : List ℕ) × (text.now ≡ front ++ result.now)
+        × GivesNothing (L.writes (L.view line_writer.now)) front }
+{
+    match line_writer.earliest_end(text) {
+        0 => text,
+        least => after_lines(text, least),
     }
 }
 

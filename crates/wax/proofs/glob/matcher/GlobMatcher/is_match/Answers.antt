@@ -1,8 +1,18 @@
-use Rattle.std.proofs.Common.{◌↔◌, IfOk, IsTrue, chars, false, sym, subst, rules}
+use Rattle.std.proofs.Common.{◌↔◌, IfOk, IsTrue, chars, true, false, refl, sym, subst, rules}
 use Rattle.wax.specs.GlobView.{IsMeant}
 use Rattle.wax_token.specs.Decided.{means_tested}
 use Rattle.wax.proofs.Matchers.{decided_alike, same_truth}
 use Rattle.wax.proofs.glob.matcher.GlobMatcher.is_match.Goals as goal
+
+pub returns-then-self-clause-means : goal.returns-then-self-clause-means
+returns-then-self-clause-means c = (
+  λ _. subst (λ g. IsMeant g c.args.path.now) c.self.view_is (c.self.invariant.1 (search rules) c.args.path.now),
+  λ _. refl,
+)
+
+pub returns-then-self-clause-decides : goal.returns-then-self-clause-decides
+returns-then-self-clause-decides c =
+    same_truth true _ (returns-then-self-clause-means c) (means_tested c.args.self.now.tree false false c.args.path.now)
 
 pub returns-then-not-may_match-clause-means : goal.returns-then-not-may_match-clause-means
 returns-then-not-may_match-clause-means c = (

@@ -1,0 +1,16 @@
+use Rattle.std.proofs.Common.{◌-◌, ◌≤◌, length}
+use Rattle.wax_prefilter.specs.inner.Pairs.{NoPairBefore}
+use Rattle.wax_prefilter.proofs.pair.Pair.find.Given as goal
+
+-- the pair doesn't stand before the place that was reached
+abbrev pub invariant-loop-at : goal.invariant-loop-at
+invariant-loop-at l = (l.at ≤ length l.lasts) × NoPairBefore l.self l.bytes l.at
+
+abbrev pub decreases-loop-at : goal.decreases-loop-at
+decreases-loop-at l = length l.lasts - l.at
+
+abbrev pub invariant-loop-at-2 : goal.invariant-loop-at-2
+invariant-loop-at-2 l = (l.at ≤ length l.lasts) × NoPairBefore l.self l.bytes l.at
+
+abbrev pub decreases-loop-at-2 : goal.decreases-loop-at-2
+decreases-loop-at-2 l = length l.lasts - l.at
