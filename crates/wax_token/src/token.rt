@@ -32,7 +32,7 @@ pub use token_tree::{ConcatenationTree, TokenTree};
 pub const ROOT_SEPARATOR_EXPRESSION: &str = "/";
 
 /// The shape of a token: a branch, which contains tokens, or a leaf.
-#[derive(Debug, Drop)]
+#[derive(Debug, Drop, Eq, PartialEq)]
 pub enum Topology<B, L> {
     Branch(B),
     Leaf(L),
@@ -263,7 +263,7 @@ impl<'t> Literal<'t> {
 pub struct Separator;
 
 /// Which piece a wildcard captures: the longest possible (`*`) or the shortest (`$`).
-#[derive(Clone, Copy, Debug)]
+#[derive(Clone, Copy, Debug, Eq, PartialEq)]
 pub enum Evaluation {
     Eager,
     Lazy,

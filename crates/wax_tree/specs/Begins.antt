@@ -48,7 +48,7 @@ pub record Origin : Type 0 where
 
 -- the view of a walk over the directory d: it follows the names of the origin and goes on from there, or
 -- yields one error if they don't lead there; if there are more names than the greatest depth, it yields
--- nothing, has ended, and doesn't call the directory
+-- nothing, has ended, and leaves the directory as it is
 pub record BeginsAt {D C : Type 0} (law : Law D C) (d : D) (origin : Origin) (range : DepthRange)
     (view : WalkView D) : Type 0 where
   pub shown : (s : Shown) (listed : List (List ℕ)) → law.shows d origin.path s → law.tells d listed
@@ -66,7 +66,7 @@ pub record BeginsAt {D C : Type 0} (law : Law D C) (d : D) (origin : Origin) (ra
   pub names : view.names_left ≤ length origin.names
   pub directory : view.directory ≡ d
 
--- the view of a walk over the directory d that has ended, yields nothing, and doesn't call the directory
+-- the view of a walk over the directory d that has ended, yields nothing, and leaves the directory as it is
 pub record HasEnded {D C : Type 0} (law : Law D C) (d : D) (range : DepthRange)
     (view : WalkView D) : Type 0 where
   pub comes : (path : List ℕ) (s : Shown) (listed : List (List ℕ)) → law.shows d path s → law.tells d listed
@@ -78,7 +78,7 @@ pub record HasEnded {D C : Type 0} (law : Law D C) (d : D) (range : DepthRange)
   pub directory : view.directory ≡ d
 
 -- the view of a walk over the directory d for whose start allocation failed: anything may be to come, since
--- the walk yields that error instead, and it doesn't call the directory
+-- the walk yields that error instead, and it leaves the directory as it is
 pub record LacksMemory {D C : Type 0} (law : Law D C) (d : D) (range : DepthRange)
     (view : WalkView D) : Type 0 where
   pub comes : (p : Pending Given) → law.tells d p.listed → view.to_come p

@@ -9,7 +9,7 @@ use Rattle.wax_walk.specs.Forest.{Pending, all_pending, cancelled, FirstIs, IsLi
 use Rattle.wax_walk.specs.Given.{Given, fault, no_memory}
 
 -- what is to come; the directory; at most how many more items may be taken from listings; how many names are
--- left to follow to where the walk begins; that it has ended; and that it won't call the directory again
+-- left to follow to where the walk begins; that it has ended; and that it leaves the directory as it is
 pub record WalkView (D : Type 0) : Type 1 where
   pub to_come : Pending Given → Type 0
   pub directory : D

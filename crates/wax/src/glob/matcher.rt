@@ -16,7 +16,7 @@ use wax_query::diagnostics::NoMemory;
 pub struct GlobMatcher<'g, 't> {
     glob: &'g Glob<'t>,
     matcher: Matcher<'g>,
-    /// Whether the glob is `**`, so that it matches without a look at the text.
+    /// True if the glob is `**`, which matches a text without a look at it.
     matches_all: bool,
 }
 

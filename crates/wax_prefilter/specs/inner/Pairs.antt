@@ -22,7 +22,7 @@ IsPairOf facts pair = (text : List ℕ) → IsUtf8 text → HoldsEach facts (cha
 abbrev pub NoPairBefore : Pair → List ℕ → ℕ → Type 0
 NoPairBefore pair bytes n = (k : ℕ) → k < n → StandsPairAt pair bytes k → ⊥
 
--- of these bytes, those where the ones in front are the first of the pair, and elsewhere one that isn't its last
+-- the byte behind each first byte of the pair, and for any other byte one that isn't the last of the pair
 abbrev pub followed : Pair → List ℕ → List ℕ → List ℕ
 followed pair front back =
     sel_l (zip2 (λ a b. a == b) front (replicate 32 pair.first)) back (replicate 32 (255 - pair.last))
