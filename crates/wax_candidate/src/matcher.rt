@@ -25,8 +25,8 @@ pub trait PathMatcher: Drop {
 
     /// Returns how many bytes at the beginning of a text can be passed over in a search for parts
     /// of it that match: none of them ends before so many bytes. By default, that is 0.
-    fn earliest_end(&self, _text: &str) -> usize
-        ensures { NoneEndsBefore (decides self.now) _text.now result }
+    fn earliest_end(&self, text: &str) -> usize
+        ensures { NoneEndsBefore (decides self.now) text.now result }
     {
         0
     }
