@@ -14,8 +14,7 @@ use wax::NoMemory;
 /// Returns `NoMemory` if allocation fails, and for some rows whose inputs have errors.
 pub fn answer(alloc: Global, row: &Row, made: &mut Answer) -> Result<(), NoMemory> {
     match row.kind() {
-        Kind::Token(fact) => tokens::answer(alloc, fact, row, made),
-        Kind::Tokens(fact) => tokens::answer_whole(alloc, fact, row, made),
+        Kind::Tokens(fact) => tokens::answer(alloc, fact, row, made),
         Kind::CheckedAny => checked::add_any(alloc, row, made),
         Kind::Program(fact) => programs::answer(alloc, fact, row, made),
         Kind::Set(fact) => sets::answer(alloc, fact, row, made),

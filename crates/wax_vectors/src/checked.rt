@@ -26,26 +26,17 @@ pub fn answer(
     made: &mut Answer,
 ) -> Result<(), NoMemory> {
     match check(alloc, tokens) {
-        Ok(checked) => of_checked(alloc, fact, checked, made),
+        Ok(checked) => match fact {
+            CheckedFact::Alternatives => add_alternatives(alloc, checked, made),
+            CheckedFact::Parts => add_parts(alloc, checked, made),
+            CheckedFact::Owned => add_owned(alloc, checked, made),
+        },
         Err(Refusal::Refused(error)) => {
             made.add("broken ");
             made.add(error.into_owned(alloc)?.expression());
             Ok(())
         }
         Err(Refusal::Memory) => Err(NoMemory),
-    }
-}
-
-fn of_checked(
-    alloc: Global,
-    fact: CheckedFact,
-    checked: CheckedTokens<'_>,
-    made: &mut Answer,
-) -> Result<(), NoMemory> {
-    match fact {
-        CheckedFact::Alternatives => add_alternatives(alloc, checked, made),
-        CheckedFact::Parts => add_parts(alloc, checked, made),
-        CheckedFact::Owned => add_owned(alloc, checked, made),
     }
 }
 

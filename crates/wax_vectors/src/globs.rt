@@ -17,21 +17,11 @@ use wax::{CandidatePath, Glob, MatchedText, NoMemory, Program};
 /// Returns `NoMemory` if allocation fails, and for some facts of a match if the glob doesn't match.
 pub fn answer(alloc: Global, fact: GlobFact, row: &Row, made: &mut Answer) -> Result<(), NoMemory> {
     match Glob::new(alloc, row.input(0)) {
-        Ok(glob) => of_built(alloc, fact, row, glob, made),
+        Ok(glob) => match fact {
+            GlobFact::Part(fact) => parts::answer(alloc, fact, row, glob, made),
+            _ => of_glob(alloc, fact, row, &glob, made),
+        },
         Err(error) => refusals::answer(alloc, fact, row, &error, made),
-    }
-}
-
-fn of_built(
-    alloc: Global,
-    fact: GlobFact,
-    row: &Row,
-    glob: Glob<'_>,
-    made: &mut Answer,
-) -> Result<(), NoMemory> {
-    match fact {
-        GlobFact::Part(fact) => parts::answer(alloc, fact, row, glob, made),
-        _ => of_glob(alloc, fact, row, &glob, made),
     }
 }
 

@@ -3,7 +3,6 @@
 /// The fact that a row shows.
 #[derive(Clone, Copy)]
 pub enum Kind {
-    Token(TokenFact),
     Tokens(TokensFact),
     CheckedAny,
     Program(ProgramFact),
@@ -18,7 +17,7 @@ pub enum Kind {
     Unknown,
 }
 
-/// A fact of the token of an expression.
+/// A fact of the root of an expression's tokens.
 #[derive(Clone, Copy)]
 pub enum TokenFact {
     Depth,
@@ -33,9 +32,10 @@ pub enum TokenFact {
     Prefix,
 }
 
-/// A fact of tokens that are split, copied or checked.
+/// A fact of tokens: of their root, or after they are split, copied or checked.
 #[derive(Clone, Copy)]
 pub enum TokensFact {
+    Root(TokenFact),
     Alternatives,
     Copies,
     Owned,
@@ -70,7 +70,6 @@ pub enum SetFact {
     Matcher,
     Facts,
     Length,
-    NestedLength,
     Empty,
     EmptyLength,
 }
@@ -219,16 +218,40 @@ static KINDS: &[(&str, usize, Kind)] = &[
     ("owned_glob", 2, Kind::Glob(GlobFact::Part(PartFact::Owned))),
     ("diagnosed", 1, Kind::Diagnosed),
     ("matcher_beside_run", 4, Kind::Matcher),
-    ("depth", 1, Kind::Token(TokenFact::Depth)),
-    ("root", 1, Kind::Token(TokenFact::Root)),
-    ("exhaustive", 1, Kind::Token(TokenFact::Exhaustive)),
-    ("size", 1, Kind::Token(TokenFact::Size)),
-    ("text", 1, Kind::Token(TokenFact::Text)),
-    ("casing", 1, Kind::Token(TokenFact::Casing)),
-    ("tokens", 1, Kind::Token(TokenFact::Tokens)),
-    ("components", 1, Kind::Token(TokenFact::Components)),
-    ("literals", 1, Kind::Token(TokenFact::Literals)),
-    ("token_prefix", 1, Kind::Token(TokenFact::Prefix)),
+    ("depth", 1, Kind::Tokens(TokensFact::Root(TokenFact::Depth))),
+    ("root", 1, Kind::Tokens(TokensFact::Root(TokenFact::Root))),
+    (
+        "exhaustive",
+        1,
+        Kind::Tokens(TokensFact::Root(TokenFact::Exhaustive)),
+    ),
+    ("size", 1, Kind::Tokens(TokensFact::Root(TokenFact::Size))),
+    ("text", 1, Kind::Tokens(TokensFact::Root(TokenFact::Text))),
+    (
+        "casing",
+        1,
+        Kind::Tokens(TokensFact::Root(TokenFact::Casing)),
+    ),
+    (
+        "tokens",
+        1,
+        Kind::Tokens(TokensFact::Root(TokenFact::Tokens)),
+    ),
+    (
+        "components",
+        1,
+        Kind::Tokens(TokensFact::Root(TokenFact::Components)),
+    ),
+    (
+        "literals",
+        1,
+        Kind::Tokens(TokensFact::Root(TokenFact::Literals)),
+    ),
+    (
+        "token_prefix",
+        1,
+        Kind::Tokens(TokensFact::Root(TokenFact::Prefix)),
+    ),
     (
         "token_alternatives",
         1,
@@ -269,7 +292,7 @@ static KINDS: &[(&str, usize, Kind)] = &[
     ("set_matcher", 2, Kind::Set(SetFact::Matcher)),
     ("set_facts", 1, Kind::Set(SetFact::Facts)),
     ("set_length", 1, Kind::Set(SetFact::Length)),
-    ("nested_length", 1, Kind::Set(SetFact::NestedLength)),
+    ("nested_length", 1, Kind::Set(SetFact::Length)),
     ("empty_set", 1, Kind::Set(SetFact::Empty)),
     ("empty_length", 1, Kind::Set(SetFact::EmptyLength)),
     ("escape", 1, Kind::Path(PathFact::Escape)),

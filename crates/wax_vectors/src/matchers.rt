@@ -2,10 +2,10 @@
 //! texts.
 
 use crate::answer::Answer;
+use crate::programs::compiled;
 use crate::row::Row;
 use std::alloc::{AllocError, Global};
-use wax::encode::{CompiledProgram, Matcher, Meter, compile, run};
-use wax::token::{ExpressionMetadata, Tokenized, parse};
+use wax::encode::{CompiledProgram, Matcher, Meter, run};
 use wax::{BuildMatcher, CandidatePath, NoMemory, PathMatcher};
 
 /// Letters of words and of texts. One of them isn't ASCII.
@@ -121,19 +121,7 @@ fn number_at(row: &Row, index: usize) -> u64 {
 }
 
 fn compare(alloc: Global, expression: &str, row: &Row, draws: &mut Draws) -> Result<u64, NoMemory> {
-    match parse(alloc, expression) {
-        Ok(tokens) => compare_tokens(alloc, &tokens, row, draws),
-        Err(_) => Err(NoMemory),
-    }
-}
-
-fn compare_tokens(
-    alloc: Global,
-    tokens: &Tokenized<'_, ExpressionMetadata>,
-    row: &Row,
-    draws: &mut Draws,
-) -> Result<u64, NoMemory> {
-    match compile(alloc, tokens.concatenation(), false, false) {
+    match compiled(alloc, expression) {
         Ok(program) => differing(alloc, &program, row, draws),
         Err(_) => Err(NoMemory),
     }

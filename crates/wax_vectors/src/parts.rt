@@ -21,89 +21,82 @@ pub fn answer(
     made: &mut Answer,
 ) -> Result<(), NoMemory> {
     match fact {
-        PartFact::Partition => add_partition(alloc, glob, made),
-        PartFact::Prefix => add_prefix(alloc, glob, made),
-        PartFact::RestOrEmpty => add_both(glob.partition_or_empty(alloc), made),
-        PartFact::RestOrTree => add_both(glob.partition_or_tree(alloc), made),
-        PartFact::Rest => add_rest(alloc, row, glob, made),
-        PartFact::Again => add_again(alloc, glob, made),
+        PartFact::Partition | PartFact::Prefix => add_partition(alloc, fact, glob, made),
         PartFact::Owned => add_owned(alloc, row, glob, made),
+        _ => match parts_of(alloc, fact, glob) {
+            Ok((prefix, rest)) => add_parts(alloc, fact, row, prefix.as_str(), &rest, made),
+            Err(error) => Err(error),
+        },
     }
 }
 
-/// Adds a prefix and a rest.
-fn add_both(
-    parts: Result<(String, Glob<'_>), NoMemory>,
+/// Adds the prefix, and then, unless only that is shown, the rest or that there is none.
+fn add_partition(
+    alloc: Global,
+    fact: PartFact,
+    glob: Glob<'_>,
     made: &mut Answer,
 ) -> Result<(), NoMemory> {
-    let Ok((prefix, rest)) = parts else {
-        return Err(NoMemory);
-    };
-    made.add(prefix.as_str());
-    made.tab();
-    made.show(&rest);
-    Ok(())
-}
-
-/// Adds the prefix and the rest, or that there is no rest.
-fn add_partition(alloc: Global, glob: Glob<'_>, made: &mut Answer) -> Result<(), NoMemory> {
     let Ok((prefix, rest)) = glob.partition(alloc) else {
         return Err(NoMemory);
     };
     made.add(prefix.as_str());
-    match &rest {
-        Some(rest) => {
+    match (fact, &rest) {
+        (PartFact::Prefix, _) => {}
+        (_, Some(rest)) => {
             made.add("\trest ");
             made.show(rest);
         }
-        None => made.add("\tno rest"),
+        (_, None) => made.add("\tno rest"),
     }
     Ok(())
 }
 
-/// Adds the prefix.
-fn add_prefix(alloc: Global, glob: Glob<'_>, made: &mut Answer) -> Result<(), NoMemory> {
-    let Ok((prefix, _rest)) = glob.partition(alloc) else {
-        return Err(NoMemory);
-    };
-    made.add(prefix.as_str());
+/// Returns the prefix and the rest of the glob, or for `Again` those of its rest.
+fn parts_of<'t>(
+    alloc: Global,
+    fact: PartFact,
+    glob: Glob<'t>,
+) -> Result<(String, Glob<'t>), NoMemory> {
+    match fact {
+        PartFact::RestOrTree => glob.partition_or_tree(alloc),
+        PartFact::Again => match glob.partition_or_empty(alloc) {
+            Ok((_, rest)) => rest.partition_or_empty(alloc),
+            Err(error) => Err(error),
+        },
+        _ => glob.partition_or_empty(alloc),
+    }
+}
+
+/// Adds the prefix and the rest, or for `Rest` whether the rest matches the path.
+fn add_parts(
+    alloc: Global,
+    fact: PartFact,
+    row: &Row,
+    prefix: &str,
+    rest: &Glob<'_>,
+    made: &mut Answer,
+) -> Result<(), NoMemory> {
+    if let PartFact::Rest = fact {
+        return add_is_match(alloc, rest, row.input(1), made);
+    }
+    made.add(prefix);
+    made.tab();
+    made.show(rest);
     Ok(())
-}
-
-/// Adds whether the rest matches the path.
-fn add_rest(alloc: Global, row: &Row, glob: Glob<'_>, made: &mut Answer) -> Result<(), NoMemory> {
-    let Ok((_prefix, rest)) = glob.partition_or_empty(alloc) else {
-        return Err(NoMemory);
-    };
-    add_is_match(alloc, &rest, row.input(1), made)
-}
-
-/// Partitions the rest once more, and adds its prefix and its rest.
-fn add_again(alloc: Global, glob: Glob<'_>, made: &mut Answer) -> Result<(), NoMemory> {
-    let Ok((_prefix, rest)) = glob.partition_or_empty(alloc) else {
-        return Err(NoMemory);
-    };
-    add_both(rest.partition_or_empty(alloc), made)
 }
 
 /// Adds whether the glob matches the path once it owns its texts, and its expression.
 fn add_owned(alloc: Global, row: &Row, glob: Glob<'_>, made: &mut Answer) -> Result<(), NoMemory> {
-    let Ok(owned) = glob.into_owned(alloc) else {
-        return Err(NoMemory);
-    };
-    add_expression(alloc, row, &owned, made)
-}
-
-fn add_expression(
-    alloc: Global,
-    row: &Row,
-    owned: &Glob<'_>,
-    made: &mut Answer,
-) -> Result<(), NoMemory> {
-    add_is_match(alloc, owned, row.input(1), made)?;
-    made.tab();
-    made.add(owned.expression());
-    Ok(())
+    match glob.into_owned(alloc) {
+        Ok(owned) => {
+            let added = add_is_match(alloc, &owned, row.input(1), made);
+            made.tab();
+            made.add(owned.expression());
+            added
+        }
+        Err(error) => Err(error),
+    }
 }
 
 /// Builds a glob with its warnings. Adds what it prints, and how many warnings there are.

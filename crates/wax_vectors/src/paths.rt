@@ -16,31 +16,13 @@ use wax::{CandidatePath, Glob, NoMemory, escape, is_contextual_meta_character, i
 pub fn answer(alloc: Global, fact: PathFact, row: &Row, made: &mut Answer) -> Result<(), NoMemory> {
     let text = row.input(0);
     match fact {
-        PathFact::Escape => add_escaped(alloc, text, made),
-        PathFact::Folded => add_folded(alloc, text, row.input(1), made),
-        PathFact::Meta => {
-            add_meta(text, made);
-            Ok(())
-        }
-        PathFact::Copies => add_copies(alloc, row, made),
-        PathFact::EmptyGlob => add_glob(alloc, Glob::empty(alloc), text, made),
-        PathFact::TreeGlob => add_glob(alloc, Glob::tree(alloc), text, made),
+        PathFact::Escape => made.add(&escape(alloc, text)?),
+        PathFact::Folded => made.digit(case_folded_eq(alloc, text, row.input(1))?),
+        PathFact::Meta => add_meta(text, made),
+        PathFact::Copies => add_copies(alloc, row, made)?,
+        PathFact::EmptyGlob => add_glob(alloc, Glob::empty(alloc), text, made)?,
+        PathFact::TreeGlob => add_glob(alloc, Glob::tree(alloc), text, made)?,
     }
-}
-
-fn add_escaped(alloc: Global, text: &str, made: &mut Answer) -> Result<(), NoMemory> {
-    match escape(alloc, text) {
-        Ok(escaped) => {
-            made.add(&escaped);
-            Ok(())
-        }
-        Err(error) => Err(error),
-    }
-}
-
-/// Adds whether the texts differ only in case.
-fn add_folded(alloc: Global, left: &str, right: &str, made: &mut Answer) -> Result<(), NoMemory> {
-    made.digit(case_folded_eq(alloc, left, right)?);
     Ok(())
 }
 

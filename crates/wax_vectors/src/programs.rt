@@ -6,8 +6,8 @@ use crate::answers::add_within;
 use crate::kinds::ProgramFact;
 use crate::row::Row;
 use std::alloc::Global;
-use wax::encode::{CompiledProgram, Meter, compile, run};
-use wax::token::{ExpressionMetadata, Tokenized, parse};
+use wax::encode::{CompileError, CompiledProgram, Meter, compile, run};
+use wax::token::parse;
 use wax::{NoMemory, Refusal};
 
 /// Adds a fact of the program of an expression.
@@ -21,26 +21,26 @@ pub fn answer(
     row: &Row,
     made: &mut Answer,
 ) -> Result<(), NoMemory> {
-    match parse(alloc, row.input(0)) {
-        Ok(tokens) => of_tokens(alloc, fact, row, &tokens, made),
-        Err(_) => Err(NoMemory),
-    }
-}
-
-fn of_tokens(
-    alloc: Global,
-    fact: ProgramFact,
-    row: &Row,
-    tokens: &Tokenized<'_, ExpressionMetadata>,
-    made: &mut Answer,
-) -> Result<(), NoMemory> {
-    match compile(alloc, tokens.concatenation(), false, false) {
+    match compiled(alloc, row.input(0)) {
         Ok(program) => of_program(alloc, fact, row, &program, made),
         Err(Refusal::Memory) => Err(NoMemory),
         Err(Refusal::Refused(error)) => {
             made.show(&error);
             Ok(())
         }
+    }
+}
+
+/// Compiles an expression, which needn't keep the rules.
+///
+/// # Errors
+///
+/// Returns an error if the program is too long, and `Refusal::Memory` if allocation fails or the
+/// expression can't be parsed.
+pub fn compiled(alloc: Global, expression: &str) -> Result<CompiledProgram, Refusal<CompileError>> {
+    match parse(alloc, expression) {
+        Ok(tokens) => compile(alloc, tokens.concatenation(), false, false),
+        Err(_) => Err(Refusal::Memory),
     }
 }
 

@@ -25,55 +25,37 @@ pub fn answer(
     match fact {
         GlobFact::Builds => made.show(&error.number()),
         GlobFact::Accept => add_span(error, made),
-        GlobFact::Labels => return add_rule_labels(alloc, error, made),
-        GlobFact::ErrorLabels => return add_error_labels(alloc, error, made),
+        GlobFact::Labels => add_rule_labels(alloc, error, made)?,
+        GlobFact::ErrorLabels => {
+            made.show(&error.number());
+            add_labels(&error.labels(alloc)?, made);
+        }
         GlobFact::Location => add_location(error, made),
         GlobFact::Error => made.show(error),
-        GlobFact::Picture => return add_picture(alloc, row.input(0), error, made),
+        GlobFact::Picture => {
+            made.show(error);
+            made.add("\n");
+            made.add(error.picture(alloc, row.input(0))?.as_str());
+        }
         GlobFact::IsMatch | GlobFact::Match | GlobFact::Visits => made.add("?"),
         _ => made.add("not built"),
     }
     Ok(())
 }
 
-/// Adds the message of the error, and its picture.
-fn add_picture(
-    alloc: Global,
-    expression: &str,
-    error: &BuildError,
-    made: &mut Answer,
-) -> Result<(), NoMemory> {
-    made.show(error);
-    made.add("\n");
-    made.add(error.picture(alloc, expression)?.as_str());
-    Ok(())
-}
-
-/// Adds the number of the error, and each label.
-fn add_error_labels(alloc: Global, error: &BuildError, made: &mut Answer) -> Result<(), NoMemory> {
-    made.show(&error.number());
-    add_labels(&error.labels(alloc)?, made);
-    Ok(())
-}
-
-/// Returns the span of the error, if a rule is broken.
-fn rule_span(error: &BuildError) -> Option<Span> {
-    let BuildError::Rule(broken) = error else {
-        return None;
-    };
-    Some(broken.locations().first()?.span())
-}
-
 /// Adds the number of the error, and its start and length if a rule is broken.
 fn add_span(error: &BuildError, made: &mut Answer) {
     made.show(&error.number());
-    let Some((start, len)) = rule_span(error) else {
+    let BuildError::Rule(broken) = error else {
         return made.add("\t-\t-");
     };
-    made.tab();
-    made.show(&start);
-    made.tab();
-    made.show(&len);
+    if let Some(place) = broken.locations().first() {
+        let (start, len) = place.span();
+        made.tab();
+        made.show(&start);
+        made.tab();
+        made.show(&len);
+    }
 }
 
 /// Adds the number of the error, and each label if a rule is broken.

@@ -6,7 +6,7 @@ use crate::globs::{add_facts, add_is_match, add_match};
 use crate::kinds::SetFact;
 use crate::matchers::add_answers;
 use crate::row::Row;
-use std::alloc::Global;
+use std::alloc::{AllocError, Global};
 use wax::encode::compile;
 use wax::rule::Checked;
 use wax::token::{ExpressionMetadata, Token};
@@ -23,7 +23,10 @@ type Part = Checked<Token<'static, ExpressionMetadata>>;
 /// Returns `NoMemory` if allocation fails, or if the program of the set is too long.
 pub fn answer(alloc: Global, fact: SetFact, row: &Row, made: &mut Answer) -> Result<(), NoMemory> {
     match built(alloc, fact, row.input(0)) {
-        Ok(set) => of_set(alloc, fact, row, set, made),
+        Ok(set) => match fact {
+            SetFact::Length | SetFact::EmptyLength => add_length(alloc, set, made),
+            _ => of_set(alloc, fact, row, &set, made),
+        },
         Err(error) => add_error(&error, made),
     }
 }
@@ -33,7 +36,6 @@ fn built(alloc: Global, fact: SetFact, patterns: &str) -> Result<Set, BuildError
         SetFact::Sets | SetFact::SetsIsMatch => set_of_sets(alloc, patterns),
         SetFact::Globs => set_of_globs(alloc, patterns),
         SetFact::Length => set_of_parts(alloc, patterns),
-        SetFact::NestedLength => set_of_set(alloc, patterns),
         SetFact::Empty | SetFact::EmptyLength => set_of_none(alloc),
         SetFact::Patterns | SetFact::Match | SetFact::IsMatch | SetFact::Matcher | SetFact::Facts =>
             set_of(alloc, patterns),
@@ -49,21 +51,6 @@ fn add_error(error: &BuildError, made: &mut Answer) -> Result<(), NoMemory> {
 }
 
 fn of_set(
-    alloc: Global,
-    fact: SetFact,
-    row: &Row,
-    set: Set,
-    made: &mut Answer,
-) -> Result<(), NoMemory> {
-    match fact {
-        SetFact::Length | SetFact::NestedLength | SetFact::EmptyLength => {
-            add_length(alloc, set, made)
-        }
-        _ => of_lent(alloc, fact, row, &set, made),
-    }
-}
-
-fn of_lent(
     alloc: Global,
     fact: SetFact,
     row: &Row,
@@ -89,11 +76,14 @@ fn of_lent(
 
 /// Builds a set of expressions.
 fn set_of(alloc: Global, patterns: &str) -> Result<Set, BuildError> {
-    let mut all = Vec::new(alloc);
-    for pattern in patterns.split(' ') {
-        push(&mut all, pattern)?;
+    match words(alloc, patterns) {
+        Ok(words) => any(alloc, words),
+        Err(_) => Err(BuildError::Memory),
     }
-    any(alloc, all)
+}
+
+fn words(alloc: Global, patterns: &str) -> Result<Vec<&str>, AllocError> {
+    patterns.split(' ').collect(alloc)
 }
 
 fn set_of_none(alloc: Global) -> Result<Set, BuildError> {
@@ -135,9 +125,15 @@ fn set_of_sets(alloc: Global, sets: &str) -> Result<Set, BuildError> {
     any(alloc, all)
 }
 
-/// Builds a set of the checked tokens of patterns.
+/// Builds a set of the checked tokens of a set, if a semicolon is after it, and of those of each
+/// pattern that isn't in it.
 fn set_of_parts(alloc: Global, patterns: &str) -> Result<Set, BuildError> {
     let mut parts: Vec<Part> = Vec::new(alloc);
+    let mut patterns = patterns;
+    if let Some((set, others)) = patterns.split_once(';') {
+        push_part(&mut parts, checked_set(alloc, set))?;
+        patterns = others;
+    }
     for pattern in patterns.split(' ') {
         push_part(&mut parts, pattern.into_checked(alloc))?;
     }
@@ -149,16 +145,6 @@ fn push_part(parts: &mut Vec<Part>, part: Result<Part, BuildError>) -> Result<()
         Ok(part) => Ok(push(parts, part)?),
         Err(error) => Err(error),
     }
-}
-
-/// Builds a set of the checked tokens of a set, before the semicolon, and those of the pattern
-/// after it.
-fn set_of_set(alloc: Global, patterns: &str) -> Result<Set, BuildError> {
-    let (set, pattern) = patterns.split_once(';').unwrap_or((patterns, ""));
-    let mut parts: Vec<Part> = Vec::new(alloc);
-    push_part(&mut parts, checked_set(alloc, set))?;
-    push_part(&mut parts, pattern.into_checked(alloc))?;
-    any(alloc, parts)
 }
 
 fn checked_set(alloc: Global, patterns: &str) -> Result<Part, BuildError> {

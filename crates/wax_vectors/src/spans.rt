@@ -44,30 +44,19 @@ pub fn answer(
 ) -> Result<(), NoMemory> {
     let span = span_of(row.input(0));
     match fact {
-        SpansFact::Union => add_span(span.union(span_of(row.input(1))), made),
+        SpansFact::Union => match span.union(span_of(row.input(1))) {
+            Some(span) => made.span(span),
+            None => made.add("none"),
+        },
         SpansFact::Piece => add_piece(span, made),
-        SpansFact::BranchLabels => return add_branch(alloc, row, made),
+        SpansFact::BranchLabels => add_branch(alloc, row, made)?,
         SpansFact::PlaceLabels => {
-            return add_composite(alloc, &CompositeSpan::spanned("here", span), made);
+            add_labels(&CompositeSpan::spanned("here", span).labels(alloc)?, made)
         }
-        SpansFact::SpanLabels => return add_correlated(alloc, &CorrelatedSpan::from(span), made),
-        SpansFact::SplitLabels => return add_correlated(alloc, &split(row, 0), made),
+        SpansFact::SpanLabels => add_labels(&CorrelatedSpan::from(span).labels(alloc)?, made),
+        SpansFact::SplitLabels => add_labels(&split(row, 0).labels(alloc)?, made),
         SpansFact::PrintedRefusals => add_printed(made),
     }
-    Ok(())
-}
-
-fn add_composite(alloc: Global, place: &CompositeSpan, made: &mut Answer) -> Result<(), NoMemory> {
-    add_labels(&place.labels(alloc)?, made);
-    Ok(())
-}
-
-fn add_correlated(
-    alloc: Global,
-    place: &CorrelatedSpan,
-    made: &mut Answer,
-) -> Result<(), NoMemory> {
-    add_labels(&place.labels(alloc)?, made);
     Ok(())
 }
 
@@ -91,13 +80,6 @@ fn split(row: &Row, index: usize) -> CorrelatedSpan {
     CorrelatedSpan::split_some(left, right)
 }
 
-fn add_span(span: Option<Span>, made: &mut Answer) {
-    match span {
-        Some(span) => made.span(span),
-        None => made.add("none"),
-    }
-}
-
 /// Sets the start of a piece to 5, and adds its span; halves the start, and adds its span and its
 /// size.
 fn add_piece(span: Span, made: &mut Answer) {
@@ -118,7 +100,8 @@ fn add_branch(alloc: Global, row: &Row, made: &mut Answer) -> Result<(), NoMemor
     made.span(branch.span());
     made.tab();
     made.show(&branch);
-    add_composite(alloc, &branch, made)
+    add_labels(&branch.labels(alloc)?, made);
+    Ok(())
 }
 
 /// Adds what an error with a reason prints, what `NoMemory` prints, and whether that has no place.

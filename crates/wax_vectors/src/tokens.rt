@@ -8,47 +8,19 @@ use crate::row::Row;
 use std::alloc::Global;
 use std::fmt::Debug;
 use wax::token::{
-    Component, ExpressionMetadata, LeafKind, ParseError, Token, TokenFacts, Tokenized, Topology,
-    components, depth, into_alternatives, literals, parse, size,
+    Component, ExpressionMetadata, LeafKind, Token, TokenFacts, Tokenized, Topology, components,
+    depth, into_alternatives, literals, parse, size,
 };
 use wax::{NoMemory, Refusal};
 
 type Tokens<'t> = Tokenized<'t, ExpressionMetadata>;
 
-/// Adds a fact of the expression's token.
-///
-/// # Errors
-///
-/// Returns `NoMemory` if allocation fails.
-pub fn answer(
-    alloc: Global,
-    fact: TokenFact,
-    row: &Row,
-    made: &mut Answer,
-) -> Result<(), NoMemory> {
-    match parse(alloc, row.input(0)) {
-        Ok(tokens) => of_token(alloc, fact, tokens.as_token(), made),
-        Err(refusal) => add_refusal(&refusal, made),
-    }
-}
-
-/// Adds that the expression can't be parsed.
-fn add_refusal(refusal: &Refusal<ParseError>, made: &mut Answer) -> Result<(), NoMemory> {
-    match refusal {
-        Refusal::Memory => Err(NoMemory),
-        Refusal::Refused(_) => {
-            made.add("not parsed");
-            Ok(())
-        }
-    }
-}
-
-/// Adds a fact of the expression's tokens, which are split, copied or checked.
+/// Adds a fact of the expression's tokens.
 ///
 /// # Errors
 ///
 /// Returns `NoMemory` if allocation fails, or if another expression of the row can't be parsed.
-pub fn answer_whole(
+pub fn answer(
     alloc: Global,
     fact: TokensFact,
     row: &Row,
@@ -56,7 +28,11 @@ pub fn answer_whole(
 ) -> Result<(), NoMemory> {
     match parse(alloc, row.input(0)) {
         Ok(tokens) => of_tokens(alloc, fact, row, tokens, made),
-        Err(refusal) => add_refusal(&refusal, made),
+        Err(Refusal::Memory) => Err(NoMemory),
+        Err(Refusal::Refused(_)) => {
+            made.add("not parsed");
+            Ok(())
+        }
     }
 }
 
@@ -68,10 +44,13 @@ fn of_tokens(
     made: &mut Answer,
 ) -> Result<(), NoMemory> {
     match fact {
+        TokensFact::Root(fact) => of_token(alloc, fact, tokens.as_token(), made),
         TokensFact::Alternatives => add_alternatives(alloc, tokens, made),
-        TokensFact::Owned => add_owned(alloc, tokens, made),
-        TokensFact::Copies => add_copies(alloc, row, tokens, made),
         TokensFact::Checked(fact) => checked::answer(alloc, fact, tokens, made),
+        TokensFact::Owned | TokensFact::Copies => match tokens.into_owned(alloc) {
+            Ok(owned) => of_owned(alloc, fact, row, &owned, made),
+            Err(error) => Err(error),
+        },
     }
 }
 
@@ -87,24 +66,14 @@ fn of_token(
         TokenFact::Exhaustive => made.add(when(token.is_exhaustive())),
         TokenFact::Casing => add_casing(token, made),
         TokenFact::Tokens => add_tokens(token, made),
-        TokenFact::Size => return add_size(alloc, token, made),
-        TokenFact::Text => return add_text(alloc, token, made),
-        TokenFact::Components => return add_components(alloc, token, made),
-        TokenFact::Literals => return add_literals(alloc, token, made),
-        TokenFact::Prefix => return add_prefix(alloc, token, made),
-    }
-    Ok(())
-}
-
-/// Adds the fixed size of the token in bytes, if it has one.
-fn add_size(
-    alloc: Global,
-    token: &Token<'_, ExpressionMetadata>,
-    made: &mut Answer,
-) -> Result<(), NoMemory> {
-    match size(alloc, token)? {
-        Some(size) => made.show(&size),
-        None => made.add("varies"),
+        TokenFact::Size => match size(alloc, token)? {
+            Some(size) => made.show(&size),
+            None => made.add("varies"),
+        },
+        TokenFact::Text => add_text(alloc, token, made)?,
+        TokenFact::Components => add_components(alloc, token, made)?,
+        TokenFact::Literals => add_literals(alloc, token, made)?,
+        TokenFact::Prefix => add_prefix(alloc, token, made)?,
     }
     Ok(())
 }
@@ -235,15 +204,21 @@ fn add_alternatives(alloc: Global, tokens: Tokens<'_>, made: &mut Answer) -> Res
     add_texts(alloc, &alternatives, made)
 }
 
-/// Adds the expression, its number of tokens, and its only text, once the tokens own their texts.
-fn add_owned(alloc: Global, tokens: Tokens<'_>, made: &mut Answer) -> Result<(), NoMemory> {
-    match tokens.into_owned(alloc) {
-        Ok(owned) => add_whole(alloc, &owned, made),
-        Err(error) => Err(error),
+/// Adds the expression, its number of tokens, and its only text; or for `Copies` how copies compare
+/// with the tokens.
+fn of_owned(
+    alloc: Global,
+    fact: TokensFact,
+    row: &Row,
+    tokens: &Tokens<'static>,
+    made: &mut Answer,
+) -> Result<(), NoMemory> {
+    if let TokensFact::Copies = fact {
+        return match tokens.to_owned(alloc) {
+            Ok(copy) => add_comparisons(alloc, row.input(1), &copy, tokens, made),
+            Err(error) => Err(error),
+        };
     }
-}
-
-fn add_whole(alloc: Global, tokens: &Tokens<'_>, made: &mut Answer) -> Result<(), NoMemory> {
     made.add(tokens.expression());
     made.tab();
     made.show(&tokens.concatenation().len());
@@ -253,30 +228,6 @@ fn add_whole(alloc: Global, tokens: &Tokens<'_>, made: &mut Answer) -> Result<()
 
 /// Adds whether a copy equals the tokens, whether those of the row's other expression do, whether
 /// the copy prints as they do, and whether a copy of the root token equals it.
-fn add_copies(
-    alloc: Global,
-    row: &Row,
-    tokens: Tokens<'_>,
-    made: &mut Answer,
-) -> Result<(), NoMemory> {
-    match tokens.into_owned(alloc) {
-        Ok(owned) => add_copy(alloc, row.input(1), &owned, made),
-        Err(error) => Err(error),
-    }
-}
-
-fn add_copy(
-    alloc: Global,
-    other: &str,
-    tokens: &Tokens<'static>,
-    made: &mut Answer,
-) -> Result<(), NoMemory> {
-    match tokens.to_owned(alloc) {
-        Ok(copy) => add_comparisons(alloc, other, &copy, tokens, made),
-        Err(error) => Err(error),
-    }
-}
-
 fn add_comparisons(
     alloc: Global,
     other: &str,
