@@ -19,16 +19,14 @@ pub fn push(rt: &HostRuntime, row: Row<'_>, text: &mut String) -> Result<(), Una
     match row.field(1) {
         "nowhere" => {
             let tally = Tally::none();
-            push_calls(alloc, &mut Nowhere { tally }, calls, text)?;
+            Ok(push_calls(alloc, &mut Nowhere { tally }, calls, text)?)
         }
-        "system" => {
-            let Ok(()) = push_system(rt, calls, text) else {
-                return Err(Unanswered::NotBuilt);
-            };
-        }
-        _ => push_tree(alloc, row, text)?,
+        "system" => match push_system(rt, calls, text) {
+            Ok(()) => Ok(()),
+            Err(_) => Err(Unanswered::NotBuilt),
+        },
+        _ => push_tree(alloc, row, text),
     }
-    Ok(())
 }
 
 fn push_tree(alloc: Global, row: Row<'_>, text: &mut String) -> Result<(), Unanswered> {
@@ -72,34 +70,17 @@ fn push_call<D: Directory>(
         text.push_str("; ")?;
     }
     match parted(call) {
-        ("open", path) => push_opened(alloc, directory, path, text),
         ("items", path) => push_items(alloc, directory, path, text),
         ("list", path) => push_list(alloc, directory, path, text),
-        (_, path) => push_kind(alloc, directory, path, text),
-    }
-}
-
-/// Appends what is at the path, and how often nothing was there and how often a call failed so far.
-fn push_kind<D: Directory>(
-    alloc: Global,
-    directory: &mut D,
-    path: &str,
-    text: &mut String,
-) -> Result<(), AllocError> {
-    let kind = directory.kind(alloc, path);
-    let (misses, failures) = (directory.misses(), directory.failures());
-    text.push_str(format!(in alloc; "{kind:?} {misses} {failures}")?.as_str())
-}
-
-fn push_opened<D: Directory>(
-    alloc: Global,
-    directory: &mut D,
-    path: &str,
-    text: &mut String,
-) -> Result<(), AllocError> {
-    match directory.open(alloc, path) {
-        Ok(_) => text.push_str("opened"),
-        Err(fault) => text.push_str(format!(in alloc; "{fault:?}")?.as_str()),
+        ("open", path) => match directory.open(alloc, path) {
+            Ok(_) => text.push_str("opened"),
+            Err(fault) => text.push_str(format!(in alloc; "{fault:?}")?.as_str()),
+        },
+        (_, path) => {
+            let kind = directory.kind(alloc, path);
+            let (misses, failures) = (directory.misses(), directory.failures());
+            text.push_str(format!(in alloc; "{kind:?} {misses} {failures}")?.as_str())
+        }
     }
 }
 
@@ -161,16 +142,18 @@ fn twice(alloc: Global) -> Result<Node, AllocError> {
 /// Returns `Unanswered::Memory` if allocation fails, and `Unanswered::NotBuilt` if something in the
 /// row has an error.
 pub fn push_nodes(alloc: Global, text: &mut String) -> Result<(), Unanswered> {
-    push_copied(alloc, &twice(alloc)?, text)?;
-    let tree = Tree::new(alloc, twice(alloc)?, Node::File);
-    let is_refused = matches!(tree, Err(Refusal::Refused(_)));
-    text.push_str(if is_refused { "true" } else { "false" })?;
-    Ok(())
+    match twice(alloc) {
+        Ok(node) => push_node(alloc, node, text),
+        Err(error) => Err(Unanswered::from(error)),
+    }
 }
 
-fn push_copied(alloc: Global, node: &Node, text: &mut String) -> Result<(), Unanswered> {
-    let copy = node.try_clone(alloc)?;
-    let (is_same, is_file) = (copy == *node, copy == Node::File);
-    text.push_str(format!(in alloc; "{is_same} {is_file} ")?.as_str())?;
+fn push_node(alloc: Global, node: Node, text: &mut String) -> Result<(), Unanswered> {
+    let (is_same, is_file) = match node.try_clone(alloc) {
+        Ok(copy) => (copy == node, copy == Node::File),
+        Err(error) => return Err(Unanswered::from(error)),
+    };
+    let is_refused = matches!(Tree::new(alloc, node, Node::File), Err(Refusal::Refused(_)));
+    text.push_str(format!(in alloc; "{is_same} {is_file} {is_refused}")?.as_str())?;
     Ok(())
 }

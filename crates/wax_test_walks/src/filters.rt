@@ -1,9 +1,9 @@
-//! The rules that exclude entries from walks.
+//! The rules and sets that exclude entries from walks.
 
-use crate::row::{Row, Unanswered, list_of, number, residue_of};
+use crate::row::{Row, Unanswered, list_of, number, residue_of, words};
 use std::alloc::Global;
-use wax::NoMemory;
 use wax::walk::{Entry, EntryResidue, Exclude, Exclusion, IgnoreList, exclusion_of};
+use wax::{Any, NoMemory, any};
 
 /// One rule of a row.
 #[derive(Drop)]
@@ -63,6 +63,19 @@ pub fn filter_of(alloc: Global, row: Row<'_>, index: usize) -> Result<Filter, Un
 fn exclusion(alloc: Global, pattern: &str) -> Result<Exclusion, Unanswered> {
     match exclusion_of(alloc, pattern) {
         Ok(exclusion) => Ok(exclusion),
+        Err(_) => Err(Unanswered::NotBuilt),
+    }
+}
+
+/// Builds the set of patterns with spaces between them.
+///
+/// # Errors
+///
+/// Returns `Unanswered::Memory` if allocation fails, and `Unanswered::NotBuilt` if a pattern has an
+/// error.
+pub fn set_of(alloc: Global, patterns: &str) -> Result<Any<'static>, Unanswered> {
+    match any(alloc, words(alloc, patterns)?) {
+        Ok(set) => Ok(set),
         Err(_) => Err(Unanswered::NotBuilt),
     }
 }

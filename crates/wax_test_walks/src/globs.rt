@@ -3,6 +3,7 @@
 ghost use Rattle.std.specs.Iterator.{IsFinite};
 
 use crate::faults::Directories;
+use crate::kinds::Kind;
 use crate::row::{Row, Unanswered, behavior_of, push_gap};
 use crate::stacked;
 use std::alloc::Global;
@@ -29,8 +30,7 @@ fn push_glob(
     glob: &Glob<'_>,
     text: &mut String,
 ) -> Result<(), Unanswered> {
-    let directory = row.directory(alloc)?;
-    push_walk(alloc, row, glob, directory, text)?;
+    push_walk(alloc, row, glob, row.directory(alloc)?, text)?;
     let Some(path) = row.option("then") else {
         return Ok(());
     };
@@ -71,13 +71,13 @@ where
     requires can { I.can_feed walk }
     requires ends { IsFinite (I.left walk) }
 {
-    if row.kind() != "captured" {
+    let Kind::Captured = row.kind else {
         return stacked::push(alloc, row, walk, text);
-    }
-    let Ok((items, _)) = collect(alloc, walk) else {
-        return Err(Unanswered::Memory);
     };
-    push_all_captured(text, items.as_slice())
+    match collect(alloc, walk) {
+        Ok((items, _)) => push_all_captured(text, items.as_slice()),
+        Err(_) => Err(Unanswered::Memory),
+    }
 }
 
 fn push_all_captured(

@@ -4,13 +4,13 @@
 //! without its answer, and is printed with it.
 #![tactic(auto)]
 
-mod called;
 mod depths;
 mod directories;
 mod draws;
 mod faults;
 mod filters;
 mod globs;
+mod kinds;
 mod lists;
 mod nowhere;
 mod plain;
@@ -20,6 +20,7 @@ mod separations;
 mod stacked;
 mod walked;
 
+use crate::kinds::Kind;
 use crate::row::{Row, Unanswered};
 use std::{env, fs, io};
 
@@ -44,7 +45,7 @@ fn compare(rt: &HostRuntime, name: &str) -> io::Result<()> {
         if line.is_empty() || line.starts_with("# ") {
             continue;
         }
-        if is_same(rt, Row { line })? {
+        if is_same(rt, Row::read(line))? {
             same = same.saturating_add(1);
         } else {
             other = other.saturating_add(1);
@@ -65,7 +66,7 @@ fn is_same(rt: &HostRuntime, row: Row<'_>) -> io::Result<bool> {
 
 /// Prints a row with its answer.
 fn show(rt: &HostRuntime, line: &str) -> io::Result<()> {
-    let made = made(rt, Row { line })?;
+    let made = made(rt, Row::read(line))?;
     println!(rt; "{line}\t{made}")
 }
 
@@ -82,13 +83,13 @@ fn made(rt: &HostRuntime, row: Row<'_>) -> io::Result<String> {
 
 fn push_answer(rt: &HostRuntime, row: Row<'_>, text: &mut String) -> Result<(), Unanswered> {
     let alloc = rt.alloc();
-    match row.kind() {
-        "depth" => depths::push(alloc, row.field(1), text),
-        "list" => lists::push_error(alloc, row.field(1), text),
-        "ignores" => lists::push_ignored(alloc, row.field(1), row.field(2), text),
-        "random" => random::push(alloc, row.field(1), text),
-        "nodes" => directories::push_nodes(alloc, text),
-        "ask" => directories::push(rt, row, text),
+    match row.kind {
+        Kind::Depth => depths::push(alloc, row.field(1), text),
+        Kind::List => lists::push_error(alloc, row.field(1), text),
+        Kind::Ignores => lists::push_ignored(alloc, row.field(1), row.field(2), text),
+        Kind::Random => random::push(alloc, row.field(1), text),
+        Kind::Nodes => directories::push_nodes(alloc, text),
+        Kind::Ask => directories::push(rt, row, text),
         _ if row.is_plain() => plain::push(alloc, row, text),
         _ => globs::push(alloc, row, text),
     }

@@ -1,9 +1,10 @@
 //! Plain walks.
 
 use crate::faults::Directories;
+use crate::kinds::{Kind, Shown};
 use crate::row::{Row, Unanswered, behavior_of, list_of};
 use crate::stacked;
-use crate::walked::{push_directory, push_item, push_items};
+use crate::walked::{push_counts, push_item, push_whole};
 use std::alloc::{AllocError, Global};
 use wax::filter::CancelWalk;
 use wax::walk::{
@@ -18,9 +19,9 @@ use wax::walk::{
 /// Returns `Unanswered::Memory` if allocation fails, and `Unanswered::NotBuilt` if something in the
 /// row has an error.
 pub fn push(alloc: Global, row: Row<'_>, text: &mut String) -> Result<(), Unanswered> {
-    match row.kind() {
-        "entries" => push_entries(alloc, row, text),
-        "unignored" => push_unignored(alloc, row, text),
+    match row.kind {
+        Kind::Entries => push_entries(alloc, row, text),
+        Kind::Unignored => push_unignored(alloc, row, text),
         _ => match row.option("to") {
             Some(path) => push_to(alloc, row, names_of(alloc, path)?, text),
             None => push_from(alloc, row, row.directory(alloc)?, text),
@@ -66,11 +67,10 @@ fn push_walk(
     walk: WalkTree<Directories>,
     text: &mut String,
 ) -> Result<(), Unanswered> {
-    if row.kind() == "ends" {
-        push_ends(alloc, row, walk, text)
-    } else {
-        stacked::push(alloc, row, walk, text)
+    if let Kind::Ends = row.kind {
+        return push_ends(alloc, row, walk, text);
     }
+    stacked::push(alloc, row, walk, text)
 }
 
 /// Returns the names of a path, the last of them first.
@@ -95,12 +95,12 @@ fn push_ends(
             walk.cancel_walk_tree();
             walk.cancel_walk_tree();
         }
-        push_item(alloc, "ends", &item, text)?;
+        push_item(alloc, Shown::Path, &item, text)?;
     }
     for _ in 0..2u8 {
         match walk.next() {
             None => text.push('.')?,
-            Some(item) => push_item(alloc, "ends", &item, text)?,
+            Some(item) => push_item(alloc, Shown::Path, &item, text)?,
         }
     }
     Ok(())
@@ -117,8 +117,7 @@ fn push_entries(alloc: Global, row: Row<'_>, text: &mut String) -> Result<(), Un
     let behavior = behavior_of(row.range()).unwrap_or(WalkBehavior::default());
     let directory = row.directory(alloc)?;
     let (items, directory) = entries(alloc, directory, row.start(), behavior)?;
-    push_items(alloc, "entries", items.as_slice(), text)?;
-    push_directory(alloc, "entries", directory, text)
+    push_whole(alloc, Shown::Path, items.as_slice(), directory, text)
 }
 
 /// Appends how many entries a list doesn't ignore, and how many folders were listed.
@@ -141,6 +140,5 @@ fn push_entries_of(
     let Ok((items, directory)) = walked else {
         return Err(Unanswered::Memory);
     };
-    push_items(alloc, "count", items.as_slice(), text)?;
-    push_directory(alloc, "count", directory, text)
+    Ok(push_counts(alloc, items.len(), directory, text)?)
 }

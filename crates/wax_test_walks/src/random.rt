@@ -177,14 +177,11 @@ fn are_among(listed: &[String], whole: &[String]) -> bool {
 
 fn push_drawn(alloc: Global, drawn: &Drawn, text: &mut String) -> Result<(), AllocError> {
     let (expression, start, plan) = (&drawn.expression, drawn.start, &drawn.plan);
-    let walk = format!(in alloc; "\"{expression}\" from \"{start}\" in \"{plan}\"")?;
-    let (nots, list) = (&drawn.nots, &drawn.list);
-    let range = format!(in alloc;
-        ", {} to {}, not {nots:?}, ignore {list:?}; ",
-        drawn.range.min, drawn.range.max
+    let (nots, list, min, max) = (&drawn.nots, &drawn.list, drawn.range.min, drawn.range.max);
+    let line = format!(in alloc;
+        "\"{expression}\" from \"{start}\" in \"{plan}\", {min} to {max}, not {nots:?}, ignore {list:?}; "
     )?;
-    text.push_str(walk.as_str())?;
-    text.push_str(range.as_str())
+    text.push_str(line.as_str())
 }
 
 fn tree_of(alloc: Global, drawn: &Drawn) -> Result<Tree, Unanswered> {
@@ -333,15 +330,7 @@ fn decide_all(
     for not in drawn.nots.lines() {
         decide(alloc, not, Says::Excludes, candidates)?;
     }
-    decide_by_list(alloc, drawn.list.as_str(), candidates)
-}
-
-fn decide_by_list(
-    alloc: Global,
-    list: &str,
-    candidates: &mut [Candidate],
-) -> Result<(), Unanswered> {
-    for line in list.lines() {
+    for line in drawn.list.as_str().lines() {
         let (line, says) = match line.strip_prefix('!') {
             Some(line) => (line, Says::TakesBack),
             None => (line, Says::Ignores),

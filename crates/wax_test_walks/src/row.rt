@@ -1,6 +1,7 @@
 //! Rows and their fields.
 
 use crate::faults::Directories;
+use crate::kinds::{Kind, find};
 use std::alloc::{AllocError, Global};
 use wax::NoMemory;
 use wax::walk::{
@@ -33,6 +34,9 @@ impl From<AllocError> for Unanswered {
 #[derive(Clone, Copy)]
 pub struct Row<'r> {
     pub line: &'r str,
+    pub kind: Kind,
+    /// The number of fields between the kind and the answer.
+    inputs: usize,
 }
 
 /// Returns the first word of an option, and what follows it.
@@ -53,29 +57,21 @@ fn is_one_of(words: &str, word: &str) -> bool {
 }
 
 impl<'r> Row<'r> {
+    /// Reads a row from a line, with or without its answer.
+    pub fn read(line: &'r str) -> Self {
+        let (inputs, kind) = find(line.split('\t').next().unwrap_or(""));
+        Row { line, kind, inputs }
+    }
+
     /// Returns the field at the index, or an empty text.
     pub fn field(self, index: usize) -> &'r str {
         self.line.split('\t').nth(index).unwrap_or("")
     }
 
-    pub fn kind(self) -> &'r str {
-        self.field(0)
-    }
-
-    /// Returns how many fields are between the kind and the answer.
-    fn inputs(self) -> usize {
-        match self.kind() {
-            "depth" | "list" | "random" | "nodes" => 1,
-            "ignores" => 2,
-            "ask" => 3,
-            _ => 4,
-        }
-    }
-
     /// Returns whether the row's answer is `made`, or the first fields of `made`.
     pub fn has_answer(self, made: &str) -> bool {
         let mut wanted = self.line;
-        for _ in 0..=self.inputs() {
+        for _ in 0..=self.inputs {
             let Some((_, rest)) = wanted.split_once('\t') else {
                 return false;
             };
@@ -97,14 +93,14 @@ impl<'r> Row<'r> {
 
     /// Returns whether the row walks without a glob.
     pub fn is_plain(self) -> bool {
-        self.expression() == "-" || self.kind() == "matching"
+        self.expression() == "-" || matches!(self.kind, Kind::Matching)
     }
 
     /// Returns the option at the index among those that begin with one of the words. These have
     /// spaces between them.
     pub fn nth_option(self, words: &str, index: usize) -> Option<(&'r str, &'r str)> {
         let mut left = index;
-        for option in self.field(self.inputs()).split("; ") {
+        for option in self.field(self.inputs).split("; ") {
             let (word, argument) = parted(option);
             if is_one_of(words, word) {
                 if left == 0 {
@@ -216,11 +212,7 @@ fn tree_of_paths(alloc: Global, paths: &str) -> Result<Tree, Unanswered> {
 ///
 /// Returns `AllocError` if allocation fails.
 pub fn words(alloc: Global, text: &str) -> Result<Vec<&str>, AllocError> {
-    let mut all = Vec::new(alloc);
-    for word in text.split(' ') {
-        all.push(word)?;
-    }
-    Ok(all)
+    text.split(' ').collect(alloc)
 }
 
 /// Builds a folder of `count` files, whose names are numbers.

@@ -2,13 +2,15 @@
 
 ghost use Rattle.std.specs.Iterator.{IsFinite};
 
-use crate::called::push_called;
 use crate::faults::Directories;
-use crate::filters::{RULES, filter_of};
-use crate::row::{Row, Unanswered, residue_of};
+use crate::filters::{RULES, filter_of, set_of};
+use crate::row::{Row, Unanswered, list_of, parted, residue_of};
 use crate::walked;
 use std::alloc::Global;
-use wax::walk::{Entry, EntryResidue, FileIterator, TreeEntry};
+use wax::walk::{
+    Entry, EntryResidue, FileIterator, FileIteratorExt, TreeEntry, excluding_ignored,
+    excluding_pattern,
+};
 
 /// The options that are closures.
 const CLOSURES: &str = "file tree";
@@ -133,5 +135,59 @@ where
     match filter_of(alloc, row, 2) {
         Ok(filter) => walked::push(alloc, row, walk.excluding(alloc, filter), text),
         Err(error) => Err(error),
+    }
+}
+
+/// Filters the walk by one call, with a pattern, patterns or a list.
+fn push_called<I>(
+    alloc: Global,
+    row: Row<'_>,
+    walk: I,
+    call: &str,
+    text: &mut String,
+) -> Result<(), Unanswered>
+where
+    I: FileIterator<Directory = Directories>,
+    requires can { I.can_feed walk }
+    requires ends { IsFinite (I.left walk) }
+{
+    let (name, argument) = parted(call);
+    let built = match name {
+        "not" => walk.not(alloc, argument),
+        "excluding_pattern" => excluding_pattern(alloc, walk, argument),
+        "not_any" => match set_of(alloc, argument) {
+            Ok(set) => walk.not(alloc, set),
+            Err(error) => return Err(error),
+        },
+        _ => return push_ignored(alloc, row, walk, name, argument, text),
+    };
+    match built {
+        Ok(walk) => walked::push(alloc, row, walk, text),
+        Err(_) => Err(Unanswered::NotBuilt),
+    }
+}
+
+/// Filters the walk by a call with a list.
+fn push_ignored<I>(
+    alloc: Global,
+    row: Row<'_>,
+    walk: I,
+    call: &str,
+    list: &str,
+    text: &mut String,
+) -> Result<(), Unanswered>
+where
+    I: FileIterator<Directory = Directories>,
+    requires can { I.can_feed walk }
+    requires ends { IsFinite (I.left walk) }
+{
+    let list = match list_of(alloc, list) {
+        Ok(list) => list,
+        Err(error) => return Err(error),
+    };
+    match call {
+        "ignore" => walked::push(alloc, row, walk.ignore(alloc, list), text),
+        "excluding_ignored" => walked::push(alloc, row, excluding_ignored(alloc, walk, list), text),
+        _ => Err(Unanswered::NotBuilt),
     }
 }

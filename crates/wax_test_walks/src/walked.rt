@@ -3,6 +3,7 @@
 ghost use Rattle.std.specs.Iterator.{IsFinite};
 
 use crate::faults::Directories;
+use crate::kinds::{Kind, Shown};
 use crate::row::{Row, Unanswered, push_gap, push_quoted};
 use std::alloc::{AllocError, Global};
 use wax::filter::{Feed, Separation, TreeResidue};
@@ -25,40 +26,20 @@ where
     requires can { I.can_feed walk }
     requires ends { IsFinite (I.left walk) }
 {
-    match row.kind() {
-        "feed" => push_feed(alloc, walk, text),
-        "steps" => push_steps(alloc, walk, text),
-        "matching" => push_matching(alloc, row, walk, text),
-        kind => push_kept(alloc, kind, walk, text),
+    match row.kind {
+        Kind::Steps => push_steps(alloc, walk, text),
+        Kind::Feed => match collect_feed(alloc, walk) {
+            Ok((items, directory)) => {
+                push_feed(alloc, items.as_slice(), text)?;
+                push_directory(alloc, directory, text)
+            }
+            Err(_) => Err(Unanswered::Memory),
+        },
+        _ => match collect(alloc, walk) {
+            Ok((items, directory)) => push_kept(alloc, row, items.as_slice(), directory, text),
+            Err(_) => Err(Unanswered::Memory),
+        },
     }
-}
-
-fn push_kept<I>(alloc: Global, kind: &str, walk: I, text: &mut String) -> Result<(), Unanswered>
-where
-    I: FileIterator<Directory = Directories>,
-    requires can { I.can_feed walk }
-    requires ends { IsFinite (I.left walk) }
-{
-    let Ok((items, directory)) = collect(alloc, walk) else {
-        return Err(Unanswered::Memory);
-    };
-    push_items(alloc, kind, items.as_slice(), text)?;
-    push_directory(alloc, kind, directory, text)
-}
-
-fn push_feed<I>(alloc: Global, walk: I, text: &mut String) -> Result<(), Unanswered>
-where
-    I: FileIterator<Directory = Directories>,
-    requires can { I.can_feed walk }
-    requires ends { IsFinite (I.left walk) }
-{
-    let Ok((items, directory)) = collect_feed(alloc, walk) else {
-        return Err(Unanswered::Memory);
-    };
-    for item in &items {
-        push_separation(alloc, item, text)?;
-    }
-    push_directory(alloc, "feed", directory, text)
 }
 
 fn push_steps<I>(alloc: Global, mut walk: I, text: &mut String) -> Result<(), Unanswered>
@@ -69,31 +50,45 @@ where
 {
     while let Some(item) = walk.feed() {
         if let Separation::Filtrate(filtrate) = item {
-            push_item(alloc, "steps", filtrate.get(), text)?;
+            push_item(alloc, Shown::Path, filtrate.get(), text)?;
         }
     }
     Ok(())
 }
 
-fn push_matching<I>(
+fn push_feed<T, R, F>(
+    alloc: Global,
+    items: &[Separation<F>],
+    text: &mut String,
+) -> Result<(), AllocError>
+where
+    T: Entry,
+    R: Entry,
+    F: Feed<Filtrate = Result<T, WalkError>, Residue = TreeResidue<R>>,
+{
+    for item in items {
+        push_separation(alloc, item, text)?;
+    }
+    Ok(())
+}
+
+fn push_kept<E: Entry>(
     alloc: Global,
     row: Row<'_>,
-    walk: I,
+    items: &[Result<E, WalkError>],
+    directory: Directories,
     text: &mut String,
-) -> Result<(), Unanswered>
-where
-    I: FileIterator<Directory = Directories>,
-    requires can { I.can_feed walk }
-    requires ends { IsFinite (I.left walk) }
-{
-    let Ok((items, _)) = collect(alloc, walk) else {
-        return Err(Unanswered::Memory);
-    };
-    push_count(alloc, row.expression(), items.as_slice(), text)
+) -> Result<(), Unanswered> {
+    match row.kind {
+        Kind::Matching => push_matching(alloc, row.expression(), items, text),
+        Kind::Count => Ok(push_counts(alloc, items.len(), directory, text)?),
+        Kind::Walk(shown) => push_whole(alloc, shown, items, directory, text),
+        _ => push_whole(alloc, Shown::Path, items, directory, text),
+    }
 }
 
 /// Appends how many entries the glob of the expression matches.
-fn push_count<E: Entry>(
+fn push_matching<E: Entry>(
     alloc: Global,
     expression: &str,
     items: &[Result<E, WalkError>],
@@ -137,7 +132,12 @@ where
     F: Feed<Filtrate = Result<T, WalkError>, Residue = TreeResidue<R>>,
 {
     let residue = match item {
-        Separation::Filtrate(filtrate) => return push_item(alloc, "feed", filtrate.get(), text),
+        Separation::Filtrate(filtrate) => return push_item(
+            alloc,
+            Shown::Path,
+            filtrate.get(),
+            text,
+        ),
         Separation::Residue(residue) => residue.get(),
     };
     push_gap(text)?;
@@ -148,25 +148,33 @@ where
     push_quoted(text, residue.get().path())
 }
 
-/// Appends the items, or for `count` their number.
+/// Appends the items, and then what was called of the directory.
 ///
 /// # Errors
 ///
-/// Returns `AllocError` if allocation fails.
-pub fn push_items<E: Entry>(
+/// Returns `Unanswered::Memory` if allocation fails.
+pub fn push_whole<E: Entry>(
     alloc: Global,
-    kind: &str,
+    shown: Shown,
+    items: &[Result<E, WalkError>],
+    directory: Directories,
+    text: &mut String,
+) -> Result<(), Unanswered> {
+    push_items(alloc, shown, items, text)?;
+    push_directory(alloc, directory, text)
+}
+
+fn push_items<E: Entry>(
+    alloc: Global,
+    shown: Shown,
     items: &[Result<E, WalkError>],
     text: &mut String,
 ) -> Result<(), AllocError> {
-    if kind == "count" {
-        return text.push_str(format!(in alloc; "{}", items.len())?.as_str());
-    }
     if items.is_empty() {
         return text.push_str("none");
     }
     for item in items {
-        push_item(alloc, kind, item, text)?;
+        push_item(alloc, shown, item, text)?;
     }
     Ok(())
 }
@@ -178,28 +186,28 @@ pub fn push_items<E: Entry>(
 /// Returns `AllocError` if allocation fails.
 pub fn push_item<E: Entry>(
     alloc: Global,
-    kind: &str,
+    shown: Shown,
     item: &Result<E, WalkError>,
     text: &mut String,
 ) -> Result<(), AllocError> {
     push_gap(text)?;
     match item {
-        Ok(entry) => push_entry(alloc, kind, entry, text),
+        Ok(entry) => push_entry(alloc, shown, entry, text),
         Err(error) => { text.push_str(format!(in alloc; "[{error}; {}]", error.depth())?.as_str()) }
     }
 }
 
 fn push_entry<E: Entry>(
     alloc: Global,
-    kind: &str,
+    shown: Shown,
     entry: &E,
     text: &mut String,
 ) -> Result<(), AllocError> {
-    match kind {
-        "candidates" => push_quoted(text, entry.root_relative_paths().1),
-        "places" => push_place(alloc, entry.as_tree_entry(), text),
-        "copies" => push_place(alloc, &entry.as_tree_entry().clone()?, text),
-        _ => push_quoted(text, entry.path()),
+    match shown {
+        Shown::Path => push_quoted(text, entry.path()),
+        Shown::Candidate => push_quoted(text, entry.root_relative_paths().1),
+        Shown::Place => push_place(alloc, entry.as_tree_entry(), text),
+        Shown::Copy => push_place(alloc, &entry.as_tree_entry().clone()?, text),
     }
 }
 
@@ -214,30 +222,31 @@ fn push_place(alloc: Global, entry: &TreeEntry, text: &mut String) -> Result<(),
     text.push_str(format!(in alloc; " {depth} {kind:?};")?.as_str())
 }
 
-/// Appends fields: the folders that were listed, how many items were requested, and all counts of
-/// the directory; for `count` only how many folders were listed.
+/// Appends two fields: the number of items, and of folders that were listed.
 ///
 /// # Errors
 ///
-/// Returns `Unanswered::Memory` if allocation fails, and `Unanswered::NotBuilt` if something in the
-/// row has an error.
-pub fn push_directory(
+/// Returns `AllocError` if allocation fails.
+pub fn push_counts(
     alloc: Global,
-    kind: &str,
+    items: usize,
+    directory: Directories,
+    text: &mut String,
+) -> Result<(), AllocError> {
+    let tree = directory.into_tree();
+    text.push_str(format!(in alloc; "{items}\t{}", tree.listed().len())?.as_str())
+}
+
+/// Appends fields: the folders that were listed, how many items were requested, and all counts of
+/// the directory.
+fn push_directory(
+    alloc: Global,
     directory: Directories,
     text: &mut String,
 ) -> Result<(), Unanswered> {
     let tally = directory.tally();
     let tree = directory.into_tree();
-    if kind == "count" {
-        Ok(push_number(alloc, tree.listed().len(), text)?)
-    } else {
-        Ok(push_tree(alloc, &tree, tally, text)?)
-    }
-}
-
-fn push_number(alloc: Global, listed: usize, text: &mut String) -> Result<(), AllocError> {
-    text.push_str(format!(in alloc; "\t{listed}")?.as_str())
+    Ok(push_tree(alloc, &tree, tally, text)?)
 }
 
 fn push_tree(
