@@ -7,7 +7,7 @@ use std::alloc::{AllocError, Global};
 use std::env::FillError;
 use std::rt::Env;
 use wax::NoMemory;
-use wax::walk::{Directory, Starving};
+use wax::walk::{Starving, Tree};
 use wax_command_line::words;
 use wax_commands::{FileFault, run_globs};
 use wax_test_kit::plans::{ROOT, tree_of};
@@ -39,34 +39,26 @@ pub fn add_run(alloc: Global, row: &str, made: &mut Answer) -> Result<(), NoMemo
     let Ok(words) = words_of(alloc, field(row, 1)) else {
         return Err(NoMemory);
     };
-    match bytes_of(alloc, field(row, 3)) {
-        Ok(bytes) => {
-            add_run_of(alloc, row, &words, &bytes, made);
-            Ok(())
-        }
-        Err(_) => Err(NoMemory),
-    }
-}
-
-fn add_run_of(alloc: Global, row: &str, words: &[Option<String>], bytes: &[u8], made: &mut Answer) {
-    let calls = number_after(field(row, 2), "starving").unwrap_or(u64::MAX);
+    let Ok(bytes) = bytes_of(alloc, field(row, 3)) else {
+        return Err(NoMemory);
+    };
     match tree_of(alloc, plan_of(field(row, 4)), ROOT) {
-        Ok(tree) => {
-            let directory = Starving::new(tree, calls);
-            add_ran(alloc, field(row, 2), words, bytes, directory, made);
-        }
+        Ok(tree) => add_ran(alloc, field(row, 2), &words, &bytes, tree, made),
         Err(_) => made.add("no tree"),
     }
+    Ok(())
 }
 
-fn add_ran<D: Directory>(
+fn add_ran(
     alloc: Global,
     streams: &str,
     words: &[Option<String>],
     bytes: &[u8],
-    directory: D,
+    tree: Tree,
     made: &mut Answer,
 ) {
+    let calls = number_after(streams, "starving").unwrap_or(u64::MAX);
+    let directory = Starving::new(tree, calls);
     let mut input = reader(streams, bytes);
     let mut output = writer(alloc, streams);
     let room = if streams == "untold" { 0 } else { usize::MAX };

@@ -87,20 +87,11 @@ fn call_lines<R: Read, W: Write>(
     match (field(row, 0), field(row, 1)) {
         ("filter", _) => filter_lines(alloc, input, output, &Pictures),
         (_, ".png") => capture_lines(alloc, input, output, &Pictures),
-        (_, expression) => captured(alloc, expression, input, output),
+        (_, expression) => match Glob::new(alloc, expression) {
+            Ok(glob) => capture_lines(alloc, input, output, &glob),
+            Err(_) => Err(LinesError::Memory),
+        },
     }
-}
-
-fn captured<R: Read, W: Write>(
-    alloc: Global,
-    expression: &str,
-    input: &mut Counted<R>,
-    output: &mut Counted<W>,
-) -> Result<u64, LinesError> {
-    let Ok(glob) = Glob::new(alloc, expression) else {
-        return Err(LinesError::Memory);
-    };
-    capture_lines(alloc, input, output, &glob)
 }
 
 /// Filters a line of `count` letters and `.png`, and a short one. Adds how the call ends, and

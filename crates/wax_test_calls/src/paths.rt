@@ -116,10 +116,7 @@ pub fn add_counted(made: &mut Answer) {
     made.show(&counted.calls());
     made.add(" ");
     made.show(&counted.failures());
-    add_asked(&counted.into_inner(), made);
-}
-
-fn add_asked(asked: &Asked, made: &mut Answer) {
+    let asked = counted.into_inner();
     made.add(" ");
     made.show(&asked.reads);
     made.add(" ");

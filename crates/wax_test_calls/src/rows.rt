@@ -52,15 +52,10 @@ pub fn make(alloc: Global, row: &str, given: usize, made: &mut Answer) {
 }
 
 fn add_answer(alloc: Global, row: &str, made: &mut Answer) -> Result<(), NoMemory> {
+    let given = field(row, 1);
     match field(row, 0) {
         "filter" | "capture" => add_lines(alloc, row, made),
         "run" => add_run(alloc, row, made),
-        kind => add_value(alloc, kind, field(row, 1), made),
-    }
-}
-
-fn add_value(alloc: Global, kind: &str, given: &str, made: &mut Answer) -> Result<(), NoMemory> {
-    match kind {
         "path" => add_path(alloc, given, made),
         "match" => add_match(alloc, given, made),
         "counted match" => add_counted_match(alloc, given, made),
