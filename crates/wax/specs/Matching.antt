@@ -5,7 +5,7 @@ use Rattle.wax.specs.GlobView.{GlobView, IsMeant}
 use Rattle.wax_token.specs.Reads.{Span}
 use Rattle.wax_token.specs.Syntax.{Tree}
 pub use Rattle.wax_candidate.specs.Matched.{IsMatchOf, MatchedView, cube_visits, texts}
-pub use Rattle.wax_candidate.specs.Parts.{IsPart, NoneEndsBefore, cut}
+pub use Rattle.wax_candidate.specs.Parts.{IsPart, NoLineEndsBefore, cut}
 pub use Rattle.wax_capture.specs.Captures.{Captured, First}
 pub use Rattle.wax_capture.specs.Matched.{AreOnly, IsMatched, square_visits}
 pub use Rattle.wax_capture.specs.Pieces.{ArePieces}

@@ -1,7 +1,7 @@
 //! Globs: an expression with its tokens, its program and the pieces by which it captures.
 ghost use Rattle.std.specs.Prelude.{◌≡◌, ◌<◌, ◌≤◌, ◌↔◌, ◌+◌, ◌*◌, ◌++◌, ◌∷◌, [], ℕ, List, IsTrue, IfOk};
 ghost use Rattle.std.specs.Prelude.{IfSome, MatchOption, Some, chars, encode_utf8_all, length, false};
-ghost use Rattle.wax_candidate.specs.Parts.{NoneEndsBefore};
+ghost use Rattle.wax_candidate.specs.Parts.{NoLineEndsBefore};
 ghost use Rattle.wax_components.specs.Capturing.{captures};
 ghost use Rattle.wax_components.specs.Warnings.{has_semantic_literals, warnings};
 ghost use Rattle.wax_components.specs.Depth.{Depth};
@@ -240,10 +240,10 @@ impl Glob<'_> {
         self.prefilter.may_match_at_once(text) && self.prefilter.may_match(encode::last_name(text))
     }
 
-    /// Returns how many bytes at the beginning of a text can be passed over in a search for parts
-    /// of it that the glob matches: none of them ends before so many bytes.
+    /// Returns how many bytes at the beginning of a text can be passed over in a search for lines
+    /// that the glob matches: none of them ends before so many bytes.
     fn earliest_end(&self, text: &str) -> usize
-        ensures { NoneEndsBefore (means_test self.now.tree false false) text.now result }
+        ensures { NoLineEndsBefore (means_test self.now.tree false false) text.now result }
     {
         self.prefilter.earliest_end(text)
     }

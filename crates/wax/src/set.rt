@@ -1,7 +1,7 @@
 //! Sets of patterns: the alternation of their tokens, with its program and its pieces.
 ghost use Rattle.std.specs.Prelude.{◌≡◌, ◌≤◌, ◌<◌, ◌++◌, ◌∷◌, ℕ, List, IsTrue, chars, false};
 ghost use Rattle.std.specs.Prelude.{IfOk, IfSome, MatchOption, Some, codes};
-ghost use Rattle.wax_candidate.specs.Parts.{NoneEndsBefore};
+ghost use Rattle.wax_candidate.specs.Parts.{NoLineEndsBefore};
 ghost use Rattle.wax_components.specs.Depth.{Depth};
 ghost use Rattle.wax_facts.specs.Exhaustive.{exhaustive};
 ghost use Rattle.wax_facts.specs.InvariantText.{Text, Variant};
@@ -108,10 +108,10 @@ impl Any<'_> {
         self.prefilter.may_match(text)
     }
 
-    /// Returns how many bytes at the beginning of a text can be passed over in a search for parts
-    /// of it that a pattern matches: none of them ends before so many bytes.
+    /// Returns how many bytes at the beginning of a text can be passed over in a search for lines
+    /// that a pattern matches: none of them ends before so many bytes.
     fn earliest_end(&self, text: &str) -> usize
-        ensures { NoneEndsBefore (means_test self.now false false) text.now result }
+        ensures { NoLineEndsBefore (means_test self.now false false) text.now result }
     {
         self.prefilter.earliest_end(text)
     }

@@ -1,6 +1,6 @@
 //! Matchers of many paths, and the programs that build them.
 ghost use Rattle.std.specs.Prelude.{◌≡◌, ℕ, Bool, List, IfOk};
-ghost use Rattle.wax_candidate.specs.Parts.{NoneEndsBefore};
+ghost use Rattle.wax_candidate.specs.Parts.{NoLineEndsBefore};
 
 use crate::candidate::CandidatePath;
 use crate::program::Program;
@@ -23,10 +23,10 @@ pub trait PathMatcher: Drop {
         ensures decides { IfOk result (λ answer. answer ≡ decides self.old path.now) }
         ensures same { decides self.new ≡ decides self.old };
 
-    /// Returns how many bytes at the beginning of a text can be passed over in a search for parts
-    /// of it that match: none of them ends before so many bytes. By default, that is 0.
+    /// Returns how many bytes at the beginning of a text can be passed over in a search for lines
+    /// that match: none of them ends before so many bytes. By default, that is 0.
     fn earliest_end(&self, text: &str) -> usize
-        ensures { NoneEndsBefore (decides self.now) text.now result }
+        ensures { NoLineEndsBefore (decides self.now) text.now result }
     {
         0
     }

@@ -100,16 +100,17 @@ utf8_parts line rest utf8 =
 -- ---- lines for which nothing is written
 
 module _ (Writes : List ℕ → List ℕ → Type 0) where
-  line_gives_nothing : (line rest : List ℕ) (n : ℕ) → HasNoFeed line → IsUtf8 line → WritesNothingBefore Writes (line ++ rest) n
+  line_gives_nothing : (line rest : List ℕ) (n : ℕ) → HasNoFeed line → IsUtf8 line → WritesNothingBefore Writes (line ++ 10 ∷ rest) n
       → length line < n → GivesNothing Writes (line ++ 10 ∷ [])
   line_gives_nothing line rest n h utf8 none lt sieve empty =
-      TakesIn-text Writes sieve sieve line [] empty h utf8 (none [] line rest refl utf8 lt) empty (sym (append-nil sieve.kept.bytes.items)) refl
+      TakesIn-text Writes sieve sieve line [] empty h utf8 (none [] line (rest ++ 10 ∷ []) (append_assoc line (10 ∷ rest) (10 ∷ [])) utf8 lt)
+      empty (sym (append-nil sieve.kept.bytes.items)) refl
 
   -- what is passed over after a line
   passes_on : (line rest : List ℕ) (n : ℕ) → WritesNothingBefore Writes (line ++ 10 ∷ rest) n
       → WritesNothingBefore Writes rest (n - (length line + 1))
   passes_on line rest n none x y z e utf8 lt =
-      none (line ++ 10 ∷ x) y z (ap (λ w. line ++ 10 ∷ w) e ∙ sym (append_assoc line (10 ∷ x) (y ++ z))) utf8
+      none (line ++ 10 ∷ x) y z (append_assoc line (10 ∷ rest) (10 ∷ []) ∙ ap (λ w. line ++ 10 ∷ w) e ∙ sym (append_assoc line (10 ∷ x) (y ++ 10 ∷ z))) utf8
       (omega (arith, lt, ap length (append_assoc line (10 ∷ x) y), length-append line (10 ∷ (x ++ y))))
 
   lines_give_nothing : (lines : List (List ℕ)) (rest : List ℕ) (n : ℕ) → All HasNoFeed lines → IsUtf8 (lines_text lines)
@@ -122,7 +123,7 @@ module _ (Writes : List ℕ → List ℕ → Type 0) where
       subst (λ s. WritesNothingBefore Writes s n) (append_assoc line (10 ∷ lines_text lines) rest) none in
       subst (λ s. TakesIn Writes s sieve sieve) (append_assoc line (10 ∷ []) (lines_text lines))
       (TakesIn-then Writes sieve sieve sieve (line ++ 10 ∷ []) (lines_text lines)
-      (line_gives_nothing line (10 ∷ (lines_text lines ++ rest)) n (All-head HasNoFeed line lines h) utf8_line apart (omega (arith, le, long)) sieve empty)
+      (line_gives_nothing line (lines_text lines ++ rest) n (All-head HasNoFeed line lines h) utf8_line apart (omega (arith, le, long)) sieve empty)
       (lines_give_nothing lines rest (n - (length line + 1)) (All-tail HasNoFeed line lines h) utf8_lines
       (passes_on line (lines_text lines ++ rest) n apart) (omega (arith, le, long)) sieve empty))
 

@@ -1,3 +1,4 @@
+mod AsciiForms
 mod Marks
 pub mod AnyCase
 pub mod Holding

@@ -48,6 +48,22 @@ stands_in_lane pair front back k long wide lt is_first is_last =
     ∙ ap (λ b. cond b (get_or back k 0) (get_or others k 0)) same ∙ is_last in
     ap (λ b. eqb b pair.last) lane ∙ eq-eqb pair.last pair.last refl
 
+abbrev pub is_last : Pair → ℕ → Bool
+is_last pair b = eqb b pair.last
+
+-- no bit is set
+pub lane_none : (pair : Pair) (front back : List ℕ) → length front ≡ 32 → length back ≡ 32
+    → mask_l (map (is_last pair) (followed pair front back)) ≡ 0 → 32 ≡ position_or_len (is_last pair) (followed pair front back)
+lane_none pair front back long wide empty =
+    sym (leading_from_mask_l (is_last pair) (followed pair front back) empty ∙ length_followed pair front back long wide)
+
+-- the lowest bit that is set
+pub lane_some : (pair : Pair) (front back : List ℕ) → length front ≡ 32 → length back ≡ 32
+    → 0 < mask_l (map (is_last pair) (followed pair front back))
+    → count_trailing_zeros 64 (mask_l (map (is_last pair) (followed pair front back))) ≡ position_or_len (is_last pair) (followed pair front back)
+lane_some pair front back long wide some =
+    trailing_mask_l (is_last pair) 64 (followed pair front back) (omega (arith, length_followed pair front back long wide)) some
+
 module _ (pair : Pair) (xs : List ℕ) (at : ℕ) (room : at + pair.distance + 32 ≤ length xs) (none : NoPairBefore pair xs at) where
   abbrev front : List ℕ
   front = chunk at 32 xs
@@ -58,37 +74,27 @@ module _ (pair : Pair) (xs : List ℕ) (at : ℕ) (room : at + pair.distance + 3
   abbrev lanes : List ℕ
   lanes = followed pair front back
 
-  abbrev is_last : ℕ → Bool
-  is_last b = eqb b pair.last
-
   long : length front ≡ 32
   long = length-chunk at 32 xs (omega (arith, room))
 
   wide : length back ≡ 32
   wide = length-chunk at 32 (drop pair.distance xs) (omega (arith, room, length-drop pair.distance xs))
 
+  pub few_lanes : position_or_len (is_last pair) lanes ≤ 32
+  few_lanes = omega (arith, prefix_len-le-length (λ b. not (is_last pair b)) lanes, length_followed pair front back long wide)
+
   -- the pair stands nowhere before the first lane with its last byte
-  before_lane : (r : ℕ) → r ≡ position_or_len is_last lanes → NoPairBefore pair xs (at + r)
+  pub before_lane : (r : ℕ) → r ≡ position_or_len (is_last pair) lanes → NoPairBefore pair xs (at + r)
   before_lane r first k below stands = elim (cases_lt k at) [
     | inl less ↦ none k less stands
     | inr from ↦
         let i : ℕ = k - at in
         let at_i : at + i ≡ k = omega (arith, from) in
-        let few : position_or_len is_last lanes ≤ 32 = omega (arith, prefix_len-le-length (λ b. not (is_last b)) lanes, length_followed pair front back long wide) in
-        let lt : i < 32 = omega (arith, few, first, below, from) in
-        let fails : is_last (get_or lanes i 0) ≡ false = fails_before_first is_last lanes i 0 (omega (arith, first, below, from)) in
+        let lt : i < 32 = omega (arith, few_lanes, first, below, from) in
+        let fails : is_last pair (get_or lanes i 0) ≡ false = fails_before_first (is_last pair) lanes i 0 (omega (arith, first, below, from)) in
         let here : get_or front i 0 ≡ pair.first = get_or-chunk at 32 xs i 0 lt ∙ ap (λ j. get_or xs j 0) at_i ∙ stands.first in
         let there : get_or back i 0 ≡ pair.last =
         get_or-chunk at 32 (drop pair.distance xs) i 0 lt ∙ get_or-drop pair.distance xs (at + i) 0
         ∙ ap (λ j. get_or xs j 0) (omega (arith, at_i)) ∙ stands.last in
         absurd (true≢false (sym (stands_in_lane pair front back i long wide lt here there) ∙ fails))
   ]
-
-  -- no bit is set
-  pub none_marked : mask_l (map is_last lanes) ≡ 0 → NoPairBefore pair xs (at + 32)
-  none_marked empty = before_lane 32 (sym (leading_from_mask_l is_last lanes empty ∙ length_followed pair front back long wide))
-
-  -- the lowest bit that is set
-  pub first_marked : 0 < mask_l (map is_last lanes) → NoPairBefore pair xs (at + count_trailing_zeros 64 (mask_l (map is_last lanes)))
-  first_marked some = before_lane (count_trailing_zeros 64 (mask_l (map is_last lanes)))
-      (trailing_mask_l is_last 64 lanes (omega (arith, length_followed pair front back long wide)) some)

@@ -1,12 +1,14 @@
 -- Two bytes at a distance in texts that hold others.
-use Rattle.std.proofs.Common.{◌≡◌, ℕ, ◌+◌, ◌<◌, ◌≤◌, Bool, List, [], ◌++◌, length, get_or, sym, ◌∙◌, ap, inl, inr, append-nil, length-append, arith}
+use Rattle.std.proofs.Common.{◌≡◌, ℕ, ◌+◌, ◌-◌, ◌<◌, ◌≤◌, Bool, IsTrue, IsUtf8, List, [], ◌∷◌, ◌++◌, length, chars, get_or, drop, refl, sym, ◌∙◌, ap, subst, inl, inr, append_assoc, append-nil, length-append, arith}
 use Rattle.std.proofs.lemmas.Bool.{cases_lt}
-use Rattle.std.proofs.lemmas.List.{get_or_append_left, get_or-append-add}
-use Rattle.wax_prefilter.specs.Facts.{StandsAt}
+use Rattle.std.proofs.lemmas.List.{get_or_append_left, get_or-append-add, get_or_default, get_or-drop, length-drop, take_all}
+use Rattle.std.specs.List.{slice_range}
+use Rattle.wax_prefilter.specs.Facts.{NeedleView, StandsAt}
 use Rattle.wax_prefilter.specs.declared.needle.Place.{Place}
 use Rattle.wax_prefilter.specs.declared.needle.Place.TheVariants.{Beginning, End, Anywhere}
 use Rattle.wax_prefilter.specs.declared.pair.Pair.{Pair}
-use Rattle.wax_prefilter.specs.inner.Pairs.{StandsPairAt, HasPair, NoPairBefore}
+use Rattle.wax_prefilter.specs.inner.Pairs.{AddsPairs, PairStandsAt, LineHasOne, NoneStandsBefore}
+use Rattle.wax_prefilter.proofs.Holding.{any_alone, any_left, any_right}
 use Rattle.wax_token.specs.Meaning.{SameText}
 
 -- what stands at a place stands somewhere
@@ -16,6 +18,8 @@ stands_somewhere Beginning held text (x, y, e, h) = ([], x, y, e, h)
 stands_somewhere End held text (x, y, e, h) = (x, y, [], e ∙ ap (λ w. x ++ w) (sym (append-nil y)), h)
 stands_somewhere Anywhere held text h = h
 
+-- ---- parts
+
 byte_within : (text x y z : List ℕ) (i : ℕ) → text ≡ x ++ (y ++ z) → i < length y → get_or text (length x + i) 0 ≡ get_or y i 0
 byte_within text x y z i e lt =
     ap (λ t. get_or t (length x + i) 0) e ∙ get_or-append-add x (y ++ z) i 0 ∙ get_or_append_left y z 0 i lt
@@ -23,26 +27,103 @@ byte_within text x y z i e lt =
 long_within : (text x y z : List ℕ) → text ≡ x ++ (y ++ z) → length x + length y ≤ length text
 long_within text x y z e = omega (arith, ap length e, length-append x (y ++ z), length-append y z)
 
--- the pair of a part
-pub pair_within : (pair : Pair) (text x y z : List ℕ) → text ≡ x ++ (y ++ z) → pair.distance < length y
-    → get_or y 0 0 ≡ pair.first → get_or y pair.distance 0 ≡ pair.last → StandsPairAt pair text (length x)
-pair_within pair text x y z e inside first last = record {
-  inside = omega (arith, inside, long_within text x y z e);
-  first = ap (λ i. get_or text i 0) (omega arith) ∙ byte_within text x y z 0 e (omega (arith, inside)) ∙ first;
-  last = byte_within text x y z pair.distance e inside ∙ last;
+-- where the pair stands in a part, it stands in the whole
+pub stands_within : (pair : Pair) (text x y z : List ℕ) (k : ℕ) → text ≡ x ++ (y ++ z) → PairStandsAt pair y k → PairStandsAt pair text (length x + k)
+stands_within pair text x y z k e stands = record {
+  inside = omega (arith, stands.inside, long_within text x y z e);
+  first = byte_within text x y z k e (omega (arith, stands.inside)) ∙ stands.first;
+  last = ap (λ i. get_or text i 0) (omega arith) ∙ byte_within text x y z (k + pair.distance) e stands.inside ∙ stands.last;
 }
 
--- a part that has the pair ends after the place before which the text has none
-pub ends_after : (pair : Pair) (text x y z : List ℕ) (n : ℕ) → text ≡ x ++ (y ++ z) → NoPairBefore pair text n → HasPair pair y
-    → n ≤ length (x ++ y)
-ends_after pair text x y z n e none (k, stands) =
-    let long : length x + k < length (x ++ y) = omega (arith, stands.inside, length-append x y) in
-    let here : StandsPairAt pair text (length x + k) = record {
-      inside = omega (arith, stands.inside, long_within text x y z e);
-      first = byte_within text x y z k e (omega (arith, stands.inside)) ∙ stands.first;
-      last = ap (λ i. get_or text i 0) (omega arith) ∙ byte_within text x y z (k + pair.distance) e stands.inside ∙ stands.last;
-    } in
-    elim (cases_lt (length x + k) n) [
-      | inl before ↦ absurd (none (length x + k) before here)
-      | inr from ↦ omega (arith, from, long)
+-- a part whose first and last byte are those of the pair
+pub part_has : (pair : Pair) (text x y z : List ℕ) → text ++ 10 ∷ [] ≡ x ++ (y ++ z) → PairStandsAt pair y 0 → LineHasOne (pair ∷ []) text
+part_has pair text x y z e stands =
+    (length x + 0, any_alone (λ p. PairStandsAt p (text ++ 10 ∷ []) (length x + 0)) pair (stands_within pair (text ++ 10 ∷ []) x y z 0 e stands))
+
+pub part_of_line : (text x y z : List ℕ) → text ≡ x ++ (y ++ z) → text ++ 10 ∷ [] ≡ x ++ (y ++ (z ++ 10 ∷ []))
+part_of_line text x y z e =
+    ap (λ w. w ++ 10 ∷ []) e ∙ append_assoc x (y ++ z) (10 ∷ []) ∙ ap (λ w. x ++ w) (append_assoc y z (10 ∷ []))
+
+pub end_of_line : (text x y : List ℕ) → text ≡ x ++ y → text ++ 10 ∷ [] ≡ x ++ ((y ++ 10 ∷ []) ++ [])
+end_of_line text x y e =
+    ap (λ w. w ++ 10 ∷ []) e ∙ append_assoc x y (10 ∷ []) ∙ ap (λ w. x ++ w) (sym (append-nil (y ++ 10 ∷ [])))
+
+-- the first byte of a text, and the line feed after it
+pub stands_to_feed : (pair : Pair) (y : List ℕ) → 0 < length y → get_or y 0 0 ≡ pair.first → 10 ≡ pair.last → length y ≡ pair.distance
+    → PairStandsAt pair (y ++ 10 ∷ []) 0
+stands_to_feed pair y some first last long = record {
+  inside = omega (arith, long, length-append y (10 ∷ []));
+  first = get_or_append_left y (10 ∷ []) 0 0 some ∙ first;
+  last = ap (λ i. get_or (y ++ 10 ∷ []) i 0) (omega (arith, long)) ∙ get_or-append-add y (10 ∷ []) 0 0 ∙ last;
+}
+
+-- ---- several pairs
+
+pub more_left : (xs ys : List Pair) (text : List ℕ) → LineHasOne xs text → LineHasOne (xs ++ ys) text
+more_left xs ys text (k, one) = (k, any_left (λ p. PairStandsAt p (text ++ 10 ∷ []) k) xs ys one)
+
+pub more_right : (xs ys : List Pair) (text : List ℕ) → LineHasOne ys text → LineHasOne (xs ++ ys) text
+more_right xs ys text (k, one) = (k, any_right (λ p. PairStandsAt p (text ++ 10 ∷ []) k) xs ys one)
+
+-- each text that has one of the first needles at the place has one of the pairs
+abbrev pub HavePairs : Place → List NeedleView → ℕ → List Pair → Type 0
+HavePairs place needles n pairs = (k : ℕ) (needle : NeedleView) → k < n → get_or needles k needle ≡ needle
+    → (text : List ℕ) → IsUtf8 text → StandsAt place needle (chars text) → LineHasOne pairs text
+
+pub next_has : (place : Place) (needles : List NeedleView) (i : ℕ) (needle : NeedleView) (old new : List Pair) (known : Bool) (IsSo : List ℕ → Type 0)
+    → i < length needles → needle ≡ get_or needles i needle → HavePairs place needles i old
+    → AddsPairs old new known IsSo → IsTrue known → ((text : List ℕ) → StandsAt place needle text → IsSo text) → HavePairs place needles (i + 1) new
+next_has place needles i needle old new known IsSo lt is before (added, more, has) is_known so k other below there text utf8 stands =
+    subst (λ pairs. LineHasOne pairs text) (sym more) (elim (cases_lt k i) [
+      | inl less ↦ more_left old added text (before k other less there text utf8 stands)
+      | inr from ↦
+          let here : k ≡ i = omega (arith, below, from) in
+          let same : other ≡ needle = sym there ∙ ap (λ j. get_or needles j other) here ∙ get_or_default needles i other needle lt ∙ sym is in
+          more_right old added text (has is_known text utf8 (so (chars text) (subst (λ n. StandsAt place n (chars text)) same stands)))
+    ])
+
+-- a line that has one of the pairs ends after the place before which none stands
+pub ends_after : (pairs : List Pair) (text x y z : List ℕ) (n : ℕ) → text ++ 10 ∷ [] ≡ x ++ (y ++ 10 ∷ z) → n ≤ length text
+    → NoneStandsBefore pairs text n → LineHasOne pairs y → n ≤ length (x ++ y)
+ends_after pairs text x y z n e inside none (k, (i, pair, lt, is, stands)) =
+    let line : List ℕ = y ++ 10 ∷ [] in
+    let whole : List ℕ = text ++ 10 ∷ [] in
+    let part : whole ≡ x ++ (line ++ z) = e ∙ ap (λ w. x ++ w) (sym (append_assoc y (10 ∷ []) z)) in
+    let there : PairStandsAt pair whole (length x + k) = stands_within pair whole x line z k part stands in
+    let long : length line ≡ length y + 1 = length-append y (10 ∷ []) in
+    let both : length (x ++ y) ≡ length x + length y = length-append x y in
+    elim (cases_lt (length x + k + pair.distance) (length text)) [
+      | inr beyond ↦ omega (arith, beyond, inside, stands.inside, long, both)
+      | inl within ↦
+          let here : PairStandsAt pair text (length x + k) = record {
+            inside = within;
+            first = sym (get_or_append_left text (10 ∷ []) 0 (length x + k) (omega (arith, within))) ∙ there.first;
+            last = sym (get_or_append_left text (10 ∷ []) 0 (length x + k + pair.distance) within) ∙ there.last;
+          } in
+          elim (cases_lt (length x + k) n) [
+            | inl before ↦ absurd (none (length x + k) before (i, pair, lt, is, here))
+            | inr from ↦ omega (arith, from, stands.inside, long, both)
+          ]
     ]
+
+-- ---- places in the rest of some bytes
+
+-- the bytes from a place on
+pub is_drop : (n : ℕ) (bytes rest : List ℕ) → rest ≡ slice_range bytes n (length bytes) → rest ≡ drop n bytes
+is_drop n bytes rest e = e ∙ take_all _ _ (omega (arith, length-drop n bytes))
+
+stands_in_rest : (pair : Pair) (bytes : List ℕ) (at k : ℕ) → PairStandsAt pair bytes (at + k) → PairStandsAt pair (drop at bytes) k
+stands_in_rest pair bytes at k stands = record {
+  inside = omega (arith, stands.inside, length-drop at bytes);
+  first = get_or-drop at bytes k 0 ∙ stands.first;
+  last = get_or-drop at bytes (k + pair.distance) 0 ∙ ap (λ i. get_or bytes i 0) (omega arith) ∙ stands.last;
+}
+
+pub none_further : (pairs : List Pair) (bytes : List ℕ) (at n : ℕ) → NoneStandsBefore pairs bytes at
+    → NoneStandsBefore pairs (slice_range bytes at (length bytes)) n → NoneStandsBefore pairs bytes (at + n)
+none_further pairs bytes at n before further k lt (i, pair, below, is, stands) = elim (cases_lt k at) [
+  | inl less ↦ before k less (i, pair, below, is, stands)
+  | inr from ↦
+      let same : at + (k - at) ≡ k = omega (arith, from) in
+      subst (λ b. NoneStandsBefore pairs b n) (is_drop at bytes _ refl) further (k - at) (omega (arith, lt, from)) (i, pair, below, is, stands_in_rest pair bytes at (k - at) (subst (PairStandsAt pair bytes) (sym same) stands))
+]

@@ -1,7 +1,10 @@
 //! Searching texts in any case.
-ghost use Rattle.std.specs.Prelude.{◌≡◌, ℕ, IsTrue, List, ◌++◌, chars, true};
+ghost use Rattle.std.specs.Prelude.{◌≡◌, ◌<◌, ℕ, IsTrue, List, OnOk, ◌++◌, chars, length, slice_index, true};
+ghost use Rattle.wax_prefilter.specs.inner.Forms.{HasAsciiForms, pairs_of_forms};
 ghost use Rattle.wax_token.specs.Meaning.{SameText};
 
+use crate::pair::Pair;
+use std::alloc::AllocError;
 use unicode::case::simple_fold;
 use wax_program::instruction::folds_to;
 
@@ -41,4 +44,49 @@ pub fn holds_in_any_case(text: &str, held: &str) -> bool
         }
     }
     false
+}
+
+/// Returns whether the bytes are ASCII characters, and all their forms in any case are, too.
+pub fn have_ascii_forms(bytes: &[u8]) -> bool
+    ensures { IsTrue result → (k : ℕ) → k < length bytes.now → HasAsciiForms (slice_index bytes.now k) }
+{
+    for byte in bytes {
+        // The Kelvin sign is a form of `k`, and the long s is one of `s`.
+        let lower = byte.to_ascii_lowercase();
+        if !byte.is_ascii() || lower == b'k' || lower == b's' {
+            return false;
+        }
+    }
+    true
+}
+
+/// Appends the pairs of two ASCII characters in both cases.
+///
+/// # Errors
+///
+/// Returns `AllocError` if allocation fails.
+pub fn add_forms(pair: Pair, pairs: &mut Vec<Pair>) -> Result<(), AllocError>
+    ensures { OnOk result (pairs.new.items ≡ pairs.old.items ++ pairs_of_forms pair) }
+{
+    let lower = Pair {
+        first: pair.first.to_ascii_lowercase(),
+        last: pair.last.to_ascii_lowercase(),
+        distance: pair.distance,
+    };
+    let upper = Pair {
+        first: pair.first.to_ascii_uppercase(),
+        last: pair.last.to_ascii_uppercase(),
+        distance: pair.distance,
+    };
+    pairs.push(lower)?;
+    pairs.push(Pair {
+        last: upper.last,
+        ..lower
+    })?;
+    pairs.push(Pair {
+        first: upper.first,
+        ..lower
+    })?;
+    pairs.push(upper)?;
+    Ok(())
 }

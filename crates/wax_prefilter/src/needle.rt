@@ -1,12 +1,12 @@
 //! Needles: texts that others contain at some place.
-ghost use Rattle.std.specs.Prelude.{◌≡◌, ℕ, IsTrue, IfOk, IfSome, List, ◌++◌, chars, true, false};
+ghost use Rattle.std.specs.Prelude.{◌≡◌, ℕ, IsTrue, IfOk, List, ◌++◌, chars, true, false};
 ghost use Rattle.std.specs.Str.{IsUtf8};
 ghost use Rattle.wax_token.specs.Meaning.{SameText};
 ghost use Rattle.wax_prefilter.specs.Facts.{StandsAt};
 ghost use Rattle.wax_prefilter.specs.declared.needle.Place.{Place};
-ghost use Rattle.wax_prefilter.specs.inner.Pairs.{HasPair};
+ghost use Rattle.wax_prefilter.specs.inner.Pairs.{AddsPairs};
 
-use crate::any_case::{begins_in_any_case, holds_in_any_case};
+use crate::any_case::{add_forms, begins_in_any_case, have_ascii_forms, holds_in_any_case};
 use crate::pair::Pair;
 use std::alloc::{AllocError, Global};
 use std::marker::Model;
@@ -50,22 +50,58 @@ impl Needle {
         self.is_case_insensitive
     }
 
-    /// Returns the first and the last byte of the needle, or `None` if it is shorter than two bytes
-    /// or is searched for in any case.
-    pub fn pair(&self) -> Option<Pair>
-        ensures { IfSome result (λ pair. (place : Place) (text : List ℕ) → IsUtf8 text
-            → StandsAt place self.now (chars text) → HasPair pair text) }
+    /// Appends pairs of which each text has one that has the needle at any place: the needle's first
+    /// and last byte, for a needle in any case in both cases. Returns `false` if none is known.
+    ///
+    /// # Errors
+    ///
+    /// Returns `AllocError` if allocation fails.
+    pub fn add_pairs(&self, pairs: &mut Vec<Pair>) -> Result<bool, AllocError>
+        ensures { IfOk result (λ known. AddsPairs pairs.old.items pairs.new.items known
+            (λ text. (place : Place) × StandsAt place self.now text)) }
     {
         let bytes = self.text.as_str().as_bytes();
-        if self.is_case_insensitive || bytes.len() < 2 {
-            return None;
+        if bytes.len() < 2 {
+            return Ok(false);
         }
         let distance = bytes.len() - 1;
-        Some(Pair {
+        let pair = Pair {
             first: bytes[0],
             last: bytes[distance],
             distance,
-        })
+        };
+        if !self.is_case_insensitive {
+            pairs.push(pair)?;
+            return Ok(true);
+        }
+        if !have_ascii_forms(bytes) {
+            return Ok(false);
+        }
+        add_forms(pair, pairs)?;
+        Ok(true)
+    }
+
+    /// Appends a pair that each text has with the needle at its end: the needle's first byte and the
+    /// line feed after the text. Returns `false` if there is none, since the needle is empty or is
+    /// searched for in any case.
+    ///
+    /// # Errors
+    ///
+    /// Returns `AllocError` if allocation fails.
+    pub fn add_pair_at_end(&self, pairs: &mut Vec<Pair>) -> Result<bool, AllocError>
+        ensures { IfOk result (λ known. AddsPairs pairs.old.items pairs.new.items known
+            (StandsAt Place.End self.now)) }
+    {
+        let bytes = self.text.as_str().as_bytes();
+        if self.is_case_insensitive || bytes.is_empty() {
+            return Ok(false);
+        }
+        pairs.push(Pair {
+            first: bytes[0],
+            last: b'\n',
+            distance: bytes.len(),
+        })?;
+        Ok(true)
     }
 
     /// Returns whether the text may have the needle at the place. Always returns `true` for a

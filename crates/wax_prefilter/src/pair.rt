@@ -1,15 +1,17 @@
 //! Searching bytes for two of them at a distance.
-ghost use Rattle.std.specs.Prelude.{◌≡◌, length, map, ◌==◌};
+ghost use Rattle.std.specs.Prelude.{◌≡◌, ◌≤◌, ◌+◌, All, length, ◌==◌};
+ghost use Rattle.std.specs.List.{position_or_len};
+ghost use Rattle.std.specs.Prelude.{map};
 ghost use Rattle.std.specs.Simd.Lanes.{mask_l};
-ghost use Rattle.wax_prefilter.specs.inner.Pairs.{NoPairBefore, followed};
+ghost use Rattle.wax_prefilter.specs.inner.Pairs.{NoPairBefore, NoneStandsBefore, followed};
 
 use std::simd::prelude::*;
 
 /// How many places are looked at together.
 const LANES: usize = 32;
 
-/// Two bytes at a distance: the first and the last of a text that is searched for. Few places have
-/// both, and they are found much faster than the whole text.
+/// Two bytes at a distance. Few places have both, and they are found much faster than a whole text
+/// that begins and ends with them.
 #[derive(Clone, Copy)]
 pub struct Pair {
     pub first: u8,
@@ -17,35 +19,93 @@ pub struct Pair {
     pub distance: usize,
 }
 
+/// Returns a place before which none of the pairs stands: that of the first one, unless it is near
+/// the end. Takes time proportional to the place and to the number of pairs.
+pub fn find_first(pairs: &[Pair], bytes: &[u8]) -> usize
+    ensures before { NoneStandsBefore pairs.now bytes.now result }
+    ensures inside { result ≤ length bytes.now }
+{
+    if pairs.len() == 1 {
+        return pairs[0].find(bytes);
+    }
+    let Some(lasts) = bytes.get(greatest_distance(pairs)..) else {
+        return 0;
+    };
+    let mut at = 0;
+    while lasts.len() - at >= LANES {
+        let place = first_place(pairs, &bytes[at..]);
+        if place < LANES {
+            return at + place;
+        }
+        at += LANES;
+    }
+    at
+}
+
+fn greatest_distance(pairs: &[Pair]) -> usize
+    ensures { All (λ pair. pair.distance ≤ result) pairs.now }
+{
+    let mut greatest = 0;
+    for pair in pairs {
+        greatest = greatest.max(pair.distance);
+    }
+    greatest
+}
+
+// Returns the first of the first places where one of the pairs stands, or the number of these places.
+#[inline(always)]
+fn first_place(pairs: &[Pair], bytes: &[u8]) -> usize
+    requires lanes { LANES ≤ length bytes.now }
+    requires room { All (λ pair. pair.distance + LANES ≤ length bytes.now) pairs.now }
+    ensures before { NoneStandsBefore pairs.now bytes.now result }
+    ensures inside { result ≤ LANES }
+{
+    let front = u8x32::from_slice(bytes);
+    let mut first = LANES;
+    for pair in pairs {
+        let back = u8x32::from_slice(&bytes[pair.distance..]);
+        first = first.min(pair.first_lane(front, back));
+    }
+    first
+}
+
 impl Pair {
-    /// Returns the first place of the pair, or `usize::MAX` if it has none. Takes time proportional
-    /// to that place.
-    pub fn find(self, bytes: &[u8]) -> usize
-        ensures { NoPairBefore self bytes.now result }
+    // Returns what `find_first` does, for one pair.
+    fn find(self, bytes: &[u8]) -> usize
+        ensures before { NoPairBefore self bytes.now result }
+        ensures inside { result ≤ length bytes.now }
     {
         let Some(lasts) = bytes.get(self.distance..) else {
-            return usize::MAX;
+            return 0;
         };
         let mut at = 0;
         while lasts.len() - at >= LANES {
             let front = u8x32::from_slice(&bytes[at..]);
-            let found = self.marks(front, u8x32::from_slice(&lasts[at..]));
-            if found != 0 {
-                return at + found.trailing_zeros() as usize;
+            let lane = self.first_lane(front, u8x32::from_slice(&lasts[at..]));
+            if lane < LANES {
+                return at + lane;
             }
             at += LANES;
         }
-        while at < lasts.len() {
-            if bytes[at] == self.first && lasts[at] == self.last {
-                return at;
-            }
-            at += 1;
+        at
+    }
+
+    // Returns the first lane where the pair stands, or the number of lanes. `back` has the bytes at
+    // the distance from those of `front`.
+    #[inline(always)]
+    fn first_lane(self, front: u8x32, back: u8x32) -> usize
+        ensures { result ≡ position_or_len (λ b. b == self.last) (followed self front back) }
+    {
+        let found = self.marks(front, back);
+        if found == 0 {
+            LANES
+        } else {
+            found.trailing_zeros() as usize
         }
-        usize::MAX
     }
 
     // Returns a mask in which the lowest bit belongs to the first place, and is set if the pair
-    // stands there. `back` has the bytes at the distance from those of `front`.
+    // stands there.
     #[inline(always)]
     fn marks(self, front: u8x32, back: u8x32) -> u64
         ensures { result ≡ mask_l (map (λ b. b == self.last) (followed self front back)) }

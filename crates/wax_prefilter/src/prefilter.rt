@@ -5,16 +5,19 @@ ghost use Rattle.std.specs.Str.{IsUtf8};
 ghost use Rattle.wax_token.specs.Words.{trees};
 ghost use Rattle.wax_prefilter.specs.Facts.{HoldsOne, PassesFacts};
 ghost use Rattle.wax_prefilter.specs.Known.{MeantPass};
-ghost use Rattle.wax_prefilter.specs.inner.Pairs.{HasPair, IsPairOf};
+ghost use Rattle.wax_prefilter.specs.inner.Pairs.{ArePairsOf, LineHasOne};
 
 use crate::facts::all_facts;
 use crate::least::least_of_each;
 use crate::needle::{Needle, Place};
-use crate::pair::Pair;
+use crate::pair::{Pair, find_first};
 use std::alloc::{AllocError, Global};
 use std::marker::Model;
 use wax_query::diagnostics::NoMemory;
 use wax_token::token::{ExpressionMetadata, Token};
+
+/// The greatest number of pairs that are searched for.
+const MOST_PAIRS: usize = 8;
 
 /// A fact about matching texts: each has one of the needles at the place. Contracts see both as a
 /// pair.
@@ -53,15 +56,24 @@ impl Fact {
         }
     }
 
-    /// Returns the pair of the needle, if there is only one and it has a pair.
-    fn pair(&self) -> Option<Pair>
-        ensures { IfSome result (λ pair. (text : List ℕ) → IsUtf8 text
-            → HoldsOne self.now.0 self.now.1 (chars text) → HasPair pair text) }
+    /// Returns pairs of which each text that has a needle has one, or `None` if they aren't known or
+    /// are too many. At the end, several needles are searched for with the line feed after them,
+    /// since short ones are in many texts.
+    fn pairs(&self, alloc: Global) -> Result<Option<Vec<Pair>>, AllocError>
+        ensures { IfOk result (λ known. IfSome known (λ pairs. (text : List ℕ) → IsUtf8 text
+            → HoldsOne self.now.0 self.now.1 (chars text) → LineHasOne pairs.items text)) }
     {
-        if self.needles.len() != 1 {
-            return None;
+        let mut pairs = Vec::new(alloc);
+        for needle in &self.needles {
+            let is_known = match self.place {
+                Place::End if self.needles.len() > 1 => needle.add_pair_at_end(&mut pairs)?,
+                _ => needle.add_pairs(&mut pairs)?,
+            };
+            if !is_known || pairs.len() > MOST_PAIRS {
+                return Ok(None);
+            }
         }
-        self.needles.first()?.pair()
+        Ok(Some(pairs))
     }
 
     fn may_hold(&self, text: &str, seeks_in_any_case: bool) -> bool
@@ -79,16 +91,22 @@ impl Fact {
     }
 }
 
-/// Returns a pair of bytes that each text has of which the facts hold, if one is known.
-fn pair_of(facts: &[Fact]) -> Option<Pair>
-    ensures { IfSome result (IsPairOf facts.now) }
+/// Returns pairs of which each text has one that the facts hold of: those of the fact with the
+/// fewest. Returns `None` if no fact has any.
+fn fewest_pairs(alloc: Global, facts: &[Fact]) -> Result<Option<Vec<Pair>>, AllocError>
+    ensures { IfOk result (λ known. IfSome known (λ pairs. ArePairsOf facts.now pairs.items)) }
 {
+    let mut fewest: Option<Vec<Pair>> = None;
     for fact in facts {
-        if let Some(pair) = fact.pair() {
-            return Some(pair);
+        let Some(pairs) = fact.pairs(alloc)? else {
+            continue;
+        };
+        match &fewest {
+            Some(others) if others.len() <= pairs.len() => {}
+            _ => fewest = Some(pairs),
         }
     }
-    None
+    Ok(fewest)
 }
 
 /// Facts about all texts that some tokens match: their least length, and how they begin, how they
@@ -98,20 +116,20 @@ fn pair_of(facts: &[Fact]) -> Option<Pair>
 pub struct Prefilter {
     least: usize,
     facts: Vec<Fact>,
-    /// Two bytes that each of the texts has, if some are known.
-    pair: Option<Pair>,
+    /// Pairs of which each of the texts has one, if they are known.
+    pairs: Option<Vec<Pair>>,
 }
 
 impl Model for Prefilter {
     ghost use Rattle.std.specs.Prelude.{IfSome};
     ghost use Rattle.wax_prefilter.specs.Facts.{PrefilterView};
-    ghost use Rattle.wax_prefilter.specs.inner.Pairs.{IsPairOf};
+    ghost use Rattle.wax_prefilter.specs.inner.Pairs.{ArePairsOf};
 
     ghost Value = { PrefilterView };
 
     ghost view = { λ p. (p.least, p.facts.items) };
 
-    ghost invariant = { λ p. IfSome p.pair (IsPairOf p.facts.items) };
+    ghost invariant = { λ p. IfSome p.pairs (λ pairs. ArePairsOf p.facts.items pairs.items) };
 }
 
 impl Prefilter {
@@ -128,11 +146,11 @@ impl Prefilter {
         ensures { IfOk result (MeantPass (trees tokens.now)) }
     {
         let facts = all_facts(alloc, tokens)?;
-        let pair = pair_of(&facts);
+        let pairs = fewest_pairs(alloc, &facts)?;
         Ok(Prefilter {
             least: least_of_each(tokens),
             facts,
-            pair,
+            pairs,
         })
     }
 
@@ -153,15 +171,15 @@ impl Prefilter {
         self.passes(text, false)
     }
 
-    /// Returns how many bytes at the beginning of a text can be passed over in a search for parts
-    /// of it that the tokens match: none of them ends before so many bytes. Doesn't allocate. Takes
-    /// time proportional to the result or, if it is `usize::MAX`, to the text.
+    /// Returns how many bytes at the beginning of a text can be passed over in a search for lines
+    /// that the tokens match: none of them ends before so many bytes. Doesn't allocate. Takes time
+    /// proportional to the result.
     pub fn earliest_end(&self, text: &str) -> usize
-        ensures { (x y z : List ℕ) → text.now ≡ x ++ (y ++ z) → IsUtf8 y → PassesFacts self.now (chars y)
-            → result ≤ length (x ++ y) }
+        ensures { (x y z : List ℕ) → text.now ++ 10 ∷ [] ≡ x ++ (y ++ 10 ∷ z) → IsUtf8 y
+            → PassesFacts self.now (chars y) → result ≤ length (x ++ y) }
     {
-        match self.pair {
-            Some(pair) => pair.find(text.as_bytes()),
+        match &self.pairs {
+            Some(pairs) => find_first(pairs, text.as_bytes()),
             None => 0,
         }
     }

@@ -1,26 +1,42 @@
 -- Two bytes at a distance. Only private functions cite this file.
-use Rattle.std.specs.Prelude.{◌≡◌, ℕ, ◌+◌, ◌-◌, ◌<◌, ◌==◌, List, length, slice_index, replicate, chars}
+use Rattle.std.specs.Prelude.{◌≡◌, ℕ, ◌+◌, ◌-◌, ◌<◌, ◌==◌, List, [], ◌∷◌, ◌++◌, length, slice_index}
+use Rattle.std.specs.Prelude.{replicate, chars, IsTrue, Bool}
+use Rattle.std.specs.List.{Any}
 use Rattle.std.specs.Str.{IsUtf8}
 use Rattle.std.specs.Simd.Lanes.{zip2, sel_l}
 use Rattle.wax_prefilter.specs.Facts.{FactView, HoldsEach}
 use Rattle.wax_prefilter.specs.declared.pair.Pair.{Pair}
 
 -- the pair stands at this place
-pub record StandsPairAt (pair : Pair) (bytes : List ℕ) (place : ℕ) : Type 0 where
+pub record PairStandsAt (pair : Pair) (bytes : List ℕ) (place : ℕ) : Type 0 where
   pub inside : place + pair.distance < length bytes
   pub first : slice_index bytes place ≡ pair.first
   pub last : slice_index bytes (place + pair.distance) ≡ pair.last
 
-abbrev pub HasPair : Pair → List ℕ → Type 0
-HasPair pair bytes = (place : ℕ) × StandsPairAt pair bytes place
+-- one of the pairs stands at this place
+abbrev pub OneStandsAt : List Pair → List ℕ → ℕ → Type 0
+OneStandsAt pairs bytes place = Any (λ pair. PairStandsAt pair bytes place) pairs
 
--- each text of which the facts hold has the pair
-abbrev pub IsPairOf : List FactView → Pair → Type 0
-IsPairOf facts pair = (text : List ℕ) → IsUtf8 text → HoldsEach facts (chars text) → HasPair pair text
+-- one of the pairs stands in the text or, with its last byte, in the line feed after it
+abbrev pub LineHasOne : List Pair → List ℕ → Type 0
+LineHasOne pairs text = (place : ℕ) × OneStandsAt pairs (text ++ 10 ∷ []) place
 
--- it doesn't stand before this place
+-- each text of which the facts hold has one of the pairs
+abbrev pub ArePairsOf : List FactView → List Pair → Type 0
+ArePairsOf facts pairs = (text : List ℕ) → IsUtf8 text → HoldsEach facts (chars text) → LineHasOne pairs text
+
+-- pairs were added and, if the test answered true, each text so has one of these
+abbrev pub AddsPairs : List Pair → List Pair → Bool → (List ℕ → Type 0) → Type 0
+AddsPairs old new known IsSo = (added : List Pair) × (new ≡ old ++ added)
+    × (IsTrue known → (text : List ℕ) → IsUtf8 text → IsSo (chars text) → LineHasOne added text)
+
+-- the pair doesn't stand before this place
 abbrev pub NoPairBefore : Pair → List ℕ → ℕ → Type 0
-NoPairBefore pair bytes n = (k : ℕ) → k < n → StandsPairAt pair bytes k → ⊥
+NoPairBefore pair bytes n = (k : ℕ) → k < n → PairStandsAt pair bytes k → ⊥
+
+-- none of the pairs stands before this place
+abbrev pub NoneStandsBefore : List Pair → List ℕ → ℕ → Type 0
+NoneStandsBefore pairs bytes n = (k : ℕ) → k < n → OneStandsAt pairs bytes k → ⊥
 
 -- the byte behind each first byte of the pair, and for any other byte one that isn't the last of the pair
 abbrev pub followed : Pair → List ℕ → List ℕ → List ℕ

@@ -8,9 +8,3 @@ invariant-loop-at l = (l.at ≤ length l.lasts) × NoPairBefore l.self l.bytes l
 
 abbrev pub decreases-loop-at : goal.decreases-loop-at
 decreases-loop-at l = length l.lasts - l.at
-
-abbrev pub invariant-loop-at-2 : goal.invariant-loop-at-2
-invariant-loop-at-2 l = (l.at ≤ length l.lasts) × NoPairBefore l.self l.bytes l.at
-
-abbrev pub decreases-loop-at-2 : goal.decreases-loop-at-2
-decreases-loop-at-2 l = length l.lasts - l.at

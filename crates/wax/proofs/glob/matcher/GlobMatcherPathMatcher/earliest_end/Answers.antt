@@ -1,7 +1,7 @@
 use Rattle.std.proofs.Common.{false, subst}
-use Rattle.wax_candidate.specs.Parts.{NoneEndsBefore}
+use Rattle.wax_candidate.specs.Parts.{NoLineEndsBefore}
 use Rattle.wax_token.specs.Decided.{means_test}
 use Rattle.wax.proofs.glob.matcher.GlobMatcherPathMatcher.earliest_end.Goals as goal
 
 pub returns : goal.returns
-returns c = subst (λ g. NoneEndsBefore (means_test g.tree false false) c.args.text.now c.earliest_end.result) c.self.view_is c.earliest_end.ensures
+returns c = subst (λ g. NoLineEndsBefore (means_test g.tree false false) c.args.text.now c.earliest_end.result) c.self.view_is c.earliest_end.ensures

@@ -1,0 +1,7 @@
+use Rattle.std.proofs.Common.{subst}
+use Rattle.std.specs.Option.{IfSome}
+use Rattle.wax_prefilter.specs.inner.Pairs.{ArePairsOf}
+use Rattle.wax_prefilter.proofs.prefilter.Prefilter.new.Goals as goal
+
+pub invariant_of-result : goal.invariant_of-result
+invariant_of-result c = subst (λ facts. IfSome c.in_ok-pairs.pairs (λ pairs. ArePairsOf facts pairs.items)) c.deref.ensures.value c.in_ok-pairs.ensures
