@@ -12,9 +12,6 @@ use crate::table::{COLUMNS, DEAD, FIRST, State, Table};
 use std::alloc::{AllocError, Global};
 use wax_program::{CompiledProgram, Stepper};
 
-/// How many bytes of texts a state has to serve, on average, to be worth the cost of building it.
-const LEAST_READ: usize = 10;
-
 /// The size of a state in bytes, without its row: that of its cells, and about forty more.
 const STATE_BYTES: usize = 552;
 
@@ -30,6 +27,8 @@ pub struct Cache {
     first: Option<usize>,
     /// The greatest number of states that are kept.
     most: u16,
+    /// How many bytes of texts a state has to serve, on average, to be worth the cost of building it.
+    least_read: usize,
     /// How many bytes of texts were read since all states were last removed.
     read: usize,
     /// True if states were removed before they had served enough text.
@@ -62,6 +61,7 @@ impl Cache {
             start,
             first: None,
             most: most_states(program.size(), most_bytes),
+            least_read: least_read(program.size()),
             read: 0,
             gives_up: false,
         })
@@ -240,7 +240,7 @@ impl Cache {
             → IfOk result (λ _. IsRestarted self.old self.new s) }
         ensures err { OnErr result (IsCleared self.old self.new) }
     {
-        if self.read / LEAST_READ < self.table.states.len() {
+        if self.read < self.table.states.len().saturating_mul(self.least_read) {
             self.gives_up = true;
         }
         self.read = 0;
@@ -283,4 +283,10 @@ fn most_states(size: usize, bytes: usize) -> u16 {
     let row = (size / 64 + 1) * 8;
     let fitting = bytes / (STATE_BYTES + row);
     fitting.max(16).min(4_096) as u16
+}
+
+/// Returns how many bytes a state of a program of `size` instructions has to serve: from 64 for a
+/// small program, which runs over them in that time, to 2 for a large one.
+fn least_read(size: usize) -> usize {
+    (4_096 / size.max(1)).max(2).min(64)
 }

@@ -10,7 +10,8 @@ use std::alloc::{AllocError, Global};
 use wax_program::{CompiledProgram, Meter, last_name, reads_last, run_known};
 use wax_query::diagnostics::NoMemory;
 
-/// The least number of instructions of a program for which a cache is faster than running it.
+/// The least number of instructions of a program for which the cache is faster than running it even
+/// over characters past ASCII, after which a state is found by its row.
 const LEAST_SIZE: usize = 64;
 
 /// What is known of a program, and the states that earlier texts led to.
@@ -20,7 +21,7 @@ pub struct Known {
     reads_last: bool,
     /// How many bytes the cache may keep, about.
     most_bytes: usize,
-    /// The states that texts led to, if the program is large enough.
+    /// The states that texts led to, from the first text on.
     cache: Option<Cache>,
 }
 
@@ -37,7 +38,7 @@ impl Known {
         }
     }
 
-    /// Creates the cache, unless there is one or the program is too small.
+    /// Creates the cache, unless there is one.
     ///
     /// # Errors
     ///
@@ -46,7 +47,7 @@ impl Known {
         requires { IsKnownOf program.now.0 self.old }
         ensures { IsKnownOf program.now.0 self.new }
     {
-        if self.cache.is_none() && program.size() >= LEAST_SIZE {
+        if self.cache.is_none() {
             let cache = empty_cache(alloc, program, self.reads_last, self.most_bytes)?;
             self.cache = Some(cache);
         }
@@ -109,7 +110,8 @@ fn empty_cache(
     Cache::new(alloc, program, 0, most_bytes)
 }
 
-/// Decides a text by the cache, or by the program itself once the cache gave up.
+/// Decides a text by the cache. Runs the program instead if the cache gave up, or if that takes no
+/// longer.
 fn decide(
     alloc: Global,
     program: &CompiledProgram,
@@ -122,7 +124,7 @@ fn decide(
     ensures cache { IsKeptFor program.now.0 reads_last cache.new }
     ensures decides { IfOk result (λ b. IsTrue b ↔ Accepts program.now.0 0 (chars text.now)) }
 {
-    if cache.gives_up {
+    if cache.gives_up || program.size() < LEAST_SIZE && !text.is_ascii() {
         return decide_once(alloc, program, reads_last, text);
     }
     if reads_last {
