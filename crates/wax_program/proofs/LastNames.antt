@@ -1,19 +1,14 @@
 -- Programs that begin with components and stay in one from then on.
 use Rattle.std.proofs.Common.{◌≡◌, ℕ, zero, suc, ◌+◌, ◌-◌, ◌≤◌, ◌<◌, ◌⊎◌, ◌↔◌, List, [], ◌∷◌, ◌++◌, length, Some, slice_get, refl, sym, ◌∙◌, ap, subst, inl, inr, arith}
-use Rattle.std.proofs.Common.{◌*◌, ◌==◌, length-append}
-use Rattle.std.proofs.lemmas.Bool.{eqb-false}
+use Rattle.std.proofs.Common.{◌*◌, length-append}
 use Rattle.std.proofs.lemmas.Option.{slice_get_within}
-use Rattle.std.proofs.Common.{Bool, IfOk, IsTrue, take, drop}
+use Rattle.std.proofs.Common.{Bool, IfOk, IsTrue}
 use Rattle.std.proofs.Math.Nat.{mul-le-mul_right}
-use Rattle.std.proofs.lemmas.List.{take-append-drop}
-use Rattle.std.proofs.lemmas.Str.{IsUtf8-append, IsUtf8-drop, IsUtf8-from_ascii, IsUtf8-take, IsCharBoundary-at_seam, chars-append, chars_from_encodes, chars_past_char}
-use Rattle.std.proofs.lemmas.Str.Pattern.{drop_at_char}
+use Rattle.std.proofs.lemmas.Str.{IsUtf8-append, IsUtf8-from_ascii, chars-append, chars_past_char}
 use Rattle.std.proofs.Math.Utf8.{encode}
 use Rattle.std.specs.Prelude.{Result, Ok, Err}
-use Rattle.std.specs.Str.{IsCharBoundary}
-use Rattle.std.specs.Str.Pattern.{RFindsChar, SplitsAroundMatch}
 use Rattle.std.proofs.lemmas.Str.Ascii.{IsAscii-cons, IsAscii-nil}
-use Rattle.std.specs.Str.{IsUtf8, NoCharPasses, NonePass, chars}
+use Rattle.std.specs.Str.{IsUtf8, chars}
 use Rattle.wax_program.specs.declared.instruction.Instruction.{Instruction}
 use Rattle.wax_program.specs.declared.instruction.Instruction.TheVariants.{Check, Repeat, Components, Fork, Jump, Back}
 use Rattle.wax_program.specs.Last.{IsCutBetween, IsLastName, ReadsLast}
@@ -128,13 +123,6 @@ module _ (code : List Instruction) where
           whole_too a = after_fork 1 code 0 (before ++ 47 ∷ name) fork (inl (untaken before name a))
 
 -- ---- the last component of a text
-none_pass : (cs : List ℕ) → NonePass (λ d. d == 47) cs → HasNoSlash cs
-none_pass [] h = tt
-none_pass (c ∷ cs) h = (eqb-false c 47 h.0, none_pass cs h.1)
-
-pub name_slashless : (bs : List ℕ) → IsUtf8 bs → NoCharPasses (λ d. d == 47) bs → HasNoSlash (chars bs)
-name_slashless bs u (cs, e, none) = subst HasNoSlash (chars_from_encodes cs bs u e) (none_pass cs none)
-
 past_slash : (bs : List ℕ) → IsUtf8 bs → IsUtf8 (47 ∷ bs)
 past_slash bs u = IsUtf8-append (47 ∷ []) bs (IsUtf8-from_ascii (47 ∷ []) (IsAscii-cons 47 [] (omega arith) IsAscii-nil)) u
 
@@ -160,30 +148,6 @@ cut_between front name u v =
 
 pub not_cut : (bs : List ℕ) → IsCutBetween bs bs
 not_cut bs = record { bytes = omega arith; least = omega arith; most = omega arith }
-
--- a text that is cut around its last `/`
-pub last_name_of : (bs front name : List ℕ) → IsUtf8 bs → SplitsAroundMatch (RFindsChar 47) bs front name
-    → IsLastName (chars bs) (chars name) × IsCutBetween bs name
-last_name_of bs front name u (i, j, found, fs, ns, le, lf, ln) = (
-  (
-    name_slashless name name_utf8 (subst (NoCharPasses (λ d. d == 47)) (sym ns) found.0),
-    inr (chars front, ap chars parted ∙ cut_chars front name front_utf8 name_utf8),
-  ),
-  subst (λ z. IsCutBetween z name) (sym parted) (cut_between front name front_utf8 name_utf8),
-)
-  where
-    parted : bs ≡ front ++ 47 ∷ name
-    parted =
-        sym (take-append-drop i bs)
-        ∙ ap (λ z. take i bs ++ z) (drop_at_char 47 bs i j found.1 (omega arith))
-        ∙ ap (λ z. z ++ 47 ∷ drop j bs) (sym fs)
-        ∙ ap (λ z. front ++ 47 ∷ z) (sym ns)
-
-    name_utf8 : IsUtf8 name
-    name_utf8 = subst IsUtf8 (sym ns) (IsUtf8-drop bs j u (subst (IsCharBoundary bs) (sym found.1.ends) found.1.after))
-
-    front_utf8 : IsUtf8 front
-    front_utf8 = subst IsUtf8 (sym fs) (IsUtf8-take bs i u (subst (IsCharBoundary bs) lf (IsCharBoundary-at_seam bs front (47 ∷ name) parted (past_slash name name_utf8))))
 
 -- ---- what a run answers and counts
 pub name_decides : (code : List Instruction) (text name : List ℕ) → ReadsLast code → IsLastName text name

@@ -1,8 +1,10 @@
 //! Programs that depend only on the last component of a text, such as that of `**/*.rs`.
 ghost use Rattle.std.specs.Prelude.{◌≡◌, ◌+◌, ◌*◌, ◌≤◌, ◌↔◌, IsTrue, IfOk, Some, chars, length, min};
-ghost use Rattle.std.specs.Prelude.{slice_get};
+ghost use Rattle.std.specs.Prelude.{map, slice_get};
+ghost use Rattle.std.specs.Simd.Lanes.{mask_l};
 ghost use Rattle.wax_program.specs.declared.instruction.Instruction.TheVariants.{Components, Fork};
 ghost use Rattle.wax_program.specs.inner.Names.{StayInName, StaysInName};
+ghost use Rattle.wax_program.specs.inner.Slashes.{LastNameAt, is_slash};
 ghost use Rattle.wax_program.specs.Last.{IsCutBetween, IsLastName, ReadsLast};
 ghost use Rattle.wax_program.specs.Machine.{Accepts};
 ghost use Rattle.wax_program.specs.Meter.{most_ticks};
@@ -11,7 +13,11 @@ use crate::instruction::Instruction;
 use crate::machine::{CompiledProgram, Meter, Visits};
 use crate::matching::{run, run_at};
 use std::alloc::Global;
+use std::simd::prelude::*;
 use wax_query::diagnostics::NoMemory;
+
+/// How many bytes are compared at once.
+const LANES: usize = 32;
 
 /// Returns whether the program accepts the text, as [`run`] does. If the program is known to depend
 /// only on the last component, only that is followed, and what is before it is counted by its
@@ -69,10 +75,33 @@ pub fn last_name(text: &str) -> &str
     ensures name { IsLastName (chars text.now) (chars result.now) }
     ensures cut { IsCutBetween text.now result.now }
 {
-    match text.rsplit_once('/') {
-        Some((_, name)) => name,
-        None => text,
+    &text[last_name_at(text.as_bytes())..]
+}
+
+// Returns the place after the last `/`, or 0 if there is none.
+fn last_name_at(bytes: &[u8]) -> usize
+    ensures { LastNameAt result bytes.now }
+{
+    let mut end = bytes.len();
+    while end >= LANES {
+        let found = slashes(u8x32::from_slice(&bytes[end - LANES..]));
+        if found != 0 {
+            return end + LANES - found.leading_zeros() as usize;
+        }
+        end -= LANES;
     }
+    while end > 0 && bytes[end - 1] != b'/' {
+        end -= 1;
+    }
+    end
+}
+
+// Returns a mask in which the lowest bit belongs to the first byte, and is set if that is a `/`.
+#[inline(always)]
+fn slashes(bytes: u8x32) -> u64
+    ensures { result ≡ mask_l (map is_slash bytes) }
+{
+    bytes.simd_eq(u8x32::splat(b'/')).to_bitmask()
 }
 
 /// Returns whether the program is known to depend only on the last component: it begins with zero

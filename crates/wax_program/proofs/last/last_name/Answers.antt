@@ -1,14 +1,18 @@
-use Rattle.std.proofs.Common.{inl, refl}
-use Rattle.wax_program.proofs.LastNames.{last_name_of, name_slashless}
+use Rattle.std.proofs.Common.{subst}
+use Rattle.wax_program.specs.inner.Slashes.{LastNameAt}
+use Rattle.wax_program.proofs.Slashes.{boundary_at, last_name_from}
 use Rattle.wax_program.proofs.last.last_name.Goals as goal
 
-pub returns-in-Some-clause-name : goal.returns-in-Some-clause-name
-returns-in-Some-clause-name c =
-    (last_name_of c.args.text.now c.in-Some.field-0-0.now c.in-Some.name.now c.utf8.text c.in-Some.ensures.cases).0
+pub range_from-requires : goal.range_from-requires
+range_from-requires c =
+    boundary_at c.args.text.now c.last_name_at.result c.utf8.text (subst (LastNameAt c.last_name_at.result) c.as_bytes.ensures.value c.last_name_at.ensures)
 
-pub returns-in-Some-clause-cut : goal.returns-in-Some-clause-cut
-returns-in-Some-clause-cut c =
-    (last_name_of c.args.text.now c.in-Some.field-0-0.now c.in-Some.name.now c.utf8.text c.in-Some.ensures.cases).1
+pub returns-clause-name : goal.returns-clause-name
+returns-clause-name c =
+    (last_name_from c.args.text.now c.range_from.result.now c.last_name_at.result c.utf8.text
+    (subst (LastNameAt c.last_name_at.result) c.as_bytes.ensures.value c.last_name_at.ensures) c.range_from.ensures.value).0
 
-pub returns-in-None-clause-name : goal.returns-in-None-clause-name
-returns-in-None-clause-name c = (name_slashless c.args.text.now c.utf8.text c.in-None.ensures.cases, inl refl)
+pub returns-clause-cut : goal.returns-clause-cut
+returns-clause-cut c =
+    (last_name_from c.args.text.now c.range_from.result.now c.last_name_at.result c.utf8.text
+    (subst (LastNameAt c.last_name_at.result) c.as_bytes.ensures.value c.last_name_at.ensures) c.range_from.ensures.value).1
