@@ -89,6 +89,14 @@ alike (d ∷ held) (c ∷ text) h each =
     more form forms zero lt = form
     more form forms (suc k) lt = forms k (omega (arith, lt))
 
+-- a beginning of the text is a beginning of the other in any case
+pub same_beginning : (front rest text : List ℕ) → SameText true (front ++ rest) text
+    → (x : List ℕ) × (y : List ℕ) × (text ≡ x ++ y) × SameText true front x
+same_beginning [] rest text h = ([], text, refl, tt)
+same_beginning (c ∷ front) rest [] h = absurd h
+same_beginning (c ∷ front) rest (d ∷ text) h =
+    let (x, y, e, g) = same_beginning front rest text h.1 in (d ∷ x, y, ap (λ t. d ∷ t) e, (h.0, g))
+
 pub held_ascii : (held : List ℕ) → ((k : ℕ) → k < length held → HasAsciiForms (get_or held k 0)) → IsAscii held
 held_ascii [] each i = omega arith
 held_ascii (d ∷ held) each zero = (each 0 (omega arith)).0

@@ -1,5 +1,6 @@
 //! Searching texts in any case.
-ghost use Rattle.std.specs.Prelude.{◌≡◌, ◌<◌, ℕ, IsTrue, List, OnOk, ◌++◌, chars, length, slice_index, true};
+ghost use Rattle.std.specs.Prelude.{◌≡◌, ◌≤◌, ◌<◌, ℕ, IsTrue, List, OnOk, ◌++◌};
+ghost use Rattle.std.specs.Prelude.{chars, length, slice_index, true};
 ghost use Rattle.wax_prefilter.specs.inner.Forms.{HasAsciiForms, pairs_of_forms};
 ghost use Rattle.wax_token.specs.Meaning.{SameText};
 
@@ -46,18 +47,25 @@ pub fn holds_in_any_case(text: &str, held: &str) -> bool
     false
 }
 
-/// Returns whether the bytes are ASCII characters, and all their forms in any case are, too.
-pub fn have_ascii_forms(bytes: &[u8]) -> bool
-    ensures { IsTrue result → (k : ℕ) → k < length bytes.now → HasAsciiForms (slice_index bytes.now k) }
+/// Returns how many of the first bytes are ASCII characters whose forms in any case are ASCII
+/// characters, too.
+pub fn ascii_forms_len(bytes: &[u8]) -> usize
+    ensures inside { result ≤ length bytes.now }
+    ensures forms { (k : ℕ) → k < result → HasAsciiForms (slice_index bytes.now k) }
 {
-    for byte in bytes {
-        // The Kelvin sign is a form of `k`, and the long s is one of `s`.
-        let lower = byte.to_ascii_lowercase();
-        if !byte.is_ascii() || lower == b'k' || lower == b's' {
-            return false;
-        }
+    let mut len = 0;
+    while len < bytes.len() && has_ascii_forms(bytes[len]) {
+        len += 1;
     }
-    true
+    len
+}
+
+// The Kelvin sign is a form of `k`, and the long s is one of `s`.
+fn has_ascii_forms(byte: u8) -> bool
+    ensures { IsTrue result → HasAsciiForms byte }
+{
+    let lower = byte.to_ascii_lowercase();
+    byte.is_ascii() && lower != b'k' && lower != b's'
 }
 
 /// Appends the pairs of two ASCII characters in both cases.

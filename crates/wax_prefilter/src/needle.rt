@@ -6,7 +6,7 @@ ghost use Rattle.wax_prefilter.specs.Facts.{StandsAt};
 ghost use Rattle.wax_prefilter.specs.declared.needle.Place.{Place};
 ghost use Rattle.wax_prefilter.specs.inner.Pairs.{AddsPairs};
 
-use crate::any_case::{add_forms, begins_in_any_case, have_ascii_forms, holds_in_any_case};
+use crate::any_case::{add_forms, ascii_forms_len, begins_in_any_case, holds_in_any_case};
 use crate::pair::Pair;
 use std::alloc::{AllocError, Global};
 use std::marker::Model;
@@ -51,7 +51,8 @@ impl Needle {
     }
 
     /// Appends pairs of which each text has one that has the needle at any place: the needle's first
-    /// and last byte, for a needle in any case in both cases. Returns `false` if none is known.
+    /// and last byte. For a needle in any case, these are pairs in both cases, and the last byte
+    /// before one that has forms past ASCII. Returns `false` if none is known.
     ///
     /// # Errors
     ///
@@ -61,22 +62,16 @@ impl Needle {
             (λ text. (place : Place) × StandsAt place self.now text)) }
     {
         let bytes = self.text.as_str().as_bytes();
-        if bytes.len() < 2 {
-            return Ok(false);
-        }
-        let distance = bytes.len() - 1;
-        let pair = Pair {
-            first: bytes[0],
-            last: bytes[distance],
-            distance,
-        };
         if !self.is_case_insensitive {
+            let Some(pair) = Pair::ends_of(bytes) else {
+                return Ok(false);
+            };
             pairs.push(pair)?;
             return Ok(true);
         }
-        if !have_ascii_forms(bytes) {
+        let Some(pair) = Pair::ends_of(&bytes[..ascii_forms_len(bytes)]) else {
             return Ok(false);
-        }
+        };
         add_forms(pair, pairs)?;
         Ok(true)
     }

@@ -1,9 +1,9 @@
 //! Searching bytes for two of them at a distance.
-ghost use Rattle.std.specs.Prelude.{◌≡◌, ◌≤◌, ◌+◌, All, length, ◌==◌};
+ghost use Rattle.std.specs.Prelude.{◌≡◌, ◌≤◌, ◌+◌, All, IfSome, length, ◌==◌};
 ghost use Rattle.std.specs.List.{position_or_len};
 ghost use Rattle.std.specs.Prelude.{map};
 ghost use Rattle.std.specs.Simd.Lanes.{mask_l};
-ghost use Rattle.wax_prefilter.specs.inner.Pairs.{NoPairBefore, NoneStandsBefore, followed};
+ghost use Rattle.wax_prefilter.specs.inner.Pairs.{NoPairBefore, NoneStandsBefore, PairStandsAt, followed};
 
 use std::simd::prelude::*;
 
@@ -70,6 +70,21 @@ fn first_place(pairs: &[Pair], bytes: &[u8]) -> usize
 }
 
 impl Pair {
+    /// Returns the first and the last of the bytes, or `None` if they are fewer than two.
+    pub fn ends_of(bytes: &[u8]) -> Option<Pair>
+        ensures { IfSome result (λ pair. PairStandsAt pair bytes.now 0) }
+    {
+        if bytes.len() < 2 {
+            return None;
+        }
+        let distance = bytes.len() - 1;
+        Some(Pair {
+            first: bytes[0],
+            last: bytes[distance],
+            distance,
+        })
+    }
+
     // Returns what `find_first` does, for one pair.
     fn find(self, bytes: &[u8]) -> usize
         ensures before { NoPairBefore self bytes.now result }
