@@ -1,9 +1,10 @@
 //! Searching bytes for two of them at a distance.
-ghost use Rattle.std.specs.Prelude.{◌≡◌, ◌≤◌, ◌+◌, All, IfSome, length, ◌==◌};
+ghost use Rattle.std.specs.Prelude.{◌≡◌, ◌≤◌, ◌+◌, All, IfSome, length};
 ghost use Rattle.std.specs.List.{position_or_len};
 ghost use Rattle.std.specs.Prelude.{map};
 ghost use Rattle.std.specs.Simd.Lanes.{mask_l};
-ghost use Rattle.wax_prefilter.specs.inner.Pairs.{NoPairBefore, NoneStandsBefore, PairStandsAt, followed};
+ghost use Rattle.wax_prefilter.specs.inner.Pairs.{NoPairBefore, NoneStandsBefore, PairStandsAt};
+ghost use Rattle.wax_prefilter.specs.inner.Pairs.{ZeroWhere, is_zero};
 
 use std::simd::prelude::*;
 
@@ -61,12 +62,33 @@ fn first_place(pairs: &[Pair], bytes: &[u8]) -> usize
     ensures inside { result ≤ LANES }
 {
     let front = u8x32::from_slice(bytes);
-    let mut first = LANES;
+    let mut least = u8x32::splat(1);
     for pair in pairs {
         let back = u8x32::from_slice(&bytes[pair.distance..]);
-        first = first.min(pair.first_lane(front, back));
+        least = least.simd_min(pair.differences(front, back));
     }
-    first
+    first_zero(least)
+}
+
+// Returns the first lane that is 0, or the number of lanes.
+#[inline(always)]
+fn first_zero(lanes: u8x32) -> usize
+    ensures { result ≡ position_or_len is_zero lanes }
+{
+    let zeros = zeros(lanes);
+    if zeros == 0 {
+        LANES
+    } else {
+        zeros.trailing_zeros() as usize
+    }
+}
+
+// Returns a mask in which the lowest bit belongs to the first lane, and is set if that is 0.
+#[inline(always)]
+fn zeros(lanes: u8x32) -> u64
+    ensures { result ≡ mask_l (map is_zero lanes) }
+{
+    lanes.simd_eq(u8x32::splat(0)).to_bitmask()
 }
 
 impl Pair {
@@ -96,7 +118,7 @@ impl Pair {
         let mut at = 0;
         while lasts.len() - at >= LANES {
             let front = u8x32::from_slice(&bytes[at..]);
-            let lane = self.first_lane(front, u8x32::from_slice(&lasts[at..]));
+            let lane = first_zero(self.differences(front, u8x32::from_slice(&lasts[at..])));
             if lane < LANES {
                 return at + lane;
             }
@@ -105,28 +127,13 @@ impl Pair {
         at
     }
 
-    // Returns the first lane where the pair stands, or the number of lanes. `back` has the bytes at
-    // the distance from those of `front`.
+    // Returns 0 in each lane where the pair is found. `back` has the bytes at the distance from those
+    // of `front`.
     #[inline(always)]
-    fn first_lane(self, front: u8x32, back: u8x32) -> usize
-        ensures { result ≡ position_or_len (λ b. b == self.last) (followed self front back) }
+    fn differences(self, front: u8x32, back: u8x32) -> u8x32
+        ensures lanes { length result ≡ LANES }
+        ensures zero { ZeroWhere self front back result }
     {
-        let found = self.marks(front, back);
-        if found == 0 {
-            LANES
-        } else {
-            found.trailing_zeros() as usize
-        }
-    }
-
-    // Returns a mask in which the lowest bit belongs to the first place, and is set if the pair
-    // stands there.
-    #[inline(always)]
-    fn marks(self, front: u8x32, back: u8x32) -> u64
-        ensures { result ≡ mask_l (map (λ b. b == self.last) (followed self front back)) }
-    {
-        let is_first = front.simd_eq(u8x32::splat(self.first));
-        let followed = is_first.select(back, u8x32::splat(!self.last));
-        followed.simd_eq(u8x32::splat(self.last)).to_bitmask()
+        (front ^ u8x32::splat(self.first)) | (back ^ u8x32::splat(self.last))
     }
 }

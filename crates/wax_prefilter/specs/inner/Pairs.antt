@@ -1,9 +1,8 @@
 -- Two bytes at a distance. Only private functions cite this file.
-use Rattle.std.specs.Prelude.{◌≡◌, ℕ, ◌+◌, ◌-◌, ◌<◌, ◌==◌, List, [], ◌∷◌, ◌++◌, length, slice_index}
-use Rattle.std.specs.Prelude.{replicate, chars, IsTrue, Bool}
+use Rattle.std.specs.Prelude.{◌≡◌, ℕ, ◌+◌, ◌<◌, ◌==◌, List, [], ◌∷◌, ◌++◌, length, slice_index}
+use Rattle.std.specs.Prelude.{chars, IsTrue, Bool}
 use Rattle.std.specs.List.{Any}
 use Rattle.std.specs.Str.{IsUtf8}
-use Rattle.std.specs.Simd.Lanes.{zip2, sel_l}
 use Rattle.wax_prefilter.specs.Facts.{FactView, HoldsEach}
 use Rattle.wax_prefilter.specs.declared.pair.Pair.{Pair}
 
@@ -38,7 +37,10 @@ NoPairBefore pair bytes n = (k : ℕ) → k < n → PairStandsAt pair bytes k �
 abbrev pub NoneStandsBefore : List Pair → List ℕ → ℕ → Type 0
 NoneStandsBefore pairs bytes n = (k : ℕ) → k < n → OneStandsAt pairs bytes k → ⊥
 
--- the byte behind each first byte of the pair, and for any other byte one that isn't the last of the pair
-abbrev pub followed : Pair → List ℕ → List ℕ → List ℕ
-followed pair front back =
-    sel_l (zip2 (λ a b. a == b) front (replicate 32 pair.first)) back (replicate 32 (255 - pair.last))
+abbrev pub is_zero : ℕ → Bool
+is_zero b = b == 0
+
+-- the lane is 0 if both bytes of the pair stand in the lanes of two vectors
+abbrev pub ZeroWhere : Pair → List ℕ → List ℕ → List ℕ → Type 0
+ZeroWhere pair front back lanes = (k : ℕ) → k < 32 → slice_index front k ≡ pair.first
+    → slice_index back k ≡ pair.last → slice_index lanes k ≡ 0
