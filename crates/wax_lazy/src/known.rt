@@ -43,6 +43,7 @@ impl Known {
     /// # Errors
     ///
     /// Returns `AllocError` if allocation fails.
+    #[inline]
     pub fn prepare(&mut self, alloc: Global, program: &CompiledProgram) -> Result<(), AllocError>
         requires { IsKnownOf program.now.0 self.old }
         ensures { IsKnownOf program.now.0 self.new }
@@ -94,6 +95,7 @@ fn reads_only_name(program: &CompiledProgram) -> bool
 }
 
 /// Creates a cache for last components, which begin at the place 2, or for whole texts.
+#[inline(never)]
 fn empty_cache(
     alloc: Global,
     program: &CompiledProgram,

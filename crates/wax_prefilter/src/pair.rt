@@ -1,7 +1,6 @@
 //! Searching bytes for two of them at a distance.
-ghost use Rattle.std.specs.Prelude.{◌≡◌, ◌≤◌, ◌+◌, All, IfSome, length};
 ghost use Rattle.std.specs.List.{position_or_len};
-ghost use Rattle.std.specs.Prelude.{map};
+ghost use Rattle.std.specs.Prelude.{◌≡◌, ◌≤◌, ◌+◌, All, IfSome, length, map};
 ghost use Rattle.std.specs.Simd.Lanes.{mask_l};
 ghost use Rattle.wax_prefilter.specs.inner.Pairs.{NoPairBefore, NoneStandsBefore, PairStandsAt};
 ghost use Rattle.wax_prefilter.specs.inner.Pairs.{ZeroWhere, is_zero};
