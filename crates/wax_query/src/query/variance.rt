@@ -1,13 +1,15 @@
 //! Values that are either fixed for all matches of a glob or vary within bounds.
-ghost use Rattle.std.specs.Prelude.{◌≡◌, ◌↔◌, IfOk, IsNone, IsSome, IsTrue};
-ghost use Rattle.std.specs.Prelude.{option_copied, option_map, string_bytes};
+ghost use Rattle.std.specs.Prelude.{◌≡◌, ◌↔◌, IfOk, IsNone, IsSome, IsTrue, Some};
+ghost use Rattle.std.specs.Prelude.{option_and_then, option_copied, option_map, string_bytes};
 ghost use Rattle.std.specs.Option.{ForSome};
+ghost use Rattle.wax_query.specs.Ranges.{bound_number, present};
 ghost use Rattle.wax_query.specs.Variances.{IsMapped, bound, variance_value, invariant, text_of};
 ghost use Rattle.wax_query.specs.Variances.{variance_copied, variant};
 
 use crate::diagnostics::NoMemory;
 use std::alloc::Global;
 use std::borrow::CowStr;
+use std::num::NonZeroUsize;
 
 /// A bound of a range, or `Unbounded` where the range is open.
 #[derive(Clone, Copy, Debug, PartialEq, Eq, Hash, Drop)]
@@ -59,6 +61,32 @@ impl<T> Boundedness<T> {
         ensures { IsTrue result ↔ IsNone (bound self.now) }
     {
         !self.is_bounded()
+    }
+}
+
+impl<T> From<T> for Boundedness<T> {
+    ghost from_gives = { λ x r. bound r ≡ Some x };
+
+    fn from(bound: T) -> Self {
+        Boundedness::Bounded(bound)
+    }
+}
+
+/// 0 becomes `Unbounded`.
+impl From<usize> for Boundedness<NonZeroUsize> {
+    ghost from_gives = { λ n r. bound_number r ≡ present n };
+
+    fn from(bound: usize) -> Self {
+        NonZeroUsize::new(bound).map_or(Boundedness::Unbounded, Boundedness::Bounded)
+    }
+}
+
+/// `None` and `Some(0)` become `Unbounded`.
+impl From<Option<usize>> for Boundedness<NonZeroUsize> {
+    ghost from_gives = { λ n r. bound_number r ≡ option_and_then present n };
+
+    fn from(bound: Option<usize>) -> Self {
+        Boundedness::from(bound.unwrap_or(0))
     }
 }
 
