@@ -1,10 +1,11 @@
 //! How a branch combines its tokens: a match needs all of them, or one.
-ghost use Rattle.std.specs.Prelude.{◌≡◌, ◌↔◌, IsSome, option_map};
+ghost use Rattle.std.specs.Prelude.{◌≡◌, ◌↔◌, IsSome, Some, option_map};
 ghost use Rattle.std.specs.Borrow.{Lends, sem};
 ghost use Rattle.std.specs.Option.{ForSome};
 ghost use Rattle.wax_query.specs.Variances.{IsMapped};
 ghost use Rattle.wax_token.specs.Compositions.{children_of, composition_copied, composition_of};
 ghost use Rattle.wax_token.specs.Compositions.{conjunctive, disjunctive, composition_value, on_inner};
+ghost use Rattle.wax_token.specs.View.{branch_tree};
 ghost use Rattle.wax_token.specs.Words.{trees};
 ghost use Rattle.wax_token.specs.contracts.token.composition.Composition.{the_row};
 
@@ -130,6 +131,33 @@ impl<T> Composition<T, T> {
     }
 }
 
+impl<'t, A> BranchKind<'t, A> {
+    /// Returns `Disjunctive` for an alternation, and `Conjunctive` for every other branch.
+    pub fn composition(&self) -> TokenComposition<()>
+        ensures { (a : A) → result ≡ composition_of (branch_tree self.now a) }
+    {
+        match self {
+            BranchKind::Alternation(_) => Composition::Disjunctive(()),
+            _ => Composition::Conjunctive(()),
+        }
+    }
+}
+
+impl<'t, A: Annotation> BranchKind<'t, A> {
+    /// Returns the tokens in the branch: the branches of an alternation, the tokens of a
+    /// concatenation, or the body of a repetition.
+    pub fn tokens(&self) -> TokenComposition<&[Token<'t, A>]>
+        ensures { (a : A) → Some (on_inner (λ ts. trees ts.now) result)
+            ≡ children_of (branch_tree self.now a) }
+    {
+        match self {
+            BranchKind::Alternation(a) => Composition::Disjunctive(a.tokens.as_slice()),
+            BranchKind::Concatenation(c) => Composition::Conjunctive(c.tokens.as_slice()),
+            BranchKind::Repetition(r) => Composition::Conjunctive(A::lone(&r.token)),
+        }
+    }
+}
+
 impl<'t, A> Token<'t, A> {
     /// Returns `Disjunctive` for an alternation, and `Conjunctive` for every other token, leaves
     /// included.
@@ -151,11 +179,7 @@ impl<'t, A: Annotation> Token<'t, A> {
         ensures { option_map (on_inner (λ ts. trees ts.now)) result ≡ children_of self.now }
     {
         match &self.topology {
-            Topology::Branch(branch) => match branch {
-                BranchKind::Alternation(a) => Some(Composition::Disjunctive(a.tokens.as_slice())),
-                BranchKind::Concatenation(c) => Some(Composition::Conjunctive(c.tokens.as_slice())),
-                BranchKind::Repetition(r) => Some(Composition::Conjunctive(A::lone(&r.token))),
-            },
+            Topology::Branch(branch) => Some(branch.tokens()),
             Topology::Leaf(_) => None,
         }
     }

@@ -5,12 +5,22 @@ ghost use Rattle.wax_token.specs.Kinds.{alternation_of, class_of, concatenation_
 ghost use Rattle.wax_token.specs.Kinds.{is_alternation, is_branch, is_capturing, is_concatenation};
 ghost use Rattle.wax_token.specs.Kinds.{is_literal, is_separator, is_tree_wildcard, repetition_of};
 ghost use Rattle.wax_token.specs.Kinds.{wildcard_of};
+ghost use Rattle.wax_token.specs.View.{branch_tree};
 ghost use Rattle.wax_token.specs.Words.{is_leaf_tree, trees};
 
 use super::{
     Alternation, BranchKind, Class, Concatenation, LeafKind, Literal, Repetition, Separator, Token,
     Topology, Wildcard,
 };
+
+impl<'t, A> BranchKind<'t, A> {
+    /// Returns whether a match captures the branch's piece, as for all but a concatenation.
+    pub fn is_capturing(&self) -> bool
+        ensures { (a : A) → result ≡ is_capturing (branch_tree self.now a) }
+    {
+        !matches!(self, BranchKind::Concatenation(_))
+    }
+}
 
 impl<'t, A> Token<'t, A> {
     /// Returns the token as an alternation, or `None`.
@@ -156,7 +166,7 @@ impl<'t, A> Token<'t, A> {
         ensures { result ≡ is_capturing self.now }
     {
         match &self.topology {
-            Topology::Branch(branch) => !matches!(branch, BranchKind::Concatenation(_)),
+            Topology::Branch(branch) => branch.is_capturing(),
             Topology::Leaf(leaf) => leaf.is_capturing(),
         }
     }

@@ -29,6 +29,19 @@ impl<'t, A> Token<'t, A> {
     }
 }
 
+/// The token's annotation is the default one.
+impl<'t, A: Default> From<TokenTopology<'t, A>> for Token<'t, A> {
+    ghost from_gives = { λ x r. (a : A) × A.is_default a × (r ≡ topology_tree x a) };
+
+    fn from(topology: TokenTopology<'t, A>) -> Self {
+        let annotation = A::default();
+        Token {
+            topology,
+            annotation,
+        }
+    }
+}
+
 /// Builds a token from a leaf and an annotation.
 pub fn new_leaf<'t, A>(kind: LeafKind<'t>, annotation: A) -> Token<'t, A>
     ensures { result ≡ leaf annotation (leaf_of kind.entry) }
