@@ -3,6 +3,7 @@ ghost use Rattle.std.specs.Prelude.{◌≡◌, ℕ, List, Some, IfOk, chars, enc
 ghost use Rattle.std.specs.Cmp.{partial_equiv_from_equiv};
 ghost use Rattle.std.specs.Cmp.Lexicographic.{pointwise, nat_list_eq_equiv};
 ghost use Rattle.std.specs.Cow.{cow_str_bytes};
+ghost use Rattle.std.specs.Fmt.{debug_str};
 
 use std::alloc::{AllocError, Global};
 use std::borrow::CowStr;
@@ -12,7 +13,7 @@ use std::marker::Model;
 use wax_query::diagnostics::NoMemory;
 
 /// A text that may be a path. Contracts see its characters.
-#[derive(Debug, Drop)]
+#[derive(Drop)]
 pub struct CandidatePath<'t> {
     text: CowStr<'t>,
 }
@@ -108,5 +109,14 @@ impl fmt::Display for CandidatePath<'_> {
 
     fn fmt<W: fmt::Write>(&self, f: &mut fmt::Formatter<W>) -> fmt::Result {
         fmt::Display::fmt(AsStr::as_str(self), f)
+    }
+}
+
+/// Prints the text between quotes, as `{:?}` of a `&str` does.
+impl fmt::Debug for CandidatePath<'_> {
+    ghost debug_output = { λ path. debug_str (encode_utf8_all path) };
+
+    fn fmt<W: fmt::Write>(&self, f: &mut fmt::Formatter<W>) -> fmt::Result {
+        fmt::Debug::fmt(&AsStr::as_str(self), f)
     }
 }
