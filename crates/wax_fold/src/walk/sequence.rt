@@ -10,7 +10,7 @@ use wax_query::diagnostics::NoMemory;
 use wax_token::token::{BranchKind, Token};
 
 /// A branch, as a sequencer gets it. Contracts see its content.
-#[derive(Drop)]
+#[derive(Debug, Drop)]
 pub struct Parent<T>(T);
 
 impl<T> Model for Parent<T> {
@@ -26,7 +26,7 @@ pub type ParentToken<'i, 't, A> = Parent<&'i BranchKind<'t, A>>;
 
 /// A token of a branch, as a sequencer returns it. Only a `Parent` makes them, so a sequencer can't
 /// choose tokens of other branches. Contracts see its content.
-#[derive(Drop)]
+#[derive(Debug, Drop)]
 pub struct Child<T>(T);
 
 impl<T> Model for Child<T> {
