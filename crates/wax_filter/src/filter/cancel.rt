@@ -49,7 +49,7 @@ pub trait CancelWalk: SeparatingFilter {
 }
 
 /// A borrowed walk that can be cancelled and nothing else.
-#[derive(Drop)]
+#[derive(Debug, Drop)]
 pub struct WalkCancellation<'i, I>(&'i mut I);
 
 impl<'i, I> WalkCancellation<'i, I>

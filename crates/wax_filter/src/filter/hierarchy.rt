@@ -30,7 +30,7 @@ where
 /// A walk whose items are separated by a closure over their entries. `None` keeps the item as it
 /// is, `Node` excludes only the item if it was kept, and `Tree` excludes it with everything below
 /// it, which is cancelled. The closure is never called for an error.
-#[derive(Drop)]
+#[derive(Clone, Debug, Drop)]
 pub struct FilterTreeBySubstituent<I, F> {
     input: I,
     f: F,

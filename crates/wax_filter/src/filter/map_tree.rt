@@ -33,7 +33,7 @@ where
 /// A walk whose items, kept or excluded, are mapped by a closure. The closure borrows the walk and
 /// may cancel what is below the item. Callers of `feed` have to show that it does nothing else to
 /// the walk.
-#[derive(Drop)]
+#[derive(Clone, Debug, Drop)]
 pub struct FilterMapTree<I, S, F> {
     input: I,
     f: F,
