@@ -1,5 +1,7 @@
 -- What contracts see of entries and of errors.
 use Rattle.std.specs.Prelude.{List, ℕ, Option, Some, None, Result, Ok, Err, string_bytes}
+use Rattle.std.specs.declared.io.ErrorKind.{ErrorKind}
+use Rattle.std.specs.declared.io.ErrorKind.TheVariants as IoKind
 use Rattle.wax_filter.specs.declared.filter.separation.Separation.{Separation}
 use Rattle.wax_filter.specs.declared.filter.separation.Separation.TheVariants.{Filtrate, Residue}
 use Rattle.wax_filter.specs.declared.filter.tree_residue.TreeResidue.{TreeResidue}
@@ -37,6 +39,16 @@ kind_of_fault F.Budget = K.Budget
 abbrev pub error_kind : WalkError → WalkErrorKind
 error_kind (Fault kind path depth) = kind_of_fault kind
 error_kind Memory = K.Memory
+
+-- the nearest kind of an error of std
+abbrev pub io_kind_of : WalkErrorKind → ErrorKind
+io_kind_of K.NotFound = IoKind.NotFound
+io_kind_of K.NotAFolder = IoKind.NotADirectory
+io_kind_of K.Listing = IoKind.Other
+io_kind_of K.BadName = IoKind.Other
+io_kind_of K.NotText = IoKind.InvalidData
+io_kind_of K.Budget = IoKind.Other
+io_kind_of K.Memory = IoKind.OutOfMemory
 
 abbrev pub error_path : WalkError → Option (List ℕ)
 error_path (Fault kind path depth) = Some (string_bytes path)

@@ -3,7 +3,10 @@
 ghost use Rattle.std.specs.Prelude.{◌≡◌};
 ghost use Rattle.std.specs.Option.{option_map};
 ghost use Rattle.wax_walk.specs.Entries.{kind_of_fault, error_kind, error_path, error_depth};
+ghost use Rattle.wax_walk.specs.Entries.{io_kind_of};
 
+use std::io;
+use std::io::ErrorKind;
 use thiserror::Error;
 
 /// What couldn't be read, and why.
@@ -113,6 +116,25 @@ impl WalkError {
         match self {
             WalkError::Fault(_, _, depth) => *depth,
             WalkError::Memory => 0,
+        }
+    }
+}
+
+/// The error has a kind of std that is nearest, and the text of the walk's kind, without the path.
+impl From<WalkError> for io::Error {
+    ghost use Rattle.std.specs.IoError.{error_kind as io_kind};
+
+    ghost from_gives = { λ e r. io_kind r ≡ io_kind_of (error_kind e) };
+
+    fn from(error: WalkError) -> Self {
+        match error.kind() {
+            WalkErrorKind::NotFound => io::Error::new(ErrorKind::NotFound, "not found"),
+            WalkErrorKind::NotAFolder => io::Error::new(ErrorKind::NotADirectory, "not a folder"),
+            WalkErrorKind::Listing => io::Error::other("cannot be listed"),
+            WalkErrorKind::BadName => io::Error::other("bad name"),
+            WalkErrorKind::NotText => io::Error::new(ErrorKind::InvalidData, "name is not text"),
+            WalkErrorKind::Budget => io::Error::other("budget reached"),
+            WalkErrorKind::Memory => io::Error::new(ErrorKind::OutOfMemory, "no memory"),
         }
     }
 }

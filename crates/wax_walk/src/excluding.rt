@@ -140,7 +140,7 @@ where
 }
 
 /// A walk without what a rule excludes. `FileIterator::excluding` builds it.
-#[derive(Drop)]
+#[derive(Clone, Debug, Drop)]
 pub struct Excluding<I, P> {
     alloc: Global,
     input: I,

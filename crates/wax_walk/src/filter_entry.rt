@@ -39,7 +39,7 @@ where
 }
 
 /// A walk without what a closure excludes. `FileIterator::filter_entry` builds it.
-#[derive(Drop)]
+#[derive(Clone, Debug, Drop)]
 pub struct FilterEntry<I, F> {
     input: I,
     f: F,
