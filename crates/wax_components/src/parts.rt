@@ -17,7 +17,7 @@ use wax_token::token::{Annotation, ConcatenationTree, ExpressionMetadata, Token}
 
 /// A component of a glob: the tokens between two boundaries, or a single `**`. Contracts see the
 /// tokens.
-#[derive(Drop)]
+#[derive(Clone, Debug, Drop)]
 pub struct Component<'i, 't, A> {
     tokens: &'i [Token<'t, A>],
 }
@@ -92,7 +92,7 @@ impl<'i, 't> Component<'i, 't, ExpressionMetadata> {
 }
 
 /// Literals one after another, as in `a(?i)b`. Contracts see their characters together.
-#[derive(Drop)]
+#[derive(Clone, Debug, Drop)]
 pub struct LiteralSequence<'i, 't, A> {
     tokens: &'i [Token<'t, A>],
 }
