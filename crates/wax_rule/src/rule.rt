@@ -119,7 +119,7 @@ impl Display for RuleError<'_> {
 }
 
 /// Tokens that passed `check`, or were combined from such tokens. Contracts see it as its content.
-#[derive(Drop)]
+#[derive(Clone, Copy, Debug, Drop)]
 pub struct Checked<T> {
     inner: T,
 }
@@ -128,6 +128,8 @@ impl<T> Model for Checked<T> {
     ghost Value = { T };
 
     ghost view = { λ c. c.inner };
+
+    ghost inverse = { λ t. record { inner = t } };
 }
 
 impl<T> Checked<T> {
