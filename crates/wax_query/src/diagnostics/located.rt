@@ -78,7 +78,7 @@ impl From<Span> for CorrelatedSpan {
 
 /// A place with a label, and the places that explain it. Its `Display` form is the label. Contracts
 /// see the label as its bytes.
-#[derive(Debug, Drop)]
+#[derive(Clone, Debug, Drop)]
 pub struct CompositeSpan {
     label: &'static str,
     span: Span,
