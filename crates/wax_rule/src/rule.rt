@@ -36,7 +36,7 @@ use wax_token::token::{ExpressionMetadata, Token, Tokenized};
 
 /// The first rule that an expression breaks, and the place (errors 2 to 8). Its `Display` form
 /// describes the rule. Contracts see the rule, the place and the characters of the expression.
-#[derive(Debug)]
+#[derive(Clone, Debug)]
 pub struct RuleError<'t> {
     expression: CowStr<'t>,
     kind: RuleErrorKind,
