@@ -4,12 +4,14 @@ ghost use Rattle.std.specs.Cmp.{partial_equiv_from_equiv};
 ghost use Rattle.std.specs.Cmp.Lexicographic.{pointwise, nat_list_eq_equiv};
 ghost use Rattle.std.specs.Cow.{cow_str_bytes};
 ghost use Rattle.std.specs.Fmt.{debug_str};
+ghost use Rattle.std.specs.Path.{path_bytes};
 
 use std::alloc::{AllocError, Global};
 use std::borrow::CowStr;
 use std::convert::AsStr;
 use std::fmt;
 use std::marker::Model;
+use std::path::Path;
 use wax_query::diagnostics::NoMemory;
 
 /// A text that may be a path. Contracts see its characters.
@@ -101,6 +103,14 @@ impl<'t> From<&'t str> for CandidatePath<'t> {
         CandidatePath {
             text: CowStr::Borrowed(text),
         }
+    }
+}
+
+impl<'t> From<Path<'t>> for CandidatePath<'t> {
+    ghost from_gives = { λ text path. path ≡ chars (path_bytes text) };
+
+    fn from(text: Path<'t>) -> Self {
+        CandidatePath::from(text.as_str())
     }
 }
 
