@@ -32,7 +32,7 @@ pub use token_tree::{ConcatenationTree, TokenTree};
 pub const ROOT_SEPARATOR_EXPRESSION: &str = "/";
 
 /// The shape of a token: a branch, which contains tokens, or a leaf.
-#[derive(Debug, Drop, Eq, PartialEq)]
+#[derive(Clone, Debug, Drop, Eq, PartialEq)]
 pub enum Topology<B, L> {
     Branch(B),
     Leaf(L),
@@ -158,7 +158,7 @@ impl<'t, A> Repetition<'t, A> {
 }
 
 /// A token that contains no tokens.
-#[derive(Debug, Drop)]
+#[derive(Clone, Debug, Drop)]
 pub enum LeafKind<'t> {
     Class(Class),
     Literal(Literal<'t>),
@@ -176,7 +176,7 @@ pub enum Archetype {
 /// `[..]` or `[!..]`: matches one character other than `/` that is in one of the archetypes, or in
 /// none of them if the class is negated. A class with a reversed range matches nothing. Contracts
 /// see the negation and the archetypes as a pair.
-#[derive(Debug, Drop)]
+#[derive(Clone, Debug, Drop)]
 pub struct Class {
     is_negated: bool,
     archetypes: Vec<Archetype>,
@@ -220,7 +220,7 @@ impl Class {
 /// A run of ordinary characters. It matches these, or with the flag `i` any characters with the
 /// same simple case folding. The text is without the backslashes of escaped characters. Contracts
 /// see the flag and the characters as a pair.
-#[derive(Debug, Drop)]
+#[derive(Clone, Debug, Drop)]
 pub struct Literal<'t> {
     text: CowStr<'t>,
     is_case_insensitive: bool,
