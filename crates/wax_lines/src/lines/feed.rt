@@ -36,8 +36,7 @@ pub fn split_text_line(text: &str) -> Option<(&str, &str)>
     }
 }
 
-/// Returns what is left of a text after whole lines within its first `most` bytes. These are all such
-/// lines.
+/// Returns what is left of a text after whole lines within its first `most` bytes.
 pub fn after_lines(text: &str, most: usize) -> &str
     ensures { (front : List ℕ) × (text.now ≡ front ++ result.now) × (length front ≤ most)
         × EndsLines front × IsUtf8 front }
