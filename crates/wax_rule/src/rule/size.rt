@@ -33,10 +33,7 @@ pub(super) fn is_oversized<'t>(
 /// # Errors
 ///
 /// Returns `NoMemory` if allocation fails. Only sizes of 2^64 or more allocate.
-pub fn size<'t>(
-    alloc: Global,
-    token: &Token<'t, ExpressionMetadata>,
-) -> Result<Option<usize>, NoMemory>
+pub fn size<'t, A>(alloc: Global, token: &Token<'t, A>) -> Result<Option<usize>, NoMemory>
     ensures { IfOk result (λ size. size ≡ saturated_size token.now) }
 {
     match fixed_size(alloc, token)? {
@@ -46,10 +43,7 @@ pub fn size<'t>(
 }
 
 #[cycle(sizes)]
-fn fixed_size<'t>(
-    alloc: Global,
-    token: &Token<'t, ExpressionMetadata>,
-) -> Result<Option<Natural>, AllocError>
+fn fixed_size<'t, A>(alloc: Global, token: &Token<'t, A>) -> Result<Option<Natural>, AllocError>
     ensures { IfOk result (λ n. n ≡ fixed_size token.now) }
 {
     match token.topology() {
@@ -71,10 +65,7 @@ fn fixed_size<'t>(
 /// Returns the sum of the fixed sizes of tokens, if all of them have one.
 #[cycle(sizes)]
 #[tactic(auto, using(wax_token::proofs::Sizes::element_size))]
-fn total_size<'t>(
-    alloc: Global,
-    tokens: &[Token<'t, ExpressionMetadata>],
-) -> Result<Option<Natural>, AllocError>
+fn total_size<'t, A>(alloc: Global, tokens: &[Token<'t, A>]) -> Result<Option<Natural>, AllocError>
     ensures { IfOk result (λ n. n ≡ total_size (trees tokens.now)) }
 {
     let mut total = Natural::new(alloc, 0);
@@ -89,10 +80,7 @@ fn total_size<'t>(
 
 /// Returns the fixed size that all branches share, or `None` if they differ or there are none.
 #[cycle(sizes)]
-fn common_size<'t>(
-    alloc: Global,
-    tokens: &[Token<'t, ExpressionMetadata>],
-) -> Result<Option<Natural>, AllocError>
+fn common_size<'t, A>(alloc: Global, tokens: &[Token<'t, A>]) -> Result<Option<Natural>, AllocError>
     ensures { IfOk result (λ n. n ≡ common_size (trees tokens.now)) }
 {
     let Some((first, others)) = tokens.split_first() else {
@@ -107,10 +95,10 @@ fn common_size<'t>(
 
 #[cycle(sizes)]
 #[tactic(auto, using(wax_token::proofs::Sizes::element_size))]
-fn are_of_size<'t>(
+fn are_of_size<'t, A>(
     alloc: Global,
     size: &Natural,
-    tokens: &[Token<'t, ExpressionMetadata>],
+    tokens: &[Token<'t, A>],
 ) -> Result<bool, AllocError>
     ensures { IfOk result (λ b. b ≡ are_of_size size.now (trees tokens.now)) }
 {
