@@ -16,7 +16,7 @@ use wax_query::diagnostics::{CompositeSpan, NoMemory, Refusal, Span};
 use wax_rule::rule::RuleError;
 
 /// Why a glob wasn't built.
-#[derive(Debug, Drop, Error)]
+#[derive(Clone, Debug, Drop, Error)]
 pub enum BuildError {
     /// The expression doesn't spell a glob (1).
     #[error("{0}")]
