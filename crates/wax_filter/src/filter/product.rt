@@ -11,11 +11,11 @@ use std::marker::PhantomData;
 
 mod kind {
     /// The mark of an item that is kept.
-    #[derive(Debug, Drop)]
+    #[derive(Drop)]
     pub enum FiltrateKind {}
 
     /// The mark of an item that is excluded.
-    #[derive(Debug, Drop)]
+    #[derive(Drop)]
     pub enum ResidueKind {}
 }
 
