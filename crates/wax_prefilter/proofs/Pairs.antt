@@ -7,7 +7,7 @@ use Rattle.wax_prefilter.specs.Facts.{NeedleView, StandsAt}
 use Rattle.wax_prefilter.specs.declared.needle.Place.{Place}
 use Rattle.wax_prefilter.specs.declared.needle.Place.TheVariants.{Beginning, End, Anywhere}
 use Rattle.wax_prefilter.specs.declared.pair.Pair.{Pair}
-use Rattle.wax_prefilter.specs.inner.Pairs.{AddsPairs, PairStandsAt, LineHasOne, NoneStandsBefore}
+use Rattle.wax_prefilter.specs.inner.Pairs.{AddsPairs, PairStandsAt, LineHasOne, NoneStandsBefore, StandsIn}
 use Rattle.wax_prefilter.proofs.Holding.{any_alone, any_left, any_right}
 use Rattle.wax_token.specs.Meaning.{SameText}
 
@@ -35,10 +35,10 @@ stands_within pair text x y z k e stands = record {
   last = ap (λ i. get_or text i 0) (omega arith) ∙ byte_within text x y z (k + pair.distance) e stands.inside ∙ stands.last;
 }
 
--- a part whose first and last byte are those of the pair
-pub part_has : (pair : Pair) (text x y z : List ℕ) → text ++ 10 ∷ [] ≡ x ++ (y ++ z) → PairStandsAt pair y 0 → LineHasOne (pair ∷ []) text
-part_has pair text x y z e stands =
-    (length x + 0, any_alone (λ p. PairStandsAt p (text ++ 10 ∷ []) (length x + 0)) pair (stands_within pair (text ++ 10 ∷ []) x y z 0 e stands))
+-- a part in which the pair stands
+pub part_has : (pair : Pair) (text x y z : List ℕ) → text ++ 10 ∷ [] ≡ x ++ (y ++ z) → StandsIn y pair → LineHasOne (pair ∷ []) text
+part_has pair text x y z e (k, stands) =
+    (length x + k, any_alone (λ p. PairStandsAt p (text ++ 10 ∷ []) (length x + k)) pair (stands_within pair (text ++ 10 ∷ []) x y z k e stands))
 
 pub part_of_line : (text x y z : List ℕ) → text ≡ x ++ (y ++ z) → text ++ 10 ∷ [] ≡ x ++ (y ++ (z ++ 10 ∷ []))
 part_of_line text x y z e =
@@ -48,12 +48,12 @@ pub end_of_line : (text x y : List ℕ) → text ≡ x ++ y → text ++ 10 ∷ [
 end_of_line text x y e =
     ap (λ w. w ++ 10 ∷ []) e ∙ append_assoc x y (10 ∷ []) ∙ ap (λ w. x ++ w) (sym (append-nil (y ++ 10 ∷ [])))
 
--- the first byte of a text, and the line feed after it
-pub stands_to_feed : (pair : Pair) (y : List ℕ) → 0 < length y → get_or y 0 0 ≡ pair.first → 10 ≡ pair.last → length y ≡ pair.distance
-    → PairStandsAt pair (y ++ 10 ∷ []) 0
-stands_to_feed pair y some first last long = record {
+-- a byte of a text, and the line feed after the text
+pub stands_to_feed : (pair : Pair) (y : List ℕ) (k : ℕ) → k < length y → get_or y k 0 ≡ pair.first → 10 ≡ pair.last → length y ≡ k + pair.distance
+    → PairStandsAt pair (y ++ 10 ∷ []) k
+stands_to_feed pair y k some first last long = record {
   inside = omega (arith, long, length-append y (10 ∷ []));
-  first = get_or_append_left y (10 ∷ []) 0 0 some ∙ first;
+  first = get_or_append_left y (10 ∷ []) 0 k some ∙ first;
   last = ap (λ i. get_or (y ++ 10 ∷ []) i 0) (omega (arith, long)) ∙ get_or-append-add y (10 ∷ []) 0 0 ∙ last;
 }
 

@@ -50,9 +50,10 @@ impl Needle {
         self.is_case_insensitive
     }
 
-    /// Appends pairs of which each text has one that has the needle at any place: the needle's first
-    /// and last byte. For a needle in any case, these are pairs in both cases, and the last byte
-    /// before one that has forms past ASCII. Returns `false` if none is known.
+    /// Appends pairs such that each text that has the needle, at any place, has one of them: the two
+    /// rarest bytes of the needle. For a needle in any case, appends these bytes in both cases, and
+    /// looks only at the bytes before the first that has forms past ASCII. Returns `false` if there
+    /// are fewer than two bytes.
     ///
     /// # Errors
     ///
@@ -63,20 +64,20 @@ impl Needle {
     {
         let bytes = self.text.as_str().as_bytes();
         if !self.is_case_insensitive {
-            let Some(pair) = Pair::ends_of(bytes) else {
+            let Some(pair) = Pair::rarest_of(bytes) else {
                 return Ok(false);
             };
             pairs.push(pair)?;
             return Ok(true);
         }
-        let Some(pair) = Pair::ends_of(&bytes[..ascii_forms_len(bytes)]) else {
+        let Some(pair) = Pair::rarest_of(&bytes[..ascii_forms_len(bytes)]) else {
             return Ok(false);
         };
         add_forms(pair, pairs)?;
         Ok(true)
     }
 
-    /// Appends a pair that each text has with the needle at its end: the needle's first byte and the
+    /// Appends a pair that each text has with the needle at its end: the needle's rarest byte and the
     /// line feed after the text. Returns `false` if there is none, since the needle is empty or is
     /// searched for in any case.
     ///
@@ -87,15 +88,13 @@ impl Needle {
         ensures { IfOk result (λ known. AddsPairs pairs.old.items pairs.new.items known
             (StandsAt Place.End self.now)) }
     {
-        let bytes = self.text.as_str().as_bytes();
-        if self.is_case_insensitive || bytes.is_empty() {
+        if self.is_case_insensitive {
             return Ok(false);
         }
-        pairs.push(Pair {
-            first: bytes[0],
-            last: b'\n',
-            distance: bytes.len(),
-        })?;
+        let Some(pair) = Pair::rarest_with_feed(self.text.as_str().as_bytes()) else {
+            return Ok(false);
+        };
+        pairs.push(pair)?;
         Ok(true)
     }
 

@@ -1,14 +1,17 @@
 //! Searching bytes for two of them at a distance.
 ghost use Rattle.std.specs.List.{position_or_len};
-ghost use Rattle.std.specs.Prelude.{◌≡◌, ◌≤◌, ◌+◌, All, IfSome, length, map};
+ghost use Rattle.std.specs.Prelude.{◌≡◌, ◌<◌, ◌≤◌, ◌+◌, ◌++◌, ◌∷◌, [], All, IfSome, length, map};
 ghost use Rattle.std.specs.Simd.Lanes.{mask_l};
-ghost use Rattle.wax_prefilter.specs.inner.Pairs.{NoPairBefore, NoneStandsBefore, PairStandsAt};
+ghost use Rattle.wax_prefilter.specs.inner.Pairs.{NoPairBefore, NoneStandsBefore, StandsIn};
 ghost use Rattle.wax_prefilter.specs.inner.Pairs.{ZeroWhere, is_zero};
 
 use std::simd::prelude::*;
 
 /// How many places are looked at together.
 const LANES: usize = 32;
+
+/// The characters that are most common in the paths of a Debian system, the most common one first.
+const COMMON: &str = "/otsnerlaciu.hp_-ymdg1b6x3vkf842w705z9jqEASMCRPITDLNGVOBQ+FHUWX";
 
 /// Two bytes at a distance. Few places have both, and they are found much faster than a whole text
 /// that begins and ends with them.
@@ -90,19 +93,60 @@ fn zeros(lanes: u8x32) -> u64
     lanes.simd_eq(u8x32::splat(0)).to_bitmask()
 }
 
+// Returns how rare the byte is: how many of the common characters are more common.
+fn rarity(byte: u8) -> usize {
+    match COMMON.find(char::from(byte)) {
+        Some(more_common) => more_common,
+        None => COMMON.len(),
+    }
+}
+
+// Returns the place of the rarest of the bytes, apart from the byte at the place `other`.
+fn rarest_but(other: usize, bytes: &[u8]) -> usize
+    requires some { 1 ≤ length bytes.now }
+    requires more { other ≡ 0 → 2 ≤ length bytes.now }
+    ensures inside { result < length bytes.now }
+    ensures another { result ≡ other → ⊥ }
+{
+    let mut rarest = usize::from(other == 0);
+    for at in 0..bytes.len() {
+        if at != other && rarity(bytes[at]) > rarity(bytes[rarest]) {
+            rarest = at;
+        }
+    }
+    rarest
+}
+
 impl Pair {
-    /// Returns the first and the last of the bytes, or `None` if they are fewer than two.
-    pub fn ends_of(bytes: &[u8]) -> Option<Pair>
-        ensures { IfSome result (λ pair. PairStandsAt pair bytes.now 0) }
+    /// Returns the two of the bytes that are rarest in paths, or `None` if there are fewer than two.
+    pub fn rarest_of(bytes: &[u8]) -> Option<Pair>
+        ensures { IfSome result (StandsIn bytes.now) }
     {
         if bytes.len() < 2 {
             return None;
         }
-        let distance = bytes.len() - 1;
+        let rarest = rarest_but(bytes.len(), bytes);
+        let other = rarest_but(rarest, bytes);
+        let (at, end) = (rarest.min(other), rarest.max(other));
         Some(Pair {
-            first: bytes[0],
-            last: bytes[distance],
-            distance,
+            first: bytes[at],
+            last: bytes[end],
+            distance: end - at,
+        })
+    }
+
+    /// Returns the rarest of the bytes and the line feed after them, or `None` without a byte.
+    pub fn rarest_with_feed(bytes: &[u8]) -> Option<Pair>
+        ensures { IfSome result (StandsIn (bytes.now ++ 10 ∷ [])) }
+    {
+        if bytes.is_empty() {
+            return None;
+        }
+        let at = rarest_but(bytes.len(), bytes);
+        Some(Pair {
+            first: bytes[at],
+            last: b'\n',
+            distance: bytes.len() - at,
         })
     }
 

@@ -12,6 +12,10 @@ pub record PairStandsAt (pair : Pair) (bytes : List ℕ) (place : ℕ) : Type 0 
   pub first : slice_index bytes place ≡ pair.first
   pub last : slice_index bytes (place + pair.distance) ≡ pair.last
 
+-- the pair stands at some place
+abbrev pub StandsIn : List ℕ → Pair → Type 0
+StandsIn bytes pair = (place : ℕ) × PairStandsAt pair bytes place
+
 -- one of the pairs stands at this place
 abbrev pub OneStandsAt : List Pair → List ℕ → ℕ → Type 0
 OneStandsAt pairs bytes place = Any (λ pair. PairStandsAt pair bytes place) pairs

@@ -1,6 +1,6 @@
-use Rattle.std.proofs.Common.{◌≡◌, ◌∙◌, [], ◌∷◌, ◌++◌, List, ℕ, ap, refl, encode_utf8_all, chars, string_bytes, rules}
+use Rattle.std.proofs.Common.{◌≡◌, ◌∙◌, [], ◌∷◌, ◌++◌, List, ℕ, ap, encode_utf8_all, chars, string_bytes}
 use Rattle.wax_prefilter.proofs.MeantEdges.{bytes_end, plain_text}
-use Rattle.wax_prefilter.proofs.Pairs.{end_of_line, part_has, stands_to_feed}
+use Rattle.wax_prefilter.proofs.Pairs.{end_of_line, part_has}
 use Rattle.wax_prefilter.proofs.needle.Needle.add_pair_at_end.Goals as goal
 
 pub returns : goal.returns
@@ -10,10 +10,10 @@ returns c = (
   λ _ text utf8 (x, y, e, h).
       let held : List ℕ = chars (string_bytes c.self.inside.text) in
       let same : y ≡ held = plain_text c.args.self.now _ held y c.self.view_is c.if-self.false h in
-      let bytes = c.as_bytes-bytes.result.now in
+      let bytes = c.as_bytes.result.now in
       let within : text ≡ encode_utf8_all x ++ bytes =
-      bytes_end text bytes x held utf8 c.as_bytes-bytes.ensures.utf8 (ap chars (c.as_bytes-bytes.ensures.value ∙ c.as_str.ensures.value))
+      bytes_end text bytes x held utf8 c.as_bytes.ensures.utf8 (ap chars (c.as_bytes.ensures.value ∙ c.as_str.ensures.value))
       (e ∙ ap (λ w. x ++ w) same) in
       part_has _ text (encode_utf8_all x) (bytes ++ 10 ∷ []) [] (end_of_line text (encode_utf8_all x) bytes within)
-      (stands_to_feed _ bytes (search (rules, c.if-is_empty.ensures)) refl refl refl),
+      c.in-Some.ensures,
 )

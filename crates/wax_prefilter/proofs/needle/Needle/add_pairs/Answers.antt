@@ -3,7 +3,6 @@ use Rattle.std.proofs.lemmas.List.{get_or-take, length-take, take-append-drop}
 use Rattle.std.proofs.lemmas.Str.{IsUtf8-from_ascii, chars-IsAscii, chars-append}
 use Rattle.std.specs.Str.{IsAscii}
 use Rattle.wax_prefilter.specs.inner.Forms.{HasAsciiForms}
-use Rattle.wax_prefilter.specs.inner.Pairs.{PairStandsAt}
 use Rattle.wax_prefilter.proofs.AsciiForms.{alike_has, held_ascii, same_beginning}
 use Rattle.wax_prefilter.proofs.MeantEdges.{as_seen, plain_text}
 use Rattle.wax_prefilter.proofs.MeantPieces.{bytes_within}
@@ -48,8 +47,6 @@ returns c = (
       let alike : SameText true (front ++ chars (drop len bytes)) y =
       as_seen c.args.self.now.0 true c.args.self.now.1 _ y (sym (ap (λ v. v.0) c.self.view_is) ∙ c.if-not-self.false) (sym seen ∙ ap (λ v. v.1) c.self.view_is) h in
       let (begins, rest, cut, same) = same_beginning front (chars (drop len bytes)) y alike in
-      let stands : PairStandsAt c.in-Some-ends_of.pair front 0 = c.in-Some-ends_of.ensures in
-      alike_has c.in-Some-ends_of.pair front text x begins (rest ++ z) utf8
-      (e ∙ ap (λ w. x ++ w) (ap (λ w. w ++ z) cut ∙ append_assoc begins rest z)) same each
-      (omega (arith, stands.inside)) stands.first (ap (λ k. get_or front k 0) (omega arith) ∙ stands.last),
+      alike_has c.in-Some-rarest_of.pair front text x begins (rest ++ z) utf8
+      (e ∙ ap (λ w. x ++ w) (ap (λ w. w ++ z) cut ∙ append_assoc begins rest z)) same each c.in-Some-rarest_of.ensures,
 )
