@@ -1,5 +1,6 @@
 -- Sets of places in a program, as flags.
-use Rattle.std.specs.Prelude.{◌≡◌, ℕ, ◌+◌, ◌-◌, ◌<◌, ◌≤◌, ◌*◌, Bool, true, false, ◌⊎◌, List, [], ◌∷◌, length}
+use Rattle.std.specs.Prelude.{◌≡◌, ℕ, ◌+◌, ◌-◌, ◌<◌, ◌≤◌, ◌*◌, Bool, true, false, ◌⊎◌, ◌↔◌, List, [], ◌∷◌}
+use Rattle.std.specs.Prelude.{length}
 use Rattle.std.specs.Prelude.{Some, slice_get, slice_index_or}
 use Rattle.wax_program.specs.declared.instruction.Instruction.{Instruction}
 use Rattle.wax_program.specs.declared.instruction.Instruction.TheVariants.{Check, Repeat, Components, Fork}
@@ -93,6 +94,10 @@ pub record InsertedNext (old new : Position) (at : ℕ) : Type 0 where
 -- some place of the set accepts the text
 abbrev pub AnyOf : List Instruction → List Bool → List ℕ → Type 0
 AnyOf code set s = (k : ℕ) × HoldsPlace set k × Accepts code k s
+
+-- the set accepts every text or none
+abbrev pub IsSettled : List Instruction → List Bool → Type 0
+IsSettled code set = (s : List ℕ) → AnyOf code set s ↔ AnyOf code set []
 
 -- the place is reached, if the program or its end has it
 abbrev pub ReachedBelow : Position → ℕ → Type 0

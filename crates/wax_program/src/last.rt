@@ -12,6 +12,7 @@ ghost use Rattle.wax_program.specs.Meter.{most_ticks};
 use crate::instruction::Instruction;
 use crate::machine::{CompiledProgram, Meter, Visits};
 use crate::matching::{run, run_at};
+use crate::skipped::Skipped;
 use std::alloc::Global;
 use std::simd::prelude::*;
 use wax_query::diagnostics::NoMemory;
@@ -65,7 +66,7 @@ fn run_name(
     ensures steady { meter.old ≤ meter.new }
 {
     let name = last_name(text);
-    meter.pass(text.len() - name.len());
+    meter.skip(Skipped::before(program, text, name));
     run_at(alloc, program, 2, name, meter)
 }
 

@@ -8,6 +8,7 @@ use crate::heap_sets::HeapSets;
 use crate::machine::{CompiledProgram, Meter};
 use crate::rounds::{finish, step};
 use crate::sets::Sets;
+use crate::skipped::Skipped;
 use crate::steady::absorbs;
 use crate::word_sets::WordSets;
 use std::alloc::Global;
@@ -91,7 +92,7 @@ fn run_over<R: Sets>(
             return false;
         }
         if c == '/' && program.len() >= 4 && absorbs(program, sets, steady) {
-            meter.pass(left.as_str().len());
+            meter.skip(Skipped::rest(program, sets, left.as_str()));
             return finish(program, sets, meter);
         }
     }

@@ -11,7 +11,7 @@ returns-clause-decides c =
 pub returns-clause-above : goal.returns-clause-above
 returns-clause-above c =
     let cut = c.last_name-name.ensures.cut in
-    counted_name c.args.program.now.1 c.args.meter.now c.pass.new.self c.run_at.new.meter
+    counted_name c.args.program.now.1 c.args.meter.now c.skip.new.self c.run_at.new.meter
     (length c.args.text.now) (length c.last_name-name.result.now)
     (length (chars c.args.text.now)) (length (chars c.last_name-name.result.now))
-    c.requires.long cut.bytes cut.most (omega (arith, c.pass.ensures.counted)) c.run_at.ensures.above
+    c.requires.long cut.bytes cut.most (omega (arith, c.skip.ensures.counted)) c.run_at.ensures.above

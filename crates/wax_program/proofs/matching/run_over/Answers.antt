@@ -42,6 +42,9 @@ returns-then-not-step-clause-above g c =
     let (m, held) = c.loop-c.invariant in
     reads_within c.args.program.now.1 m (length (chars c.args.text.now)) c.args.meter.now c.step.new.meter (omega (arith, held.whole)) (omega (arith, c.step.ensures.above, held.above))
 
+pub rest-requires : goal.rest-requires
+rest-requires g c = absorbed c.args.program.now.0 _ (c.absorbs.ensures (search rules))
+
 pub returns-then-absorbs-clause-decides : goal.returns-then-absorbs-clause-decides
 returns-then-absorbs-clause-decides g c =
     let (m, held) = c.loop-c.invariant in
@@ -65,9 +68,9 @@ returns-then-absorbs-clause-above g c =
     let bytes : length c.as_str.result.now ≡ length (chars_rest c.next.new.self) = ap length c.as_str.ensures in
     let wide : 4 ≤ c.args.program.now.1 = search rules in
     reads_passed c.args.program.now.1 m (length left) (length (chars c.args.text.now)) (length c.as_str.result.now)
-    c.args.meter.now c.loop-c.meter c.step.new.meter c.pass.new.self c.finish.new.meter wide
+    c.args.meter.now c.loop-c.meter c.step.new.meter c.skip.new.self c.finish.new.meter wide
     (omega (arith, held.whole, ap length one)) (omega (arith, few.1, bytes)) held.above c.step.ensures.above
-    (omega (arith, c.pass.ensures.counted)) (omega (arith, c.finish.ensures.above, c.requires.few))
+    (omega (arith, c.skip.ensures.counted)) (omega (arith, c.finish.ensures.above, c.requires.few))
 
 pub returns-then-absorbs-clause-below : goal.returns-then-absorbs-clause-below
 returns-then-absorbs-clause-below g c = λ h.
@@ -77,7 +80,7 @@ returns-then-absorbs-clause-below g c = λ h.
     let few = chars_few (chars_rest c.next.new.self) (IsUtf8-past_char _ _ _ held.utf8 c.in-Some.ensures.steps.0) in
     let bytes : length c.as_str.result.now ≡ length (chars_rest c.next.new.self) = ap length c.as_str.ensures in
     let went : IsTrue c.step.result = search rules in
-    omega (arith, held.whole, ap length one, few.0, bytes, held.below, c.step.ensures.below went, c.pass.ensures.counted, c.finish.ensures.steady)
+    omega (arith, held.whole, ap length one, few.0, bytes, held.below, c.step.ensures.below went, c.skip.ensures.counted, c.finish.ensures.steady)
 
 pub loop-c-preserved : goal.loop-c-preserved
 loop-c-preserved g c =
