@@ -2,6 +2,7 @@ pub mod Advancing
 pub mod Beginnings
 pub mod Bits
 pub mod LastNames
+pub mod Lists
 mod Slashes
 pub mod Members
 pub mod Starts

@@ -98,3 +98,11 @@ module _ (size first : ℕ) (pending read next : List Bool) (sets : AreSets size
       only = added_only read at;
       counted = members_set read at room (sets.apart at held);
     }
+
+-- a place that is removed counts one less
+pub members_removed : (flags : List Bool) (at : ℕ) → HoldsPlace flags at → member_count flags ≡ member_count (set flags at false) + 1
+members_removed [] at h = absurd (true≢false (sym h))
+members_removed (true ∷ flags) zero h = refl
+members_removed (false ∷ flags) zero h = absurd (true≢false (sym h))
+members_removed (true ∷ flags) (suc at) h = omega (arith, members_removed flags at h)
+members_removed (false ∷ flags) (suc at) h = members_removed flags at h

@@ -1,7 +1,6 @@
 -- Sets of places in a program, as flags.
-use Rattle.std.specs.Prelude.{◌≡◌, ℕ, ◌+◌, ◌-◌, ◌<◌, ◌≤◌, ◌*◌, Bool, true, false, ◌⊎◌, ◌↔◌, List, [], ◌∷◌}
-use Rattle.std.specs.Prelude.{length}
-use Rattle.std.specs.Prelude.{Some, slice_get, slice_index_or}
+use Rattle.std.specs.Prelude.{◌≡◌, ℕ, ◌+◌, ◌-◌, ◌<◌, ◌≤◌, ◌*◌, Bool, true, false, ◌⊎◌, ◌↔◌, List, [], ◌∷◌, length}
+use Rattle.std.specs.Prelude.{Contains, Some, slice_get, slice_index_or}
 use Rattle.wax_program.specs.declared.instruction.Instruction.{Instruction}
 use Rattle.wax_program.specs.declared.instruction.Instruction.TheVariants.{Check, Repeat, Components, Fork}
 use Rattle.wax_program.specs.declared.instruction.Instruction.TheVariants.{Jump, Back}
@@ -34,10 +33,14 @@ pub record Position : Type 0 where
   pub read : List Bool
   pub next : List Bool
 
--- a set of places of a program of `size` instructions
-pub record Frontier : Type 0 where
-  pub size : ℕ
-  pub places : List Bool
+-- the places are exactly those of the set
+abbrev pub Lists : List ℕ → List Bool → Type 0
+Lists places set = (k : ℕ) → Contains places k ↔ HoldsPlace set k
+
+-- the set has places of the list, and each of them that a program of `size` instructions has, or its end
+pub record IsLoaded (places : List ℕ) (size : ℕ) (set : List Bool) : Type 0 where
+  pub only : (k : ℕ) → HoldsPlace set k → Contains places k
+  pub all : (k : ℕ) → Contains places k → k ≤ size → HoldsPlace set k
 
 -- only the program's end is left, at most
 abbrev pub IsDone : Position → Type 0
@@ -98,6 +101,15 @@ AnyOf code set s = (k : ℕ) × HoldsPlace set k × Accepts code k s
 -- the set accepts every text or none
 abbrev pub IsSettled : List Instruction → List Bool → Type 0
 IsSettled code set = (s : List ℕ) → AnyOf code set s ↔ AnyOf code set []
+
+-- one of the places accepts the text
+abbrev pub AnyAmong : List Instruction → List ℕ → List ℕ → Type 0
+AnyAmong code places s = (k : ℕ) × Contains places k × Accepts code k s
+
+-- some of the places accept a text that begins with the character exactly where some of the others accept
+-- the rest
+abbrev pub LeadOn : List Instruction → ℕ → List ℕ → List ℕ → Type 0
+LeadOn code c places others = (s : List ℕ) → AnyAmong code places (c ∷ s) ↔ AnyAmong code others s
 
 -- the place is reached, if the program or its end has it
 abbrev pub ReachedBelow : Position → ℕ → Type 0

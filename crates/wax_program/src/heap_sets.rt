@@ -1,7 +1,6 @@
 //! The sets of places of a run, for programs of any length.
-ghost use Rattle.std.specs.Prelude.{◌≡◌, ◌+◌, ◌/◌, IfOk, IsTrue, length};
-ghost use Rattle.wax_program.specs.Bits.{bits_of};
-ghost use Rattle.wax_program.specs.Threads.{IsEmpty, Within};
+ghost use Rattle.std.specs.Prelude.{◌≡◌, IfOk};
+ghost use Rattle.wax_program.specs.Threads.{IsEmpty, IsLoaded, Lists};
 
 use crate::set::Set;
 use crate::sets::Sets;
@@ -25,15 +24,13 @@ pub struct HeapSets {
 }
 
 impl Model for HeapSets {
-    ghost use Rattle.std.specs.Prelude.{◌≡◌, ◌+◌, ◌*◌, ◌/◌, length};
     ghost use Rattle.wax_program.specs.Threads.{Position, AreSets};
 
     ghost Value = { Position };
 
     ghost view = { λ r. record { size = r.size; pending = r.pending; read = r.read; next = r.next } };
 
-    ghost invariant = { λ r. AreSets r.size r.first r.pending r.read r.next
-        × (length r.pending ≡ 64 * (r.size / 64 + 1)) × (length r.next ≡ 64 * (r.size / 64 + 1)) };
+    ghost invariant = { λ r. AreSets r.size r.first r.pending r.read r.next };
 }
 
 impl HeapSets {
@@ -62,36 +59,42 @@ impl HeapSets {
 }
 
 impl HeapSets {
-    /// Returns the places that are to be read here, 64 in each word.
-    #[inline]
-    pub fn row(&self) -> &[u64]
-        ensures same { self.now.pending ≡ bits_of result.now }
-        ensures room { length result.now ≡ self.now.size / 64 + 1 }
-        ensures within { Within (self.now.size + 1) (bits_of result.now) }
-    {
-        let _ = &self.size;
-        self.pending.words()
-    }
-
-    /// Returns whether no place is to be read here.
-    #[inline]
-    pub fn is_empty(&self) -> bool
-        ensures { IsTrue result → IsEmpty self.now.pending }
-    {
-        self.pending.first_from(0).is_none()
-    }
-
-    /// Replaces the places that are to be read here by those of the words.
-    pub fn load(&mut self, row: &[u64])
-        requires read { IsEmpty self.old.read }
-        requires room { length row.now ≡ self.old.size / 64 + 1 }
-        requires within { Within (self.old.size + 1) (bits_of row.now) }
+    /// Replaces the places that are to be read here by these, and removes all others. Leaves out
+    /// places after the program's end.
+    pub fn load(&mut self, places: &[usize])
         ensures size { self.new.size ≡ self.old.size }
-        ensures pending { self.new.pending ≡ bits_of row.now }
-        ensures read { self.new.read ≡ self.old.read }
-        ensures next { self.new.next ≡ self.old.next }
+        ensures loaded { IsLoaded places.now self.new.size self.new.pending }
+        ensures read { IsEmpty self.new.read }
+        ensures next { IsEmpty self.new.next }
     {
-        self.pending.load(row);
+        self.clear();
+        for place in places {
+            self.insert(*place);
+        }
+    }
+
+    /// Writes the places of the next position into `places`, ascending, and removes them.
+    ///
+    /// # Errors
+    ///
+    /// Returns `AllocError` if allocation fails.
+    pub fn take_next(&mut self, places: &mut Vec<usize>) -> Result<(), AllocError>
+        ensures size { self.new.size ≡ self.old.size }
+        ensures listed { IfOk result (λ _. Lists places.new.items self.old.next) }
+    {
+        self.next.take_all(places)
+    }
+
+    /// Removes every place.
+    fn clear(&mut self)
+        ensures size { self.new.size ≡ self.old.size }
+        ensures pending { IsEmpty self.new.pending }
+        ensures read { IsEmpty self.new.read }
+        ensures next { IsEmpty self.new.next }
+    {
+        self.pending.clear();
+        self.read.clear();
+        self.next.clear();
         self.first = 0;
     }
 }

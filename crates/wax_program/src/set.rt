@@ -3,7 +3,7 @@ ghost use Rattle.std.specs.Prelude.{◌≡◌, ◌+◌, ◌*◌, ◌/◌, ◌^�
 ghost use Rattle.std.specs.Prelude.{length};
 ghost use Rattle.std.specs.Prelude.{slice_index_or, slice_set, true, false};
 ghost use Rattle.wax_program.specs.Bits.{bits_of};
-ghost use Rattle.wax_program.specs.Threads.{HoldsPlace, IsEmpty};
+ghost use Rattle.wax_program.specs.Threads.{HoldsPlace, IsEmpty, Lists};
 
 use std::alloc::{AllocError, Global};
 use std::marker::Model;
@@ -30,7 +30,6 @@ impl Set {
     /// Returns `AllocError` if allocation fails.
     pub fn new(alloc: Global, last: usize) -> Result<Set, AllocError>
         ensures room { IfOk result (λ s. last < length s) }
-        ensures exact { IfOk result (λ s. length s ≡ 64 * (last / 64 + 1)) }
         ensures empty { IfOk result (λ s. IsEmpty s) }
     {
         let words = vec![in alloc; 0u64; last / 64 + 1]?;
@@ -60,23 +59,6 @@ impl Set {
         self.words[at / 64] = word & !(1u64 << (at % 64));
     }
 
-    /// Returns the set as words.
-    #[inline]
-    pub fn words(&self) -> &[u64]
-        ensures same { self.now ≡ bits_of result.now }
-        ensures room { 64 * length result.now ≡ length self.now }
-    {
-        &self.words
-    }
-
-    /// Replaces the places by those of the words.
-    pub fn load(&mut self, words: &[u64])
-        requires { 64 * length words.now ≡ length self.old }
-        ensures { self.new ≡ bits_of words.now }
-    {
-        self.words.copy_from_slice(words);
-    }
-
     /// Removes every place.
     pub fn clear(&mut self)
         ensures room { length self.new ≡ length self.old }
@@ -98,5 +80,25 @@ impl Set {
             }
         }
         None
+    }
+
+    /// Writes all places into `places`, ascending, and removes them.
+    ///
+    /// # Errors
+    ///
+    /// Returns `AllocError` if allocation fails. Some places may be removed even then.
+    pub fn take_all(&mut self, places: &mut Vec<usize>) -> Result<(), AllocError>
+        ensures room { length self.new ≡ length self.old }
+        ensures fewer { (k : ℕ) → HoldsPlace self.new k → HoldsPlace self.old k }
+        ensures listed { IfOk result (λ _. Lists places.new.items self.old) }
+    {
+        places.clear();
+        let mut word = 0;
+        while let Some(at) = self.first_from(word) {
+            self.remove(at);
+            places.push(at)?;
+            word = at / 64;
+        }
+        Ok(())
     }
 }

@@ -5,21 +5,21 @@ use Rattle.wax_program.proofs.heap_sets.HeapSetsSets.take.Goals as goal
 
 pub returns-in_err-at-clause-few : goal.returns-in_err-at-clause-few
 returns-in_err-at-clause-few c =
-    rw (← c.self.view_is) (reads_few c.self.inside.size c.self.inside.first c.self.inside.pending c.self.inside.read c.self.inside.next c.self.invariant.0)
+    rw (← c.self.view_is) (reads_few c.self.inside.size c.self.inside.first c.self.inside.pending c.self.inside.read c.self.inside.next c.self.invariant)
 
 pub returns-then-at-self-clause-few : goal.returns-then-at-self-clause-few
 returns-then-at-self-clause-few c =
-    rw (← c.self.view_is) (reads_few c.self.inside.size c.self.inside.first c.self.inside.pending c.self.inside.read c.self.inside.next c.self.invariant.0)
+    rw (← c.self.view_is) (reads_few c.self.inside.size c.self.inside.first c.self.inside.pending c.self.inside.read c.self.inside.next c.self.invariant)
 
 pub returns-clause-few : goal.returns-clause-few
 returns-clause-few c =
     let lt : c.in_ok-at.at < c.self.inside.size = omega (arith, c.if-at-self.false) in
-    let lowest : (k : ℕ) → HoldsPlace c.self.inside.pending k → c.in_ok-at.at ≤ k = λ k h. c.in_ok-at.ensures.2 k h (c.self.invariant.0.above k h) in
-    rw c.insert.ensures (takes_few c.self.inside.size c.self.inside.first c.self.inside.pending c.self.inside.read c.self.inside.next c.self.invariant.0 c.in_ok-at.at c.in_ok-at.ensures.0 lt lowest)
+    let lowest : (k : ℕ) → HoldsPlace c.self.inside.pending k → c.in_ok-at.at ≤ k = λ k h. c.in_ok-at.ensures.2 k h (c.self.invariant.above k h) in
+    rw c.insert.ensures (takes_few c.self.inside.size c.self.inside.first c.self.inside.pending c.self.inside.read c.self.inside.next c.self.invariant c.in_ok-at.at c.in_ok-at.ensures.0 lt lowest)
 
 pub returns-clause-taken : goal.returns-clause-taken
 returns-clause-taken c =
     let lt : c.in_ok-at.at < c.self.inside.size = omega (arith, c.if-at-self.false) in
-    let lowest : (k : ℕ) → HoldsPlace c.self.inside.pending k → c.in_ok-at.at ≤ k = λ k h. c.in_ok-at.ensures.2 k h (c.self.invariant.0.above k h) in
+    let lowest : (k : ℕ) → HoldsPlace c.self.inside.pending k → c.in_ok-at.at ≤ k = λ k h. c.in_ok-at.ensures.2 k h (c.self.invariant.above k h) in
     rw (← c.self.view_is, c.remove.ensures, c.insert.ensures)
-    (takes c.self.inside.size c.self.inside.first c.self.inside.pending c.self.inside.read c.self.inside.next c.self.invariant.0 c.in_ok-at.at c.in_ok-at.ensures.0 lt lowest)
+    (takes c.self.inside.size c.self.inside.first c.self.inside.pending c.self.inside.read c.self.inside.next c.self.invariant c.in_ok-at.at c.in_ok-at.ensures.0 lt lowest)

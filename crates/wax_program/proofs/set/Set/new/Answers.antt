@@ -13,9 +13,3 @@ pub returns-clause-empty : goal.returns-clause-empty
 returns-clause-empty c =
     let e : c.in_ok-words.words.items ≡ replicate (c.args.last / 64 + 1) 0 = search rules in
     rw e (empty_of_replicate (c.args.last / 64 + 1))
-
-pub returns-clause-exact : goal.returns-clause-exact
-returns-clause-exact c =
-    let e : c.in_ok-words.words.items ≡ replicate (c.args.last / 64 + 1) 0 = search rules in
-    let l : length c.in_ok-words.words.items ≡ c.args.last / 64 + 1 = ap length e ∙ length-replicate (c.args.last / 64 + 1) 0 in
-    omega (arith, length-bits_of c.in_ok-words.words.items, l)
