@@ -1,12 +1,12 @@
 -- Caches whose states change.
-use Rattle.std.proofs.Common.{◌≡◌, ◌≤◌, ◌<◌, ℕ, ◌+◌, ◌/◌, slice_get, set, List, [], ◌∷◌, ◌++◌, Option, Some, None, IfSome, length, refl, sym, ◌∙◌, ap, subst, arith}
+use Rattle.std.proofs.Common.{◌≡◌, ◌≤◌, ◌<◌, ◌↔◌, ℕ, Bool, IsTrue, ◌+◌, ◌/◌, slice_get, set, List, [], ◌∷◌, ◌++◌, Option, Some, None, IfSome, Result, Ok, Err, IfOk, OnErr, length, refl, sym, ◌∙◌, ap, subst, arith, length-append}
 use Rattle.wax_lazy.specs.declared.cache.Cache.{Cache}
 use Rattle.wax_lazy.specs.declared.table.State.{State}
 use Rattle.wax_lazy.specs.inner.Cached.{IsAdded, IsCacheOf, IsCleared, IsRestarted, IsSameMaker}
-use Rattle.wax_lazy.specs.inner.Table.{BeginsTexts, IsState, IsStatePlace, IsTable, IsTransition, KeepsStates, set_at, set_of}
-use Rattle.wax_lazy.proofs.Tables.{begins_keeps, keeps_append, slice_get_end, table_empty, table_filled, table_push}
-use Rattle.wax_program.specs.Bits.{bits_of}
+use Rattle.wax_lazy.specs.inner.Table.{BeginsTexts, IsSettled, IsState, IsStatePlace, IsTable, IsTransition, KeepsStates, places_at, places_in}
+use Rattle.wax_lazy.proofs.Tables.{begins_keeps, keeps_append, settled_keeps, slice_get_end, table_empty, table_filled, table_push, table_settled}
 use Rattle.wax_program.specs.declared.instruction.Instruction.{Instruction}
+use Rattle.wax_program.specs.Threads.{AnyAmong}
 
 pub first_keeps : (code : List Instruction) (old new : List State) (start : ℕ) (first : Option ℕ) → KeepsStates old new
     → IfSome first (BeginsTexts code old start) → IfSome first (BeginsTexts code new start)
@@ -17,8 +17,8 @@ no_first : (code : List Instruction) (states : List State) (start : ℕ) (first 
 no_first code states start first e = subst (λ f. IfSome f (BeginsTexts code states start)) (sym e) tt
 
 module _ (code : List Instruction) (old new : Cache) (held : IsCacheOf code old) where
-  size_same : IsSameMaker old new → new.stepper.size ≡ length code
-  size_same m = ap (λ s. s.size) m.stepper ∙ held.size
+  size_same : IsSameMaker old new → new.stepper ≡ length code
+  size_same m = m.stepper ∙ held.size
 
   start_same : IsSameMaker old new → new.start ≤ length code
   start_same m = subst (λ n. n ≤ length code) (sym m.start) held.start
@@ -52,20 +52,28 @@ module _ (code : List Instruction) (old new : Cache) (held : IsCacheOf code old)
         (first_keeps code old.table.states.items (old.table.states.items ++ s ∷ []) old.start old.first (keeps_append old.table.states.items (s ∷ [])) held.first)));
   }
 
+  pub cache_kept : {E : Type 0} (s : State) (result : Result ℕ E) → IsState code s → IfOk result (IsAdded old new s) → OnErr result (IsCleared old new)
+      → IsCacheOf code new
+  cache_kept s (Ok number) good ok err = cache_added s number good ok
+  cache_kept s (Err e) good ok err = cache_cleared err
+
 module _ (old new : Cache) (s : State) (number : ℕ) (a : IsAdded old new s number) where
   pub added_keeps : KeepsStates old.table.states.items new.table.states.items
   added_keeps =
       subst (KeepsStates old.table.states.items) (sym a.states) (keeps_append old.table.states.items (s ∷ []))
 
-  pub added_set : (at : ℕ) → at / 128 ≡ number → set_at new.table.states.items (at / 128) ≡ bits_of s.row.items
-  added_set at e =
-      ap (set_at new.table.states.items) (e ∙ a.numbered)
-      ∙ ap (λ z. set_of (slice_get z (length old.table.states.items))) a.states
-      ∙ ap set_of (slice_get_end old.table.states.items s)
+  pub added_places : places_at new.table.states.items number ≡ s.places.items
+  added_places =
+      ap (places_at new.table.states.items) a.numbered
+      ∙ ap (λ z. places_in (slice_get z (length old.table.states.items))) a.states
+      ∙ ap places_in (slice_get_end old.table.states.items s)
+
+  pub added_within : number < length new.table.states.items
+  added_within = omega (arith, a.numbered, ap length a.states, length-append old.table.states.items (s ∷ []))
 
 pub cache_filled : (code : List Instruction) (old new : Cache) (at c cell : ℕ) → IsCacheOf code old → IsStatePlace old.table.states.items at
-    → IsTransition code old.table.states.items (set_at old.table.states.items (at / 128)) c cell
-    → new.stepper.size ≡ length code → new.start ≡ old.start → new.first ≡ old.first → new.table.states ≡ old.table.states
+    → IsTransition code old.table.states.items (places_at old.table.states.items (at / 128)) c cell
+    → new.stepper ≡ length code → new.start ≡ old.start → new.first ≡ old.first → new.table.states ≡ old.table.states
     → (c < 128 → new.table.cells.items ≡ set old.table.cells.items (at + c) cell) → (128 ≤ c → new.table.cells.items ≡ old.table.cells.items)
     → IsCacheOf code new
 cache_filled code old new at c cell held p says sized start first states filled unfilled = record {
@@ -85,5 +93,19 @@ module _ (old new : Cache) (s : State) (r : IsRestarted old new s) where
   pub restarted_place : IsStatePlace new.table.states.items 0
   restarted_place = record { whole = refl; kept = let one = restarted_one in omega (arith, one) }
 
-  pub restarted_set : (t : ℕ) → slice_get old.table.states.items t ≡ Some s → set_at new.table.states.items 0 ≡ set_at old.table.states.items t
-  restarted_set t e = ap (λ z. set_of (slice_get z 0)) r.states ∙ ap set_of (sym e)
+  pub restarted_places : (t : ℕ) → slice_get old.table.states.items t ≡ Some s → places_at new.table.states.items 0 ≡ places_at old.table.states.items t
+  restarted_places t e = ap (λ z. places_in (slice_get z 0)) r.states ∙ ap places_in (sym e)
+
+pub cache_settled : (code : List Instruction) (old new : Cache) (t : ℕ) (b : Bool) → IsCacheOf code old
+    → IsSettled old.table.states.items new.table.states.items t b → (IsTrue b ↔ AnyAmong code (places_at old.table.states.items t) [])
+    → new.stepper ≡ length code → new.start ≡ old.start → new.first ≡ old.first → new.table.cells ≡ old.table.cells → IsCacheOf code new
+cache_settled code old new t b held settled ends sized start first cells = record {
+  size = sized;
+  start = subst (λ n. n ≤ length code) (sym start) held.start;
+  table = subst (λ z. IsTable code new.table.states.items z.items) (sym cells)
+      (table_settled old.table.states.items new.table.states.items t b settled code old.table.cells.items held.table ends);
+  first = subst (λ z. IfSome z (BeginsTexts code new.table.states.items new.start)) (sym first)
+      (subst (λ n. IfSome old.first (BeginsTexts code new.table.states.items n)) (sym start)
+      (first_keeps code old.table.states.items new.table.states.items old.start old.first
+      (settled_keeps old.table.states.items new.table.states.items t b settled) held.first));
+}

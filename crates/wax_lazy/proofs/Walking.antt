@@ -3,23 +3,25 @@ use Rattle.std.proofs.Common.{◌≡◌, ℕ, suc, ◌+◌, ◌<◌, ◌↔◌, 
 use Rattle.wax_lazy.specs.inner.Table.{IsDead}
 use Rattle.wax_program.specs.declared.instruction.Instruction.{Instruction}
 use Rattle.wax_program.specs.Machine.{Accepts}
-use Rattle.wax_program.specs.Threads.{AnyOf, Stays}
+use Rattle.wax_program.specs.Threads.{AnyAmong, LeadOn}
 
-pub stays_begun : (code : List Instruction) (start : ℕ) (text : List ℕ) (place : List Bool)
-    → ((s : List ℕ) → Accepts code start s ↔ AnyOf code place s) → Stays code start text text place
-stays_begun code start text place b = record { onward = (b text).0; backward = (b text).1 }
+module _ (code : List Instruction) (start : ℕ) (text left : List ℕ) (places : List ℕ) (stays : Accepts code start text ↔ AnyAmong code places left) where
+  -- a character that is left leads on
+  pub stays_on : (rest others : List ℕ) (c : ℕ) → left ≡ c ∷ rest → LeadOn code c places others → Accepts code start text ↔ AnyAmong code others rest
+  stays_on rest others c e leads = (
+    (λ h. (leads rest).0 (subst (AnyAmong code places) e (stays.0 h))),
+    (λ h. stays.1 (subst (AnyAmong code places) (sym e) ((leads rest).1 h))),
+  )
 
--- a dead set accepts nothing that is left
-pub dead_decides : (code : List Instruction) (start : ℕ) (text left rest : List ℕ) (place : List Bool) (c : ℕ) → left ≡ c ∷ rest
-    → Stays code start text left place → IsDead code place c → (IsTrue false ↔ Accepts code start text)
-dead_decides code start text left rest place c e s dead =
-    ((λ h. absurd (true≢false (sym h))), (λ h. absurd (dead rest (subst (AnyOf code place) e (s.onward h)))))
+  -- dead places accept nothing that is left
+  pub dead_decides : (rest : List ℕ) (c : ℕ) → left ≡ c ∷ rest → IsDead code places c → (IsTrue false ↔ Accepts code start text)
+  dead_decides rest c e dead =
+      ((λ h. absurd (true≢false (sym h))), (λ h. absurd (dead rest (subst (AnyAmong code places) e (stays.0 h)))))
 
--- at the end the state decides
-pub end_decides : (code : List Instruction) (start : ℕ) (text left : List ℕ) (place : List Bool) (b : Bool) → left ≡ []
-    → Stays code start text left place → (IsTrue b ↔ AnyOf code place []) → (IsTrue b ↔ Accepts code start text)
-end_decides code start text left place b e s d =
-    ((λ h. s.backward (subst (AnyOf code place) (sym e) (d.0 h))), (λ h. d.1 (subst (AnyOf code place) e (s.onward h))))
+  -- at the end the state decides
+  pub end_decides : (b : Bool) → left ≡ [] → (IsTrue b ↔ AnyAmong code places []) → (IsTrue b ↔ Accepts code start text)
+  end_decides b e d =
+      ((λ h. stays.1 (subst (AnyAmong code places) (sym e) (d.0 h))), (λ h. d.1 (subst (AnyAmong code places) e (stays.0 h))))
 
 pub next_of : (text : List ℕ) (i : ℕ) → i < length text → drop i text ≡ get_or text i 0 ∷ drop (i + 1) text
 next_of text i lt =

@@ -3,17 +3,26 @@ ghost use Rattle.std.specs.Prelude.{◌≡◌, ◌*◌, ◌/◌, ◌<◌, ◌≤
 ghost use Rattle.std.specs.Prelude.{Some};
 ghost use Rattle.std.specs.Prelude.{length, slice_get};
 ghost use Rattle.wax_lazy.specs.declared.table.State.{State};
-ghost use Rattle.wax_lazy.specs.inner.Cached.{IsAdded, IsCacheOf, IsCleared, IsRestarted};
-ghost use Rattle.wax_lazy.specs.inner.Table.{BeginsTexts, IsStatePlace, KeepsStates, Leads, set_at};
+ghost use Rattle.wax_lazy.specs.inner.Cached.{IsAdded, IsCacheOf, IsCleared, IsRestarted, IsSameMaker};
+ghost use Rattle.wax_lazy.specs.inner.Table.{BeginsTexts, IsStatePlace, KeepsStates, Leads, places_at};
 ghost use Rattle.wax_program.specs.declared.instruction.Instruction.{Instruction};
-ghost use Rattle.wax_program.specs.Threads.{AnyOf};
+ghost use Rattle.wax_program.specs.Threads.{AnyAmong};
 
 use crate::table::{COLUMNS, DEAD, FIRST, State, Table};
 use std::alloc::{AllocError, Global};
 use wax_program::{CompiledProgram, Stepper};
 
-/// The size of a state in bytes, without its row: that of its cells, and about forty more.
-const STATE_BYTES: usize = 552;
+/// The size of a state in bytes, without its places: that of its cells, and about fifty more.
+const STATE_BYTES: usize = 306;
+
+/// The size of a place in bytes.
+const PLACE_BYTES: usize = 8;
+
+/// The number of states that are kept however many bytes they take.
+const LEAST_STATES: usize = 16;
+
+/// The greatest number of states that are kept.
+const MOST_STATES: usize = 8_192;
 
 /// The states that texts led to so far, and a stepper that finds the next ones.
 #[derive(Drop)]
@@ -21,12 +30,16 @@ pub struct Cache {
     alloc: Global,
     stepper: Stepper,
     table: Table,
+    /// The places that the last step reached.
+    reached: Vec<usize>,
     /// The place at which texts begin.
     start: usize,
     /// Where the cells begin of the state in which texts begin, if there is one.
     first: Option<usize>,
-    /// The greatest number of states that are kept.
-    most: u16,
+    /// How many bytes states may take, about.
+    most_bytes: usize,
+    /// How many bytes the states take, about.
+    bytes: usize,
     /// How many bytes of texts a state has to serve, on average, to be worth the cost of building it.
     least_read: usize,
     /// How many bytes of texts were read since all states were last removed.
@@ -58,9 +71,11 @@ impl Cache {
             alloc,
             stepper,
             table,
+            reached: Vec::new(alloc),
             start,
             first: None,
-            most: most_states(program.size(), most_bytes),
+            most_bytes,
+            bytes: 0,
             least_read: least_read(program.size()),
             read: 0,
             gives_up: false,
@@ -83,8 +98,10 @@ impl Cache {
             return Ok(at);
         }
         self.clear();
-        self.stepper.begin(program, self.start);
-        let at = self.intern(program)?;
+        self.reached.clear();
+        self.reached.push(self.start)?;
+        let number = self.intern()?;
+        let at = number * COLUMNS;
         self.first = Some(at);
         Ok(at)
     }
@@ -106,8 +123,8 @@ impl Cache {
         requires placed { IsStatePlace self.old.table.states.items at }
         ensures cache { IsCacheOf program.now.0 self.new }
         ensures start { self.new.start ≡ self.old.start }
-        ensures leads { let set = set_at self.old.table.states.items (at / 128) in
-            IfOk result (Leads program.now.0 self.new.table.states.items set c) }
+        ensures leads { let places = places_at self.old.table.states.items (at / 128) in
+            IfOk result (Leads program.now.0 self.new.table.states.items places c) }
     {
         if c.is_ascii() {
             return self.advance_ascii(program, at, c as u8);
@@ -133,12 +150,12 @@ impl Cache {
         requires ascii { c < 128 }
         ensures cache { IsCacheOf program.now.0 self.new }
         ensures start { self.new.start ≡ self.old.start }
-        ensures leads { let set = set_at self.old.table.states.items (at / 128) in
-            IfOk result (Leads program.now.0 self.new.table.states.items set c) }
+        ensures leads { let places = places_at self.old.table.states.items (at / 128) in
+            IfOk result (Leads program.now.0 self.new.table.states.items places c) }
     {
         let cell = self.table.cells[at + usize::from(c)];
         if cell >= FIRST {
-            return Ok(Some((cell - FIRST) as usize));
+            return Ok(Some(usize::from(cell - FIRST) * COLUMNS));
         }
         if cell == DEAD {
             return Ok(None);
@@ -159,8 +176,8 @@ impl Cache {
         requires placed { IsStatePlace self.old.table.states.items at }
         ensures cache { IsCacheOf program.now.0 self.new }
         ensures start { self.new.start ≡ self.old.start }
-        ensures leads { let set = set_at self.old.table.states.items (at / 128) in
-            IfOk result (Leads program.now.0 self.new.table.states.items set c) }
+        ensures leads { let places = places_at self.old.table.states.items (at / 128) in
+            IfOk result (Leads program.now.0 self.new.table.states.items places c) }
     {
         if self.is_full() {
             self.restart(at)?;
@@ -178,52 +195,55 @@ impl Cache {
     ) -> Result<Option<usize>, AllocError>
         requires cache { IsCacheOf program.now.0 self.old }
         requires placed { IsStatePlace self.old.table.states.items at }
-        requires few { length self.old.table.states.items < 65535 }
+        requires few { length self.old.table.states.items < 65534 }
         ensures cache { IsCacheOf program.now.0 self.new }
         ensures start { self.new.start ≡ self.old.start }
-        ensures leads { let set = set_at self.old.table.states.items (at / 128) in
-            IfOk result (Leads program.now.0 self.new.table.states.items set c) }
+        ensures leads { let places = places_at self.old.table.states.items (at / 128) in
+            IfOk result (Leads program.now.0 self.new.table.states.items places c) }
     {
-        self.stepper.step(program, self.table.row(at), c);
-        if self.stepper.is_empty() {
+        self.stepper
+            .step(program, self.table.places(at), c, &mut self.reached)?;
+        if self.reached.is_empty() {
             self.table.write(at, c, DEAD);
             return Ok(None);
         }
-        let next = self.intern(program)?;
-        self.table.write(at, c, next as u32 + FIRST);
-        Ok(Some(next))
+        let number = self.intern()?;
+        self.table.write(at, c, number as u16 + FIRST);
+        Ok(Some(number * COLUMNS))
     }
 
-    /// Finds the state of the set that the stepper reached, and adds it if it is new. Returns where
-    /// its cells begin.
-    fn intern(&mut self, program: &CompiledProgram) -> Result<usize, AllocError>
-        requires cache { IsCacheOf program.now.0 self.old }
-        requires few { length self.old.table.states.items < 65535 }
-        ensures cache { IsCacheOf program.now.0 self.new }
+    /// Finds the state of the places that were reached, and adds it if it is new. Returns its
+    /// number.
+    fn intern(&mut self) -> Result<usize, AllocError>
+        requires few { length self.old.table.states.items < 65534 }
+        requires room { length self.old.table.cells.items ≡ 128 * length self.old.table.states.items }
+        ensures cache { (code : List Instruction) → IsCacheOf code self.old → IsCacheOf code self.new }
         ensures start { self.new.start ≡ self.old.start }
-        ensures placed { IfOk result (IsStatePlace self.new.table.states.items) }
-        ensures small { IfOk result (λ at. at < 8388480) }
-        ensures set { IfOk result
-            (λ at. set_at self.new.table.states.items (at / 128) ≡ self.old.stepper.places) }
+        ensures small { IfOk result (λ t. t < 65534) }
+        ensures known { IfOk result (λ t. t < length self.new.table.states.items) }
+        ensures places { IfOk result
+            (λ t. places_at self.new.table.states.items t ≡ self.old.reached.items) }
         ensures kept { IfOk result
             (λ _. KeepsStates self.old.table.states.items self.new.table.states.items) }
     {
-        if let Some(number) = self.table.find(self.stepper.row()) {
-            return Ok(number * COLUMNS);
+        if let Some(number) = self.table.find(&self.reached) {
+            return Ok(number);
         }
-        let row = Vec::from_slice(self.alloc, self.stepper.row())?;
-        let accepts = self.stepper.accepts(program, &row);
-        let number = self.keep(State { row, accepts })?;
-        Ok(number * COLUMNS)
+        let places = Vec::from_slice(self.alloc, &self.reached)?;
+        self.keep(State {
+            places,
+            accepts: None,
+        })
     }
 
     /// Adds a state and returns its number. If that fails, removes all states.
     fn keep(&mut self, state: State) -> Result<usize, AllocError>
-        requires few { length self.old.table.states.items < 65535 }
+        requires few { length self.old.table.states.items < 65534 }
         requires room { length self.old.table.cells.items ≡ 128 * length self.old.table.states.items }
         ensures ok { IfOk result (IsAdded self.old self.new state) }
         ensures err { OnErr result (IsCleared self.old self.new) }
     {
+        self.bytes = self.bytes.saturating_add(bytes_of(&state));
         match self.table.push(state) {
             Ok(number) => Ok(number),
             Err(error) => {
@@ -255,34 +275,46 @@ impl Cache {
         ensures { IsCleared self.old self.new }
     {
         self.table.clear();
+        self.bytes = 0;
         self.first = None;
     }
 
     /// Returns whether the greatest number of states is reached.
     #[inline]
     fn is_full(&self) -> bool
-        ensures { IsFalse result → length self.now.table.states.items < 65535 }
+        ensures { IsFalse result → length self.now.table.states.items < 65534 }
     {
-        self.table.states.len() >= usize::from(self.most)
+        let states = self.table.states.len();
+        states >= MOST_STATES || states >= LEAST_STATES && self.bytes >= self.most_bytes
     }
 
-    /// Returns whether the state whose cells begin at `at` accepts the empty text.
+    /// Returns whether a text that ends in the state whose cells begin at `at` is accepted. Takes a
+    /// step of the program if no text has ended there.
     #[inline]
-    pub fn accepts(&self, at: usize) -> bool
-        requires { IsStatePlace self.now.table.states.items at }
-        ensures { (code : List Instruction) → IsCacheOf code self.now
-            → IsTrue result ↔ AnyOf code (set_at self.now.table.states.items (at / 128)) [] }
+    pub fn accepts(&mut self, program: &CompiledProgram, at: usize) -> bool
+        requires cache { IsCacheOf program.now.0 self.old }
+        requires placed { IsStatePlace self.old.table.states.items at }
+        ensures cache { IsCacheOf program.now.0 self.new }
+        ensures start { self.new.start ≡ self.old.start }
+        ensures accepts { let places = places_at self.old.table.states.items (at / 128) in
+            IsTrue result ↔ AnyAmong program.now.0 places [] }
     {
-        self.table.accepts(at)
+        if let Some(accepts) = self.table.accepts(at) {
+            return accepts;
+        }
+        let accepts = self.stepper.accepts(program, self.table.places(at));
+        self.table.settle(at, accepts);
+        accepts
     }
 }
 
-/// Returns how many states of a program of `size` instructions fit in `bytes`, but at least 16 and
-/// at most 4,096.
-fn most_states(size: usize, bytes: usize) -> u16 {
-    let row = (size / 64 + 1) * 8;
-    let fitting = bytes / (STATE_BYTES + row);
-    fitting.max(16).min(4_096) as u16
+/// Returns how many bytes a state takes, about.
+fn bytes_of(state: &State) -> usize {
+    state
+        .places
+        .len()
+        .saturating_mul(PLACE_BYTES)
+        .saturating_add(STATE_BYTES)
 }
 
 /// Returns how many bytes a state of a program of `size` instructions has to serve: from 64 for a

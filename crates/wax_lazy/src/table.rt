@@ -2,8 +2,7 @@
 ghost use Rattle.std.specs.Prelude.{◌≡◌, ◌+◌, ◌*◌, ◌/◌, ◌<◌, ◌≤◌, ◌++◌, ◌∷◌, [], IfOk, IfSome, IsTrue, Some};
 ghost use Rattle.std.specs.Prelude.{length, replicate, slice_get, slice_set};
 ghost use Rattle.wax_lazy.specs.declared.table.State.{State};
-ghost use Rattle.wax_lazy.specs.inner.Table.{IsRowOf, set_at};
-ghost use Rattle.wax_program.specs.Bits.{bits_of};
+ghost use Rattle.wax_lazy.specs.inner.Table.{IsSettled, places_at};
 
 use std::alloc::{AllocError, Global};
 
@@ -11,25 +10,25 @@ use std::alloc::{AllocError, Global};
 pub const COLUMNS: usize = 128;
 
 /// A cell that is still empty.
-pub const UNKNOWN: u32 = 0;
+pub const UNKNOWN: u16 = 0;
 
-/// The cell of a character after which no text is accepted. Each greater cell is the place at which
-/// the cells of the next state begin, plus [`FIRST`].
-pub const DEAD: u32 = 1;
+/// The cell of a character after which no text is accepted. Each greater cell is the number of the
+/// next state, plus [`FIRST`].
+pub const DEAD: u16 = 1;
 
 /// The cell of a character that leads to the first state.
-pub const FIRST: u32 = 2;
+pub const FIRST: u16 = 2;
 
-/// The number of slots of the hash table that finds states by their rows.
-const SLOTS: usize = 8_192;
+/// The number of slots of the hash table that finds states by their places.
+const SLOTS: usize = 16_384;
 
-/// A state: a set of places that was reached.
+/// A state: places that were reached.
 #[derive(Drop)]
 pub struct State {
-    /// The places, 64 in each word.
-    pub row: Vec<u64>,
-    /// True if a text that ends here is accepted.
-    pub accepts: bool,
+    /// The places, ascending.
+    pub places: Vec<usize>,
+    /// Whether a text that ends here is accepted, if a text has ended here.
+    pub accepts: Option<bool>,
 }
 
 /// All states by their numbers, with their cells.
@@ -37,14 +36,14 @@ pub struct State {
 pub struct Table {
     pub states: Vec<State>,
     /// The cells of each state, one state after another.
-    pub cells: Vec<u32>,
-    /// A hash table: the number of a state plus 1, at the hash of its row or soon after it. Empty
-    /// slots are 0.
+    pub cells: Vec<u16>,
+    /// A hash table: the number of a state plus 1, at the hash of its places or soon after it.
+    /// Empty slots are 0.
     slots: Vec<u16>,
 }
 
 impl Table {
-    /// Creates a table without states. Allocates 16 KiB for finding them.
+    /// Creates a table without states. Allocates 32 KiB for finding them.
     ///
     /// # Errors
     ///
@@ -61,18 +60,19 @@ impl Table {
         })
     }
 
-    /// Returns the row of the state whose cells begin at `at`.
+    /// Returns the places of the state whose cells begin at `at`.
     #[inline]
-    pub fn row(&self, at: usize) -> &[u64]
+    pub fn places(&self, at: usize) -> &[usize]
         requires { at / 128 < length self.now.states.items }
-        ensures { IsRowOf self.now.states.items (at / 128) result.now }
+        ensures { places_at self.now.states.items (at / 128) ≡ result.now }
     {
-        &self.states[at / COLUMNS].row
+        &self.states[at / COLUMNS].places
     }
 
-    /// Returns whether a text that ends in the state whose cells begin at `at` is accepted.
+    /// Returns whether a text that ends in the state whose cells begin at `at` is accepted, if that
+    /// is known.
     #[inline]
-    pub fn accepts(&self, at: usize) -> bool
+    pub fn accepts(&self, at: usize) -> Option<bool>
         requires { at / 128 < length self.now.states.items }
         ensures { (s : State) × (slice_get self.now.states.items (at / 128) ≡ Some s)
             × (result ≡ s.accepts) }
@@ -80,35 +80,44 @@ impl Table {
         self.states[at / COLUMNS].accepts
     }
 
-    /// Finds the number of a state by its row. May return `None` for a state that the hash table
-    /// had no room for.
-    pub fn find(&self, row: &[u64]) -> Option<usize>
-        ensures { IfSome result (λ t. (t < 65535) × (t < length self.now.states.items)
-            × (set_at self.now.states.items t ≡ bits_of row.now)) }
+    /// Remembers whether a text that ends in the state whose cells begin at `at` is accepted.
+    pub fn settle(&mut self, at: usize, accepts: bool)
+        requires { at / 128 < length self.old.states.items }
+        ensures states { IsSettled self.old.states.items self.new.states.items (at / 128) accepts }
+        ensures cells { self.new.cells ≡ self.old.cells }
     {
-        let hash = hash_of(row);
+        self.states[at / COLUMNS].accepts = Some(accepts);
+    }
+
+    /// Finds the number of a state by its places. May return `None` for a state that the hash table
+    /// had no room for.
+    pub fn find(&self, places: &[usize]) -> Option<usize>
+        ensures { IfSome result (λ t. (t < length self.now.states.items)
+            × (places_at self.now.states.items t ≡ places.now)) }
+    {
+        let hash = hash_of(places);
         for probe in 0..SLOTS {
             let slot = slot_at(&self.slots, hash, probe);
             if slot == 0 {
                 return None;
             }
             let number = usize::from(slot - 1);
-            if self.is_row(number, row) {
+            if self.has_places(number, places) {
                 return Some(number);
             }
         }
         None
     }
 
-    /// Returns whether there is a state with this number and this row.
-    fn is_row(&self, number: usize, row: &[u64]) -> bool
+    /// Returns whether there is a state with this number and these places.
+    fn has_places(&self, number: usize, places: &[usize]) -> bool
         ensures { IsTrue result → (number < length self.now.states.items)
-            × (set_at self.now.states.items number ≡ bits_of row.now) }
+            × (places_at self.now.states.items number ≡ places.now) }
     {
         if number >= self.states.len() {
             return false;
         }
-        self.states[number].row.as_slice() == row
+        self.states[number].places.as_slice() == places
     }
 
     /// Adds a state with empty cells, and returns its number.
@@ -117,7 +126,7 @@ impl Table {
     ///
     /// Returns `AllocError` if allocation fails. The table then has to be cleared.
     pub fn push(&mut self, state: State) -> Result<usize, AllocError>
-        requires few { length self.old.states.items < 65535 }
+        requires few { length self.old.states.items < 65534 }
         requires room { length self.old.cells.items ≡ 128 * length self.old.states.items }
         ensures number { IfOk result (λ t. t ≡ length self.old.states.items) }
         ensures states { IfOk result (λ _. self.new.states.items ≡ self.old.states.items ++ state ∷ []) }
@@ -125,7 +134,7 @@ impl Table {
     {
         let number = self.states.len();
         self.cells.resize(self.cells.len() + COLUMNS, UNKNOWN)?;
-        enter(&mut self.slots, hash_of(&state.row), number as u16 + 1);
+        enter(&mut self.slots, hash_of(&state.places), number as u16 + 1);
         self.states.push(state)?;
         Ok(number)
     }
@@ -133,7 +142,7 @@ impl Table {
     /// Fills the cell of an ASCII character in the state whose cells begin at `at`. Does nothing
     /// for any other character.
     #[inline]
-    pub fn write(&mut self, at: usize, c: char, cell: u32)
+    pub fn write(&mut self, at: usize, c: char, cell: u16)
         requires { c < 128 → at + c < length self.old.cells.items }
         ensures states { self.new.states ≡ self.old.states }
         ensures filled { c < 128 → self.new.cells.items ≡ slice_set self.old.cells.items (at + c) cell }
@@ -183,11 +192,11 @@ fn enter(slots: &mut [u16], hash: usize, slot: u16) {
     }
 }
 
-/// Returns a hash of the row.
-fn hash_of(row: &[u64]) -> usize {
+/// Returns a hash of the places.
+fn hash_of(places: &[usize]) -> usize {
     let mut hash = 0u64;
-    for word in row {
-        hash = (hash.rotate_left(5) ^ *word).wrapping_mul(0x9E37_79B9_7F4A_7C15);
+    for place in places {
+        hash = (hash.rotate_left(5) ^ *place as u64).wrapping_mul(0x9E37_79B9_7F4A_7C15);
     }
     (hash >> 40) as usize
 }

@@ -41,7 +41,7 @@ fn walk_ascii(program: &CompiledProgram, cache: &mut Cache, text: &[u8]) -> Resu
             None => return Ok(false),
         }
     }
-    Ok(cache.accepts(at))
+    Ok(cache.accepts(program, at))
 }
 
 /// Decides any text, character by character.
@@ -60,5 +60,5 @@ fn walk_chars(program: &CompiledProgram, cache: &mut Cache, text: &str) -> Resul
             None => return Ok(false),
         }
     }
-    Ok(cache.accepts(at))
+    Ok(cache.accepts(program, at))
 }

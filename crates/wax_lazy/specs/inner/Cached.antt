@@ -10,7 +10,7 @@ use Rattle.wax_program.specs.Last.{ReadsLast}
 
 -- the cache was made for a program of these instructions, and all that it says holds of it
 pub record IsCacheOf (code : List Instruction) (c : Cache) : Type 0 where
-  pub size : c.stepper.size ≡ length code
+  pub size : c.stepper ≡ length code
   pub start : c.start ≤ length code
   pub table : IsTable code c.table.states.items c.table.cells.items
   pub first : IfSome c.first (BeginsTexts code c.table.states.items c.start)

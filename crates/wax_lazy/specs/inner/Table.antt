@@ -1,69 +1,68 @@
--- Sets of places that were reached, and where characters lead from them.
+-- Places that were reached, and where characters lead from them.
 use Rattle.std.specs.Prelude.{◌≡◌, ℕ, ◌+◌, ◌*◌, ◌/◌, ◌%◌, ◌<◌, ◌⊎◌, ◌↔◌, Bool, List, [], ◌∷◌, Option, Some}
-use Rattle.std.specs.Prelude.{None, IsTrue, length}
-use Rattle.std.specs.Prelude.{slice_get, slice_index}
+use Rattle.std.specs.Prelude.{None, IfSome, IsTrue, length}
+use Rattle.std.specs.Prelude.{slice_get, slice_index, slice_set}
 use Rattle.wax_lazy.specs.declared.table.State.{State}
 use Rattle.wax_program.specs.declared.instruction.Instruction.{Instruction}
-use Rattle.wax_program.specs.Bits.{bits_of}
 use Rattle.wax_program.specs.Machine.{Accepts}
-use Rattle.wax_program.specs.Threads.{Advances, AnyOf, Within}
+use Rattle.wax_program.specs.Threads.{AnyAmong, LeadOn}
 
--- the set of a state, or the empty one
-abbrev pub set_of : Option State → List Bool
-set_of (Some s) = bits_of s.row.items
-set_of None = []
+-- the places of a state, or none
+abbrev pub places_in : Option State → List ℕ
+places_in (Some s) = s.places.items
+places_in None = []
 
--- the set of the state with this number
-abbrev pub set_at : List State → ℕ → List Bool
-set_at states t = set_of (slice_get states t)
+-- the places of the state with this number
+abbrev pub places_at : List State → ℕ → List ℕ
+places_at states t = places_in (slice_get states t)
 
--- the row is that of the state with this number
-abbrev pub IsRowOf : List State → ℕ → List ℕ → Type 0
-IsRowOf states t row = (s : State) × (slice_get states t ≡ Some s) × (row ≡ s.row.items)
-
--- the states keep their numbers and their sets
+-- the states keep their numbers and their places
 abbrev pub KeepsStates : List State → List State → Type 0
-KeepsStates old new = (t : ℕ) → t < length old → (t < length new) × (set_at new t ≡ set_at old t)
+KeepsStates old new = (t : ℕ) → t < length old → (t < length new) × (places_at new t ≡ places_at old t)
 
--- the row is one of the program's, and it is known whether its set accepts the empty text
-pub record IsState (code : List Instruction) (s : State) : Type 0 where
-  pub width : length s.row.items ≡ length code / 64 + 1
-  pub within : Within (length code + 1) (bits_of s.row.items)
-  pub ends : IsTrue s.accepts ↔ AnyOf code (bits_of s.row.items) []
+-- the state with this number says now whether a text that ends there is accepted
+abbrev pub IsSettled : List State → List State → ℕ → Bool → Type 0
+IsSettled old new t b =
+    (s : State) × (slice_get old t ≡ Some s)
+    × (new ≡ slice_set old t (record { places = s.places; accepts = Some b }))
+
+-- where the state says whether the empty text is accepted, it says so rightly
+abbrev pub IsState : List Instruction → State → Type 0
+IsState code s = IfSome s.accepts (λ b. IsTrue b ↔ AnyAmong code s.places.items [])
 
 -- a state's cells begin at the place
 pub record IsStatePlace (states : List State) (at : ℕ) : Type 0 where
   pub whole : at % 128 ≡ 0
   pub kept : at / 128 < length states
 
--- from the set the character leads to the state whose cells begin at the place
-pub record LeadsTo (code : List Instruction) (states : List State) (set : List Bool) (c at : ℕ) : Type 0 where
+-- from the places the character leads to the state whose cells begin at `at`
+pub record LeadsTo (code : List Instruction) (states : List State) (places : List ℕ) (c at : ℕ) : Type 0 where
   pub placed : IsStatePlace states at
-  pub advances : Advances code c set (set_at states (at / 128))
+  pub leads : LeadOn code c places (places_at states (at / 128))
 
--- from the set no text is accepted that begins with the character
-abbrev pub IsDead : List Instruction → List Bool → ℕ → Type 0
-IsDead code set c = (s : List ℕ) → AnyOf code set (c ∷ s) → ⊥
+-- from the places no text is accepted that begins with the character
+abbrev pub IsDead : List Instruction → List ℕ → ℕ → Type 0
+IsDead code places c = (s : List ℕ) → AnyAmong code places (c ∷ s) → ⊥
 
--- where the character leads from the set
-abbrev pub Leads : List Instruction → List State → List Bool → ℕ → Option ℕ → Type 0
-Leads code states set c None = IsDead code set c
-Leads code states set c (Some at) = LeadsTo code states set c at
+-- where the character leads from the places
+abbrev pub Leads : List Instruction → List State → List ℕ → ℕ → Option ℕ → Type 0
+Leads code states places c None = IsDead code places c
+Leads code states places c (Some at) = LeadsTo code states places c at
 
--- the cell is empty, or says where the character leads from the set
-abbrev pub IsTransition : List Instruction → List State → List Bool → ℕ → ℕ → Type 0
-IsTransition code states set c cell =
-    (cell ≡ 0) ⊎ (((cell ≡ 1) × IsDead code set c)
-    ⊎ ((at : ℕ) × (cell ≡ at + 2) × LeadsTo code states set c at))
+-- the cell is empty, or says where the character leads from the places
+abbrev pub IsTransition : List Instruction → List State → List ℕ → ℕ → ℕ → Type 0
+IsTransition code states places c cell =
+    (cell ≡ 0) ⊎ (((cell ≡ 1) × IsDead code places c)
+    ⊎ ((at : ℕ) × (cell ≡ at / 128 + 2) × LeadsTo code states places c at))
 
 -- the states are those of a program, and each has a cell for each of 128 characters
 pub record IsTable (code : List Instruction) (states : List State) (cells : List ℕ) : Type 0 where
   pub room : length cells ≡ 128 * length states
   pub rows : (t : ℕ) (s : State) → slice_get states t ≡ Some s → IsState code s
   pub says : (t k : ℕ) → t < length states → k < 128
-      → IsTransition code states (set_at states t) k (slice_index cells (128 * t + k))
+      → IsTransition code states (places_at states t) k (slice_index cells (128 * t + k))
 
--- the state whose cells begin at the place accepts what the program does from the place `start` on
+-- the state whose cells begin at `at` accepts what the program does from the place `start` on
 pub record BeginsTexts (code : List Instruction) (states : List State) (start at : ℕ) : Type 0 where
   pub placed : IsStatePlace states at
-  pub accepts : (s : List ℕ) → Accepts code start s ↔ AnyOf code (set_at states (at / 128)) s
+  pub accepts : (s : List ℕ) → Accepts code start s ↔ AnyAmong code (places_at states (at / 128)) s

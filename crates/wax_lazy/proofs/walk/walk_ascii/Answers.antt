@@ -1,6 +1,6 @@
-use Rattle.std.proofs.Common.{List, ℕ, ◌∙◌, arith}
-use Rattle.wax_lazy.proofs.Walking.{dead_decides, next_of, stays_begun}
-use Rattle.wax_program.proofs.Advancing.{stays_step}
+use Rattle.std.proofs.Common.{◌≡◌, [], List, ℕ, drop, ◌∙◌, arith}
+use Rattle.std.proofs.lemmas.List.{drop_all}
+use Rattle.wax_lazy.proofs.Walking.{dead_decides, end_decides, next_of, stays_on}
 use Rattle.wax_lazy.proofs.walk.walk_ascii.Goals as goal
 
 pub loop-byte-init : goal.loop-byte-init
@@ -10,7 +10,7 @@ loop-byte-init c =
       cache = c.begin.ensures.cache;
       start = c.begin.ensures.start;
       placed = begins.placed;
-      stays = stays_begun c.args.program.now.0 c.args.cache.now.start c.args.text.now _ begins.accepts;
+      stays = begins.accepts c.args.text.now;
     }
 
 pub loop-byte-preserved : goal.loop-byte-preserved
@@ -23,7 +23,7 @@ loop-byte-preserved c =
       cache = c.advance_ascii.ensures.cache;
       start = c.advance_ascii.ensures.start ∙ held.start;
       placed = leads.placed;
-      stays = stays_step c.args.program.now.0 c.args.cache.now.start text _ _ _ _ _ one held.stays leads.advances;
+      stays = stays_on c.args.program.now.0 c.args.cache.now.start text _ _ held.stays _ _ _ one leads.leads;
     }
 
 pub returns-in-None-clause-decides : goal.returns-in-None-clause-decides
@@ -32,4 +32,11 @@ returns-in-None-clause-decides c =
     let held = c.loop-byte.invariant in
     let one = next_of text c.loop-byte.byte-index (omega (arith, c.loop-byte-test.true)) in
     let dead = rw c.in-None.is at c.in_ok-next.ensures.leads in
-    dead_decides c.args.program.now.0 c.args.cache.now.start text _ _ _ _ one held.stays dead
+    dead_decides c.args.program.now.0 c.args.cache.now.start text _ _ held.stays _ _ one dead
+
+pub returns-clause-decides : goal.returns-clause-decides
+returns-clause-decides c =
+    let text : List ℕ = c.args.text.now in
+    let held = c.loop-byte.invariant in
+    let end : drop c.loop-byte.byte-index text ≡ [] = drop_all c.loop-byte.byte-index text c.loop-byte-test.false in
+    end_decides c.args.program.now.0 c.args.cache.now.start text _ _ held.stays c.accepts.result end c.accepts.ensures.accepts

@@ -1,7 +1,8 @@
-use Rattle.std.proofs.Common.{◌≡◌, ◌/◌, drop}
+use Rattle.std.proofs.Common.{◌≡◌, ◌↔◌, ◌/◌, drop}
 use Rattle.wax_lazy.specs.inner.Cached.{IsCacheOf}
-use Rattle.wax_lazy.specs.inner.Table.{IsStatePlace, set_at}
-use Rattle.wax_program.specs.Threads.{Stays}
+use Rattle.wax_lazy.specs.inner.Table.{IsStatePlace, places_at}
+use Rattle.wax_program.specs.Machine.{Accepts}
+use Rattle.wax_program.specs.Threads.{AnyAmong}
 use Rattle.wax_lazy.proofs.walk.walk_ascii.Given as goal
 
 abbrev pub invariant-loop-byte : goal.invariant-loop-byte
@@ -9,5 +10,5 @@ invariant-loop-byte l = record {
   cache : IsCacheOf l.program.0 l.cache;
   start : l.cache.start ≡ l.fn.cache.start;
   placed : IsStatePlace l.cache.table.states.items l.at;
-  stays : Stays l.program.0 l.fn.cache.start l.text (drop l.byte-index l.text) (set_at l.cache.table.states.items (l.at / 128));
+  stays : Accepts l.program.0 l.fn.cache.start l.text ↔ AnyAmong l.program.0 (places_at l.cache.table.states.items (l.at / 128)) (drop l.byte-index l.text);
 }

@@ -3,8 +3,7 @@ use Rattle.std.proofs.lemmas.List.{nil_from_length}
 use Rattle.std.proofs.lemmas.Str.{IsUtf8-past_char, chars-nil, chars_past_char}
 use Rattle.std.specs.Str.{chars}
 use Rattle.std.specs.Str.Iter.{chars_rest}
-use Rattle.wax_lazy.proofs.Walking.{dead_decides, end_decides, stays_begun}
-use Rattle.wax_program.proofs.Advancing.{stays_step}
+use Rattle.wax_lazy.proofs.Walking.{dead_decides, end_decides, stays_on}
 use Rattle.wax_lazy.proofs.walk.walk_chars.Goals as goal
 
 pub loop-c-init : goal.loop-c-init
@@ -15,7 +14,7 @@ loop-c-init c =
       cache = c.begin.ensures.cache;
       start = c.begin.ensures.start;
       placed = begins.placed;
-      stays = rw c.chars-left.ensures.rest (stays_begun c.args.program.now.0 c.args.cache.now.start (chars c.args.text.now) _ begins.accepts);
+      stays = rw c.chars-left.ensures.rest (begins.accepts (chars c.args.text.now));
     }
 
 pub loop-c-preserved : goal.loop-c-preserved
@@ -31,7 +30,7 @@ loop-c-preserved c =
       cache = c.advance.ensures.cache;
       start = c.advance.ensures.start ∙ held.start;
       placed = leads.placed;
-      stays = stays_step code c.args.cache.now.start cs _ left _ _ c.in-Some.c one held.stays leads.advances;
+      stays = stays_on code c.args.cache.now.start cs _ _ held.stays left _ c.in-Some.c one leads.leads;
     }
 
 pub returns-in-None-clause-decides : goal.returns-in-None-clause-decides
@@ -41,11 +40,11 @@ returns-in-None-clause-decides c =
     let held = c.loop-c.invariant in
     let one : chars (chars_rest c.loop-c.left) ≡ c.in-Some.c ∷ left = chars_past_char _ _ _ held.utf8 c.in-Some.ensures.steps.0 in
     let dead = rw c.in-None.is at c.in_ok-next.ensures.leads in
-    dead_decides c.args.program.now.0 c.args.cache.now.start cs _ left _ c.in-Some.c one held.stays dead
+    dead_decides c.args.program.now.0 c.args.cache.now.start cs _ _ held.stays left c.in-Some.c one dead
 
 pub returns-clause-decides : goal.returns-clause-decides
 returns-clause-decides c =
     let code = c.args.program.now.0 in
     let held = c.loop-c.invariant in
     let end : chars (chars_rest c.loop-c.left) ≡ [] = ap chars (nil_from_length _ c.in_default.ensures.steps.0.0) ∙ chars-nil in
-    end_decides code c.args.cache.now.start (chars c.args.text.now) _ _ c.accepts.result end held.stays (c.accepts.ensures code held.cache)
+    end_decides code c.args.cache.now.start (chars c.args.text.now) _ _ held.stays c.accepts.result end c.accepts.ensures.accepts

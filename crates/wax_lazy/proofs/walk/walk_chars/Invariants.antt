@@ -1,9 +1,10 @@
-use Rattle.std.proofs.Common.{◌≡◌, ◌/◌, IsUtf8}
+use Rattle.std.proofs.Common.{◌≡◌, ◌↔◌, ◌/◌, IsUtf8}
 use Rattle.std.specs.Str.{chars}
 use Rattle.std.specs.Str.Iter.{chars_rest}
 use Rattle.wax_lazy.specs.inner.Cached.{IsCacheOf}
-use Rattle.wax_lazy.specs.inner.Table.{IsStatePlace, set_at}
-use Rattle.wax_program.specs.Threads.{Stays}
+use Rattle.wax_lazy.specs.inner.Table.{IsStatePlace, places_at}
+use Rattle.wax_program.specs.Machine.{Accepts}
+use Rattle.wax_program.specs.Threads.{AnyAmong}
 use Rattle.wax_lazy.proofs.walk.walk_chars.Given as goal
 
 abbrev pub invariant-loop-c : goal.invariant-loop-c
@@ -12,5 +13,5 @@ invariant-loop-c l = record {
   cache : IsCacheOf l.program.0 l.cache;
   start : l.cache.start ≡ l.fn.cache.start;
   placed : IsStatePlace l.cache.table.states.items l.at;
-  stays : Stays l.program.0 l.fn.cache.start (chars l.text) (chars (chars_rest l.left)) (set_at l.cache.table.states.items (l.at / 128));
+  stays : Accepts l.program.0 l.fn.cache.start (chars l.text) ↔ AnyAmong l.program.0 (places_at l.cache.table.states.items (l.at / 128)) (chars (chars_rest l.left));
 }

@@ -1,6 +1,6 @@
 use Rattle.std.proofs.Common.{◌≡◌, ◌+◌, ◌<◌, ◌/◌, length, get_or, sym, subst}
 use Rattle.std.proofs.lemmas.List.{get_or_read}
-use Rattle.wax_lazy.specs.inner.Table.{IsTransition, set_at}
+use Rattle.wax_lazy.specs.inner.Table.{IsTransition, places_at}
 use Rattle.wax_lazy.proofs.Tables.{leads_nowhere, leads_on, place_inside, says_at}
 use Rattle.wax_lazy.proofs.cache.Cache.advance_ascii.Goals as goal
 
@@ -13,8 +13,8 @@ returns-then-cell-ge-FIRST-clause-leads c =
     let read = rw c.from.ensures at c.index-cell.ensures in
     let is : c.index-cell.result.now ≡ get_or cells (c.args.at + c.args.c) 0 = get_or_read cells (c.args.at + c.args.c) c.index-cell.result.now inside read 0 in
     let says = says_at code states cells c.args.at c.args.c c.requires.cache.table c.requires.placed c.requires.ascii in
-    let transition = subst (IsTransition code states (set_at states (c.args.at / 128)) c.args.c) (sym is) says in
-    leads_on code states _ c.args.c c.index-cell.result.now transition c.if-cell-ge-FIRST.true
+    let transition = subst (IsTransition code states (places_at states (c.args.at / 128)) c.args.c) (sym is) says in
+    rw c.from-then-cell-ge-FIRST.ensures (leads_on code states _ c.args.c c.index-cell.result.now transition c.if-cell-ge-FIRST.true)
 
 pub returns-then-cell-eq-DEAD-clause-leads : goal.returns-then-cell-eq-DEAD-clause-leads
 returns-then-cell-eq-DEAD-clause-leads c =
@@ -25,5 +25,5 @@ returns-then-cell-eq-DEAD-clause-leads c =
     let read = rw c.from.ensures at c.index-cell.ensures in
     let is : c.index-cell.result.now ≡ get_or cells (c.args.at + c.args.c) 0 = get_or_read cells (c.args.at + c.args.c) c.index-cell.result.now inside read 0 in
     let says = says_at code states cells c.args.at c.args.c c.requires.cache.table c.requires.placed c.requires.ascii in
-    let transition = subst (IsTransition code states (set_at states (c.args.at / 128)) c.args.c) (sym is) says in
+    let transition = subst (IsTransition code states (places_at states (c.args.at / 128)) c.args.c) (sym is) says in
     leads_nowhere code states _ c.args.c c.index-cell.result.now transition c.if-cell-eq-DEAD.true

@@ -1,5 +1,7 @@
-use Rattle.std.proofs.Common.{sym, subst}
-use Rattle.wax_lazy.specs.inner.Table.{BeginsTexts}
+use Rattle.std.proofs.Common.{◌≡◌, ◌*◌, ◌∷◌, [], ◌∙◌, sym, subst, rules}
+use Rattle.wax_lazy.specs.inner.Cached.{IsCacheOf}
+use Rattle.wax_lazy.specs.inner.Table.{BeginsTexts, places_at}
+use Rattle.wax_lazy.proofs.Caches.{cache_cleared}
 use Rattle.wax_lazy.proofs.Tables.{begun}
 use Rattle.wax_lazy.proofs.cache.Cache.begin.Goals as goal
 
@@ -7,17 +9,24 @@ pub returns-clause-cache : goal.returns-clause-cache
 returns-clause-cache c =
     let code = c.args.program.now.0 in
     let states = c.intern.new.self.table.states.items in
-    let first = begun code states c.clear.new.self.start c.in_ok-at.at c.begin.new.self.places c.in_ok-at.ensures.placed c.in_ok-at.ensures.set c.begin.ensures.begins in
+    let made = c.in_ok-number.ensures in
+    let cleared = cache_cleared code _ c.clear.new.self
+    (record { size = c.requires.size; start = c.requires.start; table = c.requires.table; first = c.requires.first }) c.clear.ensures in
+    let held = made.cache code (record { size = cleared.size; start = cleared.start; table = cleared.table; first = cleared.first }) in
+    let one : places_at states c.in_ok-number.number ≡ c.clear.new.self.start ∷ [] = made.places ∙ search rules in
+    let first = begun code states c.clear.new.self.start c.in_ok-number.number made.known one in
     record {
-      size = c.intern.ensures.cache.size;
-      start = c.intern.ensures.cache.start;
-      table = c.intern.ensures.cache.table;
-      first = subst (λ n. BeginsTexts code states n c.in_ok-at.at) (sym c.intern.ensures.start) first;
+      size = held.size;
+      start = held.start;
+      table = held.table;
+      first = subst (λ n. BeginsTexts code states n (c.in_ok-number.number * 128)) (sym made.start) first;
     }
 
 pub returns-clause-begins : goal.returns-clause-begins
 returns-clause-begins c =
     let code = c.args.program.now.0 in
     let states = c.intern.new.self.table.states.items in
-    let first = begun code states c.clear.new.self.start c.in_ok-at.at c.begin.new.self.places c.in_ok-at.ensures.placed c.in_ok-at.ensures.set c.begin.ensures.begins in
-    subst (λ n. BeginsTexts code states n c.in_ok-at.at) c.clear.ensures.maker.start first
+    let made = c.in_ok-number.ensures in
+    let one : places_at states c.in_ok-number.number ≡ c.clear.new.self.start ∷ [] = made.places ∙ search rules in
+    let first = begun code states c.clear.new.self.start c.in_ok-number.number made.known one in
+    subst (λ n. BeginsTexts code states n (c.in_ok-number.number * 128)) c.clear.ensures.maker.start first

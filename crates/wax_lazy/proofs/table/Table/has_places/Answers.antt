@@ -2,9 +2,8 @@ use Rattle.std.proofs.Common.{◌<◌, length, refl, sym, ◌∙◌, ap, arith}
 use Rattle.std.proofs.lemmas.Bool.Decides.{Decides-eqb}
 use Rattle.std.proofs.lemmas.Option.{slice_get_read}
 use Rattle.std.proofs.lemmas.Slice.Eq.{slice_eq-Decides}
-use Rattle.wax_lazy.specs.inner.Table.{set_of}
-use Rattle.wax_program.specs.Bits.{bits_of}
-use Rattle.wax_lazy.proofs.table.Table.is_row.Goals as goal
+use Rattle.wax_lazy.specs.inner.Table.{places_in}
+use Rattle.wax_lazy.proofs.table.Table.has_places.Goals as goal
 
 pub returns : goal.returns
 returns c = λ h.
@@ -12,4 +11,4 @@ returns c = λ h.
     let within : c.args.number < length states = omega (arith, c.if-number-len.false, c.len.ensures, c.args.self.now.states.ok.0) in
     let here = slice_get_read states (length states) c.args.number c.index.result.now refl within c.index.ensures in
     let same = (slice_eq-Decides Decides-eqb _ _ _ c.eq.ensures).0 h in
-    (within, ap set_of here ∙ ap bits_of (sym c.as_slice.ensures.value ∙ same))
+    (within, ap places_in here ∙ sym c.as_slice.ensures.value ∙ same)

@@ -1,0 +1,9 @@
+use Rattle.std.proofs.Common.{length, refl, sym, ◌∙◌, ap}
+use Rattle.std.proofs.lemmas.Option.{slice_get_read}
+use Rattle.wax_lazy.specs.inner.Table.{places_in}
+use Rattle.wax_lazy.proofs.table.Table.places.Goals as goal
+
+pub returns : goal.returns
+returns c =
+    let states = c.args.self.now.states.items in
+    ap places_in (slice_get_read states (length states) _ c.index.result.now refl c.requires c.index.ensures) ∙ sym c.deref.ensures.value
