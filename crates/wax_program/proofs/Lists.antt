@@ -1,5 +1,5 @@
 -- Places that a caller lists.
-use Rattle.std.proofs.Common.{◌≡◌, ◌≤◌, ◌↔◌, ◌∷◌, ℕ, Bool, List, length, Contains, arith}
+use Rattle.std.proofs.Common.{◌≡◌, ◌↔◌, ◌∷◌, ℕ, Bool, List, length, arith}
 use Rattle.wax_program.specs.declared.instruction.Instruction.{Instruction}
 use Rattle.wax_program.specs.Threads.{Advances, AnyAmong, AnyOf, IsLoaded, LeadOn, Lists}
 use Rattle.wax_program.proofs.Advancing.{in_range}

@@ -99,8 +99,8 @@ abbrev pub AnyOf : List Instruction → List Bool → List ℕ → Type 0
 AnyOf code set s = (k : ℕ) × HoldsPlace set k × Accepts code k s
 
 -- the set accepts every text or none
-abbrev pub IsSettled : List Instruction → List Bool → Type 0
-IsSettled code set = (s : List ℕ) → AnyOf code set s ↔ AnyOf code set []
+abbrev pub AcceptsAllOrNone : List Instruction → List Bool → Type 0
+AcceptsAllOrNone code set = (s : List ℕ) → AnyOf code set s ↔ AnyOf code set []
 
 -- one of the places accepts the text
 abbrev pub AnyAmong : List Instruction → List ℕ → List ℕ → Type 0

@@ -1,7 +1,7 @@
 //! The parts of texts that needn't be read.
 ghost use Rattle.std.specs.Prelude.{◌≡◌, ◌-◌, chars, length};
 ghost use Rattle.wax_program.specs.Last.{IsCutBetween, IsLastName, ReadsLast};
-ghost use Rattle.wax_program.specs.Threads.{IsSettled};
+ghost use Rattle.wax_program.specs.Threads.{AcceptsAllOrNone};
 
 use crate::machine::CompiledProgram;
 use crate::sets::Sets;
@@ -25,7 +25,7 @@ impl Skipped {
     /// Skips what is left of a text, where the sets accept everything or nothing.
     #[inline(always)]
     pub(crate) fn rest<R: Sets>(program: &CompiledProgram, sets: &R, left: &str) -> Skipped
-        requires { IsSettled program.now.0 (R.position sets.now).pending }
+        requires { AcceptsAllOrNone program.now.0 (R.position sets.now).pending }
         ensures { result ≡ length left.now }
     {
         let (_, _) = (program, sets);
