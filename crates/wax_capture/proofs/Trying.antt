@@ -89,6 +89,16 @@ module _ (p : Piece) (ps : List Piece) (s : List ℕ) where
     | inr ge ↦ none m (before.left j m (omega (arith, lt, ge)) g)
   ]
 
+  -- nor does the k-th, if its form takes no part of the text
+  pub none_further : (k : ℕ) (form : Form) → NoneTo k → slice_get (forms_of p.ways) k ≡ Some form → ((m : ℕ) → TakenBy form (take m s) → ⊥) → NoneTo (k + 1)
+  none_further k form none is fails j m lt g = elim (cases_lt j k) [
+    | inl less ↦ none j m less g
+    | inr ge ↦
+        let same : j ≡ k = omega (arith, lt, ge) in
+        let w : WayOf p k (take m s) = subst (λ i. WayOf p i (take m s)) same g.1 in
+        fails m (subst (λ z. TakenBy z (take m s)) (some_same (sym w.1 ∙ is)) w.2)
+  ]
+
   -- one more is opened
   pub opens_next : (f : Frame) (k : ℕ) (form : Form) → f.opened ≡ k + 1 → NoneTo k → slice_get (forms_of p.ways) k ≡ Some form → HasLengths form s f.span →
       ((m : ℕ) → InSpan f.span s m → (m ≤ length s) × TakenBy form (take m s)) → IsOpen p ps s f

@@ -10,7 +10,7 @@ ghost use Rattle.wax_capture.specs.declared.piece.Piece.{Piece};
 use crate::piece::Piece;
 use std::alloc::{AllocError, Global};
 use std::mem;
-use wax_lengths::{LengthSpan, Visits, lengths_of, pick};
+use wax_lengths::{LengthSpan, Visits, lengths_of, may_take, pick};
 
 /// The trial of one piece: the length that it takes now, and what is left to be tried.
 #[derive(Drop)]
@@ -103,7 +103,11 @@ fn take_next(
     }
     let forms = piece.ways.forms();
     for index in frame.opened..forms.len() {
-        frame.span = lengths_of(alloc, &forms[index], text, frame.at, visits)?;
+        let form = &forms[index];
+        if !may_take(form, text, frame.at) {
+            continue;
+        }
+        frame.span = lengths_of(alloc, form, text, frame.at, visits)?;
         frame.opened = index + 1;
         if take_left(text, piece.is_lazy, frame, visits) {
             return Ok(true);

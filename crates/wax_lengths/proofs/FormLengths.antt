@@ -90,6 +90,13 @@ text_no f ls s h = no_length (SpelledBy f ls) s (λ n le g.
     h (omega (arith, e, le)) (subst (λ k. SpelledBy f ls (take k s)) e g))
 
 -- letter by letter
+-- the first character is the first letter
+pub spelled_first : (f : Bool) (ls s : List ℕ) (n l c : ℕ) → 0 < length ls → l ≡ get_or ls 0 l → c ≡ get_or s 0 c → SpelledBy f ls (take n s) → IsLetter f l c
+spelled_first f [] s n l c lt is at h = absurd (omega (arith, lt))
+spelled_first f (x ∷ ls) s zero l c lt is at h = absurd h
+spelled_first f (x ∷ ls) [] (suc n) l c lt is at h = absurd h
+spelled_first f (x ∷ ls) (d ∷ s) (suc n) l c lt is at h = subst (λ z. IsLetter f z c) (sym is) (subst (IsLetter f x) (sym at) h.0)
+
 pub spelled_each : (f : Bool) (ls s : List ℕ) → SpelledBy f ls (take (length ls) s) → (j l c : ℕ) → j < length ls → l ≡ get_or ls j l → c ≡ get_or s j c → length ls ≤ length s → IsLetter f l c
 spelled_each f [] s h j l c lt le ce long = absurd (omega (arith, lt))
 spelled_each f (k ∷ ls) [] h j l c lt le ce long = absurd (omega (arith, long))

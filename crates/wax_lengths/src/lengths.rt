@@ -1,10 +1,10 @@
 //! The lengths of the parts of a text that a form takes from a place on.
-ghost use Rattle.std.specs.Prelude.{◌≡◌, ◌⊎◌, ◌||◌, ◌+◌, ◌*◌, ◌<◌, ◌≤◌, ◌↔◌, ◌∷◌, [], ℕ, IfOk, IsTrue};
+ghost use Rattle.std.specs.Prelude.{◌≡◌, ◌⊎◌, ◌||◌, ◌+◌, ◌*◌, ◌<◌, ◌≤◌, ◌↔◌, ◌∷◌, [], ℕ, IfOk, IsFalse, IsTrue};
 ghost use Rattle.std.specs.Prelude.{length, take, drop};
 ghost use Rattle.wax_program.specs.Machine.{Accepts, PassesTest};
 ghost use Rattle.wax_query.specs.Components.{BeginsWithSlash};
 ghost use Rattle.wax_token.specs.Meaning.{HasNoSlash, TreeMeans};
-ghost use Rattle.wax_lengths.specs.Forms.{IsLetter, SpelledBy, form_size, program_size};
+ghost use Rattle.wax_lengths.specs.Forms.{IsLetter, SpelledBy, TakenBy, form_size, program_size};
 ghost use Rattle.wax_lengths.specs.inner.Names.{tree_end, tree_low, tree_marks, name_len};
 ghost use Rattle.wax_lengths.specs.Spans.{AreLengths, HasLengths, looks};
 
@@ -69,6 +69,32 @@ fn is_spelled(
     }
     visits.add(letters.len());
     true
+}
+
+/// Returns whether the text may have the letters at the place: whether it has the first of them.
+#[inline]
+fn may_spell(letters: &[char], is_folded: bool, text: &[char], at: usize) -> bool
+    requires { at ≤ length text.now }
+    ensures { IsFalse result
+        → (n : ℕ) → SpelledBy is_folded letters.now (take n (drop at text.now)) → ⊥ }
+{
+    match letters.first() {
+        Some(letter) => at < text.len() && is_letter(is_folded, *letter, text[at]),
+        None => true,
+    }
+}
+
+/// Returns whether the form may take a part of the text from `at` on. Looks at one character at
+/// most, and takes much less time than [`lengths_of`].
+#[inline]
+pub fn may_take(form: &Form, text: &[char], at: usize) -> bool
+    requires { at ≤ length text.now }
+    ensures { IsFalse result → (n : ℕ) → TakenBy form.now (take n (drop at text.now)) → ⊥ }
+{
+    match form {
+        Form::Text(letters, is_folded) => may_spell(letters.as_slice(), *is_folded, text, at),
+        _ => true,
+    }
 }
 
 /// Returns the lengths for the letters: only theirs, if the text has them at the place.

@@ -7,6 +7,6 @@ mod span;
 mod visits;
 
 pub use form::Form;
-pub use lengths::lengths_of;
+pub use lengths::{lengths_of, may_take};
 pub use span::{LengthSpan, Marks, pick};
 pub use visits::Visits;

@@ -1,14 +1,14 @@
 use Rattle.std.proofs.Common.{◌≡◌, ◌+◌, ◌≤◌, ℕ, List, Some, length, take, drop, slice_get, refl, sym, ◌∙◌, subst, arith, rules}
 use Rattle.std.proofs.Math.Nat.{mul-le-mul_right}
 use Rattle.wax_capture.specs.Pieces.{forms_of, size_of}
-use Rattle.wax_lengths.specs.Forms.{form_size}
+use Rattle.wax_lengths.specs.Forms.{TakenBy, form_size}
 use Rattle.wax_lengths.specs.Spans.{looks}
 use Rattle.wax_capture.specs.inner.Trials.{HasTaken, IsOpen}
 use Rattle.wax_capture.specs.declared.trial.Frame.{Frame}
 use Rattle.wax_capture.proofs.Choosing.{none_at_all, span_sound}
 use Rattle.wax_capture.proofs.Counting.{reads_fewer, reads_way, size_of_one, size_of_some}
 use Rattle.wax_lengths.proofs.Lists.{slice_read}
-use Rattle.wax_capture.proofs.Trying.{NoneTo, open_none, open_takes, opens_next}
+use Rattle.wax_capture.proofs.Trying.{NoneTo, none_further, open_none, open_takes, opens_next}
 use Rattle.wax_capture.proofs.trial.take_next.Goals as goal
 
 pub returns-then-take_left-clause-taken : goal.returns-then-take_left-clause-taken
@@ -66,6 +66,26 @@ returns-then-take_left-2-clause-above c =
     let new : ℕ = c.take_left-in-loop-index.new.visits in
     reads_fewer old new (size_of (take (k + 1) forms)) (size_of forms) (length c.args.text.now + 1) (size_of_some forms (k + 1))
     (reads_way forms k c.index-forms-index.result (search rules) (search rules) old c.loop-index.visits new (length c.args.text.now + 1) c.loop-index.invariant.above (omega (arith, c.take_left-in-loop-index.ensures.looked, c.in_ok-frame.ensures.looked)))
+
+pub loop-index-preserved-then-not-may_take : goal.loop-index-preserved-then-not-may_take
+loop-index-preserved-then-not-may_take c =
+    let p = c.args.piece.now in
+    let forms = forms_of p.ways in
+    let text : List ℕ = c.args.text.now in
+    let k : ℕ = c.loop-index.index in
+    let form = c.index-forms-index.result in
+    let same : c.loop-index.frame.at ≡ c.args.frame.now.at = c.loop-index.invariant.at in
+    let is : slice_get forms k ≡ Some form = slice_read forms k form (search rules) (search rules) in
+    let before : ℕ = c.args.visits.now + looks c.args.frame.now.span in
+    record {
+      at = same;
+      none = λ ps o. none_further p ps (drop c.args.frame.now.at text) k form (c.loop-index.invariant.none ps o) is
+          (subst (λ a. (n : ℕ) → TakenBy form (take n (drop a text)) → ⊥) same (c.may_take.ensures (search rules)));
+      end = c.loop-index.invariant.end;
+      few = c.loop-index.invariant.few;
+      above = reads_way forms k form (search rules) (search rules) before c.loop-index.visits c.loop-index.visits (length text + 1) c.loop-index.invariant.above (omega arith);
+      steady = c.loop-index.invariant.steady;
+    }
 
 pub loop-index-preserved : goal.loop-index-preserved
 loop-index-preserved c =
