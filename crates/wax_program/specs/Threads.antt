@@ -42,6 +42,16 @@ pub record IsLoaded (places : List ℕ) (size : ℕ) (set : List Bool) : Type 0 
   pub only : (k : ℕ) → HoldsPlace set k → Contains places k
   pub all : (k : ℕ) → Contains places k → k ≤ size → HoldsPlace set k
 
+-- the set has the places of another, and of the list in the same way
+pub record IsJoined (old : List Bool) (places : List ℕ) (size : ℕ) (set : List Bool) : Type 0 where
+  pub only : (k : ℕ) → HoldsPlace set k → HoldsPlace old k ⊎ Contains places k
+  pub keeps : (k : ℕ) → HoldsPlace old k → HoldsPlace set k
+  pub all : (k : ℕ) → Contains places k → k ≤ size → HoldsPlace set k
+
+-- each of the places is in one of the parts, which have no others
+abbrev pub AreParts : List ℕ → List ℕ → List ℕ → Type 0
+AreParts places part other = (k : ℕ) → Contains places k ↔ (Contains part k ⊎ Contains other k)
+
 -- only the program's end is left, at most
 abbrev pub IsDone : Position → Type 0
 IsDone p = (k : ℕ) → HoldsPlace p.pending k → p.size ≤ k
@@ -106,10 +116,11 @@ AcceptsAllOrNone code set = (s : List ℕ) → AnyOf code set s ↔ AnyOf code s
 abbrev pub AnyAmong : List Instruction → List ℕ → List ℕ → Type 0
 AnyAmong code places s = (k : ℕ) × Contains places k × Accepts code k s
 
--- some of the places accept a text that begins with the character exactly where some of the others accept
--- the rest
-abbrev pub LeadOn : List Instruction → ℕ → List ℕ → List ℕ → Type 0
-LeadOn code c places others = (s : List ℕ) → AnyAmong code places (c ∷ s) ↔ AnyAmong code others s
+-- the places that were reached accept the rest exactly where some of `places` accept a text that begins with
+-- the character, or some of `also` accept the rest
+abbrev pub AreReached : List Instruction → ℕ → List ℕ → List ℕ → List ℕ → Type 0
+AreReached code c places also reached =
+    (s : List ℕ) → AnyAmong code reached s ↔ (AnyAmong code places (c ∷ s) ⊎ AnyAmong code also s)
 
 -- the place is reached, if the program or its end has it
 abbrev pub ReachedBelow : Position → ℕ → Type 0

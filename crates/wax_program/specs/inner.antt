@@ -1,3 +1,4 @@
+pub mod Bits
 pub mod Names
 pub mod Slashes
 pub mod Steady

@@ -1,6 +1,6 @@
 //! The sets of places of a run, for programs of any length.
 ghost use Rattle.std.specs.Prelude.{◌≡◌, IfOk};
-ghost use Rattle.wax_program.specs.Threads.{IsEmpty, IsLoaded, Lists};
+ghost use Rattle.wax_program.specs.Threads.{IsEmpty, IsJoined, IsLoaded, Lists};
 
 use crate::set::Set;
 use crate::sets::Sets;
@@ -70,6 +70,16 @@ impl HeapSets {
         self.clear();
         for place in places {
             self.insert(*place);
+        }
+    }
+
+    /// Inserts places of the next position. Leaves out places after the program's end.
+    pub fn add_next(&mut self, places: &[usize])
+        ensures size { self.new.size ≡ self.old.size }
+        ensures added { IsJoined self.old.next places.now self.new.size self.new.next }
+    {
+        for place in places {
+            self.insert_next(*place);
         }
     }
 

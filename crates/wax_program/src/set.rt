@@ -2,7 +2,7 @@
 ghost use Rattle.std.specs.Prelude.{◌≡◌, ◌+◌, ◌*◌, ◌/◌, ◌^◌, ◌<◌, ◌≤◌, ℕ, Bool, List, IfOk, MatchOption};
 ghost use Rattle.std.specs.Prelude.{length};
 ghost use Rattle.std.specs.Prelude.{slice_index_or, slice_set, true, false};
-ghost use Rattle.wax_program.specs.Bits.{bits_of};
+ghost use Rattle.wax_program.specs.inner.Bits.{bits_of};
 ghost use Rattle.wax_program.specs.Threads.{HoldsPlace, IsEmpty, Lists};
 
 use std::alloc::{AllocError, Global};

@@ -1,7 +1,7 @@
 //! The places of a program that a run has reached at a position in the text.
 ghost use Rattle.std.specs.Prelude.{◌≡◌, ◌+◌, ◌≤◌, ◌<◌, ◌^◌, ◌↔◌, ℕ, IfSome, IsTrue, MatchOption};
 ghost use Rattle.std.specs.Bool.{MatchBool};
-ghost use Rattle.wax_program.specs.Bits.{places_of};
+ghost use Rattle.wax_program.specs.inner.Bits.{places_of};
 ghost use Rattle.wax_program.specs.Threads.{HoldsPlace, Inserted, InsertedNext, IsDone, IsEmpty, Position};
 ghost use Rattle.wax_program.specs.Threads.{Taken, member_count};
 

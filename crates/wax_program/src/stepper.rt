@@ -1,9 +1,10 @@
 //! Steps of a program by one character, from places that a caller keeps.
 ghost use Rattle.std.specs.Prelude.{◌≡◌, ◌↔◌, IfOk, IsTrue, [], length};
-ghost use Rattle.wax_program.specs.Threads.{AnyAmong, LeadOn};
+ghost use Rattle.wax_program.specs.Threads.{AnyAmong, AreParts, AreReached};
 
 use crate::heap_sets::HeapSets;
-use crate::machine::{CompiledProgram, Meter};
+use crate::instruction::Instruction;
+use crate::machine::{CompiledProgram, Meter, Visits};
 use crate::rounds::{advance, finish};
 use std::alloc::{AllocError, Global};
 use std::marker::Model;
@@ -35,8 +36,8 @@ impl Stepper {
         Ok(Stepper { sets })
     }
 
-    /// Writes the places to which `places` lead by the character into `reached`, ascending. If
-    /// these are none, no text is accepted, however it goes on. Reads at most `size` instructions.
+    /// Writes the places to which `places` lead by the character, and those in `also`, into
+    /// `reached`, ascending. Reads at most `size` instructions.
     ///
     /// # Errors
     ///
@@ -46,15 +47,18 @@ impl Stepper {
         program: &CompiledProgram,
         places: &[usize],
         c: char,
+        also: &[usize],
         reached: &mut Vec<usize>,
     ) -> Result<(), AllocError>
         requires { self.old ≡ length program.now.0 }
         ensures same { self.new ≡ self.old }
-        ensures leads { IfOk result (λ _. LeadOn program.now.0 c places.now reached.new.items) }
+        ensures reaches { IfOk result
+            (λ _. AreReached program.now.0 c places.now also.now reached.new.items) }
     {
         self.sets.load(places);
         let mut meter = Meter::new();
         advance(program, c, &mut self.sets, &mut meter);
+        self.sets.add_next(also);
         self.sets.take_next(reached)
     }
 
@@ -69,4 +73,45 @@ impl Stepper {
         let mut meter = Meter::new();
         finish(program, &mut self.sets, &mut meter)
     }
+}
+
+/// Parts the places of a program: writes those of `**` and of repeated tests into `loops`, and all
+/// others into `others`. A loop can lead to itself, so many sets have the same ones.
+///
+/// # Errors
+///
+/// Returns `AllocError` if the lists have too little room and allocation fails.
+pub fn part_loops(
+    program: &CompiledProgram,
+    places: &[usize],
+    loops: &mut Vec<usize>,
+    others: &mut Vec<usize>,
+) -> Result<(), AllocError>
+    ensures { IfOk result (λ _. AreParts places.now loops.new.items others.new.items) }
+{
+    loops.clear();
+    others.clear();
+    for place in places {
+        if is_loop(program, *place) {
+            loops.push(*place)?;
+        } else {
+            others.push(*place)?;
+        }
+    }
+    Ok(())
+}
+
+/// Returns whether the instruction at a place can lead to itself.
+fn is_loop(program: &CompiledProgram, at: usize) -> bool {
+    if at >= program.size() {
+        return false;
+    }
+    let mut visits = Visits::new();
+    let mut meter = Meter::new();
+    let loops = match program.fetch(at, &mut visits) {
+        Instruction::Repeat(_) | Instruction::Components => true,
+        _ => false,
+    };
+    meter.add(visits);
+    loops
 }
