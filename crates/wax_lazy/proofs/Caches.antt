@@ -1,8 +1,9 @@
 -- Caches whose states change.
-use Rattle.std.proofs.Common.{◌≡◌, ◌≤◌, ◌<◌, ◌↔◌, ℕ, Bool, IsTrue, ◌+◌, ◌/◌, slice_get, set, List, [], ◌∷◌, ◌++◌, Option, Some, None, IfSome, Result, Ok, Err, IfOk, OnErr, length, refl, sym, ◌∙◌, ap, subst, arith, length-append}
+use Rattle.std.proofs.Common.{◌≡◌, ◌≤◌, ◌<◌, ◌↔◌, ℕ, Bool, IsTrue, ◌+◌, ◌*◌, ◌/◌, slice_get, set, List, [], ◌∷◌, ◌++◌, Option, Some, None, IfSome, Result, Ok, Err, IfOk, OnErr, length, refl, sym, ◌∙◌, ap, subst, arith, length-append, replicate}
+use Rattle.std.proofs.lemmas.List.{length-replicate}
 use Rattle.wax_lazy.specs.declared.cache.Cache.{Cache}
 use Rattle.wax_lazy.specs.declared.table.State.{State}
-use Rattle.wax_lazy.specs.inner.Cached.{IsAdded, IsCacheOf, IsCleared, IsRestarted, IsSameMaker}
+use Rattle.wax_lazy.specs.inner.Cached.{Grows, IsAdded, IsCacheOf, IsCleared, IsRestarted, IsSameMaker}
 use Rattle.wax_lazy.specs.inner.Table.{BeginsTexts, IsSettled, IsState, IsStatePlace, IsTable, IsTransition, KeepsStates, places_at, places_in}
 use Rattle.wax_lazy.proofs.Tables.{begins_keeps, keeps_append, settled_keeps, slice_get_end, table_empty, table_filled, table_push, table_settled}
 use Rattle.wax_program.specs.declared.instruction.Instruction.{Instruction}
@@ -70,6 +71,25 @@ module _ (old new : Cache) (s : State) (number : ℕ) (a : IsAdded old new s num
 
   pub added_within : number < length new.table.states.items
   added_within = omega (arith, a.numbered, ap length a.states, length-append old.table.states.items (s ∷ []))
+
+  pub added_grows : Grows old new
+  added_grows = record {
+    kept = added_keeps;
+    few = omega (arith, ap length a.states, length-append old.table.states.items (s ∷ []));
+    others = a.maker.others;
+  }
+
+  pub added_room : length old.table.cells.items ≡ 128 * length old.table.states.items
+      → length new.table.cells.items ≡ 128 * length new.table.states.items
+  added_room room = omega (
+    arith,
+    room,
+    ap length a.states,
+    length-append old.table.states.items (s ∷ []),
+    ap length a.cells,
+    length-append old.table.cells.items (replicate 128 0),
+    length-replicate {A = ℕ} 128 0,
+  )
 
 pub cache_filled : (code : List Instruction) (old new : Cache) (at c cell : ℕ) → IsCacheOf code old → IsStatePlace old.table.states.items at
     → IsTransition code old.table.states.items (places_at old.table.states.items (at / 128)) c cell

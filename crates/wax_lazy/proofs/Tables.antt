@@ -1,13 +1,13 @@
 -- States that are added, and cells that are filled.
-use Rattle.std.proofs.Common.{◌≡◌, ℕ, zero, suc, ◌+◌, ◌-◌, ◌*◌, ◌/◌, ◌%◌, ◌<◌, ◌≤◌, ◌⊎◌, ◌↔◌, ◌≢◌, inl, inr, Bool, List, [], ◌∷◌, ◌++◌, Some, None, IsTrue, Contains, length, get_or, set, replicate, refl, sym, ◌∙◌, ap, subst, arith, slice_get, length-append, length-set, get_or-set_same, get_or-set_other}
+use Rattle.std.proofs.Common.{◌≡◌, ℕ, zero, suc, ◌+◌, ◌-◌, ◌*◌, ◌/◌, ◌%◌, ◌<◌, ◌≤◌, ◌⊎◌, ◌↔◌, ◌≢◌, inl, inr, Bool, List, [], ◌∷◌, ◌++◌, Option, Some, None, IfSome, IsTrue, Contains, length, get_or, set, replicate, refl, sym, ◌∙◌, ap, subst, arith, slice_get, length-append, length-set, get_or-set_same, get_or-set_other}
 use Rattle.std.proofs.lemmas.Bool.{cases_eq, cases_lt}
 use Rattle.std.proofs.lemmas.List.{get_or_append_left, get_or-append_right, get_or-replicate, length-replicate}
 use Rattle.std.proofs.lemmas.Option.{slice_get_cases, slice_get_within}
 use Rattle.wax_lazy.specs.declared.table.State.{State}
-use Rattle.wax_lazy.specs.inner.Table.{BeginsTexts, IsDead, IsSettled, IsState, IsStatePlace, IsTable, IsTransition, KeepsStates, LeadsTo, places_at, places_in}
+use Rattle.wax_lazy.specs.inner.Table.{BeginsTexts, IsDead, IsSettled, IsState, IsStatePlace, IsTable, IsTransition, KeepsStates, LeadOn, Leads, LeadsTo, places_at, places_in, places_led}
 use Rattle.wax_program.specs.declared.instruction.Instruction.{Instruction}
 use Rattle.wax_program.specs.Machine.{Accepts}
-use Rattle.wax_program.specs.Threads.{AnyAmong, LeadOn}
+use Rattle.wax_program.specs.Threads.{AnyAmong, AreParts, AreReached}
 
 -- ---- lists
 pub slice_get_append : {X : Type 0} (xs ys : List X) (t : ℕ) → t < length xs → slice_get (xs ++ ys) t ≡ slice_get xs t
@@ -44,6 +44,9 @@ keeps_append states more t lt =
 
 pub keeps_same : (states : List State) → KeepsStates states states
 keeps_same states t lt = (lt, refl)
+
+pub keeps_more : (old mid new : List State) → KeepsStates old mid → KeepsStates mid new → KeepsStates old new
+keeps_more old mid new f g t lt = ((g t (f t lt).0).0, (g t (f t lt).0).1 ∙ (f t lt).1)
 
 module _ (old new : List State) (keeps : KeepsStates old new) where
   pub placed_keeps : (at : ℕ) → IsStatePlace old at → IsStatePlace new at
@@ -231,12 +234,43 @@ one_place code start s = (
     only k (zero, lt, e) = sym e
     only k (suc i, lt, e) = absurd (omega (arith, lt))
 
+no_place : (code : List Instruction) (s : List ℕ) → AnyAmong code [] s → ⊥
+no_place code s h = absurd (let lt : h.1.0 < 0 = h.1.1 in omega (arith, lt))
+
 -- places that lead to none are dead
 pub dead_of_none : (code : List Instruction) (c : ℕ) (places others : List ℕ) → LeadOn code c places others → others ≡ [] → IsDead code places c
-dead_of_none code c places others a none s h = none_in (subst (λ z. AnyAmong code z s) none ((a s).0 h))
-  where
-    none_in : AnyAmong code [] s → ⊥
-    none_in g = absurd (let lt : g.1.0 < 0 = g.1.1 in omega (arith, lt))
+dead_of_none code c places others a none s h = no_place code s (subst (λ z. AnyAmong code z s) none ((a s).0 h))
+
+-- a step from all places
+pub all_leads : (code : List Instruction) (c : ℕ) (places reached : List ℕ) → AreReached code c places [] reached → LeadOn code c places reached
+all_leads code c places reached a s = (
+  (λ h. (a s).1 (inl h)),
+  (λ h. elim ((a s).0 h) [ inl g ↦ g | inr g ↦ absurd (no_place code s g) ]),
+)
+
+-- a step from one part, where it is known to what the other leads
+pub parts_lead : (code : List Instruction) (c : ℕ) (places part other also reached : List ℕ) → AreParts places part other → LeadOn code c part also
+    → AreReached code c other also reached → LeadOn code c places reached
+parts_lead code c places part other also reached parts leads a s = (
+  (λ h. elim ((parts h.0).0 h.1) [
+    | inl g ↦ (a s).1 (inr ((leads s).0 (h.0, g, h.2)))
+    | inr g ↦ (a s).1 (inl (h.0, g, h.2))
+  ]),
+  (λ h. elim ((a s).0 h) [
+    | inl g ↦ (g.0, (parts g.0).1 (inr g.1), g.2)
+    | inr g ↦ (let f : AnyAmong code part (c ∷ s) = (leads s).1 g in (f.0, (parts f.0).1 (inl f.1), f.2))
+  ]),
+)
+
+pub led_leads : (code : List Instruction) (states : List State) (places : List ℕ) (c : ℕ) (led : Option ℕ) → Leads code states places c led
+    → LeadOn code c places (places_led states led)
+led_leads code states places c (Some at) l = l.leads
+led_leads code states places c None dead = λ s. ((λ h. absurd (dead s h)), (λ h. absurd (no_place code s h)))
+
+pub led_within : (code : List Instruction) (states : List State) (places : List ℕ) (c : ℕ) (led : Option ℕ) → Leads code states places c led
+    → IfSome led (λ at. at / 128 < length states)
+led_within code states places c (Some at) l = l.placed.kept
+led_within code states places c None dead = tt
 
 pub state_at : (states : List State) (t : ℕ) → t < length states → (s : State) × (slice_get states t ≡ Some s)
 state_at states t lt = found (slice_get_cases states t).1
@@ -248,7 +282,7 @@ state_at states t lt = found (slice_get_cases states t).1
 pub placed_number : (states : List State) (t : ℕ) → t < length states → IsStatePlace states (t * 128)
 placed_number states t lt = record { whole = omega arith; kept = omega (arith, lt) }
 
-at_number : (states : List State) (t : ℕ) → places_at states (t * 128 / 128) ≡ places_at states t
+pub at_number : (states : List State) (t : ℕ) → places_at states (t * 128 / 128) ≡ places_at states t
 at_number states t = let whole : t * 128 / 128 ≡ t = omega arith in ap (places_at states) whole
 
 pub begun : (code : List Instruction) (states : List State) (start t : ℕ) → t < length states → places_at states t ≡ start ∷ []

@@ -1,9 +1,9 @@
 -- A text that is followed from state to state.
 use Rattle.std.proofs.Common.{◌≡◌, ℕ, suc, ◌+◌, ◌<◌, ◌↔◌, Bool, false, IsTrue, List, [], ◌∷◌, length, get_or, drop, sym, ◌∙◌, ap, subst, true≢false, arith, drop-cons}
-use Rattle.wax_lazy.specs.inner.Table.{IsDead}
+use Rattle.wax_lazy.specs.inner.Table.{IsDead, LeadOn}
 use Rattle.wax_program.specs.declared.instruction.Instruction.{Instruction}
 use Rattle.wax_program.specs.Machine.{Accepts}
-use Rattle.wax_program.specs.Threads.{AnyAmong, LeadOn}
+use Rattle.wax_program.specs.Threads.{AnyAmong}
 
 module _ (code : List Instruction) (start : ℕ) (text left : List ℕ) (places : List ℕ) (stays : Accepts code start text ↔ AnyAmong code places left) where
   -- a character that is left leads on

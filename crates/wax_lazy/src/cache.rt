@@ -3,20 +3,24 @@ ghost use Rattle.std.specs.Prelude.{◌≡◌, ◌*◌, ◌/◌, ◌<◌, ◌≤
 ghost use Rattle.std.specs.Prelude.{Some};
 ghost use Rattle.std.specs.Prelude.{length, slice_get};
 ghost use Rattle.wax_lazy.specs.declared.table.State.{State};
-ghost use Rattle.wax_lazy.specs.inner.Cached.{IsAdded, IsCacheOf, IsCleared, IsRestarted, IsSameMaker};
+ghost use Rattle.wax_lazy.specs.inner.Cached.{Grows, IsAdded, IsCacheOf, IsCleared, IsInterned};
+ghost use Rattle.wax_lazy.specs.inner.Cached.{IsNext, IsRestarted};
 ghost use Rattle.wax_lazy.specs.inner.Table.{BeginsTexts, IsStatePlace, KeepsStates, Leads, places_at};
 ghost use Rattle.wax_program.specs.declared.instruction.Instruction.{Instruction};
 ghost use Rattle.wax_program.specs.Threads.{AnyAmong};
 
 use crate::table::{COLUMNS, DEAD, FIRST, State, Table};
 use std::alloc::{AllocError, Global};
-use wax_program::{CompiledProgram, Stepper};
+use wax_program::{CompiledProgram, Stepper, part_loops};
 
 /// The size of a state in bytes, without its places: that of its cells, and about fifty more.
 const STATE_BYTES: usize = 306;
 
 /// The size of a place in bytes.
 const PLACE_BYTES: usize = 8;
+
+/// The least number of instructions of a program for which a set is followed in two parts.
+const LEAST_PARTED: usize = 256;
 
 /// The number of states that are kept however many bytes they take.
 const LEAST_STATES: usize = 16;
@@ -32,6 +36,8 @@ pub struct Cache {
     table: Table,
     /// The places that the last step reached.
     reached: Vec<usize>,
+    /// Those of a state's places that aren't loops.
+    others: Vec<usize>,
     /// The place at which texts begin.
     start: usize,
     /// Where the cells begin of the state in which texts begin, if there is one.
@@ -72,6 +78,7 @@ impl Cache {
             stepper,
             table,
             reached: Vec::new(alloc),
+            others: Vec::new(alloc),
             start,
             first: None,
             most_bytes,
@@ -186,8 +193,69 @@ impl Cache {
         self.follow(program, at, c)
     }
 
-    /// Follows a character by a step of the program, if there is room for one more state.
+    /// Follows a character by a step of the program, if there is room for three more states. In a
+    /// large program, mostly steps only from the places that aren't loops.
     fn follow(
+        &mut self,
+        program: &CompiledProgram,
+        at: usize,
+        c: char,
+    ) -> Result<Option<usize>, AllocError>
+        requires cache { IsCacheOf program.now.0 self.old }
+        requires placed { IsStatePlace self.old.table.states.items at }
+        requires few { length self.old.table.states.items < 65532 }
+        ensures cache { IsCacheOf program.now.0 self.new }
+        ensures start { self.new.start ≡ self.old.start }
+        ensures leads { let places = places_at self.old.table.states.items (at / 128) in
+            IfOk result (Leads program.now.0 self.new.table.states.items places c) }
+    {
+        if program.size() < LEAST_PARTED || !c.is_ascii() {
+            return self.follow_all(program, at, c);
+        }
+        let places = self.table.places(at);
+        part_loops(program, places, &mut self.reached, &mut self.others)?;
+        if self.reached.is_empty() || self.others.is_empty() {
+            return self.follow_all(program, at, c);
+        }
+        let loops = self.intern()? * COLUMNS;
+        let led = self.follow_loops(program, loops, c)?;
+        let also = self.table.places_led(led);
+        self.stepper
+            .step(program, &self.others, c, also, &mut self.reached)?;
+        self.enter(at, c)
+    }
+
+    /// Follows an ASCII character from the loops of a state, which other states share: mostly by
+    /// their cell.
+    fn follow_loops(
+        &mut self,
+        program: &CompiledProgram,
+        at: usize,
+        c: char,
+    ) -> Result<Option<usize>, AllocError>
+        requires cache { IsCacheOf program.now.0 self.old }
+        requires placed { IsStatePlace self.old.table.states.items at }
+        requires few { length self.old.table.states.items < 65534 }
+        requires ascii { c < 128 }
+        ensures cache { IsCacheOf program.now.0 self.new }
+        ensures start { self.new.start ≡ self.old.start }
+        ensures leads { let places = places_at self.old.table.states.items (at / 128) in
+            IfOk result (Leads program.now.0 self.new.table.states.items places c) }
+        ensures grows { IfOk result (λ _. Grows self.old self.new) }
+    {
+        let cell = self.table.cells[at + c as usize];
+        if cell >= FIRST {
+            return Ok(Some(usize::from(cell - FIRST) * COLUMNS));
+        }
+        if cell == DEAD {
+            return Ok(None);
+        }
+        self.follow_all(program, at, c)
+    }
+
+    /// Follows a character by a step of the program from all places of a state, if there is room
+    /// for one more state.
+    fn follow_all(
         &mut self,
         program: &CompiledProgram,
         at: usize,
@@ -200,9 +268,29 @@ impl Cache {
         ensures start { self.new.start ≡ self.old.start }
         ensures leads { let places = places_at self.old.table.states.items (at / 128) in
             IfOk result (Leads program.now.0 self.new.table.states.items places c) }
+        ensures grows { IfOk result (λ _. Grows self.old self.new) }
     {
+        let places = self.table.places(at);
         self.stepper
-            .step(program, self.table.places(at), c, &mut self.reached)?;
+            .step(program, places, c, &[], &mut self.reached)?;
+        self.enter(at, c)
+    }
+
+    /// Fills the cell of an ASCII character in the state whose cells begin at `at`, by the state of
+    /// the places that were reached. Returns where the cells of that state begin, or `None` if no
+    /// place was reached.
+    fn enter(&mut self, at: usize, c: char) -> Result<Option<usize>, AllocError>
+        requires few { length self.old.table.states.items < 65534 }
+        requires room { length self.old.table.cells.items ≡ 128 * length self.old.table.states.items }
+        requires placed { IsStatePlace self.old.table.states.items at }
+        ensures cache { (code : List Instruction) → IsCacheOf code self.old
+            → IsNext code self.old at c → IsCacheOf code self.new }
+        ensures start { self.new.start ≡ self.old.start }
+        ensures leads { let places = places_at self.old.table.states.items (at / 128) in
+            (code : List Instruction) → IsNext code self.old at c
+            → IfOk result (Leads code self.new.table.states.items places c) }
+        ensures grows { IfOk result (λ _. Grows self.old self.new) }
+    {
         if self.reached.is_empty() {
             self.table.write(at, c, DEAD);
             return Ok(None);
@@ -220,11 +308,7 @@ impl Cache {
         ensures cache { (code : List Instruction) → IsCacheOf code self.old → IsCacheOf code self.new }
         ensures start { self.new.start ≡ self.old.start }
         ensures small { IfOk result (λ t. t < 65534) }
-        ensures known { IfOk result (λ t. t < length self.new.table.states.items) }
-        ensures places { IfOk result
-            (λ t. places_at self.new.table.states.items t ≡ self.old.reached.items) }
-        ensures kept { IfOk result
-            (λ _. KeepsStates self.old.table.states.items self.new.table.states.items) }
+        ensures interned { IfOk result (IsInterned self.old self.new) }
     {
         if let Some(number) = self.table.find(&self.reached) {
             return Ok(number);
@@ -282,7 +366,7 @@ impl Cache {
     /// Returns whether the greatest number of states is reached.
     #[inline]
     fn is_full(&self) -> bool
-        ensures { IsFalse result → length self.now.table.states.items < 65534 }
+        ensures { IsFalse result → length self.now.table.states.items < 65532 }
     {
         let states = self.table.states.len();
         states >= MOST_STATES || states >= LEAST_STATES && self.bytes >= self.most_bytes

@@ -2,7 +2,7 @@
 ghost use Rattle.std.specs.Prelude.{◌≡◌, ◌+◌, ◌*◌, ◌/◌, ◌<◌, ◌≤◌, ◌++◌, ◌∷◌, [], IfOk, IfSome, IsTrue, Some};
 ghost use Rattle.std.specs.Prelude.{length, replicate, slice_get, slice_set};
 ghost use Rattle.wax_lazy.specs.declared.table.State.{State};
-ghost use Rattle.wax_lazy.specs.inner.Table.{IsSettled, places_at};
+ghost use Rattle.wax_lazy.specs.inner.Table.{IsSettled, places_at, places_led};
 
 use std::alloc::{AllocError, Global};
 
@@ -67,6 +67,17 @@ impl Table {
         ensures { places_at self.now.states.items (at / 128) ≡ result.now }
     {
         &self.states[at / COLUMNS].places
+    }
+
+    /// Returns the places of the state whose cells begin at `at`, if there is one.
+    pub fn places_led(&self, at: Option<usize>) -> &[usize]
+        requires { IfSome at (λ at. at / 128 < length self.now.states.items) }
+        ensures { places_led self.now.states.items at ≡ result.now }
+    {
+        match at {
+            Some(at) => self.places(at),
+            None => &[],
+        }
     }
 
     /// Returns whether a text that ends in the state whose cells begin at `at` is accepted, if that

@@ -5,7 +5,7 @@ use Rattle.std.specs.Prelude.{slice_get, slice_index, slice_set}
 use Rattle.wax_lazy.specs.declared.table.State.{State}
 use Rattle.wax_program.specs.declared.instruction.Instruction.{Instruction}
 use Rattle.wax_program.specs.Machine.{Accepts}
-use Rattle.wax_program.specs.Threads.{AnyAmong, LeadOn}
+use Rattle.wax_program.specs.Threads.{AnyAmong}
 
 -- the places of a state, or none
 abbrev pub places_in : Option State → List ℕ
@@ -15,6 +15,16 @@ places_in None = []
 -- the places of the state with this number
 abbrev pub places_at : List State → ℕ → List ℕ
 places_at states t = places_in (slice_get states t)
+
+-- the places of the state whose cells begin at `at`, if there is one
+abbrev pub places_led : List State → Option ℕ → List ℕ
+places_led states (Some at) = places_at states (at / 128)
+places_led states None = []
+
+-- some of the places accept a text that begins with the character exactly where some of the others accept
+-- the rest
+abbrev pub LeadOn : List Instruction → ℕ → List ℕ → List ℕ → Type 0
+LeadOn code c places others = (s : List ℕ) → AnyAmong code places (c ∷ s) ↔ AnyAmong code others s
 
 -- the states keep their numbers and their places
 abbrev pub KeepsStates : List State → List State → Type 0

@@ -13,8 +13,8 @@ returns-clause-cache c =
     let cleared = cache_cleared code _ c.clear.new.self
     (record { size = c.requires.size; start = c.requires.start; table = c.requires.table; first = c.requires.first }) c.clear.ensures in
     let held = made.cache code (record { size = cleared.size; start = cleared.start; table = cleared.table; first = cleared.first }) in
-    let one : places_at states c.in_ok-number.number ≡ c.clear.new.self.start ∷ [] = made.places ∙ search rules in
-    let first = begun code states c.clear.new.self.start c.in_ok-number.number made.known one in
+    let one : places_at states c.in_ok-number.number ≡ c.clear.new.self.start ∷ [] = made.interned.places ∙ search rules in
+    let first = begun code states c.clear.new.self.start c.in_ok-number.number made.interned.known one in
     record {
       size = held.size;
       start = held.start;
@@ -27,6 +27,6 @@ returns-clause-begins c =
     let code = c.args.program.now.0 in
     let states = c.intern.new.self.table.states.items in
     let made = c.in_ok-number.ensures in
-    let one : places_at states c.in_ok-number.number ≡ c.clear.new.self.start ∷ [] = made.places ∙ search rules in
-    let first = begun code states c.clear.new.self.start c.in_ok-number.number made.known one in
+    let one : places_at states c.in_ok-number.number ≡ c.clear.new.self.start ∷ [] = made.interned.places ∙ search rules in
+    let first = begun code states c.clear.new.self.start c.in_ok-number.number made.interned.known one in
     subst (λ n. BeginsTexts code states n (c.in_ok-number.number * 128)) c.clear.ensures.maker.start first

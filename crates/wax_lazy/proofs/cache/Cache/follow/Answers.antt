@@ -1,46 +1,69 @@
-use Rattle.std.proofs.Common.{◌≡◌, ◌+◌, ◌*◌, ◌/◌, [], refl, sym, ◌∙◌, subst, inl, inr, arith, eqb-true}
-use Rattle.std.proofs.lemmas.List.{nil_from_length}
-use Rattle.wax_lazy.specs.inner.Table.{IsDead, LeadsTo, places_at}
-use Rattle.wax_lazy.proofs.Caches.{cache_filled}
-use Rattle.wax_lazy.proofs.Tables.{dead_of_none, led, placed_keeps, places_keep}
+use Rattle.std.proofs.Common.{◌≡◌, ◌*◌, ◌/◌, IfOk, ap, sym, ◌∙◌, subst, arith}
+use Rattle.wax_lazy.specs.inner.Table.{LeadOn, Leads, places_at, places_led}
+use Rattle.wax_lazy.proofs.Tables.{at_number, keeps_more, led_leads, led_within, parts_lead, placed_keeps, placed_number}
+use Rattle.wax_program.specs.Threads.{AreParts, AreReached}
 use Rattle.wax_lazy.proofs.cache.Cache.follow.Goals as goal
 
-pub returns-then-is_empty-clause-cache : goal.returns-then-is_empty-clause-cache
-returns-then-is_empty-clause-cache c =
-    let code = c.args.program.now.0 in
-    let zero : c.step.new.reached.len ≡ 0 = eqb-true c.step.new.reached.len 0 (sym c.is_empty.ensures ∙ c.if-is_empty.true) in
-    let none : c.step.new.reached.items ≡ [] = nil_from_length c.step.new.reached.items (omega (arith, zero, c.step.new.reached.ok.0)) in
-    let dead : IsDead code (places_at c.args.self.now.table.states.items (c.args.at / 128)) c.args.c =
-    subst (λ z. IsDead code z c.args.c) (sym c.places.ensures) (dead_of_none code c.args.c _ _ c.in_ok-step.ensures.leads none) in
-    cache_filled code c.args.self.now _ c.args.at c.args.c 1 c.requires.cache c.requires.placed (inr (inl (refl, dead)))
-    (c.step.ensures.same ∙ c.requires.cache.size) refl refl c.write.ensures.states c.write.ensures.filled c.write.ensures.unfilled
+pub follow_loops-requires-clause-cache : goal.follow_loops-requires-clause-cache
+follow_loops-requires-clause-cache c =
+    let was = c.requires.cache in
+    c.in_ok-loops.ensures.cache c.args.program.now.0 (record { size = was.size; start = was.start; table = was.table; first = was.first })
 
-pub returns-then-is_empty-clause-leads : goal.returns-then-is_empty-clause-leads
-returns-then-is_empty-clause-leads c =
-    let code = c.args.program.now.0 in
-    let zero : c.step.new.reached.len ≡ 0 = eqb-true c.step.new.reached.len 0 (sym c.is_empty.ensures ∙ c.if-is_empty.true) in
-    let none : c.step.new.reached.items ≡ [] = nil_from_length c.step.new.reached.items (omega (arith, zero, c.step.new.reached.ok.0)) in
-    subst (λ z. IsDead code z c.args.c) (sym c.places.ensures) (dead_of_none code c.args.c _ _ c.in_ok-step.ensures.leads none)
+pub follow_loops-requires-clause-placed : goal.follow_loops-requires-clause-placed
+follow_loops-requires-clause-placed c = placed_number c.intern.new.self.table.states.items c.in_ok-loops.field-0 c.in_ok-loops.ensures.interned.known
+
+pub follow_loops-requires-clause-few : goal.follow_loops-requires-clause-few
+follow_loops-requires-clause-few c = omega (arith, c.in_ok-loops.ensures.interned.grows.few, c.requires.few)
+
+pub places_led-also-requires : goal.places_led-also-requires
+places_led-also-requires c =
+    led_within c.args.program.now.0 c.follow_loops.new.self.table.states.items _ c.args.c c.in_ok-led.led c.in_ok-led.ensures.leads
+
+pub enter-requires-clause-placed : goal.enter-requires-clause-placed
+enter-requires-clause-placed c =
+    let old = c.args.self.now.table.states.items in
+    let mid = c.intern.new.self.table.states.items in
+    let new = c.follow_loops.new.self.table.states.items in
+    placed_keeps old new (keeps_more old mid new c.in_ok-loops.ensures.interned.grows.kept c.in_ok-led.ensures.grows.kept) c.args.at c.requires.placed
+
+pub enter-requires-clause-few : goal.enter-requires-clause-few
+enter-requires-clause-few c = omega (arith, c.in_ok-led.ensures.grows.few, c.in_ok-loops.ensures.interned.grows.few, c.requires.few)
 
 pub returns-clause-cache : goal.returns-clause-cache
 returns-clause-cache c =
     let code = c.args.program.now.0 in
     let old = c.args.self.now.table.states.items in
-    let new = c.intern.new.self.table.states.items in
-    let made = c.in_ok-number.ensures in
-    let number = c.in_ok-number.number in
-    let was = c.requires.cache in
-    let held = made.cache code (record { size = c.step.ensures.same ∙ was.size; start = was.start; table = was.table; first = was.first }) in
-    let placed = placed_keeps old new made.kept c.args.at c.requires.placed in
-    let from = places_keep old new made.kept c.args.at c.requires.placed ∙ c.places.ensures in
-    let leads = led code new _ _ _ c.args.c number from made.known made.places c.in_ok-step.ensures.leads in
-    let whole : number + 2 ≡ number * 128 / 128 + 2 = omega arith in
-    cache_filled code c.intern.new.self _ c.args.at c.args.c (number + 2) held placed (inr (inr (number * 128, whole, leads)))
-    held.size refl refl c.write-2.ensures.states c.write-2.ensures.filled c.write-2.ensures.unfilled
+    let mid = c.intern.new.self.table.states.items in
+    let new = c.follow_loops.new.self.table.states.items in
+    let made = c.in_ok-loops.ensures.interned in
+    let grown = c.in_ok-led.ensures.grows in
+    let same : places_at new (c.args.at / 128) ≡ places_at old (c.args.at / 128) = (keeps_more old mid new made.grows.kept grown.kept (c.args.at / 128) c.requires.placed.kept).1 in
+    let here = at_number mid c.in_ok-loops.field-0 ∙ made.places in
+    let known = led_leads code new _ c.args.c c.in_ok-led.led c.in_ok-led.ensures.leads in
+    let loops = subst (λ z. LeadOn code c.args.c z (places_led new c.in_ok-led.led)) here known in
+    let parts = subst (λ z. AreParts z c.part_loops.new.loops.items c.part_loops.new.others.items) (sym c.places-places.ensures) c.in_ok-part_loops.ensures in
+    let others = c.deref.ensures.value ∙ ap (λ z. z.items) (grown.others ∙ made.grows.others) in
+    let reaches = subst (λ z. AreReached code c.args.c z c.places_led-also.result.now c.step.new.reached.items) others c.in_ok-step.ensures.reaches in
+    let reached = subst (λ z. AreReached code c.args.c c.part_loops.new.others.items z c.step.new.reached.items) (sym c.places_led-also.ensures) reaches in
+    let next = subst (λ z. LeadOn code c.args.c z c.step.new.reached.items) (sym same) (parts_lead code c.args.c _ _ _ _ _ parts loops reached) in
+    let was = c.follow_loops.ensures.cache in
+    c.enter.ensures.cache code (record { size = c.step.ensures.same ∙ was.size; start = was.start; table = was.table; first = was.first }) next
 
 pub returns-clause-leads : goal.returns-clause-leads
 returns-clause-leads c =
     let code = c.args.program.now.0 in
-    let made = c.in_ok-number.ensures in
-    let leads = led code c.intern.new.self.table.states.items _ _ _ c.args.c c.in_ok-number.number c.places.ensures made.known made.places c.in_ok-step.ensures.leads in
-    rw c.write-2.ensures.states leads
+    let old = c.args.self.now.table.states.items in
+    let mid = c.intern.new.self.table.states.items in
+    let new = c.follow_loops.new.self.table.states.items in
+    let made = c.in_ok-loops.ensures.interned in
+    let grown = c.in_ok-led.ensures.grows in
+    let same : places_at new (c.args.at / 128) ≡ places_at old (c.args.at / 128) = (keeps_more old mid new made.grows.kept grown.kept (c.args.at / 128) c.requires.placed.kept).1 in
+    let here = at_number mid c.in_ok-loops.field-0 ∙ made.places in
+    let known = led_leads code new _ c.args.c c.in_ok-led.led c.in_ok-led.ensures.leads in
+    let loops = subst (λ z. LeadOn code c.args.c z (places_led new c.in_ok-led.led)) here known in
+    let parts = subst (λ z. AreParts z c.part_loops.new.loops.items c.part_loops.new.others.items) (sym c.places-places.ensures) c.in_ok-part_loops.ensures in
+    let others = c.deref.ensures.value ∙ ap (λ z. z.items) (grown.others ∙ made.grows.others) in
+    let reaches = subst (λ z. AreReached code c.args.c z c.places_led-also.result.now c.step.new.reached.items) others c.in_ok-step.ensures.reaches in
+    let reached = subst (λ z. AreReached code c.args.c c.part_loops.new.others.items z c.step.new.reached.items) (sym c.places_led-also.ensures) reaches in
+    let next = subst (λ z. LeadOn code c.args.c z c.step.new.reached.items) (sym same) (parts_lead code c.args.c _ _ _ _ _ parts loops reached) in
+    subst (λ z. IfOk c.enter.result (Leads code c.enter.new.self.table.states.items z c.args.c)) same (c.enter.ensures.leads code next)
