@@ -19,8 +19,11 @@ const STATE_BYTES: usize = 306;
 /// The size of a place in bytes.
 const PLACE_BYTES: usize = 8;
 
-/// The least number of instructions of a program for which a set is followed in two parts.
+/// The least number of instructions of a program whose states are followed in two parts.
 const LEAST_PARTED: usize = 256;
+
+/// The greatest number of places of a state that is followed in two parts.
+const MOST_PARTED: usize = 32;
 
 /// The number of states that are kept however many bytes they take.
 const LEAST_STATES: usize = 16;
@@ -72,7 +75,7 @@ impl Cache {
         ensures start { IfOk result (λ c. c.start ≡ start) }
     {
         let stepper = Stepper::new(alloc, program.size())?;
-        let table = Table::new(alloc)?;
+        let table = Table::new(alloc, most_states(most_bytes))?;
         Ok(Cache {
             alloc,
             stepper,
@@ -209,10 +212,10 @@ impl Cache {
         ensures leads { let places = places_at self.old.table.states.items (at / 128) in
             IfOk result (Leads program.now.0 self.new.table.states.items places c) }
     {
-        if program.size() < LEAST_PARTED || !c.is_ascii() {
+        let places = self.table.places(at);
+        if program.size() < LEAST_PARTED || places.len() > MOST_PARTED || !c.is_ascii() {
             return self.follow_all(program, at, c);
         }
-        let places = self.table.places(at);
         part_loops(program, places, &mut self.reached, &mut self.others)?;
         if self.reached.is_empty() || self.others.is_empty() {
             return self.follow_all(program, at, c);
@@ -390,6 +393,11 @@ impl Cache {
         self.table.settle(at, accepts);
         accepts
     }
+}
+
+/// Returns how many states fit in `bytes`, if they have no places.
+fn most_states(bytes: usize) -> usize {
+    (bytes / STATE_BYTES).max(LEAST_STATES).min(MOST_STATES)
 }
 
 /// Returns how many bytes a state takes, about.

@@ -10,8 +10,9 @@ use std::alloc::{AllocError, Global};
 use wax_program::{CompiledProgram, Meter, last_name, reads_last, run_known};
 use wax_query::diagnostics::NoMemory;
 
-/// The least number of instructions of a program for which the cache is faster than running it even
-/// over characters past ASCII, after which a state is found by its row.
+/// The least number of instructions of a program that isn't run over texts that are mostly of
+/// characters past ASCII. There a smaller program takes less time than a step of the cache for each
+/// character.
 const LEAST_SIZE: usize = 64;
 
 /// What is known of a program, and the states that earlier texts led to.
@@ -112,8 +113,8 @@ fn empty_cache(
     Cache::new(alloc, program, 0, most_bytes)
 }
 
-/// Decides a text by the cache. Runs the program instead if the cache gave up, or if that takes no
-/// longer.
+/// Decides a text by the cache. Runs the program instead if the cache gave up, or if the program
+/// has fewer than [`LEAST_SIZE`] instructions and the text is mostly of characters past ASCII.
 fn decide(
     alloc: Global,
     program: &CompiledProgram,
@@ -126,7 +127,7 @@ fn decide(
     ensures cache { IsKeptFor program.now.0 reads_last cache.new }
     ensures decides { IfOk result (λ b. IsTrue b ↔ Accepts program.now.0 0 (chars text.now)) }
 {
-    if cache.gives_up || program.size() < LEAST_SIZE && !text.is_ascii() {
+    if cache.gives_up || program.size() < LEAST_SIZE && is_past_ascii(text) {
         return decide_once(alloc, program, reads_last, text);
     }
     if reads_last {
@@ -146,4 +147,13 @@ fn decide_once(
 {
     let mut meter = Meter::new();
     run_known(alloc, program, reads_last, text, &mut meter)
+}
+
+/// Returns whether most bytes of the text are of characters past ASCII.
+fn is_past_ascii(text: &str) -> bool {
+    if text.is_ascii() {
+        return false;
+    }
+    let ascii = text.bytes().filter(|byte| byte.is_ascii()).count();
+    ascii < text.len() / 2
 }

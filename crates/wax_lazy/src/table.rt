@@ -19,9 +19,6 @@ pub const DEAD: u16 = 1;
 /// The cell of a character that leads to the first state.
 pub const FIRST: u16 = 2;
 
-/// The number of slots of the hash table that finds states by their places.
-const SLOTS: usize = 16_384;
-
 /// A state: places that were reached.
 #[derive(Drop)]
 pub struct State {
@@ -38,21 +35,22 @@ pub struct Table {
     /// The cells of each state, one state after another.
     pub cells: Vec<u16>,
     /// A hash table: the number of a state plus 1, at the hash of its places or soon after it.
-    /// Empty slots are 0.
+    /// Empty slots are 0. The number of slots is a power of two.
     slots: Vec<u16>,
 }
 
 impl Table {
-    /// Creates a table without states. Allocates 32 KiB for finding them.
+    /// Creates a table without states, in which at most about `most` states are found. Allocates 4
+    /// to 8 bytes for each of them.
     ///
     /// # Errors
     ///
     /// Returns `AllocError` if allocation fails.
-    pub fn new(alloc: Global) -> Result<Table, AllocError>
+    pub fn new(alloc: Global, most: usize) -> Result<Table, AllocError>
         ensures states { IfOk result (λ t. t.states.items ≡ []) }
         ensures cells { IfOk result (λ t. t.cells.items ≡ []) }
     {
-        let slots = vec![in alloc; 0u16; SLOTS]?;
+        let slots = vec![in alloc; 0u16; slots_for(most)]?;
         Ok(Table {
             states: Vec::new(alloc),
             cells: Vec::new(alloc),
@@ -107,7 +105,7 @@ impl Table {
             × (places_at self.now.states.items t ≡ places.now)) }
     {
         let hash = hash_of(places);
-        for probe in 0..SLOTS {
+        for probe in 0..self.slots.len() {
             let slot = slot_at(&self.slots, hash, probe);
             if slot == 0 {
                 return None;
@@ -185,7 +183,8 @@ impl Table {
 
 /// Returns the slot that is looked at after `probe` others, or 0 if there are no slots.
 fn slot_at(slots: &[u16], hash: usize, probe: usize) -> u16 {
-    match slots.get(hash.wrapping_add(probe) % SLOTS) {
+    let last = slots.len().saturating_sub(1);
+    match slots.get(hash.wrapping_add(probe) & last) {
         Some(slot) => *slot,
         None => 0,
     }
@@ -194,8 +193,9 @@ fn slot_at(slots: &[u16], hash: usize, probe: usize) -> u16 {
 /// Writes a slot at the first empty place from the hash on. If no place is empty, writes nothing,
 /// and the state isn't found again.
 fn enter(slots: &mut [u16], hash: usize, slot: u16) {
-    for probe in 0..SLOTS {
-        let at = hash.wrapping_add(probe) % SLOTS;
+    let last = slots.len().saturating_sub(1);
+    for probe in 0..slots.len() {
+        let at = hash.wrapping_add(probe) & last;
         if at < slots.len() && slots[at] == 0 {
             slots[at] = slot;
             return;
@@ -210,4 +210,20 @@ fn hash_of(places: &[usize]) -> usize {
         hash = (hash.rotate_left(5) ^ *place as u64).wrapping_mul(0x9E37_79B9_7F4A_7C15);
     }
     (hash >> 40) as usize
+}
+
+/// Returns the number of slots for `most` states: the least of some powers of two that is at least
+/// twice as many.
+fn slots_for(most: usize) -> usize {
+    if most <= 256 {
+        512
+    } else if most <= 1_024 {
+        2_048
+    } else if most <= 2_048 {
+        4_096
+    } else if most <= 4_096 {
+        8_192
+    } else {
+        16_384
+    }
 }

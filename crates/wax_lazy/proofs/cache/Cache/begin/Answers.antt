@@ -1,5 +1,4 @@
 use Rattle.std.proofs.Common.{◌≡◌, ◌*◌, ◌∷◌, [], ◌∙◌, sym, subst, rules}
-use Rattle.wax_lazy.specs.inner.Cached.{IsCacheOf}
 use Rattle.wax_lazy.specs.inner.Table.{BeginsTexts, places_at}
 use Rattle.wax_lazy.proofs.Caches.{cache_cleared}
 use Rattle.wax_lazy.proofs.Tables.{begun}

@@ -1,4 +1,4 @@
-use Rattle.std.proofs.Common.{◌≡◌, ◌*◌, ◌/◌, IfOk, ap, sym, ◌∙◌, subst, arith}
+use Rattle.std.proofs.Common.{◌≡◌, ◌/◌, IfOk, ap, sym, ◌∙◌, subst, arith}
 use Rattle.wax_lazy.specs.inner.Table.{LeadOn, Leads, places_at, places_led}
 use Rattle.wax_lazy.proofs.Tables.{at_number, keeps_more, led_leads, led_within, parts_lead, placed_keeps, placed_number}
 use Rattle.wax_program.specs.Threads.{AreParts, AreReached}
