@@ -24,7 +24,7 @@ pub const FIRST: u16 = 2;
 pub struct State {
     /// The places, ascending.
     pub places: Vec<usize>,
-    /// Whether a text that ends here is accepted, if a text has ended here.
+    /// True if a text that ends here is accepted, and `None` if no text has ended here.
     pub accepts: Option<bool>,
 }
 
