@@ -1,6 +1,6 @@
 //! Sets of places, one bit each.
 ghost use Rattle.std.specs.Prelude.{◌≡◌, ◌+◌, ◌*◌, ◌/◌, ◌^◌, ◌<◌, ◌≤◌, ℕ, Bool, List, IfOk, MatchOption};
-ghost use Rattle.std.specs.Prelude.{length};
+ghost use Rattle.std.specs.Prelude.{OnOk, length};
 ghost use Rattle.std.specs.Prelude.{slice_index_or, slice_set, true, false};
 ghost use Rattle.wax_program.specs.inner.Bits.{bits_of};
 ghost use Rattle.wax_program.specs.Threads.{HoldsPlace, IsEmpty, Lists};
@@ -90,6 +90,7 @@ impl Set {
     pub fn take_all(&mut self, places: &mut Vec<usize>) -> Result<(), AllocError>
         ensures room { length self.new ≡ length self.old }
         ensures fewer { (k : ℕ) → HoldsPlace self.new k → HoldsPlace self.old k }
+        ensures empty { OnOk result (IsEmpty self.new) }
         ensures listed { IfOk result (λ _. Lists places.new.items self.old) }
     {
         places.clear();

@@ -17,10 +17,13 @@ pub struct Stepper {
 
 impl Model for Stepper {
     ghost use Rattle.std.specs.Prelude.{ℕ};
+    ghost use Rattle.wax_program.specs.Threads.{IsEmpty};
 
     ghost Value = { ℕ };
 
     ghost view = { λ s. s.sets.size };
+
+    ghost invariant = { λ s. IsEmpty s.sets.pending × IsEmpty s.sets.next };
 }
 
 impl Stepper {
@@ -71,7 +74,9 @@ impl Stepper {
     {
         self.sets.load(places);
         let mut meter = Meter::new();
-        finish(program, &mut self.sets, &mut meter)
+        let ended = finish(program, &mut self.sets, &mut meter);
+        self.sets.clear();
+        ended
     }
 }
 
