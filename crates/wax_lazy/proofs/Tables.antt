@@ -4,7 +4,7 @@ use Rattle.std.proofs.lemmas.Bool.{cases_eq, cases_lt}
 use Rattle.std.proofs.lemmas.List.{get_or_append_left, get_or-append_right, get_or-replicate, length-replicate}
 use Rattle.std.proofs.lemmas.Option.{slice_get_cases, slice_get_within}
 use Rattle.wax_lazy.specs.declared.table.State.{State}
-use Rattle.wax_lazy.specs.inner.Table.{BeginsTexts, IsDead, IsSettled, IsState, IsStatePlace, IsTable, IsTransition, KeepsStates, LeadOn, Leads, LeadsTo, places_at, places_in, places_led}
+use Rattle.wax_lazy.specs.inner.Table.{BeginsTexts, IsDead, IsSettled, IsState, IsStatePlace, IsTable, IsTransition, KeepsStates, LeadOn, Leads, LeadsNext, LeadsTo, TakesAll, next_of, places_at, places_in, places_led}
 use Rattle.wax_program.specs.declared.instruction.Instruction.{Instruction}
 use Rattle.wax_program.specs.Machine.{Accepts}
 use Rattle.wax_program.specs.Threads.{AnyAmong, AreParts, AreReached}
@@ -64,7 +64,8 @@ module _ (old new : List State) (keeps : KeepsStates old new) where
   pub cell_keeps : (code : List Instruction) (place : List ℕ) (c cell : ℕ) → IsTransition code old place c cell → IsTransition code new place c cell
   cell_keeps code place c cell (inl e) = inl e
   cell_keeps code place c cell (inr (inl h)) = inr (inl h)
-  cell_keeps code place c cell (inr (inr h)) = inr (inr (h.0, h.1, led_keeps code place c h.0 h.2))
+  cell_keeps code place c cell (inr (inr (inl h))) = inr (inr (inl h))
+  cell_keeps code place c cell (inr (inr (inr h))) = inr (inr (inr (h.0, h.1, led_keeps code place c h.0 h.2)))
 
   pub begins_keeps : (code : List Instruction) (start at : ℕ) → BeginsTexts code old start at → BeginsTexts code new start at
   begins_keeps code start at b = record {
@@ -197,20 +198,34 @@ says_at code states cells at c table p low =
     subst (λ i. IsTransition code states (places_at states (at / 128)) c (get_or cells i 0)) (sym (place_is states at c p)) (table.says (at / 128) c p.kept low)
 
 pub leads_on : (code : List Instruction) (states : List State) (place : List ℕ) (c cell : ℕ) → IsTransition code states place c cell
-    → 2 ≤ cell → LeadsTo code states place c ((cell - 2) * 128)
+    → 3 ≤ cell → LeadsTo code states place c ((cell - 3) * 128)
 leads_on code states place c cell (inl e) h = absurd (omega (arith, e, h))
 leads_on code states place c cell (inr (inl d)) h = absurd (let e : cell ≡ 1 = d.0 in omega (arith, e, h))
-leads_on code states place c cell (inr (inr l)) h =
-    let e : cell ≡ l.0 / 128 + 2 = l.1 in
+leads_on code states place c cell (inr (inr (inl t))) h = absurd (let e : cell ≡ 2 = t.0 in omega (arith, e, h))
+leads_on code states place c cell (inr (inr (inr l))) h =
+    let e : cell ≡ l.0 / 128 + 3 = l.1 in
     let whole : l.0 % 128 ≡ 0 = l.2.placed.whole in
-    let same : l.0 ≡ (cell - 2) * 128 = omega (arith, e, whole) in
+    let same : l.0 ≡ (cell - 3) * 128 = omega (arith, e, whole) in
     subst (LeadsTo code states place c) same l.2
 
 pub leads_nowhere : (code : List Instruction) (states : List State) (place : List ℕ) (c cell : ℕ) → IsTransition code states place c cell
     → cell ≡ 1 → IsDead code place c
 leads_nowhere code states place c cell (inl e) h = absurd (omega (arith, e, h))
 leads_nowhere code states place c cell (inr (inl d)) h = d.1
-leads_nowhere code states place c cell (inr (inr l)) h = absurd (let e : cell ≡ l.0 / 128 + 2 = l.1 in omega (arith, e, h))
+leads_nowhere code states place c cell (inr (inr (inl t))) h = absurd (let e : cell ≡ 2 = t.0 in omega (arith, e, h))
+leads_nowhere code states place c cell (inr (inr (inr l))) h = absurd (let e : cell ≡ l.0 / 128 + 3 = l.1 in omega (arith, e, h))
+
+pub leads_everywhere : (code : List Instruction) (states : List State) (place : List ℕ) (c cell : ℕ) → IsTransition code states place c cell
+    → cell ≡ 2 → TakesAll code place c
+leads_everywhere code states place c cell (inl e) h = absurd (omega (arith, e, h))
+leads_everywhere code states place c cell (inr (inl d)) h = absurd (let e : cell ≡ 1 = d.0 in omega (arith, e, h))
+leads_everywhere code states place c cell (inr (inr (inl t))) h = t.1
+leads_everywhere code states place c cell (inr (inr (inr l))) h = absurd (let e : cell ≡ l.0 / 128 + 3 = l.1 in omega (arith, e, h))
+
+pub leads_next : (code : List Instruction) (states : List State) (place : List ℕ) (c : ℕ) (led : Option ℕ) → Leads code states place c led
+    → LeadsNext code states place c (next_of led)
+leads_next code states place c (Some at) l = l
+leads_next code states place c None dead = dead
 
 pub table_filled : (code : List Instruction) (states : List State) (cells written : List ℕ) (at c cell : ℕ) → IsTable code states cells
     → IsStatePlace states at → IsTransition code states (places_at states (at / 128)) c cell
@@ -261,6 +276,11 @@ parts_lead code c places part other also reached parts leads a s = (
     | inr g ↦ (let f : AnyAmong code part (c ∷ s) = (leads s).1 g in (f.0, (parts f.0).1 (inl f.1), f.2))
   ]),
 )
+
+-- if every text is accepted from the places that follow, every text is that begins with the character
+pub takes_all : (code : List Instruction) (c : ℕ) (places others : List ℕ) → LeadOn code c places others → ((s : List ℕ) → AnyAmong code others s)
+    → TakesAll code places c
+takes_all code c places others a all s = (a s).1 (all s)
 
 pub led_leads : (code : List Instruction) (states : List State) (places : List ℕ) (c : ℕ) (led : Option ℕ) → Leads code states places c led
     → LeadOn code c places (places_led states led)

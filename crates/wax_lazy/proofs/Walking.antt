@@ -1,6 +1,6 @@
 -- A text that is followed from state to state.
-use Rattle.std.proofs.Common.{◌≡◌, ℕ, suc, ◌+◌, ◌<◌, ◌↔◌, Bool, false, IsTrue, List, [], ◌∷◌, length, get_or, drop, sym, ◌∙◌, ap, subst, true≢false, arith, drop-cons}
-use Rattle.wax_lazy.specs.inner.Table.{IsDead, LeadOn}
+use Rattle.std.proofs.Common.{◌≡◌, ℕ, suc, ◌+◌, ◌<◌, ◌↔◌, Bool, true, false, IsTrue, List, [], ◌∷◌, length, get_or, drop, refl, sym, ◌∙◌, ap, subst, true≢false, arith, drop-cons}
+use Rattle.wax_lazy.specs.inner.Table.{IsDead, LeadOn, TakesAll}
 use Rattle.wax_program.specs.declared.instruction.Instruction.{Instruction}
 use Rattle.wax_program.specs.Machine.{Accepts}
 use Rattle.wax_program.specs.Threads.{AnyAmong}
@@ -17,6 +17,10 @@ module _ (code : List Instruction) (start : ℕ) (text left : List ℕ) (places 
   pub dead_decides : (rest : List ℕ) (c : ℕ) → left ≡ c ∷ rest → IsDead code places c → (IsTrue false ↔ Accepts code start text)
   dead_decides rest c e dead =
       ((λ h. absurd (true≢false (sym h))), (λ h. absurd (dead rest (subst (AnyAmong code places) e (stays.0 h)))))
+
+  -- nor does it matter what is left
+  pub all_decides : (rest : List ℕ) (c : ℕ) → left ≡ c ∷ rest → TakesAll code places c → (IsTrue true ↔ Accepts code start text)
+  all_decides rest c e all = ((λ _. stays.1 (subst (AnyAmong code places) (sym e) (all rest))), (λ _. refl))
 
   -- at the end the state decides
   pub end_decides : (b : Bool) → left ≡ [] → (IsTrue b ↔ AnyAmong code places []) → (IsTrue b ↔ Accepts code start text)

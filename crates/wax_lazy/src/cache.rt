@@ -1,17 +1,18 @@
 //! The cache of a program's states, which outlives a text.
-ghost use Rattle.std.specs.Prelude.{◌≡◌, ◌*◌, ◌/◌, ◌<◌, ◌≤◌, ◌↔◌, [], List, IfOk, IsFalse, IsTrue, OnErr};
+ghost use Rattle.std.specs.Prelude.{◌≡◌, ◌*◌, ◌/◌, ◌<◌, ◌≤◌, ◌↔◌, ℕ, [], List, IfOk, IsFalse, IsTrue, OnErr};
 ghost use Rattle.std.specs.Prelude.{Some};
 ghost use Rattle.std.specs.Prelude.{length, slice_get};
 ghost use Rattle.wax_lazy.specs.declared.table.State.{State};
 ghost use Rattle.wax_lazy.specs.inner.Cached.{Grows, IsAdded, IsCacheOf, IsCleared, IsInterned};
 ghost use Rattle.wax_lazy.specs.inner.Cached.{IsNext, IsRestarted};
-ghost use Rattle.wax_lazy.specs.inner.Table.{BeginsTexts, IsStatePlace, KeepsStates, Leads, places_at};
+ghost use Rattle.wax_lazy.specs.inner.Table.{BeginsTexts, IsStatePlace, KeepsStates, Leads, LeadsNext};
+ghost use Rattle.wax_lazy.specs.inner.Table.{places_at};
 ghost use Rattle.wax_program.specs.declared.instruction.Instruction.{Instruction};
 ghost use Rattle.wax_program.specs.Threads.{AnyAmong};
 
-use crate::table::{COLUMNS, DEAD, FIRST, State, Table};
+use crate::table::{ALL, COLUMNS, DEAD, FIRST, Next, State, Table, next_of};
 use std::alloc::{AllocError, Global};
-use wax_program::{CompiledProgram, Stepper, part_loops};
+use wax_program::{CompiledProgram, Stepper, part_loops, place_of_all};
 
 /// The size of a state in bytes, without its places: that of its cells, and about fifty more.
 const STATE_BYTES: usize = 306;
@@ -116,8 +117,7 @@ impl Cache {
         Ok(at)
     }
 
-    /// Follows a character from the state whose cells begin at `at`. Returns where the cells of the
-    /// next state begin, or `None` if no text that goes on with this character is accepted.
+    /// Follows a character from the state whose cells begin at `at`.
     ///
     /// # Errors
     ///
@@ -128,18 +128,19 @@ impl Cache {
         program: &CompiledProgram,
         at: usize,
         c: char,
-    ) -> Result<Option<usize>, AllocError>
+    ) -> Result<Next, AllocError>
         requires cache { IsCacheOf program.now.0 self.old }
         requires placed { IsStatePlace self.old.table.states.items at }
         ensures cache { IsCacheOf program.now.0 self.new }
         ensures start { self.new.start ≡ self.old.start }
         ensures leads { let places = places_at self.old.table.states.items (at / 128) in
-            IfOk result (Leads program.now.0 self.new.table.states.items places c) }
+            IfOk result (LeadsNext program.now.0 self.new.table.states.items places c) }
     {
         if c.is_ascii() {
             return self.advance_ascii(program, at, c as u8);
         }
-        self.fill(program, at, c)
+        let led = self.fill(program, at, c)?;
+        Ok(next_of(led))
     }
 
     /// Follows an ASCII character, passed as its byte, as `advance` does. Takes one load and one
@@ -154,23 +155,27 @@ impl Cache {
         program: &CompiledProgram,
         at: usize,
         c: u8,
-    ) -> Result<Option<usize>, AllocError>
+    ) -> Result<Next, AllocError>
         requires cache { IsCacheOf program.now.0 self.old }
         requires placed { IsStatePlace self.old.table.states.items at }
         requires ascii { c < 128 }
         ensures cache { IsCacheOf program.now.0 self.new }
         ensures start { self.new.start ≡ self.old.start }
         ensures leads { let places = places_at self.old.table.states.items (at / 128) in
-            IfOk result (Leads program.now.0 self.new.table.states.items places c) }
+            IfOk result (LeadsNext program.now.0 self.new.table.states.items places c) }
     {
         let cell = self.table.cells[at + usize::from(c)];
         if cell >= FIRST {
-            return Ok(Some(usize::from(cell - FIRST) * COLUMNS));
+            return Ok(Next::To(usize::from(cell - FIRST) * COLUMNS));
+        }
+        if cell == ALL {
+            return Ok(Next::Everything);
         }
         if cell == DEAD {
-            return Ok(None);
+            return Ok(Next::Nothing);
         }
-        self.fill(program, at, char::from(c))
+        let led = self.fill(program, at, char::from(c))?;
+        Ok(next_of(led))
     }
 
     /// Follows a character by a step of the program, and fills its cell if it is ASCII. If the
@@ -206,7 +211,7 @@ impl Cache {
     ) -> Result<Option<usize>, AllocError>
         requires cache { IsCacheOf program.now.0 self.old }
         requires placed { IsStatePlace self.old.table.states.items at }
-        requires few { length self.old.table.states.items < 65532 }
+        requires few { length self.old.table.states.items < 65531 }
         ensures cache { IsCacheOf program.now.0 self.new }
         ensures start { self.new.start ≡ self.old.start }
         ensures leads { let places = places_at self.old.table.states.items (at / 128) in
@@ -225,7 +230,8 @@ impl Cache {
         let also = self.table.places_led(led);
         self.stepper
             .step(program, &self.others, c, also, &mut self.reached)?;
-        self.enter(at, c)
+        let takes_all = self.takes_all(program);
+        self.enter(at, c, takes_all)
     }
 
     /// Follows an ASCII character from the loops of a state, which other states share: mostly by
@@ -238,7 +244,7 @@ impl Cache {
     ) -> Result<Option<usize>, AllocError>
         requires cache { IsCacheOf program.now.0 self.old }
         requires placed { IsStatePlace self.old.table.states.items at }
-        requires few { length self.old.table.states.items < 65534 }
+        requires few { length self.old.table.states.items < 65533 }
         requires ascii { c < 128 }
         ensures cache { IsCacheOf program.now.0 self.new }
         ensures start { self.new.start ≡ self.old.start }
@@ -266,7 +272,7 @@ impl Cache {
     ) -> Result<Option<usize>, AllocError>
         requires cache { IsCacheOf program.now.0 self.old }
         requires placed { IsStatePlace self.old.table.states.items at }
-        requires few { length self.old.table.states.items < 65534 }
+        requires few { length self.old.table.states.items < 65533 }
         ensures cache { IsCacheOf program.now.0 self.new }
         ensures start { self.new.start ≡ self.old.start }
         ensures leads { let places = places_at self.old.table.states.items (at / 128) in
@@ -276,18 +282,35 @@ impl Cache {
         let places = self.table.places(at);
         self.stepper
             .step(program, places, c, &[], &mut self.reached)?;
-        self.enter(at, c)
+        let takes_all = self.takes_all(program);
+        self.enter(at, c, takes_all)
     }
 
-    /// Fills the cell of an ASCII character in the state whose cells begin at `at`, by the state of
-    /// the places that were reached. Returns where the cells of that state begin, or `None` if no
-    /// place was reached.
-    fn enter(&mut self, at: usize, c: char) -> Result<Option<usize>, AllocError>
-        requires few { length self.old.table.states.items < 65534 }
+    /// Returns whether every text is known to be accepted from the places that were reached.
+    fn takes_all(&self, program: &CompiledProgram) -> bool
+        ensures { IsTrue result → (s : List ℕ) → AnyAmong program.now.0 self.now.reached.items s }
+    {
+        let Some(all) = place_of_all(program) else {
+            return false;
+        };
+        for place in &self.reached {
+            if *place == all {
+                return true;
+            }
+        }
+        false
+    }
+
+    /// Fills the cell of an ASCII character in the state whose cells begin at `at`, by the places
+    /// that were reached. Returns where the cells of their state begin, or `None` if no place was
+    /// reached. `takes_all` says that every text is accepted from these places.
+    fn enter(&mut self, at: usize, c: char, takes_all: bool) -> Result<Option<usize>, AllocError>
+        requires few { length self.old.table.states.items < 65533 }
         requires room { length self.old.table.cells.items ≡ 128 * length self.old.table.states.items }
         requires placed { IsStatePlace self.old.table.states.items at }
-        ensures cache { (code : List Instruction) → IsCacheOf code self.old
-            → IsNext code self.old at c → IsCacheOf code self.new }
+        ensures cache { (code : List Instruction) → IsCacheOf code self.old → IsNext code self.old at c
+            → (IsTrue takes_all → (s : List ℕ) → AnyAmong code self.old.reached.items s)
+            → IsCacheOf code self.new }
         ensures start { self.new.start ≡ self.old.start }
         ensures leads { let places = places_at self.old.table.states.items (at / 128) in
             (code : List Instruction) → IsNext code self.old at c
@@ -299,18 +322,23 @@ impl Cache {
             return Ok(None);
         }
         let number = self.intern()?;
-        self.table.write(at, c, number as u16 + FIRST);
+        let cell = if takes_all {
+            ALL
+        } else {
+            number as u16 + FIRST
+        };
+        self.table.write(at, c, cell);
         Ok(Some(number * COLUMNS))
     }
 
     /// Finds the state of the places that were reached, and adds it if it is new. Returns its
     /// number.
     fn intern(&mut self) -> Result<usize, AllocError>
-        requires few { length self.old.table.states.items < 65534 }
+        requires few { length self.old.table.states.items < 65533 }
         requires room { length self.old.table.cells.items ≡ 128 * length self.old.table.states.items }
         ensures cache { (code : List Instruction) → IsCacheOf code self.old → IsCacheOf code self.new }
         ensures start { self.new.start ≡ self.old.start }
-        ensures small { IfOk result (λ t. t < 65534) }
+        ensures small { IfOk result (λ t. t < 65533) }
         ensures interned { IfOk result (IsInterned self.old self.new) }
     {
         if let Some(number) = self.table.find(&self.reached) {
@@ -325,7 +353,7 @@ impl Cache {
 
     /// Adds a state and returns its number. If that fails, removes all states.
     fn keep(&mut self, state: State) -> Result<usize, AllocError>
-        requires few { length self.old.table.states.items < 65534 }
+        requires few { length self.old.table.states.items < 65533 }
         requires room { length self.old.table.cells.items ≡ 128 * length self.old.table.states.items }
         ensures ok { IfOk result (IsAdded self.old self.new state) }
         ensures err { OnErr result (IsCleared self.old self.new) }
@@ -369,7 +397,7 @@ impl Cache {
     /// Returns whether the greatest number of states is reached.
     #[inline]
     fn is_full(&self) -> bool
-        ensures { IsFalse result → length self.now.table.states.items < 65532 }
+        ensures { IsFalse result → length self.now.table.states.items < 65531 }
     {
         let states = self.table.states.len();
         states >= MOST_STATES || states >= LEAST_STATES && self.bytes >= self.most_bytes

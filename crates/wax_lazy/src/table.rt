@@ -2,7 +2,7 @@
 ghost use Rattle.std.specs.Prelude.{◌≡◌, ◌+◌, ◌*◌, ◌/◌, ◌<◌, ◌≤◌, ◌++◌, ◌∷◌, [], IfOk, IfSome, IsTrue, Some};
 ghost use Rattle.std.specs.Prelude.{length, replicate, slice_get, slice_set};
 ghost use Rattle.wax_lazy.specs.declared.table.State.{State};
-ghost use Rattle.wax_lazy.specs.inner.Table.{IsSettled, places_at, places_led};
+ghost use Rattle.wax_lazy.specs.inner.Table.{IsSettled, next_of, places_at, places_led};
 
 use std::alloc::{AllocError, Global};
 
@@ -12,12 +12,37 @@ pub const COLUMNS: usize = 128;
 /// A cell that is still empty.
 pub const UNKNOWN: u16 = 0;
 
-/// The cell of a character after which no text is accepted. Each greater cell is the number of the
-/// next state, plus [`FIRST`].
+/// The cell of a character after which no text is accepted.
 pub const DEAD: u16 = 1;
 
+/// The cell of a character after which every text is accepted. Each greater cell is the number of
+/// the next state, plus [`FIRST`].
+pub const ALL: u16 = 2;
+
 /// The cell of a character that leads to the first state.
-pub const FIRST: u16 = 2;
+pub const FIRST: u16 = 3;
+
+/// Where a character leads from a state.
+#[derive(Clone, Copy)]
+pub enum Next {
+    /// To the state whose cells begin at this place.
+    To(usize),
+    /// To none: no text that goes on with the character is accepted.
+    Nothing,
+    /// To none, since every text that goes on with the character is accepted.
+    Everything,
+}
+
+/// Returns where a character leads, by the place where the cells of the next state begin.
+#[inline(always)]
+pub fn next_of(led: Option<usize>) -> Next
+    ensures { result ≡ next_of led }
+{
+    match led {
+        Some(at) => Next::To(at),
+        None => Next::Nothing,
+    }
+}
 
 /// A state: places that were reached.
 #[derive(Drop)]
@@ -135,7 +160,7 @@ impl Table {
     ///
     /// Returns `AllocError` if allocation fails. The table then has to be cleared.
     pub fn push(&mut self, state: State) -> Result<usize, AllocError>
-        requires few { length self.old.states.items < 65534 }
+        requires few { length self.old.states.items < 65533 }
         requires room { length self.old.cells.items ≡ 128 * length self.old.states.items }
         ensures number { IfOk result (λ t. t ≡ length self.old.states.items) }
         ensures states { IfOk result (λ _. self.new.states.items ≡ self.old.states.items ++ state ∷ []) }

@@ -5,6 +5,7 @@ ghost use Rattle.wax_lazy.specs.inner.Cached.{IsCacheOf};
 ghost use Rattle.wax_program.specs.Machine.{Accepts};
 
 use crate::cache::Cache;
+use crate::table::Next;
 use std::alloc::AllocError;
 use wax_program::CompiledProgram;
 
@@ -37,8 +38,9 @@ fn walk_ascii(program: &CompiledProgram, cache: &mut Cache, text: &[u8]) -> Resu
     let mut at = cache.begin(program, text.len())?;
     for byte in text {
         match cache.advance_ascii(program, at, *byte)? {
-            Some(next) => at = next,
-            None => return Ok(false),
+            Next::To(next) => at = next,
+            Next::Nothing => return Ok(false),
+            Next::Everything => return Ok(true),
         }
     }
     Ok(cache.accepts(program, at))
@@ -56,8 +58,9 @@ fn walk_chars(program: &CompiledProgram, cache: &mut Cache, text: &str) -> Resul
     let mut left = text.chars();
     while let Some(c) = left.next() {
         match cache.advance(program, at, c)? {
-            Some(next) => at = next,
-            None => return Ok(false),
+            Next::To(next) => at = next,
+            Next::Nothing => return Ok(false),
+            Next::Everything => return Ok(true),
         }
     }
     Ok(cache.accepts(program, at))

@@ -1,9 +1,12 @@
 -- Places that a caller lists.
-use Rattle.std.proofs.Common.{◌≡◌, ◌+◌, ◌<◌, ◌⊎◌, ◌↔◌, [], ◌∷◌, ◌++◌, inl, inr, ℕ, Bool, List, length, get_or, Contains, sym, ◌∙◌, subst, arith}
+use Rattle.std.proofs.Common.{◌≡◌, ◌+◌, ◌<◌, ◌⊎◌, ◌↔◌, [], ◌∷◌, ◌++◌, inl, inr, ℕ, suc, Bool, List, Some, length, get_or, slice_get, Contains, refl, sym, ◌∙◌, subst, arith}
 use Rattle.std.proofs.lemmas.Bool.{cases_lt}
 use Rattle.std.proofs.lemmas.List.{get_or_default}
 use Rattle.std.proofs.lemmas.List.Elements.{Contains-append_left, Contains-push, Contains-push_cases}
 use Rattle.wax_program.specs.declared.instruction.Instruction.{Instruction}
+use Rattle.wax_program.specs.declared.instruction.Instruction.TheVariants.{Repeat}
+use Rattle.wax_program.specs.declared.instruction.Test.TheVariants.{Any}
+use Rattle.wax_program.specs.Machine.{Accepts}
 use Rattle.wax_program.specs.Threads.{Advances, AnyAmong, AnyOf, AreReached, IsJoined, IsLoaded, Lists}
 use Rattle.wax_program.proofs.Advancing.{in_range}
 
@@ -58,3 +61,9 @@ module _ (places : List ℕ) (i x : ℕ) (within : i < length places) (is : x �
   parted_other part other p =
       let q = parted_one other part (record { all = λ j k lt e. swapped _ _ (p.all j k lt e); of_part = p.of_other; of_other = p.of_part }) in
       record { all = λ j k lt e. swapped _ _ (q.all j k lt e); of_part = q.of_other; of_other = q.of_part }
+
+-- ---- places from which every text is accepted
+-- a repeated test that any character passes, where the program ends after it
+pub any_to_end : (code : List Instruction) (k : ℕ) → slice_get code k ≡ Some (Repeat Any) → k + 1 ≡ length code → (s : List ℕ) → Accepts code k s
+any_to_end code k is last [] = (2, inr (Repeat Any, is, inl (last, refl)))
+any_to_end code k is last (c ∷ s) = let (n, rest) = any_to_end code k is last s in (suc n, inr (Repeat Any, is, inr (tt, rest)))

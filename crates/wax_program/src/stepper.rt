@@ -1,9 +1,12 @@
 //! Steps of a program by one character, from places that a caller keeps.
-ghost use Rattle.std.specs.Prelude.{◌≡◌, ◌↔◌, IfOk, IsTrue, [], length};
+ghost use Rattle.std.specs.Prelude.{◌≡◌, ◌↔◌, ℕ, IfOk, IfSome, IsTrue, List, [], length};
+ghost use Rattle.wax_program.specs.Machine.{Accepts};
 ghost use Rattle.wax_program.specs.Threads.{AnyAmong, AreParts, AreReached};
+ghost use Rattle.wax_program.specs.declared.instruction.Instruction.TheVariants.{Repeat};
+ghost use Rattle.wax_program.specs.declared.instruction.Test.TheVariants.{Any};
 
 use crate::heap_sets::HeapSets;
-use crate::instruction::Instruction;
+use crate::instruction::{Instruction, Test};
 use crate::machine::{CompiledProgram, Meter, Visits};
 use crate::rounds::{advance, finish};
 use std::alloc::{AllocError, Global};
@@ -119,4 +122,28 @@ fn is_loop(program: &CompiledProgram, at: usize) -> bool {
     };
     meter.add(visits);
     loops
+}
+
+/// Returns a place from which the program accepts every text, if its last instruction repeats any
+/// character, as that of `/**` does.
+pub fn place_of_all(program: &CompiledProgram) -> Option<usize>
+    ensures { IfSome result (λ at. (s : List ℕ) → Accepts program.now.0 at s) }
+{
+    if program.size() == 0 {
+        return None;
+    }
+    let last = program.size() - 1;
+    let mut visits = Visits::new();
+    let repeats = repeats_any(program.fetch(last, &mut visits));
+    Meter::new().add(visits);
+    if repeats { Some(last) } else { None }
+}
+
+fn repeats_any(instruction: &Instruction) -> bool
+    ensures { IsTrue result → instruction.now ≡ Repeat Any }
+{
+    match instruction {
+        Instruction::Repeat(Test::Any) => true,
+        _ => false,
+    }
 }

@@ -2,6 +2,8 @@
 use Rattle.std.specs.Prelude.{◌≡◌, ℕ, ◌+◌, ◌*◌, ◌/◌, ◌%◌, ◌<◌, ◌⊎◌, ◌↔◌, Bool, List, [], ◌∷◌, Option, Some}
 use Rattle.std.specs.Prelude.{None, IfSome, IsTrue, length}
 use Rattle.std.specs.Prelude.{slice_get, slice_index, slice_set}
+use Rattle.wax_lazy.specs.declared.table.Next.{Next}
+use Rattle.wax_lazy.specs.declared.table.Next.TheVariants.{To, Nothing, Everything}
 use Rattle.wax_lazy.specs.declared.table.State.{State}
 use Rattle.wax_program.specs.declared.instruction.Instruction.{Instruction}
 use Rattle.wax_program.specs.Machine.{Accepts}
@@ -59,11 +61,26 @@ abbrev pub Leads : List Instruction → List State → List ℕ → ℕ → Opti
 Leads code states places c None = IsDead code places c
 Leads code states places c (Some at) = LeadsTo code states places c at
 
+-- from the places every text is accepted that begins with the character
+abbrev pub TakesAll : List Instruction → List ℕ → ℕ → Type 0
+TakesAll code places c = (s : List ℕ) → AnyAmong code places (c ∷ s)
+
+-- the next state, or that there is none since no text is accepted
+abbrev pub next_of : Option ℕ → Next
+next_of (Some at) = To at
+next_of None = Nothing
+
+-- where the character leads from the places, or that the rest of the text doesn't matter
+abbrev pub LeadsNext : List Instruction → List State → List ℕ → ℕ → Next → Type 0
+LeadsNext code states places c (To at) = LeadsTo code states places c at
+LeadsNext code states places c Nothing = IsDead code places c
+LeadsNext code states places c Everything = TakesAll code places c
+
 -- the cell is empty, or says where the character leads from the places
 abbrev pub IsTransition : List Instruction → List State → List ℕ → ℕ → ℕ → Type 0
 IsTransition code states places c cell =
-    (cell ≡ 0) ⊎ (((cell ≡ 1) × IsDead code places c)
-    ⊎ ((at : ℕ) × (cell ≡ at / 128 + 2) × LeadsTo code states places c at))
+    (cell ≡ 0) ⊎ (((cell ≡ 1) × IsDead code places c) ⊎ (((cell ≡ 2) × TakesAll code places c)
+    ⊎ ((at : ℕ) × (cell ≡ at / 128 + 3) × LeadsTo code states places c at)))
 
 -- the states are those of a program, and each has a cell for each of 128 characters
 pub record IsTable (code : List Instruction) (states : List State) (cells : List ℕ) : Type 0 where

@@ -3,7 +3,7 @@ use Rattle.std.proofs.lemmas.List.{nil_from_length}
 use Rattle.std.proofs.lemmas.Str.{IsUtf8-past_char, chars-nil, chars_past_char}
 use Rattle.std.specs.Str.{chars}
 use Rattle.std.specs.Str.Iter.{chars_rest}
-use Rattle.wax_lazy.proofs.Walking.{dead_decides, end_decides, stays_on}
+use Rattle.wax_lazy.proofs.Walking.{all_decides, dead_decides, end_decides, stays_on}
 use Rattle.wax_lazy.proofs.walk.walk_chars.Goals as goal
 
 pub loop-c-init : goal.loop-c-init
@@ -24,7 +24,7 @@ loop-c-preserved c =
     let left : List ℕ = chars (chars_rest c.next.new.self) in
     let held = c.loop-c.invariant in
     let one : chars (chars_rest c.loop-c.left) ≡ c.in-Some.c ∷ left = chars_past_char _ _ _ held.utf8 c.in-Some.ensures.steps.0 in
-    let leads = rw c.in-Some-2.is at c.in_ok-next.ensures.leads in
+    let leads = rw c.in-To.is at c.in_ok-next.ensures.leads in
     record {
       utf8 = IsUtf8-past_char _ _ _ held.utf8 c.in-Some.ensures.steps.0;
       cache = c.advance.ensures.cache;
@@ -33,13 +33,13 @@ loop-c-preserved c =
       stays = stays_on code c.args.cache.now.start cs _ _ held.stays left _ c.in-Some.c one leads.leads;
     }
 
-pub returns-in-None-clause-decides : goal.returns-in-None-clause-decides
-returns-in-None-clause-decides c =
+pub returns-in-Nothing-clause-decides : goal.returns-in-Nothing-clause-decides
+returns-in-Nothing-clause-decides c =
     let cs : List ℕ = chars c.args.text.now in
     let left : List ℕ = chars (chars_rest c.next.new.self) in
     let held = c.loop-c.invariant in
     let one : chars (chars_rest c.loop-c.left) ≡ c.in-Some.c ∷ left = chars_past_char _ _ _ held.utf8 c.in-Some.ensures.steps.0 in
-    let dead = rw c.in-None.is at c.in_ok-next.ensures.leads in
+    let dead = rw c.in-Nothing.is at c.in_ok-next.ensures.leads in
     dead_decides c.args.program.now.0 c.args.cache.now.start cs _ _ held.stays left c.in-Some.c one dead
 
 pub returns-clause-decides : goal.returns-clause-decides
@@ -48,3 +48,12 @@ returns-clause-decides c =
     let held = c.loop-c.invariant in
     let end : chars (chars_rest c.loop-c.left) ≡ [] = ap chars (nil_from_length _ c.in_default.ensures.steps.0.0) ∙ chars-nil in
     end_decides code c.args.cache.now.start (chars c.args.text.now) _ _ held.stays c.accepts.result end c.accepts.ensures.accepts
+
+pub returns-in-Everything-clause-decides : goal.returns-in-Everything-clause-decides
+returns-in-Everything-clause-decides c =
+    let cs : List ℕ = chars c.args.text.now in
+    let left : List ℕ = chars (chars_rest c.next.new.self) in
+    let held = c.loop-c.invariant in
+    let one : chars (chars_rest c.loop-c.left) ≡ c.in-Some.c ∷ left = chars_past_char _ _ _ held.utf8 c.in-Some.ensures.steps.0 in
+    let all = rw c.in-Everything.is at c.in_ok-next.ensures.leads in
+    all_decides c.args.program.now.0 c.args.cache.now.start cs _ _ held.stays left c.in-Some.c one all

@@ -1,12 +1,13 @@
 use Rattle.std.proofs.Common.{◌≡◌, ◌+◌, ◌*◌, ◌/◌, [], refl, sym, ◌∙◌, ap, subst, length, inl, inr, arith, eqb-true}
 use Rattle.std.proofs.lemmas.List.{nil_from_length}
-use Rattle.wax_lazy.specs.inner.Table.{KeepsStates}
+use Rattle.wax_lazy.specs.inner.Table.{IsTransition, KeepsStates, TakesAll, places_at}
 use Rattle.wax_lazy.proofs.Caches.{cache_filled}
-use Rattle.wax_lazy.proofs.Tables.{dead_of_none, keeps_same, led, placed_keeps, places_keep}
+use Rattle.wax_lazy.proofs.Tables.{dead_of_none, keeps_same, led, placed_keeps, places_keep, takes_all}
 use Rattle.wax_lazy.proofs.cache.Cache.enter.Goals as goal
+use Rattle.wax_lazy.proofs.cache.Cache.enter.Goals.{then-takes_all, else-takes_all}
 
 pub returns-then-is_empty-clause-cache : goal.returns-then-is_empty-clause-cache
-returns-then-is_empty-clause-cache c = λ code held next.
+returns-then-is_empty-clause-cache c = λ code held next all.
     let zero : c.args.self.now.reached.len ≡ 0 = eqb-true c.args.self.now.reached.len 0 (sym c.is_empty.ensures ∙ c.if-is_empty.true) in
     let none : c.args.self.now.reached.items ≡ [] = nil_from_length c.args.self.now.reached.items (omega (arith, zero, c.args.self.now.reached.ok.0)) in
     let dead = dead_of_none code c.args.c _ _ next none in
@@ -29,7 +30,7 @@ returns-then-is_empty-clause-grows c =
     }
 
 pub returns-clause-cache : goal.returns-clause-cache
-returns-clause-cache c = λ code held next.
+returns-clause-cache c = λ code held next all.
     let old = c.args.self.now.table.states.items in
     let new = c.intern.new.self.table.states.items in
     let made = c.in_ok-number.ensures.interned in
@@ -38,8 +39,12 @@ returns-clause-cache c = λ code held next.
     let placed = placed_keeps old new made.grows.kept c.args.at c.requires.placed in
     let from = places_keep old new made.grows.kept c.args.at c.requires.placed in
     let leads = led code new _ _ _ c.args.c number from made.known made.places next in
-    let whole : number + 2 ≡ number * 128 / 128 + 2 = omega arith in
-    cache_filled code c.intern.new.self _ c.args.at c.args.c (number + 2) now placed (inr (inr (number * 128, whole, leads)))
+    let whole : number + 3 ≡ number * 128 / 128 + 3 = omega arith in
+    let says : IsTransition code new (places_at new (c.args.at / 128)) c.args.c c.if-takes_all.cell = elim c.if-takes_all.branch [
+      | then-takes_all w ↦ inr (inr (inl (w.cell-is, subst (λ z. TakesAll code z c.args.c) (sym from) (takes_all code c.args.c _ _ next (all w.if-takes_all.true)))))
+      | else-takes_all w ↦ inr (inr (inr (number * 128, w.cell-is ∙ whole, leads)))
+    ] in
+    cache_filled code c.intern.new.self _ c.args.at c.args.c c.if-takes_all.cell now placed says
     now.size refl refl c.write-2.ensures.states c.write-2.ensures.filled c.write-2.ensures.unfilled
 
 pub returns-clause-leads : goal.returns-clause-leads

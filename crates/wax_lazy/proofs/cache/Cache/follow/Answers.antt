@@ -47,7 +47,7 @@ returns-clause-cache c =
     let reached = subst (λ z. AreReached code c.args.c c.part_loops.new.others.items z c.step.new.reached.items) (sym c.places_led-also.ensures) reaches in
     let next = subst (λ z. LeadOn code c.args.c z c.step.new.reached.items) (sym same) (parts_lead code c.args.c _ _ _ _ _ parts loops reached) in
     let was = c.follow_loops.ensures.cache in
-    c.enter.ensures.cache code (record { size = c.step.ensures.same ∙ was.size; start = was.start; table = was.table; first = was.first }) next
+    c.enter.ensures.cache code (record { size = c.step.ensures.same ∙ was.size; start = was.start; table = was.table; first = was.first }) next c.takes_all-takes_all.ensures
 
 pub returns-clause-leads : goal.returns-clause-leads
 returns-clause-leads c =
