@@ -20,10 +20,12 @@ const STATE_BYTES: usize = 306;
 /// The size of a place in bytes.
 const PLACE_BYTES: usize = 8;
 
-/// The least number of instructions of a program whose states are followed in two parts.
+/// The least number of instructions of a program whose states are followed in two parts. In smaller
+/// ones, all instructions behind the loops are soon read.
 const LEAST_PARTED: usize = 256;
 
-/// The greatest number of places of a state that is followed in two parts.
+/// The greatest number of places of a state that is followed in two parts. In larger ones, parting
+/// the places takes as long as a step.
 const MOST_PARTED: usize = 32;
 
 /// The number of states that are kept however many bytes they take.
@@ -438,7 +440,8 @@ fn bytes_of(state: &State) -> usize {
 }
 
 /// Returns how many bytes a state of a program of `size` instructions has to serve: from 64 for a
-/// small program, which runs over them in that time, to 2 for a large one.
+/// small program to 2 for a large one. These are estimates. With 1,000 names, folders or inner texts
+/// over paths of a file system, a state served 53 bytes and more.
 fn least_read(size: usize) -> usize {
     (4_096 / size.max(1)).max(2).min(64)
 }

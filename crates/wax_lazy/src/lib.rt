@@ -1,5 +1,5 @@
-//! Matching many texts against one program: the sets of places that it reaches are kept as states,
-//! with the next state for each ASCII character.
+//! Matching many texts against one program: the places that it reaches are kept as states, with the
+//! next state for each ASCII character.
 #![tactic(auto)]
 
 mod cache;

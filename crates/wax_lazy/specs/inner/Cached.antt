@@ -1,6 +1,6 @@
 -- What is kept between texts.
-use Rattle.std.specs.Prelude.{◌≡◌, ℕ, ◌+◌, ◌*◌, ◌/◌, ◌<◌, ◌≤◌, List, [], ◌∷◌, ◌++◌, Bool, None, IfSome, IsFalse, IsTrue, length}
-use Rattle.std.specs.Prelude.{replicate}
+use Rattle.std.specs.Prelude.{◌≡◌, ℕ, ◌+◌, ◌*◌, ◌/◌, ◌<◌, ◌≤◌, List, [], ◌∷◌, ◌++◌, Bool, None, IfSome, IsFalse}
+use Rattle.std.specs.Prelude.{IsTrue, length, replicate}
 use Rattle.wax_lazy.specs.declared.cache.Cache.{Cache}
 use Rattle.wax_lazy.specs.declared.known.Known.{Known}
 use Rattle.wax_lazy.specs.declared.table.State.{State}
