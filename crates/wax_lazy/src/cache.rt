@@ -26,7 +26,7 @@ const LEAST_PARTED: usize = 256;
 
 /// The greatest number of places of a state that is followed in two parts. In larger ones, parting
 /// the places takes as long as a step.
-const MOST_PARTED: usize = 32;
+const MOST_PARTED: usize = 128;
 
 /// The number of states that are kept however many bytes they take.
 const LEAST_STATES: usize = 16;
