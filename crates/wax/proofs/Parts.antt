@@ -14,7 +14,9 @@ use Rattle.wax_facts.specs.Rest.{left}
 use Rattle.wax_facts.proofs.BuiltOrderly.{built_orderly}
 use Rattle.wax_facts.proofs.Seams.{prefix_seam}
 use Rattle.wax_partition.specs.Partition.{IsPartition, rest_glob, spelled_rest}
+use Rattle.wax_partition.proofs.RestKeeps.{parts_keep}
 use Rattle.wax_partition.proofs.RestKnown.{parts_branch, parts_fits, parts_orderly, parts_rest, parts_split, parts_whole}
+use Rattle.wax_rule.specs.Keeping.{KeepsRules}
 use Rattle.wax.specs.GlobView.{IsKept, empty_tree}
 use Rattle.wax.specs.Partition.{HasParts, IsRest, MeansAlone, as_glob}
 
@@ -58,6 +60,9 @@ module _ (e : List ℕ) (t : Tree Span) (p : List ℕ) (kept : IsKept t) where
 
   pub rest_kept : (u : Tokenized Span) → IsPartition e t p (spelled_rest (Some u)) → IsKept u.token
   rest_kept u k = inl (parts_orderly e t p (Some u) k (orderly u k))
+
+  pub rest_rules : (u : Tokenized Span) → IsPartition e t p (spelled_rest (Some u)) → KeepsRules t → KeepsRules u.token
+  rest_rules u k = parts_keep e t p (Some u) k (flat t kept)
 
   pub rest_fits : (u : Tokenized Span) → IsPartition e t p (spelled_rest (Some u)) → program_length u.token ≤ program_length t
   rest_fits u k = parts_fits e t p (Some u) k (flat t kept)

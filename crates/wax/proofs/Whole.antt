@@ -8,6 +8,7 @@ use Rattle.wax_prefilter.specs.Facts.{PrefilterView}
 use Rattle.wax_program.specs.Last.{IsLastName, ReadsLast}
 use Rattle.wax_program.specs.Machine.{Accepts}
 use Rattle.wax_program.specs.declared.instruction.Instruction.{Instruction}
+use Rattle.wax_rule.specs.Keeping.{KeepsRules}
 use Rattle.wax_token.specs.Cost.{cost, costs, program_length}
 use Rattle.wax_token.specs.Meaning.{Means, MeansEach}
 use Rattle.wax_token.specs.Reads.{Span}
@@ -30,9 +31,9 @@ costs_members (repetition a t low high) = add-zero _
 -- what was made of a tree's tokens
 pub is_compiled : (t : Tree Span) (ts : Trees Span) (program : List Instruction × ℕ) (reads_last : Bool) (prefilter : PrefilterView) (pieces : List Piece) → ts ≡ members t
     → ((s : List ℕ) → Accepts program.0 0 s ↔ MeansEach ts false false s) → program.1 ≡ costs ts + 1 → program.1 ≤ 1048576
-    → (IsTrue reads_last → ReadsLast program.0) → MeantPass ts prefilter → ArePieces ts false false pieces → IsKept t
+    → (IsTrue reads_last → ReadsLast program.0) → MeantPass ts prefilter → ArePieces ts false false pieces → IsKept t → KeepsRules t
     → IsCompiled t program reads_last prefilter pieces
-is_compiled t ts program reads_last prefilter pieces same accepts len fits last passes split kept = record {
+is_compiled t ts program reads_last prefilter pieces same accepts len fits last passes split kept rules = record {
   accepts = λ s.
       let whole = subst (λ z. Accepts program.0 0 s ↔ MeansEach z false false s) same (accepts s) in
       let parts = means_members t false false s in
@@ -43,6 +44,7 @@ is_compiled t ts program reads_last prefilter pieces same accepts len fits last 
   passes = λ s h. subst (λ z. MeantPass z prefilter) same passes s ((means_members t false false s).1 h);
   split = subst (λ z. ArePieces z false false pieces) same split;
   kept = kept;
+  rules = rules;
 } where
   total : program.1 ≡ program_length t
   total = len ∙ ap (λ z. costs z + 1) same ∙ ap (λ n. n + 1) (costs_members t)

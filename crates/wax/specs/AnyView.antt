@@ -6,6 +6,7 @@ use Rattle.wax_capture.specs.declared.piece.Piece.{Piece}
 use Rattle.wax_prefilter.specs.Facts.{PrefilterView, PassesFacts}
 use Rattle.wax_program.specs.Machine.{Accepts}
 use Rattle.wax_program.specs.declared.instruction.Instruction.{Instruction}
+use Rattle.wax_rule.specs.Keeping.{KeepsRules}
 use Rattle.wax_token.specs.Cost.{program_length}
 use Rattle.wax_token.specs.Meaning.{Means}
 use Rattle.wax_token.specs.Reads.{Span}
@@ -30,7 +31,8 @@ abbrev pub IsWhole : List ℕ → List (List ℕ) → Type 0
 IsWhole text captures = captures ≡ text ∷ []
 
 -- The program accepts what the alternation means with nothing around it, and has the length of its cost,
--- which fits; each such text passes the prefilter; and the pieces are those of the alternation.
+-- which fits; each such text passes the prefilter; the pieces are those of the alternation; and it keeps the
+-- rules.
 pub record IsCompiledAny (t : Tree Span) (program : List Instruction × ℕ) (prefilter : PrefilterView)
     (pieces : List Piece) : Type 0 where
   pub accepts : (text : List ℕ) → Accepts program.0 0 text ↔ Means t false false text
@@ -39,3 +41,4 @@ pub record IsCompiledAny (t : Tree Span) (program : List Instruction × ℕ) (pr
   pub passes : (text : List ℕ) → Means t false false text → PassesFacts prefilter text
   pub split : ArePieces (members t) false false pieces
   pub alternates : IsAlternation t
+  pub rules : KeepsRules t

@@ -9,6 +9,7 @@ use Rattle.wax_prefilter.specs.Facts.{PrefilterView, PassesFacts}
 use Rattle.wax_program.specs.Last.{ReadsLast}
 use Rattle.wax_program.specs.Machine.{Accepts}
 use Rattle.wax_program.specs.declared.instruction.Instruction.{Instruction}
+use Rattle.wax_rule.specs.Keeping.{KeepsRules}
 use Rattle.wax_token.specs.Cost.{program_length}
 use Rattle.wax_token.specs.Meaning.{Means}
 use Rattle.wax_token.specs.Reads.{Span}
@@ -36,7 +37,8 @@ IsKept t = Orderly t ⊎ (t ≡ empty_tree)
 
 -- What is stored for a tree: a program that accepts exactly the texts that the tree matches, of the length
 -- `program_length`, which is within the limit; if the flag is set, the program reads only the last component;
--- every text that matches passes the prefilter; and the pieces are those of the tree's tokens.
+-- every text that matches passes the prefilter; the pieces are those of the tree's tokens; and the tree keeps
+-- the rules.
 pub record IsCompiled (t : Tree Span) (program : List Instruction × ℕ) (reads_last : Bool)
     (prefilter : PrefilterView) (pieces : List Piece) : Type 0 where
   pub accepts : (text : List ℕ) → Accepts program.0 0 text ↔ Means t false false text
@@ -46,6 +48,7 @@ pub record IsCompiled (t : Tree Span) (program : List Instruction × ℕ) (reads
   pub passes : (text : List ℕ) → Means t false false text → PassesFacts prefilter text
   pub split : ArePieces (members t) false false pieces
   pub kept : IsKept t
+  pub rules : KeepsRules t
 
 -- the glob means the text, with nothing around it
 abbrev pub IsMeant : GlobView → List ℕ → Type 0

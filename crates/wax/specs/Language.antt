@@ -18,6 +18,7 @@ pub use Rattle.wax_fold.specs.Walking.{below, cancelled, to_come, walk_begun, wa
 pub use Rattle.wax_parse.specs.Accepted.{IsPlace}
 pub use Rattle.wax_parse.specs.Backslash.{HasNoBackslash}
 pub use Rattle.wax_rule.specs.FirstBreak.{TellsFirst}
+pub use Rattle.wax_rule.specs.Keeping.{KeepsRules}
 pub use Rattle.wax_token.specs.Compositions.{children_of, composition_copied, composition_of}
 pub use Rattle.wax_token.specs.Compositions.{composition_value, conjunctive, disjunctive, on_inner}
 pub use Rattle.wax_token.specs.Cost.{cost, costs, holds_tree, is_tree, program_length, some_holds_tree}

@@ -18,7 +18,7 @@ pub use Rattle.wax_facts.specs.Root.{root}
 pub use Rattle.wax_facts.specs.RootedTrees.{is_rooted_tree}
 pub use Rattle.wax_partition.specs.Kept.{between, without_slash}
 pub use Rattle.wax_partition.specs.Partition.{IsPartition, spelled_rest}
-pub use Rattle.wax_partition.specs.Shifted.{shifted_each, shifted_tree}
+pub use Rattle.wax_rule.specs.Shifted.{shifted_each, shifted_tree}
 pub use Rattle.wax_query.specs.Components.{Bare, BeginsWithSlash, EndsWithSlash, component_total, last_slash}
 pub use Rattle.wax_query.specs.Components.{slash, slashes}
 pub use Rattle.wax_query.specs.Labels.{AreLabels, Label, all_labels, here, seen, spans_of, split_some}

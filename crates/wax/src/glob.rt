@@ -18,6 +18,7 @@ ghost use Rattle.wax_partition.specs.Partition.{spelled_rest};
 ghost use Rattle.wax_query.specs.Outcome.{MatchBuild};
 ghost use Rattle.wax.specs.GlobView.{HasCaptures, IsKept, IsMeant};
 ghost use Rattle.wax.specs.Partition.{as_glob};
+ghost use Rattle.wax_rule.specs.Keeping.{KeepsRules};
 
 mod matcher;
 mod parts;
@@ -254,7 +255,8 @@ fn compiled<'t>(
     alloc: Global,
     tokenized: Tokenized<'t, ExpressionMetadata>,
 ) -> Result<Glob<'t>, Refusal<CompileError>>
-    requires { IsKept tokenized.token }
+    requires kept { IsKept tokenized.token }
+    requires rules { KeepsRules tokenized.token }
     ensures glob { IfOk result (λ g. Some g ≡ as_glob (spelled_rest (Some tokenized.entry))) }
     ensures fits { MatchBuild result (λ g. program_length g.tree ≤ 1048576)
         (λ _. 1048576 < program_length tokenized.entry.token) }

@@ -1,7 +1,9 @@
 //! Patterns, and sets that are built from them.
-ghost use Rattle.std.specs.Prelude.{◌≡◌, ◌++◌, ◌∷◌, [], MatchResult, OnOk, chars};
+ghost use Rattle.std.specs.Prelude.{◌≡◌, ◌++◌, ◌∷◌, [], IfOk, MatchResult, OnOk, chars};
+ghost use Rattle.std.specs.List.{Contains};
 ghost use Rattle.wax_token.specs.Reads.{Span};
 ghost use Rattle.wax_token.specs.Syntax.{Tree};
+ghost use Rattle.wax_rule.specs.Keeping.{KeepsRules};
 ghost use Rattle.wax.specs.Patterns.{IsAnyOf, IsOnly, LacksMemory, NoSet, Refuses, RefusesOk};
 ghost use Rattle.wax.specs.Patterns.{SpellEach, Spells, SpellsOk};
 ghost use Rattle.wax_error.specs.declared.build_error.BuildError.{BuildError};
@@ -150,8 +152,9 @@ fn tokens_of<P: Pattern + Drop>(
     alloc: Global,
     patterns: Vec<P>,
 ) -> Result<Vec<Token<'static, ExpressionMetadata>>, BuildError>
-    ensures { MatchResult result (λ tokens. SpellEach P.spells patterns.items tokens.items)
+    ensures each { MatchResult result (λ tokens. SpellEach P.spells patterns.items tokens.items)
         (NoSet P.spells P.refuses patterns.items) }
+    ensures rules { IfOk result (λ tokens. (t : Tree Span) → Contains tokens.items t → KeepsRules t) }
 {
     let mut tokens = Vec::new(alloc);
     for pattern in patterns {

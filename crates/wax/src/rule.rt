@@ -1,3 +1,3 @@
 //! The rules that an expression has to keep.
 
-pub use wax_rule::rule::{Checked, RuleError, RuleErrorKind, check};
+pub use wax_rule::rule::{Checked, RuleError, RuleErrorKind, Ruled, RuledTree, check};

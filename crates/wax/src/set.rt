@@ -15,6 +15,7 @@ ghost use Rattle.wax_token.specs.Cost.{program_length};
 ghost use Rattle.wax_token.specs.Decided.{means_test, means_tested};
 ghost use Rattle.wax.specs.AnyView.{IsAlternation, IsWhole, MeansText};
 ghost use Rattle.wax.specs.Patterns.{LacksMemory};
+ghost use Rattle.wax_rule.specs.Keeping.{KeepsRules};
 
 mod matcher;
 
@@ -82,7 +83,8 @@ pub(crate) fn compiled<'t>(
     alloc: Global,
     token: Token<'t, ExpressionMetadata>,
 ) -> Result<Any<'t>, Refusal<CompileError>>
-    requires { IsAlternation token }
+    requires alternates { IsAlternation token }
+    requires rules { KeepsRules token }
     ensures same { IfOk result (λ any. any ≡ token.entry) }
     ensures fits { MatchBuild result (λ any. program_length any ≤ 1048576)
         (λ _. 1048576 < program_length token.entry) }

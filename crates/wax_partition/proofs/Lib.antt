@@ -1,6 +1,7 @@
 pub mod KeptSteps
 pub mod RestCosts
 pub mod RestGlob
+pub mod RestKeeps
 pub mod RestKnown
 pub mod RestMeans
 pub mod Rows

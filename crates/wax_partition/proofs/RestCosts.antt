@@ -7,7 +7,7 @@ use Rattle.wax_token.specs.Syntax.{literal, class, separator, one, zero_or_more,
 use Rattle.wax_token.specs.Words.{members}
 use Rattle.wax_facts.specs.Prefix.{opened}
 use Rattle.wax_facts.specs.Rest.{after, begins_with_tree, entered, inner_cut, inner_last, left, or_here, owner, rest, unrooted}
-use Rattle.wax_partition.specs.Shifted.{shifted_tree, shifted_each, shifted_rest}
+use Rattle.wax_rule.specs.Shifted.{shifted_tree, shifted_each, shifted_rest}
 use Rattle.wax_partition.proofs.RestMeans.{rest_same}
 
 -- ---- no span changes a cost

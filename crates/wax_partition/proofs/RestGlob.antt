@@ -5,7 +5,7 @@ use Rattle.wax_token.specs.Reads.{Span, utf8_len}
 use Rattle.wax_token.specs.Syntax.{Tree, concatenation, Trees, more}
 use Rattle.wax_token.specs.Words.{trees}
 use Rattle.wax_partition.specs.Partition.{rest_glob, rest_text}
-use Rattle.wax_partition.specs.Shifted.{shifted_rest}
+use Rattle.wax_rule.specs.Shifted.{shifted_rest}
 
 glob_of : (e : List ℕ) (end : ℕ) (t : Tree Span) (ts : Trees Span) (x : List ℕ) (v : Tree Span) → x ≡ rest_text e end t →
     v ≡ concatenation (0, utf8_len x) (shifted_rest (more t ts)) → Some (x, v) ≡ rest_glob e end (more t ts)

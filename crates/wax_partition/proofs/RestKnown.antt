@@ -14,7 +14,7 @@ use Rattle.wax_facts.specs.Rest.{left, rest, unrooted}
 use Rattle.wax_facts.proofs.Partitions.{partition_branch, partition_orderly, partition_rest, partition_split, partition_whole}
 use Rattle.wax_facts.proofs.RestOrderly.{unrooted_some}
 use Rattle.wax_partition.specs.Partition.{IsPartition, rest_glob, rest_text, spelled_rest}
-use Rattle.wax_partition.specs.Shifted.{shifted_rest}
+use Rattle.wax_rule.specs.Shifted.{shifted_rest}
 use Rattle.wax_partition.proofs.RestCosts.{left_costs, rest_costs}
 use Rattle.wax_partition.proofs.RestMeans.{rest_means, rest_orderly}
 

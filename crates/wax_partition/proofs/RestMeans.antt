@@ -6,7 +6,7 @@ use Rattle.wax_token.specs.Syntax.{Leaf, literal, class, separator, one, zero_or
 use Rattle.wax_token.specs.Syntax.{leaf, alternation, concatenation, repetition, Trees, none, more}
 use Rattle.wax_facts.specs.Orderly.{Orderly}
 use Rattle.wax_facts.specs.Rest.{unrooted}
-use Rattle.wax_partition.specs.Shifted.{shifted_each, shifted_rest, shifted_span}
+use Rattle.wax_rule.specs.Shifted.{shifted_each, shifted_rest, shifted_span}
 use Rattle.wax_partition.proofs.ShiftedMeans.{each_shifted}
 use Rattle.wax_partition.proofs.ShiftedOrderly.{orderly_each}
 

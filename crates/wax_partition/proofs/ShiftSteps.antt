@@ -4,7 +4,7 @@ use Rattle.std.proofs.lemmas.List.{reverse-append}
 use Rattle.wax_token.specs.Reads.{Span}
 use Rattle.wax_token.specs.Syntax.{Tree, more, tree_size, trees_size}
 use Rattle.wax_token.specs.Words.{trees}
-use Rattle.wax_partition.specs.Shifted.{shifted_tree, shifted_each}
+use Rattle.wax_rule.specs.Shifted.{shifted_tree, shifted_each}
 
 size_pushed : {A : Type 0} (ts : List (Tree A)) (t : Tree A) → trees_size (trees (ts ++ t ∷ [])) ≡ trees_size (trees ts) + tree_size t + 1
 size_pushed [] t = omega arith

@@ -4,7 +4,7 @@ use Rattle.wax_query.specs.Ranges.{AtMost}
 use Rattle.wax_token.specs.Meaning.{Copies, Means, MeansEach, MeansSome}
 use Rattle.wax_token.specs.Reads.{Span}
 use Rattle.wax_token.specs.Syntax.{Tree, leaf, alternation, concatenation, repetition, Trees, none, more}
-use Rattle.wax_partition.specs.Shifted.{shifted_tree, shifted_each}
+use Rattle.wax_rule.specs.Shifted.{shifted_tree, shifted_each}
 
 module _ (k : ℕ) where
   mutual

@@ -6,7 +6,7 @@ use Rattle.wax_break.specs.Rules.{are_incompatible}
 use Rattle.wax_break.specs.Situated.{starts_with_leaf, some_starts_in, first_starts_in, ends_in, some_ends_in, last_ends_in}
 use Rattle.wax_token.specs.Kinds.{is_boundary_leaf}
 use Rattle.wax_facts.specs.Orderly.{Apart, ApartEach, ApartSome, Flat, FlatEach, FlatSome, Full, FullEach, IsSome, Orderly, Worded, WordedEach, is_token}
-use Rattle.wax_partition.specs.Shifted.{shifted_tree, shifted_each}
+use Rattle.wax_rule.specs.Shifted.{shifted_tree, shifted_each}
 
 module _ (k : ℕ) where
   some_here : (ts : Trees Span) → IsSome (shifted_each k ts) ≡ IsSome ts

@@ -1,3 +1,3 @@
 pub mod Kept
 pub mod Partition
-pub mod Shifted
+pub mod inner

@@ -11,7 +11,7 @@ use Rattle.wax_facts.specs.Prefix.{Prefix}
 use Rattle.wax_facts.specs.Rest.{left}
 use Rattle.wax_facts.specs.RootedTrees.{is_rooted_tree}
 use Rattle.wax_partition.specs.Kept.{between, without_slash}
-use Rattle.wax_partition.specs.Shifted.{shifted_rest}
+use Rattle.wax_rule.specs.Shifted.{shifted_rest}
 
 -- the characters of an expression from a token up to a byte; a `**` loses its `/`
 abbrev pub rest_text : List ℕ → ℕ → Tree Span → List ℕ

@@ -1,6 +1,7 @@
 //! Splitting a glob into its prefix and the rest, which is an expression of its own.
 #![tactic(auto)]
 
+mod flat;
 mod in_two;
 mod kept;
 mod parts;

@@ -10,7 +10,8 @@ ghost use Rattle.wax_facts.specs.Orderly.{Flat, Full, Orderly};
 ghost use Rattle.wax_facts.specs.Partition.{BeginsPlainly, MeansAfter, SplitsAll};
 ghost use Rattle.wax_facts.specs.Prefix.{IsRooted, opened};
 ghost use Rattle.wax_partition.specs.Partition.{IsPartition, rest_glob, rest_text, spelled_rest};
-ghost use Rattle.wax_partition.specs.Shifted.{shifted_rest};
+ghost use Rattle.wax_rule.specs.Keeping.{KeepsRules};
+ghost use Rattle.wax_rule.specs.Shifted.{shifted_rest};
 
 use crate::kept::{between, without_slash};
 use crate::shift::shifted_each;
@@ -58,6 +59,8 @@ pub fn partition<'t>(
         Orderly tokenized.entry.token → Orderly u.token)) }
     ensures fits { IfOk result (λ r. IfSome r.1 (λ u. Flat tokenized.entry.token
         → program_length u.token ≤ program_length tokenized.entry.token)) }
+    ensures rules { IfOk result (λ r. IfSome r.1 (λ u. Flat tokenized.entry.token
+        → KeepsRules tokenized.entry.token → KeepsRules u.token)) }
 {
     let (expression, token) = tokenized.into_parts();
     parts(alloc, expression, token)

@@ -3,7 +3,7 @@ ghost use Rattle.std.specs.Prelude.{◌≡◌, IfOk};
 ghost use Rattle.wax_token.specs.Reads.{Span};
 ghost use Rattle.wax_token.specs.View.{branch_tree};
 ghost use Rattle.wax_token.specs.Words.{trees};
-ghost use Rattle.wax_partition.specs.Shifted.{shifted_tree, shifted_each, shifted_span};
+ghost use Rattle.wax_rule.specs.Shifted.{shifted_tree, shifted_each, shifted_span};
 
 use std::alloc::{AllocError, Global};
 use wax_token::token::{

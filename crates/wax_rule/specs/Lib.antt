@@ -1,2 +1,4 @@
 pub mod FirstBreak
+pub mod Keeping
+pub mod Shifted
 pub mod inner

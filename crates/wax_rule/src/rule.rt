@@ -9,6 +9,7 @@ ghost use Rattle.wax_break.specs.Situated.{breadth_first};
 ghost use Rattle.wax_break.specs.Rules.{broken, break_here, breaks_among, size_breaks};
 ghost use Rattle.wax_rule.specs.FirstBreak.{TellsFirst, head_of, breaks_of, shape_breaks, oversized};
 ghost use Rattle.wax_rule.specs.FirstBreak.{first_in, is_broken_at};
+ghost use Rattle.wax_rule.specs.Keeping.{KeepsRules};
 
 mod boundary;
 mod bounds;
@@ -23,7 +24,7 @@ use crate::rule::bounds::bounds_break;
 use crate::rule::branch::branch_break;
 use crate::rule::situated::{Situated, breadth_first};
 use crate::rule::size::is_oversized;
-pub use checked_tokens::already_checked;
+pub use checked_tokens::{RuledTree, already_checked};
 use itertools::Itertools;
 use std::alloc::{AllocError, Global};
 use std::borrow::CowStr;
@@ -118,24 +119,50 @@ impl Display for RuleError<'_> {
     }
 }
 
-/// Tokens that passed `check`, or were combined from such tokens. Contracts see it as its content.
-#[derive(Clone, Copy, Debug, Drop)]
-pub struct Checked<T> {
+/// A type whose values can keep the rules: a token, or an expression with its token.
+pub trait Ruled {
+    /// The value keeps the rules.
+    ghost keeps_rules: { Self → Type 0 };
+}
+
+impl<'t> Ruled for Token<'t, ExpressionMetadata> {
+    ghost keeps_rules = { KeepsRules };
+}
+
+impl<'t> Ruled for Tokenized<'t, ExpressionMetadata> {
+    ghost keeps_rules = { λ tokenized. KeepsRules tokenized.token };
+}
+
+/// Tokens that keep the rules: they passed `check`, or were combined from such tokens. Contracts
+/// see it as its content.
+#[derive(Debug, Drop)]
+pub struct Checked<T: Ruled> {
     inner: T,
 }
 
-impl<T> Model for Checked<T> {
+impl<T: Ruled> Model for Checked<T> {
     ghost Value = { T };
 
     ghost view = { λ c. c.inner };
 
     ghost inverse = { λ t. record { inner = t } };
+
+    ghost invariant = { λ c. T.keeps_rules c.inner };
 }
 
-impl<T> Checked<T> {
+impl<T: Ruled + Copy> Clone for Checked<T> {
+    fn clone(&self) -> Result<Self, AllocError> {
+        Ok(*self)
+    }
+}
+
+impl<T: Ruled + Copy> Copy for Checked<T> {}
+
+impl<T: Ruled> Checked<T> {
     /// Returns what was checked.
     pub fn release(self) -> T
-        ensures { result ≡ self }
+        ensures same { result ≡ self }
+        ensures rules { T.keeps_rules result }
     {
         self.inner
     }

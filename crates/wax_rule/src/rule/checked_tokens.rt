@@ -1,11 +1,14 @@
 //! Borrowing, owning, splitting and combining checked tokens.
 ghost use Rattle.std.specs.Prelude.{◌≡◌, IfOk, map};
 ghost use Rattle.std.specs.Cow.{cow_str_bytes};
-ghost use Rattle.wax_token.specs.Syntax.{alternation};
+ghost use Rattle.std.specs.List.{Contains};
+ghost use Rattle.wax_token.specs.Reads.{Span};
+ghost use Rattle.wax_token.specs.Syntax.{Tree, alternation};
 ghost use Rattle.wax_token.specs.Words.{trees};
 ghost use Rattle.wax_alternatives.specs.Alternatives.{MeansOneOf, alternatives};
+ghost use Rattle.wax_rule.specs.Keeping.{KeepsRules};
 
-use crate::rule::Checked;
+use crate::rule::{Checked, Ruled};
 use std::alloc::{AllocError, Global};
 use wax_alternatives::into_alternatives;
 use wax_query::diagnostics::NoMemory;
@@ -13,18 +16,32 @@ use wax_token::token::{
     Alternation, BranchKind, ExpressionMetadata, Token, TokenTree, Tokenized, new_branch,
 };
 
-impl<T> Checked<T> {
+/// A type that contains a token, which keeps the rules if the value does.
+pub trait RuledTree<'t>: TokenTree<'t, Annotation = ExpressionMetadata> + Ruled {
+    ghost token_keeps_rules: { (value : Self) → Self.keeps_rules value → KeepsRules (Self.token value) };
+}
+
+impl<'t> RuledTree<'t> for Token<'t, ExpressionMetadata> {
+    ghost token_keeps_rules = { λ token kept. kept };
+}
+
+impl<'t> RuledTree<'t> for Tokenized<'t, ExpressionMetadata> {
+    ghost token_keeps_rules = { λ tokenized kept. kept };
+}
+
+impl<T: Ruled> Checked<T> {
     /// Returns a reference to what was checked.
     pub fn as_ref(&self) -> &T
-        ensures { result.now ≡ self.now }
+        ensures same { result.now ≡ self.now }
+        ensures rules { T.keeps_rules result.now }
     {
         &self.inner
     }
 }
 
-impl<'t, T: TokenTree<'t>> Checked<T> {
+impl<'t, T: RuledTree<'t>> Checked<T> {
     /// Returns the checked token, and drops its expression.
-    pub fn into_token(self) -> Checked<Token<'t, T::Annotation>>
+    pub fn into_token(self) -> Checked<Token<'t, ExpressionMetadata>>
         ensures { result ≡ T.token self }
     {
         Checked {
@@ -41,9 +58,7 @@ impl<'t, T: TokenTree<'t>> Checked<T> {
     pub fn into_alternatives(
         self,
         alloc: Global,
-    ) -> Result<Vec<Checked<Token<'t, T::Annotation>>>, NoMemory>
-    where
-        T::Annotation: Drop,
+    ) -> Result<Vec<Checked<Token<'t, ExpressionMetadata>>>, NoMemory>
         ensures all { IfOk result (λ ts. ts.items ≡ alternatives (T.token self)) }
         ensures means { IfOk result (λ ts. MeansOneOf (T.token self) ts.items) }
     {
@@ -52,14 +67,17 @@ impl<'t, T: TokenTree<'t>> Checked<T> {
     }
 }
 
-impl<'t, A: Drop> Checked<Tokenized<'t, A>> {
+impl<'t> Checked<Tokenized<'t, ExpressionMetadata>> {
     /// Converts the value to one that owns the expression and all texts of the token. Takes time
     /// and memory linear in the expression, the tokens and their texts.
     ///
     /// # Errors
     ///
     /// Returns `NoMemory` if allocation fails.
-    pub fn into_owned(self, alloc: Global) -> Result<Checked<Tokenized<'static, A>>, NoMemory>
+    pub fn into_owned(
+        self,
+        alloc: Global,
+    ) -> Result<Checked<Tokenized<'static, ExpressionMetadata>>, NoMemory>
         ensures expression { IfOk result (λ u.
             cow_str_bytes u.expression ≡ cow_str_bytes self.entry.expression) }
         ensures token { IfOk result (λ u. u.token ≡ self.entry.token) }
@@ -70,14 +88,17 @@ impl<'t, A: Drop> Checked<Tokenized<'t, A>> {
     }
 }
 
-impl<'t, A: Drop> Checked<Token<'t, A>> {
+impl<'t> Checked<Token<'t, ExpressionMetadata>> {
     /// Converts the token to one that owns all its texts. Takes time and memory linear in the
     /// tokens and their texts.
     ///
     /// # Errors
     ///
     /// Returns `NoMemory` if allocation fails.
-    pub fn into_owned(self, alloc: Global) -> Result<Checked<Token<'static, A>>, NoMemory>
+    pub fn into_owned(
+        self,
+        alloc: Global,
+    ) -> Result<Checked<Token<'static, ExpressionMetadata>>, NoMemory>
         ensures { IfOk result (λ t. t ≡ self.entry) }
     {
         Ok(Checked {
@@ -98,7 +119,7 @@ impl<'t> Checked<Token<'t, ExpressionMetadata>> {
     /// Returns `NoMemory` if allocation fails.
     pub fn any<T>(alloc: Global, all: Vec<Checked<T>>) -> Result<Self, NoMemory>
     where
-        T: TokenTree<'t, Annotation = ExpressionMetadata> + Drop,
+        T: RuledTree<'t> + Drop,
         ensures { IfOk result (λ any. any ≡ alternation (0, 0) (trees (map T.token all.items))) }
     {
         let branch = BranchKind::Alternation(Alternation {
@@ -110,21 +131,20 @@ impl<'t> Checked<Token<'t, ExpressionMetadata>> {
     }
 }
 
-/// Wraps `inner` without checking it. Callers have to pass only tokens that were released from a
-/// `Checked`, or an alternation of such tokens.
-pub fn already_checked<T>(inner: T) -> Checked<T>
+/// Wraps a value that keeps the rules, without checking it again.
+pub fn already_checked<T: Ruled>(inner: T) -> Checked<T>
+    requires { T.keeps_rules inner }
     ensures { result ≡ inner }
 {
     Checked { inner }
 }
 
-fn tokens_of<'t, T: TokenTree<'t> + Drop>(
+fn tokens_of<'t, T: RuledTree<'t> + Drop>(
     alloc: Global,
     all: Vec<Checked<T>>,
-) -> Result<Vec<Token<'t, T::Annotation>>, AllocError>
-where
-    T::Annotation: Drop,
-    ensures { IfOk result (λ tokens. tokens.items ≡ map T.token all.items) }
+) -> Result<Vec<Token<'t, ExpressionMetadata>>, AllocError>
+    ensures same { IfOk result (λ tokens. tokens.items ≡ map T.token all.items) }
+    ensures rules { IfOk result (λ tokens. (t : Tree Span) → Contains tokens.items t → KeepsRules t) }
 {
     let mut tokens = Vec::with_capacity(alloc, all.len())?;
     for checked in all {
@@ -134,10 +154,11 @@ where
 }
 
 /// Wraps the parts of a checked token.
-fn checked_each<'t, A: Drop>(
+fn checked_each<'t>(
     alloc: Global,
-    tokens: Vec<Token<'t, A>>,
-) -> Result<Vec<Checked<Token<'t, A>>>, AllocError>
+    tokens: Vec<Token<'t, ExpressionMetadata>>,
+) -> Result<Vec<Checked<Token<'t, ExpressionMetadata>>>, AllocError>
+    requires { (t : Tree Span) → Contains tokens.items t → KeepsRules t }
     ensures { IfOk result (λ all. all.items ≡ tokens.entry.items) }
 {
     let mut all = Vec::with_capacity(alloc, tokens.len())?;

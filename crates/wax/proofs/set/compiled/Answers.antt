@@ -7,4 +7,4 @@ invariant_of-result c =
     let program = c.in_ok-program.program in
     let compiled = c.in_ok-program.ensures in
     is_compiled_any token _ program _ _ c.concatenation-tokens.ensures compiled.means compiled.length.0 compiled.length.1
-    c.in_ok-prefilter.ensures c.in_ok-pieces.ensures c.requires
+    c.in_ok-prefilter.ensures c.in_ok-pieces.ensures c.requires.alternates c.requires.rules

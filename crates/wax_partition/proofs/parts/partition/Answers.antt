@@ -1,6 +1,7 @@
 use Rattle.std.proofs.Common.{IfOk, Result, Ok, Err, chars, string_bytes, subst}
 use Rattle.std.specs.Cow.{cow_str_bytes}
 use Rattle.wax_partition.specs.Partition.{IsPartition, spelled_rest}
+use Rattle.wax_partition.proofs.RestKeeps.{parts_keep}
 use Rattle.wax_partition.proofs.RestKnown.{parts_branch, parts_fits, parts_orderly, parts_rest, parts_split, parts_whole}
 use Rattle.wax_partition.proofs.parts.partition.Goals as goal
 
@@ -30,3 +31,6 @@ returns-clause-orderly c = if_ok c.parts.result (λ r k. parts_orderly (chars (c
 
 pub returns-clause-fits : goal.returns-clause-fits
 returns-clause-fits c = if_ok c.parts.result (λ r k. parts_fits (chars (cow_str_bytes c.args.tokenized.expression)) c.args.tokenized.token (chars (string_bytes r.0)) r.1 k) (returns-clause-parts c)
+
+pub returns-clause-rules : goal.returns-clause-rules
+returns-clause-rules c = if_ok c.parts.result (λ r k. parts_keep (chars (cow_str_bytes c.args.tokenized.expression)) c.args.tokenized.token (chars (string_bytes r.0)) r.1 k) (returns-clause-parts c)

@@ -2,7 +2,7 @@ use Rattle.std.proofs.Common.{◌≡◌, ◌≤◌, ◌*◌, ◌+◌, ◌++◌, 
 use Rattle.wax_token.specs.Syntax.{tree_size, trees_size}
 use Rattle.wax_token.specs.View.{branch_tree}
 use Rattle.wax_token.specs.Words.{trees}
-use Rattle.wax_partition.specs.Shifted.{shifted_tree}
+use Rattle.wax_rule.specs.Shifted.{shifted_tree}
 use Rattle.wax_partition.proofs.shift.+shifted.Given as goal
 
 abbrev pub decreases-shifted : goal.decreases-shifted

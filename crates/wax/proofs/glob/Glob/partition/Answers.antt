@@ -3,7 +3,7 @@ use Rattle.std.specs.Cow.{cow_str_bytes}
 use Rattle.wax_token.specs.Cost.{program_length}
 use Rattle.wax_partition.specs.Partition.{IsPartition, spelled_rest}
 use Rattle.wax.specs.Partition.{HasParts}
-use Rattle.wax.proofs.Parts.{has_parts, rest_fits, rest_kept}
+use Rattle.wax.proofs.Parts.{has_parts, rest_fits, rest_kept, rest_rules}
 use Rattle.wax.proofs.glob.Glob.partition.Goals as goal
 
 pub returns-in_default : goal.returns-in_default
@@ -25,13 +25,21 @@ returns-in-Ok c =
     (subst (HasParts _ p) (sym c.in-Ok.ensures.glob) (has_parts e whole.token p c.self.invariant.kept o k))
 
 -- the rest is kept, and costs no more than the whole
-pub compiled-requires : goal.compiled-requires
-compiled-requires c =
+pub compiled-requires-clause-kept : goal.compiled-requires-clause-kept
+compiled-requires-clause-kept c =
     let whole = c.self.inside.tokenized in
     let e = chars (cow_str_bytes whole.expression) in
     let p = chars (string_bytes c.in_ok-prefix.prefix) in
     let k : IsPartition e whole.token p (spelled_rest (Some c.in-Some.tokenized)) = search rules in
     rest_kept e whole.token p c.self.invariant.kept c.in-Some.tokenized k
+
+pub compiled-requires-clause-rules : goal.compiled-requires-clause-rules
+compiled-requires-clause-rules c =
+    let whole = c.self.inside.tokenized in
+    let e = chars (cow_str_bytes whole.expression) in
+    let p = chars (string_bytes c.in_ok-prefix.prefix) in
+    let k : IsPartition e whole.token p (spelled_rest (Some c.in-Some.tokenized)) = search rules in
+    rest_rules e whole.token p c.self.invariant.kept c.in-Some.tokenized k c.self.invariant.rules
 
 pub unreachable-requires : goal.unreachable-requires
 unreachable-requires c =

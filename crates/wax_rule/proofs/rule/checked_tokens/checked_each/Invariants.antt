@@ -4,7 +4,7 @@ use Rattle.wax_rule.proofs.rule.checked_tokens.checked_each.Given as goal
 
 -- the parts that were taken over, and those that are left
 abbrev pub invariant-loop-token : goal.invariant-loop-token
-invariant-loop-token g l = record {
+invariant-loop-token l = record {
   items : l.all.items ++ into_iter_items l.token-iterator ≡ l.fn.tokens.items;
   count : into_iter_len l.token-iterator ≡ length (into_iter_items l.token-iterator);
 }

@@ -1,5 +1,9 @@
 use Rattle.std.proofs.Common.{◌≡◌, ◌++◌, length, map}
+use Rattle.std.specs.List.{Contains}
 use Rattle.std.specs.Vec.Iter.{into_iter_items, into_iter_len}
+use Rattle.wax_rule.specs.Keeping.{KeepsRules}
+use Rattle.wax_token.specs.Reads.{Span}
+use Rattle.wax_token.specs.Syntax.{Tree}
 use Rattle.wax_rule.proofs.rule.checked_tokens.tokens_of.Given as goal
 
 -- the tokens that were taken, and those that are left
@@ -8,4 +12,5 @@ invariant-loop-checked g l = record {
   items : l.tokens.items ++ map g.T.TokenTree.token (into_iter_items l.checked-iterator)
       ≡ map g.T.TokenTree.token l.fn.all.items;
   count : into_iter_len l.checked-iterator ≡ length (into_iter_items l.checked-iterator);
+  rules : (t : Tree Span) → Contains l.tokens.items t → KeepsRules t;
 }
