@@ -3,7 +3,7 @@ use Rattle.std.proofs.Common.{◌≡◌, ◌≤◌, ◌<◌, ◌↔◌, ℕ, Boo
 use Rattle.std.proofs.lemmas.List.{length-replicate}
 use Rattle.wax_lazy.specs.declared.cache.Cache.{Cache}
 use Rattle.wax_lazy.specs.declared.table.State.{State}
-use Rattle.wax_lazy.specs.inner.Cached.{Grows, IsAdded, IsCacheOf, IsCleared, IsRestarted, IsSameMaker}
+use Rattle.wax_lazy.specs.inner.Cached.{GrowsByOne, IsAdded, IsCacheOf, IsCleared, IsRestarted, IsSameMaker}
 use Rattle.wax_lazy.specs.inner.Table.{BeginsTexts, IsSettled, IsState, IsStatePlace, IsTable, IsTransition, KeepsStates, places_at, places_in}
 use Rattle.wax_lazy.proofs.Tables.{begins_keeps, keeps_append, settled_keeps, slice_get_end, table_empty, table_filled, table_push, table_settled}
 use Rattle.wax_program.specs.declared.instruction.Instruction.{Instruction}
@@ -72,7 +72,7 @@ module _ (old new : Cache) (s : State) (number : ℕ) (a : IsAdded old new s num
   pub added_within : number < length new.table.states.items
   added_within = omega (arith, a.numbered, ap length a.states, length-append old.table.states.items (s ∷ []))
 
-  pub added_grows : Grows old new
+  pub added_grows : GrowsByOne old new
   added_grows = record {
     kept = added_keeps;
     few = omega (arith, ap length a.states, length-append old.table.states.items (s ∷ []));

@@ -3,8 +3,8 @@ ghost use Rattle.std.specs.Prelude.{◌≡◌, ◌*◌, ◌/◌, ◌<◌, ◌≤
 ghost use Rattle.std.specs.Prelude.{Some};
 ghost use Rattle.std.specs.Prelude.{length, slice_get};
 ghost use Rattle.wax_lazy.specs.declared.table.State.{State};
-ghost use Rattle.wax_lazy.specs.inner.Cached.{Grows, IsAdded, IsCacheOf, IsCleared, IsInterned};
-ghost use Rattle.wax_lazy.specs.inner.Cached.{IsNext, IsRestarted};
+ghost use Rattle.wax_lazy.specs.inner.Cached.{GrowsByOne, IsAdded, IsCacheOf, IsCleared, IsInterned};
+ghost use Rattle.wax_lazy.specs.inner.Cached.{AreNext, IsRestarted};
 ghost use Rattle.wax_lazy.specs.inner.Table.{BeginsTexts, IsStatePlace, KeepsStates, Leads, LeadsNext};
 ghost use Rattle.wax_lazy.specs.inner.Table.{places_at};
 ghost use Rattle.wax_program.specs.declared.instruction.Instruction.{Instruction};
@@ -252,7 +252,7 @@ impl Cache {
         ensures start { self.new.start ≡ self.old.start }
         ensures leads { let places = places_at self.old.table.states.items (at / 128) in
             IfOk result (Leads program.now.0 self.new.table.states.items places c) }
-        ensures grows { IfOk result (λ _. Grows self.old self.new) }
+        ensures grows { IfOk result (λ _. GrowsByOne self.old self.new) }
     {
         let cell = self.table.cells[at + c as usize];
         if cell >= FIRST {
@@ -279,7 +279,7 @@ impl Cache {
         ensures start { self.new.start ≡ self.old.start }
         ensures leads { let places = places_at self.old.table.states.items (at / 128) in
             IfOk result (Leads program.now.0 self.new.table.states.items places c) }
-        ensures grows { IfOk result (λ _. Grows self.old self.new) }
+        ensures grows { IfOk result (λ _. GrowsByOne self.old self.new) }
     {
         let places = self.table.places(at);
         self.stepper
@@ -310,14 +310,14 @@ impl Cache {
         requires few { length self.old.table.states.items < 65533 }
         requires room { length self.old.table.cells.items ≡ 128 * length self.old.table.states.items }
         requires placed { IsStatePlace self.old.table.states.items at }
-        ensures cache { (code : List Instruction) → IsCacheOf code self.old → IsNext code self.old at c
+        ensures cache { (code : List Instruction) → IsCacheOf code self.old → AreNext code self.old at c
             → (IsTrue takes_all → (s : List ℕ) → AnyAmong code self.old.reached.items s)
             → IsCacheOf code self.new }
         ensures start { self.new.start ≡ self.old.start }
         ensures leads { let places = places_at self.old.table.states.items (at / 128) in
-            (code : List Instruction) → IsNext code self.old at c
+            (code : List Instruction) → AreNext code self.old at c
             → IfOk result (Leads code self.new.table.states.items places c) }
-        ensures grows { IfOk result (λ _. Grows self.old self.new) }
+        ensures grows { IfOk result (λ _. GrowsByOne self.old self.new) }
     {
         if self.reached.is_empty() {
             self.table.write(at, c, DEAD);

@@ -1,6 +1,6 @@
 //! The lengths of the parts of a text that a form takes from a place on.
-ghost use Rattle.std.specs.Prelude.{◌≡◌, ◌⊎◌, ◌||◌, ◌+◌, ◌*◌, ◌<◌, ◌≤◌, ◌↔◌, ◌∷◌, [], ℕ, IfOk, IsFalse, IsTrue};
-ghost use Rattle.std.specs.Prelude.{length, take, drop};
+ghost use Rattle.std.specs.Prelude.{◌≡◌, ◌⊎◌, ◌||◌, ◌+◌, ◌*◌, ◌<◌, ◌≤◌, ◌↔◌, ◌∷◌, [], ℕ};
+ghost use Rattle.std.specs.Prelude.{IfOk, IsFalse, IsTrue, length, take, drop};
 ghost use Rattle.wax_program.specs.Machine.{Accepts, PassesTest};
 ghost use Rattle.wax_query.specs.Components.{BeginsWithSlash};
 ghost use Rattle.wax_token.specs.Meaning.{HasNoSlash, TreeMeans};

@@ -1,6 +1,6 @@
 -- What is kept between texts.
-use Rattle.std.specs.Prelude.{◌≡◌, ℕ, ◌+◌, ◌*◌, ◌/◌, ◌<◌, ◌≤◌, List, [], ◌∷◌, ◌++◌, Bool, None, IfSome, IsFalse}
-use Rattle.std.specs.Prelude.{IsTrue, length, replicate}
+use Rattle.std.specs.Prelude.{◌≡◌, ℕ, ◌+◌, ◌*◌, ◌/◌, ◌<◌, ◌≤◌, List, [], ◌∷◌, ◌++◌, Bool, None}
+use Rattle.std.specs.Prelude.{IfSome, IsFalse, IsTrue, length, replicate}
 use Rattle.wax_lazy.specs.declared.cache.Cache.{Cache}
 use Rattle.wax_lazy.specs.declared.known.Known.{Known}
 use Rattle.wax_lazy.specs.declared.table.State.{State}
@@ -44,21 +44,21 @@ pub record IsAdded (old new : Cache) (s : State) (number : ℕ) : Type 0 where
   pub first : new.first ≡ old.first
 
 -- all states are kept, and there is at most one more
-pub record Grows (old new : Cache) : Type 0 where
+pub record GrowsByOne (old new : Cache) : Type 0 where
   pub kept : KeepsStates old.table.states.items new.table.states.items
   pub few : length new.table.states.items ≤ length old.table.states.items + 1
   pub others : new.others ≡ old.others
 
 -- the places that were reached are those of the state with this number
 pub record IsInterned (old new : Cache) (t : ℕ) : Type 0 where
-  pub grows : Grows old new
+  pub grows : GrowsByOne old new
   pub known : t < length new.table.states.items
   pub places : places_at new.table.states.items t ≡ old.reached.items
   pub room : length new.table.cells.items ≡ 128 * length new.table.states.items
 
 -- the places that were reached follow by the character from those of the state whose cells begin at `at`
-abbrev pub IsNext : List Instruction → Cache → ℕ → ℕ → Type 0
-IsNext code c at d = LeadOn code d (places_at c.table.states.items (at / 128)) c.reached.items
+abbrev pub AreNext : List Instruction → Cache → ℕ → ℕ → Type 0
+AreNext code c at d = LeadOn code d (places_at c.table.states.items (at / 128)) c.reached.items
 
 -- the cache of a program of these instructions, for texts of which the last component alone is read where the
 -- flag says so
