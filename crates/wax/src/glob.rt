@@ -241,6 +241,14 @@ impl Glob<'_> {
         self.prefilter.may_match_at_once(text) && self.prefilter.may_match(encode::last_name(text))
     }
 
+    /// Returns whether the glob may match the text, by tests that take less time than a matcher. If
+    /// it returns false, the glob doesn't.
+    fn may_match_at_once(&self, text: &str) -> bool
+        ensures { IsMeant self.now (chars text.now) → IsTrue result }
+    {
+        self.prefilter.may_match_at_once(text)
+    }
+
     /// Returns how many bytes at the beginning of a text can be passed over in a search for lines
     /// that the glob matches: none of them ends before so many bytes.
     fn earliest_end(&self, text: &str) -> usize

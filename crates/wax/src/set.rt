@@ -110,6 +110,14 @@ impl Any<'_> {
         self.prefilter.may_match(text)
     }
 
+    /// Returns whether a pattern may match the text, by tests that take less time than a matcher. If
+    /// it returns false, none does.
+    fn may_match_at_once(&self, text: &str) -> bool
+        ensures { MeansText self.now (chars text.now) → IsTrue result }
+    {
+        self.prefilter.may_match_at_once(text)
+    }
+
     /// Returns how many bytes at the beginning of a text can be passed over in a search for lines
     /// that a pattern matches: none of them ends before so many bytes.
     fn earliest_end(&self, text: &str) -> usize

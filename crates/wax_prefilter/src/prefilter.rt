@@ -19,6 +19,9 @@ use wax_token::token::{ExpressionMetadata, Token};
 /// The greatest number of pairs that are searched for.
 const MOST_PAIRS: usize = 8;
 
+/// The greatest number of texts that are searched for in less time than a matcher takes.
+const FEW_NEEDLES: usize = 4;
+
 /// A fact about matching texts: each has one of the needles at the place. Contracts see both as a
 /// pair.
 #[derive(Drop)]
@@ -48,8 +51,12 @@ impl Fact {
         Ok(())
     }
 
-    /// Returns whether the fact needs a search of the whole text in any case, the slowest of all.
-    fn is_sought_in_any_case(&self) -> bool {
+    /// Returns whether the fact takes long to test: it needs a search for more than a few texts, or
+    /// one of the whole text in any case.
+    fn takes_long(&self) -> bool {
+        if self.needles.len() > FEW_NEEDLES {
+            return true;
+        }
         match (self.place, self.needles.first()) {
             (Place::Anywhere, Some(needle)) => needle.is_case_insensitive(),
             _ => false,
@@ -76,10 +83,10 @@ impl Fact {
         Ok(Some(pairs))
     }
 
-    fn may_hold(&self, text: &str, seeks_in_any_case: bool) -> bool
+    fn may_hold(&self, text: &str, at_once: bool) -> bool
         ensures { HoldsOne self.now.0 self.now.1 (chars text.now) → IsTrue result }
     {
-        if !seeks_in_any_case && self.is_sought_in_any_case() {
+        if at_once && self.takes_long() {
             return true;
         }
         for needle in &self.needles {
@@ -160,15 +167,15 @@ impl Prefilter {
     pub fn may_match(&self, text: &str) -> bool
         ensures { PassesFacts self.now (chars text.now) → IsTrue result }
     {
-        self.passes(text, true)
+        self.passes(text, false)
     }
 
-    /// Tests the text as `may_match` does, but skips facts that need a search in any case. This is
-    /// better if a match takes less time than such a search.
+    /// Tests the text as `may_match` does, but skips facts that need a search for more than four
+    /// texts, or one in any case. This is better if a match takes less time than such a search.
     pub fn may_match_at_once(&self, text: &str) -> bool
         ensures { PassesFacts self.now (chars text.now) → IsTrue result }
     {
-        self.passes(text, false)
+        self.passes(text, true)
     }
 
     /// Returns how many bytes at the beginning of a text can be passed over in a search for lines
@@ -184,14 +191,14 @@ impl Prefilter {
         }
     }
 
-    fn passes(&self, text: &str, seeks_in_any_case: bool) -> bool
+    fn passes(&self, text: &str, at_once: bool) -> bool
         ensures { PassesFacts self.now (chars text.now) → IsTrue result }
     {
         if text.len() < self.least {
             return false;
         }
         for fact in &self.facts {
-            if !fact.may_hold(text, seeks_in_any_case) {
+            if !fact.may_hold(text, at_once) {
                 return false;
             }
         }

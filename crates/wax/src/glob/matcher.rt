@@ -91,7 +91,7 @@ impl GlobMatcher<'_, '_> {
         }
         let text = path.as_str();
         let glob = self.glob;
-        if !glob.may_match(text) {
+        if !glob.may_match_at_once(text) {
             return Ok(false);
         }
         self.follow(text)

@@ -68,7 +68,7 @@ impl AnyMatcher<'_, '_> {
     {
         let text = path.as_str();
         let any = self.any;
-        if !any.may_match(text) {
+        if !any.may_match_at_once(text) {
             return Ok(false);
         }
         self.matcher.is_match(text)

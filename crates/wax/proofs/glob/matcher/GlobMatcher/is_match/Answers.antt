@@ -14,19 +14,19 @@ pub returns-then-self-clause-decides : goal.returns-then-self-clause-decides
 returns-then-self-clause-decides c =
     same_truth true _ (returns-then-self-clause-means c) (means_tested c.args.self.now.tree false false c.args.path.now)
 
-pub returns-then-not-may_match-clause-means : goal.returns-then-not-may_match-clause-means
-returns-then-not-may_match-clause-means c = (
+pub returns-then-not-may_match_at_once-clause-means : goal.returns-then-not-may_match_at_once-clause-means
+returns-then-not-may_match_at_once-clause-means c = (
   λ no. absurd (search rules),
   λ meant.
       let here : IsMeant c.self.inside.glob.now (chars c.as_str-text.result.now) =
       subst (λ g. IsMeant g (chars c.as_str-text.result.now)) (sym c.self.view_is) (subst (IsMeant c.args.self.now) (sym c.as_str-text.ensures) meant) in
-      let passes : IsTrue c.may_match.result = c.may_match.ensures here in
+      let passes : IsTrue c.may_match_at_once.result = c.may_match_at_once.ensures here in
       absurd (search (rules, passes)),
 )
 
-pub returns-then-not-may_match-clause-decides : goal.returns-then-not-may_match-clause-decides
-returns-then-not-may_match-clause-decides c =
-    same_truth false _ (returns-then-not-may_match-clause-means c) (means_tested c.args.self.now.tree false false c.args.path.now)
+pub returns-then-not-may_match_at_once-clause-decides : goal.returns-then-not-may_match_at_once-clause-decides
+returns-then-not-may_match_at_once-clause-decides c =
+    same_truth false _ (returns-then-not-may_match_at_once-clause-means c) (means_tested c.args.self.now.tree false false c.args.path.now)
 
 pub returns-clause-means : goal.returns-clause-means
 returns-clause-means c =

@@ -6,19 +6,19 @@ use Rattle.wax.specs.Matching.{AcceptsText}
 use Rattle.wax.proofs.Matchers.{decided_alike, same_truth}
 use Rattle.wax.proofs.set.matcher.AnyMatcher.is_match.Goals as goal
 
-pub returns-then-not-may_match-clause-means : goal.returns-then-not-may_match-clause-means
-returns-then-not-may_match-clause-means c = (
+pub returns-then-not-may_match_at_once-clause-means : goal.returns-then-not-may_match_at_once-clause-means
+returns-then-not-may_match_at_once-clause-means c = (
   λ no. absurd (search rules),
   λ meant.
       let here : MeansText c.self.inside.any.now (chars c.as_str-text.result.now) =
       subst (λ t. MeansText t (chars c.as_str-text.result.now)) (sym c.self.view_is) (subst (MeansText c.args.self.now) (sym c.as_str-text.ensures) meant) in
-      let passes : IsTrue c.may_match.result = c.may_match.ensures here in
+      let passes : IsTrue c.may_match_at_once.result = c.may_match_at_once.ensures here in
       absurd (search (rules, passes)),
 )
 
-pub returns-then-not-may_match-clause-decides : goal.returns-then-not-may_match-clause-decides
-returns-then-not-may_match-clause-decides c =
-    same_truth false _ (returns-then-not-may_match-clause-means c) (means_tested c.args.self.now false false c.args.path.now)
+pub returns-then-not-may_match_at_once-clause-decides : goal.returns-then-not-may_match_at_once-clause-decides
+returns-then-not-may_match_at_once-clause-decides c =
+    same_truth false _ (returns-then-not-may_match_at_once-clause-means c) (means_tested c.args.self.now false false c.args.path.now)
 
 pub invariant_of-self : goal.invariant_of-self
 invariant_of-self c = subst (λ code. AcceptsText code c.self.inside.any.now) (sym c.is_match.ensures.same) c.self.invariant
