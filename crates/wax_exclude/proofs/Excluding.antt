@@ -22,7 +22,7 @@ use Rattle.wax_exclude.specs.Excluded.{excluded_mark, some_test}
 
 -- ---- truth values
 
-same_truth : (a b : Bool) → (IsTrue a ↔ IsTrue b) → a ≡ b
+pub same_truth : (a b : Bool) → (IsTrue a ↔ IsTrue b) → a ≡ b
 same_truth true true h = refl
 same_truth false false h = refl
 same_truth true false h = absurd (false≢true (h.0 refl))

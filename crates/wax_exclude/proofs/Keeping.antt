@@ -7,7 +7,7 @@ use Rattle.wax_tree.specs.Plain.{count_shown}
 use Rattle.wax_walk.specs.Collected.{GaveAll, whole, lacks_memory, over_budget}
 use Rattle.wax_walk.specs.declared.error.FaultKind.TheVariants.{Budget}
 use Rattle.wax_walk.specs.Forest.{Pending, nothing, pending}
-use Rattle.wax_walk.specs.Given.{kept, Given, fault, no_memory, is_kept}
+use Rattle.wax_walk.specs.Given.{Given, fault, no_memory, is_kept}
 use Rattle.wax_walk.specs.Ruled.{ruled_view}
 use Rattle.wax_walk.specs.View.{WalkView, IsSeenAs}
 use Rattle.wax_exclude.proofs.KeptItems.{cut_kept, kept_entries}

@@ -1,27 +1,30 @@
 -- Lines that are passed over at once.
-use Rattle.std.proofs.Common.{◌≡◌, ◌↔◌, ℕ, ◌+◌, ◌-◌, ◌≤◌, ◌<◌, Bool, true, false, ◌||◌, not, cond, List, [], ◌∷◌, ◌++◌, inl, inr, refl, sym, ap, subst, ◌∙◌, length, take, drop, get_or, chars, arith}
-use Rattle.std.specs.Prelude.{IsTrue}
+use Rattle.std.proofs.Common.{◌≡◌, ◌∙◌, ◌↔◌, ◌⊎◌, ℕ, ◌+◌, ◌-◌, ◌≤◌, ◌<◌, Bool, true, false, ◌&&◌, ◌||◌, not, cond, List, [], ◌∷◌, ◌++◌, inl, inr, refl, sym, ap, subst, length, take, drop, get_or, chars, arith}
+use Rattle.std.specs.Prelude.{IsTrue, nat_lt}
 use Rattle.std.proofs.lemmas.List.{drop-drop, drop_all, drop_more, take-append-drop}
-use Rattle.std.proofs.lemmas.Bool.{false≢true}
+use Rattle.std.proofs.lemmas.List.Folds.{list_any-append}
+use Rattle.std.proofs.lemmas.Bool.{and_from, and_parts, and_right, false≢true, or_cases, or_left, or_right}
 use Rattle.wax_program.specs.Machine.{Accepts}
-use Rattle.wax_token.specs.Decided.{holds_truly, some_decided}
-use Rattle.wax_token.specs.Meaning.{MeansEach, MeansSome}
+use Rattle.wax_token.specs.Decided.{holds_truly, means_test, some_decided}
+use Rattle.wax_token.specs.Meaning.{Means, MeansEach, MeansSome}
 use Rattle.wax_token.specs.Reads.{Span}
 use Rattle.wax_token.specs.Syntax.{Tree, Trees, alternation}
 use Rattle.wax_token.specs.Words.{members, trees}
-use Rattle.wax_walk.specs.Given.{Facts, Mark, kept, alone, with_tree}
+use Rattle.wax_walk.specs.Given.{Facts, Mark, kept, alone, with_tree, combined_mark}
 use Rattle.wax_exclude.proofs.Descending.{covers_some_meant}
-use Rattle.wax_exclude.proofs.Excluding.{not_truly}
+use Rattle.wax_exclude.proofs.Excluding.{not_truly, same_truth}
+use Rattle.wax_exclude.proofs.Joining.{some_append}
 use Rattle.wax_exclude.proofs.ListingLines.{after_line, at_end, mark_from}
-use Rattle.wax_exclude.proofs.Tests.{covers_tested}
-use Rattle.wax_exclude.specs.Candidates.{candidate_of}
-use Rattle.wax_exclude.specs.Compiled.{Instructions}
-use Rattle.wax_exclude.specs.Covers.{covers_test}
+use Rattle.wax_exclude.proofs.Tests.{covers_tested, wild_tested}
+use Rattle.wax_exclude.specs.Candidates.{Candidate, candidate_of}
+use Rattle.wax_exclude.specs.Compiled.{Instructions, wild}
+use Rattle.wax_exclude.specs.Covers.{WildMeans, covers_test, ends_wild, is_everything, some_everything, wild_test}
 use Rattle.wax_exclude.specs.Excluded.{excluded_mark, some_test}
 use Rattle.wax_exclude.specs.Marks.{covered_mark}
 use Rattle.wax_exclude.specs.declared.blocks.Block.{Block}
 use Rattle.wax_exclude.specs.declared.rules.IgnoreLine.{IgnoreLine}
-use Rattle.wax_exclude.specs.inner.Blocks.{AcceptsLines, IsBlockOf, SomeMeans, alternatives_in, lines_between, mark_passed, marks_after, some_reincludes}
+use Rattle.wax_exclude.specs.inner.Blocks.{AcceptsSome, IsBlockOf, KnowsLines, SomeMeans, alternatives_in, lines_between, mark_passed, marks_after, some_ignores, some_reincludes}
+use Rattle.wax_exclude.specs.inner.Joined.{SameTexts}
 use Rattle.wax_exclude.specs.inner.Listed.{ignored_by, listed_mark, mark_after}
 
 -- ---- line after line
@@ -111,31 +114,235 @@ none_said (line ∷ lines) before f none =
     ∙ ap (λ m. mark_passed (some_reincludes lines) (mark_after line.ignores before m)) (sym (says_nothing line f (λ m. none (inl m))))
     ∙ none_said lines (mark_after line.ignores before (excluded_mark line.exclusion f)) f (λ m. none (inr m))
 
--- the mark after all lines, if no line of a block matches the entry and the block is passed over
-pub said_past : (lines : List IgnoreLine) (block : Block) (before after : Mark) (f : Facts) (text : List ℕ) → IsBlockOf lines block → text ≡ chars f.candidate
-    → (Accepts block.matcher 0 text → ⊥) → after ≡ mark_passed block.reincludes before → marks_after after (drop block.end lines) f ≡ marks_after before (drop block.start lines) f
-said_past lines block before after f text b same none e =
-    said_on lines block.start block.end before after f b.forward
-    (e ∙ ap (λ t. mark_passed t before) b.reincludes
-    ∙ none_said (lines_between block.start block.end lines) before f (λ m. none (b.accepts text (subst (SomeMeans (lines_between block.start block.end lines)) (sym same) m))))
-
--- ---- programs of lines
-
-some_left : {A : Type 0} (xs ys : List (Tree A)) (s : List ℕ) → MeansSome (trees xs) false false s → MeansSome (trees (xs ++ ys)) false false s
-some_left [] ys s h = absurd h
-some_left (x ∷ xs) ys s (inl h) = inl h
-some_left (x ∷ xs) ys s (inr h) = inr (some_left xs ys s h)
-
-some_right : {A : Type 0} (xs ys : List (Tree A)) (s : List ℕ) → MeansSome (trees ys) false false s → MeansSome (trees (xs ++ ys)) false false s
-some_right [] ys s h = h
-some_right (x ∷ xs) ys s h = inr (some_right xs ys s h)
-
 pub some_among : (lines : List IgnoreLine) (s : List ℕ) → SomeMeans lines s → MeansSome (trees (alternatives_in lines)) false false s
 some_among [] s h = h
-some_among (line ∷ lines) s (inl h) = some_left line.exclusion (alternatives_in lines) s h
-some_among (line ∷ lines) s (inr h) = some_right line.exclusion (alternatives_in lines) s (some_among lines s h)
+some_among (line ∷ lines) s (inl h) = (some_append line.exclusion (alternatives_in lines) false false s).1 (inl h)
+some_among (line ∷ lines) s (inr h) = (some_append line.exclusion (alternatives_in lines) false false s).1 (inr (some_among lines s h))
 
-pub accepts_lines : (lines : List IgnoreLine) (program : Instructions) (t : Tree Span) (ts : Trees Span) → ts ≡ members t → t ≡ alternation (0, 0) (trees (alternatives_in lines))
-    → ((s : List ℕ) → Accepts program.0 0 s ↔ MeansEach ts false false s) → AcceptsLines program.0 lines
-accepts_lines lines program t ts e same means s m =
-    (means s).1 (subst (λ z. MeansEach z false false s) (sym (e ∙ ap members same)) (some_among lines s m))
+pub some_line : (lines : List IgnoreLine) (s : List ℕ) → MeansSome (trees (alternatives_in lines)) false false s → SomeMeans lines s
+some_line [] s h = h
+some_line (line ∷ lines) s h = elim ((some_append line.exclusion (alternatives_in lines) false false s).0 h) [
+  | inl m ↦ inl m
+  | inr m ↦ inr (some_line lines s m)
+]
+
+-- the mark after all lines, if no line of a block matches the entry and the block is passed over
+pub said_past : (lines : List IgnoreLine) (block : Block) (before after : Mark) (f : Facts) (text : List ℕ) → IsBlockOf lines block → text ≡ chars f.candidate
+    → (Accepts block.whole 0 text → ⊥) → after ≡ mark_passed block.reincludes before → marks_after after (drop block.end lines) f ≡ marks_after before (drop block.start lines) f
+said_past lines block before after f text b same none e =
+    let held = lines_between block.start block.end lines in
+    said_on lines block.start block.end before after f b.forward
+    (e ∙ ap (λ t. mark_passed t before) b.knows.reincludes
+    ∙ none_said held before f (λ m. none ((b.knows.whole text).1 (some_among held text (subst (SomeMeans held) (sym same) m)))))
+
+-- ---- all lines at once, by all of their alternatives
+
+or_three : (a b c : Bool) → ((a || b) || c) ≡ (a || (b || c))
+or_three true b c = refl
+or_three false b c = refl
+
+wild_meant : (ts : List (Tree Span)) (s : List ℕ) → MeansSome (trees (wild ts)) false false s ↔ WildMeans ts s
+wild_meant [] s = ((λ h. h), (λ h. h))
+wild_meant (t ∷ ts) s =
+    let rest = wild_meant ts s in
+    elim (ends_wild (members t)) as (λ b. MeansSome (trees (cond b (t ∷ wild ts) (wild ts))) false false s
+    ↔ (((b ≡ true) × Means t false false s) ⊎ WildMeans ts s)) [
+      | true ↦ (
+          (λ h. elim h [ | inl m ↦ inl (refl, m) | inr m ↦ inr (rest.0 m) ]),
+          (λ h. elim h [ | inl k ↦ inl k.1 | inr k ↦ inr (rest.1 k) ]),
+        )
+      | false ↦ (
+          (λ h. inr (rest.0 h)),
+          (λ h. elim h [ | inl k ↦ absurd (false≢true k.0) | inr k ↦ rest.1 k ]),
+        )
+    ]
+
+wild_append : {A : Type 0} (xs ys : List (Tree A)) (s : List ℕ) → wild_test (xs ++ ys) s ≡ (wild_test xs s || wild_test ys s)
+wild_append [] ys s = refl
+wild_append (x ∷ xs) ys s =
+    let one = ends_wild (members x) && means_test x false false s in
+    ap (λ b. one || b) (wild_append xs ys s) ∙ sym (or_three one (wild_test xs s) (wild_test ys s))
+
+covered_either : (deep e1 e2 w1 w2 : Bool) → ((e1 || e2) || (deep && (w1 || w2))) ≡ ((e1 || (deep && w1)) || (e2 || (deep && w2)))
+covered_either deep true e2 w1 w2 = refl
+covered_either true false true true w2 = refl
+covered_either true false true false w2 = refl
+covered_either true false false w1 w2 = refl
+covered_either false false e2 w1 w2 = refl
+
+covers_append : {A : Type 0} (xs ys : List (Tree A)) (c : Candidate) → covers_test (xs ++ ys) c ≡ (covers_test xs c || covers_test ys c)
+covers_append xs ys c =
+    let deep = nat_lt 0 c.depth in
+    (λ i. list_any-append (λ t. is_everything (members t)) xs ys i || (deep && wild_append xs ys c.text i))
+    ∙ covered_either deep (some_everything xs) (some_everything ys) (wild_test xs c.text) (wild_test ys c.text)
+
+some_test_append : (xs ys : List (Tree Span)) (s : List ℕ) → some_test (xs ++ ys) s ≡ (some_test xs s || some_test ys s)
+some_test_append xs ys s =
+    let all = holds_truly (some_decided (trees (xs ++ ys)) false false s) in
+    let left = holds_truly (some_decided (trees xs) false false s) in
+    let right = holds_truly (some_decided (trees ys) false false s) in
+    let split = some_append xs ys false false s in
+    same_truth (some_test (xs ++ ys) s) (some_test xs s || some_test ys s) (
+      (λ e. elim (split.0 (all.0 e)) [
+        | inl m ↦ or_left (some_test xs s) (some_test ys s) (left.1 m)
+        | inr m ↦ or_right (some_test xs s) (some_test ys s) (right.1 m)
+      ]),
+      (λ e. elim (or_cases (some_test xs s) (some_test ys s) e) [
+        | inl k ↦ all.1 (split.1 (inl (left.0 k)))
+        | inr k ↦ all.1 (split.1 (inr (right.0 k)))
+      ]),
+    )
+
+mark_either : (c1 c2 m1 m2 : Bool) → covered_mark (c1 || c2) (m1 || m2) ≡ combined_mark (covered_mark c1 m1) (covered_mark c2 m2)
+mark_either true c2 m1 m2 = refl
+mark_either false true true m2 = refl
+mark_either false true false m2 = refl
+mark_either false false true true = refl
+mark_either false false true false = refl
+mark_either false false false m2 = refl
+
+excluded_append : (xs ys : List (Tree Span)) (f : Facts) → excluded_mark (xs ++ ys) f ≡ combined_mark (excluded_mark xs f) (excluded_mark ys f)
+excluded_append xs ys f =
+    let c = candidate_of f in
+    (λ i. covered_mark (covers_append xs ys c i) (some_test_append xs ys c.text i))
+    ∙ mark_either (covers_test xs c) (covers_test ys c) (some_test xs c.text) (some_test ys c.text)
+
+combined_assoc : (a b c : Mark) → combined_mark (combined_mark a b) c ≡ combined_mark a (combined_mark b c)
+combined_assoc with_tree b c = refl
+combined_assoc kept b c = refl
+combined_assoc alone with_tree c = refl
+combined_assoc alone kept c = refl
+combined_assoc alone alone kept = refl
+combined_assoc alone alone alone = refl
+combined_assoc alone alone with_tree = refl
+
+combined_kept : (a : Mark) → combined_mark a kept ≡ a
+combined_kept kept = refl
+combined_kept alone = refl
+combined_kept with_tree = refl
+
+nothing_excluded : (f : Facts) → excluded_mark (alternatives_in []) f ≡ kept
+nothing_excluded f =
+    let unmeant : some_test (alternatives_in []) (chars f.candidate) ≡ false =
+    not_truly (some_test (alternatives_in []) (chars f.candidate))
+    (λ e. (holds_truly (some_decided (trees (alternatives_in [])) false false (chars f.candidate))).0 e) in
+    λ i. covered_mark (and_right (nat_lt 0 f.depth) false refl i) (unmeant i)
+
+neither : (a b : Bool) → (a || b) ≡ false → (a ≡ false) × (b ≡ false)
+neither true b h = absurd (false≢true (sym h))
+neither false b h = (refl, h)
+
+is_ignoring : (ignores rest : Bool) → (not ignores || rest) ≡ false → (ignores ≡ true) × (rest ≡ false)
+is_ignoring true rest h = (refl, h)
+is_ignoring false rest h = absurd (false≢true (sym h))
+
+-- lines that ignore exclude what one pattern of all of their alternatives does
+pub all_ignoring : (lines : List IgnoreLine) (before : Mark) (f : Facts) → some_reincludes lines ≡ false
+    → mark_after true before (excluded_mark (alternatives_in lines) f) ≡ marks_after before lines f
+all_ignoring [] before f h = ap (combined_mark before) (nothing_excluded f) ∙ combined_kept before
+all_ignoring (line ∷ lines) before f h =
+    let one = excluded_mark line.exclusion f in
+    let rest = excluded_mark (alternatives_in lines) f in
+    let is = is_ignoring line.ignores (some_reincludes lines) h in
+    ap (combined_mark before) (excluded_append line.exclusion (alternatives_in lines) f)
+    ∙ sym (combined_assoc before one rest)
+    ∙ all_ignoring lines (combined_mark before one) f is.1
+    ∙ ap (λ b. marks_after (mark_after b before one) lines f) (sym is.0)
+
+-- a line re-includes what it matches
+taken_back : (ts : List (Tree Span)) (before : Mark) (f : Facts) → some_test ts (chars f.candidate) ≡ true → mark_after false before (excluded_mark ts f) ≡ kept
+taken_back ts before f e = ap (λ b. mark_after false before (covered_mark (covers_test ts (candidate_of f)) b)) e ∙ go before (covers_test ts (candidate_of f)) where
+  go : (m : Mark) (covers : Bool) → mark_after false m (covered_mark covers true) ≡ kept
+  go kept covers = refl
+  go alone true = refl
+  go alone false = refl
+  go with_tree true = refl
+  go with_tree false = refl
+
+kept_stays : (lines : List IgnoreLine) (f : Facts) → some_ignores lines ≡ false → marks_after kept lines f ≡ kept
+kept_stays [] f h = refl
+kept_stays (line ∷ lines) f h =
+    let is = neither line.ignores (some_ignores lines) h in
+    ap (λ b. marks_after (mark_after b kept (excluded_mark line.exclusion f)) lines f) is.0 ∙ kept_stays lines f is.1
+
+-- lines that re-include keep what one of them matches
+pub all_reincluding : (lines : List IgnoreLine) (before : Mark) (f : Facts) → some_ignores lines ≡ false → SomeMeans lines (chars f.candidate)
+    → marks_after before lines f ≡ kept
+all_reincluding [] before f h m = absurd m
+all_reincluding (line ∷ lines) before f h m =
+    let is = neither line.ignores (some_ignores lines) h in
+    let one = excluded_mark line.exclusion f in
+    ap (λ b. marks_after (mark_after b before one) lines f) is.0 ∙ elim m [
+      | inl k ↦ (
+          let e = (holds_truly (some_decided (trees line.exclusion) false false (chars f.candidate))).1 k in
+          ap (λ n. marks_after n lines f) (taken_back line.exclusion before f e) ∙ kept_stays lines f is.1)
+      | inr k ↦ all_reincluding lines (mark_after false before one) f is.1 k
+    ]
+
+-- the mark after all lines, if the lines of a block all ignore or all re-include, and one of them matches the entry
+pub said_at_once : (lines : List IgnoreLine) (block : Block) (before after said : Mark) (f : Facts) → IsBlockOf lines block
+    → (let held = lines_between block.start block.end lines in
+      SomeMeans held (chars f.candidate) × (said ≡ excluded_mark (alternatives_in held) f))
+    → (block.ignores && block.reincludes) ≡ false → after ≡ mark_after block.ignores before said
+    → marks_after after (drop block.end lines) f ≡ marks_after before (drop block.start lines) f
+said_at_once lines block before after said f b h alike e =
+    let held = lines_between block.start block.end lines in
+    let all : some_test (alternatives_in held) (chars f.candidate) ≡ true =
+    (holds_truly (some_decided (trees (alternatives_in held)) false false (chars f.candidate))).1 (some_among held (chars f.candidate) h.0) in
+    let by : (ignores : Bool) → some_ignores held ≡ ignores → (ignores && some_reincludes held) ≡ false
+    → mark_after ignores before (excluded_mark (alternatives_in held) f) ≡ marks_after before held f =
+    (λ ignores. elim ignores as (λ v. some_ignores held ≡ v → (v && some_reincludes held) ≡ false
+    → mark_after v before (excluded_mark (alternatives_in held) f) ≡ marks_after before held f) [
+      | true ↦ λ i n. all_ignoring held before f n
+      | false ↦ λ i n. taken_back (alternatives_in held) before f all ∙ sym (all_reincluding held before f i h.0)
+    ]) in
+    said_on lines block.start block.end before after f b.forward
+    (e ∙ ap (mark_after block.ignores before) h.1
+    ∙ by block.ignores (sym b.knows.ignores) (ap (λ v. block.ignores && v) (sym b.knows.reincludes) ∙ alike))
+
+-- what a block excludes of an entry that one of its lines matches
+module _ (block : Block) (lines : List IgnoreLine) (k : KnowsLines block lines) (f : Facts) (m : SomeMeans lines (chars f.candidate)) where
+  abbrev ts : List (Tree Span)
+  ts = alternatives_in lines
+
+  meant : some_test ts (chars f.candidate) ≡ true
+  meant = (holds_truly (some_decided (trees ts) false false (chars f.candidate))).1 (some_among lines (chars f.candidate) m)
+
+  abbrev covered : Bool
+  covered = covers_test ts (candidate_of f)
+
+  with_all : covered ≡ true → with_tree ≡ excluded_mark ts f
+  with_all e = sym (ap (λ b. covered_mark b (some_test ts (chars f.candidate))) e)
+
+  pub excludes_all : block.covers_all ≡ true → with_tree ≡ excluded_mark ts f
+  excludes_all e = with_all (or_left (some_everything ts) (nat_lt 0 f.depth && wild_test ts (chars f.candidate)) (sym k.covers_all ∙ e))
+
+  wild_accepted : Accepts block.covering 0 (chars f.candidate) ↔ IsTrue (wild_test ts (chars f.candidate))
+  wild_accepted =
+      let w = wild_tested ts (chars f.candidate) in
+      let a = k.covering (chars f.candidate) in
+      let e = wild_meant ts (chars f.candidate) in
+      ((λ h. w.1 (e.0 (a.0 h))), (λ h. a.1 (e.1 (w.0 h))))
+
+  pub excludes_tree : nat_lt 0 f.depth ≡ true → Accepts block.covering 0 (chars f.candidate) → with_tree ≡ excluded_mark ts f
+  excludes_tree d h =
+      with_all (or_right (some_everything ts) (nat_lt 0 f.depth && wild_test ts (chars f.candidate))
+      (and_from (nat_lt 0 f.depth) (wild_test ts (chars f.candidate)) d (wild_accepted.0 h)))
+
+  pub excludes_alone : block.covers_all ≡ false → (nat_lt 0 f.depth ≡ true → Accepts block.covering 0 (chars f.candidate) → ⊥)
+      → alone ≡ excluded_mark ts f
+  excludes_alone e n =
+      let below : (nat_lt 0 f.depth && wild_test ts (chars f.candidate)) ≡ false =
+      not_truly (nat_lt 0 f.depth && wild_test ts (chars f.candidate)) (λ q. (
+      let p = and_parts (nat_lt 0 f.depth) (wild_test ts (chars f.candidate)) q in n p.0 (wild_accepted.1 p.1))) in
+      let uncovered : covered ≡ false = (λ i. (sym k.covers_all ∙ e) i || below i) in
+      λ i. covered_mark (sym uncovered i) (sym meant i)
+
+-- ---- programs of alternatives
+
+pub accepts_some : (held us : List (Tree Span)) (program : Instructions) (t : Tree Span) (zs : Trees Span) → zs ≡ members t
+    → t ≡ alternation (0, 0) (trees us) → SameTexts held us → ((s : List ℕ) → Accepts program.0 0 s ↔ MeansEach zs false false s) → AcceptsSome program.0 held
+accepts_some held us program t zs e same texts means s = (
+  (λ a. (texts false false s).1 (subst (λ z. MeansEach z false false s) (e ∙ ap members same) ((means s).0 a))),
+  (λ m. (means s).1 (subst (λ z. MeansEach z false false s) (sym (e ∙ ap members same)) ((texts false false s).0 m))),
+)

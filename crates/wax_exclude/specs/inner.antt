@@ -1,4 +1,5 @@
 pub mod Blocks
 pub mod Descents
+pub mod Joined
 pub mod Listed
 pub mod Stacks

@@ -1,64 +1,123 @@
 //! Blocks of lines of an ignore list, which are skipped at once if none of their lines matches.
-ghost use Rattle.std.specs.Prelude.{◌≡◌, ◌++◌, ◌∷◌, [], ◌<◌, IfOk, IfSome, IsTrue, chars, length};
+ghost use Rattle.std.specs.Prelude.{◌++◌, ◌<◌, ◌≡◌, ◌≤◌, ◌∷◌, [], IfOk, IfSome, List, Some, chars};
+ghost use Rattle.std.specs.Prelude.{drop, length};
 ghost use Rattle.std.specs.List.{All};
-ghost use Rattle.wax_program.specs.Machine.{Accepts};
-ghost use Rattle.wax_token.specs.Syntax.{alternation};
-ghost use Rattle.wax_token.specs.Words.{trees};
-ghost use Rattle.wax_exclude.specs.inner.Blocks.{AcceptsLines, IsBlockOf, alternatives_in};
+ghost use Rattle.wax_exclude.specs.Compiled.{wild};
+ghost use Rattle.wax_exclude.specs.Excluded.{excluded_mark};
+ghost use Rattle.wax_exclude.specs.declared.rules.IgnoreLine.{IgnoreLine};
+ghost use Rattle.wax_exclude.specs.inner.Blocks.{AcceptsSome, IsBlockOf, KnowsLines, SomeMeans};
+ghost use Rattle.wax_exclude.specs.inner.Blocks.{alternatives_in, left_to_say, marks_after, some_ignores};
 ghost use Rattle.wax_exclude.specs.inner.Blocks.{some_reincludes};
+ghost use Rattle.wax_walk.specs.Said.{mark_of};
 
-use crate::rules::IgnoreLine;
+use crate::exclusions::{ends_wild, some_everything};
+use crate::joined::{alternation, join_alternatives};
+use crate::rules::{IgnoreLine, Said, passed, residue_after};
 use std::alloc::Global;
 use wax_lazy::OwnedMatcher;
 use wax_match::encode;
 use wax_match::encode::CompiledProgram;
 use wax_query::diagnostics::{NoMemory, Refusal};
-use wax_token::token::{Alternation, BranchKind, ExpressionMetadata, Token, new_branch};
+use wax_token::token::{ExpressionMetadata, Token};
+use wax_walk::{Entry, EntryResidue};
 
-/// The greatest number of lines in a small block.
+/// The greatest number of lines in a smallest block. A larger block has up to 16 times as many lines
+/// as the next smaller one.
 const FEW: usize = 16;
 
-/// How many bytes a small block may keep of earlier texts.
-const FEW_BYTES: usize = 65_536;
+/// The greatest number of lines in a largest block.
+const MOST: usize = 65_536;
 
-/// The greatest number of lines in a large block.
-const MANY: usize = 256;
+/// How many bytes a block may keep of earlier texts, for each line that it may have.
+const BYTES_PER_LINE: usize = 4_096;
 
-/// How many bytes a large block may keep of earlier texts.
-const MANY_BYTES: usize = 1_048_576;
+/// How many bytes a block may keep of earlier texts at most.
+const MOST_BYTES: usize = 4_194_304;
 
-/// Consecutive lines, with an automaton that accepts what at least one of them matches.
+/// Consecutive lines, with automata over all of their alternatives.
 #[derive(Drop)]
 pub struct Block {
     /// The index of the first line.
     pub start: usize,
     /// The index after the last line.
-    pub end: usize,
+    end: usize,
+    /// True if one of the lines doesn't begin with `!`.
+    ignores: bool,
     /// True if one of the lines begins with `!`.
-    pub reincludes: bool,
-    matcher: OwnedMatcher,
+    reincludes: bool,
+    /// Accepts what at least one alternative matches.
+    whole: OwnedMatcher,
+    /// Accepts what at least one alternative that ends with `**` matches.
+    covering: OwnedMatcher,
+    /// True if an alternative is only an unrooted `**`.
+    covers_all: bool,
 }
 
 impl Block {
-    /// Returns whether it is known that none of the lines matches the text. After the automaton has
-    /// given up, nothing is known.
+    /// Goes on to the end of the block if the automata tell what its lines decide for the entry: if
+    /// none of them matches it, or all of them ignore, or all begin with `!`. Otherwise, or if the
+    /// automaton has given up, returns the beginning of the block.
     ///
     /// # Errors
     ///
     /// Returns `NoMemory` if allocation fails.
-    pub fn is_passed(&mut self, text: &str) -> Result<bool, NoMemory>
-        ensures refuses { IfOk result
-            (λ passed. IsTrue passed → Accepts self.old.matcher 0 (chars text.now) → ⊥) }
+    pub fn decide<E: Entry>(
+        &mut self,
+        entry: &E,
+        residue: Option<EntryResidue>,
+    ) -> Result<Said, NoMemory>
         ensures same { self.new ≡ self.old }
+        ensures within { (lines : List IgnoreLine) → IsBlockOf lines self.old
+            → IfOk result (λ next. next.at ≤ length lines) }
+        ensures left { (lines : List IgnoreLine) → IsBlockOf lines self.old → IfOk result (λ next.
+            left_to_say lines next (E.facts entry.now)
+            ≡ marks_after (mark_of residue) (drop self.old.start lines) (E.facts entry.now)) }
     {
-        if self.matcher.has_given_up() {
-            return Ok(false);
+        let (_, candidate) = entry.root_relative_paths();
+        if self.whole.has_given_up() {
+            return Ok(Said {
+                at: self.start,
+                residue,
+            });
         }
-        Ok(!self.matcher.is_match(text)?)
+        if !self.whole.is_match(candidate)? {
+            return Ok(Said {
+                at: self.end,
+                residue: passed(self.reincludes, residue),
+            });
+        }
+        if self.ignores && self.reincludes {
+            return Ok(Said {
+                at: self.start,
+                residue,
+            });
+        }
+        let said = Some(self.excluded(entry)?);
+        Ok(Said {
+            at: self.end,
+            residue: residue_after(self.ignores, residue, said),
+        })
+    }
+
+    // Returns what to exclude of an entry that one of the alternatives matches.
+    fn excluded<E: Entry>(&mut self, entry: &E) -> Result<EntryResidue, NoMemory>
+        ensures same { self.new ≡ self.old }
+        ensures excluded { (lines : List IgnoreLine) → KnowsLines self.old lines
+            → SomeMeans lines (chars (E.facts entry.now).candidate) → IfOk result
+            (λ r. mark_of (Some r) ≡ excluded_mark (alternatives_in lines) (E.facts entry.now)) }
+    {
+        if self.covers_all {
+            return Ok(EntryResidue::Tree);
+        }
+        let (_, candidate) = entry.root_relative_paths();
+        if entry.depth() > 0 && self.covering.is_match(candidate)? {
+            return Ok(EntryResidue::Tree);
+        }
+        Ok(EntryResidue::File)
     }
 }
 
-/// Builds blocks of the lines, a large one before the small ones within it.
+/// Builds blocks of the lines, each one before the smaller ones within it.
 ///
 /// # Errors
 ///
@@ -68,14 +127,32 @@ pub fn blocks_of(alloc: Global, lines: &[IgnoreLine]) -> Result<Vec<Block>, NoMe
 {
     let mut blocks = Vec::new(alloc);
     for start in 0..lines.len() {
-        if start % MANY == 0 && lines.len() - start > FEW {
-            add_block(alloc, &mut blocks, lines, start, MANY, MANY_BYTES)?;
-        }
+        add_large_blocks(alloc, &mut blocks, lines, start)?;
         if start % FEW == 0 {
-            add_block(alloc, &mut blocks, lines, start, FEW, FEW_BYTES)?;
+            add_block(alloc, &mut blocks, lines, start, FEW)?;
         }
     }
     Ok(blocks)
+}
+
+// Adds the blocks from `start` on that have more lines than a smallest one.
+fn add_large_blocks(
+    alloc: Global,
+    blocks: &mut Vec<Block>,
+    lines: &[IgnoreLine],
+    start: usize,
+) -> Result<(), NoMemory>
+    requires start { start < length lines.now }
+    requires blocks { All (IsBlockOf lines.now) blocks.old.items }
+    ensures { IfOk result (λ _. All (IsBlockOf lines.now) blocks.new.items) }
+{
+    let left = lines.len() - start;
+    for most in [MOST, 4_096, 256] {
+        if start % most == 0 && left > most / 16 {
+            add_block(alloc, blocks, lines, start, most)?;
+        }
+    }
+    Ok(())
 }
 
 // Adds a block of at most `most` lines from `start` on, unless its program would be too large. The
@@ -86,7 +163,6 @@ fn add_block(
     lines: &[IgnoreLine],
     start: usize,
     most: usize,
-    most_bytes: usize,
 ) -> Result<(), NoMemory>
     requires start { start < length lines.now }
     requires blocks { All (IsBlockOf lines.now) blocks.old.items }
@@ -94,16 +170,31 @@ fn add_block(
 {
     let end = start + most.min(lines.len() - start);
     let held = &lines[start..end];
-    let Some(program) = program_of_lines(alloc, held)? else {
+    let alternatives = alternatives_of(alloc, held)?;
+    let Some(whole) = program_of_some(alloc, &alternatives)? else {
         return Ok(());
     };
+    let wild = wild_of(alloc, &alternatives)?;
+    let Some(covering) = program_of_some(alloc, &wild)? else {
+        return Ok(());
+    };
+    let most_bytes = MOST_BYTES.min(most.saturating_mul(BYTES_PER_LINE));
     let block = Block {
         start,
         end,
+        ignores: some_ignores(held),
         reincludes: some_reincludes(held),
-        matcher: OwnedMatcher::new(alloc, program, most_bytes),
+        whole: OwnedMatcher::new(alloc, whole, most_bytes),
+        covering: OwnedMatcher::new(alloc, covering, most_bytes),
+        covers_all: some_everything(&alternatives),
     };
     push(blocks, block)
+}
+
+fn some_ignores(lines: &[IgnoreLine]) -> bool
+    ensures { result ≡ some_ignores lines.now }
+{
+    lines.iter().any(|line| line.ignores)
 }
 
 fn some_reincludes(lines: &[IgnoreLine]) -> bool
@@ -112,14 +203,14 @@ fn some_reincludes(lines: &[IgnoreLine]) -> bool
     lines.iter().any(|line| !line.ignores)
 }
 
-// Compiles the lines into one program, or returns `None` if it would be too large.
-fn program_of_lines(
+// Compiles the alternatives into one program, or returns `None` if it would be too large.
+fn program_of_some(
     alloc: Global,
-    lines: &[IgnoreLine],
+    alternatives: &[Token<'static, ExpressionMetadata>],
 ) -> Result<Option<CompiledProgram>, NoMemory>
-    ensures { IfOk result (λ made. IfSome made (λ p. AcceptsLines p.0 lines.now)) }
+    ensures { IfOk result (λ made. IfSome made (λ p. AcceptsSome p.0 alternatives.now)) }
 {
-    let token = token_of_lines(alloc, lines)?;
+    let token = alternation(join_alternatives(alloc, alternatives)?);
     match encode::compile(alloc, token.concatenation(), false, false) {
         Ok(program) => Ok(Some(program)),
         Err(Refusal::Refused(_)) => Ok(None),
@@ -127,19 +218,17 @@ fn program_of_lines(
     }
 }
 
-// Builds one alternation of the alternatives of all lines.
-fn token_of_lines(
+fn alternatives_of(
     alloc: Global,
     lines: &[IgnoreLine],
-) -> Result<Token<'static, ExpressionMetadata>, NoMemory>
-    ensures { IfOk result (λ token. token ≡ alternation (0, 0) (trees (alternatives_in lines.now))) }
+) -> Result<Vec<Token<'static, ExpressionMetadata>>, NoMemory>
+    ensures { IfOk result (λ tokens. tokens.items ≡ alternatives_in lines.now) }
 {
     let mut tokens = Vec::new(alloc);
     for line in lines {
         add_copies(alloc, &mut tokens, line.exclusion.alternatives())?;
     }
-    let branch = BranchKind::Alternation(Alternation { tokens });
-    Ok(new_branch(branch, ExpressionMetadata::new((0, 0))))
+    Ok(tokens)
 }
 
 fn add_copies(
@@ -153,6 +242,22 @@ fn add_copies(
         push(copies, token.to_owned(alloc)?)?;
     }
     Ok(())
+}
+
+// Copies the alternatives that end with `**`.
+fn wild_of(
+    alloc: Global,
+    alternatives: &[Token<'static, ExpressionMetadata>],
+) -> Result<Vec<Token<'static, ExpressionMetadata>>, NoMemory>
+    ensures { IfOk result (λ made. made.items ≡ wild alternatives.now) }
+{
+    let mut wild = Vec::new(alloc);
+    for token in alternatives {
+        if ends_wild(token) {
+            push(&mut wild, token.to_owned(alloc)?)?;
+        }
+    }
+    Ok(wild)
 }
 
 fn push<T: Drop>(items: &mut Vec<T>, item: T) -> Result<(), NoMemory>

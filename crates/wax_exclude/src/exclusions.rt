@@ -238,7 +238,7 @@ fn some_accepts(alloc: Global, programs: &[CompiledProgram], text: &str) -> Resu
     Ok(false)
 }
 
-fn ends_wild<'t>(token: &Token<'t, ExpressionMetadata>) -> bool
+pub fn ends_wild<'t>(token: &Token<'t, ExpressionMetadata>) -> bool
     ensures { result ≡ ends_wild (members token.now) }
 {
     match token.concatenation().last() {
@@ -247,7 +247,7 @@ fn ends_wild<'t>(token: &Token<'t, ExpressionMetadata>) -> bool
     }
 }
 
-fn some_everything<'t>(alternatives: &[Token<'t, ExpressionMetadata>]) -> bool
+pub fn some_everything<'t>(alternatives: &[Token<'t, ExpressionMetadata>]) -> bool
     ensures { result ≡ some_everything alternatives.now }
 {
     alternatives.iter().any(|token| is_everything(token))

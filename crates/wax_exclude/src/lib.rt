@@ -3,6 +3,7 @@
 
 mod blocks;
 mod exclusions;
+mod joined;
 mod kept;
 mod law;
 mod lines;

@@ -161,9 +161,9 @@ fn residue_by<E: Entry>(
 
 // What the lines before the index `at` decide for an entry.
 #[derive(Clone, Copy)]
-struct Said {
-    at: usize,
-    residue: Option<EntryResidue>,
+pub struct Said {
+    pub at: usize,
+    pub residue: Option<EntryResidue>,
 }
 
 // Goes on to the end of the block if none of its lines matches the entry, and otherwise to its
@@ -187,22 +187,12 @@ fn after_block<E: Entry>(
         return Ok(said);
     }
     let residue = after_lines(alloc, &lines[said.at..block.start], entry, said.residue)?;
-    let (_, candidate) = entry.root_relative_paths();
-    if block.is_passed(candidate)? {
-        return Ok(Said {
-            at: block.end,
-            residue: passed(block.reincludes, residue),
-        });
-    }
-    Ok(Said {
-        at: block.start,
-        residue,
-    })
+    block.decide(entry, residue)
 }
 
 // Returns the decision after lines none of which matches the entry. If one of them begins with `!`,
 // it may match something below the entry, which can't be excluded as a whole any more.
-fn passed(reincludes: bool, residue: Option<EntryResidue>) -> Option<EntryResidue>
+pub fn passed(reincludes: bool, residue: Option<EntryResidue>) -> Option<EntryResidue>
     ensures { mark_of result ≡ mark_passed reincludes (mark_of residue) }
 {
     match (reincludes, residue) {
@@ -231,7 +221,7 @@ fn after_lines<E: Entry>(
 
 // Returns the decision after one line. A line that begins with `!` and doesn't match the entry may
 // match something below it, which can't be excluded as a whole any more.
-fn residue_after(
+pub fn residue_after(
     ignores: bool,
     before: Option<EntryResidue>,
     said: Option<EntryResidue>,

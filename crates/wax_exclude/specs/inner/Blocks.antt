@@ -1,5 +1,5 @@
--- Blocks of lines that are passed over at once.
-use Rattle.std.specs.Prelude.{◌≡◌, ℕ, ◌-◌, ◌≤◌, Bool, true, false, not, ◌⊎◌, List, [], ◌∷◌, length, take}
+-- Blocks of lines that are decided at once.
+use Rattle.std.specs.Prelude.{◌≡◌, ◌↔◌, ℕ, ◌-◌, ◌≤◌, Bool, true, false, not, ◌⊎◌, List, [], ◌∷◌, length, take}
 use Rattle.std.specs.Prelude.{drop}
 use Rattle.std.specs.List.{flat_map, list_any}
 use Rattle.wax_program.specs.Machine.{Accepts}
@@ -10,6 +10,8 @@ use Rattle.wax_token.specs.Syntax.{Tree}
 use Rattle.wax_token.specs.Words.{trees}
 use Rattle.wax_walk.specs.Given.{Facts, Mark, kept, alone, with_tree}
 use Rattle.wax_walk.specs.Said.{mark_of}
+use Rattle.wax_exclude.specs.Compiled.{wild}
+use Rattle.wax_exclude.specs.Covers.{some_everything}
 use Rattle.wax_exclude.specs.Excluded.{excluded_mark}
 use Rattle.wax_exclude.specs.declared.blocks.Block.{Block}
 use Rattle.wax_exclude.specs.declared.rules.IgnoreLine.{IgnoreLine}
@@ -27,13 +29,25 @@ SomeMeans (line ∷ lines) s = MeansSome (trees line.exclusion) false false s �
 abbrev pub alternatives_in : List IgnoreLine → List (Tree Span)
 alternatives_in lines = flat_map (λ line. line.exclusion) lines
 
--- the instructions accept every text that one of the lines matches
-abbrev pub AcceptsLines : List Instruction → List IgnoreLine → Type 0
-AcceptsLines code lines = (s : List ℕ) → SomeMeans lines s → Accepts code 0 s
+-- one of the lines ignores
+abbrev pub some_ignores : List IgnoreLine → Bool
+some_ignores lines = list_any (λ line. line.ignores) lines
 
 -- one of the lines re-includes
 abbrev pub some_reincludes : List IgnoreLine → Bool
 some_reincludes lines = list_any (λ line. not line.ignores) lines
+
+-- the instructions accept exactly what some of the alternatives matches
+abbrev pub AcceptsSome : List Instruction → List (Tree Span) → Type 0
+AcceptsSome code ts = (s : List ℕ) → Accepts code 0 s ↔ MeansSome (trees ts) false false s
+
+-- a block knows these lines by their alternatives
+pub record KnowsLines (block : Block) (lines : List IgnoreLine) : Type 0 where
+  pub ignores : block.ignores ≡ some_ignores lines
+  pub reincludes : block.reincludes ≡ some_reincludes lines
+  pub whole : AcceptsSome block.whole (alternatives_in lines)
+  pub covering : AcceptsSome block.covering (wild (alternatives_in lines))
+  pub covers_all : block.covers_all ≡ some_everything (alternatives_in lines)
 
 -- the lines from `start` up to `end`, which isn't included
 abbrev pub lines_between : ℕ → ℕ → List IgnoreLine → List IgnoreLine
@@ -43,8 +57,7 @@ lines_between start end lines = take (end - start) (drop start lines)
 pub record IsBlockOf (lines : List IgnoreLine) (block : Block) : Type 0 where
   pub forward : block.start ≤ block.end
   pub within : block.end ≤ length lines
-  pub reincludes : block.reincludes ≡ some_reincludes (lines_between block.start block.end lines)
-  pub accepts : AcceptsLines block.matcher (lines_between block.start block.end lines)
+  pub knows : KnowsLines block (lines_between block.start block.end lines)
 
 -- ---- how lines mark entries
 

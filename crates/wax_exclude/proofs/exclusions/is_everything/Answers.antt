@@ -1,6 +1,5 @@
 use Rattle.std.proofs.Common.{◌≡◌, arith, false, subst, sym}
 use Rattle.wax_exclude.specs.Covers.{is_everything}
-use Rattle.wax_exclude.proofs.Descending.{everything_meant}
 use Rattle.wax_exclude.proofs.Steps.{not_alone}
 use Rattle.wax_exclude.proofs.exclusions.is_everything.Goals as goal
 

@@ -1,0 +1,29 @@
+-- Alternatives that begin or end with the same leaf, joined.
+use Rattle.std.specs.Prelude.{◌≡◌, ◌↔◌, ℕ, Bool, true, ◌⊎◌, List, ◌++◌}
+use Rattle.wax_token.specs.Meaning.{LeafMeans, MeansSome}
+use Rattle.wax_token.specs.Reads.{Span}
+use Rattle.wax_token.specs.Syntax.{Leaf, Tree}
+use Rattle.wax_token.specs.Words.{trees}
+
+-- the two lists of alternatives match the same texts
+abbrev pub SameTexts : List (Tree Span) → List (Tree Span) → Type 0
+SameTexts ts us = (b a : Bool) (s : List ℕ) → MeansSome (trees ts) b a s ↔ MeansSome (trees us) b a s
+
+-- a text of the leaf, and then one that some of the alternatives matches
+abbrev pub MeansLed : Leaf → List (Tree Span) → Bool → Bool → List ℕ → Type 0
+MeansLed lead ts b a s =
+    (x : List ℕ) × (y : List ℕ) × (s ≡ x ++ y) × LeafMeans lead b true x × MeansSome (trees ts) true a y
+
+-- a text that some of the alternatives matches, and then one of the leaf
+abbrev pub MeansEnded : Leaf → List (Tree Span) → Bool → Bool → List ℕ → Type 0
+MeansEnded end ts b a s =
+    (x : List ℕ) × (y : List ℕ) × (s ≡ x ++ y) × MeansSome (trees ts) b true x × LeafMeans end true a y
+
+-- which texts alternatives match, with a leaf before or after them
+abbrev pub MeansBeside : Type 1
+MeansBeside = List (Tree Span) → Bool → Bool → List ℕ → Type 0
+
+-- the alternatives match what the rests match with the leaf beside them, and what the others match
+abbrev pub IsParted : MeansBeside → List (Tree Span) → List (Tree Span) → List (Tree Span) → Type 0
+IsParted Beside ts rests others = (b a : Bool) (s : List ℕ)
+    → MeansSome (trees ts) b a s ↔ (Beside rests b a s ⊎ MeansSome (trees others) b a s)
