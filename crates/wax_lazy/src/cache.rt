@@ -24,10 +24,6 @@ const PLACE_BYTES: usize = 8;
 /// ones, all instructions behind the loops are soon read.
 const LEAST_PARTED: usize = 256;
 
-/// The greatest number of places of a state that is followed in two parts. In larger ones, parting
-/// the places takes as long as a step.
-const MOST_PARTED: usize = 128;
-
 /// The number of states that are kept however many bytes they take.
 const LEAST_STATES: usize = 16;
 
@@ -220,7 +216,7 @@ impl Cache {
             IfOk result (Leads program.now.0 self.new.table.states.items places c) }
     {
         let places = self.table.places(at);
-        if program.size() < LEAST_PARTED || places.len() > MOST_PARTED || !c.is_ascii() {
+        if program.size() < LEAST_PARTED || !c.is_ascii() {
             return self.follow_all(program, at, c);
         }
         part_loops(program, places, &mut self.reached, &mut self.others)?;

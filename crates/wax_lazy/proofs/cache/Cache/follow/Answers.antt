@@ -29,41 +29,35 @@ enter-requires-clause-placed c =
 pub enter-requires-clause-few : goal.enter-requires-clause-few
 enter-requires-clause-few c = omega (arith, c.in_ok-led.ensures.grows.few, c.in_ok-loops.ensures.interned.grows.few, c.requires.few)
 
-pub returns-clause-cache : goal.returns-clause-cache
-returns-clause-cache c =
-    let code = c.args.program.now.0 in
+-- the state that is followed is kept while others are added
+same : (c : goal.After-enter) → places_at c.follow_loops.new.self.table.states.items (c.args.at / 128) ≡ places_at c.args.self.now.table.states.items (c.args.at / 128)
+same c =
     let old = c.args.self.now.table.states.items in
     let mid = c.intern.new.self.table.states.items in
     let new = c.follow_loops.new.self.table.states.items in
+    (keeps_more old mid new c.in_ok-loops.ensures.interned.grows.kept c.in_ok-led.ensures.grows.kept (c.args.at / 128) c.requires.placed.kept).1
+
+-- its places lead to those that were reached, since each of its two parts does
+next : (c : goal.After-enter) → LeadOn c.args.program.now.0 c.args.c (places_at c.follow_loops.new.self.table.states.items (c.args.at / 128)) c.step.new.reached.items
+next c =
+    let code = c.args.program.now.0 in
+    let mid = c.intern.new.self.table.states.items in
+    let new = c.follow_loops.new.self.table.states.items in
     let made = c.in_ok-loops.ensures.interned in
-    let grown = c.in_ok-led.ensures.grows in
-    let same : places_at new (c.args.at / 128) ≡ places_at old (c.args.at / 128) = (keeps_more old mid new made.grows.kept grown.kept (c.args.at / 128) c.requires.placed.kept).1 in
     let here = at_number mid c.in_ok-loops.field-0 ∙ made.places in
     let known = led_leads code new _ c.args.c c.in_ok-led.led c.in_ok-led.ensures.leads in
     let loops = subst (λ z. LeadOn code c.args.c z (places_led new c.in_ok-led.led)) here known in
     let parts = subst (λ z. AreParts z c.part_loops.new.loops.items c.part_loops.new.others.items) (sym c.places-places.ensures) c.in_ok-part_loops.ensures in
-    let others = c.deref.ensures.value ∙ ap (λ z. z.items) (grown.others ∙ made.grows.others) in
+    let others = c.deref.ensures.value ∙ ap (λ z. z.items) (c.in_ok-led.ensures.grows.others ∙ made.grows.others) in
     let reaches = subst (λ z. AreReached code c.args.c z c.places_led-also.result.now c.step.new.reached.items) others c.in_ok-step.ensures.reaches in
     let reached = subst (λ z. AreReached code c.args.c c.part_loops.new.others.items z c.step.new.reached.items) (sym c.places_led-also.ensures) reaches in
-    let next = subst (λ z. LeadOn code c.args.c z c.step.new.reached.items) (sym same) (parts_lead code c.args.c _ _ _ _ _ parts loops reached) in
+    subst (λ z. LeadOn code c.args.c z c.step.new.reached.items) (sym (same c)) (parts_lead code c.args.c _ _ _ _ _ parts loops reached)
+
+pub returns-clause-cache : goal.returns-clause-cache
+returns-clause-cache c =
     let was = c.follow_loops.ensures.cache in
-    c.enter.ensures.cache code (record { size = c.step.ensures.same ∙ was.size; start = was.start; table = was.table; first = was.first }) next c.takes_all-takes_all.ensures
+    c.enter.ensures.cache c.args.program.now.0 (record { size = c.step.ensures.same ∙ was.size; start = was.start; table = was.table; first = was.first }) (next c) c.takes_all-takes_all.ensures
 
 pub returns-clause-leads : goal.returns-clause-leads
 returns-clause-leads c =
-    let code = c.args.program.now.0 in
-    let old = c.args.self.now.table.states.items in
-    let mid = c.intern.new.self.table.states.items in
-    let new = c.follow_loops.new.self.table.states.items in
-    let made = c.in_ok-loops.ensures.interned in
-    let grown = c.in_ok-led.ensures.grows in
-    let same : places_at new (c.args.at / 128) ≡ places_at old (c.args.at / 128) = (keeps_more old mid new made.grows.kept grown.kept (c.args.at / 128) c.requires.placed.kept).1 in
-    let here = at_number mid c.in_ok-loops.field-0 ∙ made.places in
-    let known = led_leads code new _ c.args.c c.in_ok-led.led c.in_ok-led.ensures.leads in
-    let loops = subst (λ z. LeadOn code c.args.c z (places_led new c.in_ok-led.led)) here known in
-    let parts = subst (λ z. AreParts z c.part_loops.new.loops.items c.part_loops.new.others.items) (sym c.places-places.ensures) c.in_ok-part_loops.ensures in
-    let others = c.deref.ensures.value ∙ ap (λ z. z.items) (grown.others ∙ made.grows.others) in
-    let reaches = subst (λ z. AreReached code c.args.c z c.places_led-also.result.now c.step.new.reached.items) others c.in_ok-step.ensures.reaches in
-    let reached = subst (λ z. AreReached code c.args.c c.part_loops.new.others.items z c.step.new.reached.items) (sym c.places_led-also.ensures) reaches in
-    let next = subst (λ z. LeadOn code c.args.c z c.step.new.reached.items) (sym same) (parts_lead code c.args.c _ _ _ _ _ parts loops reached) in
-    subst (λ z. IfOk c.enter.result (Leads code c.enter.new.self.table.states.items z c.args.c)) same (c.enter.ensures.leads code next)
+    subst (λ z. IfOk c.enter.result (Leads c.args.program.now.0 c.enter.new.self.table.states.items z c.args.c)) (same c) (c.enter.ensures.leads c.args.program.now.0 (next c))
