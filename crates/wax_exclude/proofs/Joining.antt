@@ -15,21 +15,21 @@ then p q = ((λ a. q.0 (p.0 a)), (λ c. p.1 (q.1 c)))
 
 either : {A B C D : Type 0} → (A ↔ C) → (B ↔ D) → ((A ⊎ B) ↔ (C ⊎ D))
 either p q = (
-  (λ h. elim h [ | inl a ↦ inl (p.0 a) | inr b ↦ inr (q.0 b) ]),
-  (λ h. elim h [ | inl c ↦ inl (p.1 c) | inr d ↦ inr (q.1 d) ]),
+  (λ h. elim h [ inl a ↦ inl (p.0 a) | inr b ↦ inr (q.0 b) ]),
+  (λ h. elim h [ inl c ↦ inl (p.1 c) | inr d ↦ inr (q.1 d) ]),
 )
 
 pub some_append : {A : Type 0} (xs ys : List (Tree A)) (b a : Bool) (s : List ℕ)
     → MeansSome (trees (xs ++ ys)) b a s ↔ (MeansSome (trees xs) b a s ⊎ MeansSome (trees ys) b a s)
-some_append [] ys b a s = ((λ h. inr h), (λ h. elim h [ | inl k ↦ absurd k | inr k ↦ k ]))
+some_append [] ys b a s = ((λ h. inr h), (λ h. elim h [ inl k ↦ absurd k | inr k ↦ k ]))
 some_append (x ∷ xs) ys b a s =
     let r = some_append xs ys b a s in (
       (λ h. elim h [
         | inl k ↦ inl (inl k)
-        | inr k ↦ elim (r.0 k) [ | inl m ↦ inl (inr m) | inr m ↦ inr m ]
+        | inr k ↦ elim (r.0 k) [ inl m ↦ inl (inr m) | inr m ↦ inr m ]
       ]),
       (λ h. elim h [
-        | inl k ↦ elim k [ | inl m ↦ inl m | inr m ↦ inr (r.1 (inl m)) ]
+        | inl k ↦ elim k [ inl m ↦ inl m | inr m ↦ inr (r.1 (inl m)) ]
         | inr k ↦ inr (r.1 (inr k))
       ]),
     )
@@ -81,7 +81,7 @@ led_same lead ts us same b a s = (
 
 module _ (Beside : MeansBeside) where
   pub parted_none : ((b a : Bool) (s : List ℕ) → Beside [] b a s → ⊥) → IsParted Beside [] [] []
-  parted_none empty b a s = ((λ h. absurd h), (λ h. elim h [ | inl k ↦ absurd (empty b a s k) | inr k ↦ k ]))
+  parted_none empty b a s = ((λ h. absurd h), (λ h. elim h [ inl k ↦ absurd (empty b a s k) | inr k ↦ k ]))
 
   pub parted_rest : (ts rests others : List (Tree Span)) (t r : Tree Span) → Appends Beside → IsParted Beside ts rests others
       → ((b a : Bool) (s : List ℕ) → Means t b a s ↔ Beside (r ∷ []) b a s) → IsParted Beside (ts ++ t ∷ []) (rests ++ r ∷ []) others
@@ -91,11 +91,11 @@ module _ (Beside : MeansBeside) where
       let old = parted b a s in
       let one = same b a s in (
         (λ h. elim (all.0 h) [
-          | inl k ↦ elim (old.0 k) [ | inl m ↦ inl (both.1 (inl m)) | inr m ↦ inr m ]
-          | inr k ↦ elim k [ | inl m ↦ inl (both.1 (inr (one.0 m))) | inr m ↦ absurd m ]
+          | inl k ↦ elim (old.0 k) [ inl m ↦ inl (both.1 (inl m)) | inr m ↦ inr m ]
+          | inr k ↦ elim k [ inl m ↦ inl (both.1 (inr (one.0 m))) | inr m ↦ absurd m ]
         ]),
         (λ h. elim h [
-          | inl k ↦ elim (both.0 k) [ | inl m ↦ all.1 (inl (old.1 (inl m))) | inr m ↦ all.1 (inr (inl (one.1 m))) ]
+          | inl k ↦ elim (both.0 k) [ inl m ↦ all.1 (inl (old.1 (inl m))) | inr m ↦ all.1 (inr (inl (one.1 m))) ]
           | inr k ↦ all.1 (inl (old.1 (inr k)))
         ]),
       )
@@ -107,12 +107,12 @@ module _ (Beside : MeansBeside) where
       let more = some_append others (t ∷ []) b a s in
       let old = parted b a s in (
         (λ h. elim (all.0 h) [
-          | inl k ↦ elim (old.0 k) [ | inl m ↦ inl m | inr m ↦ inr (more.1 (inl m)) ]
+          | inl k ↦ elim (old.0 k) [ inl m ↦ inl m | inr m ↦ inr (more.1 (inl m)) ]
           | inr k ↦ inr (more.1 (inr k))
         ]),
         (λ h. elim h [
           | inl k ↦ all.1 (inl (old.1 (inl k)))
-          | inr k ↦ elim (more.0 k) [ | inl m ↦ all.1 (inl (old.1 (inr m))) | inr m ↦ all.1 (inr m) ]
+          | inr k ↦ elim (more.0 k) [ inl m ↦ all.1 (inl (old.1 (inr m))) | inr m ↦ all.1 (inr m) ]
         ]),
       )
 
@@ -143,9 +143,9 @@ added_led lead joined after b a s =
     let all = some_append joined (led_token lead after ∷ []) b a s in (
       (λ h. elim (all.0 h) [
         | inl k ↦ inr k
-        | inr k ↦ elim k [ | inl m ↦ inl m | inr m ↦ absurd m ]
+        | inr k ↦ elim k [ inl m ↦ inl m | inr m ↦ absurd m ]
       ]),
-      (λ h. elim h [ | inl k ↦ all.1 (inr (inl k)) | inr k ↦ all.1 (inl k) ]),
+      (λ h. elim h [ inl k ↦ all.1 (inr (inl k)) | inr k ↦ all.1 (inl k) ]),
     )
 
 -- the alternatives and then the leaf, as a token of its own
@@ -158,9 +158,9 @@ added_ended end joined before b a s =
     let all = some_append joined (ended_token end before ∷ []) b a s in (
       (λ h. elim (all.0 h) [
         | inl k ↦ inr k
-        | inr k ↦ elim k [ | inl m ↦ inl m | inr m ↦ absurd m ]
+        | inr k ↦ elim k [ inl m ↦ inl m | inr m ↦ absurd m ]
       ]),
-      (λ h. elim h [ | inl k ↦ all.1 (inr (inl k)) | inr k ↦ all.1 (inl k) ]),
+      (λ h. elim h [ inl k ↦ all.1 (inr (inl k)) | inr k ↦ all.1 (inl k) ]),
     )
 
 pub not_none : (k : ℕ) → (k == 0) ≡ false → 0 < k
@@ -175,8 +175,8 @@ module _ (l : Leaf) (t first : Tree Span) (leads : (b a : Bool) (s : List ℕ) �
       → Means t b a s ↔ MeansLed l (concatenation (0, 0) (trees (r ∷ rest)) ∷ []) b a s
   led_by r rest e b a s = (
     (λ h. (
-      let k = subst (λ ts. MeansEach ts b a s) (sym e) (as_members t b a s h) in
-      (k.0, k.1, k.2, (leads b true k.0).0 k.3, inl k.4))),
+        let k = subst (λ ts. MeansEach ts b a s) (sym e) (as_members t b a s h) in
+        (k.0, k.1, k.2, (leads b true k.0).0 k.3, inl k.4))),
     (λ h. elim h.4 [
       | inl m ↦ of_members t b a s (subst (λ ts. MeansEach ts b a s) e (h.0, h.1, h.2, (leads b true h.0).1 h.3, m))
       | inr m ↦ absurd m
@@ -192,11 +192,11 @@ module _ (l : Leaf) (t first : Tree Span) (leads : (b a : Bool) (s : List ℕ) �
   )
   before x (u ∷ us) b a s = (
     (λ h. (
-      let k = (before u us true a h.1).0 h.4 in
-      (h.0 ++ k.0, k.1, h.2 ∙ ap (λ w. h.0 ++ w) k.2 ∙ sym (append_assoc h.0 k.0 k.1), (h.0, k.0, refl, h.3, k.3), k.4))),
+        let k = (before u us true a h.1).0 h.4 in
+        (h.0 ++ k.0, k.1, h.2 ∙ ap (λ w. h.0 ++ w) k.2 ∙ sym (append_assoc h.0 k.0 k.1), (h.0, k.0, refl, h.3, k.3), k.4))),
     (λ h. (
-      let k = h.3 in
-      (k.0, k.1 ++ h.1, h.2 ∙ ap (λ w. w ++ h.1) k.2 ∙ append_assoc k.0 k.1 h.1, k.3, (before u us true a (k.1 ++ h.1)).1 (k.1, h.1, refl, k.4, h.4)))),
+        let k = h.3 in
+        (k.0, k.1 ++ h.1, h.2 ∙ ap (λ w. w ++ h.1) k.2 ∙ append_assoc k.0 k.1 h.1, k.3, (before u us true a (k.1 ++ h.1)).1 (k.1, h.1, refl, k.4, h.4)))),
   )
 
   -- it ends with it
@@ -205,8 +205,8 @@ module _ (l : Leaf) (t first : Tree Span) (leads : (b a : Bool) (s : List ℕ) �
   ended_by [] some e b a s = absurd (omega (arith, some))
   ended_by (r ∷ rest) some e b a s = (
     (λ h. (
-      let k = (before r rest b a s).0 (subst (λ ts. MeansEach ts b a s) (sym e) (as_members t b a s h)) in
-      (k.0, k.1, k.2, inl k.3, k.4))),
+        let k = (before r rest b a s).0 (subst (λ ts. MeansEach ts b a s) (sym e) (as_members t b a s h)) in
+        (k.0, k.1, k.2, inl k.3, k.4))),
     (λ h. elim h.3 [
       | inl m ↦ of_members t b a s (subst (λ ts. MeansEach ts b a s) e ((before r rest b a s).1 (h.0, h.1, h.2, m, h.4)))
       | inr m ↦ absurd m

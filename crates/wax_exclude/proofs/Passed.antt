@@ -148,13 +148,13 @@ wild_meant (t ∷ ts) s =
     elim (ends_wild (members t)) as (λ b. MeansSome (trees (cond b (t ∷ wild ts) (wild ts))) false false s
     ↔ (((b ≡ true) × Means t false false s) ⊎ WildMeans ts s)) [
       | true ↦ (
-          (λ h. elim h [ | inl m ↦ inl (refl, m) | inr m ↦ inr (rest.0 m) ]),
-          (λ h. elim h [ | inl k ↦ inl k.1 | inr k ↦ inr (rest.1 k) ]),
-        )
+        (λ h. elim h [ inl m ↦ inl (refl, m) | inr m ↦ inr (rest.0 m) ]),
+        (λ h. elim h [ inl k ↦ inl k.1 | inr k ↦ inr (rest.1 k) ]),
+      )
       | false ↦ (
-          (λ h. inr (rest.0 h)),
-          (λ h. elim h [ | inl k ↦ absurd (false≢true k.0) | inr k ↦ rest.1 k ]),
-        )
+        (λ h. inr (rest.0 h)),
+        (λ h. elim h [ inl k ↦ absurd (false≢true k.0) | inr k ↦ rest.1 k ]),
+      )
     ]
 
 wild_append : {A : Type 0} (xs ys : List (Tree A)) (s : List ℕ) → wild_test (xs ++ ys) s ≡ (wild_test xs s || wild_test ys s)
@@ -282,7 +282,7 @@ all_reincluding (line ∷ lines) before f h m =
 -- the mark after all lines, if the lines of a block all ignore or all re-include, and one of them matches the entry
 pub said_at_once : (lines : List IgnoreLine) (block : Block) (before after said : Mark) (f : Facts) → IsBlockOf lines block
     → (let held = lines_between block.start block.end lines in
-      SomeMeans held (chars f.candidate) × (said ≡ excluded_mark (alternatives_in held) f))
+    SomeMeans held (chars f.candidate) × (said ≡ excluded_mark (alternatives_in held) f))
     → (block.ignores && block.reincludes) ≡ false → after ≡ mark_after block.ignores before said
     → marks_after after (drop block.end lines) f ≡ marks_after before (drop block.start lines) f
 said_at_once lines block before after said f b h alike e =

@@ -21,12 +21,15 @@ use wax_query::diagnostics::{NoMemory, Refusal};
 use wax_token::token::{ExpressionMetadata, Token};
 use wax_walk::{Entry, EntryResidue};
 
-/// The greatest number of lines in a smallest block. A larger block has up to 16 times as many lines
-/// as the next smaller one.
+/// The greatest number of lines in a small block.
 const FEW: usize = 16;
 
-/// The greatest number of lines in a largest block.
-const MOST: usize = 65_536;
+/// The greatest number of lines in a block of small ones.
+const MANY: usize = 256;
+
+/// The greatest number of lines in a block of these. The time of a step grows with the program, so
+/// one block of all lines would be slower from some 10,000 on.
+const MOST: usize = 4_096;
 
 /// How many bytes a block may keep of earlier texts, for each line that it may have.
 const BYTES_PER_LINE: usize = 4_096;
@@ -135,7 +138,7 @@ pub fn blocks_of(alloc: Global, lines: &[IgnoreLine]) -> Result<Vec<Block>, NoMe
     Ok(blocks)
 }
 
-// Adds the blocks from `start` on that have more lines than a smallest one.
+// Adds the blocks from `start` on that have more lines than a small one.
 fn add_large_blocks(
     alloc: Global,
     blocks: &mut Vec<Block>,
@@ -147,10 +150,11 @@ fn add_large_blocks(
     ensures { IfOk result (λ _. All (IsBlockOf lines.now) blocks.new.items) }
 {
     let left = lines.len() - start;
-    for most in [MOST, 4_096, 256] {
-        if start % most == 0 && left > most / 16 {
-            add_block(alloc, blocks, lines, start, most)?;
-        }
+    if start % MOST == 0 && left > MANY {
+        add_block(alloc, blocks, lines, start, MOST)?;
+    }
+    if start % MANY == 0 && left > FEW {
+        add_block(alloc, blocks, lines, start, MANY)?;
     }
     Ok(())
 }
