@@ -1,4 +1,4 @@
-//! Blocks of lines of an ignore list, which are skipped at once if none of their lines matches.
+//! Blocks of lines of an ignore list, which are decided at once if their automata tell enough.
 ghost use Rattle.std.specs.Prelude.{◌++◌, ◌<◌, ◌≡◌, ◌≤◌, ◌∷◌, [], IfOk, IfSome, List, Some, chars};
 ghost use Rattle.std.specs.Prelude.{drop, length};
 ghost use Rattle.std.specs.List.{All};
