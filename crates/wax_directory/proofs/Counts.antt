@@ -10,6 +10,8 @@ plus_assoc a b c = λ i. record {
   failures = sym (add_assoc a.failures b.failures c.failures) i;
   items = sym (add_assoc a.items b.items c.items) i;
   bad_names = sym (add_assoc a.bad_names b.bad_names c.bad_names) i;
+  opened = sym (add_assoc a.opened b.opened c.opened) i;
+  ended = sym (add_assoc a.ended b.ended c.ended) i;
 }
 
 pub plus_none : (a : Tally) → plus a no_counts ≡ plus no_counts a
@@ -19,4 +21,6 @@ plus_none a = λ i. record {
   failures = (add-zero a.failures ∙ sym (zero-add a.failures)) i;
   items = (add-zero a.items ∙ sym (zero-add a.items)) i;
   bad_names = (add-zero a.bad_names ∙ sym (zero-add a.bad_names)) i;
+  opened = (add-zero a.opened ∙ sym (zero-add a.opened)) i;
+  ended = (add-zero a.ended ∙ sym (zero-add a.ended)) i;
 }

@@ -1,14 +1,18 @@
 -- All items of a folder, taken one by one.
-use Rattle.std.proofs.Common.{◌≡◌, ◌≤◌, ℕ, List, [], ◌∷◌, ◌++◌, length, map, take, Option, Some, None}
-use Rattle.std.proofs.Common.{Ok, Vec, refl, sym, ◌∙◌, ap, subst, arith, append_assoc}
+use Rattle.std.proofs.Common.{◌≡◌, ◌<◌, ◌≤◌, ◌-◌, min, ℕ, List, [], ◌∷◌, ◌++◌, length, map, take, Option, Some, None}
+use Rattle.std.proofs.Common.{Ok, Err, Result, Vec, refl, sym, ◌∙◌, ap, subst, arith, append_assoc}
 use Rattle.std.specs.Option.{option_map}
 use Rattle.std.proofs.lemmas.List.{map-append, append-nil, take_all, length-map}
 use Rattle.std.proofs.Math.Seq.{take-append_seam}
 use Rattle.wax_directory.specs.declared.directory.ListItem.{ListItem}
+use Rattle.wax_directory.specs.declared.directory.ListItem.TheVariants as I
 use Rattle.wax_directory.specs.declared.tally.Tally.{Tally}
 use Rattle.wax_directory.specs.Answers.{listed_of, Opens, NextIs, ListIs}
 use Rattle.wax_directory.specs.Calls.{OpenCall, Nexts}
-use Rattle.wax_directory.specs.Counting.{Counts, plus, item_counts, items_counts, next_counts}
+use Rattle.wax_directory.specs.Counting.{Counts, plus, item_counts, items_counts, next_counts, end_counts, opening_counts}
+use Rattle.wax_directory.specs.Listing.{listing_counts, CountsListed}
+use Rattle.wax_directory.specs.declared.directory.DirectoryFault.{DirectoryFault}
+use Rattle.wax_directory.specs.declared.directory.DirectoryFault.TheVariants.{Failed, Memory}
 use Rattle.wax_directory.specs.Law.{Law, ShowsSame, HoldsLast}
 use Rattle.wax_directory.proofs.Counts.{plus_assoc, plus_none}
 use Rattle.wax_directory.specs.Shown.{Items, end, leaf, folder, sealed, misnamed, unread, not_text, Shown}
@@ -24,7 +28,49 @@ counts_on n a b c h i = record {
   failures = omega (arith, h.failures, i.failures);
   items = omega (arith, h.items, i.items);
   bad_names = omega (arith, h.bad_names, i.bad_names);
+  opened = omega (arith, h.opened, i.opened);
+  ended = omega (arith, h.ended, i.ended);
 }
+
+-- a listing came to its end
+pub counts_end : (items : List ListItem) (most : ℕ) (a b c : Tally) → Counts (listing_counts items 1 0) a b
+    → Counts end_counts b c → length items < most
+    → Counts (listing_counts items 1 (min 1 (most - length items))) a c
+counts_end items most a b c h i less = record {
+  misses = omega (arith, h.misses, i.misses);
+  leaves = omega (arith, h.leaves, i.leaves);
+  failures = omega (arith, h.failures, i.failures);
+  items = omega (arith, h.items, i.items);
+  bad_names = omega (arith, h.bad_names, i.bad_names);
+  opened = omega (arith, h.opened, i.opened);
+  ended = omega (arith, h.ended, i.ended, less);
+}
+
+-- all items that were wanted were taken, so that the end wasn't asked for
+pub counts_most : (items : List ListItem) (most : ℕ) (a b : Tally) → Counts (listing_counts items 1 0) a b
+    → length items ≡ most → Counts (listing_counts items 1 (min 1 (most - length items))) a b
+counts_most items most a b h many = record {
+  misses = h.misses;
+  leaves = h.leaves;
+  failures = h.failures;
+  items = h.items;
+  bad_names = h.bad_names;
+  opened = h.opened;
+  ended = omega (arith, h.ended, many);
+}
+
+-- the folder can't be opened
+pub opening_failed : {Z : Type 0} (C : Type 0) (most : ℕ) (r : Result (Vec ListItem Z) DirectoryFault)
+    (e : DirectoryFault) (a b : Tally) → r ≡ Err e → Counts (opening_counts {A = C} (Err e)) a b
+    → CountsListed most r a b
+opening_failed C most r Failed a b is h = subst (λ v. CountsListed most v a b) (sym is) h
+opening_failed C most r Memory a b is h =
+    subst (λ v. CountsListed most v a b) (sym is) ([], 0, omega arith, omega arith, h)
+
+item_opens : (x : ListItem) → ((item_counts x).opened ≡ 0) × ((item_counts x).ended ≡ 0)
+item_opens (I.Name name kind) = (refl, refl)
+item_opens I.Failed = (refl, refl)
+item_opens I.NotText = (refl, refl)
 
 counted_more : (items : List ListItem) (x : ListItem) → items_counts (items ++ x ∷ []) ≡ plus
     (items_counts items) (item_counts x)
@@ -32,13 +78,19 @@ counted_more [] x = plus_none (item_counts x)
 counted_more (y ∷ items) x = ap (plus (item_counts y)) (counted_more items x) ∙ plus_assoc (item_counts y)
     (items_counts items) (item_counts x)
 
-counts_sum : (n k a b c : Tally) → Counts n a b → Counts k b c → Counts (plus n k) a c
-counts_sum n k a b c h i = record {
+counts_sum : (items : List ListItem) (x : ListItem) (a b c : Tally) → Counts (listing_counts items 1 0) a b
+    → Counts (item_counts x) b c → Counts (record (plus (items_counts items) (item_counts x)) {
+      opened = 1;
+      ended = 0;
+    }) a c
+counts_sum items x a b c h i = let none = item_opens x in record {
   misses = omega (arith, h.misses, i.misses);
   leaves = omega (arith, h.leaves, i.leaves);
   failures = omega (arith, h.failures, i.failures);
   items = omega (arith, h.items, i.items);
   bad_names = omega (arith, h.bad_names, i.bad_names);
+  opened = omega (arith, h.opened, i.opened, none.0);
+  ended = omega (arith, h.ended, i.ended, none.1);
 }
 
 -- ---- the first item and those after it
@@ -168,7 +220,7 @@ module _ {D C : Type 0} (law : Law D C) where
         → law.holds old cursors ls → Coming (HoldsLast law new cursors ls cursor) s items
     pub shown : ShowsSame law old new
     pub told : (t : List (List ℕ)) → law.tells old t → law.tells new (t ++ path ∷ [])
-    pub counted : Counts (items_counts items) (law.tally old) (law.tally new)
+    pub counted : Counts (listing_counts items 1 0) (law.tally old) (law.tally new)
 
   -- no item was taken yet
   pub taken_none : (path : List ℕ) (old new : D) (cursor : C) → OpenCall law old path (Ok cursor) new
@@ -200,8 +252,9 @@ module _ {D C : Type 0} (law : Law D C) where
             (h.coming s cursors ls k held);
         shown = λ at s k. shown at s (h.shown at s k);
         told = λ t k. told (t ++ path ∷ []) (h.told t k);
-        counted = let E : Tally → Type 0 = λ n. Counts n (law.tally old) (law.tally new) in subst E
-            (sym (counted_more items x)) (counts_sum _ _ _ _ _ h.counted count);
+        counted = let E : Tally → Type 0 = λ n. Counts (record n { opened = 1; ended = 0 })
+            (law.tally old) (law.tally new) in subst E
+            (sym (counted_more items x)) (counts_sum items x _ _ _ h.counted count);
       })
 
   -- what is left of the folder may be dropped

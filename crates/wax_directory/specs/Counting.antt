@@ -12,7 +12,15 @@ use Rattle.wax_directory.specs.declared.tally.Tally.{Tally}
 use Rattle.wax_directory.specs.Names.{is_plain}
 
 abbrev pub no_counts : Tally
-no_counts = record { misses = 0; leaves = 0; failures = 0; items = 0; bad_names = 0 }
+no_counts = record {
+  misses = 0;
+  leaves = 0;
+  failures = 0;
+  items = 0;
+  bad_names = 0;
+  opened = 0;
+  ended = 0;
+}
 
 -- what a result of `kind` adds: a miss if nothing is there, a leaf for a file or a link, or a failure
 abbrev pub kind_counts : Result (Option FileType) DirectoryFault → Tally
@@ -23,10 +31,10 @@ kind_counts (Ok (Some F.Folder)) = no_counts
 kind_counts (Err Failed) = record no_counts { failures = 1 }
 kind_counts (Err Memory) = no_counts
 
--- what a result of `open` adds
+-- what a result of `open` adds: a folder that can't be listed is at its end at once
 abbrev pub opening_counts : {A : Type 0} → Result A DirectoryFault → Tally
-opening_counts (Ok cursor) = no_counts
-opening_counts (Err Failed) = record no_counts { failures = 1 }
+opening_counts (Ok cursor) = record no_counts { opened = 1 }
+opening_counts (Err Failed) = record no_counts { failures = 1; opened = 1; ended = 1 }
 opening_counts (Err Memory) = no_counts
 
 -- what an item adds
@@ -36,9 +44,13 @@ item_counts (I.Name name kind) =
 item_counts I.Failed = record no_counts { items = 1; failures = 1 }
 item_counts I.NotText = record no_counts { items = 1; failures = 1 }
 
+-- what the end of a listing adds
+abbrev pub end_counts : Tally
+end_counts = record no_counts { ended = 1 }
+
 -- what a result of `next` adds
 abbrev pub next_counts : Result (Option ListItem) NoMemory → Tally
-next_counts (Ok None) = no_counts
+next_counts (Ok None) = end_counts
 next_counts (Ok (Some x)) = item_counts x
 next_counts (Err e) = no_counts
 
@@ -49,6 +61,8 @@ plus n k = record {
   failures = n.failures + k.failures;
   items = n.items + k.items;
   bad_names = n.bad_names + k.bad_names;
+  opened = n.opened + k.opened;
+  ended = n.ended + k.ended;
 }
 
 -- what these items add
@@ -67,6 +81,8 @@ after_counting n old = record {
   failures = grown n.failures old.failures;
   items = grown n.items old.items;
   bad_names = grown n.bad_names old.bad_names;
+  opened = grown n.opened old.opened;
+  ended = grown n.ended old.ended;
 }
 
 -- each count grew by that of n, up to the greatest u64
@@ -76,3 +92,5 @@ pub record Counts (n old new : Tally) : Type 0 where
   pub failures : new.failures ≡ grown n.failures old.failures
   pub items : new.items ≡ grown n.items old.items
   pub bad_names : new.bad_names ≡ grown n.bad_names old.bad_names
+  pub opened : new.opened ≡ grown n.opened old.opened
+  pub ended : new.ended ≡ grown n.ended old.ended

@@ -1,5 +1,5 @@
 -- What a directory reports and counts when the items of a folder are listed in one call.
-use Rattle.std.specs.Prelude.{ℕ, ◌≤◌, ◌⊎◌, List, [], ◌∷◌, ◌++◌, length, Result, Ok, Err, Vec}
+use Rattle.std.specs.Prelude.{ℕ, ◌-◌, ◌≤◌, ◌⊎◌, min, List, [], ◌∷◌, ◌++◌, length, Result, Ok, Err, Vec}
 use Rattle.wax_directory.specs.declared.directory.ListItem.{ListItem}
 use Rattle.wax_directory.specs.declared.directory.DirectoryFault.{DirectoryFault}
 use Rattle.wax_directory.specs.declared.directory.DirectoryFault.TheVariants.{Failed, Memory}
@@ -20,10 +20,17 @@ abbrev pub TellsListed : {Z : Type 0} → (List (List ℕ) → Type 0) → List 
 TellsListed tells path (Err Memory) t = tells t ⊎ tells (t ++ path ∷ [])
 TellsListed tells path r t = tells (t ++ path ∷ [])
 
--- the returned items were counted, or one failure; if allocation failed, the items that were taken until
--- then, at most `most`
+-- what a listing adds of which these items were taken, if `opened` folders were opened and `ended` listings
+-- came to their end
+abbrev pub listing_counts : List ListItem → ℕ → ℕ → Tally
+listing_counts items opened ended = record (items_counts items) { opened = opened; ended = ended }
+
+-- one folder was opened. The returned items were counted, and the end if they are fewer than `most`; or one
+-- failure. If allocation failed, the items that were taken until then were counted, at most `most`
 abbrev pub CountsListed : {Z : Type 0} → ℕ → Result (Vec ListItem Z) DirectoryFault → Tally → Tally → Type 0
-CountsListed most (Ok answer) old new = Counts (items_counts answer.items) old new
-CountsListed most (Err Failed) old new = Counts (record no_counts { failures = 1 }) old new
-CountsListed most (Err Memory) old new = (items : List ListItem) × (length items ≤ most) × Counts
-    (items_counts items) old new
+CountsListed most (Ok answer) old new =
+    Counts (listing_counts answer.items 1 (min 1 (most - length answer.items))) old new
+CountsListed most (Err Failed) old new = Counts (record no_counts { failures = 1; opened = 1; ended = 1 })
+    old new
+CountsListed most (Err Memory) old new = (items : List ListItem) × (opened : ℕ) × (length items ≤ most)
+    × (opened ≤ 1) × Counts (listing_counts items opened 0) old new

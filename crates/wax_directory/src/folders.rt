@@ -132,6 +132,7 @@ impl Directory for Folders {
         cursor: &mut Box<ReadDir>,
     ) -> Result<Option<ListItem>, NoMemory> {
         let Some(entry) = cursor.next() else {
+            self.tally.add(Tally::of_end());
             return Ok(None);
         };
         let item = listed(alloc, entry)?;

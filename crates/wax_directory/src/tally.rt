@@ -2,7 +2,7 @@
 
 ghost use Rattle.std.specs.Prelude.{◌≡◌};
 ghost use Rattle.wax_directory.specs.Counting.{after_counting, kind_counts, opening_counts, item_counts};
-ghost use Rattle.wax_directory.specs.Counting.{no_counts};
+ghost use Rattle.wax_directory.specs.Counting.{no_counts, end_counts};
 
 use crate::directory::{DirectoryFault, FileType, ListItem};
 use crate::name::is_plain;
@@ -21,6 +21,11 @@ pub struct Tally {
     pub items: u64,
     /// Names among them that no path can hold.
     pub bad_names: u64,
+    /// Calls of `open` that returned a cursor or `DirectoryFault::Failed`.
+    pub opened: u64,
+    /// Listings that came to their end: calls of `next` that returned `None`, and those of `open`
+    /// that returned `DirectoryFault::Failed`.
+    pub ended: u64,
 }
 
 impl Tally {
@@ -34,6 +39,8 @@ impl Tally {
             failures: 0,
             items: 0,
             bad_names: 0,
+            opened: 0,
+            ended: 0,
         }
     }
 
@@ -56,9 +63,24 @@ impl Tally {
         ensures { result ≡ opening_counts answer.now }
     {
         let mut tally = Tally::none();
-        if let Err(DirectoryFault::Failed) = answer {
-            tally.failures = 1;
+        match answer {
+            Ok(_) => tally.opened = 1,
+            Err(DirectoryFault::Failed) => {
+                tally.opened = 1;
+                tally.ended = 1;
+                tally.failures = 1;
+            }
+            Err(DirectoryFault::Memory) => {}
         }
+        tally
+    }
+
+    /// Counts the end of a listing, at which `next` returned `None`.
+    pub fn of_end() -> Tally
+        ensures { result ≡ end_counts }
+    {
+        let mut tally = Tally::none();
+        tally.ended = 1;
         tally
     }
 
@@ -84,5 +106,7 @@ impl Tally {
         self.failures = self.failures.saturating_add(more.failures);
         self.items = self.items.saturating_add(more.items);
         self.bad_names = self.bad_names.saturating_add(more.bad_names);
+        self.opened = self.opened.saturating_add(more.opened);
+        self.ended = self.ended.saturating_add(more.ended);
     }
 }

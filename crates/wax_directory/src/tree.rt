@@ -355,6 +355,7 @@ impl Directory for Tree {
         cursor: &mut TreeCursor,
     ) -> Result<Option<ListItem>, NoMemory> {
         let Some(item) = self.item(alloc, cursor)? else {
+            self.tally.add(Tally::of_end());
             return Ok(None);
         };
         cursor.next += 1;

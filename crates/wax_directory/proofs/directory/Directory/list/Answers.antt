@@ -1,8 +1,11 @@
 use Rattle.std.proofs.Common.{rules, arith, ap, ◌∙◌, length, length-append, ◌+◌, ◌++◌, ◌∷◌}
-use Rattle.std.proofs.Common.{[], refl}
+use Rattle.std.proofs.Common.{[], refl, subst, Option, Ok, Err, ◌≡◌}
 use Rattle.wax_directory.specs.Law.{HoldsLast}
 use Rattle.wax_directory.proofs.Listing.{taken_none, taken_more, coming_end, coming_most}
 use Rattle.wax_directory.proofs.Listing.{coming_still, coming_kept, left_dropped}
+use Rattle.wax_directory.proofs.Listing.{counts_on, counts_end, counts_most, opening_failed}
+use Rattle.wax_directory.specs.Counting.{Counts, next_counts}
+use Rattle.wax_directory.specs.declared.directory.ListItem.{ListItem}
 use Rattle.wax_directory.proofs.directory.Directory.list.Goals as goal
 
 pub returns-in_err-cursor-clause-list : goal.returns-in_err-cursor-clause-list
@@ -75,14 +78,44 @@ returns-in_default-clause-counted g c =
     c.in-Ok-Some.field-0 c.in-Ok-Some.item c.loop.invariant.taken c.in-Ok-Some.field-0-is e.nexts e.shown
     e.told e.counted refl in (
       c.loop.items.items ++ c.in-Ok-Some.item ∷ [],
+      1,
       omega (
         arith,
         length-append c.loop.items.items (c.in-Ok-Some.item ∷ []),
         c.loop-test.true,
         c.loop.invariant.turns,
       ),
+      omega arith,
       taken.counted,
     )
+
+pub returns-in_err-cursor-clause-counted : goal.returns-in_err-cursor-clause-counted
+returns-in_err-cursor-clause-counted g c =
+    let e : c.from_residual.result ≡ Err c.in_err-cursor.field-0.0 = search rules in
+    opening_failed g.row.Self-Cursor.Denot c.args.most c.from_residual.result c.in_err-cursor.field-0.0 _ _ e
+    c.in_err-cursor.ensures.counted
+
+pub returns-in-Ok-None-clause-counted : goal.returns-in-Ok-None-clause-counted
+returns-in-Ok-None-clause-counted g c =
+    let K : Option ListItem → Type 0 = λ v. Counts (next_counts (Ok v)) (g.Self.Directory.law.tally c.loop.self)
+    (g.Self.Directory.law.tally c.next.new.self) in
+    counts_end c.loop.items.items c.args.most _ _ _ c.loop.invariant.taken.counted
+    (subst K c.in-Ok-None.field-0-is c.in-Ok-None.ensures.counted)
+    (omega (arith, c.loop-test.true, c.loop.invariant.turns))
+
+pub returns-in-Err-clause-counted : goal.returns-in-Err-clause-counted
+returns-in-Err-clause-counted g c = (
+  c.loop.items.items,
+  1,
+  omega (arith, c.loop-test.true, c.loop.invariant.turns),
+  omega arith,
+  counts_on _ _ _ _ c.loop.invariant.taken.counted c.in-Err.ensures.counted,
+)
+
+pub returns-clause-counted : goal.returns-clause-counted
+returns-clause-counted g c =
+    counts_most c.loop.items.items c.args.most _ _ c.loop.invariant.taken.counted
+    (omega (arith, c.loop-test.false, c.loop.invariant.turns, c.loop.auto.counter-end))
 
 pub loop-preserved : goal.loop-preserved
 loop-preserved g c = record {
