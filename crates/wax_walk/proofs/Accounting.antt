@@ -1,13 +1,14 @@
 -- What a call counts, takes and ends, call by call.
-use Rattle.std.proofs.Common.{◌≡◌, ℕ, ◌+◌, ◌<◌, ◌≤◌, refl, sym, subst, ◌∙◌, arith, inl, inr}
+use Rattle.std.proofs.Common.{◌≡◌, ℕ, ◌+◌, ◌<◌, ◌≤◌, true, refl, sym, subst, ◌∙◌, arith, inl, inr}
 use Rattle.std.specs.Prelude.{Option, Some, None, ◌⊎◌}
 use Rattle.wax_directory.specs.Counting.{no_counts, plus, grown}
 use Rattle.wax_directory.specs.Law.{Law}
 use Rattle.wax_directory.specs.declared.tally.Tally.{Tally}
 use Rattle.wax_walk.specs.declared.error.FaultKind.TheVariants.{NotFound, NotAFolder, Listing, BadName}
 use Rattle.wax_walk.specs.declared.error.FaultKind.TheVariants.{NotText, Budget}
-use Rattle.wax_walk.specs.Given.{Given, Mark, entry, fault, no_memory, with_mark}
-use Rattle.wax_walk.specs.View.{WalkView, CountsFaults, fault_counts, IsLast, IsMisplaced, Takes}
+use Rattle.wax_walk.specs.Given.{Given, Mark, entry, fault, no_memory, with_mark, is_cut}
+use Rattle.wax_walk.specs.Given.{kept, alone, with_tree}
+use Rattle.wax_walk.specs.View.{WalkView, CountsFaults, fault_counts, IsLast, IsMisplaced, Takes, IsToOpen}
 use Rattle.wax_walk.specs.View.{GivesOrStops, Accounts, FeedStep}
 use Rattle.wax_walk.specs.Forest.{Pending}
 
@@ -95,6 +96,9 @@ pub record IsAsked {D : Type 0} (outer inner : WalkView D) : Type 0 where
   pub directory : outer.directory ≡ inner.directory
   pub listings_left : outer.listings_left ≡ inner.listings_left
   pub names_left : outer.names_left ≡ inner.names_left
+  pub listings_open : outer.listings_open ≡ inner.listings_open
+  pub to_open : outer.to_open ≡ inner.to_open
+  pub opens_above : outer.opens_above ≡ inner.opens_above
   pub ended : outer.has_ended → inner.has_ended
   pub idle : outer.is_idle → inner.is_idle
 
@@ -102,6 +106,8 @@ pub record HasAnswered {D : Type 0} (outer inner : WalkView D) : Type 0 where
   pub directory : outer.directory ≡ inner.directory
   pub listings_left : outer.listings_left ≡ inner.listings_left
   pub names_left : outer.names_left ≡ inner.names_left
+  pub listings_open : outer.listings_open ≡ inner.listings_open
+  pub opens_above : outer.opens_above ≡ inner.opens_above
   pub ended : inner.has_ended → outer.has_ended
   pub idle : inner.is_idle → outer.is_idle
 
@@ -116,6 +122,32 @@ misplaced_marked (entry k f) m i = absurd i
 misplaced_marked (fault kind path depth) m i = i
 misplaced_marked no_memory m i = absurd i
 
+-- a folder that a filter leaves to be opened was to be opened before
+pub opened_marked : (most : ℕ) (x : Given) (m : Mark) → IsToOpen most (Some (with_mark x m))
+    → IsToOpen most (Some x)
+opened_marked most (entry kept f) kept i = i
+opened_marked most (entry kept f) alone i = i
+opened_marked most (entry kept f) with_tree i = cc
+opened_marked most (entry alone f) kept i = i
+opened_marked most (entry alone f) alone i = i
+opened_marked most (entry alone f) with_tree i = cc
+opened_marked most (entry with_tree f) m i = i
+opened_marked most (fault kind path depth) m i = i
+opened_marked most no_memory m i = i
+
+-- a folder below which a filter cancels isn't to be opened
+pub opened_uncut : (most : ℕ) (x : Given) (m : Mark) → true ≡ is_cut x m
+    → IsToOpen most (Some (with_mark x m)) → ⊥
+opened_uncut most (entry kept f) kept c i = cc
+opened_uncut most (entry kept f) alone c i = cc
+opened_uncut most (entry kept f) with_tree c i = cc
+opened_uncut most (entry alone f) kept c i = cc
+opened_uncut most (entry alone f) alone c i = cc
+opened_uncut most (entry alone f) with_tree c i = cc
+opened_uncut most (entry with_tree f) m c i = cc
+opened_uncut most (fault kind path depth) m c i = cc
+opened_uncut most no_memory m c i = cc
+
 module _ {D C : Type 0} (law : Law D C) where
   pub accounts_moved : (v w outer new : WalkView D) (r : Option Given) → Accounts law v r w → IsAsked outer v
       → HasAnswered new w → Accounts law outer r new
@@ -124,6 +156,10 @@ module _ {D C : Type 0} (law : Law D C) where
       let B : D → Type 0 = λ d. CountsFaults (fault_counts r) (law.tally outer.directory) (law.tally d) in
       let A' : D → Type 0 = λ d. (law.tally w.directory).items ≡ grown h.taken (law.tally d).items in
       let B' : D → Type 0 = λ d. (law.tally d).items ≡ grown h.taken (law.tally outer.directory).items in
+      let OA : D → Type 0 = λ d. (law.tally w.directory).opened ≡ grown h.opened (law.tally d).opened in
+      let OB : D → Type 0 = λ d. (law.tally d).opened ≡ grown h.opened (law.tally outer.directory).opened in
+      let EA : D → Type 0 = λ d. (law.tally w.directory).ended ≡ grown h.ended (law.tally d).ended in
+      let EB : D → Type 0 = λ d. (law.tally d).ended ≡ grown h.ended (law.tally outer.directory).ended in
       let L : ℕ → Type 0 = λ n. Takes r n h.taken w.listings_left in
       let M : ℕ → Type 0 = λ n. Takes r outer.listings_left h.taken n in
       record {
@@ -131,6 +167,12 @@ module _ {D C : Type 0} (law : Law D C) where
         taken = h.taken;
         takes = subst M (sym a.listings_left) (subst L (sym b.listings_left) h.takes);
         counted = subst B' (sym a.directory) (subst A' (sym b.directory) h.counted);
+        opened = h.opened;
+        opened_is = subst OB (sym a.directory) (subst OA (sym b.directory) h.opened_is);
+        ended = h.ended;
+        ended_is = subst EB (sym a.directory) (subst EA (sym b.directory) h.ended_is);
+        opens = λ n. omega (arith, h.opens n, b.to_open);
+        closes = λ n. omega (arith, h.closes n, b.listings_open, a.listings_open);
         ends = λ i. a.ended (h.ends i);
       }
 
@@ -143,6 +185,12 @@ module _ {D C : Type 0} (law : Law D C) where
         taken = h.taken;
         takes = h.takes;
         counted = h.counted;
+        opened = h.opened;
+        opened_is = h.opened_is;
+        ended = h.ended;
+        ended_is = h.ended_is;
+        opens = h.opens;
+        closes = h.closes;
         ends =
             λ i. absurd i;
       }
@@ -158,6 +206,12 @@ module _ {D C : Type 0} (law : Law D C) where
     takes = takes_more r h.taken b.listings_left i.taken c.listings_left a.listings_left (h.taken + i.taken)
         h.takes refl i.takes;
     counted = grown_then h.taken i.taken _ _ _ h.counted i.counted;
+    opened = h.opened + i.opened;
+    opened_is = grown_then h.opened i.opened _ _ _ h.opened_is i.opened_is;
+    ended = h.ended + i.ended;
+    ended_is = grown_then h.ended i.ended _ _ _ h.ended_is i.ended_is;
+    opens = λ n. omega (arith, h.opens (λ v. v));
+    closes = λ n. omega (arith, h.closes (λ v. v), i.closes n);
     ends = i.ends;
   }
 
@@ -178,6 +232,9 @@ module _ {D C : Type 0} (law : Law D C) where
       gives = gives;
       accounts = accounts_moved v w outer new None f.accounts b a;
       at_end = λ e. a.ended (f.at_end e);
+      closed = λ e. omega (arith, f.closed e, a.listings_open);
+      to_open = λ i. absurd i;
+      above = a.opens_above ∙ (f.above ∙ sym b.opens_above);
       stays = λ e. let s = f.stays (b.ended e) in (s.0, a.ended s.1);
       idles = idles_moved None f;
       names = omega (arith, f.names, a.names_left, b.names_left);
@@ -185,9 +242,10 @@ module _ {D C : Type 0} (law : Law D C) where
     }
 
     pub step_marked : (x y : Given) (m : Mark) → y ≡ with_mark x m → FeedStep law v (Some x) w
+        → (IsToOpen outer.opens_above (Some y) → new.to_open ≡ 1)
         → ((p : Pending Given) → outer.to_come p → GivesOrStops outer p (Some y) new)
         → FeedStep law outer (Some y) new
-    step_marked x y m e f gives =
+    step_marked x y m e f opens gives =
         let A : Given → Type 0 = λ z. Accounts law v (Some z) w in
         let M : Given → Type 0 = λ z. IsMisplaced (Some z) → 0 < v.names_left in
         record {
@@ -195,6 +253,9 @@ module _ {D C : Type 0} (law : Law D C) where
           accounts = accounts_moved v w outer new (Some y)
               (subst A (sym e) (accounts_marked v w x m f.accounts)) b a;
           at_end = λ i. (cc);
+          closed = λ i. (cc);
+          to_open = opens;
+          above = a.opens_above ∙ (f.above ∙ sym b.opens_above);
           stays = λ i. let s : Some x ≡ None = (f.stays (b.ended i)).0 in absurd (cc);
           idles = idles_moved (Some x) f;
           names = omega (arith, f.names, a.names_left, b.names_left);

@@ -8,16 +8,33 @@ use Rattle.wax_walk.specs.declared.iterator.EntryResidue.{EntryResidue}
 use Rattle.wax_walk.specs.Forest.{cancelled}
 use Rattle.wax_walk.specs.Given.{Given, Facts, Mark, mark_by, with_mark, is_cut}
 use Rattle.wax_walk.specs.Says.{SaysByRule, closure_view}
-use Rattle.wax_walk.specs.View.{WalkView, FeedStep, CancelStep, GivesOrStops}
-use Rattle.wax_walk.proofs.Accounting.{IsAsked, HasAnswered, step_ends, step_marked}
+use Rattle.wax_walk.specs.View.{WalkView, FeedStep, CancelStep, GivesOrStops, IsToOpen}
+use Rattle.wax_walk.proofs.Accounting.{IsAsked, HasAnswered, step_ends, step_marked, opened_marked, opened_uncut}
 use Rattle.wax_walk.proofs.Filtering.{layer_ends, layer_cuts, layer_passes}
 
 module _ {D C F : Type 0} (law : Law D C) (step : F → Bor TreeEntry → Option EntryResidue → F → Type 0) where
   asked : (v : WalkView D) (f : F) → IsAsked (closure_view step v f) v
-  asked v f = record { directory = refl; listings_left = refl; names_left = refl; ended = λ i. i; idle = λ i. i }
+  asked v f = record {
+    directory = refl;
+    listings_left = refl;
+    names_left = refl;
+    listings_open = refl;
+    to_open = refl;
+    opens_above = refl;
+    ended = λ i. i;
+    idle = λ i. i;
+  }
 
   answered : (w : WalkView D) (f : F) → HasAnswered (closure_view step w f) w
-  answered w f = record { directory = refl; listings_left = refl; names_left = refl; ended = λ i. i; idle = λ i. i }
+  answered w f = record {
+    directory = refl;
+    listings_left = refl;
+    names_left = refl;
+    listings_open = refl;
+    opens_above = refl;
+    ended = λ i. i;
+    idle = λ i. i;
+  }
 
   answered_cut : (w u : WalkView D) (f : F) → CancelStep w u → HasAnswered (closure_view step u f) w
   answered_cut w u f k =
@@ -25,6 +42,8 @@ module _ {D C F : Type 0} (law : Law D C) (step : F → Bor TreeEntry → Option
         directory = k.directory;
         listings_left = k.listings_left;
         names_left = k.names_left;
+        listings_open = k.listings_open;
+        opens_above = k.opens_above;
         ended = k.ends;
         idle = k.idles;
       }
@@ -45,6 +64,8 @@ module _ {D C F : Type 0} (law : Law D C) (step : F → Bor TreeEntry → Option
       → SaysOf f x m t → y ≡ with_mark x m → false ≡ is_cut x m → FeedStep law (closure_view step v f)
       (Some y) (closure_view step w t)
   closure_passes v w f t x y m h says k n = step_marked law v w _ _ (asked v f) (answered w t) x y m k h
+      (λ i. h.to_open (opened_marked v.opens_above x m
+      (subst (λ z. IsToOpen v.opens_above (Some z)) k i)))
       (λ q s.
       let p = s.2 in
       let o = says s.0 s.1 in
@@ -56,7 +77,8 @@ module _ {D C F : Type 0} (law : Law D C) (step : F → Bor TreeEntry → Option
       → SaysOf f x m t → y ≡ with_mark x m → true ≡ is_cut x m → CancelStep w u
       → FeedStep law (closure_view step v f) (Some y) (closure_view step u t)
   closure_cuts v w u f t x y m h says k n c = step_marked law v w _ _ (asked v f) (answered_cut w u t c) x y m
-      k h (λ q s.
+      k h (λ i. absurd (opened_uncut v.opens_above x m n
+      (subst (λ z. IsToOpen v.opens_above (Some z)) k i))) (λ q s.
       let p = s.2 in
       let o = says s.0 s.1 in
       subst (λ z. GivesOrStops (closure_view step v f) z (Some y) (closure_view step u t)) (sym p.2)

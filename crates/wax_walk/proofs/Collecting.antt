@@ -1,5 +1,5 @@
 -- A loop that takes all that a walk yields.
-use Rattle.std.proofs.Common.{◌≡◌, ℕ, ◌+◌, ◌<◌, ◌≤◌, true, false, length, length-append, List, []}
+use Rattle.std.proofs.Common.{◌≡◌, ℕ, ◌+◌, ◌<◌, ◌≤◌, Bool, true, false, cond, length, length-append, List, []}
 use Rattle.std.proofs.Common.{◌∷◌, ◌++◌, refl, sym, ap, subst, ◌∙◌, append_assoc, inl, inr, arith}
 use Rattle.std.specs.Prelude.{◌⊎◌, Option, Some, None, Result, Ok, Err, IfOk, filter, map}
 use Rattle.std.specs.List.{Contains}
@@ -16,7 +16,7 @@ use Rattle.wax_filter.specs.declared.filter.tree_residue.TreeResidue.TheVariants
 use Rattle.wax_walk.specs.declared.error.WalkError.{WalkError}
 use Rattle.wax_walk.specs.declared.error.WalkError.TheVariants.{Fault, Memory}
 use Rattle.wax_walk.specs.declared.error.FaultKind.TheVariants.{NotAFolder, Budget}
-use Rattle.wax_walk.specs.Collected.{IsCutShort, GaveAll, whole, Took, all_fault_counts}
+use Rattle.wax_walk.specs.Collected.{IsCutShort, GaveAll, whole, Took, all_fault_counts, NoneLast, count_to_open}
 use Rattle.wax_walk.specs.Collected as all
 use Rattle.wax_walk.specs.Entries.{given_of, given_outcome, given_residue}
 use Rattle.wax_walk.specs.Forest.{Forest, nothing, item, lists, followed_by, Pending, pending, all_pending}
@@ -24,7 +24,7 @@ use Rattle.wax_walk.specs.Forest.{FirstIs, IsListed, listed_next, preorder, list
 use Rattle.wax_walk.specs.Given.{Given, Facts, fault, no_memory, is_kept}
 use Rattle.wax_walk.specs.Known.{kept_of}
 use Rattle.wax_walk.specs.View.{WalkView, FeedStep, GivesOrStops, lacks_memory, over_budget, gives}
-use Rattle.wax_walk.specs.View.{CountsFaults, fault_counts, IsLast, IsMisplaced, Takes}
+use Rattle.wax_walk.specs.View.{CountsFaults, fault_counts, IsLast, IsMisplaced, Takes, IsToOpen, is_to_open}
 use Rattle.wax_walk.proofs.Accounting.{takes_within, takes_exactly, counts_faults_then, counts_then_none}
 use Rattle.wax_walk.proofs.Accounting.{counts_nothing, grown_then}
 
@@ -198,6 +198,21 @@ ended_more mid new xs x running ends ended before after y e last =
       | inr i ↦ absurd (running (ended before i.0 y i.1 last).1)
     ]
 
+-- ---- what was opened
+
+none_last_parts : (xs : List Given) (x : Given) → NoneLast (xs ++ x ∷ []) → NoneLast xs × ¬ (IsLast (Some x))
+none_last_parts [] x h = (tt, h.0)
+none_last_parts (y ∷ xs) x h = let p = none_last_parts xs x h.1 in ((h.0, p.0), p.1)
+
+opened_more : (most : ℕ) (xs : List Given) (x : Given)
+    → count_to_open most (xs ++ x ∷ []) ≡ count_to_open most xs + cond (is_to_open most x) 1 0
+opened_more most [] x = omega arith
+opened_more most (y ∷ xs) x = omega (arith, opened_more most xs x)
+
+one_opened : (b : Bool) (n : ℕ) → (b ≡ true → n ≡ 1) → cond b 1 0 ≤ n
+one_opened true n h = omega (arith, h refl)
+one_opened false n h = omega arith
+
 module _ {D C : Type 0} (law : Law D C) where
   -- these items were yielded, and `now` is the view of the walk; at most `less` more are to come, of `most`
   -- in all
@@ -216,6 +231,13 @@ module _ {D C : Type 0} (law : Law D C) where
         → 0 < walk.names_left
     pub ended : EndedThere now xs
     pub idle : walk.is_idle → now.is_idle × (now.directory ≡ walk.directory)
+    pub opened : ℕ
+    pub opened_is : (law.tally now.directory).opened ≡ grown opened (law.tally walk.directory).opened
+    pub ended_count : ℕ
+    pub ended_is : (law.tally now.directory).ended ≡ grown ended_count (law.tally walk.directory).ended
+    pub opens : NoneLast xs → walk.to_open + count_to_open walk.opens_above xs ≤ opened + now.to_open
+    pub closes : NoneLast xs → walk.listings_open + opened ≡ ended_count + now.listings_open
+    pub above : now.opens_above ≡ walk.opens_above
 
   module _ (walk mid new : WalkView D) (most less fewer : ℕ) (xs : List Given) where
     -- what was taken, with what a call took that gave an item
@@ -278,6 +300,23 @@ module _ {D C : Type 0} (law : Law D C) where
               c;
           ended = ended_more mid new xs x n a.ends h.ended;
           idle = idles_more (Some x) h f;
+          opened = h.opened + a.opened;
+          opened_is = grown_then h.opened a.opened _ _ _ h.opened_is a.opened_is;
+          ended_count = h.ended_count + a.ended;
+          ended_is = grown_then h.ended_count a.ended _ _ _ h.ended_is a.ended_is;
+          opens = λ m.
+              let p = none_last_parts xs x m in
+              let most = walk.opens_above in
+              let T : ℕ → Type 0 = λ v. IsToOpen v (Some x) → new.to_open ≡ 1 in
+              omega (
+                arith,
+                h.opens p.0,
+                a.opens p.1,
+                opened_more most xs x,
+                one_opened (is_to_open most x) new.to_open (subst T h.above f.to_open),
+              );
+          closes = λ m. let p = none_last_parts xs x m in omega (arith, h.closes p.0, a.closes p.1);
+          above = f.above ∙ h.above;
         }
 
     pub taking_end : Taking walk mid most less xs → FeedStep law mid None new
@@ -297,6 +336,12 @@ module _ {D C : Type 0} (law : Law D C) where
           misplaced = h.misplaced;
           ends_there = λ before after x e last. (h.ended before after x e last).0;
           unasked = λ i. (idles_more None h f i).1;
+          opened = h.opened + a.opened;
+          opened_is = grown_then h.opened a.opened _ _ _ h.opened_is a.opened_is;
+          ended = h.ended_count + a.ended;
+          ended_is = grown_then h.ended_count a.ended _ _ _ h.ended_is a.ended_is;
+          opens = λ m. omega (arith, h.opens m, a.opens (λ i. i));
+          closes = λ m. omega (arith, h.closes m, a.closes (λ i. i), f.closed refl);
         }
 
   pub taking_none : (walk : WalkView D) (most : ℕ) → Taking walk walk most most []
@@ -313,6 +358,13 @@ module _ {D C : Type 0} (law : Law D C) where
     misplaced = λ path depth c. absurd (contains_none (fault NotAFolder path depth) c);
     ended = λ before after x e last. absurd (none_split before after x e);
     idle = λ i. (i, refl);
+    opened = 0;
+    opened_is = omega arith;
+    ended_count = 0;
+    ended_is = omega arith;
+    opens = λ m. omega arith;
+    closes = λ m. omega arith;
+    above = refl;
   }
 
 -- ---- what is kept of it

@@ -1,5 +1,5 @@
 -- What a walk yielded, to its end.
-use Rattle.std.specs.Prelude.{◌≡◌, ℕ, ◌<◌, ◌≤◌, List, [], ◌∷◌, ◌++◌, Some}
+use Rattle.std.specs.Prelude.{◌≡◌, ℕ, ◌+◌, ◌<◌, ◌≤◌, cond, List, [], ◌∷◌, ◌++◌, Some, ⊤}
 use Rattle.std.specs.List.{Contains}
 use Rattle.wax_directory.specs.Counting.{no_counts, grown, plus}
 use Rattle.wax_directory.specs.Law.{Law}
@@ -7,7 +7,7 @@ use Rattle.wax_directory.specs.declared.tally.Tally.{Tally}
 use Rattle.wax_walk.specs.declared.error.FaultKind.TheVariants.{NotAFolder, Budget}
 use Rattle.wax_walk.specs.Forest.{Pending, all_pending, preorder, listings}
 use Rattle.wax_walk.specs.Given.{Given, fault, no_memory}
-use Rattle.wax_walk.specs.View.{WalkView, CountsFaults, IsLast, fault_counts}
+use Rattle.wax_walk.specs.View.{WalkView, CountsFaults, IsLast, fault_counts, is_to_open}
 
 -- the items are a prefix of `all`, and then x
 abbrev pub IsCutShort : List Given → Given → List Given → Type 0
@@ -36,6 +36,16 @@ abbrev pub EndsThere : List Given → Type 0
 EndsThere xs = (before after : List Given) (x : Given) → xs ≡ before ++ x ∷ after → IsLast (Some x)
     → after ≡ []
 
+-- no item ends the walk
+abbrev pub NoneLast : List Given → Type 0
+NoneLast [] = ⊤
+NoneLast (x ∷ xs) = ¬ (IsLast (Some x)) × NoneLast xs
+
+-- how many folders above this depth are among the items, without those that are excluded with everything below
+abbrev pub count_to_open : ℕ → List Given → ℕ
+count_to_open most [] = 0
+count_to_open most (x ∷ xs) = cond (is_to_open most x) 1 0 + count_to_open most xs
+
 -- a walk yielded these items to its end, and left the directory as `new`, unchanged if the walk was idle
 pub record Took {D C : Type 0} (law : Law D C) (walk : WalkView D) (new : D) (xs : List Given) : Type 0 where
   pub all : (p : Pending Given) → walk.to_come p → GaveAll (law.tells new) walk.listings_left p xs
@@ -48,3 +58,10 @@ pub record Took {D C : Type 0} (law : Law D C) (walk : WalkView D) (new : D) (xs
       → 0 < walk.names_left
   pub ends_there : EndsThere xs
   pub unasked : walk.is_idle → new ≡ walk.directory
+  -- if no item ended the walk, each yielded folder was opened, and each listing was read to its end
+  pub opened : ℕ
+  pub opened_is : (law.tally new).opened ≡ grown opened (law.tally walk.directory).opened
+  pub ended : ℕ
+  pub ended_is : (law.tally new).ended ≡ grown ended (law.tally walk.directory).ended
+  pub opens : NoneLast xs → walk.to_open + count_to_open walk.opens_above xs ≤ opened
+  pub closes : NoneLast xs → walk.listings_open + opened ≡ ended

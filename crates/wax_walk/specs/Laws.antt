@@ -1,5 +1,5 @@
 -- Proofs of laws that impls cite.
-use Rattle.std.specs.Prelude.{◌≡◌, List, ℕ, Bool, true, Option, Some, None, Result, Ok, Err, ◌⊎◌, ⊤}
+use Rattle.std.specs.Prelude.{◌≡◌, List, ℕ, Bool, true, cond, Option, Some, None, Result, Ok, Err, ◌⊎◌, ⊤}
 use Rattle.std.proofs.Common.{ap, subst, sym, ◌∙◌, inl, inr}
 use denote.Ref.{Bor}
 use Rattle.wax_filter.specs.declared.filter.separation.Separation.{Separation}
@@ -45,6 +45,8 @@ ruled_cancelling v w rules p q b c h e f = record {
   directory = h.directory;
   listings_left = h.listings_left;
   names_left = h.names_left;
+  listings_open = ap (λ n. cond c 0 n) h.listings_open ∙ ap (λ i. cond i 0 v.listings_open) f;
+  opens_above = h.opens_above;
   ends = λ i. ended_either b c v.has_ended w.has_ended f h.ends i;
   idles = λ i. ended_either b c v.is_idle w.is_idle f h.idles i;
 }
@@ -67,6 +69,8 @@ module _ {F : Type 0} (step : F → Bor TreeEntry → Option EntryResidue → F 
     directory = h.directory;
     listings_left = h.listings_left;
     names_left = h.names_left;
+    listings_open = h.listings_open;
+    opens_above = h.opens_above;
     ends = h.ends;
     idles = h.idles;
   }

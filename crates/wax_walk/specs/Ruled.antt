@@ -1,5 +1,5 @@
 -- The view of a walk that is filtered by a rule.
-use Rattle.std.specs.Prelude.{◌≡◌, ◌⊎◌, Bool, true, false}
+use Rattle.std.specs.Prelude.{◌≡◌, ◌⊎◌, Bool, true, false, cond}
 use Rattle.wax_walk.specs.Given.{Facts, Mark, ToComeFiltered}
 use Rattle.wax_walk.specs.View.{WalkView}
 
@@ -7,6 +7,8 @@ use Rattle.wax_walk.specs.View.{WalkView}
 abbrev pub ruled_view : {D : Type 0} → WalkView D → (Facts → Mark) → Bool → WalkView D
 ruled_view inner rule lacked = record inner {
   to_come = λ q. (lacked ≡ false) × ToComeFiltered inner.to_come rule q;
+  listings_open = cond lacked 0 inner.listings_open;
+  to_open = cond lacked 0 inner.to_open;
   has_ended = (lacked ≡ true) ⊎ inner.has_ended;
   is_idle = (lacked ≡ true) ⊎ inner.is_idle;
 }

@@ -1,20 +1,28 @@
 -- What contracts see of a walk, and how a call of `feed` and cancelling change it.
 use Rattle.std.specs.Prelude.{◌≡◌, ℕ, ◌+◌, ◌<◌, ◌≤◌, ◌^◌, ◌-◌, min, List, Option, Some, None, ⊤}
+use Rattle.std.specs.Prelude.{Bool, true, false, ◌&&◌, nat_lt}
 use Rattle.wax_directory.specs.Counting.{no_counts, grown}
+use Rattle.wax_directory.specs.declared.directory.FileType.{FileType}
+use Rattle.wax_directory.specs.declared.directory.FileType.TheVariants as F
 use Rattle.wax_directory.specs.Law.{Law}
 use Rattle.wax_directory.specs.declared.tally.Tally.{Tally}
 use Rattle.wax_walk.specs.declared.error.FaultKind.TheVariants.{NotFound, NotAFolder, Listing, BadName}
 use Rattle.wax_walk.specs.declared.error.FaultKind.TheVariants.{NotText, Budget}
 use Rattle.wax_walk.specs.Forest.{Pending, all_pending, cancelled, FirstIs, IsListed}
-use Rattle.wax_walk.specs.Given.{Given, fault, no_memory}
+use Rattle.wax_walk.specs.Given.{Given, entry, fault, no_memory, kept, alone, with_tree}
 
 -- what is to come; the directory; at most how many more items may be taken from listings; how many names are
--- left to follow to where the walk begins; that it has ended; and that it leaves the directory as it is
+-- left to follow to where the walk begins; how many listings are open; 1 if the last yielded entry is a folder
+-- that is still to be opened, else 0; the depth above which folders are opened; that the walk has ended; and
+-- that it leaves the directory as it is
 pub record WalkView (D : Type 0) : Type 1 where
   pub to_come : Pending Given → Type 0
   pub directory : D
   pub listings_left : ℕ
   pub names_left : ℕ
+  pub listings_open : ℕ
+  pub to_open : ℕ
+  pub opens_above : ℕ
   pub has_ended : Type 0
   pub is_idle : Type 0
 
@@ -41,6 +49,22 @@ IsLast r = ⊥
 abbrev pub IsMisplaced : Option Given → Type 0
 IsMisplaced (Some (fault NotAFolder path depth)) = ⊤
 IsMisplaced r = ⊥
+
+-- the item is a folder above this depth that isn't excluded with everything below it
+abbrev pub is_folder_kind : FileType → Bool
+is_folder_kind F.Folder = true
+is_folder_kind F.File = false
+is_folder_kind F.Link = false
+
+abbrev pub is_to_open : ℕ → Given → Bool
+is_to_open most (entry kept f) = is_folder_kind f.kind && nat_lt f.depth most
+is_to_open most (entry alone f) = is_folder_kind f.kind && nat_lt f.depth most
+is_to_open most (entry with_tree f) = false
+is_to_open most x = false
+
+abbrev pub IsToOpen : ℕ → Option Given → Type 0
+IsToOpen most (Some x) = is_to_open most x ≡ true
+IsToOpen most None = ⊥
 
 -- of the allowed items, n were taken and `left` remain: all the others while the walk goes on, and no more
 -- than those after an error that ends it; if the budget is reached, all were taken and none remain
@@ -71,14 +95,21 @@ module _ {D : Type 0} where
       gives : (items : ℕ) → ((IsLast r → ⊥) → items + old.listings_left ≤ p.items + new.listings_left)
           → FirstIs new.to_come (all_pending p) p.listed items r → GivesOrStops old p r new
 
-  -- what the directory counted, how many items were taken from listings, and that the walk has ended if the
-  -- item is its last
+  -- what the directory counted; how many items were taken from listings; how many folders were opened, and how
+  -- many listings came to their end; and that the walk has ended if the item is its last. If it isn't, a folder
+  -- that was to be opened was, and the listings that are open are those that were opened and not read to the end
   pub record Accounts {C : Type 0} (law : Law D C) (old : WalkView D) (r : Option Given) (new : WalkView D) :
       Type 0 where
     pub counts : CountsFaults (fault_counts r) (law.tally old.directory) (law.tally new.directory)
     pub taken : ℕ
     pub takes : Takes r old.listings_left taken new.listings_left
     pub counted : (law.tally new.directory).items ≡ grown taken (law.tally old.directory).items
+    pub opened : ℕ
+    pub opened_is : (law.tally new.directory).opened ≡ grown opened (law.tally old.directory).opened
+    pub ended : ℕ
+    pub ended_is : (law.tally new.directory).ended ≡ grown ended (law.tally old.directory).ended
+    pub opens : ¬ (IsLast r) → old.to_open ≤ opened
+    pub closes : ¬ (IsLast r) → old.listings_open + opened ≡ ended + new.listings_open
     pub ends : IsLast r → new.has_ended
 
   -- what a call of `feed` does that returns r
@@ -87,6 +118,9 @@ module _ {D : Type 0} where
     pub gives : (p : Pending Given) → old.to_come p → GivesOrStops old p r new
     pub accounts : Accounts law old r new
     pub at_end : r ≡ None → new.has_ended
+    pub closed : r ≡ None → new.listings_open ≡ 0
+    pub to_open : IsToOpen old.opens_above r → new.to_open ≡ 1
+    pub above : new.opens_above ≡ old.opens_above
     pub stays : old.has_ended → (r ≡ None) × new.has_ended
     pub idles : old.is_idle → new.is_idle × (new.directory ≡ old.directory)
     pub names : new.names_left ≤ old.names_left
@@ -98,6 +132,8 @@ module _ {D : Type 0} where
     pub directory : new.directory ≡ old.directory
     pub listings_left : new.listings_left ≡ old.listings_left
     pub names_left : new.names_left ≡ old.names_left
+    pub listings_open : new.listings_open ≡ old.listings_open
+    pub opens_above : new.opens_above ≡ old.opens_above
     pub ends : old.has_ended → new.has_ended
     pub idles : old.is_idle → new.is_idle
 
@@ -108,5 +144,8 @@ module _ {D : Type 0} where
     pub directory : that.directory ≡ this.directory
     pub listings_left : that.listings_left ≡ this.listings_left
     pub names_left : that.names_left ≡ this.names_left
+    pub listings_open : that.listings_open ≡ this.listings_open
+    pub to_open : that.to_open ≡ this.to_open
+    pub opens_above : that.opens_above ≡ this.opens_above
     pub ends : that.has_ended → this.has_ended
     pub idles : this.is_idle → that.is_idle
