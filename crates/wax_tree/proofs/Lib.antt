@@ -8,3 +8,4 @@ pub mod Finding
 pub mod Making
 pub mod Kept
 pub mod InRange
+pub mod Listing

@@ -112,9 +112,18 @@ module _ {D C : Type 0} (law : Law D C) where
       taken = f.accounts.taken;
       takes = f.accounts.takes;
       counted = f.accounts.counted;
+      opened = f.accounts.opened;
+      opened_is = f.accounts.opened_is;
+      ended = f.accounts.ended;
+      ended_is = f.accounts.ended_is;
+      opens = f.accounts.opens;
+      closes = f.accounts.closes;
       ends = λ i. (d, f.accounts.ends i);
     };
     at_end = λ i. (d, f.at_end i);
+    closed = f.closed;
+    to_open = f.to_open;
+    above = f.above;
     stays = λ i. ((f.stays i.1).0, (d, (f.stays i.1).1));
     idles = λ i. elim i [
       | inl failed ↦ absurd (let b : true ≡ false = sym failed ∙ e in (cc))
@@ -137,6 +146,8 @@ ended_at law d origin range view h l = record {
   idle = λ m. h.idle;
   listings = h.listings;
   names = omega (arith, h.names);
+  none_listed = h.none_listed;
+  opens_above = h.opens_above;
   directory = h.directory;
 }
 
@@ -150,6 +161,8 @@ lacking_at law d origin range view h l = record {
   idle = λ m. h.idle;
   listings = h.listings;
   names = omega (arith, h.names);
+  none_listed = h.none_listed;
+  opens_above = h.opens_above;
   directory = h.directory;
 }
 
@@ -174,5 +187,7 @@ begins_plain law d start names range view e b =
           (b.shown s listed h told (subst ArePlain (sym e) tt) (omega (arith, long)));
       listings = b.listings;
       names = omega (arith, b.names, long);
+      none_listed = b.none_listed;
+      opens_above = b.opens_above;
       directory = b.directory;
     }

@@ -23,7 +23,7 @@ use Rattle.wax_tree.specs.declared.steps.Step.{Step}
 use Rattle.wax_tree.specs.declared.steps.Step.TheVariants.{Gives, GoesOn, Ends}
 use Rattle.wax_tree.specs.Stepping.{IsCounted, Asked, UsesAnswer, StepAnswers, StepIs}
 use Rattle.wax_tree.specs.Walking.{step_given, tree_given, names_left, allowance, Rest, AtRest, PlainToCome}
-use Rattle.wax_tree.specs.Walking.{steps_view}
+use Rattle.wax_tree.specs.Walking.{steps_view, open_lists}
 use Rattle.wax_tree.proofs.Resting.{comes_ended}
 use Rattle.wax_tree.proofs.Stepping.{gives_fault}
 
@@ -116,13 +116,21 @@ module _ {D C : Type 0} where
 
 module _ {D C : Type 0} (law : Law D C) where
   -- the directory was called, and the step used its result
-  pub answer_used : (asked : Asked) (w : Steps D C) (d : D) (r : Step) (new : Steps D C)
+  pub answer_used : (asked : Asked) (w : Steps D C) (lists enters : ℕ) (d : D) (r : Step) (new : Steps D C)
       → Counts asked.counts (law.tally w.directory) (law.tally d) → asked.counts.items ≡ asked.taken
-      → UsesAnswer asked (record w { directory = d }) r new → StepAnswers law asked.names w r new
-  answer_used asked w d r new c i s =
+      → (¬ (IsLast (step_given r)) → enters ≤ asked.counts.opened)
+      → (¬ (IsLast (step_given r)) → lists + asked.counts.opened ≡ asked.counts.ended + open_lists new)
+      → UsesAnswer asked (record w { directory = d }) r new → StepAnswers law (record (steps_view law w) {
+        names_left = asked.names;
+        listings_open = lists;
+        to_open = enters;
+      }) r new
+  answer_used asked w lists enters d r new c i opens closes s =
       let A : D → Type 0 = λ v. CountsFaults (fault_counts (step_given r)) (law.tally w.directory)
       (law.tally v) in
       let B : D → Type 0 = λ v. (law.tally v).items ≡ grown asked.taken (law.tally w.directory).items in
+      let O : D → Type 0 = λ v. (law.tally v).opened ≡ grown asked.counts.opened (law.tally w.directory).opened in
+      let E : D → Type 0 = λ v. (law.tally v).ended ≡ grown asked.counts.ended (law.tally w.directory).ended in
       record {
         goes_on = s.goes_on;
         accounts = record {
@@ -135,6 +143,12 @@ module _ {D C : Type 0} (law : Law D C) where
           taken = asked.taken;
           takes = s.takes;
           counted = subst B (sym s.directory) (omega (arith, c.items, i));
+          opened = asked.counts.opened;
+          opened_is = subst O (sym s.directory) c.opened;
+          ended = asked.counts.ended;
+          ended_is = subst E (sym s.directory) c.ended;
+          opens = opens;
+          closes = closes;
           ends = λ l. inl (s.ends l);
         };
         names_left = s.names;

@@ -36,6 +36,8 @@ pub record Begins {D C : Type 0} (law : Law D C) (d : D) (start : List ℕ) (ran
       → view.to_come (pending nothing (plain (scope_in range start) s) listed (count_shown s))
   pub listings : view.listings_left ≡ range.budget + 1
   pub names : view.names_left ≡ 0
+  pub none_listed : view.listings_open ≡ 0
+  pub opens_above : view.opens_above ≡ range.max
   pub directory : view.directory ≡ d
 
 -- where a walk begins: the start that its entries report, the path that it queries first, the candidate of
@@ -64,6 +66,8 @@ pub record BeginsAt {D C : Type 0} (law : Law D C) (d : D) (origin : Origin) (ra
   pub idle : range.max < length origin.names → view.is_idle
   pub listings : view.listings_left ≡ range.budget + 1
   pub names : view.names_left ≤ length origin.names
+  pub none_listed : view.listings_open ≡ 0
+  pub opens_above : view.opens_above ≡ range.max
   pub directory : view.directory ≡ d
 
 -- the view of a walk over the directory d that has ended, yields nothing, and leaves the directory as it is
@@ -75,6 +79,8 @@ pub record HasEnded {D C : Type 0} (law : Law D C) (d : D) (range : DepthRange)
   pub idle : view.is_idle
   pub listings : view.listings_left ≡ range.budget + 1
   pub names : view.names_left ≡ 0
+  pub none_listed : view.listings_open ≡ 0
+  pub opens_above : view.opens_above ≡ range.max
   pub directory : view.directory ≡ d
 
 -- the view of a walk over the directory d for whose start allocation failed: anything may be to come, since
@@ -85,4 +91,6 @@ pub record LacksMemory {D C : Type 0} (law : Law D C) (d : D) (range : DepthRang
   pub idle : view.is_idle
   pub listings : view.listings_left ≡ range.budget + 1
   pub names : view.names_left ≡ 0
+  pub none_listed : view.listings_open ≡ 0
+  pub opens_above : view.opens_above ≡ range.max
   pub directory : view.directory ≡ d

@@ -1,5 +1,5 @@
 -- What a step of a walk does.
-use Rattle.std.specs.Prelude.{◌≡◌, ℕ, ◌+◌, ◌*◌, ◌<◌, ◌≤◌, true, cond, length, Option, Some, None}
+use Rattle.std.specs.Prelude.{◌≡◌, ℕ, ◌+◌, ◌*◌, ◌<◌, ◌≤◌, true, false, cond, length, Option, Some, None}
 use Rattle.std.specs.Prelude.{string_bytes, ⊤}
 use Rattle.std.specs.List.{Contains}
 use Rattle.wax_directory.specs.Counting.{no_counts}
@@ -8,7 +8,7 @@ use Rattle.wax_directory.specs.Law.{Law, HoldsLast}
 use Rattle.wax_directory.specs.Shown.{Items, ShowsIn}
 use Rattle.wax_walk.specs.Forest.{Forest, nothing, followed_by, Pending, pending}
 use Rattle.wax_walk.specs.Given.{Given}
-use Rattle.wax_walk.specs.View.{Accounts, GivesOrStops, IsLast, IsMisplaced, Takes, fault_counts}
+use Rattle.wax_walk.specs.View.{WalkView, Accounts, GivesOrStops, IsLast, IsMisplaced, IsToOpen, Takes, fault_counts}
 use Rattle.wax_tree.specs.declared.steps.OpenFolder.{OpenFolder}
 use Rattle.wax_tree.specs.declared.steps.StartPoint.{StartPoint}
 use Rattle.wax_tree.specs.declared.steps.Step.{Step}
@@ -16,7 +16,7 @@ use Rattle.wax_tree.specs.declared.steps.Step.TheVariants.{Gives, GoesOn, Ends}
 use Rattle.wax_tree.specs.declared.steps.Steps.{Steps}
 use Rattle.wax_tree.specs.Plain.{WalkScope, Location, items_forest}
 use Rattle.wax_tree.specs.Walking.{if_some, step_given, cursors_of, Rest, HasStopped, allowance, names_left}
-use Rattle.wax_tree.specs.Walking.{AtRest, PlainToCome, steps_view, MovesOn}
+use Rattle.wax_tree.specs.Walking.{AtRest, PlainToCome, steps_view, MovesOn, open_lists, entering}
 
 -- no count of n is greater than that of k
 pub record IsCounted (n k : Tally) : Type 0 where
@@ -50,6 +50,16 @@ module _ {D C : Type 0} where
     pub ends : IsLast (step_given r) → new.has_ended ≡ true
     pub names : names_left new ≤ asked.names
     pub misplaced : IsMisplaced (step_given r) → 0 < asked.names
+
+  -- if the item of a step doesn't end the walk, so many listings are open after it
+  abbrev pub KeepsLists : ℕ → Step → Steps D C → Type 0
+  KeepsLists lists r new = ¬ (IsLast (step_given r)) → open_lists new ≡ lists
+
+  -- a folder above the greatest depth that a step yields is to be opened
+  pub record Remembers (old : Steps D C) (r : Step) (new : Steps D C) : Type 0 where
+    pub to_open : old.has_ended ≡ false → old.first ≡ None → IsToOpen old.max (step_given r)
+        → entering new ≡ 1
+    pub above : new.max ≡ old.max
 
   -- at most how many items the walk has yet to yield
   abbrev pub items_left : Steps D C → ℕ
@@ -109,12 +119,12 @@ module _ {D C : Type 0} (law : Law D C) where
     pub shown : ShowsIn (law.shows w.directory) (string_bytes level.folder.path) l
     pub opened : Contains rest.listed (string_bytes level.folder.path)
 
-  -- what a step takes and counts if `names` names were to be followed
-  pub record StepAnswers (names : ℕ) (old : Steps D C) (r : Step) (new : Steps D C) : Type 0 where
+  -- what a step takes and counts
+  pub record StepAnswers (old : WalkView D) (r : Step) (new : Steps D C) : Type 0 where
     pub goes_on : r ≡ Ends → ⊥
-    pub accounts : Accounts law (steps_view law old) (step_given r) (steps_view law new)
-    pub names_left : names_left new ≤ names
-    pub misplaced : IsMisplaced (step_given r) → 0 < names
+    pub accounts : Accounts law old (step_given r) (steps_view law new)
+    pub names_left : names_left new ≤ old.names_left
+    pub misplaced : IsMisplaced (step_given r) → 0 < old.names_left
 
   -- what every step does
   pub record IsStep (old : Steps D C) (r : Step) (new : Steps D C) : Type 0 where
@@ -124,3 +134,5 @@ module _ {D C : Type 0} (law : Law D C) where
     pub idles : HasStopped old → new.directory ≡ old.directory
     pub names : names_left new ≤ names_left old
     pub misplaced : IsMisplaced (step_given r) → 0 < names_left old
+    pub to_open : IsToOpen old.max (step_given r) → entering new ≡ 1
+    pub above : new.max ≡ old.max

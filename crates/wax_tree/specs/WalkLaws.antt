@@ -59,6 +59,8 @@ module _ {D C : Type 0} where
       directory = refl;
       listings_left = refl;
       names_left = refl;
+      listings_open = refl;
+      opens_above = refl;
       ends = λ e. (e.0, stopped_still s.steps e.1);
       idles = λ i. elim i [ inl failed ↦ inl failed | inr e ↦ inr (stopped_still s.steps e) ];
     }

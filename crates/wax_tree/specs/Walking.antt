@@ -138,6 +138,18 @@ names_of_first (Some place) = length place.names.items
 abbrev pub names_left : {D C : Type 0} → Steps D C → ℕ
 names_left w = names_of_first w.first
 
+-- how many listings are open; none count once it has ended with an error
+abbrev pub open_lists : {D C : Type 0} → Steps D C → ℕ
+open_lists w = cond w.has_ended 0 (length w.levels.items)
+
+-- 1 if the last yielded folder is to be opened, else 0
+abbrev pub entering_after : Option StartPoint → Option Folder → ℕ
+entering_after None e = if_some e 1
+entering_after (Some place) e = 0
+
+abbrev pub entering : {D C : Type 0} → Steps D C → ℕ
+entering w = cond w.has_ended 0 (entering_after w.first w.entered)
+
 module _ {D C : Type 0} (law : Law D C) where
   -- the walk has no start point and no folder to enter, hasn't ended, and has `rest` yet to yield
   pub record AtRest (w : Steps D C) (rest : Rest) : Type 0 where
@@ -174,6 +186,9 @@ module _ {D C : Type 0} (law : Law D C) where
     directory = w.directory;
     listings_left = allowance w;
     names_left = names_left w;
+    listings_open = open_lists w;
+    to_open = entering w;
+    opens_above = w.max;
     has_ended = HasStopped w;
     is_idle = HasStopped w;
   }

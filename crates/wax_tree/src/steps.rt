@@ -15,11 +15,12 @@ ghost use Rattle.wax_tree.specs.inner.Heads.{first_item_forest, own_count};
 ghost use Rattle.wax_tree.specs.Plain.{Location, entry_forest, below_forest, count, count_shown};
 ghost use Rattle.wax_tree.specs.Prefix.{ArePlain, from_last, walk_from};
 ghost use Rattle.wax_tree.specs.Stepping.{UsesAnswer, nothing_asked, IncreasesBy, IncreasesByNames};
+ghost use Rattle.wax_tree.specs.Stepping.{KeepsLists, Remembers};
 ghost use Rattle.wax_tree.specs.Stepping.{WeaklyDecreases, Decreases, StepIs, Continues, IsPopped};
 ghost use Rattle.wax_tree.specs.Stepping.{listing_pending, StepAnswers, IsStep, items_left};
 ghost use Rattle.wax_tree.specs.Walking.{HasKind, IsFolder, EnteredShows, PlainToCome, entered_forest};
 ghost use Rattle.wax_tree.specs.Walking.{start_point_location, folder_location, scope_of, steps_view};
-ghost use Rattle.wax_tree.specs.Walking.{names_left, step_given, tree_answer, Rest};
+ghost use Rattle.wax_tree.specs.Walking.{names_left, step_given, tree_answer, Rest, open_lists, if_some};
 
 use crate::path_text::join;
 use std::alloc::{AllocError, Global};
@@ -206,6 +207,8 @@ impl<D: Directory> Steps<D> {
             → let at : Location = record { path = path.now; candidate = candidate.now; depth = depth } in
             (n : ℕ) × (n ≤ count_shown s) × EnteredShows (D.law.shows self.old.directory) (scope_of self.old)
             self.new.entered (below_forest (scope_of self.old) at s) n) }
+        ensures remembered { IfOk result (λ _. (kind ≡ FileType.Folder) → depth < self.old.max
+            → if_some self.new.entered 1 ≡ 1) }
     {
         if kind == FileType::Folder && depth < self.max {
             let path = String::from_str(self.alloc, path)?;
@@ -222,6 +225,8 @@ impl<D: Directory> Steps<D> {
     // Yields an entry if its depth is in range, and remembers it as a folder to be opened.
     fn give(&mut self, path: String, candidate: String, kind: FileType, depth: usize) -> Step
         ensures uses_answer { UsesAnswer (nothing_asked (names_left self.old)) self.old result self.new }
+        ensures lists { KeepsLists (open_lists self.old) result self.new }
+        ensures remembers { Remembers self.old result self.new }
         ensures continues { (s : Shown) → D.law.shows self.old.directory (string_bytes path) s
             → HasKind s kind
             → let at : Location = record {
@@ -254,6 +259,8 @@ impl<D: Directory> Steps<D> {
           taken = 0;
           names = names_left self.old + length place.names.items;
         }) self.old result self.new }
+        ensures lists { KeepsLists (open_lists self.old) result self.new }
+        ensures remembers { Remembers self.old result self.new }
         ensures continues { (s : Shown) → D.law.shows self.old.directory (string_bytes place.path) s
             → HasKind s kind
             → let names = from_last place.names.items in
@@ -294,8 +301,11 @@ impl<D: Directory> Steps<D> {
 
     // Looks up what is at a place.
     fn begin(&mut self, place: StartPoint) -> Step
-        ensures answers { StepAnswers D.law (names_left self.old + length place.names.items) self.old result
-            self.new }
+        ensures answers { StepAnswers D.law (record (steps_view D.law self.old) {
+          names_left = names_left self.old + length place.names.items;
+          to_open = 0;
+        }) result self.new }
+        ensures remembers { Remembers self.old result self.new }
         ensures continues { (s : Shown) → D.law.shows self.old.directory (string_bytes place.path) s
             → let names = from_last place.names.items in
             ArePlain names → place.depth + length place.names.items ≤ 2 ^ 64 - 1
@@ -323,7 +333,9 @@ impl<D: Directory> Steps<D> {
     // Opens a folder. `folder.depth` is that of what is in it, so an error of the folder itself is
     // at one less.
     fn enter(&mut self, folder: Folder) -> Step
-        ensures answers { StepAnswers D.law (names_left self.old) self.old result self.new }
+        ensures answers { (self.old.has_ended ≡ false)
+            → StepAnswers D.law (record (steps_view D.law self.old) { to_open = 1 }) result self.new }
+        ensures remembers { Remembers self.old result self.new }
         ensures continues { (s : Shown) → D.law.shows self.old.directory (string_bytes folder.path) s
             → IsFolder s
             → let entered = entered_forest (scope_of self.old) (folder_location folder) s in
@@ -348,6 +360,8 @@ impl<D: Directory> Steps<D> {
         ensures uses_answer { (at : Location) (x : ListItem) → IsFound at x found
             → UsesAnswer (record { counts = item_counts x; taken = 0; names = names_left self.old })
             self.old result self.new }
+        ensures lists { KeepsLists (open_lists self.old) result self.new }
+        ensures remembers { Remembers self.old result self.new }
         ensures continues { (at : Location) (x : ListItem) (l : Items) → IsFound at x found → at.depth ≡ depth
             → Some (listed_of x) ≡ first_item l → ShowsIn (D.law.shows self.old.directory) at.path l
             → Continues D.law self.old (first_item_forest (scope_of self.old) at l) (own_count l) result
@@ -368,6 +382,9 @@ impl<D: Directory> Steps<D> {
         ensures uses_answer { (self.old.has_ended ≡ false)
             → UsesAnswer (record { counts = item_counts item; taken = 1; names = names_left self.old })
             self.old result self.new }
+        ensures kept { (self.old.has_ended ≡ false)
+            → KeepsLists (open_lists self.old + 1) result self.new }
+        ensures remembers { Remembers self.old result self.new }
         ensures lists { (l : Items) (rest : Rest) (items : ℕ) → Some (listed_of item) ≡ first_item l
             → IsPopped D.law self.old (record { folder = folder; cursor = cursor }) (rest_of l) rest
             → ShowsIn (D.law.shows self.old.directory) (string_bytes folder.path) l
@@ -395,7 +412,11 @@ impl<D: Directory> Steps<D> {
     // Moves on in the innermost folder. At its end it isn't put back on the stack.
     fn list_next(&mut self, level: OpenFolder<D::Cursor>) -> Step
         ensures answers { (self.old.has_ended ≡ false)
-            → StepAnswers D.law (names_left self.old) self.old result self.new }
+            → StepAnswers D.law (record (steps_view D.law self.old) {
+              listings_open = open_lists self.old + 1;
+              to_open = 0;
+            }) result self.new }
+        ensures remembers { Remembers self.old result self.new }
         ensures lists { (l : Items) (rest : Rest) (items : ℕ) → IsPopped D.law self.old level l rest
             → rest.count + count l ≤ items
             → let p = listing_pending (scope_of self.old) (folder_location level.folder) l rest items in

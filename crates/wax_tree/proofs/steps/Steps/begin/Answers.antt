@@ -1,12 +1,13 @@
-use Rattle.std.proofs.Common.{arith, refl, string_bytes, length, ◌+◌}
+use Rattle.std.proofs.Common.{arith, refl, sym, subst, string_bytes, length, ◌+◌}
 use Rattle.std.specs.Prelude.{Ok, Err, None}
 use Rattle.wax_directory.specs.declared.directory.DirectoryFault.TheVariants as F
 use Rattle.wax_directory.specs.Counting.{kind_counts}
 use Rattle.wax_walk.specs.declared.error.FaultKind.TheVariants.{NotFound, Listing}
 use Rattle.wax_walk.specs.declared.error.WalkError.TheVariants.{Fault}
 use Rattle.wax_walk.specs.Given.{fault}
+use Rattle.wax_walk.specs.View.{IsLast}
 use Rattle.wax_tree.specs.Prefix.{from_last}
-use Rattle.wax_tree.specs.Walking.{scope_of, start_point_location, cursors_of, names_left}
+use Rattle.wax_tree.specs.Walking.{scope_of, start_point_location, cursors_of, names_left, open_lists}
 use Rattle.wax_tree.proofs.Showing.{has_kind, begins_missing, begins_failing}
 use Rattle.wax_tree.proofs.Resting.{rest_moved, comes_rest}
 use Rattle.wax_tree.proofs.UsingAnswers.{counted_same, answer_used, failed_uses_answer, gives_uses_answer}
@@ -36,8 +37,8 @@ returns-in-Ok-None-clause-answers g c =
       taken = 0;
       names =
           names_left w + length c.args.place.names.items;
-    }) w c.kind.new.self c.stop.result c.stop.new.self
-    o.counted refl
+    }) w (open_lists w) 0 c.kind.new.self c.stop.result c.stop.new.self
+    o.counted refl (λ n. omega arith) (λ n. absurd (n (subst IsLast (sym c.stop.ensures.gives) tt)))
     (stopped_uses_answer _ (record w { directory = c.kind.new.self }) c.stop.new.self c.stop.result
     (fault NotFound (string_bytes c.args.place.path) c.args.place.depth) c.stop.ensures.gives
     c.stop.ensures.ended (counted_same _) (omega arith) (λ i. absurd i) (omega arith))
@@ -67,7 +68,7 @@ returns-in-Err-Failed-clause-answers g c =
       taken = 0;
       names =
           names_left w + length c.args.place.names.items;
-    }) w c.kind.new.self _ _ o.counted refl
+    }) w (open_lists w) 0 c.kind.new.self _ _ o.counted refl (λ n. omega arith) (λ n. omega arith)
     (gives_uses_answer _ (record w { directory = c.kind.new.self })
     (Err (Fault Listing c.args.place.path c.args.place.depth)) (counted_same _) (omega arith) (λ i. i)
     (λ i. i) (omega arith))
@@ -98,5 +99,5 @@ returns-in-Err-Memory-clause-answers g c =
       taken = 0;
       names =
           names_left w + length c.args.place.names.items;
-    }) w c.kind.new.self _ _ o.counted refl
+    }) w (open_lists w) 0 c.kind.new.self _ _ o.counted refl (λ n. omega arith) (λ n. absurd (n tt))
     (failed_uses_answer _ (record w { directory = c.kind.new.self }) (omega arith) (omega arith)))

@@ -1,7 +1,9 @@
-use Rattle.std.proofs.Common.{◌≡◌, ◌∙◌, refl, arith}
-use Rattle.wax_walk.proofs.Accounting.{accounts_then}
+use Rattle.std.proofs.Common.{◌≡◌, ◌∙◌, ◌+◌, ◌≤◌, ℕ, refl, subst, arith}
 use Rattle.wax_tree.specs.declared.steps.Step.TheVariants.{Gives, Ends}
 use Rattle.wax_tree.proofs.Stepping.{leads_on, run_gives}
+use Rattle.wax_tree.proofs.Listing.{accounts_on, accounts_run, stopped_closed}
+use Rattle.wax_tree.specs.Walking.{step_given, entering}
+use Rattle.wax_walk.specs.View.{IsToOpen}
 use Rattle.wax_tree.proofs.steps.Steps.run.Goals as goal
 
 pub returns-in-Gives : goal.returns-in-Gives
@@ -9,12 +11,17 @@ returns-in-Gives g c =
     let law = g.D.Directory.law in
     let i = c.loop-item.invariant in
     let st = c.in-Gives.ensures.is_step in
+    let T : ℕ → Type 0 = λ n. IsToOpen n (step_given (Gives c.in-Gives.item))
+    → entering c.step.new.self ≡ 1 in
     record {
       feeds = record {
         gives = λ p h. let q = i.leads p h in run_gives law c.args.self.now c.loop-item.self c.step.new.self p
             q.0 _ q.2 q.3 (c.in-Gives.ensures.step q.0 q.1);
-        accounts = accounts_then law _ _ _ _ i.accounts st.accounts;
+        accounts = accounts_run law c.args.self.now c.loop-item.self c.step.new.self _ i.accounts st.accounts;
         at_end = λ e. (cc);
+        closed = λ e. (cc);
+        to_open = subst T i.above st.to_open;
+        above = st.above ∙ i.above;
         stays = λ e. let s : Gives c.in-Gives.item ≡ Ends =
             (st.stays (i.stays e)).0 in (cc, (st.stays (i.stays e)).1);
         idles = λ e. ((st.stays (i.stays e)).1, st.idles (i.stays e) ∙ i.idles e);
@@ -33,8 +40,11 @@ returns-in-Ends g c =
       feeds = record {
         gives = λ p h. let q = i.leads p h in run_gives law c.args.self.now c.loop-item.self c.step.new.self p
             q.0 _ q.2 q.3 (c.in-Ends.ensures.step q.0 q.1);
-        accounts = accounts_then law _ _ _ _ i.accounts st.accounts;
+        accounts = accounts_run law c.args.self.now c.loop-item.self c.step.new.self _ i.accounts st.accounts;
         at_end = λ e. st.at_end refl;
+        closed = λ e. stopped_closed c.step.new.self (st.at_end refl);
+        to_open = λ e. absurd e;
+        above = st.above ∙ i.above;
         stays = λ e. (refl, st.at_end refl);
         idles = λ e. (st.at_end refl, st.idles (i.stays e) ∙ i.idles e);
         names = omega (arith, st.names, i.names);
@@ -53,7 +63,8 @@ loop-item-preserved g c =
       stays = λ e. (st.stays (i.stays e)).1;
       idles = λ e. st.idles (i.stays e) ∙ i.idles e;
       names = omega (arith, st.names, i.names);
-      accounts = accounts_then law _ _ _ _ i.accounts st.accounts;
+      accounts = accounts_on law c.args.self.now c.loop-item.self c.step.new.self i.accounts st.accounts;
+      above = st.above ∙ i.above;
       leads = λ p h.
           let q = i.leads p h in
           let n = c.in-GoesOn.ensures.step q.0 q.1 in

@@ -1,4 +1,4 @@
-use Rattle.std.proofs.Common.{refl, inr, false}
+use Rattle.std.proofs.Common.{refl, ap, length, inr, false}
 use Rattle.std.specs.Prelude.{None}
 use Rattle.wax_tree.specs.Lacking.{goes}
 use Rattle.wax_tree.proofs.Making.{made_nothing}
@@ -27,5 +27,7 @@ returns-clause-ended g c =
       idle = inr (inr (refl, refl, c.new-2.ensures.levels));
       listings = refl;
       names = refl;
+      none_listed = ap length c.new-2.ensures.levels;
+      opens_above = refl;
       directory = refl;
     })

@@ -59,6 +59,8 @@ returns-in-Ok-place_at-clause-begins g c =
       idle = λ d. absurd (omega (arith, d, less, long));
       listings = refl;
       names = omega (arith, ap length names, long);
+      none_listed = ap length c.new.ensures.levels;
+      opens_above = refl;
       directory = refl;
     })
 
