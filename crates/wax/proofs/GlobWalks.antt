@@ -219,12 +219,14 @@ module _ {D C : Type 0} (g : GlobView) (law : Law D C) (d : D) (start : List ℕ
       listings = listings_along;
       names = λ a. subst (λ ns. view.names_left ≤ length ns) (sym (same_names a))
           (subst (λ n. n ≤ length (origin_from start a.rooted a.names).names) (sym seen.names_left) (begins_so a).names);
+      none_listed = seen.listings_open ∙ b.none_listed;
+      opens_above = seen.opens_above ∙ b.opens_above ∙ ap (λ r. r.max) same_range;
       directory = seen.directory ∙ b.directory;
     }
 
   pub begins_ended : (inner : WalkView D) (range : DepthRange) (rule : Facts → Mark) → ((taken : ℕ) (prefix : List ℕ) → Prefix g.tree taken prefix → HasEmptyName prefix) →
-      range.budget ≡ asked.budget → HasEnded law d range inner → IsSeenAs (ruled_view inner rule false) view → BeginsGlob g.tree law d start asked view
-  begins_ended inner range rule known few b seen = record {
+      range ≡ within asked depth → HasEnded law d range inner → IsSeenAs (ruled_view inner rule false) view → BeginsGlob g.tree law d start asked view
+  begins_ended inner range rule known same b seen = record {
     depth = depth;
     depth_is = depth_is;
     can = can;
@@ -235,15 +237,17 @@ module _ {D C : Type 0} (g : GlobView) (law : Law D C) (d : D) (start : List ℕ
         seen.to_come (pending nothing nothing listed 0) (refl, (pending nothing nothing listed 0, b.comes path s listed h told, refl));
     idle = λ h. seen.idles (inr b.idle);
     comes = λ a plain. absurd (a.names_are.unbroken (known a.taken a.prefix a.prefix_is));
-    listings = seen.listings_left ∙ b.listings ∙ ap (λ n. n + 1) few;
+    listings = seen.listings_left ∙ b.listings ∙ ap (λ r. r.budget + 1) same;
     names = λ a. omega (arith, seen.names_left, b.names);
+    none_listed = seen.listings_open ∙ b.none_listed;
+    opens_above = seen.opens_above ∙ b.opens_above ∙ ap (λ r. r.max) same;
     directory = seen.directory ∙ b.directory;
   }
 
-  pub begins_refused : (inner : WalkView D) (range : DepthRange) (cs : List (List (Tree Span))) → cs ≡ [] → range.budget ≡ asked.budget → LacksMemory law d range inner →
+  pub begins_refused : (inner : WalkView D) (range : DepthRange) (cs : List (List (Tree Span))) → cs ≡ [] → range ≡ within asked depth → LacksMemory law d range inner →
       IsSeenAs (ruled_view inner (leading_mark (component_test {A = Span}) cs decides g) false) view →
       BeginsGlob g.tree law d start asked view
-  begins_refused inner range cs none few b seen = record {
+  begins_refused inner range cs none same b seen = record {
     depth = depth;
     depth_is = depth_is;
     can = can;
@@ -257,6 +261,8 @@ module _ {D C : Type 0} (g : GlobView) (law : Law D C) (d : D) (start : List ℕ
         listings_refused;
     listings = listings_refused;
     names = λ a. omega (arith, seen.names_left, b.names);
+    none_listed = seen.listings_open ∙ b.none_listed;
+    opens_above = seen.opens_above ∙ b.opens_above ∙ ap (λ r. r.max) same;
     directory = seen.directory ∙ b.directory;
   } where
     shown_refused : (a : Beginning g.tree) → ComesShown law d start asked depth view a
@@ -278,4 +284,4 @@ module _ {D C : Type 0} (g : GlobView) (law : Law D C) (d : D) (start : List ℕ
         seen.to_come (pending nothing nothing listed 0) (refl, (pending nothing nothing listed 0, b.comes (pending nothing nothing listed 0) told, refl))
 
     listings_refused : view.listings_left ≡ asked.budget + 1
-    listings_refused = seen.listings_left ∙ b.listings ∙ ap (λ n. n + 1) few
+    listings_refused = seen.listings_left ∙ b.listings ∙ ap (λ r. r.budget + 1) same

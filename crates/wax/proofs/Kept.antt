@@ -2,28 +2,40 @@
 use Rattle.std.proofs.Common.{◌≡◌, ◌∙◌, ℕ, ◌+◌, ◌*◌, ◌≤◌, false, List, [], ◌∷◌, ◌++◌, length, filter, refl, ap, subst, arith}
 use Rattle.wax_directory.specs.Counting.{grown}
 use Rattle.wax_directory.specs.Law.{Law}
-use Rattle.wax_walk.specs.Collected.{GaveAll, whole, lacks_memory, over_budget, Took, all_fault_counts}
+use Rattle.wax_walk.specs.Collected.{GaveAll, whole, lacks_memory, over_budget, Took, all_fault_counts, count_to_open}
 use Rattle.wax_walk.specs.Forest.{nothing, pending}
 use Rattle.wax_walk.specs.Given.{Facts, Mark, Given, is_kept, no_memory}
 use Rattle.wax_walk.specs.Ruled.{ruled_view}
 use Rattle.wax_walk.specs.View.{CountsFaults, WalkView}
 use Rattle.wax_token.specs.Reads.{Span}
 use Rattle.wax_token.specs.Syntax.{Tree}
-use Rattle.wax.specs.GlobWalks.{Beginning, GaveWithin, KeepsNothing, none_kept, memory_alone}
+use Rattle.wax_tree.specs.declared.steps.DepthRange.{DepthRange}
+use Rattle.wax.specs.GlobWalks.{Beginning, BeginsGlob, GaveWithin, KeepsNothing, none_kept, memory_alone}
 
-pub gave_within : {D C : Type 0} (t : Tree Span) (law : Law D C) (d : D) (budget : ℕ) (v : WalkView D)
-    (rule : Facts → Mark) (new : D) (xs : List Given) → ((b : Beginning t) → v.names_left ≤ length b.names)
-    → v.directory ≡ d → v.listings_left ≡ budget + 1 → length xs ≤ 2 * budget + 3
-    → Took law (ruled_view v rule false) new xs → GaveWithin t law d budget new xs
-gave_within t law d budget v rule new xs names over allowed few took = record {
+pub gave_within : {D C : Type 0} (t : Tree Span) (law : Law D C) (d : D) (start : List ℕ) (asked : DepthRange)
+    (v : WalkView D) (rule : Facts → Mark) (new : D) (xs : List Given) → BeginsGlob t law d start asked v
+    → length xs ≤ 2 * asked.budget + 3 → Took law (ruled_view v rule false) new xs
+    → GaveWithin t law d asked new xs
+gave_within t law d start asked v rule new xs begins few took = let over = begins.directory in record {
   few = few;
   counts = subst (λ w. CountsFaults (all_fault_counts xs) (law.tally w) (law.tally new)) over took.counts;
   taken = took.taken;
   counted = took.counted ∙ ap (λ w. grown took.taken (law.tally w).items) over;
-  within = subst (λ n. took.taken ≤ n) allowed took.within;
-  spent = λ path depth h. took.spent path depth h ∙ allowed;
-  misplaced = λ path depth h b. omega (arith, took.misplaced path depth h, names b);
+  within = subst (λ n. took.taken ≤ n) begins.listings took.within;
+  spent = λ path depth h. took.spent path depth h ∙ begins.listings;
+  misplaced = λ path depth h b. omega (arith, took.misplaced path depth h, begins.names b);
   ends_there = took.ends_there;
+  opened = took.opened;
+  opened_is = took.opened_is ∙ ap (λ w. grown took.opened (law.tally w).opened) over;
+  ended_is = λ n.
+      let as_many : took.ended ≡ took.opened = omega (arith, took.closes n, begins.none_listed) in
+      took.ended_is ∙ ap (λ k. grown k (law.tally v.directory).ended) as_many
+      ∙ ap (λ w. grown took.opened (law.tally w).ended) over;
+  opens = λ n. (
+    begins.depth,
+    begins.depth_is,
+    subst (λ m. count_to_open m xs ≤ took.opened) begins.opens_above (omega (arith, took.opens n)),
+  );
 }
 
 front_empty : (xs ys : List Given) → xs ++ ys ≡ [] → xs ≡ []

@@ -16,7 +16,7 @@ use Rattle.wax_tree.specs.Begins.{Origin}
 use Rattle.wax_tree.specs.declared.steps.DepthRange.{DepthRange}
 use Rattle.wax_tree.specs.Plain.{count_shown}
 use Rattle.wax_tree.specs.Prefix.{ArePlain}
-use Rattle.wax_walk.specs.Collected.{EndsThere, all_fault_counts}
+use Rattle.wax_walk.specs.Collected.{EndsThere, NoneLast, all_fault_counts, count_to_open}
 use Rattle.wax_walk.specs.declared.error.FaultKind.TheVariants.{Budget, NotAFolder}
 use Rattle.wax_walk.specs.Forest.{pending, nothing}
 use Rattle.wax_walk.specs.Given.{Given, fault, no_memory}
@@ -107,23 +107,33 @@ pub record BeginsGlob {D C : Type 0} (t : Tree Span) (law : Law D C) (d : D) (st
       → ComesWanted law d (request_of start asked depth b []) view
   pub listings : view.listings_left ≡ asked.budget + 1
   pub names : (b : Beginning t) → view.names_left ≤ length b.names
+  -- no listing is open, and folders are opened above the lesser greatest depth
+  pub none_listed : view.listings_open ≡ 0
+  pub opens_above : view.opens_above ≡ (within asked depth).max
   pub directory : view.directory ≡ d
 
 -- Whatever the directory shows: a walk over it gave these items, no more than twice its budget and 3. Each
 -- fault among them was counted, and at most budget + 1 items were taken from listings: all of these, where an
 -- item tells that the budget is reached. A folder was missed only on the way along the prefix. An item after
--- which a walk has ended is the last.
-pub record GaveWithin {D C : Type 0} (t : Tree Span) (law : Law D C) (d : D) (budget : ℕ) (new : D)
-    (xs : List Given) : Type 0 where
-  pub few : length xs ≤ 2 * budget + 3
+-- which a walk has ended is the last. If none is, no fewer folders were opened than were given above the
+-- greatest depth, and as many listings came to their end as folders were opened.
+pub record GaveWithin {D C : Type 0} (t : Tree Span) (law : Law D C) (d : D) (asked : DepthRange)
+    (new : D) (xs : List Given) : Type 0 where
+  pub few : length xs ≤ 2 * asked.budget + 3
   pub counts : CountsFaults (all_fault_counts xs) (law.tally d) (law.tally new)
   pub taken : ℕ
   pub counted : (law.tally new).items ≡ grown taken (law.tally d).items
-  pub within : taken ≤ budget + 1
-  pub spent : (path : List ℕ) (depth : ℕ) → Contains xs (fault Budget path depth) → taken ≡ budget + 1
+  pub within : taken ≤ asked.budget + 1
+  pub spent : (path : List ℕ) (depth : ℕ) → Contains xs (fault Budget path depth)
+      → taken ≡ asked.budget + 1
   pub misplaced : (path : List ℕ) (depth : ℕ) → Contains xs (fault NotAFolder path depth) → (b : Beginning t)
       → 0 < length b.names
   pub ends_there : EndsThere xs
+  pub opened : ℕ
+  pub opened_is : (law.tally new).opened ≡ grown opened (law.tally d).opened
+  pub ended_is : NoneLast xs → (law.tally new).ended ≡ grown opened (law.tally d).ended
+  pub opens : NoneLast xs → (depth : Bounds) × Depth t depth
+      × (count_to_open (up_to asked.max depth.1) xs ≤ opened)
 
 -- nothing was kept, and no folder was listed; or it was only told that memory was refused
 pub data KeepsNothing (tells : List (List ℕ) → Type 0) (listed : List (List ℕ)) (ys : List Given) : Type 0

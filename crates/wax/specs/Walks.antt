@@ -2,8 +2,8 @@
 pub use Rattle.wax_directory.specs.Answers.{KindIs, ListIs}
 pub use Rattle.wax_directory.specs.Calls.{Nexts, OpensAt, TellsOpened}
 pub use Rattle.wax_directory.specs.Copies.{IsCopy}
-pub use Rattle.wax_directory.specs.Counting.{Counts, after_counting, item_counts, kind_counts, next_counts}
-pub use Rattle.wax_directory.specs.Counting.{no_counts, opening_counts}
+pub use Rattle.wax_directory.specs.Counting.{Counts, after_counting, end_counts, item_counts, kind_counts}
+pub use Rattle.wax_directory.specs.Counting.{next_counts, no_counts, opening_counts}
 pub use Rattle.wax_directory.specs.Law.{HoldsLast, HoldsSame, Law, ShowsSame}
 pub use Rattle.wax_directory.specs.Listing.{CountsListed, HeldWhereShown, TellsListed}
 pub use Rattle.wax_directory.specs.Names.{is_plain, is_rooted}
@@ -58,7 +58,7 @@ pub use Rattle.wax_tree.specs.Whole.{EntriesAre, plain_pending, whole}
 pub use Rattle.wax_tree.specs.declared.behavior.DepthBehavior.TheVariants.{MinMax, Unbounded}
 pub use Rattle.wax_tree.specs.declared.behavior.WalkBehavior.{WalkBehavior}
 pub use Rattle.wax_tree.specs.declared.steps.DepthRange.{DepthRange}
-pub use Rattle.wax_walk.specs.Collected.{GaveAll, IsCutShort, Took}
+pub use Rattle.wax_walk.specs.Collected.{GaveAll, IsCutShort, NoneLast, Took, count_to_open}
 pub use Rattle.wax_walk.specs.Entries.{answer_of, error_depth, error_kind, error_path, facts_of, given_of}
 pub use Rattle.wax_walk.specs.Entries.{given_outcome, kind_of_fault}
 pub use Rattle.wax_walk.specs.Forest.{Forest, Pending, filtered, filtered_pending, item, lists, nothing}

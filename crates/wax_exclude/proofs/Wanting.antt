@@ -8,7 +8,7 @@ use Rattle.wax_directory.specs.Law.{Law}
 use Rattle.wax_directory.specs.Shown.{Shown}
 use Rattle.wax_token.specs.Reads.{Span}
 use Rattle.wax_tree.specs.Plain.{count_shown}
-use Rattle.wax_walk.specs.Collected.{GaveAll, whole, lacks_memory, over_budget, Took}
+use Rattle.wax_walk.specs.Collected.{GaveAll, whole, lacks_memory, over_budget, Took, count_to_open}
 use Rattle.wax_walk.specs.Collected.{all_fault_counts}
 use Rattle.wax_walk.specs.declared.error.FaultKind.TheVariants.{Budget}
 use Rattle.wax_walk.specs.Forest.{Pending, Forest, nothing, pending, preorder, listings}
@@ -46,6 +46,13 @@ module _ {D C : Type 0} (law : Law D C) where
     misplaced = λ path depth h. subst (λ n. 0 < n) seen.names_left (took.misplaced path depth h);
     ends_there = took.ends_there;
     unasked = λ i. took.unasked (seen.idles i) ∙ seen.directory;
+    opened = took.opened;
+    opened_is = took.opened_is ∙ ap (λ v. grown took.opened (law.tally v).opened) seen.directory;
+    ended = took.ended;
+    ended_is = took.ended_is ∙ ap (λ v. grown took.ended (law.tally v).ended) seen.directory;
+    opens = λ n. subst (λ m. this.to_open + count_to_open m xs ≤ took.opened) seen.opens_above
+        (omega (arith, took.opens n, seen.to_open));
+    closes = λ n. omega (arith, took.closes n, seen.listings_open);
   }
 
   -- what a walk gave that these rules filter

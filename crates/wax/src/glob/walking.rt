@@ -221,7 +221,9 @@ impl<'t> Glob<'t> {
     /// is a prefix of that and then one error. Each entry has the captures of its candidate. If two
     /// `/` are side by side in the glob's prefix, nothing is kept. If so, or if the prefix has more
     /// names than the greatest depth, the directory isn't called. Whatever the directory shows, the
-    /// walk takes and yields no more items than the budget allows.
+    /// walk takes and yields no more items than the budget allows, and unless an error ended it,
+    /// each folder that it yielded above its greatest depth was opened, and read to the end if it
+    /// can be listed.
     ///
     /// ```
     /// use wax::walk::{Tree, WalkBehavior, WalkFilter};
@@ -251,7 +253,7 @@ impl<'t> Glob<'t> {
         D: Directory,
         R: Exclude,
         ensures took { IfOk result (λ r. (xs : List Given)
-            × GaveWithin self.now.tree D.law directory behavior.budget r.1 xs
+            × GaveWithin self.now.tree D.law directory (behavior_range behavior) r.1 xs
             × (map (given_outcome ⟦<GlobEntry as Entry>⟧.facts ⟦<TreeEntry as Entry>⟧.facts) r.0.items
             ≡ filter is_kept xs)) }
         ensures unmeant { IfOk result (λ r. (taken : ℕ) (prefix : List ℕ) (path : List ℕ) (s : Shown)

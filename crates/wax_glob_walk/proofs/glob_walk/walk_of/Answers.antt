@@ -7,6 +7,9 @@ returns-clause-view g c = record {
   directory = refl;
   listings_left = refl;
   names_left = refl;
+  listings_open = refl;
+  to_open = refl;
+  opens_above = refl;
   ends = λ h. h;
   idles = λ h. h;
 }

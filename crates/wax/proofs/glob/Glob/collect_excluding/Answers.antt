@@ -15,9 +15,8 @@ returns-clause-took g c =
     let ends = c.walk_in-walk.ensures.gives in
     map_ok (λ r k. (
       k.0,
-      gave_within c.args.self.now.tree g.D.Directory.law c.args.directory c.args.behavior.budget _ _ r.1 k.0
-          h.names h.directory h.listings
-          (omega (arith, k.2, ends.gives)) k.1,
+      gave_within c.args.self.now.tree g.D.Directory.law c.args.directory c.args.start.now
+          (behavior_range c.args.behavior) _ _ r.1 k.0 h (omega (arith, k.2, ends.gives)) k.1,
       k.3,
     ))
     c.collect_excluding.result c.collect_excluding.ensures.took

@@ -32,7 +32,7 @@ returns-in-Ok-None-clause-begins g c =
     (none_match glob.tree c.keeps_rules.ensures) _
     _ c.within-range.result _
     (λ taken prefix p. subst (λ o. MatchOption o (HasEmptyName prefix) (λ r. IsPlan glob.tree prefix r.0.is_rooted (from_last r.0.names.items) r.1.items)) c.in-Ok-None.field-0-is (c.in-Ok-None.ensures taken prefix p))
-    (ap (λ r. r.budget) same) c.ended-walk.ensures.ended c.walk_of-in-Ok-None.ensures.view
+    same c.ended-walk.ensures.ended c.walk_of-in-Ok-None.ensures.view
 
 pub returns-in-Err-clause-begins : goal.returns-in-Err-clause-begins
 returns-in-Err-clause-begins g c =
@@ -43,4 +43,4 @@ returns-in-Err-clause-begins g c =
     let same : c.within-range.result ≡ within asked w.0 = w.3 ∙ ap (λ r. within r w.0) c.range.ensures in
     begins_refused glob g.D.Directory.law c.args.directory start asked w.0 w.1 (λ b filters plain. can_walk glob.tree c.keeps_rules.ensures w.0 w.2 start asked b filters plain)
     (none_match glob.tree c.keeps_rules.ensures) _
-    _ c.within-range.result c.new-in-Err.result.items c.new-in-Err.ensures.items (ap (λ r. r.budget) same) c.refused-walk.ensures.lacks c.walk_of-in-Err.ensures.view
+    _ c.within-range.result c.new-in-Err.result.items c.new-in-Err.ensures.items same c.refused-walk.ensures.lacks c.walk_of-in-Err.ensures.view
