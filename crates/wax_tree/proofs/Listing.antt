@@ -28,20 +28,23 @@ module _ {D C : Type 0} (law : Law D C) where
       (b : Accounts law (steps_view law mid) r (steps_view law new)) → (¬ (IsLast r) → n ≤ a.0.opened + b.opened)
       → (c : Accounts law (record (steps_view law w) { to_open = n }) r (steps_view law new))
       × (c.opened ≡ a.0.opened + b.opened)
-  accounts_both w mid new r n so b opens = let a = so.0 in (record {
-    counts = counts_none_then _ _ _ _ a.counts b.counts;
-    taken = a.taken + b.taken;
-    takes = takes_more r a.taken (allowance mid) b.taken (allowance new) (allowance w) (a.taken + b.taken)
-        a.takes refl b.takes;
-    counted = grown_then a.taken b.taken _ _ _ a.counted b.counted;
-    opened = a.opened + b.opened;
-    opened_is = grown_then a.opened b.opened _ _ _ a.opened_is b.opened_is;
-    ended = a.ended + b.ended;
-    ended_is = grown_then a.ended b.ended _ _ _ a.ended_is b.ended_is;
-    opens = opens;
-    closes = λ i. omega (arith, a.closes (λ v. v), b.closes i);
-    ends = b.ends;
-  }, refl)
+  accounts_both w mid new r n so b opens = let a = so.0 in (
+    record {
+      counts = counts_none_then _ _ _ _ a.counts b.counts;
+      taken = a.taken + b.taken;
+      takes = takes_more r a.taken (allowance mid) b.taken (allowance new) (allowance w) (a.taken + b.taken)
+          a.takes refl b.takes;
+      counted = grown_then a.taken b.taken _ _ _ a.counted b.counted;
+      opened = a.opened + b.opened;
+      opened_is = grown_then a.opened b.opened _ _ _ a.opened_is b.opened_is;
+      ended = a.ended + b.ended;
+      ended_is = grown_then a.ended b.ended _ _ _ a.ended_is b.ended_is;
+      opens = opens;
+      closes = λ i. omega (arith, a.closes (λ v. v), b.closes i);
+      ends = b.ends;
+    },
+    refl,
+  )
 
   -- one more step without an item
   pub accounts_on : (w mid new : Steps D C) → AccountsSoFar w mid

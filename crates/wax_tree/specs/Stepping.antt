@@ -8,7 +8,8 @@ use Rattle.wax_directory.specs.Law.{Law, HoldsLast}
 use Rattle.wax_directory.specs.Shown.{Items, ShowsIn}
 use Rattle.wax_walk.specs.Forest.{Forest, nothing, followed_by, Pending, pending}
 use Rattle.wax_walk.specs.Given.{Given}
-use Rattle.wax_walk.specs.View.{WalkView, Accounts, GivesOrStops, IsLast, IsMisplaced, IsToOpen, Takes, fault_counts}
+use Rattle.wax_walk.specs.View.{WalkView, Accounts, GivesOrStops, IsLast, IsMisplaced, IsToOpen, Takes}
+use Rattle.wax_walk.specs.View.{fault_counts}
 use Rattle.wax_tree.specs.declared.steps.OpenFolder.{OpenFolder}
 use Rattle.wax_tree.specs.declared.steps.StartPoint.{StartPoint}
 use Rattle.wax_tree.specs.declared.steps.Step.{Step}

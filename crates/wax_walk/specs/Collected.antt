@@ -41,7 +41,8 @@ abbrev pub NoneLast : List Given → Type 0
 NoneLast [] = ⊤
 NoneLast (x ∷ xs) = ¬ (IsLast (Some x)) × NoneLast xs
 
--- how many folders above this depth are among the items, without those that are excluded with everything below
+-- how many folders above this depth are among the items, without those that are excluded with everything
+-- below
 abbrev pub count_to_open : ℕ → List Given → ℕ
 count_to_open most [] = 0
 count_to_open most (x ∷ xs) = cond (is_to_open most x) 1 0 + count_to_open most xs

@@ -12,9 +12,9 @@ use Rattle.wax_walk.specs.Forest.{Pending, all_pending, cancelled, FirstIs, IsLi
 use Rattle.wax_walk.specs.Given.{Given, entry, fault, no_memory, kept, alone, with_tree}
 
 -- what is to come; the directory; at most how many more items may be taken from listings; how many names are
--- left to follow to where the walk begins; how many listings are open; 1 if the last yielded entry is a folder
--- that is still to be opened, else 0; the depth above which folders are opened; that the walk has ended; and
--- that it leaves the directory as it is
+-- left to follow to where the walk begins; how many listings are open; 1 if the last yielded entry is a
+-- folder that is still to be opened, else 0; the depth above which folders are opened; that the walk has
+-- ended; and that it leaves the directory as it is
 pub record WalkView (D : Type 0) : Type 1 where
   pub to_come : Pending Given → Type 0
   pub directory : D
@@ -95,9 +95,10 @@ module _ {D : Type 0} where
       gives : (items : ℕ) → ((IsLast r → ⊥) → items + old.listings_left ≤ p.items + new.listings_left)
           → FirstIs new.to_come (all_pending p) p.listed items r → GivesOrStops old p r new
 
-  -- what the directory counted; how many items were taken from listings; how many folders were opened, and how
-  -- many listings came to their end; and that the walk has ended if the item is its last. If it isn't, a folder
-  -- that was to be opened was, and the listings that are open are those that were opened and not read to the end
+  -- what the directory counted; how many items were taken from listings; how many folders were opened, and
+  -- how many listings came to their end; and that the walk has ended if the item is its last. If it isn't, a
+  -- folder that was to be opened was opened, and the listings that are open are those that were opened and
+  -- haven't come to their end
   pub record Accounts {C : Type 0} (law : Law D C) (old : WalkView D) (r : Option Given) (new : WalkView D) :
       Type 0 where
     pub counts : CountsFaults (fault_counts r) (law.tally old.directory) (law.tally new.directory)
