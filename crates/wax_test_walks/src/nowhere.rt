@@ -35,6 +35,7 @@ impl Directory for Nowhere {
     }
 
     fn next(&mut self, _alloc: Global, _cursor: &mut ()) -> Result<Option<ListItem>, NoMemory> {
+        self.tally.add(Tally::of_end());
         Ok(None)
     }
 
