@@ -10,7 +10,7 @@ use Rattle.wax_walk.specs.View.{CountsFaults, WalkView}
 use Rattle.wax_token.specs.Reads.{Span}
 use Rattle.wax_token.specs.Syntax.{Tree}
 use Rattle.wax_tree.specs.declared.steps.DepthRange.{DepthRange}
-use Rattle.wax.specs.GlobWalks.{Beginning, BeginsGlob, GaveWithin, KeepsNothing, none_kept, memory_alone}
+use Rattle.wax.specs.GlobWalks.{BeginsGlob, GaveWithin, KeepsNothing, none_kept, memory_alone}
 
 pub gave_within : {D C : Type 0} (t : Tree Span) (law : Law D C) (d : D) (start : List ℕ) (asked : DepthRange)
     (v : WalkView D) (rule : Facts → Mark) (new : D) (xs : List Given) → BeginsGlob t law d start asked v
