@@ -15,7 +15,21 @@ use std::alloc::{AllocError, Global};
 pub fn characters(alloc: Global, text: &str) -> Result<Vec<char>, AllocError>
     ensures { IfOk result (λ v. v.items ≡ chars text.now) }
 {
+    if text.is_ascii() {
+        return ascii_characters(alloc, text.as_bytes());
+    }
     text.chars().collect(alloc)
+}
+
+/// Returns the bytes of a text as characters, one for each.
+fn ascii_characters(alloc: Global, text: &[u8]) -> Result<Vec<char>, AllocError>
+    ensures { IfOk result (λ v. v.items ≡ text.now) }
+{
+    let mut characters = Vec::with_capacity(alloc, text.len())?;
+    for byte in text {
+        characters.push(*byte as char)?;
+    }
+    Ok(characters)
 }
 
 /// Returns the length of the characters in bytes.

@@ -61,7 +61,7 @@ fn captures_of(
         CapturedBy pieces.now text.now (parts text.now captures.items)) }
     ensures within { IfOk result (λ captures. All (IsWithin text.now) captures.items) }
 {
-    let mut captures = Vec::new(alloc);
+    let mut captures = Vec::with_capacity(alloc, pieces.len())?;
     let mut at = 0;
     for index in 0..pieces.len() {
         let n = lengths[index];

@@ -120,7 +120,7 @@ fn take_next(
 fn lengths(alloc: Global, frames: &[Frame], last: usize) -> Result<Vec<usize>, AllocError>
     ensures { IfOk result (λ r. r.items ≡ lengths_of frames.now ++ last ∷ []) }
 {
-    let mut lengths = Vec::with_capacity(alloc, frames.len())?;
+    let mut lengths = Vec::with_capacity(alloc, frames.len().saturating_add(1))?;
     for index in 0..frames.len() {
         lengths.push(frames[index].n)?;
     }
@@ -147,7 +147,7 @@ pub fn split_by_trial(
     ensures steady { visits.old ≤ visits.new }
 {
     let last = visits.count().saturating_add(limit as u128);
-    let mut below: Vec<Frame> = Vec::new(alloc);
+    let mut below: Vec<Frame> = Vec::with_capacity(alloc, pieces.len())?;
     let mut top = Frame::new(0);
     for _ in 0..limit.saturating_mul(4) {
         let index = below.len();

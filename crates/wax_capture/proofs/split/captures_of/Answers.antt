@@ -8,7 +8,7 @@ pub loop-index-init : goal.loop-index-init
 loop-index-init c = record {
   within = omega arith;
   chosen = c.requires;
-  captured = λ others h. rw c.new-captures.ensures.items h;
+  captured = λ others h. rw c.in_ok-captures.ensures.items h;
   inside = search rules;
 }
 
