@@ -24,6 +24,15 @@ size_of_some [] (suc k) = omega arith
 size_of_some (v ∷ ways) zero = omega arith
 size_of_some (v ∷ ways) (suc k) = omega (arith, size_of_some ways k)
 
+pub size_of_further : (ways : List Form) (k m : ℕ) → k ≤ m → size_of (take k ways) ≤ size_of (take m ways)
+size_of_further [] zero zero le = omega arith
+size_of_further [] zero (suc m) le = omega arith
+size_of_further [] (suc k) zero le = omega arith
+size_of_further [] (suc k) (suc m) le = omega arith
+size_of_further (v ∷ ways) zero m le = omega arith
+size_of_further (v ∷ ways) (suc k) zero le = absurd (omega (arith, le))
+size_of_further (v ∷ ways) (suc k) (suc m) le = omega (arith, size_of_further ways k m (omega (arith, le)))
+
 -- one form alone
 pub size_of_one : (ways : List Form) (k : ℕ) (w : Form) → k < length ways → w ≡ get_or ways k w → form_size w ≤ size_of ways
 size_of_one ways k w lt e = omega (arith, size_of_more ways k w lt e, size_of_some ways (k + 1))

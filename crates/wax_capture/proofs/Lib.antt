@@ -3,6 +3,7 @@ pub mod Built
 pub mod ByteParts
 pub mod Choosing
 pub mod Counting
+pub mod Linking
 pub mod NothingCaptured
 pub mod Parts
 pub mod Rows

@@ -6,6 +6,7 @@ use Rattle.wax_lengths.specs.Prefers.{Prefers}
 use Rattle.wax_capture.specs.Pieces.{WayOf, forms_of}
 use Rattle.wax_lengths.specs.Forms.{TakenBy}
 use Rattle.wax_lengths.specs.Spans.{HasLengths, InSpan, IsNarrowed, IsPicked, looks}
+use Rattle.wax_capture.specs.inner.Letters.{ArePassed}
 use Rattle.wax_capture.specs.inner.Splits.{AreChosen, FitsBy, IsChosenBy, Splits}
 use Rattle.wax_capture.specs.inner.Trials.{HasRoom, HasTaken, IsOpen, Trail, lengths_of, characters_taken}
 use Rattle.wax_lengths.specs.declared.form.Form.{Form}
@@ -89,14 +90,13 @@ module _ (p : Piece) (ps : List Piece) (s : List ℕ) where
     | inr ge ↦ none m (before.left j m (omega (arith, lt, ge)) g)
   ]
 
-  -- nor does the k-th, if its form takes no part of the text
-  pub none_further : (k : ℕ) (form : Form) → NoneTo k → slice_get (forms_of p.ways) k ≡ Some form → ((m : ℕ) → TakenBy form (take m s) → ⊥) → NoneTo (k + 1)
-  none_further k form none is fails j m lt g = elim (cases_lt j k) [
+  -- nor do those after it whose forms take no part of the text
+  pub none_passed : (k to : ℕ) → NoneTo k → ArePassed (forms_of p.ways) k to s → NoneTo to
+  none_passed k to none passed j m lt g = elim (cases_lt j k) [
     | inl less ↦ none j m less g
     | inr ge ↦
-        let same : j ≡ k = omega (arith, lt, ge) in
-        let w : WayOf p k (take m s) = subst (λ i. WayOf p i (take m s)) same g.1 in
-        fails m (subst (λ z. TakenBy z (take m s)) (some_same (sym w.1 ∙ is)) w.2)
+        let (form, is, takes) = g.1 in
+        passed j form ge lt is m takes
   ]
 
   -- one more is opened

@@ -11,11 +11,12 @@ use Rattle.wax_capture.specs.declared.piece.Capture.TheVariants.{Nothing, Piece 
 use Rattle.wax_capture.specs.declared.piece.Capture.TheVariants.{AfterFirst, UnlessSlash}
 use Rattle.wax_capture.specs.declared.piece.Piece.{Piece}
 use Rattle.wax_capture.specs.declared.piece.Ways.{Ways}
-use Rattle.wax_capture.specs.declared.piece.Ways.TheVariants.{Only, Each}
+use Rattle.wax_capture.specs.declared.piece.Ways.TheVariants.{Only, Each, Linked}
 
 abbrev pub forms_of : Ways → List Form
 forms_of (Only form) = form ∷ []
 forms_of (Each forms) = forms.items
+forms_of (Linked forms) = forms
 
 -- the k-th form takes the text
 abbrev pub WayIn : List Form → ℕ → List ℕ → Type 0

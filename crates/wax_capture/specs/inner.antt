@@ -1,4 +1,5 @@
 pub mod Bytes
+pub mod Letters
 pub mod Parts
 pub mod Rows
 pub mod Splits

@@ -5,6 +5,7 @@ mod build;
 mod bytes;
 mod choice;
 mod leaves;
+mod letters;
 mod matching;
 mod piece;
 mod size;

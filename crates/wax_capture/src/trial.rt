@@ -10,7 +10,7 @@ ghost use Rattle.wax_capture.specs.declared.piece.Piece.{Piece};
 use crate::piece::Piece;
 use std::alloc::{AllocError, Global};
 use std::mem;
-use wax_lengths::{LengthSpan, Visits, lengths_of, may_take, pick};
+use wax_lengths::{LengthSpan, Visits, lengths_of, pick};
 
 /// The trial of one piece: the length that it takes now, and what is left to be tried.
 #[derive(Drop)]
@@ -102,16 +102,14 @@ fn take_next(
         return Ok(true);
     }
     let forms = piece.ways.forms();
-    for index in frame.opened..forms.len() {
-        let form = &forms[index];
-        if !may_take(form, text, frame.at) {
-            continue;
-        }
-        frame.span = lengths_of(alloc, form, text, frame.at, visits)?;
+    let mut index = piece.ways.next_form(frame.opened, text, frame.at);
+    while index < forms.len() {
+        frame.span = lengths_of(alloc, &forms[index], text, frame.at, visits)?;
         frame.opened = index + 1;
         if take_left(text, piece.is_lazy, frame, visits) {
             return Ok(true);
         }
+        index = piece.ways.next_form(frame.opened, text, frame.at);
     }
     Ok(false)
 }

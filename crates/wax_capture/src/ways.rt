@@ -12,6 +12,7 @@ ghost use Rattle.wax_lengths.specs.Forms.{TakenBy, form_size};
 ghost use Rattle.wax_capture.specs.inner.Ways.{IsAt, is_single};
 
 use crate::leaves::{form_of_leaf, lone_leaf};
+use crate::letters::linked;
 use crate::piece::Ways;
 use crate::tokens::tree_root;
 use crate::uncaptured::nothing_captured;
@@ -72,7 +73,7 @@ fn branch_ways<'t, A>(
         };
         add_form(&mut forms, form)?;
     }
-    Ok(Ways::Each(forms))
+    Ok(linked(alloc, forms)?)
 }
 
 /// Builds the only form of a token that is neither an alternation nor a `**`.

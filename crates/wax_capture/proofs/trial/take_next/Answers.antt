@@ -1,14 +1,15 @@
 use Rattle.std.proofs.Common.{◌≡◌, ◌+◌, ◌≤◌, ℕ, List, Some, length, take, drop, slice_get, refl, sym, ◌∙◌, subst, arith, rules}
 use Rattle.std.proofs.Math.Nat.{mul-le-mul_right}
 use Rattle.wax_capture.specs.Pieces.{forms_of, size_of}
-use Rattle.wax_lengths.specs.Forms.{TakenBy, form_size}
+use Rattle.wax_lengths.specs.Forms.{form_size}
 use Rattle.wax_lengths.specs.Spans.{looks}
+use Rattle.wax_capture.specs.inner.Letters.{ArePassed}
 use Rattle.wax_capture.specs.inner.Trials.{HasTaken, IsOpen}
 use Rattle.wax_capture.specs.declared.trial.Frame.{Frame}
 use Rattle.wax_capture.proofs.Choosing.{none_at_all, span_sound}
-use Rattle.wax_capture.proofs.Counting.{reads_fewer, reads_way, size_of_one, size_of_some}
+use Rattle.wax_capture.proofs.Counting.{reads_fewer, reads_way, size_of_further, size_of_one, size_of_some}
 use Rattle.wax_lengths.proofs.Lists.{slice_read}
-use Rattle.wax_capture.proofs.Trying.{NoneTo, none_further, open_none, open_takes, opens_next}
+use Rattle.wax_capture.proofs.Trying.{NoneTo, none_passed, open_none, open_takes, opens_next}
 use Rattle.wax_capture.proofs.trial.take_next.Goals as goal
 
 pub returns-then-take_left-clause-taken : goal.returns-then-take_left-clause-taken
@@ -16,14 +17,20 @@ returns-then-take_left-clause-taken c = λ ps o.
     open_takes c.args.piece.now ps (drop c.args.frame.now.at c.args.text.now) c.args.frame.now c.take_left.new.frame c.take_left.ensures.opened o (search rules) c.take_left.ensures.narrowed
 
 pub loop-index-init : goal.loop-index-init
-loop-index-init c = record {
-  at = c.take_left.ensures.at;
-  none = λ ps o j m lt. open_none c.args.piece.now ps (drop c.args.frame.now.at c.args.text.now) c.args.frame.now o c.if-take_left.ensures.taken j m (omega (arith, lt, c.take_left.ensures.opened));
-  end = omega (arith, c.take_left.ensures.end, c.take_left.ensures.at, c.requires.end);
-  few = λ most old all. omega (arith, old, c.take_left.ensures.looked, c.take_left.ensures.steady);
-  above = omega (arith, c.take_left.ensures.looked);
-  steady = c.take_left.ensures.steady;
-}
+loop-index-init c =
+    let p = c.args.piece.now in
+    let s : List ℕ = drop c.args.frame.now.at c.args.text.now in
+    let at : c.take_left.new.frame.at ≡ c.args.frame.now.at = c.take_left.ensures.at in
+    record {
+      at = at;
+      none = λ ps o. none_passed p ps s c.take_left.new.frame.opened c.next_form-index.result
+          (λ j m lt. open_none p ps s c.args.frame.now o c.if-take_left.ensures.taken j m (omega (arith, lt, c.take_left.ensures.opened)))
+          (subst (λ a. ArePassed (forms_of p.ways) c.take_left.new.frame.opened c.next_form-index.result (drop a c.args.text.now)) at c.next_form-index.ensures.passed);
+      end = omega (arith, c.take_left.ensures.end, c.take_left.ensures.at, c.requires.end);
+      few = λ most old all. omega (arith, old, c.take_left.ensures.looked, c.take_left.ensures.steady);
+      above = omega (arith, c.take_left.ensures.looked);
+      steady = c.take_left.ensures.steady;
+    }
 
 pub returns-in_err-frame-clause-above : goal.returns-in_err-frame-clause-above
 returns-in_err-frame-clause-above c =
@@ -67,26 +74,6 @@ returns-then-take_left-2-clause-above c =
     reads_fewer old new (size_of (take (k + 1) forms)) (size_of forms) (length c.args.text.now + 1) (size_of_some forms (k + 1))
     (reads_way forms k c.index-forms-index.result (search rules) (search rules) old c.loop-index.visits new (length c.args.text.now + 1) c.loop-index.invariant.above (omega (arith, c.take_left-in-loop-index.ensures.looked, c.in_ok-frame.ensures.looked)))
 
-pub loop-index-preserved-then-not-may_take : goal.loop-index-preserved-then-not-may_take
-loop-index-preserved-then-not-may_take c =
-    let p = c.args.piece.now in
-    let forms = forms_of p.ways in
-    let text : List ℕ = c.args.text.now in
-    let k : ℕ = c.loop-index.index in
-    let form = c.index-forms-index.result in
-    let same : c.loop-index.frame.at ≡ c.args.frame.now.at = c.loop-index.invariant.at in
-    let is : slice_get forms k ≡ Some form = slice_read forms k form (search rules) (search rules) in
-    let before : ℕ = c.args.visits.now + looks c.args.frame.now.span in
-    record {
-      at = same;
-      none = λ ps o. none_further p ps (drop c.args.frame.now.at text) k form (c.loop-index.invariant.none ps o) is
-          (subst (λ a. (n : ℕ) → TakenBy form (take n (drop a text)) → ⊥) same (c.may_take.ensures (search rules)));
-      end = c.loop-index.invariant.end;
-      few = c.loop-index.invariant.few;
-      above = reads_way forms k form (search rules) (search rules) before c.loop-index.visits c.loop-index.visits (length text + 1) c.loop-index.invariant.above (omega arith);
-      steady = c.loop-index.invariant.steady;
-    }
-
 pub loop-index-preserved : goal.loop-index-preserved
 loop-index-preserved c =
     let p = c.args.piece.now in
@@ -103,15 +90,22 @@ loop-index-preserved c =
     let one : form_size form ≤ size_of forms = size_of_one forms k form (search rules) (search rules) in
     let before = c.args.visits.now + looks c.args.frame.now.span in
     let new : ℕ = c.take_left-in-loop-index.new.visits in
+    let forms_from : size_of (take (k + 1) forms) ≤ size_of (take c.next_form-index-in-loop-index.result forms) = size_of_further forms (k + 1) c.next_form-index-in-loop-index.result (omega (arith, c.next_form-index-in-loop-index.ensures.further, c.take_left-in-loop-index.ensures.opened)) in
+    let then_at : c.take_left-in-loop-index.new.frame.at ≡ c.args.frame.now.at = c.take_left-in-loop-index.ensures.at ∙ same in
+    let opened : c.take_left-in-loop-index.new.frame.opened ≡ k + 1 = c.take_left-in-loop-index.ensures.opened in
     record {
-      at = c.take_left-in-loop-index.ensures.at ∙ same;
+      at = then_at;
       none = λ ps o.
           let none : NoneTo p ps (drop at text) k = subst (λ a. NoneTo p ps (drop a text) k) (sym same) (c.loop-index.invariant.none ps o) in
           let starts : IsOpen p ps (drop at text) f = opens_next p ps (drop at text) f k form refl none is c.in_ok-frame.ensures.lengths sound in
-          subst (λ a. NoneTo p ps (drop a text) (k + 1)) same (open_none p ps (drop at text) f starts c.if-take_left-2.ensures.taken);
+          none_passed p ps (drop c.args.frame.now.at text) (k + 1) c.next_form-index-in-loop-index.result
+          (subst (λ a. NoneTo p ps (drop a text) (k + 1)) same (open_none p ps (drop at text) f starts c.if-take_left-2.ensures.taken))
+          (subst (λ n. ArePassed forms n c.next_form-index-in-loop-index.result (drop c.args.frame.now.at text)) opened
+          (subst (λ a. ArePassed forms c.take_left-in-loop-index.new.frame.opened c.next_form-index-in-loop-index.result (drop a text)) then_at c.next_form-index-in-loop-index.ensures.passed));
       end = omega (arith, c.take_left-in-loop-index.ensures.end, c.take_left-in-loop-index.ensures.at, c.in_ok-frame.ensures.end);
       few = λ most old all. omega (arith, all, c.take_left-in-loop-index.ensures.looked, c.take_left-in-loop-index.ensures.steady, c.in_ok-frame.ensures.looked, c.lengths_of.ensures.steady, mul-le-mul_right (length text + 1) one);
-      above = reads_way forms k form (search rules) (search rules) before c.loop-index.visits new (length text + 1) c.loop-index.invariant.above (omega (arith, c.take_left-in-loop-index.ensures.looked, c.in_ok-frame.ensures.looked));
+      above = reads_fewer before new (size_of (take (k + 1) forms)) (size_of (take c.next_form-index-in-loop-index.result forms)) (length text + 1) forms_from
+          (reads_way forms k form (search rules) (search rules) before c.loop-index.visits new (length text + 1) c.loop-index.invariant.above (omega (arith, c.take_left-in-loop-index.ensures.looked, c.in_ok-frame.ensures.looked)));
       steady = omega (arith, c.loop-index.invariant.steady, c.lengths_of.ensures.steady, c.take_left-in-loop-index.ensures.steady);
     }
 

@@ -1,4 +1,4 @@
-use Rattle.std.proofs.Common.{◌≡◌, ◌+◌, ◌*◌, ◌≤◌, ℕ, List, length, take, drop}
+use Rattle.std.proofs.Common.{◌≡◌, ◌+◌, ◌-◌, ◌*◌, ◌≤◌, ℕ, List, length, take, drop}
 use Rattle.wax_capture.specs.Pieces.{forms_of, size_of}
 use Rattle.wax_lengths.specs.Spans.{looks}
 use Rattle.wax_capture.specs.inner.Trials.{IsOpen}
@@ -15,3 +15,6 @@ invariant-loop-index l = record {
   above : l.visits ≤ l.fn.visits + looks l.fn.frame.span + size_of (take l.index (forms_of l.piece.ways)) * (length l.text + 1);
   steady : l.fn.visits ≤ l.visits;
 }
+
+abbrev pub decreases-loop-index : goal.decreases-loop-index
+decreases-loop-index l = length (forms_of l.piece.ways) - l.index

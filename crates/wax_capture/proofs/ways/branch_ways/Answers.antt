@@ -2,6 +2,7 @@ use Rattle.std.proofs.Common.{◌≡◌, ◌≤◌, ◌++◌, ◌∷◌, [], ℕ
 use Rattle.std.proofs.lemmas.List.{length_push}
 use Rattle.wax_token.specs.Cost.{cost}
 use Rattle.wax_lengths.specs.Forms.{form_size}
+use Rattle.wax_capture.specs.Pieces.{forms_of}
 use Rattle.wax_capture.proofs.Branches.{sizes_push, stands, ways_all, ways_push}
 use Rattle.wax_capture.proofs.TokenWays.{refused_more}
 use Rattle.wax_capture.proofs.ways.branch_ways.Goals as goal
@@ -21,7 +22,9 @@ loop-index-preserved g c =
     }
 
 pub returns-clause-ways : goal.returns-clause-ways
-returns-clause-ways g c = ways_all c.args.branches.now c.args.before c.args.after c.loop-index.forms.items c.loop-index.index c.loop-index-test.false c.loop-index.invariant.count c.loop-index.invariant.ways
+returns-clause-ways g c =
+    let same : forms_of c.in_ok-linked.field-0 ≡ c.loop-index.forms.items = search rules in
+    rw same (ways_all c.args.branches.now c.args.before c.args.after c.loop-index.forms.items c.loop-index.index c.loop-index-test.false c.loop-index.invariant.count c.loop-index.invariant.ways)
 
 pub returns-in-Err-clause-few : goal.returns-in-Err-clause-few
 returns-in-Err-clause-few g c =
