@@ -9,6 +9,7 @@ use Rattle.wax_lengths.specs.Forms.{TakenBy}
 use Rattle.wax_capture.specs.inner.Rows.{FitsIn, IsFilled, Row}
 use Rattle.wax_lengths.specs.Spans.{HasLengths, InSpan, IsNarrowed, IsPicked}
 use Rattle.wax_capture.specs.inner.Splits.{FitsBy, IsChosenBy, Splits}
+use Rattle.wax_capture.specs.inner.Trials.{AreLeft}
 use Rattle.wax_lengths.specs.declared.form.Form.{Form}
 use Rattle.wax_capture.specs.declared.piece.Piece.{Piece}
 use Rattle.wax_lengths.specs.declared.span.LengthSpan.{LengthSpan}
@@ -28,6 +29,21 @@ pub span_sound : (form : Form) (text : List ℕ) (at : ℕ) (span : LengthSpan) 
 span_sound form text at span within end has m h =
     let le : m ≤ length (drop at text) = omega (arith, h.1, end, length-drop at text, within) in
     (le, (has m le).1 h)
+
+module _ (form : Form) (is_last : Bool) (s : List ℕ) (span : LengthSpan) where
+  pub left_all : HasLengths form s span → ((m : ℕ) → InSpan span s m → (m ≤ length s) × TakenBy form (take m s)) → AreLeft form is_last s span
+  left_all has sound = record {
+    fits = λ m le takes whole. (has m le).0 takes;
+    sound = sound;
+  }
+
+  -- only the greatest lengths are left, for the last piece
+  pub left_last : (low : ℕ) → is_last ≡ true → HasLengths form s span → ((m : ℕ) → InSpan span s m → (m ≤ length s) × TakenBy form (take m s)) → span.low ≤ low → ((m : ℕ) → span.low ≤ m → m ≡ length s → low ≤ m) →
+      AreLeft form is_last s (record { low = low; end = span.end; marks = span.marks })
+  left_last low last has sound above least = record {
+    fits = λ m le takes whole. let h = (has m le).0 takes in (least m h.0 (whole last), h.1, h.2);
+    sound = λ m h. sound m (omega (arith, h.0, above), h.1, h.2);
+  }
 
 -- ---- one form, of whose lengths some were tried
 pub record Left (form : Form) (s : List ℕ) (cells : List (Option ℕ)) (at : ℕ) (span : LengthSpan) : Type 0 where

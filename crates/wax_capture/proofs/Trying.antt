@@ -1,14 +1,14 @@
 -- What was tried of a text, from left to right.
-use Rattle.std.proofs.Common.{◌≡◌, ℕ, zero, suc, ◌+◌, ◌<◌, ◌≤◌, List, [], ◌∷◌, ◌++◌, length, get_or, take, drop, drop-cons, Some, slice_get, refl, sym, ◌∙◌, ap, subst, inl, inr, arith, length-drop}
+use Rattle.std.proofs.Common.{◌≡◌, Bool, true, ℕ, zero, suc, ◌+◌, ◌<◌, ◌≤◌, List, [], ◌∷◌, ◌++◌, length, get_or, take, drop, drop-cons, Some, slice_get, refl, sym, ◌∙◌, ap, subst, inl, inr, arith, length-drop}
 use Rattle.std.proofs.lemmas.Bool.{cases_lt}
 use Rattle.std.proofs.lemmas.List.{drop-drop, drop_all, length_push}
 use Rattle.wax_lengths.specs.Prefers.{Prefers}
 use Rattle.wax_capture.specs.Pieces.{WayOf, forms_of}
 use Rattle.wax_lengths.specs.Forms.{TakenBy}
-use Rattle.wax_lengths.specs.Spans.{HasLengths, InSpan, IsNarrowed, IsPicked, looks}
+use Rattle.wax_lengths.specs.Spans.{InSpan, IsNarrowed, IsPicked, looks}
 use Rattle.wax_capture.specs.inner.Letters.{ArePassed}
 use Rattle.wax_capture.specs.inner.Splits.{AreChosen, FitsBy, IsChosenBy, Splits}
-use Rattle.wax_capture.specs.inner.Trials.{HasRoom, HasTaken, IsOpen, Trail, lengths_of, characters_taken}
+use Rattle.wax_capture.specs.inner.Trials.{AreLeft, HasRoom, HasTaken, IsOpen, Trail, lengths_of, characters_taken}
 use Rattle.wax_lengths.specs.declared.form.Form.{Form}
 use Rattle.wax_capture.specs.declared.piece.Piece.{Piece}
 use Rattle.wax_capture.specs.declared.trial.Frame.{Frame}
@@ -100,20 +100,23 @@ module _ (p : Piece) (ps : List Piece) (s : List ℕ) where
   ]
 
   -- one more is opened
-  pub opens_next : (f : Frame) (k : ℕ) (form : Form) → f.opened ≡ k + 1 → NoneTo k → slice_get (forms_of p.ways) k ≡ Some form → HasLengths form s f.span →
-      ((m : ℕ) → InSpan f.span s m → (m ≤ length s) × TakenBy form (take m s)) → IsOpen p ps s f
-  opens_next f k form count none is has sound = record {
+  pub opens_next : (is_last : Bool) → (is_last ≡ true → ps ≡ []) → (f : Frame) (k : ℕ) (form : Form) → f.opened ≡ k + 1 → NoneTo k → slice_get (forms_of p.ways) k ≡ Some form → AreLeft form is_last s f.span → IsOpen p ps s f
+  opens_next is_last end f k form count none is lengths = record {
     fresh = λ e. absurd (omega (arith, e, count));
     earlier = λ j m lt. none j m (omega (arith, lt, count));
     left = λ j m e g.
         let same : j ≡ k = omega (arith, e, count) in
         let w : WayOf p k (take m s) = subst (λ i. WayOf p i (take m s)) same g.1 in
-        (has m g.0).0 (subst (λ z. TakenBy z (take m s)) (some_same (sym w.1 ∙ is)) w.2);
+        lengths.fits m g.0 (subst (λ z. TakenBy z (take m s)) (some_same (sym w.1 ∙ is)) w.2)
+        (λ l. whole m g.0 (subst (λ z. Splits z (drop m s)) (end l) g.2));
     sound = λ j m e h.
         let same : k ≡ j = omega (arith, e, count) in
-        let r = sound m h in
+        let r = lengths.sound m h in
         (r.0, subst (λ i. WayOf p i (take m s)) same (form, is, r.1));
   }
+    where
+      whole : (m : ℕ) → m ≤ length s → drop m s ≡ [] → m ≡ length s
+      whole m le none = omega (arith, le, length-drop m s, ap length none)
 
 -- ---- the pieces that have taken a part
 module _ (text : List ℕ) (most : ℕ) where
@@ -279,3 +282,7 @@ none_first text ps fs at p rest none place is fails h =
     let all : ps ≡ p ∷ rest = ap (λ k. drop k ps) (sym zero_len) ∙ is in
     let g : Splits (p ∷ rest) text = subst (λ z. Splits z text) all h in
     fails (subst (λ k. Splits (p ∷ rest) (drop k text)) (sym start) g)
+
+-- no piece is after the last one
+pub after_last : (ps : List Piece) (fs : List Frame) (i : ℕ) → i ≡ length fs → i + 1 ≡ length ps → drop (length fs + 1) ps ≡ []
+after_last ps fs i count last = drop_all (length fs + 1) ps (omega (arith, count, last))

@@ -1,16 +1,17 @@
 //! Splitting a text by trial, from left to right, with a bound on the time.
-ghost use Rattle.std.specs.Prelude.{◌≡◌, ◌+◌, ◌*◌, ◌<◌, ◌≤◌, ◌∷◌, [], ◌++◌, ℕ, List, IfOk, length, drop};
+ghost use Rattle.std.specs.Prelude.{◌≡◌, ◌+◌, ◌*◌, ◌<◌, ◌≤◌, ◌∷◌, [], ◌++◌, ℕ, List, IfOk, IsTrue, length, drop};
 ghost use Rattle.std.specs.Bool.{MatchBool};
 ghost use Rattle.wax_capture.specs.Pieces.{forms_of, size_of};
+ghost use Rattle.wax_lengths.specs.Forms.{form_size};
 ghost use Rattle.wax_lengths.specs.Spans.{InSpan, IsNarrowed, IsPicked, looks};
 ghost use Rattle.wax_capture.specs.inner.Splits.{Splits, all_sizes};
-ghost use Rattle.wax_capture.specs.inner.Trials.{HasTaken, IsOpen, IsTried, lengths_of};
+ghost use Rattle.wax_capture.specs.inner.Trials.{AreLeft, HasTaken, IsOpen, IsTried, lengths_of};
 ghost use Rattle.wax_capture.specs.declared.piece.Piece.{Piece};
 
 use crate::piece::Piece;
 use std::alloc::{AllocError, Global};
 use std::mem;
-use wax_lengths::{LengthSpan, Visits, lengths_of, pick};
+use wax_lengths::{Form, LengthSpan, Visits, lengths_of, pick};
 
 /// The trial of one piece: the length that it takes now, and what is left to be tried.
 #[derive(Drop)]
@@ -75,18 +76,45 @@ fn take_left(text: &[char], is_lazy: bool, frame: &mut Frame, visits: &mut Visit
     }
 }
 
+/// Returns the lengths that the form takes from `at` on. If no piece is after it, only that of the
+/// whole rest may be left.
+fn lengths_left(
+    alloc: Global,
+    form: &Form,
+    is_last: bool,
+    text: &[char],
+    at: usize,
+    visits: &mut Visits,
+) -> Result<LengthSpan, AllocError>
+    requires { at ≤ length text.now }
+    ensures left { IfOk result (AreLeft form.now is_last (drop at text.now)) }
+    ensures end { IfOk result (λ span. at + span.end ≤ length text.now + 1) }
+    ensures looked { IfOk result (λ span.
+        visits.new + looks span ≤ visits.old + form_size form.now * (length text.now + 1)) }
+    ensures above { visits.new ≤ visits.old + form_size form.now * (length text.now + 1) }
+    ensures steady { visits.old ≤ visits.new }
+{
+    let mut span = lengths_of(alloc, form, text, at, visits)?;
+    if is_last {
+        span.low = span.low.max(text.len() - at);
+    }
+    Ok(span)
+}
+
 /// Takes the best length that wasn't tried, by the current form or the next ones. Returns whether
 /// there was one.
 fn take_next(
     alloc: Global,
     piece: &Piece,
+    is_last: bool,
     text: &[char],
     frame: &mut Frame,
     visits: &mut Visits,
 ) -> Result<bool, AllocError>
     requires within { frame.old.at ≤ length text.now }
     requires end { frame.old.at + frame.old.span.end ≤ length text.now + 1 }
-    ensures taken { (ps : List Piece) → IsOpen piece.now ps (drop frame.old.at text.now) frame.old
+    ensures taken { (ps : List Piece) → (IsTrue is_last → ps ≡ [])
+        → IsOpen piece.now ps (drop frame.old.at text.now) frame.old
         → IfOk result (λ b. MatchBool b (HasTaken piece.now ps (drop frame.old.at text.now) frame.new)
         (Splits (piece.now ∷ ps) (drop frame.old.at text.now) → ⊥)) }
     ensures at { IfOk result (λ _. frame.new.at ≡ frame.old.at) }
@@ -104,7 +132,7 @@ fn take_next(
     let forms = piece.ways.forms();
     let mut index = piece.ways.next_form(frame.opened, text, frame.at);
     while index < forms.len() {
-        frame.span = lengths_of(alloc, &forms[index], text, frame.at, visits)?;
+        frame.span = lengths_left(alloc, &forms[index], is_last, text, frame.at, visits)?;
         frame.opened = index + 1;
         if take_left(text, piece.is_lazy, frame, visits) {
             return Ok(true);
@@ -152,7 +180,8 @@ pub fn split_by_trial(
         if index >= pieces.len() || visits.count() >= last {
             return Ok(Trial::Unknown);
         }
-        if !take_next(alloc, &pieces[index], text, &mut top, visits)? {
+        let is_last = index + 1 == pieces.len();
+        if !take_next(alloc, &pieces[index], is_last, text, &mut top, visits)? {
             let Some(frame) = below.pop() else {
                 return Ok(Trial::Nothing);
             };

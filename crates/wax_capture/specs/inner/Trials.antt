@@ -1,13 +1,21 @@
 -- How far it was tried which part of a text each piece takes.
-use Rattle.std.specs.Prelude.{◌≡◌, ◌⊎◌, ℕ, ◌+◌, ◌<◌, ◌≤◌, List, [], ◌∷◌, ⊤, length, take, drop}
+use Rattle.std.specs.Prelude.{◌≡◌, ◌⊎◌, ℕ, ◌+◌, ◌<◌, ◌≤◌, Bool, true, List, [], ◌∷◌, ⊤, length, take, drop}
 use Rattle.wax_lengths.specs.Prefers.{Prefers}
 use Rattle.wax_capture.specs.Pieces.{WayOf}
+use Rattle.wax_lengths.specs.Forms.{TakenBy}
 use Rattle.wax_lengths.specs.Spans.{InSpan, looks}
+use Rattle.wax_lengths.specs.declared.form.Form.{Form}
+use Rattle.wax_lengths.specs.declared.span.LengthSpan.{LengthSpan}
 use Rattle.wax_capture.specs.inner.Splits.{AreChosen, FitsBy, Splits}
 use Rattle.wax_capture.specs.declared.piece.Piece.{Piece}
 use Rattle.wax_capture.specs.declared.trial.Frame.{Frame}
 use Rattle.wax_capture.specs.declared.trial.Trial.{Trial}
 use Rattle.wax_capture.specs.declared.trial.Trial.TheVariants.{Chosen, Nothing, Unknown}
+
+-- lengths of beginnings of the text that the form takes: all, or of the last piece at least the whole text's
+pub record AreLeft (form : Form) (is_last : Bool) (s : List ℕ) (span : LengthSpan) : Type 0 where
+  pub fits : (m : ℕ) → m ≤ length s → TakenBy form (take m s) → (is_last ≡ true → m ≡ length s) → InSpan span s m
+  pub sound : (m : ℕ) → InSpan span s m → (m ≤ length s) × TakenBy form (take m s)
 
 -- of the ways that were opened only the last can fit, by a length that is left
 pub record IsOpen (p : Piece) (ps : List Piece) (s : List ℕ) (f : Frame) : Type 0 where

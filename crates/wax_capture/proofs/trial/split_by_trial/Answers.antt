@@ -6,7 +6,7 @@ use Rattle.wax_capture.specs.inner.Trials.{HasRoom, HasTaken, lengths_of}
 use Rattle.wax_capture.specs.declared.piece.Piece.{Piece}
 use Rattle.wax_capture.specs.declared.trial.Frame.{Frame}
 use Rattle.wax_capture.proofs.Counting.{reads_next, reads_piece}
-use Rattle.wax_capture.proofs.Trying.{Stands, Took, at_piece, none_first, stands_last, stands_pop, stands_push, took_all, took_within}
+use Rattle.wax_capture.proofs.Trying.{Stands, Took, after_last, at_piece, none_first, stands_last, stands_pop, stands_push, took_all, took_within}
 use Rattle.wax_capture.proofs.trial.split_by_trial.Goals as goal
 use Rattle.wax_capture.proofs.trial.split_by_trial.Goals.{then-not-branch+in-Some, else-not-branch+then-index-pieces-2+in_ok-push, else-not-branch+else-index-pieces-2+else-top-text}
 
@@ -87,7 +87,7 @@ returns-in_default-clause-tried c =
     let rest : List Piece = drop (length fs + 1) ps in
     let is : drop (length fs) ps ≡ p ∷ rest = at_piece ps fs i p (omega (arith, c.len-index.ensures)) c.if-index-pieces.false c.index-pieces-index.is in
     let none : c.loop.below.items ≡ [] = search rules in
-    let fails : Splits (p ∷ rest) (drop c.loop.top.at text) → ⊥ = MatchBool-at_false _ _ c.if-not-branch.true (c.in_ok-take_next.ensures.taken rest (c.loop.invariant.tried p rest is)) in
+    let fails : Splits (p ∷ rest) (drop c.loop.top.at text) → ⊥ = MatchBool-at_false _ _ c.if-not-branch.true (c.in_ok-take_next.ensures.taken rest (λ l. after_last ps fs i (omega (arith, c.len-index.ensures)) (search (rules, l))) (c.loop.invariant.tried p rest is)) in
     none_first text ps fs c.loop.top.at p rest none c.loop.invariant.place is fails
 
 pub overflow_add-top : goal.overflow_add-top
@@ -103,7 +103,7 @@ overflow_add-top c =
     let is : drop (length fs) ps ≡ p ∷ rest = at_piece ps fs i p (omega (arith, c.len-index.ensures)) c.if-index-pieces.false c.index-pieces-index.is in
     let new : Frame = c.take_next.new.frame in
     let at : new.at ≡ c.loop.top.at = c.in_ok-take_next.ensures.at in
-    let got : HasTaken p rest (drop c.loop.top.at text) new = MatchBool-at_true _ _ c.if-not-branch.false (c.in_ok-take_next.ensures.taken rest (c.loop.invariant.tried p rest is)) in
+    let got : HasTaken p rest (drop c.loop.top.at text) new = MatchBool-at_true _ _ c.if-not-branch.false (c.in_ok-take_next.ensures.taken rest (λ l. after_last ps fs i (omega (arith, c.len-index.ensures)) (search (rules, l))) (c.loop.invariant.tried p rest is)) in
     let room : HasRoom text most new = record {
       within = omega (arith, at, c.loop.invariant.room.within);
       end = c.in_ok-take_next.ensures.end;
@@ -131,7 +131,7 @@ overflow_add-top-else-index-pieces-2 c =
     let is : drop (length fs) ps ≡ p ∷ rest = at_piece ps fs i p (omega (arith, c.len-index.ensures)) c.if-index-pieces.false c.index-pieces-index.is in
     let new : Frame = c.take_next.new.frame in
     let at : new.at ≡ c.loop.top.at = c.in_ok-take_next.ensures.at in
-    let got : HasTaken p rest (drop c.loop.top.at text) new = MatchBool-at_true _ _ c.if-not-branch.false (c.in_ok-take_next.ensures.taken rest (c.loop.invariant.tried p rest is)) in
+    let got : HasTaken p rest (drop c.loop.top.at text) new = MatchBool-at_true _ _ c.if-not-branch.false (c.in_ok-take_next.ensures.taken rest (λ l. after_last ps fs i (omega (arith, c.len-index.ensures)) (search (rules, l))) (c.loop.invariant.tried p rest is)) in
     let room : HasRoom text most new = record {
       within = omega (arith, at, c.loop.invariant.room.within);
       end = c.in_ok-take_next.ensures.end;
@@ -159,7 +159,7 @@ returns-then-top-text-clause-tried c =
     let is : drop (length fs) ps ≡ p ∷ rest = at_piece ps fs i p (omega (arith, c.len-index.ensures)) c.if-index-pieces.false c.index-pieces-index.is in
     let new : Frame = c.take_next.new.frame in
     let at : new.at ≡ c.loop.top.at = c.in_ok-take_next.ensures.at in
-    let got : HasTaken p rest (drop c.loop.top.at text) new = MatchBool-at_true _ _ c.if-not-branch.false (c.in_ok-take_next.ensures.taken rest (c.loop.invariant.tried p rest is)) in
+    let got : HasTaken p rest (drop c.loop.top.at text) new = MatchBool-at_true _ _ c.if-not-branch.false (c.in_ok-take_next.ensures.taken rest (λ l. after_last ps fs i (omega (arith, c.len-index.ensures)) (search (rules, l))) (c.loop.invariant.tried p rest is)) in
     let room : HasRoom text most new = record {
       within = omega (arith, at, c.loop.invariant.room.within);
       end = c.in_ok-take_next.ensures.end;
@@ -192,12 +192,12 @@ loop-preserved c =
     let stands : Stands text most ps c.if-not-branch.below.items c.if-not-branch.top = elim c.if-not-branch.branch [
       | then-not-branch+in-Some w ↦ (
           let same : c.loop.below.items ≡ w.pop.new.self.items ++ w.in-Some.frame ∷ [] = search rules in
-          let fails : Splits (p ∷ rest) (drop c.loop.top.at text) → ⊥ = MatchBool-at_false _ _ w.if-not-branch.true (c.in_ok-take_next.ensures.taken rest (c.loop.invariant.tried p rest is)) in
+          let fails : Splits (p ∷ rest) (drop c.loop.top.at text) → ⊥ = MatchBool-at_false _ _ w.if-not-branch.true (c.in_ok-take_next.ensures.taken rest (λ l. after_last ps fs i (omega (arith, c.len-index.ensures)) (search (rules, l))) (c.loop.invariant.tried p rest is)) in
           rw w.below-is (rw w.top-is (stands_pop text most ps fs w.pop.new.self.items w.in-Some.frame c.loop.top.at p rest same c.loop.invariant.trail c.loop.invariant.place is fails)))
       | else-not-branch+then-index-pieces-2+in_ok-push w ↦ (
           let new : Frame = c.take_next.new.frame in
           let at : new.at ≡ c.loop.top.at = c.in_ok-take_next.ensures.at in
-          let got : HasTaken p rest (drop c.loop.top.at text) new = MatchBool-at_true _ _ w.if-not-branch.false (c.in_ok-take_next.ensures.taken rest (c.loop.invariant.tried p rest is)) in
+          let got : HasTaken p rest (drop c.loop.top.at text) new = MatchBool-at_true _ _ w.if-not-branch.false (c.in_ok-take_next.ensures.taken rest (λ l. after_last ps fs i (omega (arith, c.len-index.ensures)) (search (rules, l))) (c.loop.invariant.tried p rest is)) in
           let room : HasRoom text most new = record {
             within = omega (arith, at, c.loop.invariant.room.within);
             end = c.in_ok-take_next.ensures.end;
@@ -215,7 +215,7 @@ loop-preserved c =
       | else-not-branch+else-index-pieces-2+else-top-text w ↦ (
           let new : Frame = c.take_next.new.frame in
           let at : new.at ≡ c.loop.top.at = c.in_ok-take_next.ensures.at in
-          let got : HasTaken p rest (drop c.loop.top.at text) new = MatchBool-at_true _ _ w.if-not-branch.false (c.in_ok-take_next.ensures.taken rest (c.loop.invariant.tried p rest is)) in
+          let got : HasTaken p rest (drop c.loop.top.at text) new = MatchBool-at_true _ _ w.if-not-branch.false (c.in_ok-take_next.ensures.taken rest (λ l. after_last ps fs i (omega (arith, c.len-index.ensures)) (search (rules, l))) (c.loop.invariant.tried p rest is)) in
           let room : HasRoom text most new = record {
             within = omega (arith, at, c.loop.invariant.room.within);
             end = c.in_ok-take_next.ensures.end;
