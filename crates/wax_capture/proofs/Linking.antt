@@ -17,6 +17,20 @@ passed_more forms from k f s is fails passed j g le lt at n takes = elim (cases_
       fails n (subst (λ z. TakenBy z (take n s)) (sym one) takes)
 ]
 
+pub passed_join : (forms : List Form) (from mid to : ℕ) (s : List ℕ) → ArePassed forms from mid s → ArePassed forms mid to s → ArePassed forms from to s
+passed_join forms from mid to s first then k f le lt is n takes = elim (cases_lt k mid) [
+  | inl less ↦ first k f le less is n takes
+  | inr ge ↦ then k f ge lt is n takes
+]
+
+-- each letter stands where it is spelled
+pub spelled_at : (ls s : List ℕ) (n j : ℕ) → SpelledBy false ls (take n s) → j < length ls → (j < length s) × (get_or s j 0 ≡ get_or ls j 0)
+spelled_at [] s n j h lt = absurd (omega (arith, lt))
+spelled_at (l ∷ ls) s zero j h lt = absurd h
+spelled_at (l ∷ ls) [] (suc n) j h lt = absurd h
+spelled_at (l ∷ ls) (d ∷ s) (suc n) zero h lt = (omega arith, h.0)
+spelled_at (l ∷ ls) (d ∷ s) (suc n) (suc j) h lt = let (within, same) = spelled_at ls s n j h.1 (omega (arith, lt)) in (omega (arith, within), same)
+
 -- what a form with a first letter takes begins with it
 pub begins_so : (f : Form) (c : ℕ) (x : List ℕ) → first_letter f ≡ Some c → TakenBy f x → (y : List ℕ) × (x ≡ c ∷ y)
 begins_so (form.One test) c x e h = absurd (cc)

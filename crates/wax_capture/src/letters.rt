@@ -1,5 +1,6 @@
 //! Forms of letters, found by their first letters.
-ghost use Rattle.std.specs.Prelude.{◌≡◌, ◌<◌, ◌≤◌, Some, IfOk, IsTrue, length, drop};
+ghost use Rattle.std.specs.Prelude.{◌≡◌, ◌<◌, ◌≤◌, ℕ, false, Some, IfOk, IsFalse, IsTrue, length, take, drop};
+ghost use Rattle.wax_lengths.specs.Forms.{SpelledBy, TakenBy};
 ghost use Rattle.wax_capture.specs.Pieces.{forms_of};
 ghost use Rattle.wax_capture.specs.inner.Letters.{ArePassed, NoneBegins, first_letter};
 
@@ -54,6 +55,20 @@ impl ByLetter {
         ensures further { from ≤ result }
         ensures passed { ArePassed self.now from result (drop at text.now) }
     {
+        let mut index = self.next_by_letter(from, text, at);
+        while index < self.forms.len() && !may_spell(&self.forms[index], text, at) {
+            index = self.next_by_letter(index + 1, text, at);
+        }
+        index
+    }
+
+    /// Returns the index of the first form, from `from` on, that begins with the letter at the
+    /// place, or at least the number of forms.
+    fn next_by_letter(&self, from: usize, text: &[char], at: usize) -> usize
+        requires { at ≤ length text.now }
+        ensures further { from ≤ result }
+        ensures passed { ArePassed self.now from result (drop at text.now) }
+    {
         if at == text.len() || !text[at].is_ascii() {
             return self.forms.len().max(from);
         }
@@ -98,6 +113,33 @@ fn begins_with(form: &Form, letter: char) -> bool
         Some(first) => first == letter,
         None => false,
     }
+}
+
+/// Returns whether the text may have the letters of the form at the place.
+fn may_spell(form: &Form, text: &[char], at: usize) -> bool
+    requires { at ≤ length text.now }
+    ensures { IsFalse result → (n : ℕ) → TakenBy form.now (take n (drop at text.now)) → ⊥ }
+{
+    match form {
+        Form::Text(letters, is_folded) => *is_folded || has_letters(letters.as_slice(), text, at),
+        _ => true,
+    }
+}
+
+/// Returns whether the text has the letters at the place.
+fn has_letters(letters: &[char], text: &[char], at: usize) -> bool
+    requires { at ≤ length text.now }
+    ensures { IsFalse result → (n : ℕ) → SpelledBy false letters.now (take n (drop at text.now)) → ⊥ }
+{
+    if letters.len() > text.len() - at {
+        return false;
+    }
+    for index in 0..letters.len() {
+        if text[at + index] != letters[index] {
+            return false;
+        }
+    }
+    true
 }
 
 /// Links the forms if there are many, each with an ASCII letter at its beginning.
