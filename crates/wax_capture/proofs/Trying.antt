@@ -251,20 +251,26 @@ module _ (text : List ℕ) (most : ℕ) (ps : List Piece) where
     };
   }
 
-  -- there is none, and the text isn't at its end
-  pub stands_last : (fs : List Frame) (f : Frame) → Took fs f → length ps ≤ length fs + 1 → (f.at + f.n ≡ length text → ⊥) → Stands fs f
-  stands_last fs f t last before =
+  -- the further pieces don't take the rest
+  pub stands_here : (fs : List Frame) (f : Frame) → Took fs f → (Splits (drop (length fs + 1) ps) (drop f.n (drop f.at text)) → ⊥) → Stands fs f
+  stands_here fs f t none =
       let rest : List Piece = drop (length fs + 1) ps in
-      let nothing : rest ≡ [] = drop_all (length fs + 1) ps last in
-      let none : Splits rest (drop f.n (drop f.at text)) → ⊥ = λ h.
-      let g : drop f.n (drop f.at text) ≡ [] = subst (λ z. Splits z (drop f.n (drop f.at text))) nothing h in
-      before (omega (arith, ap length g, length-drop f.n (drop f.at text), length-drop f.at text, took_within fs f t)) in
       record {
         trail = t.trail;
         place = t.place;
         tried = open_only ps (length fs) t.is.0 rest (drop f.at text) f t.is.1 (taken_opens t.is.0 rest (drop f.at text) f t.is.2 none);
         room = t.room;
       }
+
+  -- there is none, and the text isn't at its end
+  pub stands_last : (fs : List Frame) (f : Frame) → Took fs f → length ps ≤ length fs + 1 → (f.at + f.n ≡ length text → ⊥) → Stands fs f
+  stands_last fs f t last before = stands_here fs f t none
+    where
+      none : Splits (drop (length fs + 1) ps) (drop f.n (drop f.at text)) → ⊥
+      none h =
+          let nothing : drop (length fs + 1) ps ≡ [] = drop_all (length fs + 1) ps last in
+          let g : drop f.n (drop f.at text) ≡ [] = subst (λ z. Splits z (drop f.n (drop f.at text))) nothing h in
+          before (omega (arith, ap length g, length-drop f.n (drop f.at text), length-drop f.at text, took_within fs f t))
 
   -- and it is
   pub took_all : (fs : List Frame) (f : Frame) → Took fs f → length ps ≡ length fs + 1 → f.at + f.n ≡ length text → AreChosen ps text (lengths_of fs ++ f.n ∷ [])
@@ -286,3 +292,8 @@ none_first text ps fs at p rest none place is fails h =
 -- no piece is after the last one
 pub after_last : (ps : List Piece) (fs : List Frame) (i : ℕ) → i ≡ length fs → i + 1 ≡ length ps → drop (length fs + 1) ps ≡ []
 after_last ps fs i count last = drop_all (length fs + 1) ps (omega (arith, count, last))
+
+pub at_next : (ps : List Piece) (fs : List Frame) (i : ℕ) (q : Piece) → i ≡ length fs → i + 1 < length ps → q ≡ get_or ps (i + 1) q → (qs : List Piece) × (drop (length fs + 1) ps ≡ q ∷ qs)
+at_next ps fs i q count lt is =
+    let same : i + 1 ≡ length fs + 1 = omega (arith, count) in
+    (drop (suc (i + 1)) ps, subst (λ k. drop k ps ≡ q ∷ drop (suc (i + 1)) ps) same (drop-cons ps (i + 1) q lt ∙ ap (λ z. z ∷ drop (suc (i + 1)) ps) (sym is)))

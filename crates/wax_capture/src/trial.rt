@@ -1,5 +1,5 @@
 //! Splitting a text by trial, from left to right, with a bound on the time.
-ghost use Rattle.std.specs.Prelude.{◌≡◌, ◌+◌, ◌*◌, ◌<◌, ◌≤◌, ◌∷◌, [], ◌++◌, ℕ, List, IfOk, IsTrue, length, drop};
+ghost use Rattle.std.specs.Prelude.{◌≡◌, ◌+◌, ◌*◌, ◌<◌, ◌≤◌, ◌∷◌, [], ◌++◌, ℕ, List, IfOk, IsFalse, IsTrue, length, drop};
 ghost use Rattle.std.specs.Bool.{MatchBool};
 ghost use Rattle.wax_capture.specs.Pieces.{forms_of, size_of};
 ghost use Rattle.wax_lengths.specs.Forms.{form_size};
@@ -142,6 +142,14 @@ fn take_next(
     Ok(false)
 }
 
+/// Returns whether the piece may take a part of the text from `at` on. Doesn't look for all.
+fn may_begin(piece: &Piece, text: &[char], at: usize) -> bool
+    requires { at ≤ length text.now }
+    ensures { IsFalse result → (ps : List Piece) → Splits (piece.now ∷ ps) (drop at text.now) → ⊥ }
+{
+    piece.ways.next_form(0, text, at) < piece.ways.forms().len()
+}
+
 /// Returns the chosen lengths: one for each frame, and then `last`.
 fn lengths(alloc: Global, frames: &[Frame], last: usize) -> Result<Vec<usize>, AllocError>
     ensures { IfOk result (λ r. r.items ≡ lengths_of frames.now ++ last ∷ []) }
@@ -187,8 +195,11 @@ pub fn split_by_trial(
             };
             top = frame;
         } else if index + 1 < pieces.len() {
-            let next = Frame::new(top.at + top.n);
-            below.push(mem::replace(&mut top, next))?;
+            let end = top.at + top.n;
+            if may_begin(&pieces[index + 1], text, end) {
+                let next = Frame::new(end);
+                below.push(mem::replace(&mut top, next))?;
+            }
         } else if top.at + top.n == text.len() {
             let chosen = lengths(alloc, below.as_slice(), top.n)?;
             return Ok(Trial::Chosen(chosen));

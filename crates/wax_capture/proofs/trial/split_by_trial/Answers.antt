@@ -1,4 +1,4 @@
-use Rattle.std.proofs.Common.{◌≡◌, ◌+◌, ◌*◌, ◌<◌, ◌≤◌, ℕ, List, [], ◌∷◌, ◌++◌, length, drop, sym, ◌∙◌, subst, arith, rules}
+use Rattle.std.proofs.Common.{◌≡◌, ◌+◌, ◌*◌, ◌<◌, ◌≤◌, ℕ, List, [], ◌∷◌, ◌++◌, length, drop, drop-drop, sym, ◌∙◌, subst, arith, rules}
 use Rattle.std.proofs.lemmas.Bool.{MatchBool-at_false, MatchBool-at_true}
 use Rattle.wax_lengths.specs.Spans.{looks}
 use Rattle.wax_capture.specs.inner.Splits.{AreChosen, Splits, all_sizes}
@@ -6,9 +6,9 @@ use Rattle.wax_capture.specs.inner.Trials.{HasRoom, HasTaken, lengths_of}
 use Rattle.wax_capture.specs.declared.piece.Piece.{Piece}
 use Rattle.wax_capture.specs.declared.trial.Frame.{Frame}
 use Rattle.wax_capture.proofs.Counting.{reads_next, reads_piece}
-use Rattle.wax_capture.proofs.Trying.{Stands, Took, after_last, at_piece, none_first, stands_last, stands_pop, stands_push, took_all, took_within}
+use Rattle.wax_capture.proofs.Trying.{Stands, Took, after_last, at_next, at_piece, none_first, stands_here, stands_last, stands_pop, stands_push, took_all, took_within}
 use Rattle.wax_capture.proofs.trial.split_by_trial.Goals as goal
-use Rattle.wax_capture.proofs.trial.split_by_trial.Goals.{then-not-branch+in-Some, else-not-branch+then-index-pieces-2+in_ok-push, else-not-branch+else-index-pieces-2+else-top-text}
+use Rattle.wax_capture.proofs.trial.split_by_trial.Goals.{then-not-branch+in-Some, else-not-branch+then-index-pieces-2+then-may_begin+in_ok-push, else-not-branch+then-index-pieces-2+else-may_begin, else-not-branch+else-index-pieces-2+else-top-text}
 
 pub returns-in_err-take_next-clause-above : goal.returns-in_err-take_next-clause-above
 returns-in_err-take_next-clause-above c =
@@ -90,8 +90,8 @@ returns-in_default-clause-tried c =
     let fails : Splits (p ∷ rest) (drop c.loop.top.at text) → ⊥ = MatchBool-at_false _ _ c.if-not-branch.true (c.in_ok-take_next.ensures.taken rest (λ l. after_last ps fs i (omega (arith, c.len-index.ensures)) (search (rules, l))) (c.loop.invariant.tried p rest is)) in
     none_first text ps fs c.loop.top.at p rest none c.loop.invariant.place is fails
 
-pub overflow_add-top : goal.overflow_add-top
-overflow_add-top c =
+pub overflow_add-end : goal.overflow_add-end
+overflow_add-end c =
     let ps : List Piece = c.args.pieces.now in
     let text : List ℕ = c.args.text.now in
     let n : ℕ = length text + 1 in
@@ -118,8 +118,35 @@ overflow_add-top c =
     let fits : length text < 18446744073709551616 = search rules in
     omega (arith, took_within text most ps fs new took, fits)
 
-pub overflow_add-top-else-index-pieces-2 : goal.overflow_add-top-else-index-pieces-2
-overflow_add-top-else-index-pieces-2 c =
+pub may_begin-requires : goal.may_begin-requires
+may_begin-requires c =
+    let ps : List Piece = c.args.pieces.now in
+    let text : List ℕ = c.args.text.now in
+    let n : ℕ = length text + 1 in
+    let i : ℕ = c.len-index.result in
+    let p : Piece = c.index-pieces-index.result in
+    let most : ℕ = all_sizes ps * n in
+    let fs : List Frame = c.loop.below.items in
+    let rest : List Piece = drop (length fs + 1) ps in
+    let is : drop (length fs) ps ≡ p ∷ rest = at_piece ps fs i p (omega (arith, c.len-index.ensures)) c.if-index-pieces.false c.index-pieces-index.is in
+    let new : Frame = c.take_next.new.frame in
+    let at : new.at ≡ c.loop.top.at = c.in_ok-take_next.ensures.at in
+    let got : HasTaken p rest (drop c.loop.top.at text) new = MatchBool-at_true _ _ c.if-not-branch.false (c.in_ok-take_next.ensures.taken rest (λ l. after_last ps fs i (omega (arith, c.len-index.ensures)) (search (rules, l))) (c.loop.invariant.tried p rest is)) in
+    let room : HasRoom text most new = record {
+      within = omega (arith, at, c.loop.invariant.room.within);
+      end = c.in_ok-take_next.ensures.end;
+      few = c.in_ok-take_next.ensures.few most c.loop.invariant.room.few (reads_piece ps i p c.if-index-pieces.false c.index-pieces-index.is n);
+    } in
+    let took : Took text most ps fs new = record {
+      trail = c.loop.invariant.trail;
+      place = at ∙ c.loop.invariant.place;
+      is = (p, is, subst (λ a. HasTaken p rest (drop a text) new) (sym at) got);
+      room = room;
+    } in
+    took_within text most ps fs new took
+
+pub overflow_add-top : goal.overflow_add-top
+overflow_add-top c =
     let ps : List Piece = c.args.pieces.now in
     let text : List ℕ = c.args.text.now in
     let n : ℕ = length text + 1 in
@@ -194,7 +221,7 @@ loop-preserved c =
           let same : c.loop.below.items ≡ w.pop.new.self.items ++ w.in-Some.frame ∷ [] = search rules in
           let fails : Splits (p ∷ rest) (drop c.loop.top.at text) → ⊥ = MatchBool-at_false _ _ w.if-not-branch.true (c.in_ok-take_next.ensures.taken rest (λ l. after_last ps fs i (omega (arith, c.len-index.ensures)) (search (rules, l))) (c.loop.invariant.tried p rest is)) in
           rw w.below-is (rw w.top-is (stands_pop text most ps fs w.pop.new.self.items w.in-Some.frame c.loop.top.at p rest same c.loop.invariant.trail c.loop.invariant.place is fails)))
-      | else-not-branch+then-index-pieces-2+in_ok-push w ↦ (
+      | else-not-branch+then-index-pieces-2+then-may_begin+in_ok-push w ↦ (
           let new : Frame = c.take_next.new.frame in
           let at : new.at ≡ c.loop.top.at = c.in_ok-take_next.ensures.at in
           let got : HasTaken p rest (drop c.loop.top.at text) new = MatchBool-at_true _ _ w.if-not-branch.false (c.in_ok-take_next.ensures.taken rest (λ l. after_last ps fs i (omega (arith, c.len-index.ensures)) (search (rules, l))) (c.loop.invariant.tried p rest is)) in
@@ -212,6 +239,25 @@ loop-preserved c =
           let pushed : w.push.new.self.items ≡ fs ++ new ∷ [] = search rules in
           let next : w.replace.new.dest ≡ w.new-next.result = search rules in
           rw w.below-is (rw w.top-is (rw pushed (rw next (stands_push text most ps fs new w.new-next.result took w.new-next.ensures.at w.new-next.ensures.opened w.new-next.ensures.end w.new-next.ensures.looks)))))
+      | else-not-branch+then-index-pieces-2+else-may_begin w ↦ (
+          let new : Frame = c.take_next.new.frame in
+          let at : new.at ≡ c.loop.top.at = c.in_ok-take_next.ensures.at in
+          let got : HasTaken p rest (drop c.loop.top.at text) new = MatchBool-at_true _ _ w.if-not-branch.false (c.in_ok-take_next.ensures.taken rest (λ l. after_last ps fs i (omega (arith, c.len-index.ensures)) (search (rules, l))) (c.loop.invariant.tried p rest is)) in
+          let room : HasRoom text most new = record {
+            within = omega (arith, at, c.loop.invariant.room.within);
+            end = c.in_ok-take_next.ensures.end;
+            few = c.in_ok-take_next.ensures.few most c.loop.invariant.room.few (reads_piece ps i p c.if-index-pieces.false c.index-pieces-index.is n);
+          } in
+          let took : Took text most ps fs new = record {
+            trail = c.loop.invariant.trail;
+            place = at ∙ c.loop.invariant.place;
+            is = (p, is, subst (λ a. HasTaken p rest (drop a text) new) (sym at) got);
+            room = room;
+          } in
+          let (others, next) = at_next ps fs i w.index-pieces-index-then-index-pieces-2.result (omega (arith, c.len-index.ensures)) w.if-index-pieces-2.true w.index-pieces-index-then-index-pieces-2.is in
+          let place : drop new.n (drop new.at text) ≡ drop (new.at + new.n) text = drop-drop new.n new.at text in
+          let fails : Splits rest (drop new.n (drop new.at text)) → ⊥ = λ h. w.may_begin.ensures (search rules) others (subst (Splits (w.index-pieces-index-then-index-pieces-2.result ∷ others)) place (subst (λ z. Splits z (drop new.n (drop new.at text))) next h)) in
+          rw w.below-is (rw w.top-is (stands_here text most ps fs new took fails)))
       | else-not-branch+else-index-pieces-2+else-top-text w ↦ (
           let new : Frame = c.take_next.new.frame in
           let at : new.at ≡ c.loop.top.at = c.in_ok-take_next.ensures.at in
