@@ -1,4 +1,4 @@
-//! Blocks of lines of an ignore list, which are decided at once if their automata tell enough.
+//! Blocks of lines of an ignore list, which automata over all of their alternatives mostly decide.
 ghost use Rattle.std.specs.Prelude.{◌++◌, ◌<◌, ◌≡◌, ◌≤◌, ◌∷◌, [], IfOk, IfSome, List, Some, chars};
 ghost use Rattle.std.specs.Prelude.{drop, length};
 ghost use Rattle.std.specs.List.{All};
@@ -57,7 +57,7 @@ pub struct Block {
 }
 
 impl Block {
-    /// Goes on to the end of the block if the automata tell what its lines decide for the entry: if
+    /// Goes on to the end of the block if its automata know what its lines decide for the entry: if
     /// none of them matches it, or all of them ignore, or all begin with `!`. Otherwise, or if the
     /// automaton has given up, returns the beginning of the block.
     ///
