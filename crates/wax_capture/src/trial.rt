@@ -142,11 +142,15 @@ fn take_next(
     Ok(false)
 }
 
-/// Returns whether the piece may take a part of the text from `at` on. Doesn't look for all.
-fn may_begin(piece: &Piece, text: &[char], at: usize) -> bool
+/// Returns whether the piece may take a part of the text from `at` on. Looks at the text only if
+/// the piece before it has other lengths left.
+fn may_begin(piece: &Piece, text: &[char], at: usize, has_others: bool) -> bool
     requires { at ≤ length text.now }
     ensures { IsFalse result → (ps : List Piece) → Splits (piece.now ∷ ps) (drop at text.now) → ⊥ }
 {
+    if !has_others {
+        return true;
+    }
     piece.ways.next_form(0, text, at) < piece.ways.forms().len()
 }
 
@@ -196,7 +200,8 @@ pub fn split_by_trial(
             top = frame;
         } else if index + 1 < pieces.len() {
             let end = top.at + top.n;
-            if may_begin(&pieces[index + 1], text, end) {
+            let has_others = top.span.low < top.span.end;
+            if may_begin(&pieces[index + 1], text, end, has_others) {
                 let next = Frame::new(end);
                 below.push(mem::replace(&mut top, next))?;
             }
