@@ -50,6 +50,7 @@ impl ByLetter {
 
     /// Returns the index of the first form, from `from` on, that may take a part of the text from
     /// `at` on, or at least the number of forms.
+    #[inline(never)]
     pub fn next_form(&self, from: usize, text: &[char], at: usize) -> usize
         requires { at ≤ length text.now }
         ensures further { from ≤ result }
