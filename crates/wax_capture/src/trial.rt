@@ -1,5 +1,6 @@
 //! Splitting a text by trial, from left to right, with a bound on the time.
-ghost use Rattle.std.specs.Prelude.{◌≡◌, ◌+◌, ◌*◌, ◌<◌, ◌≤◌, ◌∷◌, [], ◌++◌, ℕ, List, IfOk, IsFalse, IsTrue, length, drop};
+ghost use Rattle.std.specs.Prelude.{◌≡◌, ◌+◌, ◌*◌, ◌<◌, ◌≤◌, ◌∷◌, [], ◌++◌, ℕ, List, IfOk, IsFalse, IsTrue};
+ghost use Rattle.std.specs.Prelude.{length, drop};
 ghost use Rattle.std.specs.Bool.{MatchBool};
 ghost use Rattle.wax_capture.specs.Pieces.{forms_of, size_of};
 ghost use Rattle.wax_lengths.specs.Forms.{form_size};

@@ -28,7 +28,7 @@ abbrev pub NoneBegins : List Form → ℕ → ℕ → ℕ → Type 0
 NoneBegins forms from to c =
     (k : ℕ) (f : Form) → from ≤ k → k < to → slice_get forms k ≡ Some f → first_letter f ≡ Some c → ⊥
 
--- each form from the index on begins with an ASCII letter, and the first and the next one with a letter are known
+-- each form from the index on begins with an ASCII letter; the first and the next one with a letter are known
 pub record AreLinked (forms : List Form) (firsts nexts : List ℕ) (from : ℕ) : Type 0 where
   pub lettered : (k : ℕ) (f : Form) → from ≤ k → slice_get forms k ≡ Some f → BeginsAscii f
   pub first : (c : ℕ) → c < 128 → NoneBegins forms from (slice_index_or firsts c 0) c

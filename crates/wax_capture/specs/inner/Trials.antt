@@ -14,7 +14,8 @@ use Rattle.wax_capture.specs.declared.trial.Trial.TheVariants.{Chosen, Nothing, 
 
 -- lengths of beginnings of the text that the form takes: all, or of the last piece at least the whole text's
 pub record AreLeft (form : Form) (is_last : Bool) (s : List ℕ) (span : LengthSpan) : Type 0 where
-  pub fits : (m : ℕ) → m ≤ length s → TakenBy form (take m s) → (is_last ≡ true → m ≡ length s) → InSpan span s m
+  pub fits : (m : ℕ) → m ≤ length s → TakenBy form (take m s) → (is_last ≡ true → m ≡ length s)
+      → InSpan span s m
   pub sound : (m : ℕ) → InSpan span s m → (m ≤ length s) × TakenBy form (take m s)
 
 -- of the ways that were opened only the last can fit, by a length that is left
