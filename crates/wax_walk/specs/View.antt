@@ -50,12 +50,12 @@ abbrev pub IsMisplaced : Option Given → Type 0
 IsMisplaced (Some (fault NotAFolder path depth)) = ⊤
 IsMisplaced r = ⊥
 
--- the item is a folder above this depth that isn't excluded with everything below it
 abbrev pub is_folder_kind : FileType → Bool
 is_folder_kind F.Folder = true
 is_folder_kind F.File = false
 is_folder_kind F.Link = false
 
+-- the item is a folder above this depth that isn't excluded with everything below it
 abbrev pub is_to_open : ℕ → Given → Bool
 is_to_open most (entry kept f) = is_folder_kind f.kind && nat_lt f.depth most
 is_to_open most (entry alone f) = is_folder_kind f.kind && nat_lt f.depth most
