@@ -1,3 +1,4 @@
 pub mod Caches
+pub mod Listings
 pub mod Tables
 pub mod Walking

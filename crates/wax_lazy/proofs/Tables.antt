@@ -1,5 +1,5 @@
 -- States that are added, and cells that are filled.
-use Rattle.std.proofs.Common.{◌≡◌, ℕ, zero, suc, ◌+◌, ◌-◌, ◌*◌, ◌/◌, ◌%◌, ◌<◌, ◌≤◌, ◌⊎◌, ◌↔◌, ◌≢◌, inl, inr, Bool, List, [], ◌∷◌, ◌++◌, Option, Some, None, IfSome, IsTrue, Contains, length, get_or, set, replicate, refl, sym, ◌∙◌, ap, subst, arith, slice_get, length-append, length-set, get_or-set_same, get_or-set_other}
+use Rattle.std.proofs.Common.{◌≡◌, ℕ, zero, suc, ◌+◌, ◌-◌, ◌*◌, ◌/◌, ◌%◌, ◌<◌, ◌≤◌, ◌⊎◌, ◌↔◌, ◌≢◌, inl, inr, Bool, true, false, List, [], ◌∷◌, ◌++◌, Option, Some, None, IfSome, IsTrue, Contains, length, get_or, set, replicate, refl, sym, ◌∙◌, ap, subst, arith, slice_get, length-append, length-set, get_or-set_same, get_or-set_other}
 use Rattle.std.proofs.lemmas.Bool.{cases_eq, cases_lt}
 use Rattle.std.proofs.lemmas.List.{get_or_append_left, get_or-append_right, get_or-replicate, length-replicate}
 use Rattle.std.proofs.lemmas.Option.{slice_get_cases, slice_get_within}
@@ -7,7 +7,8 @@ use Rattle.wax_lazy.specs.declared.table.State.{State}
 use Rattle.wax_lazy.specs.inner.Table.{BeginsTexts, IsDead, IsSettled, IsState, IsStatePlace, IsTable, IsTransition, KeepsStates, LeadOn, Leads, LeadsNext, LeadsTo, TakesAll, next_of, places_at, places_in, places_led}
 use Rattle.wax_program.specs.declared.instruction.Instruction.{Instruction}
 use Rattle.wax_program.specs.Machine.{Accepts}
-use Rattle.wax_program.specs.Threads.{AnyAmong, AreParts, AreReached}
+use Rattle.wax_lazy.specs.inner.Listed.{AreReached, taken_if}
+use Rattle.wax_program.specs.Threads.{AnyAmong, AreParts}
 
 -- ---- lists
 pub slice_get_append : {X : Type 0} (xs ys : List X) (t : ℕ) → t < length xs → slice_get (xs ++ ys) t ≡ slice_get xs t
@@ -257,8 +258,13 @@ pub dead_of_none : (code : List Instruction) (c : ℕ) (places others : List ℕ
 dead_of_none code c places others a none s h = no_place code s (subst (λ z. AnyAmong code z s) none ((a s).0 h))
 
 -- a step from all places
-pub all_leads : (code : List Instruction) (c : ℕ) (places reached : List ℕ) → AreReached code c places [] reached → LeadOn code c places reached
-all_leads code c places reached a s = (
+pub all_leads : (code : List Instruction) (c : ℕ) (places reached : List ℕ) (leads : Bool) → AreReached code c places (taken_if leads []) reached
+    → LeadOn code c places reached
+all_leads code c places reached true a s = (
+  (λ h. (a s).1 (inl h)),
+  (λ h. elim ((a s).0 h) [ inl g ↦ g | inr g ↦ absurd (no_place code s g) ]),
+)
+all_leads code c places reached false a s = (
   (λ h. (a s).1 (inl h)),
   (λ h. elim ((a s).0 h) [ inl g ↦ g | inr g ↦ absurd (no_place code s g) ]),
 )
@@ -276,6 +282,36 @@ parts_lead code c places part other also reached parts leads a s = (
     | inr g ↦ (let f : AnyAmong code part (c ∷ s) = (leads s).1 g in (f.0, (parts f.0).1 (inl f.1), f.2))
   ]),
 )
+
+-- if one part leads nowhere, all places lead to where the other part does
+module _ (code : List Instruction) (c : ℕ) (places part other : List ℕ) (parts : AreParts places part other) (dead : AreReached code c other [] []) where
+  none_there : IsDead code other c
+  none_there s h = no_place code s ((dead s).1 (inl h))
+
+  as_part : (s : List ℕ) → AnyAmong code places (c ∷ s) ↔ AnyAmong code part (c ∷ s)
+  as_part s = (
+    (λ h. elim ((parts h.0).0 h.1) [
+      | inl g ↦ (h.0, g, h.2)
+      | inr g ↦ absurd (none_there s (h.0, g, h.2))
+    ]),
+    (λ h. (h.0, (parts h.0).1 (inl h.1), h.2)),
+  )
+
+  led_as_part : (states : List State) (at : ℕ) → LeadsTo code states part c at → LeadsTo code states places c at
+  led_as_part states at l = record {
+    placed = l.placed;
+    leads = λ s. ((λ h. (l.leads s).0 ((as_part s).0 h)), (λ h. (as_part s).1 ((l.leads s).1 h)));
+  }
+
+  pub leads_as_part : (states : List State) (led : Option ℕ) → Leads code states part c led → Leads code states places c led
+  leads_as_part states (Some at) l = led_as_part states at l
+  leads_as_part states None none = λ s h. none s ((as_part s).0 h)
+
+  pub cell_as_part : (states : List State) (cell : ℕ) → IsTransition code states part c cell → IsTransition code states places c cell
+  cell_as_part states cell (inl e) = inl e
+  cell_as_part states cell (inr (inl h)) = inr (inl (h.0, (λ s g. h.1 s ((as_part s).0 g))))
+  cell_as_part states cell (inr (inr (inl h))) = inr (inr (inl (h.0, (λ s. (as_part s).1 (h.1 s)))))
+  cell_as_part states cell (inr (inr (inr h))) = inr (inr (inr (h.0, h.1, led_as_part states h.0 h.2)))
 
 -- if every text is accepted from the places that follow, every text is that begins with the character
 pub takes_all : (code : List Instruction) (c : ℕ) (places others : List ℕ) → LeadOn code c places others → ((s : List ℕ) → AnyAmong code others s)

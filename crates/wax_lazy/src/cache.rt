@@ -10,9 +10,10 @@ ghost use Rattle.wax_lazy.specs.inner.Table.{places_at};
 ghost use Rattle.wax_program.specs.declared.instruction.Instruction.{Instruction};
 ghost use Rattle.wax_program.specs.Threads.{AnyAmong};
 
+use crate::stepper::Stepper;
 use crate::table::{ALL, COLUMNS, DEAD, FIRST, Next, State, Table, next_of};
 use std::alloc::{AllocError, Global};
-use wax_program::{CompiledProgram, Stepper, part_loops, place_of_all};
+use wax_program::{CompiledProgram, part_loops, place_of_all};
 
 /// The size of a state in bytes, without its places: that of its cells, and about fifty more.
 const STATE_BYTES: usize = 306;
@@ -27,8 +28,8 @@ const LEAST_PARTED: usize = 256;
 /// The number of states that are kept however many bytes they take.
 const LEAST_STATES: usize = 16;
 
-/// The greatest number of states that are kept.
-const MOST_STATES: usize = 8_192;
+/// The greatest number of states that are kept. A cell of 16 bits can name some more.
+const MOST_STATES: usize = 60_000;
 
 /// The states that texts led to so far, and a stepper that finds the next ones.
 #[derive(Drop)]
@@ -73,7 +74,7 @@ impl Cache {
         ensures cache { IfOk result (IsCacheOf program.now.0) }
         ensures start { IfOk result (λ c. c.start ≡ start) }
     {
-        let stepper = Stepper::new(alloc, program.size())?;
+        let stepper = Stepper::new(alloc, program)?;
         let table = Table::new(alloc, most_states(most_bytes))?;
         Ok(Cache {
             alloc,
@@ -200,7 +201,8 @@ impl Cache {
     }
 
     /// Follows a character by a step of the program, if there is room for three more states. In a
-    /// large program, mostly steps only from the places that aren't loops.
+    /// large program, mostly steps only from the places that aren't loops. If these lead nowhere,
+    /// the state of the loops decides alone.
     fn follow(
         &mut self,
         program: &CompiledProgram,
@@ -226,8 +228,13 @@ impl Cache {
         let loops = self.intern()? * COLUMNS;
         let led = self.follow_loops(program, loops, c)?;
         let also = self.table.places_led(led);
-        self.stepper
+        let leads = self
+            .stepper
             .step(program, &self.others, c, also, &mut self.reached)?;
+        if !leads {
+            self.table.copy_cell(loops, at, c);
+            return Ok(led);
+        }
         let takes_all = self.takes_all(program);
         self.enter(at, c, takes_all)
     }

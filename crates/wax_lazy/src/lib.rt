@@ -4,7 +4,10 @@
 
 mod cache;
 mod known;
+mod listed;
+mod listed_sets;
 mod matcher;
+mod stepper;
 mod table;
 mod walk;
 

@@ -1,6 +1,6 @@
 //! The table of states, with the next state for each ASCII character.
 ghost use Rattle.std.specs.Prelude.{◌≡◌, ◌+◌, ◌*◌, ◌/◌, ◌<◌, ◌≤◌, ◌++◌, ◌∷◌, [], IfOk, IfSome, IsTrue, Some};
-ghost use Rattle.std.specs.Prelude.{length, replicate, slice_get, slice_set};
+ghost use Rattle.std.specs.Prelude.{length, replicate, slice_get, slice_index, slice_set};
 ghost use Rattle.wax_lazy.specs.declared.table.State.{State};
 ghost use Rattle.wax_lazy.specs.inner.Table.{IsSettled, next_of, places_at, places_led};
 
@@ -66,7 +66,7 @@ pub struct Table {
 
 impl Table {
     /// Creates a table without states, in which at most about `most` states are found. Allocates 4
-    /// to 8 bytes for each of them.
+    /// to 16 bytes for each of them.
     ///
     /// # Errors
     ///
@@ -187,6 +187,19 @@ impl Table {
         }
     }
 
+    /// Copies the cell of an ASCII character of the state whose cells begin at `from` to the state
+    /// whose cells begin at `to`.
+    pub fn copy_cell(&mut self, from: usize, to: usize, c: char)
+        requires ascii { c < 128 }
+        requires from { from + c < length self.old.cells.items }
+        requires to { to + c < length self.old.cells.items }
+        ensures states { self.new.states ≡ self.old.states }
+        ensures cells { self.new.cells.items ≡ slice_set self.old.cells.items (to + c)
+            (slice_index self.old.cells.items (from + c)) }
+    {
+        self.cells[to + c as usize] = self.cells[from + c as usize];
+    }
+
     /// Removes a state and returns it. The table then has to be cleared.
     pub fn take(&mut self, at: usize) -> State
         requires { at / 128 < length self.old.states.items }
@@ -248,7 +261,11 @@ fn slots_for(most: usize) -> usize {
         4_096
     } else if most <= 4_096 {
         8_192
-    } else {
+    } else if most <= 8_192 {
         16_384
+    } else if most <= 16_384 {
+        32_768
+    } else {
+        131_072
     }
 }

@@ -6,7 +6,7 @@ use Rattle.std.proofs.lemmas.Bool.{cases_eq, cases_lt}
 use Rattle.std.proofs.lemmas.Nat.Bits.{bit_at_set_same, bit_at_set_other, bit_at_clear_same, bit_at_clear_other, bit_at-zero, bit_at-trailing_zeros}
 use Rattle.std.specs.Prelude.{bit_and, bit_or}
 use Rattle.std.specs.Int.{bit_at, bit_not, trailing_zeros}
-use Rattle.wax_program.specs.inner.Bits.{bit_of, bits_of}
+use Rattle.wax_program.specs.Bits.{bit_of, bits_of}
 use Rattle.wax_program.specs.Threads.{HoldsPlace, IsEmpty}
 
 pub length-bits_of : (words : List ℕ) → length (bits_of words) ≡ 64 * length words

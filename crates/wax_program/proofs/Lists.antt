@@ -1,4 +1,4 @@
--- Places that a caller lists.
+-- Places that are parted, and places from which every text is accepted.
 use Rattle.std.proofs.Common.{◌≡◌, ◌+◌, ◌<◌, ◌⊎◌, ◌↔◌, [], ◌∷◌, ◌++◌, inl, inr, ℕ, suc, Bool, List, Some, length, get_or, slice_get, Contains, refl, sym, ◌∙◌, subst, arith}
 use Rattle.std.proofs.lemmas.Bool.{cases_lt}
 use Rattle.std.proofs.lemmas.List.{get_or_default}
@@ -7,28 +7,6 @@ use Rattle.wax_program.specs.declared.instruction.Instruction.{Instruction}
 use Rattle.wax_program.specs.declared.instruction.Instruction.TheVariants.{Repeat}
 use Rattle.wax_program.specs.declared.instruction.Test.TheVariants.{Any}
 use Rattle.wax_program.specs.Machine.{Accepts}
-use Rattle.wax_program.specs.Threads.{Advances, AnyAmong, AnyOf, AreReached, IsJoined, IsLoaded, Lists}
-use Rattle.wax_program.proofs.Advancing.{in_range}
-
-module _ (code : List Instruction) (places : List ℕ) (size : ℕ) (set : List Bool) (sized : size ≡ length code) (loaded : IsLoaded places size set) where
-  pub any_loaded : (s : List ℕ) → AnyAmong code places s ↔ AnyOf code set s
-  any_loaded s = (
-    (λ h. (h.0, loaded.all h.0 h.1 (omega (arith, in_range code h.2.0 h.0 s h.2.1, sized)), h.2)),
-    (λ h. (h.0, loaded.only h.0 h.1, h.2)),
-  )
-
-  pub reached_listed : (c : ℕ) (also reached : List ℕ) (next more : List Bool) → Advances code c set next → IsJoined next also size more
-      → Lists reached more → AreReached code c places also reached
-  reached_listed c also reached next more a joined listed s = (
-    (λ h. elim (joined.only h.0 ((listed h.0).0 h.1)) [
-      | inl old ↦ inl ((any_loaded (c ∷ s)).1 (a.backward s (h.0, old, h.2)))
-      | inr new ↦ inr (h.0, new, h.2)
-    ]),
-    (λ h. elim h [
-      | inl old ↦ (let g : AnyOf code next s = a.onward s ((any_loaded (c ∷ s)).0 old) in (g.0, (listed g.0).1 (joined.keeps g.0 g.1), g.2))
-      | inr new ↦ (new.0, (listed new.0).1 (joined.all new.0 new.1 (omega (arith, in_range code new.2.0 new.0 s new.2.1, sized))), new.2)
-    ]),
-  )
 
 -- the places before an index are in one of the parts, which have no others
 pub record PartedBefore (places part other : List ℕ) (i : ℕ) : Type 0 where

@@ -69,12 +69,12 @@ module _ (flags : List Bool) (k : ℕ) where
     | inr other ↦ sym (get_or-set_other flags k x false false other) ∙ h
   ]
 
--- the lowest place that is still to be read counts as read
+-- a place that is still to be read counts as read
 module _ (size first : ℕ) (pending read next : List Bool) (sets : AreSets size first pending read next) where
   pub reads_few : member_count read ≤ size
   reads_few = members_within size read sets.read_within
 
-  module _ (at : ℕ) (held : HoldsPlace pending at) (lt : at < size) (lowest : (k : ℕ) → HoldsPlace pending k → at ≤ k) where
+  module _ (at : ℕ) (held : HoldsPlace pending at) (lt : at < size) where
     room : at < length read
     room = omega (arith, lt, sets.read_room)
 
@@ -90,7 +90,6 @@ module _ (size first : ℕ) (pending read next : List Bool) (sets : AreSets size
       below = lt;
       next = refl;
       held = held;
-      lowest = lowest;
       others = removed_others pending at;
       fewer = removed_fewer pending at;
       reads = has_added read at room;
@@ -98,11 +97,3 @@ module _ (size first : ℕ) (pending read next : List Bool) (sets : AreSets size
       only = added_only read at;
       counted = members_set read at room (sets.apart at held);
     }
-
--- a place that is removed counts one less
-pub members_removed : (flags : List Bool) (at : ℕ) → HoldsPlace flags at → member_count flags ≡ member_count (set flags at false) + 1
-members_removed [] at h = absurd (true≢false (sym h))
-members_removed (true ∷ flags) zero h = refl
-members_removed (false ∷ flags) zero h = absurd (true≢false (sym h))
-members_removed (true ∷ flags) (suc at) h = omega (arith, members_removed flags at h)
-members_removed (false ∷ flags) (suc at) h = members_removed flags at h

@@ -4,7 +4,7 @@ use Rattle.std.proofs.lemmas.Bool.{cases_eq}
 use Rattle.std.specs.Prelude.{bit_and, bit_or}
 use Rattle.std.specs.Int.{bit_at, bit_not, trailing_zeros}
 use Rattle.std.specs.Int.Count.{trailing_of_zero}
-use Rattle.wax_program.specs.inner.Bits.{bits_of}
+use Rattle.wax_program.specs.Bits.{bits_of}
 use Rattle.wax_program.specs.Threads.{HoldsPlace, IsEmpty}
 use Rattle.wax_program.proofs.Bits.{length-bits_of, get_or-bits_of, bits_of-insert, bits_of-remove, first_has, first_least, empty_of_replicate}
 

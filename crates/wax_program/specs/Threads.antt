@@ -33,21 +33,6 @@ pub record Position : Type 0 where
   pub read : List Bool
   pub next : List Bool
 
--- the places are exactly those of the set
-abbrev pub Lists : List ℕ → List Bool → Type 0
-Lists places set = (k : ℕ) → Contains places k ↔ HoldsPlace set k
-
--- the set has places of the list, and each of them that a program of `size` instructions has, or its end
-pub record IsLoaded (places : List ℕ) (size : ℕ) (set : List Bool) : Type 0 where
-  pub only : (k : ℕ) → HoldsPlace set k → Contains places k
-  pub all : (k : ℕ) → Contains places k → k ≤ size → HoldsPlace set k
-
--- the set has the places of another, and of the list in the same way
-pub record IsJoined (old : List Bool) (places : List ℕ) (size : ℕ) (set : List Bool) : Type 0 where
-  pub only : (k : ℕ) → HoldsPlace set k → HoldsPlace old k ⊎ Contains places k
-  pub keeps : (k : ℕ) → HoldsPlace old k → HoldsPlace set k
-  pub all : (k : ℕ) → Contains places k → k ≤ size → HoldsPlace set k
-
 -- each of the places is in one of the parts, which have no others
 abbrev pub AreParts : List ℕ → List ℕ → List ℕ → Type 0
 AreParts places part other = (k : ℕ) → Contains places k ↔ (Contains part k ⊎ Contains other k)
@@ -78,7 +63,6 @@ pub record Taken (old new : Position) (k : ℕ) : Type 0 where
   pub below : k < old.size
   pub next : new.next ≡ old.next
   pub held : HoldsPlace old.pending k
-  pub lowest : (x : ℕ) → HoldsPlace old.pending x → k ≤ x
   pub others : (x : ℕ) → HoldsPlace old.pending x → HoldsPlace new.pending x ⊎ (x ≡ k)
   pub fewer : (x : ℕ) → HoldsPlace new.pending x → HoldsPlace old.pending x
   pub reads : HoldsPlace new.read k
@@ -115,12 +99,6 @@ AcceptsAllOrNone code set = (s : List ℕ) → AnyOf code set s ↔ AnyOf code s
 -- one of the places accepts the text
 abbrev pub AnyAmong : List Instruction → List ℕ → List ℕ → Type 0
 AnyAmong code places s = (k : ℕ) × Contains places k × Accepts code k s
-
--- the places that were reached accept the rest exactly where some of `places` accept a text that begins with
--- the character, or some of `also` accept the rest
-abbrev pub AreReached : List Instruction → ℕ → List ℕ → List ℕ → List ℕ → Type 0
-AreReached code c places also reached =
-    (s : List ℕ) → AnyAmong code reached s ↔ (AnyAmong code places (c ∷ s) ⊎ AnyAmong code also s)
 
 -- the place is reached, if the program or its end has it
 abbrev pub ReachedBelow : Position → ℕ → Type 0

@@ -1,4 +1,2 @@
-pub mod Bits
 pub mod Names
 pub mod Slashes
-pub mod Steady

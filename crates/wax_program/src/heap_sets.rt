@@ -1,6 +1,6 @@
 //! The sets of places of a run, for programs of any length.
 ghost use Rattle.std.specs.Prelude.{◌≡◌, IfOk};
-ghost use Rattle.wax_program.specs.Threads.{IsDone, IsEmpty, IsJoined, IsLoaded, Lists};
+ghost use Rattle.wax_program.specs.Threads.{IsEmpty};
 
 use crate::set::Set;
 use crate::sets::Sets;
@@ -55,67 +55,6 @@ impl HeapSets {
             read,
             next,
         })
-    }
-}
-
-impl HeapSets {
-    /// Inserts places that are to be read here. Leaves out places after the program's end.
-    pub fn load(&mut self, places: &[usize])
-        requires pending { IsEmpty self.old.pending }
-        requires next { IsEmpty self.old.next }
-        ensures size { self.new.size ≡ self.old.size }
-        ensures loaded { IsLoaded places.now self.new.size self.new.pending }
-        ensures read { IsEmpty self.new.read }
-        ensures next { IsEmpty self.new.next }
-    {
-        self.read.clear();
-        for place in places {
-            self.insert(*place);
-        }
-    }
-
-    /// Inserts places of the next position. Leaves out places after the program's end.
-    pub fn add_next(&mut self, places: &[usize])
-        ensures size { self.new.size ≡ self.old.size }
-        ensures pending { self.new.pending ≡ self.old.pending }
-        ensures added { IsJoined self.old.next places.now self.new.size self.new.next }
-    {
-        for place in places {
-            self.insert_next(*place);
-        }
-    }
-
-    /// Writes the places of the next position into `places`, ascending, and removes every place.
-    ///
-    /// # Errors
-    ///
-    /// Returns `AllocError` if allocation fails.
-    pub fn take_next(&mut self, places: &mut Vec<usize>) -> Result<(), AllocError>
-        requires { IsDone self.old }
-        ensures size { self.new.size ≡ self.old.size }
-        ensures pending { IsEmpty self.new.pending }
-        ensures next { IsEmpty self.new.next }
-        ensures listed { IfOk result (λ _. Lists places.new.items self.old.next) }
-    {
-        self.pending.remove(self.size);
-        let taken = self.next.take_all(places);
-        if taken.is_err() {
-            self.next.clear();
-        }
-        taken
-    }
-
-    /// Removes every place.
-    pub fn clear(&mut self)
-        ensures size { self.new.size ≡ self.old.size }
-        ensures pending { IsEmpty self.new.pending }
-        ensures read { IsEmpty self.new.read }
-        ensures next { IsEmpty self.new.next }
-    {
-        self.pending.clear();
-        self.read.clear();
-        self.next.clear();
-        self.first = 0;
     }
 }
 

@@ -1,9 +1,9 @@
 //! Sets of places, one bit each.
 ghost use Rattle.std.specs.Prelude.{◌≡◌, ◌+◌, ◌*◌, ◌/◌, ◌^◌, ◌<◌, ◌≤◌, ℕ, Bool, List, IfOk, MatchOption};
-ghost use Rattle.std.specs.Prelude.{OnOk, length};
+ghost use Rattle.std.specs.Prelude.{length};
 ghost use Rattle.std.specs.Prelude.{slice_index_or, slice_set, true, false};
-ghost use Rattle.wax_program.specs.inner.Bits.{bits_of};
-ghost use Rattle.wax_program.specs.Threads.{HoldsPlace, IsEmpty, Lists};
+ghost use Rattle.wax_program.specs.Bits.{bits_of};
+ghost use Rattle.wax_program.specs.Threads.{HoldsPlace, IsEmpty};
 
 use std::alloc::{AllocError, Global};
 use std::marker::Model;
@@ -80,26 +80,5 @@ impl Set {
             }
         }
         None
-    }
-
-    /// Writes all places into `places`, ascending, and removes them.
-    ///
-    /// # Errors
-    ///
-    /// Returns `AllocError` if allocation fails. Some places may be removed even then.
-    pub fn take_all(&mut self, places: &mut Vec<usize>) -> Result<(), AllocError>
-        ensures room { length self.new ≡ length self.old }
-        ensures fewer { (k : ℕ) → HoldsPlace self.new k → HoldsPlace self.old k }
-        ensures empty { OnOk result (IsEmpty self.new) }
-        ensures listed { IfOk result (λ _. Lists places.new.items self.old) }
-    {
-        places.clear();
-        let mut word = 0;
-        while let Some(at) = self.first_from(word) {
-            self.remove(at);
-            places.push(at)?;
-            word = at / 64;
-        }
-        Ok(())
     }
 }

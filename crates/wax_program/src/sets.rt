@@ -1,7 +1,7 @@
 //! The places of a program that a run has reached at a position in the text.
 ghost use Rattle.std.specs.Prelude.{◌≡◌, ◌+◌, ◌≤◌, ◌<◌, ◌^◌, ◌↔◌, ℕ, IfSome, IsTrue, MatchOption};
 ghost use Rattle.std.specs.Bool.{MatchBool};
-ghost use Rattle.wax_program.specs.inner.Bits.{places_of};
+ghost use Rattle.wax_program.specs.Bits.{places_of};
 ghost use Rattle.wax_program.specs.Threads.{HoldsPlace, Inserted, InsertedNext, IsDone, IsEmpty, Position};
 ghost use Rattle.wax_program.specs.Threads.{Taken, member_count};
 
@@ -31,7 +31,7 @@ pub trait Sets {
     fn leads_to(&self, word: u64) -> bool
         ensures { IsTrue result → (position self.now).next ≡ places_of word };
 
-    /// Takes the lowest instruction that is still to be read here, and marks it as read.
+    /// Takes an instruction that is still to be read here, and marks it as read.
     fn take(&mut self) -> Option<usize>
         ensures few { member_count (position self.new).read ≤ (position self.new).size }
         ensures small { (position self.old).size < 2 ^ 64 }

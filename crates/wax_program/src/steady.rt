@@ -2,8 +2,8 @@
 ghost use Rattle.std.specs.Prelude.{◌≡◌, ◌+◌, ◌≤◌, ℕ, List, IfSome, IsTrue, min};
 ghost use Rattle.wax_program.specs.Machine.{PassesTest};
 ghost use Rattle.wax_program.specs.Meter.{most_ticks};
-ghost use Rattle.wax_program.specs.inner.Steady.{IsAbsorbing, IsKnown, MissesWatched, Misses, NotedMiss};
-ghost use Rattle.wax_program.specs.inner.Steady.{NotedRepeat};
+ghost use Rattle.wax_program.specs.Steady.{IsAbsorbing, IsKnown, MissesWatched, Misses, NotedMiss};
+ghost use Rattle.wax_program.specs.Steady.{NotedRepeat};
 ghost use Rattle.wax_program.specs.Threads.{Advances};
 
 use crate::instruction::{Instruction, Test};

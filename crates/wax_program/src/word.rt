@@ -1,6 +1,6 @@
 //! Sets of places below 64, one bit each, in one word.
 ghost use Rattle.std.specs.Prelude.{◌≡◌, ◌<◌, ◌≤◌, ℕ, IsTrue, length, slice_index_or, slice_set, true, false};
-ghost use Rattle.wax_program.specs.inner.Bits.{places_of};
+ghost use Rattle.wax_program.specs.Bits.{places_of};
 ghost use Rattle.wax_program.specs.Threads.{HoldsPlace, IsEmpty};
 
 use std::marker::Model;
@@ -13,7 +13,7 @@ pub struct Word {
 
 impl Model for Word {
     ghost use Rattle.std.specs.Prelude.{Bool, List, [], ◌∷◌};
-    ghost use Rattle.wax_program.specs.inner.Bits.{bits_of};
+    ghost use Rattle.wax_program.specs.Bits.{bits_of};
 
     ghost Value = { List Bool };
 

@@ -2,7 +2,7 @@ use Rattle.std.proofs.Common.{◌≡◌, ◌≤◌, ◌+◌, ◌*◌, ℕ, lengt
 use Rattle.std.specs.Str.{chars}
 use Rattle.std.specs.Str.Iter.{chars_rest}
 use Rattle.wax_program.specs.Meter.{most_ticks}
-use Rattle.wax_program.specs.inner.Steady.{IsKnown}
+use Rattle.wax_program.specs.Steady.{IsKnown}
 use Rattle.wax_program.specs.Threads.{IsEmpty, Stays}
 use Rattle.wax_program.proofs.matching.run_over.Given as goal
 

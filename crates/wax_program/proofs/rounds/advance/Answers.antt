@@ -1,5 +1,5 @@
 use Rattle.std.proofs.Common.{◌≡◌, ◌+◌, ◌≤◌, ◌∙◌, ℕ, arith, ap, sym}
-use Rattle.wax_program.specs.inner.Steady.{ActsAlike}
+use Rattle.wax_program.specs.Steady.{ActsAlike}
 use Rattle.wax_program.specs.Threads.{Followed, HoldsPlace, IsDone, Round, Taken, member_count}
 use Rattle.wax_program.proofs.Advancing.{read_one, round_start, round_step, round_end}
 use Rattle.wax_program.proofs.Members.{members_none}

@@ -1,5 +1,5 @@
 use Rattle.std.proofs.Common.{◌≡◌, ◌≤◌, ◌-◌, ℕ, length}
-use Rattle.wax_program.specs.inner.Steady.{ActsAlike}
+use Rattle.wax_program.specs.Steady.{ActsAlike}
 use Rattle.wax_program.specs.Threads.{HoldsPlace, Round, member_count}
 use Rattle.wax_program.proofs.rounds.advance.Given as goal
 

@@ -14,12 +14,10 @@ returns-then-at-self-clause-few c =
 pub returns-clause-few : goal.returns-clause-few
 returns-clause-few c =
     let lt : c.in_ok-at.at < c.self.inside.size = omega (arith, c.if-at-self.false) in
-    let lowest : (k : ℕ) → HoldsPlace c.self.inside.pending k → c.in_ok-at.at ≤ k = λ k h. c.in_ok-at.ensures.2 k h (c.self.invariant.above k h) in
-    rw c.insert.ensures (takes_few c.self.inside.size c.self.inside.first c.self.inside.pending c.self.inside.read c.self.inside.next c.self.invariant c.in_ok-at.at c.in_ok-at.ensures.0 lt lowest)
+    rw c.insert.ensures (takes_few c.self.inside.size c.self.inside.first c.self.inside.pending c.self.inside.read c.self.inside.next c.self.invariant c.in_ok-at.at c.in_ok-at.ensures.0 lt)
 
 pub returns-clause-taken : goal.returns-clause-taken
 returns-clause-taken c =
     let lt : c.in_ok-at.at < c.self.inside.size = omega (arith, c.if-at-self.false) in
-    let lowest : (k : ℕ) → HoldsPlace c.self.inside.pending k → c.in_ok-at.at ≤ k = λ k h. c.in_ok-at.ensures.2 k h (c.self.invariant.above k h) in
     rw (← c.self.view_is, c.remove.ensures, c.insert.ensures)
-    (takes c.self.inside.size c.self.inside.first c.self.inside.pending c.self.inside.read c.self.inside.next c.self.invariant c.in_ok-at.at c.in_ok-at.ensures.0 lt lowest)
+    (takes c.self.inside.size c.self.inside.first c.self.inside.pending c.self.inside.read c.self.inside.next c.self.invariant c.in_ok-at.at c.in_ok-at.ensures.0 lt)
