@@ -1,3 +1,5 @@
+pub mod Joining
+pub mod FirstLetters
 pub mod Levels
 pub mod Means
 pub mod Opens

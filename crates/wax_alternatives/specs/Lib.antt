@@ -1,2 +1,3 @@
 pub mod Alternatives
+pub mod Joined
 pub mod inner

@@ -2,6 +2,9 @@
 #![tactic(auto)]
 
 mod alternatives;
+mod joined;
+mod letters;
 mod opened;
 
 pub use alternatives::into_alternatives;
+pub use joined::{alternation, join_alternatives};

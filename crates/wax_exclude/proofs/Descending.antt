@@ -1,6 +1,7 @@
 -- What is below an entry that is excluded with everything below it is excluded too; and what the marks keep.
 use Rattle.std.proofs.Common.{◌≡◌, ℕ, Bool, IsTrue, true, false, not, ◌⊎◌, cond, List, [], ◌∷◌, ◌++◌, refl}
 use Rattle.std.proofs.Common.{sym, ap, subst, ◌∙◌, inl, inr, arith, append_assoc, append-nil}
+use Rattle.wax_alternatives.proofs.Joining.{as_members, of_members}
 use Rattle.wax_alternatives.proofs.Means.{means_one_of}
 use Rattle.wax_alternatives.specs.Alternatives.{alternatives}
 use Rattle.wax_components.specs.TopLevel.{tokens_of}
@@ -52,19 +53,6 @@ glob_descends rooted t names others h e =
     (falls before after less (unled before (means_test t false false (text_at rooted names)) e))
 
 -- ---- if a candidate matches, the leading components lead to it
-
-pub as_members : {A : Type 0} (t : Tree A) (b a : Bool) (s : List ℕ) → Means t b a s
-    → MeansEach (members t) b a s
-as_members (leaf x l) b a s h = h
-as_members (alternation x ts) b a s h = h
-as_members (concatenation x ts) b a s h = h
-as_members (repetition x t low high) b a s h = h
-
-pub of_members : {A : Type 0} (t : Tree A) (b a : Bool) (s : List ℕ) → MeansEach (members t) b a s → Means t b a s
-of_members (leaf x l) b a s h = h
-of_members (alternation x ts) b a s h = h
-of_members (concatenation x ts) b a s h = h
-of_members (repetition x t low high) b a s h = h
 
 spelled_members : {A : Type 0} (t : Tree A) → LiteralsHaveNoSlash t → AllHaveNoSlash (members t)
 spelled_members (leaf x l) h = (h, tt)

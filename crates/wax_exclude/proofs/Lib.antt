@@ -9,7 +9,6 @@ pub mod Filters
 pub mod Headline
 pub mod Ignored
 pub mod Ignores
-pub mod Joining
 pub mod Keeping
 pub mod KeptItems
 pub mod LeadingComponents

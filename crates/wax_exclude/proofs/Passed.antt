@@ -13,7 +13,7 @@ use Rattle.wax_token.specs.Words.{members, trees}
 use Rattle.wax_walk.specs.Given.{Facts, Mark, kept, alone, with_tree, combined_mark}
 use Rattle.wax_exclude.proofs.Descending.{covers_some_meant}
 use Rattle.wax_exclude.proofs.Excluding.{not_truly, same_truth}
-use Rattle.wax_exclude.proofs.Joining.{some_append}
+use Rattle.wax_alternatives.proofs.Joining.{some_append}
 use Rattle.wax_exclude.proofs.ListingLines.{after_line, at_end, mark_from}
 use Rattle.wax_exclude.proofs.Tests.{covers_tested, wild_tested}
 use Rattle.wax_exclude.specs.Candidates.{Candidate, candidate_of}
@@ -24,7 +24,7 @@ use Rattle.wax_exclude.specs.Marks.{covered_mark}
 use Rattle.wax_exclude.specs.declared.blocks.Block.{Block}
 use Rattle.wax_exclude.specs.declared.rules.IgnoreLine.{IgnoreLine}
 use Rattle.wax_exclude.specs.inner.Blocks.{AcceptsSome, IsBlockOf, KnowsLines, SomeMeans, alternatives_in, lines_between, mark_passed, marks_after, some_ignores, some_reincludes}
-use Rattle.wax_exclude.specs.inner.Joined.{SameTexts}
+use Rattle.wax_alternatives.specs.Joined.{SameTexts}
 use Rattle.wax_exclude.specs.inner.Listed.{ignored_by, listed_mark, mark_after}
 
 -- ---- line after line

@@ -1,5 +1,4 @@
 pub mod Blocks
 pub mod Descents
-pub mod Joined
 pub mod Listed
 pub mod Stacks

@@ -1,5 +1,5 @@
 //! Blocks of lines of an ignore list, which automata over all of their alternatives mostly decide.
-ghost use Rattle.std.specs.Prelude.{◌++◌, ◌<◌, ◌≡◌, ◌≤◌, ◌∷◌, [], IfOk, IfSome, List, Some, chars};
+ghost use Rattle.std.specs.Prelude.{◌++◌, ◌&&◌, ◌<◌, ◌≡◌, ◌≤◌, ◌∷◌, [], IfOk, IfSome, List, Some, chars};
 ghost use Rattle.std.specs.Prelude.{drop, length};
 ghost use Rattle.std.specs.List.{All};
 ghost use Rattle.wax_exclude.specs.Compiled.{wild};
@@ -11,9 +11,9 @@ ghost use Rattle.wax_exclude.specs.inner.Blocks.{some_reincludes};
 ghost use Rattle.wax_walk.specs.Said.{mark_of};
 
 use crate::exclusions::{ends_wild, some_everything};
-use crate::joined::{alternation, join_alternatives};
 use crate::rules::{IgnoreLine, Said, passed, residue_after};
 use std::alloc::Global;
+use wax_alternatives::{alternation, join_alternatives};
 use wax_lazy::OwnedMatcher;
 use wax_match::encode;
 use wax_match::encode::CompiledProgram;
@@ -27,15 +27,14 @@ const FEW: usize = 16;
 /// The greatest number of lines in a block of small ones.
 const MANY: usize = 256;
 
-/// The greatest number of lines in a block of these. The time of a step grows with the program, so
-/// one block of all lines would be slower from some 10,000 on.
-const MOST: usize = 4_096;
+/// The greatest number of lines in a block of these.
+const MOST: usize = 16_384;
 
 /// How many bytes a block may keep of earlier texts, for each line that it may have.
 const BYTES_PER_LINE: usize = 4_096;
 
 /// How many bytes a block may keep of earlier texts at most.
-const MOST_BYTES: usize = 4_194_304;
+const MOST_BYTES: usize = 16_777_216;
 
 /// Consecutive lines, with automata over all of their alternatives.
 #[derive(Drop)]
@@ -58,8 +57,9 @@ pub struct Block {
 
 impl Block {
     /// Goes on to the end of the block if its automata know what its lines decide for the entry: if
-    /// none of them matches it, or all of them ignore, or all begin with `!`. Otherwise, or if the
-    /// automaton has given up, returns the beginning of the block.
+    /// none of them matches it, or all of them ignore, or all begin with `!`. Otherwise, or if there
+    /// are smaller blocks within it and the automaton has given up, returns the beginning of the
+    /// block.
     ///
     /// # Errors
     ///
@@ -77,7 +77,8 @@ impl Block {
             ≡ marks_after (mark_of residue) (drop self.old.start lines) (E.facts entry.now)) }
     {
         let (_, candidate) = entry.root_relative_paths();
-        if self.whole.has_given_up() {
+        let is_mixed = self.is_mixed();
+        if is_mixed && self.whole.has_given_up() {
             return Ok(Said {
                 at: self.start,
                 residue,
@@ -89,7 +90,7 @@ impl Block {
                 residue: passed(self.reincludes, residue),
             });
         }
-        if self.ignores && self.reincludes {
+        if is_mixed {
             return Ok(Said {
                 at: self.start,
                 residue,
@@ -100,6 +101,13 @@ impl Block {
             at: self.end,
             residue: residue_after(self.ignores, residue, said),
         })
+    }
+
+    // Returns whether some lines ignore and others begin with `!`.
+    fn is_mixed(&self) -> bool
+        ensures { result ≡ (self.now.ignores && self.now.reincludes) }
+    {
+        self.ignores && self.reincludes
     }
 
     // Returns what to exclude of an entry that one of the alternatives matches.
@@ -120,7 +128,8 @@ impl Block {
     }
 }
 
-/// Builds blocks of the lines, each one before the smaller ones within it.
+/// Builds blocks of the lines, each one before the smaller ones within it. A block of only lines that
+/// ignore, or of only lines that begin with `!`, decides for all of them, so there are none within it.
 ///
 /// # Errors
 ///
@@ -129,45 +138,70 @@ pub fn blocks_of(alloc: Global, lines: &[IgnoreLine]) -> Result<Vec<Block>, NoMe
     ensures { IfOk result (λ blocks. All (IsBlockOf lines.now) blocks.items) }
 {
     let mut blocks = Vec::new(alloc);
+    let mut decided = 0;
     for start in 0..lines.len() {
-        add_large_blocks(alloc, &mut blocks, lines, start)?;
-        if start % FEW == 0 {
-            add_block(alloc, &mut blocks, lines, start, FEW)?;
+        if start >= decided {
+            decided = add_blocks(alloc, &mut blocks, lines, start)?;
         }
     }
     Ok(blocks)
 }
 
-// Adds the blocks from `start` on that have more lines than a small one.
-fn add_large_blocks(
+// Adds the blocks that begin at `start`, the largest one first. Returns the index after the lines
+// for which one of them decides, or `start`.
+fn add_blocks(
     alloc: Global,
     blocks: &mut Vec<Block>,
     lines: &[IgnoreLine],
     start: usize,
-) -> Result<(), NoMemory>
+) -> Result<usize, NoMemory>
     requires start { start < length lines.now }
     requires blocks { All (IsBlockOf lines.now) blocks.old.items }
     ensures { IfOk result (λ _. All (IsBlockOf lines.now) blocks.new.items) }
 {
-    let left = lines.len() - start;
-    if start % MOST == 0 && left > MANY {
-        add_block(alloc, blocks, lines, start, MOST)?;
+    if start % MOST != 0 || lines.len() - start <= MANY {
+        return add_smaller_blocks(alloc, blocks, lines, start);
     }
-    if start % MANY == 0 && left > FEW {
-        add_block(alloc, blocks, lines, start, MANY)?;
+    let decided = add_block(alloc, blocks, lines, start, MOST)?;
+    if decided == start {
+        return add_smaller_blocks(alloc, blocks, lines, start);
     }
-    Ok(())
+    Ok(decided)
 }
 
-// Adds a block of at most `most` lines from `start` on, unless its program would be too large. The
-// lines are matched one by one then.
+// Adds a block of up to 256 lines and one of up to 16 lines, as `add_blocks` does.
+fn add_smaller_blocks(
+    alloc: Global,
+    blocks: &mut Vec<Block>,
+    lines: &[IgnoreLine],
+    start: usize,
+) -> Result<usize, NoMemory>
+    requires start { start < length lines.now }
+    requires blocks { All (IsBlockOf lines.now) blocks.old.items }
+    ensures { IfOk result (λ _. All (IsBlockOf lines.now) blocks.new.items) }
+{
+    if start % FEW != 0 {
+        return Ok(start);
+    }
+    if start % MANY != 0 || lines.len() - start <= FEW {
+        return add_block(alloc, blocks, lines, start, FEW);
+    }
+    let decided = add_block(alloc, blocks, lines, start, MANY)?;
+    if decided == start {
+        return add_block(alloc, blocks, lines, start, FEW);
+    }
+    Ok(decided)
+}
+
+// Adds a block of at most `most` lines from `start` on, unless its program would be too large.
+// Returns the index after its lines if it decides for all of them, and otherwise `start`.
 fn add_block(
     alloc: Global,
     blocks: &mut Vec<Block>,
     lines: &[IgnoreLine],
     start: usize,
     most: usize,
-) -> Result<(), NoMemory>
+) -> Result<usize, NoMemory>
     requires start { start < length lines.now }
     requires blocks { All (IsBlockOf lines.now) blocks.old.items }
     ensures { IfOk result (λ _. All (IsBlockOf lines.now) blocks.new.items) }
@@ -176,11 +210,11 @@ fn add_block(
     let held = &lines[start..end];
     let alternatives = alternatives_of(alloc, held)?;
     let Some(whole) = program_of_some(alloc, &alternatives)? else {
-        return Ok(());
+        return Ok(start);
     };
     let wild = wild_of(alloc, &alternatives)?;
     let Some(covering) = program_of_some(alloc, &wild)? else {
-        return Ok(());
+        return Ok(start);
     };
     let most_bytes = MOST_BYTES.min(most.saturating_mul(BYTES_PER_LINE));
     let block = Block {
@@ -192,7 +226,9 @@ fn add_block(
         covering: OwnedMatcher::new(alloc, covering, most_bytes),
         covers_all: some_everything(&alternatives),
     };
-    push(blocks, block)
+    let is_mixed = block.is_mixed();
+    push(blocks, block)?;
+    Ok(if is_mixed { start } else { end })
 }
 
 fn some_ignores(lines: &[IgnoreLine]) -> bool

@@ -3,7 +3,6 @@
 
 mod blocks;
 mod exclusions;
-mod joined;
 mod kept;
 mod law;
 mod lines;

@@ -56,10 +56,10 @@ impl IgnoreLine {
 /// ignores it. It excludes everything below the entry, too, if an alternative of a line that
 /// ignores covers the entry and no line after that begins with `!`. Contracts see the lines.
 ///
-/// Blocks of up to 4,096 lines are decided at once if no line of theirs matches, if all of them
+/// Blocks of up to 16,384 lines are decided at once if no line of theirs matches, if all of them
 /// ignore, or if all begin with `!`. Otherwise smaller blocks are, of up to 256 and of up to 16
 /// lines, and then single lines. A block keeps at most about 8 KiB of earlier entries for each line
-/// that it may have, and at most 8 MiB.
+/// that it may have, and at most 32 MiB.
 #[derive(Drop)]
 pub struct IgnoreRule {
     lines: Vec<IgnoreLine>,

@@ -202,7 +202,7 @@ impl Cache {
 
     /// Follows a character by a step of the program, if there is room for three more states. In a
     /// large program, mostly steps only from the places that aren't loops. If these lead nowhere,
-    /// the state of the loops decides alone.
+    /// the state of the loops decides.
     fn follow(
         &mut self,
         program: &CompiledProgram,

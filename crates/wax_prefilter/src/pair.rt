@@ -11,7 +11,7 @@ use std::simd::prelude::*;
 const LANES: usize = 32;
 
 /// The characters that are most common in the paths of a Debian system, the most common one first.
-const COMMON: &str = "/otsnerlaciu.hp_-ymdg1b6x3vkf842w705z9jqEASMCRPITDLNGVOBQ+FHUWX";
+const COMMON: &[u8] = b"/otsnerlaciu.hp_-ymdg1b6x3vkf842w705z9jqEASMCRPITDLNGVOBQ+FHUWX";
 
 /// Two bytes at a distance. Few places have both, and they are found much faster than a whole text
 /// that begins and ends with them.
@@ -95,7 +95,7 @@ fn zeros(lanes: u8x32) -> u64
 
 // Returns how rare the byte is: how many of the common characters are more common.
 fn rarity(byte: u8) -> usize {
-    match COMMON.find(char::from(byte)) {
+    match COMMON.iter().position(|common| *common == byte) {
         Some(more_common) => more_common,
         None => COMMON.len(),
     }
@@ -109,9 +109,12 @@ fn rarest_but(other: usize, bytes: &[u8]) -> usize
     ensures another { result ≡ other → ⊥ }
 {
     let mut rarest = usize::from(other == 0);
+    let mut greatest = rarity(bytes[rarest]);
     for at in 0..bytes.len() {
-        if at != other && rarity(bytes[at]) > rarity(bytes[rarest]) {
+        let rarity = rarity(bytes[at]);
+        if at != other && rarity > greatest {
             rarest = at;
+            greatest = rarity;
         }
     }
     rarest

@@ -1,7 +1,6 @@
 use Rattle.std.proofs.Common.{◌≡◌, ◌∙◌, ◌+◌, arith, ap, subst, sym}
 use Rattle.std.specs.List.{All}
 use Rattle.std.proofs.lemmas.List.Elements.{All-push}
-use Rattle.wax_walk.proofs.Collecting.{map_ok}
 use Rattle.wax_exclude.specs.Compiled.{wild}
 use Rattle.wax_exclude.specs.Covers.{some_everything}
 use Rattle.wax_exclude.specs.declared.blocks.Block.{Block}
@@ -38,4 +37,4 @@ returns c =
       within = omega (arith, c.min.ensures, c.requires.start);
       knows = knows;
     } in
-    map_ok (λ r h. subst (All (IsBlockOf lines)) (sym h) (All-push (IsBlockOf lines) c.args.blocks.now.items block c.requires.blocks is)) c.push.result c.push.ensures
+    subst (All (IsBlockOf lines)) (sym c.in_ok-push.ensures) (All-push (IsBlockOf lines) c.args.blocks.now.items block c.requires.blocks is)

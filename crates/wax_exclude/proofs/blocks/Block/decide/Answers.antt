@@ -1,5 +1,5 @@
 use Rattle.std.proofs.Common.{◌≡◌, ◌∙◌, ◌&&◌, List, Some, ap, chars, drop, false, rules, subst, sym}
-use Rattle.std.proofs.lemmas.Bool.{and_right, false≢true}
+use Rattle.std.proofs.lemmas.Bool.{false≢true}
 use Rattle.wax_walk.specs.Said.{mark_of}
 use Rattle.wax_program.specs.Machine.{Accepts}
 use Rattle.wax_exclude.proofs.Passed.{said_at_once, said_past, some_line}
@@ -8,7 +8,6 @@ use Rattle.wax_exclude.specs.declared.rules.IgnoreLine.{IgnoreLine}
 use Rattle.wax_exclude.specs.inner.Blocks.{KnowsLines, SomeMeans, alternatives_in, lines_between, marks_after}
 use Rattle.wax_exclude.specs.inner.Listed.{mark_after}
 use Rattle.wax_exclude.proofs.blocks.Block.decide.Goals as goal
-use Rattle.wax_exclude.proofs.blocks.Block.decide.Goals.{else-self-via-then-self+else-self-2, else-self-via-else-self}
 
 pub returns-then-not-branch-clause-left : goal.returns-then-not-branch-clause-left
 returns-then-not-branch-clause-left g c = λ lines b.
@@ -30,10 +29,7 @@ returns-clause-left g c = λ lines b.
     let excluded : (ls : List IgnoreLine) → KnowsLines block ls → SomeMeans ls (chars f.candidate)
     → mark_of (Some c.in_ok-excluded.field-0) ≡ excluded_mark (alternatives_in ls) f = rw c.is_match.ensures.same at c.in_ok-excluded.ensures.excluded in
     let said = excluded held b.knows some in
-    let alike : (block.ignores && block.reincludes) ≡ false = elim c.else-self.branch [
-      | else-self-via-then-self+else-self-2 w ↦ and_right block.ignores block.reincludes w.if-self-2.false
-      | else-self-via-else-self w ↦ ap (λ v. v && block.reincludes) w.if-self.false
-    ] in
+    let alike : (block.ignores && block.reincludes) ≡ false = sym c.is_mixed-is_mixed.ensures ∙ c.if-is_mixed-2.false in
     subst (λ z. marks_after (mark_of c.residue_after.result) (drop z.end lines) f ≡ marks_after before (drop block.start lines) f) (sym same)
     (said_at_once lines block before (mark_of c.residue_after.result) (mark_of (Some c.in_ok-excluded.field-0)) f b (some, said) alike
     (c.residue_after.ensures ∙ ap (λ z. mark_after z.ignores before (mark_of (Some c.in_ok-excluded.field-0))) same))

@@ -1,12 +1,13 @@
-//! Alternatives that begin or end with the same wildcard, joined. An automaton then follows the
-//! wildcard once for all of them.
+//! Alternatives that begin or end alike, joined. An automaton then follows what they share once for
+//! all of them.
 ghost use Rattle.std.specs.Prelude.{◌≡◌, ◌++◌, ◌∷◌, [], ◌↔◌, ◌⊎◌, ℕ, Bool, IfOk, IfSome, IsTrue, List};
 ghost use Rattle.wax_token.specs.Meaning.{LeafMeans, Means, MeansSome};
 ghost use Rattle.wax_token.specs.Syntax.{alternation, concatenation};
-ghost use Rattle.wax_token.specs.View.{wildcard_leaf};
+ghost use Rattle.wax_token.specs.View.{leaf_of, wildcard_leaf};
 ghost use Rattle.wax_token.specs.Words.{trees};
-ghost use Rattle.wax_exclude.specs.inner.Joined.{IsParted, MeansEnded, MeansLed, SameTexts};
+ghost use Rattle.wax_alternatives.specs.Joined.{IsParted, MeansEnded, MeansLed, SameTexts};
 
+use crate::letters::join_letters;
 use std::alloc::Global;
 use wax_query::diagnostics::NoMemory;
 use wax_token::token::{
@@ -18,8 +19,12 @@ const TREE: Wildcard = Wildcard::Tree { has_root: false };
 
 const STAR: Wildcard = Wildcard::ZeroOrMore(Evaluation::Eager);
 
+/// How many letters alternatives may share at their beginning. Further ones aren't joined.
+const MOST_LETTERS: usize = 64;
+
 /// Joins the alternatives that begin with `**`, and, among these and among the others, those that
-/// begin with `*`, and those that end with `*`, too. The result matches the same texts.
+/// begin with `*`, and those that end with `*`, too. What is left is joined by its first letters.
+/// The result matches the same texts.
 ///
 /// # Errors
 ///
@@ -33,7 +38,7 @@ pub fn join_alternatives(
     let Parted { rests, others } = part_by_lead(alloc, alternatives, TREE)?;
     let below = join_stars(alloc, &rests)?;
     let mut joined = join_stars(alloc, &others)?;
-    add_led(alloc, &mut joined, TREE, below)?;
+    add_led(alloc, &mut joined, LeafKind::Wildcard(TREE), below)?;
     Ok(joined)
 }
 
@@ -46,8 +51,8 @@ fn join_stars(
 {
     let Parted { rests, others } = part_by_lead(alloc, alternatives, STAR)?;
     let after = join_ends(alloc, &rests)?;
-    let mut joined = others;
-    add_led(alloc, &mut joined, STAR, after)?;
+    let mut joined = join_letters(alloc, others, MOST_LETTERS)?;
+    add_led(alloc, &mut joined, LeafKind::Wildcard(STAR), after)?;
     Ok(joined)
 }
 
@@ -59,8 +64,9 @@ fn join_ends(
     ensures { IfOk result (λ joined. SameTexts alternatives.now joined.items) }
 {
     let Parted { rests, others } = part_by_end(alloc, alternatives, STAR)?;
-    let mut joined = others;
-    add_ended(alloc, &mut joined, rests, STAR)?;
+    let mut joined = join_letters(alloc, others, MOST_LETTERS)?;
+    let before = join_letters(alloc, rests, MOST_LETTERS)?;
+    add_ended(alloc, &mut joined, before, STAR)?;
     Ok(joined)
 }
 
@@ -152,23 +158,26 @@ fn is_wildcard(token: &Token<'static, ExpressionMetadata>, wildcard: Wildcard) -
     }
 }
 
-// Adds an alternative: the wildcard, and then the alternatives `after`. Adds nothing if there are
-// none.
-fn add_led(
+/// Adds an alternative: the leaf, and then the alternatives `after`. Adds nothing if there are none.
+///
+/// # Errors
+///
+/// Returns `NoMemory` if allocation fails.
+pub fn add_led(
     alloc: Global,
     joined: &mut Vec<Token<'static, ExpressionMetadata>>,
-    lead: Wildcard,
+    lead: LeafKind<'static>,
     after: Vec<Token<'static, ExpressionMetadata>>,
 ) -> Result<(), NoMemory>
     ensures { IfOk result (λ _. (b a : Bool) (s : List ℕ) → MeansSome (trees joined.new.items) b a s
-        ↔ (MeansLed (wildcard_leaf lead) after.entry.items b a s
+        ↔ (MeansLed (leaf_of lead.entry) after.entry.items b a s
         ⊎ MeansSome (trees joined.old.items) b a s)) }
 {
     if after.is_empty() {
         return Ok(());
     }
     let mut tokens = Vec::new(alloc);
-    push(&mut tokens, new_leaf(LeafKind::Wildcard(lead), unwritten()))?;
+    push(&mut tokens, new_leaf(lead, unwritten()))?;
     push(&mut tokens, alternation(after))?;
     push(joined, concatenation(tokens))
 }
@@ -225,7 +234,7 @@ pub fn alternation(
     new_branch(BranchKind::Alternation(Alternation { tokens }), unwritten())
 }
 
-fn concatenation(
+pub fn concatenation(
     tokens: Vec<Token<'static, ExpressionMetadata>>,
 ) -> Token<'static, ExpressionMetadata>
     ensures { result ≡ concatenation (0, 0) (trees tokens.entry.items) }
@@ -237,13 +246,13 @@ fn concatenation(
 }
 
 // Returns the annotation of a token that no expression writes.
-fn unwritten() -> ExpressionMetadata
+pub fn unwritten() -> ExpressionMetadata
     ensures { result ≡ (0, 0) }
 {
     ExpressionMetadata::new((0, 0))
 }
 
-fn push<T: Drop>(items: &mut Vec<T>, item: T) -> Result<(), NoMemory>
+pub fn push<T: Drop>(items: &mut Vec<T>, item: T) -> Result<(), NoMemory>
     ensures { IfOk result (λ _. items.new.items ≡ items.old.items ++ item ∷ []) }
 {
     match items.push(item) {

@@ -2,8 +2,8 @@ use Rattle.std.proofs.Common.{◌≡◌, ◌∙◌, ◌+◌, ◌-◌, ◌∷◌,
 use Rattle.std.proofs.lemmas.List.{take_all, take_more}
 use Rattle.wax_token.specs.View.{wildcard_leaf}
 use Rattle.wax_token.specs.Words.{trees}
-use Rattle.wax_exclude.proofs.Joining.{ended_by, not_none}
-use Rattle.wax_exclude.proofs.joined.before_end.Goals as goal
+use Rattle.wax_alternatives.proofs.Joining.{ended_by, not_none}
+use Rattle.wax_alternatives.proofs.joined.before_end.Goals as goal
 
 pub returns-in-len1-up : goal.returns-in-len1-up
 returns-in-len1-up c =

@@ -1,8 +1,9 @@
 -- Alternatives that begin or end with the same leaf, joined.
-use Rattle.std.specs.Prelude.{◌≡◌, ◌↔◌, ℕ, Bool, true, ◌⊎◌, List, ◌++◌}
+use Rattle.std.specs.Prelude.{◌≡◌, ◌↔◌, ℕ, Bool, true, ◌⊎◌, List, [], ◌∷◌, ◌++◌}
 use Rattle.wax_token.specs.Meaning.{LeafMeans, MeansSome}
 use Rattle.wax_token.specs.Reads.{Span}
-use Rattle.wax_token.specs.Syntax.{Leaf, Tree}
+use Rattle.wax_alternatives.specs.declared.letters.Letter.{Letter}
+use Rattle.wax_token.specs.Syntax.{Leaf, literal, Tree}
 use Rattle.wax_token.specs.Words.{trees}
 
 -- the two lists of alternatives match the same texts
@@ -27,3 +28,7 @@ MeansBeside = List (Tree Span) → Bool → Bool → List ℕ → Type 0
 abbrev pub IsParted : MeansBeside → List (Tree Span) → List (Tree Span) → List (Tree Span) → Type 0
 IsParted Beside ts rests others = (b a : Bool) (s : List ℕ)
     → MeansSome (trees ts) b a s ↔ (Beside rests b a s ⊎ MeansSome (trees others) b a s)
+
+-- a literal of only the letter
+abbrev pub letter_leaf : Letter → Leaf
+letter_leaf letter = literal letter.is_case_insensitive (letter.c ∷ [])

@@ -3,10 +3,22 @@ use Rattle.std.proofs.Common.{length, ◌<◌, ◌≡◌, ◌∙◌, ◌↔◌, 
 use Rattle.std.proofs.lemmas.Bool.{false≢true}
 use Rattle.wax_token.specs.Meaning.{LeafMeans, Means, MeansEach, MeansSome}
 use Rattle.wax_token.specs.Reads.{Span}
-use Rattle.wax_token.specs.Syntax.{Leaf, Tree, none, more, alternation, concatenation, leaf}
+use Rattle.wax_token.specs.Syntax.{Leaf, Tree, none, more, alternation, concatenation, repetition, leaf}
 use Rattle.wax_token.specs.Words.{members, trees}
-use Rattle.wax_exclude.specs.inner.Joined.{IsParted, MeansBeside, MeansEnded, MeansLed, SameTexts}
-use Rattle.wax_exclude.proofs.Descending.{as_members, of_members}
+use Rattle.wax_alternatives.specs.Joined.{IsParted, MeansBeside, MeansEnded, MeansLed, SameTexts}
+
+-- ---- what is within a token
+pub as_members : {A : Type 0} (t : Tree A) (b a : Bool) (s : List ℕ) → Means t b a s → MeansEach (members t) b a s
+as_members (leaf x l) b a s h = h
+as_members (alternation x ts) b a s h = h
+as_members (concatenation x ts) b a s h = h
+as_members (repetition x t low high) b a s h = h
+
+pub of_members : {A : Type 0} (t : Tree A) (b a : Bool) (s : List ℕ) → MeansEach (members t) b a s → Means t b a s
+of_members (leaf x l) b a s h = h
+of_members (alternation x ts) b a s h = h
+of_members (concatenation x ts) b a s h = h
+of_members (repetition x t low high) b a s h = h
 
 -- ---- one after another
 

@@ -1,0 +1,17 @@
+use Rattle.std.proofs.Common.{◌≡◌, ◌↔◌, ◌⊎◌, ◌∷◌, [], ◌++◌, ◌∙◌, ℕ, Bool, List, ap, rules, subst, sym}
+use Rattle.wax_token.specs.Meaning.{MeansSome}
+use Rattle.wax_token.specs.View.{leaf_of}
+use Rattle.wax_token.specs.Words.{trees}
+use Rattle.std.proofs.lemmas.Result.{IfOk-weaker}
+use Rattle.wax_alternatives.specs.Joined.{MeansLed}
+use Rattle.wax_alternatives.proofs.Joining.{added_led, led_token}
+use Rattle.wax_alternatives.proofs.joined.add_led.Goals as goal
+
+pub returns : goal.returns
+returns c =
+    let leaf = leaf_of c.args.lead in
+    let old = c.args.joined.now.items in
+    let ts = c.args.after.items in
+    let token : c.concatenation.result ≡ led_token leaf ts = search rules in
+    IfOk-weaker c.push-3.result _ _ (λ r h. subst (λ us. (b a : Bool) (s : List ℕ) → MeansSome (trees us) b a s ↔ (MeansLed leaf ts b a s ⊎ MeansSome (trees old) b a s))
+    (sym (h ∙ ap (λ t. old ++ t ∷ []) token)) (added_led leaf old ts)) c.push-3.ensures
