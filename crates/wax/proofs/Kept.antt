@@ -1,8 +1,9 @@
 -- What is kept of a glob's walk, whatever the directory shows, and where two `/` stand side by side in the prefix.
-use Rattle.std.proofs.Common.{◌≡◌, ◌∙◌, ℕ, ◌+◌, ◌*◌, ◌≤◌, false, List, [], ◌∷◌, ◌++◌, length, filter, refl, ap, subst, arith}
+use Rattle.std.proofs.Common.{◌≡◌, ◌∙◌, ℕ, ◌+◌, ◌*◌, ◌≤◌, false, List, [], ◌∷◌, ◌++◌, length, filter, refl, ap, subst, arith, inl, inr}
 use Rattle.wax_directory.specs.Counting.{grown}
 use Rattle.wax_directory.specs.Law.{Law}
 use Rattle.wax_walk.specs.Collected.{GaveAll, whole, lacks_memory, over_budget, Took, all_fault_counts, count_to_open}
+use Rattle.wax_walk.specs.Collected.{HasFolder}
 use Rattle.wax_walk.specs.Forest.{nothing, pending}
 use Rattle.wax_walk.specs.Given.{Facts, Mark, Given, is_kept, no_memory}
 use Rattle.wax_walk.specs.Ruled.{ruled_view}
@@ -10,7 +11,7 @@ use Rattle.wax_walk.specs.View.{CountsFaults, WalkView}
 use Rattle.wax_token.specs.Reads.{Span}
 use Rattle.wax_token.specs.Syntax.{Tree}
 use Rattle.wax_tree.specs.declared.steps.DepthRange.{DepthRange}
-use Rattle.wax.specs.GlobWalks.{BeginsGlob, GaveWithin, KeepsNothing, none_kept, memory_alone}
+use Rattle.wax.specs.GlobWalks.{BeginsGlob, FailsAtFolders, GaveWithin, KeepsNothing, none_kept, memory_alone}
 
 pub gave_within : {D C : Type 0} (t : Tree Span) (law : Law D C) (d : D) (start : List ℕ) (asked : DepthRange)
     (v : WalkView D) (rule : Facts → Mark) (new : D) (xs : List Given) → BeginsGlob t law d start asked v
@@ -37,6 +38,22 @@ gave_within t law d start asked v rule new xs begins few took = let over = begin
     subst (λ m. count_to_open m xs ≤ took.opened) begins.opens_above (omega (arith, took.opens n)),
   );
 }
+
+pub fails_at_folders : {D C : Type 0} (t : Tree Span) (law : Law D C) (d : D) (start : List ℕ)
+    (asked : DepthRange) (v : WalkView D) (rule : Facts → Mark) (new : D) (xs : List Given)
+    → BeginsGlob t law d start asked v → Took law (ruled_view v rule false) new xs
+    → FailsAtFolders t start asked xs
+fails_at_folders t law d start asked v rule new xs begins took b = (
+  begins.depth,
+  begins.depth_is,
+  λ before after x path depth e i. elim (took.of_folders before after x path depth e i) [
+    | inl may ↦ inl (elim may [
+      | inl f ↦ (begins.fails b).at path depth f
+      | inr f ↦ absurd ((begins.fails b).below path depth f.1)
+    ])
+    | inr has ↦ inr (subst (λ most. HasFolder most path depth before) begins.opens_above has)
+  ],
+)
 
 front_empty : (xs ys : List Given) → xs ++ ys ≡ [] → xs ≡ []
 front_empty [] ys e = refl

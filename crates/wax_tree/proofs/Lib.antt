@@ -9,3 +9,4 @@ pub mod Making
 pub mod Kept
 pub mod InRange
 pub mod Listing
+pub mod Reaching
