@@ -1,9 +1,8 @@
 -- What is kept of a glob's walk, whatever the directory shows, and where two `/` stand side by side in the prefix.
-use Rattle.std.proofs.Common.{◌≡◌, ◌∙◌, ℕ, ◌+◌, ◌*◌, ◌≤◌, false, List, [], ◌∷◌, ◌++◌, length, filter, refl, ap, subst, arith, inl, inr}
+use Rattle.std.proofs.Common.{◌≡◌, ◌∙◌, ℕ, ◌+◌, ◌*◌, ◌≤◌, false, List, [], ◌∷◌, ◌++◌, length, filter, refl, ap, subst, arith}
 use Rattle.wax_directory.specs.Counting.{grown}
 use Rattle.wax_directory.specs.Law.{Law}
 use Rattle.wax_walk.specs.Collected.{GaveAll, whole, lacks_memory, over_budget, Took, all_fault_counts, count_to_open}
-use Rattle.wax_walk.specs.Collected.{HasFolder}
 use Rattle.wax_walk.specs.Forest.{nothing, pending}
 use Rattle.wax_walk.specs.Given.{Facts, Mark, Given, is_kept, no_memory}
 use Rattle.wax_walk.specs.Ruled.{ruled_view}
@@ -11,6 +10,7 @@ use Rattle.wax_walk.specs.View.{CountsFaults, WalkView}
 use Rattle.wax_token.specs.Reads.{Span}
 use Rattle.wax_token.specs.Syntax.{Tree}
 use Rattle.wax_tree.specs.declared.steps.DepthRange.{DepthRange}
+use Rattle.wax_tree.proofs.Reaching.{errors_passed}
 use Rattle.wax.specs.GlobWalks.{BeginsGlob, FailsAtFolders, GaveWithin, KeepsNothing, none_kept, memory_alone}
 
 pub gave_within : {D C : Type 0} (t : Tree Span) (law : Law D C) (d : D) (start : List ℕ) (asked : DepthRange)
@@ -46,13 +46,10 @@ pub fails_at_folders : {D C : Type 0} (t : Tree Span) (law : Law D C) (d : D) (s
 fails_at_folders t law d start asked v rule new xs begins took b = (
   begins.depth,
   begins.depth_is,
-  λ before after x path depth e i. elim (took.of_folders before after x path depth e i) [
-    | inl may ↦ inl (elim may [
-      | inl f ↦ (begins.fails b).at path depth f
-      | inr f ↦ absurd ((begins.fails b).below path depth f.1)
-    ])
-    | inr has ↦ inr (subst (λ most. HasFolder most path depth before) begins.opens_above has)
-  ],
+  errors_passed asked.min _ b.names _ (ruled_view v rule false) xs (record {
+    at = (begins.fails b).at;
+    below = λ path depth i. (begins.fails b).below path depth i.1;
+  }) begins.opens_above took.of_folders,
 )
 
 front_empty : (xs ys : List Given) → xs ++ ys ≡ [] → xs ≡ []

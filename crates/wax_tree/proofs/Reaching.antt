@@ -11,6 +11,7 @@ use Rattle.wax_walk.specs.declared.entry.TreeEntry.{TreeEntry}
 use Rattle.wax_walk.specs.declared.error.FaultKind.{FaultKind}
 use Rattle.wax_walk.specs.declared.error.WalkError.{WalkError}
 use Rattle.wax_walk.specs.declared.error.WalkError.TheVariants.{Memory, Fault}
+use Rattle.wax_walk.specs.Collected.{AreOfFolders, HasFolder}
 use Rattle.wax_walk.specs.Given.{Given, fault}
 use Rattle.wax_walk.specs.View.{IsErrorAt, IsFolderAt, WalkView, Places, MayFail}
 use Rattle.wax_tree.specs.declared.steps.Folder.{Folder}
@@ -19,10 +20,10 @@ use Rattle.wax_tree.specs.declared.steps.StartPoint.{StartPoint}
 use Rattle.wax_tree.specs.declared.steps.Steps.{Steps}
 use Rattle.wax_tree.specs.declared.steps.Step.{Step}
 use Rattle.wax_tree.specs.declared.steps.Step.TheVariants.{Gives, GoesOn, Ends}
-use Rattle.wax_tree.specs.Prefix.{ArePlain, from_last}
+use Rattle.wax_tree.specs.Prefix.{ArePlain, from_last, path_from}
 use Rattle.wax_tree.specs.Reaching.{FolderSet, LeadsTo, OfAny, OfEntered, OfFirst, OfLevels, OnWay, OneFolder}
-use Rattle.wax_tree.specs.Reaching.{IsOf, MayFailAt, MayFailBelow, MayReach, Reaches, joined, no_folders}
-use Rattle.wax_tree.specs.Begins.{IsPassed}
+use Rattle.wax_tree.specs.Reaching.{IsOf, MayFailAt, MayFailBelow, MayReach, Reaches, no_folders}
+use Rattle.wax_tree.specs.Begins.{FailsFrom, IsPassed}
 use Rattle.wax_tree.specs.Stepping.{StepPlaces}
 use Rattle.wax_tree.specs.Walking.{HasStopped, step_given, steps_view}
 use Rattle.wax_tree.specs.inner.Finding.{IsFound}
@@ -36,9 +37,9 @@ use Rattle.wax_directory.specs.TreeLaw.{plain_of}
 
 -- ---- names
 
-joined_append : (path : List ℕ) (xs ys : List (List ℕ)) → joined path (xs ++ ys) ≡ joined (joined path xs) ys
-joined_append path [] ys = refl
-joined_append path (x ∷ xs) ys = joined_append (join path x) xs ys
+path_from_append : (path : List ℕ) (xs ys : List (List ℕ)) → path_from path (xs ++ ys) ≡ path_from (path_from path xs) ys
+path_from_append path [] ys = refl
+path_from_append path (x ∷ xs) ys = path_from_append (join path x) xs ys
 
 plain_append : (xs ys : List (List ℕ)) → ArePlain xs → ArePlain ys → ArePlain (xs ++ ys)
 plain_append [] ys h k = k
@@ -87,7 +88,7 @@ leads_on least a path n h =
       names = i.names ++ h.names;
       begins = i.begins;
       plain = plain_append i.names h.names i.plain h.plain;
-      path_is = h.path_is ∙ (ap (λ v. joined v h.names) i.path_is ∙ sym (joined_append i.top i.names h.names));
+      path_is = h.path_is ∙ (ap (λ v. path_from v h.names) i.path_is ∙ sym (path_from_append i.top i.names h.names));
       depth_is = omega (arith, h.depth_is, i.depth_is, long);
       unseen = elim h.unseen [
         | inl empty ↦ elim i.unseen [
@@ -170,7 +171,7 @@ way_next place next x e q d path n h =
       string_bytes x ∷ h.0,
       h.1,
       names ∙ ap (λ v. string_bytes x ∷ v) h.2,
-      h.3 ∙ ap (λ v. joined v h.0) q,
+      h.3 ∙ ap (λ v. path_from v h.0) q,
       λ fits. omega (arith, h.4 (omega (arith, fits, d)), d, fits),
     )
 
@@ -178,7 +179,7 @@ way_passed : (least : ℕ) (place : StartPoint) (start : List ℕ) (names : List
     → string_bytes place.path ≡ start → place.depth ≡ 0 → from_last place.names.items ≡ names
     → length names < 2 ^ 64
     → (top : List ℕ) (above : ℕ) → OnWay place top above → (path : List ℕ) (n : ℕ) (more : List (List ℕ))
-    → ArePlain more → path ≡ joined top more → n ≡ above + length more → (more ≡ []) ⊎ (n ≤ least)
+    → ArePlain more → path ≡ path_from top more → n ≡ above + length more → (more ≡ []) ⊎ (n ≤ least)
     → IsPassed least start names path (n - 1)
 way_passed least place start names q d e fits top above way path n more plain p k unseen =
     let long : length names ≡ length way.0 + length way.1 =
@@ -191,8 +192,8 @@ way_passed least place start names q d e fits top above way path n more plain p 
       names = more;
       on_way = sym e ∙ way.2;
       plain = plain;
-      path_is = p ∙ (ap (λ v. joined v more) (way.3 ∙ ap (λ v. joined v way.0) q)
-          ∙ sym (joined_append start way.0 more));
+      path_is = p ∙ (ap (λ v. path_from v more) (way.3 ∙ ap (λ v. path_from v way.0) q)
+          ∙ sym (path_from_append start way.0 more));
       depth_is = omega (arith, k, inside, both);
       unseen = elim unseen [
         | inl none ↦ inl none
@@ -480,3 +481,16 @@ module _ {D C : Type 0} where
           | inr j ↦ absurd (subst (λ v. OfLevels v i.top i.above) levels j)
         ]
       ])
+
+-- errors come of what the walk passes, or of yielded folders
+pub errors_passed : {D : Type 0} (least : ℕ) (start : List ℕ) (way : List (List ℕ)) (most : ℕ) (view : WalkView D)
+    (xs : List Given) → FailsFrom least start way view → view.opens_above ≡ most
+    → AreOfFolders (MayFail view) view.opens_above xs → AreOfFolders (IsPassed least start way) most xs
+errors_passed least start way most view xs fails same are before after x path depth e i =
+    elim (are before after x path depth e i) [
+      | inl may ↦ inl (elim may [
+        | inl f ↦ fails.at path depth f
+        | inr f ↦ absurd (fails.below path depth f)
+      ])
+      | inr has ↦ inr (subst (λ n. HasFolder n path depth before) same has)
+    ]

@@ -8,8 +8,7 @@ use Rattle.wax_directory.specs.Law.{Law}
 use Rattle.wax_directory.specs.Shown.{Shown}
 use Rattle.wax_tree.specs.declared.steps.DepthRange.{DepthRange}
 use Rattle.wax_tree.specs.Plain.{WalkScope, plain, count_shown}
-use Rattle.wax_tree.specs.Prefix.{ArePlain, walk_from}
-use Rattle.wax_tree.specs.Reaching.{joined}
+use Rattle.wax_tree.specs.Prefix.{ArePlain, path_from, walk_from}
 use Rattle.wax_walk.specs.Forest.{Pending, pending, nothing}
 use Rattle.wax_walk.specs.Given.{Given}
 use Rattle.wax_walk.specs.View.{WalkView}
@@ -39,7 +38,7 @@ pub record IsPassed (least : ℕ) (start : List ℕ) (way : List (List ℕ)) (pa
   pub names : List (List ℕ)
   pub on_way : way ≡ front ++ rest
   pub plain : ArePlain names
-  pub path_is : path ≡ joined start (front ++ names)
+  pub path_is : path ≡ path_from start (front ++ names)
   pub depth_is : depth ≡ length (front ++ names)
   pub unseen : (names ≡ []) ⊎ (depth < least)
 

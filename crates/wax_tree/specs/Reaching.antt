@@ -1,17 +1,11 @@
 -- The folders of which a walk may yield an error, by its state.
 use Rattle.std.specs.Prelude.{◌≡◌, ◌<◌, ◌≤◌, ◌⊎◌, ℕ, ◌+◌, ◌-◌, ◌^◌, false, length, List, [], ◌∷◌, ◌++◌}
 use Rattle.std.specs.Prelude.{Option, Some, None, string_bytes}
-use Rattle.wax_directory.specs.Shown.{join}
 use Rattle.wax_tree.specs.declared.steps.Folder.{Folder}
 use Rattle.wax_tree.specs.declared.steps.OpenFolder.{OpenFolder}
 use Rattle.wax_tree.specs.declared.steps.StartPoint.{StartPoint}
 use Rattle.wax_tree.specs.declared.steps.Steps.{Steps}
-use Rattle.wax_tree.specs.Prefix.{ArePlain, from_last}
-
--- the path to which these names lead
-abbrev pub joined : List ℕ → List (List ℕ) → List ℕ
-joined path [] = path
-joined path (x ∷ names) = joined (join path x) names
+use Rattle.wax_tree.specs.Prefix.{ArePlain, from_last, path_from}
 
 -- a relation of paths and of depths of what is in the folders there
 abbrev pub FolderSet : Type 1
@@ -31,14 +25,14 @@ pub record LeadsTo (least : ℕ) (from : FolderSet) (path : List ℕ) (inside : 
   pub names : List (List ℕ)
   pub begins : from top above
   pub plain : ArePlain names
-  pub path_is : path ≡ joined top names
+  pub path_is : path ≡ path_from top names
   pub depth_is : inside ≡ above + length names
   pub unseen : (names ≡ []) ⊎ (inside ≤ least)
 
 -- a place on the way from a start point along its names; nothing is said of a depth that is no `usize`
 abbrev pub OnWay : StartPoint → FolderSet
 OnWay place path inside = (front rest : List (List ℕ)) × (from_last place.names.items ≡ front ++ rest)
-    × (path ≡ joined (string_bytes place.path) front)
+    × (path ≡ path_from (string_bytes place.path) front)
     × (place.depth + length front < 2 ^ 64 → inside ≡ place.depth + length front + 1)
 
 abbrev pub IsOf : Folder → FolderSet
