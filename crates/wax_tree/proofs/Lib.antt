@@ -10,3 +10,4 @@ pub mod Kept
 pub mod InRange
 pub mod Listing
 pub mod Reaching
+pub mod Levelled
