@@ -137,8 +137,8 @@ pub record GaveWithin {D C : Type 0} (t : Tree Span) (law : Law D C) (d : D) (as
   pub opens : NoneLast xs → (depth : Bounds) × Depth t depth
       × (count_to_open (up_to asked.max depth.1) xs ≤ opened)
 
--- Whatever the directory shows: each error among these items is of a folder that was given before it, or of what
--- the walk passes on the way of the prefix.
+-- Whatever the directory shows: each error among these items is of a folder that was given before it, or of
+-- what the walk passes on the way of the prefix.
 abbrev pub FailsAtFolders : Tree Span → List ℕ → DepthRange → List Given → Type 0
 FailsAtFolders t start asked xs = (b : Beginning t) → (depth : Bounds) × Depth t depth
     × AreOfFolders (IsPassed asked.min (origin_from start b.rooted b.names).path b.names)

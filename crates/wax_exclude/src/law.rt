@@ -24,8 +24,8 @@ pub fn law_of_walks()
 {}
 
 /// States that the feed of a walk with any filters, as a list, is what they leave of the list of the
-/// whole walk, errors included: an item is left out exactly if it is below an earlier entry that
-/// they exclude with everything below it.
+/// whole walk, errors included: all items but those below an earlier entry that they exclude with
+/// everything below it.
 pub fn law_of_feeds()
     ensures rules { FeedsByRules }
     ensures requests { FeedsByRequest }

@@ -52,6 +52,11 @@ where
         → I.Directory.law.shows d request.origin.path s → I.Directory.law.tells d listed
         → KeepsWanted (I.Directory.law.tells r.1) request s listed
         (map (given_outcome I.Entry.facts I.Residue.facts) r.0.items)) }
+    ensures feed { IfOk result (λ r. (d : I.Directory) (request : GlobRequest) (s : Shown)
+        (listed : List (List ℕ)) → ComesWanted I.Directory.law d request (I.view walk)
+        → I.Directory.law.shows d request.origin.path s → I.Directory.law.tells d listed
+        → (xs : List Given) × FeedsWanted request s xs
+        × (map (given_outcome I.Entry.facts I.Residue.facts) r.0.items ≡ filter is_kept xs)) }
 {
     law_of_walks();
     collect_items(alloc, walk)

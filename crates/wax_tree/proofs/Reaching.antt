@@ -21,8 +21,8 @@ use Rattle.wax_tree.specs.declared.steps.Steps.{Steps}
 use Rattle.wax_tree.specs.declared.steps.Step.{Step}
 use Rattle.wax_tree.specs.declared.steps.Step.TheVariants.{Gives, GoesOn, Ends}
 use Rattle.wax_tree.specs.Prefix.{ArePlain, from_last, path_from}
-use Rattle.wax_tree.specs.Reaching.{FolderSet, LeadsTo, OfAny, OfEntered, OfFirst, OfLevels, OnWay, OneFolder}
-use Rattle.wax_tree.specs.Reaching.{IsOf, MayFailAt, MayFailBelow, MayReach, Reaches, no_folders}
+use Rattle.wax_tree.specs.Reaching.{FolderSet, LeadsUnseen, OfAny, OfEntered, OfFirst, OfLevels, OnWay, OneFolder}
+use Rattle.wax_tree.specs.Reaching.{IsOf, MayFailAt, MayFailBelow, MayReach, ReachesFrom, no_folders}
 use Rattle.wax_tree.specs.Begins.{FailsFrom, IsPassed}
 use Rattle.wax_tree.specs.Stepping.{StepPlaces}
 use Rattle.wax_tree.specs.Walking.{HasStopped, step_given, steps_view}
@@ -52,7 +52,7 @@ append-nil (x ∷ xs) = ap (λ ys. x ∷ ys) (append-nil xs)
 -- ---- where names lead
 
 pub leads_more : (least : ℕ) (a b : FolderSet) → ((path : List ℕ) (n : ℕ) → a path n → b path n)
-    → (path : List ℕ) (n : ℕ) → LeadsTo least a path n → LeadsTo least b path n
+    → (path : List ℕ) (n : ℕ) → LeadsUnseen least a path n → LeadsUnseen least b path n
 leads_more least a b f path n h = record {
   top = h.top;
   above = h.above;
@@ -64,7 +64,7 @@ leads_more least a b f path n h = record {
   unseen = h.unseen;
 }
 
-pub leads_here : (least : ℕ) (a : FolderSet) (path : List ℕ) (n : ℕ) → a path n → LeadsTo least a path n
+pub leads_here : (least : ℕ) (a : FolderSet) (path : List ℕ) (n : ℕ) → a path n → LeadsUnseen least a path n
 leads_here least a path n h = record {
   top = path;
   above = n;
@@ -76,8 +76,8 @@ leads_here least a path n h = record {
   unseen = inl refl;
 }
 
-pub leads_on : (least : ℕ) (a : FolderSet) (path : List ℕ) (n : ℕ) → LeadsTo least (LeadsTo least a) path n
-    → LeadsTo least a path n
+pub leads_on : (least : ℕ) (a : FolderSet) (path : List ℕ) (n : ℕ) → LeadsUnseen least (LeadsUnseen least a) path n
+    → LeadsUnseen least a path n
 leads_on least a path n h =
     let i = h.begins in
     let long : length (i.names ++ h.names) ≡ length i.names + length h.names =
@@ -102,7 +102,7 @@ leads_on least a path n h =
 
 -- a name of an entry that isn't yielded
 pub leads_name : (least : ℕ) (a : FolderSet) (path name : List ℕ) (n : ℕ) → IsPlain name → n + 1 ≤ least
-    → LeadsTo least a path n → LeadsTo least a (join path name) (n + 1)
+    → LeadsUnseen least a path n → LeadsUnseen least a (join path name) (n + 1)
 leads_name least a path name n p few h = leads_on least a (join path name) (n + 1) (record {
   top = path;
   above = n;
@@ -115,7 +115,7 @@ leads_name least a path name n p few h = leads_on least a (join path name) (n + 
 })
 
 pub leads_either : (least : ℕ) (a b : FolderSet) (path : List ℕ) (n : ℕ)
-    → LeadsTo least (λ p k. a p k ⊎ b p k) path n → LeadsTo least a path n ⊎ LeadsTo least b path n
+    → LeadsUnseen least (λ p k. a p k ⊎ b p k) path n → LeadsUnseen least a path n ⊎ LeadsUnseen least b path n
 leads_either least a b path n h = elim h.begins [
   | inl i ↦ inl (record {
     top = h.top;
@@ -208,7 +208,7 @@ module _ {D C : Type 0} where
   any_more w a b f path n h = elim h [ inl i ↦ inl (f path n i) | inr i ↦ inr i ]
 
   pub reaches_more : (w : Steps D C) (a b : FolderSet) → ((path : List ℕ) (n : ℕ) → a path n → b path n)
-      → (path : List ℕ) (n : ℕ) → Reaches w a path n → Reaches w b path n
+      → (path : List ℕ) (n : ℕ) → ReachesFrom w a path n → ReachesFrom w b path n
   reaches_more w a b f path n h = leads_more w.min (OfAny w a) (OfAny w b) (any_more w a b f) path n h
 
   -- ---- steps
@@ -239,7 +239,7 @@ module _ {D C : Type 0} where
   -- an error, and no folder is entered
   pub fault_places : (from entered : FolderSet) (most : ℕ) (w : Steps D C) (kind : FaultKind)
       (path : String Global) (depth n : ℕ) → depth ≡ n - 1 → from (string_bytes path) n → w.entered ≡ None
-      → ((p : List ℕ) (k : ℕ) → Reaches w no_folders p k → from p k)
+      → ((p : List ℕ) (k : ℕ) → ReachesFrom w no_folders p k → from p k)
       → StepPlaces from entered most (Gives (Err (Fault kind path depth))) w
   fault_places from entered most w kind path depth n d h none f = record {
     item = λ p k i. (n, sym i.1 ∙ d, subst (λ v. from v n) i.0 h);
@@ -249,7 +249,7 @@ module _ {D C : Type 0} where
 
   -- no item, and no folder is entered
   pub silent_places : (from entered : FolderSet) (most : ℕ) (w : Steps D C) (r : Step) → step_given r ≡ None
-      → w.entered ≡ None → ((p : List ℕ) (k : ℕ) → Reaches w no_folders p k → from p k)
+      → w.entered ≡ None → ((p : List ℕ) (k : ℕ) → ReachesFrom w no_folders p k → from p k)
       → StepPlaces from entered most r w
   silent_places from entered most w r e none f = record {
     item = λ p k i. absurd (subst (λ v. IsErrorAt p k v) e i);
@@ -275,9 +275,9 @@ module _ {D C : Type 0} where
   pub pushed_reaches : (w new : Steps D C) (level : OpenFolder C) (a : FolderSet) → new.min ≡ w.min
       → new.first ≡ w.first → new.levels.items ≡ w.levels.items ++ level ∷ []
       → ((path : List ℕ) (n : ℕ) → a path n → IsOf level.folder path n)
-      → (path : List ℕ) (n : ℕ) → Reaches new a path n → Reaches w (IsOf level.folder) path n
+      → (path : List ℕ) (n : ℕ) → ReachesFrom new a path n → ReachesFrom w (IsOf level.folder) path n
   pushed_reaches w new level a least first levels f path n h =
-      subst (λ m. LeadsTo m (OfAny w (IsOf level.folder)) path n) least
+      subst (λ m. LeadsUnseen m (OfAny w (IsOf level.folder)) path n) least
       (leads_more new.min (OfAny new a) (OfAny w (IsOf level.folder)) (λ p k i. elim i [
         | inl j ↦ inl (f p k j)
         | inr o ↦ elim o [
@@ -293,9 +293,9 @@ module _ {D C : Type 0} where
   -- a folder was popped, and the walk has no start point
   pub popped_reaches : (w mid : Steps D C) (level : OpenFolder C) → mid.min ≡ w.min → mid.first ≡ None
       → w.levels.items ≡ mid.levels.items ++ level ∷ []
-      → (path : List ℕ) (n : ℕ) → Reaches mid (IsOf level.folder) path n → Reaches w no_folders path n
+      → (path : List ℕ) (n : ℕ) → ReachesFrom mid (IsOf level.folder) path n → ReachesFrom w no_folders path n
   popped_reaches w mid level least none levels path n h =
-      subst (λ m. LeadsTo m (OfAny w no_folders) path n) least
+      subst (λ m. LeadsUnseen m (OfAny w no_folders) path n) least
       (leads_more mid.min (OfAny mid (IsOf level.folder)) (OfAny w no_folders) (λ p k i.
       let both : (IsOf level.folder p k ⊎ OfLevels mid.levels.items p k) → OfAny w no_folders p k =
       λ j. inr (inr (subst (λ v. OfLevels v p k) (sym levels) (levels_popped mid.levels.items level p k j))) in
@@ -310,9 +310,9 @@ module _ {D C : Type 0} where
   -- the start point was taken
   pub first_reaches : (w mid : Steps D C) (place : StartPoint) → mid.min ≡ w.min → mid.first ≡ None
       → w.first ≡ Some place → mid.levels.items ≡ w.levels.items
-      → (path : List ℕ) (n : ℕ) → Reaches mid (OnWay place) path n → Reaches w no_folders path n
+      → (path : List ℕ) (n : ℕ) → ReachesFrom mid (OnWay place) path n → ReachesFrom w no_folders path n
   first_reaches w mid place least none some levels path n h =
-      subst (λ m. LeadsTo m (OfAny w no_folders) path n) least
+      subst (λ m. LeadsUnseen m (OfAny w no_folders) path n) least
       (leads_more mid.min (OfAny mid (OnWay place)) (OfAny w no_folders) (λ p k i. elim i [
         | inl j ↦ inr (inl (subst (λ v. OfFirst v p k) (sym some) j))
         | inr o ↦ elim o [
@@ -324,15 +324,15 @@ module _ {D C : Type 0} where
   -- the folder that is to be entered was taken
   pub entered_reaches : (w mid : Steps D C) (folder : Folder) → mid.min ≡ w.min → mid.first ≡ None
       → w.entered ≡ Some folder → mid.levels.items ≡ w.levels.items
-      → (path : List ℕ) (n : ℕ) → Reaches mid (IsOf folder) path n
-      → Reaches w no_folders path n ⊎ LeadsTo w.min (OfEntered w.entered) path n
+      → (path : List ℕ) (n : ℕ) → ReachesFrom mid (IsOf folder) path n
+      → ReachesFrom w no_folders path n ⊎ LeadsUnseen w.min (OfEntered w.entered) path n
   entered_reaches w mid folder least none some levels path n h =
       let outer : FolderSet = λ p k. OfFirst mid.first p k ⊎ OfLevels mid.levels.items p k in
       elim (leads_either mid.min (IsOf folder) outer path n h) [
-        | inl i ↦ inr (subst (λ m. LeadsTo m (OfEntered w.entered) path n) least
+        | inl i ↦ inr (subst (λ m. LeadsUnseen m (OfEntered w.entered) path n) least
             (leads_more mid.min (IsOf folder) (OfEntered w.entered)
             (λ p k j. subst (λ v. OfEntered v p k) (sym some) j) path n i))
-        | inr i ↦ inl (subst (λ m. LeadsTo m (OfAny w no_folders) path n) least
+        | inr i ↦ inl (subst (λ m. LeadsUnseen m (OfAny w no_folders) path n) least
             (leads_more mid.min outer (OfAny w no_folders) (λ p k o. elim o [
               | inl j ↦ absurd (subst (λ v. OfFirst v p k) none j)
               | inr j ↦ inr (inr (subst (λ v. OfLevels v p k) levels j))
@@ -344,8 +344,8 @@ module _ {D C : Type 0} where
       → place.names.items ≡ next.names.items ++ x ∷ []
       → string_bytes next.path ≡ join (string_bytes place.path) (string_bytes x)
       → next.depth ≡ min (place.depth + 1) (2 ^ 64 - 1)
-      → (path : List ℕ) (n : ℕ) → Reaches (record w { first = Some next }) no_folders path n
-      → Reaches w (OnWay place) path n
+      → (path : List ℕ) (n : ℕ) → ReachesFrom (record w { first = Some next }) no_folders path n
+      → ReachesFrom w (OnWay place) path n
   next_reaches w place next x e q d path n h =
       leads_more w.min (OfAny (record w { first = Some next }) no_folders) (OfAny w (OnWay place))
       (λ p k i. elim i [
@@ -420,29 +420,29 @@ module _ {D C : Type 0} (w : Steps D C) (at : Location) (x : ListItem) where
   -- an entry that isn't yielded is below its folder
   pub entry_places : (path candidate : String Global) (kind : FileType) (depth : ℕ) (r : Step) (new : Steps D C)
       → IsFound at x (Entry path candidate kind)
-      → StepPlaces (Reaches w no_folders)
-      (λ p n. (depth < w.min) × LeadsTo w.min (OneFolder (string_bytes path) (depth + 1)) p n) w.max r new
-      → StepPlaces (Reaches w (OneFolder at.path depth)) (Reaches w (OneFolder at.path depth)) w.max r new
+      → StepPlaces (ReachesFrom w no_folders)
+      (λ p n. (depth < w.min) × LeadsUnseen w.min (OneFolder (string_bytes path) (depth + 1)) p n) w.max r new
+      → StepPlaces (ReachesFrom w (OneFolder at.path depth)) (ReachesFrom w (OneFolder at.path depth)) w.max r new
   entry_places path candidate kind depth r new f s =
       let one = OneFolder at.path depth in
       let named = found_name at x path candidate kind f in
-      places_more _ (Reaches w one) _ (Reaches w one) w.max r new
+      places_more _ (ReachesFrom w one) _ (ReachesFrom w one) w.max r new
       (λ p n h. reaches_more w no_folders one (λ q k i. absurd i) p n h)
       (λ p n h. leads_on w.min (OfAny w one) p n
-      (leads_more w.min (OneFolder (string_bytes path) (depth + 1)) (Reaches w one) (λ q k i.
-      subst (λ v. Reaches w one v k) (sym (i.0 ∙ named.2))
-      (subst (λ m. Reaches w one (join at.path named.0) m) (sym i.1)
+      (leads_more w.min (OneFolder (string_bytes path) (depth + 1)) (ReachesFrom w one) (λ q k i.
+      subst (λ v. ReachesFrom w one v k) (sym (i.0 ∙ named.2))
+      (subst (λ m. ReachesFrom w one (join at.path named.0) m) (sym i.1)
       (leads_name w.min (OfAny w one) at.path named.0 depth named.1 (omega (arith, h.0))
       (leads_here w.min (OfAny w one) at.path depth (inl (refl, refl))))))
       p n h.1)) s
 
   pub found_places : (kind : FaultKind) (path : String Global) (depth inside : ℕ)
       → IsFound at x (FoundFault kind path) → depth ≡ inside - 1 → w.entered ≡ None
-      → StepPlaces (Reaches w (OneFolder at.path inside)) (Reaches w (OneFolder at.path inside)) w.max
+      → StepPlaces (ReachesFrom w (OneFolder at.path inside)) (ReachesFrom w (OneFolder at.path inside)) w.max
       (Gives (Err (Fault kind path depth))) w
   found_places kind path depth inside f d none =
       let one = OneFolder at.path inside in
-      fault_places (Reaches w one) (Reaches w one) w.max w kind path depth inside d
+      fault_places (ReachesFrom w one) (ReachesFrom w one) w.max w kind path depth inside d
       (leads_here w.min (OfAny w one) (string_bytes path) inside (inl (found_path at x kind path f, refl))) none
       (λ p k h. reaches_more w no_folders one (λ q m i. absurd i) p k h)
 

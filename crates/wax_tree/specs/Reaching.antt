@@ -17,9 +17,9 @@ no_folders path inside = ⊥
 abbrev pub OneFolder : List ℕ → ℕ → FolderSet
 OneFolder path inside p n = (p ≡ path) × (n ≡ inside)
 
--- plain names lead to the folder from one of these, and if there are any, it is above the least depth, so that
--- it isn't yielded
-pub record LeadsTo (least : ℕ) (from : FolderSet) (path : List ℕ) (inside : ℕ) : Type 0 where
+-- plain names lead to the folder from one of these, and if there are any, it is above the least depth, so
+-- that it isn't yielded
+pub record LeadsUnseen (least : ℕ) (from : FolderSet) (path : List ℕ) (inside : ℕ) : Type 0 where
   pub top : List ℕ
   pub above : ℕ
   pub names : List (List ℕ)
@@ -57,20 +57,20 @@ module _ {D C : Type 0} where
       ⊎ (OfFirst w.first path inside ⊎ OfLevels w.levels.items path inside)
 
   -- what the walk reaches from them without yielding a folder
-  abbrev pub Reaches : Steps D C → FolderSet → FolderSet
-  Reaches w more = LeadsTo w.min (OfAny w more)
+  abbrev pub ReachesFrom : Steps D C → FolderSet → FolderSet
+  ReachesFrom w more = LeadsUnseen w.min (OfAny w more)
 
   -- the folders that the walk reaches, if it hasn't ended, and those of the folder that is to be entered
   abbrev pub MayReach : Steps D C → FolderSet
   MayReach w path inside = (w.has_ended ≡ false)
-      × (Reaches w no_folders path inside ⊎ LeadsTo w.min (OfEntered w.entered) path inside)
+      × (ReachesFrom w no_folders path inside ⊎ LeadsUnseen w.min (OfEntered w.entered) path inside)
 
   -- the paths, each with its depth, of which errors may come
   abbrev pub MayFailAt : Steps D C → List ℕ → ℕ → Type 0
   MayFailAt w path depth = (w.has_ended ≡ false)
-      × (inside : ℕ) × (depth ≡ inside - 1) × Reaches w no_folders path inside
+      × (inside : ℕ) × (depth ≡ inside - 1) × ReachesFrom w no_folders path inside
 
   -- those of the last yielded folder, if it is to be entered
   abbrev pub MayFailBelow : Steps D C → List ℕ → ℕ → Type 0
   MayFailBelow w path depth = (w.has_ended ≡ false)
-      × (inside : ℕ) × (depth ≡ inside - 1) × LeadsTo w.min (OfEntered w.entered) path inside
+      × (inside : ℕ) × (depth ≡ inside - 1) × LeadsUnseen w.min (OfEntered w.entered) path inside

@@ -16,7 +16,7 @@ use Rattle.wax_tree.specs.declared.steps.Step.{Step}
 use Rattle.wax_tree.specs.declared.steps.Step.TheVariants.{Gives, GoesOn, Ends}
 use Rattle.wax_tree.specs.declared.steps.Steps.{Steps}
 use Rattle.wax_tree.specs.Plain.{WalkScope, Location, items_forest}
-use Rattle.wax_tree.specs.Reaching.{FolderSet, LeadsTo, OfEntered, Reaches, no_folders}
+use Rattle.wax_tree.specs.Reaching.{FolderSet, LeadsUnseen, OfEntered, ReachesFrom, no_folders}
 use Rattle.wax_tree.specs.Walking.{if_some, step_given, cursors_of, Rest, HasStopped, allowance, names_left}
 use Rattle.wax_tree.specs.Walking.{AtRest, PlainToCome, steps_view, MovesOn, open_lists, entering}
 
@@ -68,10 +68,10 @@ module _ {D C : Type 0} where
   pub record StepPlaces (from entered : FolderSet) (most : ℕ) (r : Step) (new : Steps D C) : Type 0 where
     pub item : (path : List ℕ) (depth : ℕ) → IsErrorAt path depth (step_given r)
         → (inside : ℕ) × (depth ≡ inside - 1) × from path inside
-    pub later : (path : List ℕ) (inside : ℕ) → new.has_ended ≡ false → Reaches new no_folders path inside
+    pub later : (path : List ℕ) (inside : ℕ) → new.has_ended ≡ false → ReachesFrom new no_folders path inside
         → from path inside
     pub below : (path : List ℕ) (inside : ℕ) → new.has_ended ≡ false
-        → LeadsTo new.min (OfEntered new.entered) path inside
+        → LeadsUnseen new.min (OfEntered new.entered) path inside
         → IsFolderAt most path (inside - 1) (step_given r) ⊎ ((step_given r ≡ None) × entered path inside)
 
   -- at most how many items the walk has yet to yield

@@ -75,8 +75,8 @@ is_yielded range (entry m f) = is_in range (entry m f)
 is_yielded range (fault kind path depth) = nat_lt depth range.max
 is_yielded range no_memory = false
 
--- what a walk of these depths yields of a whole one; an error that comes first is that nothing could be looked
--- up, and is yielded at any depth
+-- what a walk of these depths yields of a whole one; an error that comes first, since nothing could be looked
+-- up, is yielded at any depth
 abbrev pub yielded : DepthRange → List Given → List Given
 yielded range (fault kind path depth ∷ xs) = fault kind path depth ∷ filter (is_yielded range) xs
 yielded range xs = filter (is_yielded range) xs

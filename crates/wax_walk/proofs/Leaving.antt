@@ -8,7 +8,7 @@ use Rattle.std.proofs.lemmas.Bool.Decides.{nat_tests}
 use Rattle.std.proofs.lemmas.List.Folds.{list_all-append}
 use Rattle.wax_walk.specs.Forest.{Forest, nothing, item, lists, filtered, preorder}
 use Rattle.wax_walk.specs.Given.{Facts, Mark, Given, entry, fault, no_memory, changed_by, cut_by}
-use Rattle.wax_walk.specs.Left.{are_below, is_deeper, is_left_out, left_after, left_of}
+use Rattle.wax_walk.specs.Left.{are_below, is_deeper, is_cancelled, left_after, left_of}
 
 append-nil : {A : Type 0} (xs : List A) → xs ++ [] ≡ xs
 append-nil [] = refl
@@ -139,7 +139,7 @@ beside_deeper n d no_memory l e = refl
 
 module _ (rule : Facts → Mark) where
   abbrev IsSeen : List Given → Given → Type 0
-  IsSeen before y = is_left_out rule before y ≡ false
+  IsSeen before y = is_cancelled rule before y ≡ false
 
   -- what is deeper leaves out nothing that isn't
   seen_beside : (n : ℕ) (xs : List Given) (y : Given) → list_all (is_deeper n) xs ≡ true
@@ -148,7 +148,7 @@ module _ (rule : Facts → Mark) where
   seen_beside n (entry m f ∷ xs) y e b =
       let deeper : n < f.depth = grind (arith, nat_tests,
       and_left (nat_lt n f.depth) (list_all (is_deeper n) xs) e) in
-      neither _ (is_left_out rule xs y)
+      neither _ (is_cancelled rule xs y)
       (and_none (cut_by rule (entry m f)) _
       (last_beside (is_deeper f.depth) xs y (beside_deeper n f.depth y deeper b)))
       (seen_beside n xs y (and_right (nat_lt n f.depth) (list_all (is_deeper n) xs) e) b)
@@ -159,28 +159,28 @@ module _ (rule : Facts → Mark) where
   -- an item that was left, and then others, leave out only what these do
   seen_after : (before zs : List Given) (x y : Given) → IsSeen before x
       → (cut_by rule x && are_below x (zs ++ y ∷ [])) ≡ false → IsSeen zs y → IsSeen (before ++ x ∷ zs) y
-  seen_after [] zs x y e c h = neither _ (is_left_out rule zs y) c h
+  seen_after [] zs x y e c h = neither _ (is_cancelled rule zs y) c h
   seen_after (b ∷ before) zs x y e c h =
       let assoc : (before ++ x ∷ zs) ++ y ∷ [] ≡ before ++ x ∷ (zs ++ y ∷ []) =
       append_assoc before (x ∷ zs) (y ∷ []) in
-      neither _ (is_left_out rule (before ++ x ∷ zs) y)
+      neither _ (is_cancelled rule (before ++ x ∷ zs) y)
       (false_unless (cut_by rule b && are_below b (before ++ x ∷ [])) _
       (both_to (cut_by rule b) _ _
       (λ t. below_front b before (zs ++ y ∷ []) x (ap (are_below b) (sym assoc) ∙ t)))
-      (not_left _ (is_left_out rule before x) e))
-      (seen_after before zs x y (not_right _ (is_left_out rule before x) e) c h)
+      (not_left _ (is_cancelled rule before x) e))
+      (seen_after before zs x y (not_right _ (is_cancelled rule before x) e) c h)
 
   -- what is below an item that is cut is left out
   out_below : (before zs : List Given) (x y : Given) → cut_by rule x ≡ true → are_below x (zs ++ y ∷ []) ≡ true
-      → is_left_out rule (before ++ x ∷ zs) y ≡ true
-  out_below [] zs x y c e = ap (λ b. b || is_left_out rule zs y) (both (cut_by rule x) _ c e)
+      → is_cancelled rule (before ++ x ∷ zs) y ≡ true
+  out_below [] zs x y c e = ap (λ b. b || is_cancelled rule zs y) (both (cut_by rule x) _ c e)
   out_below (b ∷ before) zs x y c e = or_right _ _ (out_below before zs x y c e)
 
   skips : (before zs ws rest : List Given) (x : Given) → cut_by rule x ≡ true → are_below x (zs ++ ws) ≡ true
       → left_after rule (before ++ x ∷ zs) (ws ++ rest) ≡ left_after rule (before ++ x ∷ (zs ++ ws)) rest
   skips before zs [] rest x c e = ap (λ v. left_after rule (before ++ x ∷ v) rest) (sym (append-nil zs))
   skips before zs (w ∷ ws) rest x c e =
-      let out : is_left_out rule (before ++ x ∷ zs) w ≡ true =
+      let out : is_cancelled rule (before ++ x ∷ zs) w ≡ true =
       out_below before zs x w c (below_front x zs ws w e) in
       let one : (before ++ x ∷ zs) ++ w ∷ [] ≡ before ++ x ∷ (zs ++ w ∷ []) =
       append_assoc before (x ∷ zs) (w ∷ []) in

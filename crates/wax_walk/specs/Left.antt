@@ -10,23 +10,23 @@ is_deeper depth (entry m f) = nat_lt depth f.depth
 is_deeper depth (fault kind path d) = not (nat_lt d depth)
 is_deeper depth no_memory = false
 
--- each of these items, which come after x in this order, is below x
+-- each of these items, which come after the first one in this order, is below it
 abbrev pub are_below : Given → List Given → Bool
 are_below (entry m f) xs = list_all (is_deeper f.depth) xs
 are_below x xs = false
 
--- the item x, which comes after these items, is below one of them that the rule excludes with everything below
-abbrev pub is_left_out : (Facts → Mark) → List Given → Given → Bool
-is_left_out rule [] x = false
-is_left_out rule (y ∷ between) x =
-    (cut_by rule y && are_below y (between ++ x ∷ [])) || is_left_out rule between x
+-- the item x, which comes after these, is below one of them that the rule excludes with everything below it
+abbrev pub is_cancelled : (Facts → Mark) → List Given → Given → Bool
+is_cancelled rule [] x = false
+is_cancelled rule (y ∷ between) x =
+    (cut_by rule y && are_below y (between ++ x ∷ [])) || is_cancelled rule between x
 
--- what the rule leaves of items that come after others: each with its mark, unless it is left out
+-- what the rule leaves of items that come after others: each with its mark, unless it is cancelled
 abbrev pub left_after : (Facts → Mark) → List Given → List Given → List Given
 left_after rule before [] = []
 left_after rule before (x ∷ xs) =
     let rest = left_after rule (before ++ x ∷ []) xs in
-    cond (is_left_out rule before x) rest (changed_by rule x ∷ rest)
+    cond (is_cancelled rule before x) rest (changed_by rule x ∷ rest)
 
 -- what the rule leaves of a walk
 abbrev pub left_of : (Facts → Mark) → List Given → List Given

@@ -13,7 +13,7 @@ use Rattle.wax_tree.proofs.Resting.{rest_moved, comes_rest}
 use Rattle.wax_tree.proofs.UsingAnswers.{counted_same, answer_used, failed_uses_answer, gives_uses_answer}
 use Rattle.wax_tree.proofs.UsingAnswers.{stopped_uses_answer, stops_with, step_from}
 use Rattle.wax_tree.proofs.Stepping.{gives_fault}
-use Rattle.wax_tree.specs.Reaching.{OfAny, OnWay, Reaches, no_folders}
+use Rattle.wax_tree.specs.Reaching.{OfAny, OnWay, ReachesFrom, no_folders}
 use Rattle.wax_tree.proofs.Reaching.{fault_places, leads_here, reaches_more, stopped_places, way_here}
 use Rattle.wax_tree.proofs.steps.Steps.begin.Goals as goal
 
@@ -108,7 +108,7 @@ pub returns-in-Ok-None-clause-places : goal.returns-in-Ok-None-clause-places
 returns-in-Ok-None-clause-places g c none =
     let w = record c.args.self.now { directory = c.kind.new.self } in
     let place = c.args.place in
-    let of = Reaches w (OnWay place) in
+    let of = ReachesFrom w (OnWay place) in
     stopped_places of of w.max w c.stop.new.self c.stop.result NotFound (string_bytes place.path) place.depth
     (place.depth + 1) c.stop.ensures.gives c.stop.ensures.ended (omega arith)
     (leads_here w.min (OfAny w (OnWay place)) _ _ (inl (way_here place _ _ (refl, refl))))
@@ -117,7 +117,7 @@ pub returns-in-Err-Failed-clause-places : goal.returns-in-Err-Failed-clause-plac
 returns-in-Err-Failed-clause-places g c none =
     let w = record c.args.self.now { directory = c.kind.new.self } in
     let place = c.args.place in
-    let of = Reaches w (OnWay place) in
+    let of = ReachesFrom w (OnWay place) in
     fault_places of of w.max w Listing place.path place.depth (place.depth + 1) (omega arith)
     (leads_here w.min (OfAny w (OnWay place)) _ _ (inl (way_here place _ _ (refl, refl)))) none
     (reaches_more w no_folders (OnWay place) (λ p n i. absurd i))

@@ -6,7 +6,7 @@ use Rattle.wax_walk.specs.View.{lacks_memory}
 use Rattle.wax_tree.specs.Walking.{cursors_of, folder_location}
 use Rattle.wax_tree.proofs.Resting.{rest_moved, listed_more}
 use Rattle.wax_tree.proofs.Stepping.{enters, enters_sealed}
-use Rattle.wax_tree.specs.Reaching.{IsOf, OfAny, OneFolder, Reaches, no_folders}
+use Rattle.wax_tree.specs.Reaching.{IsOf, OfAny, OneFolder, ReachesFrom, no_folders}
 use Rattle.wax_tree.proofs.Reaching.{failed_places, fault_places, leads_here, pushed_reaches, reaches_more}
 use Rattle.wax_tree.proofs.Reaching.{silent_places}
 use Rattle.wax_tree.proofs.steps.Steps.enter.Goals as goal
@@ -50,7 +50,7 @@ returns-in-Err-Failed-clause-continues g c s h i rest items r e =
 pub returns-after-push-clause-places : goal.returns-after-push-clause-places
 returns-after-push-clause-places g c none =
     let w = c.args.self.now in
-    let of = Reaches w (IsOf c.args.folder) in
+    let of = ReachesFrom w (IsOf c.args.folder) in
     elim c.match-push.branch [
       | in-Ok-push v ↦ rw (v.self-is, v.result-is)
           (silent_places of of w.max (record w { directory = c.open.new.self; levels = c.push.new.self }) _ refl
@@ -64,7 +64,7 @@ returns-after-push-clause-places g c none =
 pub returns-in-Err-Failed-clause-places : goal.returns-in-Err-Failed-clause-places
 returns-in-Err-Failed-clause-places g c none =
     let w = record c.args.self.now { directory = c.open.new.self } in
-    let of = Reaches w (IsOf c.args.folder) in
+    let of = ReachesFrom w (IsOf c.args.folder) in
     fault_places of of w.max w Listing c.args.folder.path c.saturating_sub-depth.result c.args.folder.depth
     c.saturating_sub-depth.ensures
     (leads_here w.min (OfAny w (IsOf c.args.folder)) _ _ (inl (refl, refl))) none

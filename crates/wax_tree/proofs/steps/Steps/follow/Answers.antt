@@ -13,7 +13,7 @@ use Rattle.wax_tree.proofs.Showing.{none_left, plain_is, from_last_end, follows_
 use Rattle.wax_tree.proofs.UsingAnswers.{leaf_counted, stopped_uses_answer, stops_with}
 use Rattle.wax_tree.proofs.Stepping.{follows}
 use Rattle.wax_tree.specs.declared.steps.StartPoint.{StartPoint}
-use Rattle.wax_tree.specs.Reaching.{OfAny, OnWay, OneFolder, Reaches, no_folders}
+use Rattle.wax_tree.specs.Reaching.{OfAny, OnWay, OneFolder, ReachesFrom, no_folders}
 use Rattle.wax_tree.proofs.Reaching.{leads_here, leads_more, next_reaches, places_more, reaches_more}
 use Rattle.wax_tree.proofs.Reaching.{silent_places, stopped_places, way_here}
 use Rattle.wax_tree.proofs.steps.Steps.follow.Goals as goal
@@ -81,7 +81,7 @@ pub returns-in_default-clause-places : goal.returns-in_default-clause-places
 returns-in_default-clause-places g c none =
     let w = c.args.self.now in
     let place = c.args.place in
-    let of = Reaches w (OnWay place) in
+    let of = ReachesFrom w (OnWay place) in
     places_more _ of _ of w.max c.give.result c.give.new.self
     (reaches_more w no_folders (OnWay place) (λ p n i. absurd i))
     (λ p n i. leads_more w.min (OneFolder (string_bytes place.path) (place.depth + 1)) (OfAny w (OnWay place))
@@ -92,7 +92,7 @@ pub returns-then-ne-clause-places : goal.returns-then-ne-clause-places
 returns-then-ne-clause-places g c none =
     let w = c.args.self.now in
     let place = c.args.place in
-    let of = Reaches w (OnWay place) in
+    let of = ReachesFrom w (OnWay place) in
     stopped_places of of w.max w c.stop.new.self c.stop.result NotAFolder (string_bytes place.path) place.depth
     (place.depth + 1) c.stop.ensures.gives c.stop.ensures.ended (omega arith)
     (leads_here w.min (OfAny w (OnWay place)) _ _ (inl (way_here place _ _ (refl, refl))))
@@ -101,7 +101,7 @@ pub returns-clause-places : goal.returns-clause-places
 returns-clause-places g c none =
     let w = c.args.self.now in
     let place = c.args.place in
-    let of = Reaches w (OnWay place) in
+    let of = ReachesFrom w (OnWay place) in
     let next : StartPoint = record {
       path = c.in-Ok.path;
       candidate = c.in-Ok-join.candidate;

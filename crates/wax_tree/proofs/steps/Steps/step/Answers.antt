@@ -3,7 +3,7 @@ use Rattle.std.proofs.Common.{rules, ◌≡◌, ◌∙◌, false, true, [], ap, 
 use Rattle.wax_tree.proofs.UsingAnswers.{step_from}
 use Rattle.wax_tree.proofs.Showing.{none_left}
 use Rattle.wax_tree.proofs.Stepping.{steps_begin, steps_enter, steps_list, steps_none, steps_ended}
-use Rattle.wax_tree.specs.Reaching.{IsOf, MayReach, OnWay, Reaches}
+use Rattle.wax_tree.specs.Reaching.{IsOf, MayReach, OnWay, ReachesFrom}
 use Rattle.wax_tree.proofs.Reaching.{entered_reaches, first_reaches, places_more, popped_reaches}
 use Rattle.wax_tree.proofs.steps.Steps.step.Goals as goal
 
@@ -54,7 +54,7 @@ pub returns-in-Some-clause-places : goal.returns-in-Some-clause-places
 returns-in-Some-clause-places g c =
     let w = c.args.self.now in
     let mid = record w { first = c.take.new.self; entered = None } in
-    let of = Reaches mid (OnWay c.in-Some.place) in
+    let of = ReachesFrom mid (OnWay c.in-Some.place) in
     let reaches : (path : List ℕ) (n : ℕ) → of path n → MayReach w path n = λ path n i. (
       c.if-self.false,
       inl (first_reaches w mid c.in-Some.place refl c.take.ensures.after
@@ -67,7 +67,7 @@ pub returns-in-Some-take-clause-places : goal.returns-in-Some-take-clause-places
 returns-in-Some-take-clause-places g c =
     let w = c.args.self.now in
     let mid = record w { first = c.take.new.self; entered = c.take-2.new.self } in
-    let of = Reaches mid (IsOf c.in-Some-take.folder) in
+    let of = ReachesFrom mid (IsOf c.in-Some-take.folder) in
     let reaches : (path : List ℕ) (n : ℕ) → of path n → MayReach w path n = λ path n i. (
       c.if-self.false,
       entered_reaches w mid c.in-Some-take.folder refl c.take.ensures.after
@@ -80,7 +80,7 @@ pub returns-in-Some-pop-clause-places : goal.returns-in-Some-pop-clause-places
 returns-in-Some-pop-clause-places g c =
     let w = c.args.self.now in
     let mid = record w { first = c.take.new.self; entered = c.take-2.new.self; levels = c.pop.new.self } in
-    let of = Reaches mid (IsOf c.in-Some-pop.level.folder) in
+    let of = ReachesFrom mid (IsOf c.in-Some-pop.level.folder) in
     let reaches : (path : List ℕ) (n : ℕ) → of path n → MayReach w path n = λ path n i. (
       c.if-self.false,
       inl (popped_reaches w mid c.in-Some-pop.level refl c.take.ensures.after c.in-Some-pop.ensures.items path
