@@ -81,7 +81,7 @@ abbrev pub yielded : DepthRange → List Given → List Given
 yielded range (fault kind path depth ∷ xs) = fault kind path depth ∷ filter (is_yielded range) xs
 yielded range xs = filter (is_yielded range) xs
 
--- the items are those of the whole walk, less the depths; or a prefix of these and then one error, because
+-- the items are what these depths leave of the whole walk; or a prefix of that and then one error, because
 -- allocation failed or the budget was reached
 pub data EntriesAre (range : DepthRange) (start : List ℕ) (s : Shown) (xs : List Given) : Type 0 where
   all_in_range : xs ≡ yielded range (whole start s) → EntriesAre range start s xs
