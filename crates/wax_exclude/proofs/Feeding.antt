@@ -1,25 +1,24 @@
 -- The feed of a walk with filters is what they leave of the list.
-use Rattle.std.proofs.Common.{◌≡◌, ◌∙◌, ℕ, ◌+◌, ◌<◌, ◌≤◌, Bool, true, false, List, [], length, refl, ap, subst, arith}
+use Rattle.std.proofs.Common.{◌≡◌, ◌∙◌, ℕ, ◌+◌, ◌<◌, ◌≤◌, Bool, true, false, List, [], refl, ap, subst, arith}
 use Rattle.std.specs.Prelude.{if◌then◌else◌}
 use Rattle.std.proofs.lemmas.Bool.{ltb-false}
 use Rattle.wax_directory.specs.Shown.{Shown}
 use Rattle.wax_glob_walk.specs.Programs.{any_mark}
 use Rattle.wax_tree.proofs.InRange.{along_yielded}
 use Rattle.wax_tree.proofs.Levelled.{levelled_along}
-use Rattle.wax_tree.specs.Begins.{Origin, scope_in}
-use Rattle.wax_tree.specs.declared.steps.DepthRange.{DepthRange}
+use Rattle.wax_tree.specs.Begins.{scope_in}
 use Rattle.wax_tree.specs.Plain.{count_shown}
 use Rattle.wax_walk.proofs.Leaving.{leaves_list}
 use Rattle.wax_walk.specs.Collected.{GaveAll, IsCutShort}
 use Rattle.wax_walk.specs.Collected as given
 use Rattle.wax_walk.specs.declared.error.FaultKind.TheVariants.{Budget}
 use Rattle.wax_walk.specs.Forest.{nothing, preorder}
-use Rattle.wax_walk.specs.Given.{Facts, Mark, Given, fault, no_memory}
+use Rattle.wax_walk.specs.Given.{Given, fault, no_memory}
 use Rattle.wax_walk.specs.Left.{left_of}
 use Rattle.wax_exclude.proofs.StackingRequests.{stacked_any}
-use Rattle.wax_exclude.specs.Feeds.{FeedsByRequest, FeedsByRules, FeedsWanted, feed_of, request_feed}
+use Rattle.wax_exclude.specs.Feeds.{FeedsByRequest, FeedsByRules, FeedsWanted, feed_of}
 use Rattle.wax_exclude.specs.Feeds.{gives, lacks_memory, over_budget}
-use Rattle.wax_exclude.specs.GlobRequests.{GlobRequest, is_beyond, request_items, request_pending, request_walk}
+use Rattle.wax_exclude.specs.GlobRequests.{GlobRequest, is_beyond, request_pending}
 use Rattle.wax_exclude.specs.Walked.{glob_walk, origin_location, origin_walk}
 use Rattle.wax_exclude.specs.Wanted.{rules_of}
 

@@ -1,15 +1,12 @@
 -- The folders of which steps yield errors.
 use Rattle.std.proofs.Common.{◌≡◌, ℕ, ◌+◌, ◌-◌, ◌^◌, ◌<◌, ◌≤◌, min, true, false, length, List, [], ◌∷◌, ◌++◌}
 use Rattle.std.proofs.Common.{refl, sym, ap, subst, ◌∙◌, arith, inl, inr, string_bytes, length-append}
-use Rattle.std.proofs.Common.{append_assoc}
-use Rattle.std.specs.Prelude.{Option, Some, None, ◌⊎◌, Result, Ok, Err, String}
+use Rattle.std.specs.Prelude.{Some, None, ◌⊎◌, Err, String}
 use Rattle.std.specs.declared.alloc.Global.{Global}
 use Rattle.std.proofs.lemmas.Str.{IsUtf8-string_bytes}
 use Rattle.wax_directory.specs.declared.directory.FileType.{FileType}
 use Rattle.wax_directory.specs.Shown.{IsPlain, join}
-use Rattle.wax_walk.specs.declared.entry.TreeEntry.{TreeEntry}
 use Rattle.wax_walk.specs.declared.error.FaultKind.{FaultKind}
-use Rattle.wax_walk.specs.declared.error.WalkError.{WalkError}
 use Rattle.wax_walk.specs.declared.error.WalkError.TheVariants.{Memory, Fault}
 use Rattle.wax_walk.specs.Collected.{AreOfFolders, HasFolder}
 use Rattle.wax_walk.specs.Given.{Given, fault}
@@ -19,7 +16,7 @@ use Rattle.wax_tree.specs.declared.steps.OpenFolder.{OpenFolder}
 use Rattle.wax_tree.specs.declared.steps.StartPoint.{StartPoint}
 use Rattle.wax_tree.specs.declared.steps.Steps.{Steps}
 use Rattle.wax_tree.specs.declared.steps.Step.{Step}
-use Rattle.wax_tree.specs.declared.steps.Step.TheVariants.{Gives, GoesOn, Ends}
+use Rattle.wax_tree.specs.declared.steps.Step.TheVariants.{Gives, GoesOn}
 use Rattle.wax_tree.specs.Prefix.{ArePlain, from_last, path_from}
 use Rattle.wax_tree.specs.Reaching.{FolderSet, LeadsUnseen, OfAny, OfEntered, OfFirst, OfLevels, OnWay, OneFolder}
 use Rattle.wax_tree.specs.Reaching.{IsOf, MayFailAt, MayFailBelow, MayReach, ReachesFrom, no_folders}

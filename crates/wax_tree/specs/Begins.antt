@@ -33,14 +33,14 @@ pub record EndsWithin (most : ℕ) (left : Count) : Type 0 where
 -- names, or what lies below that by plain names at less than the least depth
 pub record IsPassed (least : ℕ) (start : List ℕ) (way : List (List ℕ)) (path : List ℕ) (depth : ℕ) : Type 0
   where
-  pub front : List (List ℕ)
-  pub rest : List (List ℕ)
-  pub names : List (List ℕ)
-  pub on_way : way ≡ front ++ rest
-  pub plain : ArePlain names
-  pub path_is : path ≡ path_from start (front ++ names)
-  pub depth_is : depth ≡ length (front ++ names)
-  pub unseen : (names ≡ []) ⊎ (depth < least)
+    pub front : List (List ℕ)
+    pub rest : List (List ℕ)
+    pub names : List (List ℕ)
+    pub on_way : way ≡ front ++ rest
+    pub plain : ArePlain names
+    pub path_is : path ≡ path_from start (front ++ names)
+    pub depth_is : depth ≡ length (front ++ names)
+    pub unseen : (names ≡ []) ⊎ (depth < least)
 
 -- errors may come only of what a walk passes from a start along these names
 pub record FailsFrom {D : Type 0} (least : ℕ) (start : List ℕ) (way : List (List ℕ)) (view : WalkView D) :

@@ -1,6 +1,6 @@
 -- What a filter leaves of a forest is what it leaves of the list.
 use Rattle.std.proofs.Common.{◌≡◌, ℕ, ◌+◌, ◌<◌, ◌≤◌, Bool, true, false, ◌&&◌, ◌||◌, not, cond, nat_lt, List, []}
-use Rattle.std.proofs.Common.{◌∷◌, ◌++◌, refl, sym, ap, subst, ◌∙◌, append_assoc, arith}
+use Rattle.std.proofs.Common.{◌∷◌, ◌++◌, refl, sym, ap, ◌∙◌, append_assoc, arith}
 use Rattle.std.specs.Prelude.{⊤}
 use Rattle.std.specs.List.{list_all}
 use Rattle.std.proofs.lemmas.Bool.{lt-ltb}
@@ -146,8 +146,11 @@ module _ (rule : Facts → Mark) where
       → is_deeper n y ≡ false → IsSeen xs y
   seen_beside n [] y e b = refl
   seen_beside n (entry m f ∷ xs) y e b =
-      let deeper : n < f.depth = grind (arith, nat_tests,
-      and_left (nat_lt n f.depth) (list_all (is_deeper n) xs) e) in
+      let deeper : n < f.depth = grind (
+        arith,
+        nat_tests,
+        and_left (nat_lt n f.depth) (list_all (is_deeper n) xs) e,
+      ) in
       neither _ (is_cancelled rule xs y)
       (and_none (cut_by rule (entry m f)) _
       (last_beside (is_deeper f.depth) xs y (beside_deeper n f.depth y deeper b)))

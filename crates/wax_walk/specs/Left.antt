@@ -1,5 +1,5 @@
 -- What a filter leaves of the items of a walk, as a list.
-use Rattle.std.specs.Prelude.{ℕ, Bool, true, false, ◌&&◌, ◌||◌, not, cond, nat_lt, List, [], ◌∷◌, ◌++◌}
+use Rattle.std.specs.Prelude.{ℕ, Bool, false, ◌&&◌, ◌||◌, not, cond, nat_lt, List, [], ◌∷◌, ◌++◌}
 use Rattle.std.specs.List.{list_all}
 use Rattle.wax_walk.specs.Given.{Facts, Mark, Given, entry, fault, no_memory, changed_by, cut_by}
 

@@ -6,7 +6,7 @@ use Rattle.wax_walk.specs.View.{lacks_memory}
 use Rattle.wax_tree.specs.Walking.{cursors_of, folder_location}
 use Rattle.wax_tree.proofs.Resting.{rest_moved, listed_more}
 use Rattle.wax_tree.proofs.Stepping.{enters, enters_sealed}
-use Rattle.wax_tree.specs.Reaching.{IsOf, OfAny, OneFolder, ReachesFrom, no_folders}
+use Rattle.wax_tree.specs.Reaching.{IsOf, OfAny, ReachesFrom, no_folders}
 use Rattle.wax_tree.proofs.Reaching.{failed_places, fault_places, leads_here, pushed_reaches, reaches_more}
 use Rattle.wax_tree.proofs.Reaching.{silent_places}
 use Rattle.wax_tree.proofs.steps.Steps.enter.Goals as goal

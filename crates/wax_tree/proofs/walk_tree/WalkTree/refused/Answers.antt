@@ -20,15 +20,15 @@ returns-clause-lacks g c =
       has_ended = false;
     } in
     rw c.new-2.ensures.fields (record {
-  comes = λ p told. lacks refl told;
-  idle = inl refl;
-  listings = refl;
-  names = refl;
-  none_listed = ap length c.new-2.ensures.levels;
-  opens_above = refl;
-  fails = record {
-    at = none_reached made refl c.new-2.ensures.levels;
-    below = none_entered made refl;
-  };
-  directory = refl;
-})
+      comes = λ p told. lacks refl told;
+      idle = inl refl;
+      listings = refl;
+      names = refl;
+      none_listed = ap length c.new-2.ensures.levels;
+      opens_above = refl;
+      fails = record {
+        at = none_reached made refl c.new-2.ensures.levels;
+        below = none_entered made refl;
+      };
+      directory = refl;
+    })
