@@ -12,7 +12,7 @@ use Rattle.wax_directory.specs.Shown.{Shown}
 use Rattle.wax_facts.specs.Prefix.{Prefix}
 use Rattle.wax_exclude.specs.Prefix.{HasEmptyName, PrefixSplitsInto}
 use Rattle.wax_query.specs.Ranges.{Bounds}
-use Rattle.wax_tree.specs.Begins.{BeginsAt, HasEnded, LacksMemory}
+use Rattle.wax_tree.specs.Begins.{BeginsAt, FailsFrom, FailsNowhere, HasEnded, LacksMemory}
 use Rattle.wax_tree.specs.declared.steps.DepthRange.{DepthRange}
 use Rattle.wax_tree.specs.Plain.{count_shown}
 use Rattle.wax_walk.specs.Ruled.{ruled_view}
@@ -149,6 +149,21 @@ module _ {D C : Type 0} {t : Tree Span} (law : Law D C) (d : D) (start : List �
     listings = listings;
   }
 
+-- ---- where errors come
+
+module _ {D : Type 0} (inner : WalkView D) (rule : Facts → Mark) (least : ℕ) (start : List ℕ) (way : List (List ℕ)) where
+  fails_seen : {view : WalkView D} → FailsFrom least start way inner → IsSeenAs (ruled_view inner rule false) view → FailsFrom least start way view
+  fails_seen h seen = record {
+    at = λ path depth i. h.at path depth (seen.may_fail path depth i);
+    below = λ path depth i. h.below path depth (seen.may_fail_below path depth i).1;
+  }
+
+  fails_nowhere : {view : WalkView D} → FailsNowhere inner → IsSeenAs (ruled_view inner rule false) view → FailsFrom least start way view
+  fails_nowhere h seen = record {
+    at = λ path depth i. absurd (h.at path depth (seen.may_fail path depth i));
+    below = λ path depth i. h.below path depth (seen.may_fail_below path depth i).1;
+  }
+
 -- ---- what is to come
 
 module _ {D C : Type 0} (g : GlobView) (law : Law D C) (d : D) (start : List ℕ) (asked : DepthRange) (depth : Bounds) (depth_is : Depth g.tree depth)
@@ -197,6 +212,12 @@ module _ {D C : Type 0} (g : GlobView) (law : Law D C) (d : D) (start : List ℕ
     beyond_along a = λ s listed h told less.
         seen.to_come (pending nothing nothing listed 0) (refl, (pending nothing nothing listed 0, (begins_so a).beyond s listed h told (subst (λ ns. walked.max < length ns) (same_names a) less), refl))
 
+    fails_along : (a : Beginning g.tree) → FailsFrom asked.min (origin_from start a.rooted a.names).path a.names view
+    fails_along a =
+        let at = origin_from start a.rooted a.names in
+        fails_seen inner (leading_mark (component_test {A = Span}) cs decides g) asked.min at.path a.names
+        (subst (λ ns. FailsFrom asked.min at.path ns inner) (sym (same_names a)) (begins_so a).fails) seen
+
     listings_along : view.listings_left ≡ asked.budget + 1
     listings_along = seen.listings_left ∙ b.listings ∙ ap (λ r. r.budget + 1) same_range
 
@@ -219,6 +240,7 @@ module _ {D C : Type 0} (g : GlobView) (law : Law D C) (d : D) (start : List ℕ
       listings = listings_along;
       names = λ a. subst (λ ns. view.names_left ≤ length ns) (sym (same_names a))
           (subst (λ n. n ≤ length (origin_from start a.rooted a.names).names) (sym seen.names_left) (begins_so a).names);
+      fails = fails_along;
       none_listed = seen.listings_open ∙ b.none_listed;
       opens_above = seen.opens_above ∙ b.opens_above ∙ ap (λ r. r.max) same_range;
       directory = seen.directory ∙ b.directory;
@@ -239,6 +261,7 @@ module _ {D C : Type 0} (g : GlobView) (law : Law D C) (d : D) (start : List ℕ
     comes = λ a plain. absurd (a.names_are.unbroken (known a.taken a.prefix a.prefix_is));
     listings = seen.listings_left ∙ b.listings ∙ ap (λ r. r.budget + 1) same;
     names = λ a. omega (arith, seen.names_left, b.names);
+    fails = λ a. fails_nowhere inner rule asked.min (origin_from start a.rooted a.names).path a.names b.fails seen;
     none_listed = seen.listings_open ∙ b.none_listed;
     opens_above = seen.opens_above ∙ b.opens_above ∙ ap (λ r. r.max) same;
     directory = seen.directory ∙ b.directory;
@@ -261,6 +284,7 @@ module _ {D C : Type 0} (g : GlobView) (law : Law D C) (d : D) (start : List ℕ
         listings_refused;
     listings = listings_refused;
     names = λ a. omega (arith, seen.names_left, b.names);
+    fails = λ a. fails_nowhere inner (leading_mark (component_test {A = Span}) cs decides g) asked.min (origin_from start a.rooted a.names).path a.names b.fails seen;
     none_listed = seen.listings_open ∙ b.none_listed;
     opens_above = seen.opens_above ∙ b.opens_above ∙ ap (λ r. r.max) same;
     directory = seen.directory ∙ b.directory;

@@ -10,7 +10,8 @@ use Rattle.wax_walk.specs.View.{CountsFaults, WalkView}
 use Rattle.wax_token.specs.Reads.{Span}
 use Rattle.wax_token.specs.Syntax.{Tree}
 use Rattle.wax_tree.specs.declared.steps.DepthRange.{DepthRange}
-use Rattle.wax.specs.GlobWalks.{BeginsGlob, GaveWithin, KeepsNothing, none_kept, memory_alone}
+use Rattle.wax_tree.proofs.Reaching.{errors_passed}
+use Rattle.wax.specs.GlobWalks.{BeginsGlob, FailsAtFolders, GaveWithin, KeepsNothing, none_kept, memory_alone}
 
 pub gave_within : {D C : Type 0} (t : Tree Span) (law : Law D C) (d : D) (start : List ℕ) (asked : DepthRange)
     (v : WalkView D) (rule : Facts → Mark) (new : D) (xs : List Given) → BeginsGlob t law d start asked v
@@ -37,6 +38,19 @@ gave_within t law d start asked v rule new xs begins few took = let over = begin
     subst (λ m. count_to_open m xs ≤ took.opened) begins.opens_above (omega (arith, took.opens n)),
   );
 }
+
+pub fails_at_folders : {D C : Type 0} (t : Tree Span) (law : Law D C) (d : D) (start : List ℕ)
+    (asked : DepthRange) (v : WalkView D) (rule : Facts → Mark) (new : D) (xs : List Given)
+    → BeginsGlob t law d start asked v → Took law (ruled_view v rule false) new xs
+    → FailsAtFolders t start asked xs
+fails_at_folders t law d start asked v rule new xs begins took b = (
+  begins.depth,
+  begins.depth_is,
+  errors_passed asked.min _ b.names _ (ruled_view v rule false) xs (record {
+    at = (begins.fails b).at;
+    below = λ path depth i. (begins.fails b).below path depth i.1;
+  }) begins.opens_above took.of_folders,
+)
 
 front_empty : (xs ys : List Given) → xs ++ ys ≡ [] → xs ≡ []
 front_empty [] ys e = refl

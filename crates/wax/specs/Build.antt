@@ -1,5 +1,5 @@
 -- How the building of a glob ends.
-use Rattle.std.specs.Prelude.{◌≡◌, ◌↔◌, ℕ, false, List, [], codes, Result, Ok, Err}
+use Rattle.std.specs.Prelude.{◌≡◌, ◌↔◌, ℕ, List, [], codes, Result, Ok, Err}
 use Rattle.wax.specs.GlobView.{GlobView, IsMeant, empty_tree}
 use Rattle.wax_error.specs.declared.build_error.BuildError.{BuildError}
 pub use Rattle.wax_exclude.specs.TreeRequests.{tree_alone}

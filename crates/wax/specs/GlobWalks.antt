@@ -12,11 +12,11 @@ use Rattle.wax_exclude.specs.Prefix.{HasEmptyName, PrefixSplitsInto}
 use Rattle.wax_query.specs.Ranges.{Bounds}
 use Rattle.wax_token.specs.Reads.{Span}
 use Rattle.wax_token.specs.Syntax.{Tree}
-use Rattle.wax_tree.specs.Begins.{Origin}
+use Rattle.wax_tree.specs.Begins.{FailsFrom, IsPassed, Origin}
 use Rattle.wax_tree.specs.declared.steps.DepthRange.{DepthRange}
 use Rattle.wax_tree.specs.Plain.{count_shown}
 use Rattle.wax_tree.specs.Prefix.{ArePlain}
-use Rattle.wax_walk.specs.Collected.{EndsThere, NoneLast, all_fault_counts, count_to_open}
+use Rattle.wax_walk.specs.Collected.{AreOfFolders, EndsThere, NoneLast, all_fault_counts, count_to_open}
 use Rattle.wax_walk.specs.declared.error.FaultKind.TheVariants.{Budget, NotAFolder}
 use Rattle.wax_walk.specs.Forest.{pending, nothing}
 use Rattle.wax_walk.specs.Given.{Given, fault, no_memory}
@@ -107,6 +107,8 @@ pub record BeginsGlob {D C : Type 0} (t : Tree Span) (law : Law D C) (d : D) (st
       → ComesWanted law d (request_of start asked depth b []) view
   pub listings : view.listings_left ≡ asked.budget + 1
   pub names : (b : Beginning t) → view.names_left ≤ length b.names
+  -- errors may come only of what the walk passes on the way of the prefix
+  pub fails : (b : Beginning t) → FailsFrom asked.min (origin_from start b.rooted b.names).path b.names view
   -- no listing is open, and folders are opened above the lesser greatest depth
   pub none_listed : view.listings_open ≡ 0
   pub opens_above : view.opens_above ≡ (within asked depth).max
@@ -134,6 +136,13 @@ pub record GaveWithin {D C : Type 0} (t : Tree Span) (law : Law D C) (d : D) (as
   pub ended_is : NoneLast xs → (law.tally new).ended ≡ grown opened (law.tally d).ended
   pub opens : NoneLast xs → (depth : Bounds) × Depth t depth
       × (count_to_open (up_to asked.max depth.1) xs ≤ opened)
+
+-- Whatever the directory shows: each error among these items is of a folder that was given before it, or of
+-- what the walk passes on the way of the prefix.
+abbrev pub FailsAtFolders : Tree Span → List ℕ → DepthRange → List Given → Type 0
+FailsAtFolders t start asked xs = (b : Beginning t) → (depth : Bounds) × Depth t depth
+    × AreOfFolders (IsPassed asked.min (origin_from start b.rooted b.names).path b.names)
+    (up_to asked.max depth.1) xs
 
 -- nothing was kept, and no folder was listed; or it was only told that memory was refused
 pub data KeepsNothing (tells : List (List ℕ) → Type 0) (listed : List (List ℕ)) (ys : List Given) : Type 0

@@ -10,9 +10,11 @@ use Rattle.wax_token.specs.Syntax.{Tree}
 -- directory, a walk yields exactly the entries of the whole tree (`whole_at`) that are in range (`is_in`),
 -- that the glob matches, and that no pattern and no ignore list excludes (`is_wanted`), in order
 -- (`wanted_entries`). So no folder that was skipped hides a match. `KeepsWanted` states how such a walk ends,
--- and `MayList` which folders it may list. For a chain of calls, `ComesWanted` states what is to come, and
+-- and `MayList` which folders it may list. `FeedsWanted` states its whole feed as a list, with what is
+-- excluded and each error in its place. For a chain of calls, `ComesWanted` states what is to come, and
 -- `ComesExcluding` what a filter removes from it.
 pub use Rattle.wax_directory.specs.Law.{Law}
+pub use Rattle.wax_exclude.specs.Feeds.{FeedsWanted}
 pub use Rattle.wax_exclude.specs.Ignored.{is_ignored}
 pub use Rattle.wax_exclude.specs.GlobRequests.{ComesExcluding, ComesWanted, KeepsWanted}
 pub use Rattle.wax_exclude.specs.Walked.{MayList, wanted_entries}

@@ -21,6 +21,7 @@ pub use Rattle.wax_directory.specs.declared.directory.FileType.TheVariants.{File
 pub use Rattle.wax_exclude.specs.Candidates.{candidate_of}
 pub use Rattle.wax_exclude.specs.Covers.{covers_test}
 pub use Rattle.wax_exclude.specs.Excluded.{excluded_mark}
+pub use Rattle.wax_exclude.specs.Feeds.{FeedsByRequest, FeedsByRules, FeedsWanted, feed_of, request_feed}
 pub use Rattle.wax_exclude.specs.Law.{GivesWanted, ListsFew, WantsNothing}
 pub use Rattle.wax_exclude.specs.Leading.{leading_of}
 pub use Rattle.wax_exclude.specs.Marks.{covered_mark, glob_mark, not_mark, of_candidate}
@@ -47,31 +48,34 @@ pub use Rattle.wax_glob_walk.specs.Laws.{leading_cancelling}
 pub use Rattle.wax_glob_walk.specs.Matches.{IsMatchedEntry, glob_facts, match_of, tree_entry}
 pub use Rattle.wax_glob_walk.specs.Programs.{any_mark, leading_mark}
 pub use Rattle.wax_glob_walk.specs.declared.entry.GlobEntry.{GlobEntry}
-pub use Rattle.wax_tree.specs.Begins.{Begins, BeginsAt, EndsWithin, HasEnded, LacksMemory, Origin}
-pub use Rattle.wax_tree.specs.Begins.{behavior_range}
+pub use Rattle.wax_tree.specs.Begins.{Begins, BeginsAt, EndsWithin, FailsFrom, FailsNowhere, HasEnded}
+pub use Rattle.wax_tree.specs.Begins.{IsPassed, LacksMemory, Origin, behavior_range}
 pub use Rattle.wax_tree.specs.Depths.{HasBounds, IsUnbounded, IsUnboundedAt, behavior_at, greatest, least}
 pub use Rattle.wax_tree.specs.Depths.{no_bound, raised}
 pub use Rattle.wax_tree.specs.Lacking.{gives_at_most, tree_view}
 pub use Rattle.wax_tree.specs.Prefix.{ArePlain, from_last}
 pub use Rattle.wax_tree.specs.WalkLaws.{cancel_law, comes_told}
-pub use Rattle.wax_tree.specs.Whole.{EntriesAre, plain_pending, whole}
+pub use Rattle.wax_tree.specs.Whole.{EntriesAre, plain_pending, whole, whole_along, yielded}
 pub use Rattle.wax_tree.specs.declared.behavior.DepthBehavior.TheVariants.{MinMax, Unbounded}
 pub use Rattle.wax_tree.specs.declared.behavior.WalkBehavior.{WalkBehavior}
 pub use Rattle.wax_tree.specs.declared.steps.DepthRange.{DepthRange}
-pub use Rattle.wax_walk.specs.Collected.{GaveAll, IsCutShort, NoneLast, Took, count_to_open}
+pub use Rattle.wax_walk.specs.Collected.{AreOfFolders, GaveAll, HasFolder, IsCutShort, NoneLast, Took}
+pub use Rattle.wax_walk.specs.Collected.{count_to_open}
 pub use Rattle.wax_walk.specs.Entries.{answer_of, error_depth, error_kind, error_path, facts_of, given_of}
 pub use Rattle.wax_walk.specs.Entries.{given_outcome, kind_of_fault}
 pub use Rattle.wax_walk.specs.Forest.{Forest, Pending, filtered, filtered_pending, item, lists, nothing}
 pub use Rattle.wax_walk.specs.Forest.{preorder}
 pub use Rattle.wax_walk.specs.Given.{Facts, Given, Mark, alone, changed_by, combined_mark, cut_by, entry}
 pub use Rattle.wax_walk.specs.Given.{fault, is_kept, kept, no_memory, with_tree}
+pub use Rattle.wax_walk.specs.Left.{left_of}
 pub use Rattle.wax_walk.specs.Known.{KeepsKnown, KnownItem, KnownOutcome, StaysKnown}
 pub use Rattle.wax_walk.specs.Laws.{closure_cancelling, closure_telling, nothing_known, ruled_cancelling}
 pub use Rattle.wax_walk.specs.Laws.{ruled_telling}
 pub use Rattle.wax_walk.specs.Ruled.{ruled_view}
 pub use Rattle.wax_walk.specs.Said.{RuleStep, mark_of}
 pub use Rattle.wax_walk.specs.Says.{SaysByRule, closure_view}
-pub use Rattle.wax_walk.specs.View.{CancelStep, FeedStep, IsSeenAs, WalkView}
+pub use Rattle.wax_walk.specs.View.{CancelStep, FeedStep, IsErrorAt, IsFolderAt, IsSeenAs, MayFail, Places}
+pub use Rattle.wax_walk.specs.View.{WalkView}
 pub use Rattle.wax_walk.specs.declared.entry.TreeEntry.{TreeEntry}
 pub use Rattle.wax_walk.specs.declared.error.FaultKind.TheVariants.{Budget}
 pub use Rattle.wax_walk.specs.declared.error.WalkError.{WalkError}

@@ -15,7 +15,7 @@ use Rattle.wax_token.specs.Spelled.{LiteralsHaveNoSlash}
 use Rattle.wax_tree.specs.Begins.{Origin, scope_in}
 use Rattle.wax_tree.specs.declared.steps.DepthRange.{DepthRange}
 use Rattle.wax_tree.specs.Plain.{WalkScope, Location, plain_entry}
-use Rattle.wax_tree.specs.Prefix.{ArePlain, walk_from}
+use Rattle.wax_tree.specs.Prefix.{ArePlain, path_from, walk_from}
 use Rattle.wax_walk.specs.declared.error.FaultKind.{FaultKind}
 use Rattle.wax_walk.specs.declared.error.FaultKind.TheVariants.{NotFound, NotAFolder, Listing}
 use Rattle.wax_walk.specs.Forest.{Forest, nothing, item, preorder, listings}
@@ -28,7 +28,7 @@ use Rattle.wax_exclude.proofs.Whole.{at_whole}
 use Rattle.wax_exclude.specs.Candidates.{base, text_at}
 use Rattle.wax_exclude.specs.inner.Descents.{At, child_location}
 use Rattle.wax_exclude.specs.Premises.{BoundsNames, CanWalk, IsPlainShown, IsWellNamed}
-use Rattle.wax_exclude.specs.Walked.{path_from, MayList, origin_location, plain_walk, glob_walk, wanted_entries}
+use Rattle.wax_exclude.specs.Walked.{MayList, origin_location, plain_walk, glob_walk, wanted_entries}
 use Rattle.wax_exclude.specs.Wanted.{Wanted, none_excludes, is_wanted, is_kept_entry, stacked, rules_of}
 
 chars_same : (x y : List ℕ) → IsUtf8 x → IsUtf8 y → chars x ≡ chars y → x ≡ y

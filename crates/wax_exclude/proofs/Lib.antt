@@ -5,6 +5,7 @@ pub mod Costs
 pub mod Descending
 pub mod Empty
 pub mod Excluding
+pub mod Feeding
 pub mod Filters
 pub mod Headline
 pub mod Ignored

@@ -17,6 +17,7 @@ use Rattle.wax_walk.specs.Forest.{Forest, nothing, item, lists, listings, follow
 use Rattle.wax_walk.specs.Given.{Facts, Mark, kept, alone, with_tree, Given, entry, fault, combined_mark}
 use Rattle.wax_walk.specs.Given.{is_cut}
 use Rattle.wax_walk.specs.Given.{changed_by, cut_by}
+use Rattle.wax_tree.specs.Prefix.{path_from}
 use Rattle.wax_exclude.proofs.Filters.{filter_descends, below_said}
 use Rattle.wax_exclude.proofs.Names.{at_join, at_sees, names_chars}
 use Rattle.wax_exclude.proofs.Tests.{lead_tested}
@@ -25,7 +26,7 @@ use Rattle.wax_exclude.specs.inner.Descents.{said_of, At, child_location}
 use Rattle.wax_exclude.specs.Leading.{leading_of, lead_test}
 use Rattle.wax_exclude.specs.Marks.{led_mark, glob_mark}
 use Rattle.wax_exclude.specs.Premises.{ArePlainItems, IsPlainShown}
-use Rattle.wax_exclude.specs.Walked.{path_from, AreUncovered, MayList}
+use Rattle.wax_exclude.specs.Walked.{AreUncovered, MayList}
 use Rattle.wax_exclude.specs.Wanted.{Filter, Wanted, stacked, filter_mark, filter_rules, rules_of}
 
 -- no rule excludes the entry with everything below it

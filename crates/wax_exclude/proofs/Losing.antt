@@ -18,6 +18,7 @@ use Rattle.wax_walk.proofs.Collecting.{listings_append}
 use Rattle.wax_walk.proofs.Filtering.{filtered_append}
 use Rattle.wax_walk.specs.Forest.{Forest, nothing, item, lists, listings, followed_by, filtered}
 use Rattle.wax_walk.specs.Given.{Facts, Mark, with_tree, Given, fault, changed_by, cut_by}
+use Rattle.wax_tree.specs.Prefix.{path_from}
 use Rattle.wax_exclude.proofs.Descending.{covered}
 use Rattle.wax_exclude.proofs.Ignored.{below_tested}
 use Rattle.wax_exclude.proofs.Listing.{path_last}
@@ -28,7 +29,6 @@ use Rattle.wax_exclude.specs.Ignored.{Line, is_ignored, IgnoresBelow, below_test
 use Rattle.wax_exclude.specs.inner.Descents.{At, child_location}
 use Rattle.wax_exclude.specs.Marks.{of_candidate}
 use Rattle.wax_exclude.specs.Premises.{ArePlainItems, IsPlainShown}
-use Rattle.wax_exclude.specs.Walked.{path_from}
 use Rattle.wax_exclude.specs.Unignored.{ignore_rules, IsIgnoredBelow}
 use Rattle.wax_exclude.specs.Wanted.{stacked}
 

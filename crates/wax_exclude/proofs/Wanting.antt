@@ -9,12 +9,12 @@ use Rattle.wax_directory.specs.Shown.{Shown}
 use Rattle.wax_token.specs.Reads.{Span}
 use Rattle.wax_tree.specs.Plain.{count_shown}
 use Rattle.wax_walk.specs.Collected.{GaveAll, whole, lacks_memory, over_budget, Took, count_to_open}
-use Rattle.wax_walk.specs.Collected.{all_fault_counts}
+use Rattle.wax_walk.specs.Collected.{AreOfFolders, HasFolder, all_fault_counts}
 use Rattle.wax_walk.specs.declared.error.FaultKind.TheVariants.{Budget}
 use Rattle.wax_walk.specs.Forest.{Pending, Forest, nothing, pending, preorder, listings}
 use Rattle.wax_walk.specs.Given.{Facts, Mark, Given, fault, no_memory, is_kept}
 use Rattle.wax_walk.specs.Ruled.{ruled_view}
-use Rattle.wax_walk.specs.View.{WalkView, CountsFaults, IsSeenAs}
+use Rattle.wax_walk.specs.View.{WalkView, CountsFaults, IsSeenAs, MayFail}
 use Rattle.wax_exclude.proofs.KeptItems.{cut_kept, kept_entries}
 use Rattle.wax_exclude.specs.Law.{GivesWanted, ListsFew, WantsNothing}
 use Rattle.wax_exclude.specs.Marks.{glob_mark, of_candidate}
@@ -31,6 +31,16 @@ use Rattle.wax_exclude.proofs.StackingRequests.{stacked_more, filter_rules_more,
 -- ---- whatever comes
 
 module _ {D C : Type 0} (law : Law D C) where
+  folders_seen : (this that : WalkView D) (xs : List Given) → IsSeenAs this that
+      → AreOfFolders (MayFail that) that.opens_above xs → AreOfFolders (MayFail this) this.opens_above xs
+  folders_seen this that xs seen are before after x path depth e i = elim (are before after x path depth e i) [
+    | inl may ↦ inl (elim may [
+      | inl f ↦ inl (seen.may_fail path depth f)
+      | inr f ↦ inr (seen.may_fail_below path depth f)
+    ])
+    | inr has ↦ inr (subst (λ most. HasFolder most path depth before) seen.opens_above has)
+  ]
+
   -- what a walk yielded, by a view that this one implies
   took_seen : (this that : WalkView D) (new : D) (xs : List Given) → IsSeenAs this that
       → Took law that new xs → Took law this new xs
@@ -45,6 +55,7 @@ module _ {D C : Type 0} (law : Law D C) where
     spent = λ path depth h. took.spent path depth h ∙ seen.listings_left;
     misplaced = λ path depth h. subst (λ n. 0 < n) seen.names_left (took.misplaced path depth h);
     ends_there = took.ends_there;
+    of_folders = folders_seen this that xs seen took.of_folders;
     unasked = λ i. took.unasked (seen.idles i) ∙ seen.directory;
     opened = took.opened;
     opened_is = took.opened_is ∙ ap (λ v. grown took.opened (law.tally v).opened) seen.directory;

@@ -13,6 +13,7 @@ pub mod TreeRequests
 pub mod Prefix
 pub mod Premises
 pub mod GlobRequests
+pub mod Feeds
 pub mod Unignored
 pub mod Walked
 pub mod Wanted

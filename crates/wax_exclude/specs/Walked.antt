@@ -2,11 +2,11 @@
 use Rattle.std.specs.Prelude.{◌≡◌, ℕ, ◌<◌, ◌≤◌, ◌++◌, ◌&&◌, Bool, ⊤, List, [], ◌∷◌, filter, length, map}
 use Rattle.std.specs.Prelude.{chars}
 use Rattle.wax_alternatives.specs.Alternatives.{alternatives}
-use Rattle.wax_directory.specs.Shown.{Shown, join}
+use Rattle.wax_directory.specs.Shown.{Shown}
 use Rattle.wax_tree.specs.Begins.{Origin, scope_in}
 use Rattle.wax_tree.specs.declared.steps.DepthRange.{DepthRange}
 use Rattle.wax_tree.specs.Plain.{Location, plain_at}
-use Rattle.wax_tree.specs.Prefix.{ArePlain, walk_from}
+use Rattle.wax_tree.specs.Prefix.{ArePlain, path_from, walk_from}
 use Rattle.wax_tree.specs.Whole.{is_in, whole_at}
 use Rattle.wax_walk.specs.Forest.{Forest, nothing}
 use Rattle.wax_walk.specs.Given.{Given}
@@ -39,11 +39,6 @@ abbrev pub glob_walk : {A : Type 0} → Wanted A → DepthRange → Origin → S
 glob_walk w range origin s = stacked (rules_of w) (origin_walk range origin s)
 
 -- ---- folders that may be listed
-
--- the path that these names lead to from another one
-abbrev pub path_from : List ℕ → List (List ℕ) → List ℕ
-path_from path [] = path
-path_from path (x ∷ names) = path_from (join path x) names
 
 -- the filter excludes the candidate with everything that can be below it: an alternative of the pattern
 -- covers it, or a line that ignores covers it and no line after that re-includes

@@ -3,6 +3,7 @@
 ghost use Rattle.std.specs.Prelude.{List, ℕ};
 ghost use Rattle.wax_token.specs.Reads.{Span};
 ghost use Rattle.wax_tree.specs.Begins.{Begins};
+ghost use Rattle.wax_exclude.specs.Feeds.{FeedsByRequest, FeedsByRules};
 ghost use Rattle.wax_exclude.specs.Law.{GivesWanted, ListsFew, WantsNothing};
 ghost use Rattle.wax_exclude.specs.TreeRequests.{tree_request, WantsUnfiltered};
 ghost use Rattle.wax_exclude.specs.GlobRequests.{ComesWanted, CanBegin, request_excluding};
@@ -20,6 +21,14 @@ pub fn law_of_walks()
     ensures gives { GivesWanted }
     ensures lists { ListsFew }
     ensures nothing { WantsNothing }
+{}
+
+/// States that the feed of a walk with any filters, as a list, is what they leave of the list of the
+/// whole walk, errors included: all items but those below an earlier entry that they exclude with
+/// everything below it.
+pub fn law_of_feeds()
+    ensures rules { FeedsByRules }
+    ensures requests { FeedsByRequest }
 {}
 
 /// States that a plain walk filtered by an ignore list keeps exactly the entries that the list

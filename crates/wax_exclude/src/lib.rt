@@ -14,7 +14,7 @@ mod wanted;
 
 pub use exclusions::{Exclusion, is_everything};
 pub use kept::collect_unignored;
-pub use law::{law_of_ignoring, law_of_plain_walks, law_of_walks};
+pub use law::{law_of_feeds, law_of_ignoring, law_of_plain_walks, law_of_walks};
 pub use lines::{WrittenLine, written_lines};
 pub use parts::{LeadingComponent, leading};
 pub use prefixes::{PrefixNames, prefix_names_of};

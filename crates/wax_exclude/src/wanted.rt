@@ -4,6 +4,7 @@ ghost use Rattle.std.specs.Prelude.{◌≡◌, ◌+◌, ◌≤◌, All, List, �
 ghost use Rattle.std.specs.Iterator.{IsFinite, size};
 ghost use Rattle.wax_directory.specs.Shown.{Shown};
 ghost use Rattle.wax_glob_walk.specs.Programs.{any_mark};
+ghost use Rattle.wax_exclude.specs.Feeds.{FeedsWanted};
 ghost use Rattle.wax_exclude.specs.GlobRequests.{AreRulesOf, ComesWanted, KeepsWanted, CanBegin, GlobRequest};
 ghost use Rattle.wax_exclude.specs.GlobRequests.{request_excluding, request_pending};
 ghost use Rattle.wax_token.specs.Reads.{Span};
@@ -51,6 +52,11 @@ where
         → I.Directory.law.shows d request.origin.path s → I.Directory.law.tells d listed
         → KeepsWanted (I.Directory.law.tells r.1) request s listed
         (map (given_outcome I.Entry.facts I.Residue.facts) r.0.items)) }
+    ensures feed { IfOk result (λ r. (d : I.Directory) (request : GlobRequest) (s : Shown)
+        (listed : List (List ℕ)) → ComesWanted I.Directory.law d request (I.view walk)
+        → I.Directory.law.shows d request.origin.path s → I.Directory.law.tells d listed
+        → (xs : List Given) × FeedsWanted request s xs
+        × (map (given_outcome I.Entry.facts I.Residue.facts) r.0.items ≡ filter is_kept xs)) }
 {
     law_of_walks();
     collect_items(alloc, walk)
@@ -58,6 +64,8 @@ where
 
 /// Collects the feed of a walk: returns all items in order, kept or excluded, and the directory.
 /// Errors are among the kept items. What is `known` of the walk's entries holds for each kept one.
+/// If the walk is that of a glob with filters, over a lawful directory, the feed is what these
+/// leave of the list of the whole walk, or a prefix of that if memory or the budget runs out.
 ///
 /// # Errors
 ///
@@ -80,6 +88,10 @@ where
         → I.Directory.law.shows d request.origin.path s → I.Directory.law.tells d listed
         → GaveAll (I.Directory.law.tells r.1) (request.walked.budget + 1) (request_pending request s listed)
         (map (given_of I.Entry.facts I.Residue.facts) r.0.items)) }
+    ensures feed { IfOk result (λ r. (d : I.Directory) (request : GlobRequest) (s : Shown)
+        (listed : List (List ℕ)) → ComesWanted I.Directory.law d request (I.view walk)
+        → I.Directory.law.shows d request.origin.path s → I.Directory.law.tells d listed
+        → FeedsWanted request s (map (given_of I.Entry.facts I.Residue.facts) r.0.items)) }
 {
     collect_feed_items(alloc, walk)
 }

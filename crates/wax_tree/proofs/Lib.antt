@@ -9,3 +9,5 @@ pub mod Making
 pub mod Kept
 pub mod InRange
 pub mod Listing
+pub mod Reaching
+pub mod Levelled

@@ -12,7 +12,7 @@ use Rattle.wax_tree.specs.declared.steps.StartPoint.{StartPoint}
 use Rattle.wax_tree.specs.declared.steps.DepthRange.{DepthRange}
 use Rattle.wax_tree.specs.declared.steps.Steps.{Steps}
 use Rattle.wax_tree.specs.declared.walk_tree.WalkTree.{WalkTree}
-use Rattle.wax_tree.specs.Begins.{Begins, BeginsAt, HasEnded, LacksMemory, Origin}
+use Rattle.wax_tree.specs.Begins.{Begins, BeginsAt, FailsFrom, FailsNowhere, HasEnded, LacksMemory, Origin}
 use Rattle.wax_tree.specs.Lacking.{MayCome, lacks, goes, tree_view}
 use Rattle.wax_tree.specs.Plain.{Location, count_shown}
 use Rattle.wax_tree.specs.Prefix.{ArePlain, from_last, walk_from}
@@ -131,10 +131,19 @@ module _ {D C : Type 0} (law : Law D C) where
     ];
     names = f.names;
     misplaced = f.misplaced;
+    places = record { item = f.places.item; later = f.places.later; below = f.places.below };
   } where
     known : (p : Pending Given) → MayCome law w p → GivesOrStops (tree_view law w) p r (tree_view law v)
     known p (lacks t told) = absurd (let b : true ≡ false = sym t ∙ e in (cc))
     known p (goes t c) = goes_on w v p r d (f.gives p c)
+
+-- a walk of which no error can come
+fails_as_from : {D : Type 0} (least : ℕ) (start : List ℕ) (way : List (List ℕ)) (view : WalkView D)
+    → FailsNowhere view → FailsFrom least start way view
+fails_as_from least start way view h = record {
+  at = λ path depth i. absurd (h.at path depth i);
+  below = h.below;
+}
 
 -- where there are more names than the greatest depth, nothing comes
 pub ended_at : {D C : Type 0} (law : Law D C) (d : D) (origin : Origin) (range : DepthRange) (view : WalkView D)
@@ -148,6 +157,7 @@ ended_at law d origin range view h l = record {
   names = omega (arith, h.names);
   none_listed = h.none_listed;
   opens_above = h.opens_above;
+  fails = fails_as_from range.min origin.path origin.names view h.fails;
   directory = h.directory;
 }
 
@@ -163,6 +173,7 @@ lacking_at law d origin range view h l = record {
   names = omega (arith, h.names);
   none_listed = h.none_listed;
   opens_above = h.opens_above;
+  fails = fails_as_from range.min origin.path origin.names view h.fails;
   directory = h.directory;
 }
 
@@ -189,5 +200,6 @@ begins_plain law d start names range view e b =
       names = omega (arith, b.names, long);
       none_listed = b.none_listed;
       opens_above = b.opens_above;
+      fails = subst (λ v. FailsFrom range.min start v view) e b.fails;
       directory = b.directory;
     }

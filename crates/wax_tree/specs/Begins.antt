@@ -1,5 +1,6 @@
 -- What is to come of a walk when it begins.
-use Rattle.std.specs.Prelude.{◌≡◌, ◌<◌, ◌≤◌, length, ◌+◌, ◌-◌, ◌^◌, ℕ, List, Option, Some, None}
+use Rattle.std.specs.Prelude.{◌≡◌, ◌<◌, ◌≤◌, ◌⊎◌, length, ◌+◌, ◌-◌, ◌^◌, ℕ, List, [], ◌++◌, Option, Some}
+use Rattle.std.specs.Prelude.{None}
 use Rattle.std.specs.Iterator.{Count, IsFinite, size}
 use Rattle.wax_tree.specs.declared.behavior.WalkBehavior.{WalkBehavior}
 use Rattle.wax_tree.specs.Depths.{least, greatest}
@@ -7,7 +8,7 @@ use Rattle.wax_directory.specs.Law.{Law}
 use Rattle.wax_directory.specs.Shown.{Shown}
 use Rattle.wax_tree.specs.declared.steps.DepthRange.{DepthRange}
 use Rattle.wax_tree.specs.Plain.{WalkScope, plain, count_shown}
-use Rattle.wax_tree.specs.Prefix.{ArePlain, walk_from}
+use Rattle.wax_tree.specs.Prefix.{ArePlain, path_from, walk_from}
 use Rattle.wax_walk.specs.Forest.{Pending, pending, nothing}
 use Rattle.wax_walk.specs.Given.{Given}
 use Rattle.wax_walk.specs.View.{WalkView}
@@ -28,6 +29,30 @@ pub record EndsWithin (most : ℕ) (left : Count) : Type 0 where
   pub ends : IsFinite left
   pub gives : size left ≤ most
 
+-- a path, with its depth, that a walk passes without yielding it: the start or a place on the way along these
+-- names, or what lies below that by plain names at less than the least depth
+pub record IsPassed (least : ℕ) (start : List ℕ) (way : List (List ℕ)) (path : List ℕ) (depth : ℕ) : Type 0
+  where
+    pub front : List (List ℕ)
+    pub rest : List (List ℕ)
+    pub names : List (List ℕ)
+    pub on_way : way ≡ front ++ rest
+    pub plain : ArePlain names
+    pub path_is : path ≡ path_from start (front ++ names)
+    pub depth_is : depth ≡ length (front ++ names)
+    pub unseen : (names ≡ []) ⊎ (depth < least)
+
+-- errors may come only of what a walk passes from a start along these names
+pub record FailsFrom {D : Type 0} (least : ℕ) (start : List ℕ) (way : List (List ℕ)) (view : WalkView D) :
+    Type 0 where
+  pub at : (path : List ℕ) (depth : ℕ) → view.may_fail path depth → IsPassed least start way path depth
+  pub below : (path : List ℕ) (depth : ℕ) → ¬ (view.may_fail_below path depth)
+
+-- no error can come of any path
+pub record FailsNowhere {D : Type 0} (view : WalkView D) : Type 0 where
+  pub at : (path : List ℕ) (depth : ℕ) → ¬ (view.may_fail path depth)
+  pub below : (path : List ℕ) (depth : ℕ) → ¬ (view.may_fail_below path depth)
+
 -- the view of a walk over the directory d: what is shown at the start is to come, of the depths in range, and
 -- there are no names to follow
 pub record Begins {D C : Type 0} (law : Law D C) (d : D) (start : List ℕ) (range : DepthRange)
@@ -38,6 +63,7 @@ pub record Begins {D C : Type 0} (law : Law D C) (d : D) (start : List ℕ) (ran
   pub names : view.names_left ≡ 0
   pub none_listed : view.listings_open ≡ 0
   pub opens_above : view.opens_above ≡ range.max
+  pub fails : FailsFrom range.min start [] view
   pub directory : view.directory ≡ d
 
 -- where a walk begins: the start that its entries report, the path that it queries first, the candidate of
@@ -68,6 +94,7 @@ pub record BeginsAt {D C : Type 0} (law : Law D C) (d : D) (origin : Origin) (ra
   pub names : view.names_left ≤ length origin.names
   pub none_listed : view.listings_open ≡ 0
   pub opens_above : view.opens_above ≡ range.max
+  pub fails : FailsFrom range.min origin.path origin.names view
   pub directory : view.directory ≡ d
 
 -- the view of a walk over the directory d that has ended, yields nothing, and leaves the directory as it is
@@ -81,6 +108,7 @@ pub record HasEnded {D C : Type 0} (law : Law D C) (d : D) (range : DepthRange)
   pub names : view.names_left ≡ 0
   pub none_listed : view.listings_open ≡ 0
   pub opens_above : view.opens_above ≡ range.max
+  pub fails : FailsNowhere view
   pub directory : view.directory ≡ d
 
 -- the view of a walk over the directory d for whose start allocation failed: anything may be to come, since
@@ -93,4 +121,5 @@ pub record LacksMemory {D C : Type 0} (law : Law D C) (d : D) (range : DepthRang
   pub names : view.names_left ≡ 0
   pub none_listed : view.listings_open ≡ 0
   pub opens_above : view.opens_above ≡ range.max
+  pub fails : FailsNowhere view
   pub directory : view.directory ≡ d

@@ -5,6 +5,7 @@ use Rattle.wax_walk.specs.Forest.{Pending}
 use Rattle.wax_walk.specs.Given.{Given}
 use Rattle.wax_walk.specs.View.{WalkView}
 use Rattle.wax_tree.specs.declared.walk_tree.WalkTree.{WalkTree}
+use Rattle.wax_tree.specs.Reaching.{MayFailAt, MayFailBelow}
 use Rattle.wax_tree.specs.Stepping.{items_left}
 use Rattle.wax_tree.specs.Walking.{PlainToCome, HasStopped, allowance, names_left, open_lists, entering}
 
@@ -23,6 +24,8 @@ tree_view law w = record {
   listings_open = open_lists w.steps;
   to_open = entering w.steps;
   opens_above = w.steps.max;
+  may_fail = MayFailAt w.steps;
+  may_fail_below = MayFailBelow w.steps;
   has_ended = (w.lacks_memory ≡ false) × HasStopped w.steps;
   is_idle = (w.lacks_memory ≡ true) ⊎ HasStopped w.steps;
 }

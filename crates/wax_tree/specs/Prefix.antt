@@ -13,6 +13,11 @@ abbrev pub ArePlain : List (List ℕ) → Type 0
 ArePlain [] = ⊤
 ArePlain (x ∷ names) = IsPlain x × ArePlain names
 
+-- the path that these names lead to from another one
+abbrev pub path_from : List ℕ → List (List ℕ) → List ℕ
+path_from path [] = path
+path_from path (x ∷ names) = path_from (join path x) names
+
 -- names that are stored in reverse, the first one last
 abbrev pub from_last : List (String Global) → List (List ℕ)
 from_last [] = []

@@ -1,6 +1,6 @@
 -- What a step of a walk does.
-use Rattle.std.specs.Prelude.{◌≡◌, ℕ, ◌+◌, ◌*◌, ◌<◌, ◌≤◌, true, false, cond, length, Option, Some, None}
-use Rattle.std.specs.Prelude.{string_bytes, ⊤}
+use Rattle.std.specs.Prelude.{◌≡◌, ℕ, ◌+◌, ◌-◌, ◌*◌, ◌<◌, ◌≤◌, ◌⊎◌, true, false, cond, length, Option, Some}
+use Rattle.std.specs.Prelude.{None, List, string_bytes, ⊤}
 use Rattle.std.specs.List.{Contains}
 use Rattle.wax_directory.specs.Counting.{no_counts}
 use Rattle.wax_directory.specs.declared.tally.Tally.{Tally}
@@ -9,13 +9,14 @@ use Rattle.wax_directory.specs.Shown.{Items, ShowsIn}
 use Rattle.wax_walk.specs.Forest.{Forest, nothing, followed_by, Pending, pending}
 use Rattle.wax_walk.specs.Given.{Given}
 use Rattle.wax_walk.specs.View.{WalkView, Accounts, GivesOrStops, IsLast, IsMisplaced, IsToOpen, Takes}
-use Rattle.wax_walk.specs.View.{fault_counts}
+use Rattle.wax_walk.specs.View.{fault_counts, IsErrorAt, IsFolderAt}
 use Rattle.wax_tree.specs.declared.steps.OpenFolder.{OpenFolder}
 use Rattle.wax_tree.specs.declared.steps.StartPoint.{StartPoint}
 use Rattle.wax_tree.specs.declared.steps.Step.{Step}
 use Rattle.wax_tree.specs.declared.steps.Step.TheVariants.{Gives, GoesOn, Ends}
 use Rattle.wax_tree.specs.declared.steps.Steps.{Steps}
 use Rattle.wax_tree.specs.Plain.{WalkScope, Location, items_forest}
+use Rattle.wax_tree.specs.Reaching.{FolderSet, LeadsUnseen, OfEntered, ReachesFrom, no_folders}
 use Rattle.wax_tree.specs.Walking.{if_some, step_given, cursors_of, Rest, HasStopped, allowance, names_left}
 use Rattle.wax_tree.specs.Walking.{AtRest, PlainToCome, steps_view, MovesOn, open_lists, entering}
 
@@ -61,6 +62,17 @@ module _ {D C : Type 0} where
     pub to_open : old.has_ended ≡ false → old.first ≡ None → IsToOpen old.max (step_given r)
         → entering new ≡ 1
     pub above : new.max ≡ old.max
+
+  -- if the item is an error, it is of one of these folders; after it, errors may come of these and, below it,
+  -- of the item itself if it is a folder, or of one of `entered` if there is no item
+  pub record StepPlaces (from entered : FolderSet) (most : ℕ) (r : Step) (new : Steps D C) : Type 0 where
+    pub item : (path : List ℕ) (depth : ℕ) → IsErrorAt path depth (step_given r)
+        → (inside : ℕ) × (depth ≡ inside - 1) × from path inside
+    pub later : (path : List ℕ) (inside : ℕ) → new.has_ended ≡ false → ReachesFrom new no_folders path inside
+        → from path inside
+    pub below : (path : List ℕ) (inside : ℕ) → new.has_ended ≡ false
+        → LeadsUnseen new.min (OfEntered new.entered) path inside
+        → IsFolderAt most path (inside - 1) (step_given r) ⊎ ((step_given r ≡ None) × entered path inside)
 
   -- at most how many items the walk has yet to yield
   abbrev pub items_left : Steps D C → ℕ

@@ -61,6 +61,8 @@ module _ {D C : Type 0} where
       names_left = refl;
       listings_open = refl;
       opens_above = refl;
+      may_fail = λ path depth i. i;
+      none_below = λ path depth i. i.3.begins;
       ends = λ e. (e.0, stopped_still s.steps e.1);
       idles = λ i. elim i [ inl failed ↦ inl failed | inr e ↦ inr (stopped_still s.steps e) ];
     }

@@ -20,6 +20,7 @@ use Rattle.wax_tree.specs.declared.steps.Step.TheVariants.{Gives}
 use Rattle.wax_tree.specs.declared.steps.Steps.{Steps}
 use Rattle.wax_tree.specs.Plain.{WalkScope, Location, count, count_shown, items_forest, unlisted}
 use Rattle.wax_tree.specs.Prefix.{ArePlain, from_last, walk_from}
+use Rattle.wax_tree.specs.Reaching.{MayFailAt, MayFailBelow}
 
 abbrev pub if_some : {A : Type 0} → Option A → ℕ → ℕ
 if_some None n = 0
@@ -189,6 +190,8 @@ module _ {D C : Type 0} (law : Law D C) where
     listings_open = open_lists w;
     to_open = entering w;
     opens_above = w.max;
+    may_fail = MayFailAt w;
+    may_fail_below = MayFailBelow w;
     has_ended = HasStopped w;
     is_idle = HasStopped w;
   }

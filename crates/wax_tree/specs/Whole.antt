@@ -1,16 +1,17 @@
 -- The whole plain walk, of all depths, and what a walk of some depths yields of it.
-use Rattle.std.specs.Prelude.{◌≡◌, ℕ, ◌-◌, ◌<◌, Bool, false, ◌&&◌, not, nat_lt, filter, List}
+use Rattle.std.specs.Prelude.{◌≡◌, ℕ, ◌+◌, ◌-◌, ◌<◌, Bool, false, ◌&&◌, not, nat_lt, filter, List}
 use Rattle.std.specs.Prelude.{[], ◌∷◌, ◌++◌}
 use Rattle.wax_directory.specs.declared.directory.FileType.{FileType}
 use Rattle.wax_directory.specs.declared.directory.FileType.TheVariants.{Folder}
 use Rattle.wax_directory.specs.Shown.{Items, end, leaf, folder, sealed, misnamed, unread, not_text, Shown}
-use Rattle.wax_directory.specs.Shown.{a_leaf, a_folder, a_sealed, missing, failing, leaf_kind, join}
+use Rattle.wax_directory.specs.Shown.{a_leaf, a_folder, a_sealed, missing, failing, leaf_kind, join, child_in}
 use Rattle.wax_tree.specs.declared.steps.DepthRange.{DepthRange}
 use Rattle.wax_tree.specs.Begins.{scope_in}
 use Rattle.wax_tree.specs.Plain.{Location, start_location, item_location, one_deeper, count_shown, plain}
 use Rattle.wax_walk.specs.Collected.{IsCutShort}
-use Rattle.wax_walk.specs.declared.error.FaultKind.TheVariants.{NotFound, Listing, BadName, NotText, Budget}
-use Rattle.wax_walk.specs.Forest.{Pending, pending, nothing, preorder}
+use Rattle.wax_walk.specs.declared.error.FaultKind.TheVariants.{NotFound, NotAFolder, Listing, BadName}
+use Rattle.wax_walk.specs.declared.error.FaultKind.TheVariants.{NotText, Budget}
+use Rattle.wax_walk.specs.Forest.{Pending, pending, nothing}
 use Rattle.wax_walk.specs.Given.{Given, entry, fault, no_memory, kept}
 
 -- what is to come of a plain walk from a start where s is shown
@@ -53,17 +54,37 @@ module _ (root : List ℕ) where
 abbrev pub whole : List ℕ → Shown → List Given
 whole start s = whole_at start (start_location start) s
 
+-- the whole walk along names, from the last of them on; or one error, if they don't lead there
+abbrev pub whole_along : List ℕ → Location → Shown → List (List ℕ) → List Given
+whole_along root at s [] = whole_at root at s
+whole_along root at (a_folder l) (x ∷ names) =
+    whole_along root (one_deeper (item_location at x)) (child_in x l) names
+whole_along root at a_sealed (x ∷ names) = fault Listing (join at.path x) (at.depth + 1) ∷ []
+whole_along root at (a_leaf link) (x ∷ names) = fault NotAFolder at.path at.depth ∷ []
+whole_along root at missing (x ∷ names) = fault NotFound at.path at.depth ∷ []
+whole_along root at failing (x ∷ names) = fault Listing at.path at.depth ∷ []
+
 -- an entry whose depth is in range
 abbrev pub is_in : DepthRange → Given → Bool
 is_in range (entry m f) = not (nat_lt f.depth range.min) && not (nat_lt range.max f.depth)
 is_in range x = false
 
--- the entries in range are those of the whole walk; or the items are a prefix of the plain walk and then one
--- error, because allocation failed or the budget was reached
+-- an entry in range, or an error of a folder above the greatest depth
+abbrev pub is_yielded : DepthRange → Given → Bool
+is_yielded range (entry m f) = is_in range (entry m f)
+is_yielded range (fault kind path depth) = nat_lt depth range.max
+is_yielded range no_memory = false
+
+-- what a walk of these depths yields of a whole one; an error that comes first, since nothing could be looked
+-- up, is yielded at any depth
+abbrev pub yielded : DepthRange → List Given → List Given
+yielded range (fault kind path depth ∷ xs) = fault kind path depth ∷ filter (is_yielded range) xs
+yielded range xs = filter (is_yielded range) xs
+
+-- the items are what these depths leave of the whole walk; or a prefix of that and then one error, because
+-- allocation failed or the budget was reached
 pub data EntriesAre (range : DepthRange) (start : List ℕ) (s : Shown) (xs : List Given) : Type 0 where
-  all_in_range : filter (is_in range) xs ≡ filter (is_in range) (whole start s) → EntriesAre range start s xs
-  lacks_memory : IsCutShort (preorder (plain (scope_in range start) s)) no_memory xs
-      → EntriesAre range start s xs
+  all_in_range : xs ≡ yielded range (whole start s) → EntriesAre range start s xs
+  lacks_memory : IsCutShort (yielded range (whole start s)) no_memory xs → EntriesAre range start s xs
   over_budget : (path : List ℕ) (depth : ℕ) → range.budget < count_shown s
-      → IsCutShort (preorder (plain (scope_in range start) s)) (fault Budget path depth) xs
-      → EntriesAre range start s xs
+      → IsCutShort (yielded range (whole start s)) (fault Budget path depth) xs → EntriesAre range start s xs

@@ -1,11 +1,12 @@
 //! The plain walk as a list.
 
-ghost use Rattle.std.specs.Prelude.{◌+◌, List, ℕ, IfOk, map, ⊤};
+ghost use Rattle.std.specs.Prelude.{◌≡◌, ◌+◌, List, [], ℕ, IfOk, filter, map, ⊤};
 ghost use Rattle.wax_directory.specs.Shown.{Shown};
-ghost use Rattle.wax_tree.specs.Begins.{behavior_range};
+ghost use Rattle.wax_tree.specs.Begins.{IsPassed, behavior_range};
 ghost use Rattle.wax_tree.specs.Whole.{plain_pending, EntriesAre};
-ghost use Rattle.wax_walk.specs.Collected.{GaveAll};
+ghost use Rattle.wax_walk.specs.Collected.{AreOfFolders, GaveAll};
 ghost use Rattle.wax_walk.specs.Entries.{given_outcome};
+ghost use Rattle.wax_walk.specs.Given.{Given, is_kept};
 
 use crate::behavior::WalkBehavior;
 use crate::path_ext::walk_from;
@@ -20,7 +21,8 @@ use wax_walk::{Entry, TreeEntry, WalkError, collect};
 /// Over a lawful directory, the entries are exactly those of the tree that it shows at the start,
 /// at the depths of `behavior`, with the errors of the folders that are listed. If memory or the
 /// budget runs out, the list is a prefix of that and then one error: 17 for memory, or 16 if the
-/// folders together hold more items than the budget.
+/// folders together hold more items than the budget. Over any directory, each error is of a folder
+/// that was yielded before it, of the start, or of a folder above the least depth.
 ///
 /// # Errors
 ///
@@ -44,6 +46,10 @@ pub fn entries<D: Directory>(
         → GaveAll (D.law.tells r.1) (behavior.budget + 1)
         (plain_pending (behavior_range behavior) start.now s listed)
         (map (given_outcome ⟦<TreeEntry as Entry>⟧.facts ⟦<TreeEntry as Entry>⟧.facts) r.0.items)) }
+    ensures errors { IfOk result (λ r. (xs : List Given)
+        × AreOfFolders (IsPassed (behavior_range behavior).min start.now []) (behavior_range behavior).max xs
+        × (map (given_outcome ⟦<TreeEntry as Entry>⟧.facts ⟦<TreeEntry as Entry>⟧.facts) r.0.items
+        ≡ filter is_kept xs)) }
 {
     collect(alloc, walk_from(alloc, directory, start, behavior))
 }

@@ -15,7 +15,9 @@ ghost use Rattle.wax_tree.specs.inner.Heads.{first_item_forest, own_count};
 ghost use Rattle.wax_tree.specs.Plain.{Location, entry_forest, below_forest, count, count_shown};
 ghost use Rattle.wax_tree.specs.Prefix.{ArePlain, from_last, walk_from};
 ghost use Rattle.wax_tree.specs.Stepping.{UsesAnswer, nothing_asked, IncreasesBy, IncreasesByNames};
-ghost use Rattle.wax_tree.specs.Stepping.{KeepsLists, Remembers};
+ghost use Rattle.wax_tree.specs.Reaching.{IsOf, LeadsUnseen, MayReach, OfEntered, OnWay, OneFolder};
+ghost use Rattle.wax_tree.specs.Reaching.{ReachesFrom, no_folders};
+ghost use Rattle.wax_tree.specs.Stepping.{KeepsLists, Remembers, StepPlaces};
 ghost use Rattle.wax_tree.specs.Stepping.{WeaklyDecreases, Decreases, StepIs, Continues, IsPopped};
 ghost use Rattle.wax_tree.specs.Stepping.{listing_pending, StepAnswers, IsStep, items_left};
 ghost use Rattle.wax_tree.specs.Walking.{HasKind, IsFolder, EnteredShows, PlainToCome, entered_forest};
@@ -209,6 +211,8 @@ impl<D: Directory> Steps<D> {
             self.new.entered (below_forest (scope_of self.old) at s) n) }
         ensures remembered { IfOk result (λ _. (kind ≡ FileType.Folder) → depth < self.old.max
             → if_some self.new.entered 1 ≡ 1) }
+        ensures folder { (self.old.entered ≡ None) → (p : List ℕ) (n : ℕ) → OfEntered self.new.entered p n
+            → OneFolder path.now (depth + 1) p n × (kind ≡ FileType.Folder) × (depth < self.old.max) }
     {
         if kind == FileType::Folder && depth < self.max {
             let path = String::from_str(self.alloc, path)?;
@@ -227,6 +231,10 @@ impl<D: Directory> Steps<D> {
         ensures uses_answer { UsesAnswer (nothing_asked (names_left self.old)) self.old result self.new }
         ensures lists { KeepsLists (open_lists self.old) result self.new }
         ensures remembers { Remembers self.old result self.new }
+        ensures places { (self.old.entered ≡ None) → StepPlaces (ReachesFrom self.old no_folders)
+            (λ p n. (depth < self.old.min)
+            × LeadsUnseen self.old.min (OneFolder (string_bytes path) (depth + 1)) p n)
+            self.old.max result self.new }
         ensures continues { (s : Shown) → D.law.shows self.old.directory (string_bytes path) s
             → HasKind s kind
             → let at : Location = record {
@@ -261,6 +269,8 @@ impl<D: Directory> Steps<D> {
         }) self.old result self.new }
         ensures lists { KeepsLists (open_lists self.old) result self.new }
         ensures remembers { Remembers self.old result self.new }
+        ensures places { (self.old.entered ≡ None) → StepPlaces (ReachesFrom self.old (OnWay place))
+            (ReachesFrom self.old (OnWay place)) self.old.max result self.new }
         ensures continues { (s : Shown) → D.law.shows self.old.directory (string_bytes place.path) s
             → HasKind s kind
             → let names = from_last place.names.items in
@@ -306,6 +316,8 @@ impl<D: Directory> Steps<D> {
           to_open = 0;
         }) result self.new }
         ensures remembers { Remembers self.old result self.new }
+        ensures places { (self.old.entered ≡ None) → StepPlaces (ReachesFrom self.old (OnWay place))
+            (ReachesFrom self.old (OnWay place)) self.old.max result self.new }
         ensures continues { (s : Shown) → D.law.shows self.old.directory (string_bytes place.path) s
             → let names = from_last place.names.items in
             ArePlain names → place.depth + length place.names.items ≤ 2 ^ 64 - 1
@@ -336,6 +348,8 @@ impl<D: Directory> Steps<D> {
         ensures answers { (self.old.has_ended ≡ false)
             → StepAnswers D.law (record (steps_view D.law self.old) { to_open = 1 }) result self.new }
         ensures remembers { Remembers self.old result self.new }
+        ensures places { (self.old.entered ≡ None) → StepPlaces (ReachesFrom self.old (IsOf folder))
+            (ReachesFrom self.old (IsOf folder)) self.old.max result self.new }
         ensures continues { (s : Shown) → D.law.shows self.old.directory (string_bytes folder.path) s
             → IsFolder s
             → let entered = entered_forest (scope_of self.old) (folder_location folder) s in
@@ -362,6 +376,9 @@ impl<D: Directory> Steps<D> {
             self.old result self.new }
         ensures lists { KeepsLists (open_lists self.old) result self.new }
         ensures remembers { Remembers self.old result self.new }
+        ensures places { (self.old.entered ≡ None) → (at : Location) (x : ListItem) → IsFound at x found
+            → at.depth ≡ depth → StepPlaces (ReachesFrom self.old (OneFolder at.path depth))
+            (ReachesFrom self.old (OneFolder at.path depth)) self.old.max result self.new }
         ensures continues { (at : Location) (x : ListItem) (l : Items) → IsFound at x found → at.depth ≡ depth
             → Some (listed_of x) ≡ first_item l → ShowsIn (D.law.shows self.old.directory) at.path l
             → Continues D.law self.old (first_item_forest (scope_of self.old) at l) (own_count l) result
@@ -385,6 +402,8 @@ impl<D: Directory> Steps<D> {
         ensures kept { (self.old.has_ended ≡ false)
             → KeepsLists (open_lists self.old + 1) result self.new }
         ensures remembers { Remembers self.old result self.new }
+        ensures places { (self.old.entered ≡ None) → StepPlaces (ReachesFrom self.old (IsOf folder))
+            (ReachesFrom self.old (IsOf folder)) self.old.max result self.new }
         ensures lists { (l : Items) (rest : Rest) (items : ℕ) → Some (listed_of item) ≡ first_item l
             → IsPopped D.law self.old (record { folder = folder; cursor = cursor }) (rest_of l) rest
             → ShowsIn (D.law.shows self.old.directory) (string_bytes folder.path) l
@@ -417,6 +436,8 @@ impl<D: Directory> Steps<D> {
               to_open = 0;
             }) result self.new }
         ensures remembers { Remembers self.old result self.new }
+        ensures places { (self.old.entered ≡ None) → StepPlaces (ReachesFrom self.old (IsOf level.folder))
+            (ReachesFrom self.old (IsOf level.folder)) self.old.max result self.new }
         ensures lists { (l : Items) (rest : Rest) (items : ℕ) → IsPopped D.law self.old level l rest
             → rest.count + count l ≤ items
             → let p = listing_pending (scope_of self.old) (folder_location level.folder) l rest items in
@@ -436,6 +457,7 @@ impl<D: Directory> Steps<D> {
     // remembered while there is a place to begin at; clearing `entered` says so to the prover.
     fn step(&mut self) -> Step
         ensures is_step { IsStep D.law self.old result self.new }
+        ensures places { StepPlaces (MayReach self.old) (MayReach self.old) self.old.max result self.new }
         ensures step { (p : Pending Given) → PlainToCome D.law self.old p
             → StepIs D.law self.old p result self.new }
         ensures measure { Decreases self.old result self.new }

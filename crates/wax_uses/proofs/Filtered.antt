@@ -5,7 +5,7 @@ use Rattle.wax.specs.GlobView.{GlobView}
 use Rattle.wax.specs.GlobWalks.{BeginsGlob, request_of}
 use Rattle.wax.specs.Language.{Span}
 use Rattle.wax.specs.Queries.{Bounds, Depth}
-use Rattle.wax.specs.Walks.{behavior_at, behavior_range, ComesExcluding, ComesWanted, Filter, Given, gives, goes}
+use Rattle.wax.specs.Walks.{behavior_at, behavior_range, ComesExcluding, Filter, Given, gives, goes}
 use Rattle.wax.specs.Walks.{KeepsWanted, lacks_memory, Law, CanBegin, over_budget, tree_request, Shown, GlobRequest}
 use Rattle.wax.specs.Walks.{request_excluding, Unbounded, WalkView, WantsUnfiltered}
 use Rattle.wax_uses.specs.Excluding.{AreEntriesLeft, AreEntriesWanted, IsCutOff, IsKnownFrom, KeepsFiltered}

@@ -1,5 +1,5 @@
 -- What a call counts, takes and ends, call by call.
-use Rattle.std.proofs.Common.{◌≡◌, ℕ, ◌+◌, ◌<◌, ◌≤◌, true, refl, sym, subst, ◌∙◌, arith, inl, inr}
+use Rattle.std.proofs.Common.{◌≡◌, ℕ, ◌+◌, ◌<◌, ◌≤◌, true, false, refl, sym, subst, ◌∙◌, arith, inl, inr, List}
 use Rattle.std.specs.Prelude.{Option, Some, None, ◌⊎◌}
 use Rattle.wax_directory.specs.Counting.{no_counts, plus, grown}
 use Rattle.wax_directory.specs.Law.{Law}
@@ -9,7 +9,7 @@ use Rattle.wax_walk.specs.declared.error.FaultKind.TheVariants.{NotText, Budget}
 use Rattle.wax_walk.specs.Given.{Given, Mark, entry, fault, no_memory, with_mark, is_cut}
 use Rattle.wax_walk.specs.Given.{kept, alone, with_tree}
 use Rattle.wax_walk.specs.View.{WalkView, CountsFaults, fault_counts, IsLast, IsMisplaced, Takes, IsToOpen}
-use Rattle.wax_walk.specs.View.{GivesOrStops, Accounts, FeedStep}
+use Rattle.wax_walk.specs.View.{GivesOrStops, Accounts, FeedStep, IsErrorAt, IsFolderAt, MayFail, Places}
 use Rattle.wax_walk.specs.Forest.{Pending}
 
 -- so many items were taken before
@@ -99,6 +99,7 @@ pub record IsAsked {D : Type 0} (outer inner : WalkView D) : Type 0 where
   pub listings_open : outer.listings_open ≡ inner.listings_open
   pub to_open : outer.to_open ≡ inner.to_open
   pub opens_above : outer.opens_above ≡ inner.opens_above
+  pub may_fail : (path : List ℕ) (depth : ℕ) → MayFail inner path depth → MayFail outer path depth
   pub ended : outer.has_ended → inner.has_ended
   pub idle : outer.is_idle → inner.is_idle
 
@@ -108,6 +109,7 @@ pub record HasAnswered {D : Type 0} (outer inner : WalkView D) : Type 0 where
   pub names_left : outer.names_left ≡ inner.names_left
   pub listings_open : outer.listings_open ≡ inner.listings_open
   pub opens_above : outer.opens_above ≡ inner.opens_above
+  pub may_fail : (path : List ℕ) (depth : ℕ) → outer.may_fail path depth → inner.may_fail path depth
   pub ended : inner.has_ended → outer.has_ended
   pub idle : inner.is_idle → outer.is_idle
 
@@ -147,6 +149,37 @@ opened_uncut most (entry alone f) with_tree c i = cc
 opened_uncut most (entry with_tree f) m c i = cc
 opened_uncut most (fault kind path depth) m c i = cc
 opened_uncut most no_memory m c i = cc
+
+error_marked : (path : List ℕ) (depth : ℕ) (x : Given) (m : Mark) → IsErrorAt path depth (Some (with_mark x m))
+    → IsErrorAt path depth (Some x)
+error_marked path depth (entry k f) m i = absurd i
+error_marked path depth (fault kind p d) m i = i
+error_marked path depth no_memory m i = absurd i
+
+-- a folder stays one if a filter doesn't cancel below it
+pub folder_uncut : (most : ℕ) (path : List ℕ) (depth : ℕ) (x : Given) (m : Mark) → false ≡ is_cut x m
+    → IsFolderAt most path depth (Some x) → IsFolderAt most path depth (Some (with_mark x m))
+folder_uncut most path depth (entry kept f) kept c i = i
+folder_uncut most path depth (entry kept f) alone c i = i
+folder_uncut most path depth (entry kept f) with_tree c i = cc
+folder_uncut most path depth (entry alone f) kept c i = i
+folder_uncut most path depth (entry alone f) alone c i = i
+folder_uncut most path depth (entry alone f) with_tree c i = cc
+folder_uncut most path depth (entry with_tree f) m c i = i
+folder_uncut most path depth (fault kind p d) m c i = absurd i
+folder_uncut most path depth no_memory m c i = absurd i
+
+-- a filter moves no error
+places_marked : {D : Type 0} (v w outer new : WalkView D) (x : Given) (m : Mark) → Places v (Some x) w
+    → IsAsked outer v → HasAnswered new w
+    → ((path : List ℕ) (depth : ℕ) → new.may_fail_below path depth
+    → IsFolderAt outer.opens_above path depth (Some (with_mark x m)))
+    → Places outer (Some (with_mark x m)) new
+places_marked v w outer new x m f b a below = record {
+  item = λ path depth i. b.may_fail path depth (f.item path depth (error_marked path depth x m i));
+  later = λ path depth i. b.may_fail path depth (f.later path depth (a.may_fail path depth i));
+  below = below;
+}
 
 module _ {D C : Type 0} (law : Law D C) where
   pub accounts_moved : (v w outer new : WalkView D) (r : Option Given) → Accounts law v r w → IsAsked outer v
@@ -226,9 +259,10 @@ module _ {D C : Type 0} (law : Law D C) where
         (a.idle idles.0, a.directory ∙ (idles.1 ∙ sym b.directory))
 
     pub step_ends : FeedStep law v None w
+        → ((path : List ℕ) (depth : ℕ) → new.may_fail_below path depth → w.may_fail_below path depth)
         → ((p : Pending Given) → outer.to_come p → GivesOrStops outer p None new)
         → FeedStep law outer None new
-    step_ends f gives = record {
+    step_ends f below gives = record {
       gives = gives;
       accounts = accounts_moved v w outer new None f.accounts b a;
       at_end = λ e. a.ended (f.at_end e);
@@ -239,13 +273,20 @@ module _ {D C : Type 0} (law : Law D C) where
       idles = idles_moved None f;
       names = omega (arith, f.names, a.names_left, b.names_left);
       misplaced = λ i. absurd i;
+      places = record {
+        item = λ path depth i. absurd i;
+        later = λ path depth i. b.may_fail path depth (f.places.later path depth (a.may_fail path depth i));
+        below = λ path depth i. absurd (f.places.below path depth (below path depth i));
+      };
     }
 
     pub step_marked : (x y : Given) (m : Mark) → y ≡ with_mark x m → FeedStep law v (Some x) w
         → (IsToOpen outer.opens_above (Some y) → new.to_open ≡ 1)
+        → ((path : List ℕ) (depth : ℕ) → new.may_fail_below path depth
+        → IsFolderAt outer.opens_above path depth (Some (with_mark x m)))
         → ((p : Pending Given) → outer.to_come p → GivesOrStops outer p (Some y) new)
         → FeedStep law outer (Some y) new
-    step_marked x y m e f opens gives =
+    step_marked x y m e f opens below gives =
         let A : Given → Type 0 = λ z. Accounts law v (Some z) w in
         let M : Given → Type 0 = λ z. IsMisplaced (Some z) → 0 < v.names_left in
         record {
@@ -264,4 +305,6 @@ module _ {D C : Type 0} (law : Law D C) where
             subst M (sym e) (λ j. f.misplaced (misplaced_marked x m j)) i,
             b.names_left,
           );
+          places = subst (λ z. Places outer (Some z) new) (sym e)
+              (places_marked v w outer new x m f.places b a below);
         }

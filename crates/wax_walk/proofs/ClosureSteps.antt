@@ -10,6 +10,7 @@ use Rattle.wax_walk.specs.Given.{Given, Facts, Mark, mark_by, with_mark, is_cut}
 use Rattle.wax_walk.specs.Says.{SaysByRule, closure_view}
 use Rattle.wax_walk.specs.View.{WalkView, FeedStep, CancelStep, GivesOrStops, IsToOpen}
 use Rattle.wax_walk.proofs.Accounting.{IsAsked, HasAnswered, step_ends, step_marked, opened_marked, opened_uncut}
+use Rattle.wax_walk.proofs.Accounting.{folder_uncut}
 use Rattle.wax_walk.proofs.Filtering.{layer_ends, layer_cuts, layer_passes}
 
 module _ {D C F : Type 0} (law : Law D C) (step : F → Bor TreeEntry → Option EntryResidue → F → Type 0) where
@@ -21,6 +22,7 @@ module _ {D C F : Type 0} (law : Law D C) (step : F → Bor TreeEntry → Option
     listings_open = refl;
     to_open = refl;
     opens_above = refl;
+    may_fail = λ path depth i. i;
     ended = λ i. i;
     idle = λ i. i;
   }
@@ -32,6 +34,7 @@ module _ {D C F : Type 0} (law : Law D C) (step : F → Bor TreeEntry → Option
     names_left = refl;
     listings_open = refl;
     opens_above = refl;
+    may_fail = λ path depth i. i;
     ended = λ i. i;
     idle = λ i. i;
   }
@@ -44,13 +47,15 @@ module _ {D C F : Type 0} (law : Law D C) (step : F → Bor TreeEntry → Option
         names_left = k.names_left;
         listings_open = k.listings_open;
         opens_above = k.opens_above;
+        may_fail = k.may_fail;
         ended = k.ends;
         idle = k.idles;
       }
 
   pub closure_ends : (v w : WalkView D) (f : F) → FeedStep law v None w
       → FeedStep law (closure_view step v f) None (closure_view step w f)
-  closure_ends v w f h = step_ends law v w _ _ (asked v f) (answered w f) h (λ q s.
+  closure_ends v w f h = step_ends law v w _ _ (asked v f) (answered w f) h
+      (λ path depth i. i) (λ q s.
       let p = s.2 in
       subst (λ z. GivesOrStops (closure_view step v f) z None (closure_view step w f)) (sym p.2)
       (layer_ends s.0 v w (closure_view step v f) (closure_view step w f) p.0 refl refl
@@ -66,6 +71,7 @@ module _ {D C F : Type 0} (law : Law D C) (step : F → Bor TreeEntry → Option
   closure_passes v w f t x y m h says k n = step_marked law v w _ _ (asked v f) (answered w t) x y m k h
       (λ i. h.to_open (opened_marked v.opens_above x m
       (subst (λ z. IsToOpen v.opens_above (Some z)) k i)))
+      (λ path depth i. folder_uncut v.opens_above path depth x m n (h.places.below path depth i))
       (λ q s.
       let p = s.2 in
       let o = says s.0 s.1 in
@@ -78,7 +84,8 @@ module _ {D C F : Type 0} (law : Law D C) (step : F → Bor TreeEntry → Option
       → FeedStep law (closure_view step v f) (Some y) (closure_view step u t)
   closure_cuts v w u f t x y m h says k n c = step_marked law v w _ _ (asked v f) (answered_cut w u t c) x y m
       k h (λ i. absurd (opened_uncut v.opens_above x m n
-      (subst (λ z. IsToOpen v.opens_above (Some z)) k i))) (λ q s.
+      (subst (λ z. IsToOpen v.opens_above (Some z)) k i)))
+      (λ path depth i. absurd (c.none_below path depth i)) (λ q s.
       let p = s.2 in
       let o = says s.0 s.1 in
       subst (λ z. GivesOrStops (closure_view step v f) z (Some y) (closure_view step u t)) (sym p.2)

@@ -5,6 +5,7 @@ use Rattle.std.specs.Prelude.{◌⊎◌, Option, Some, None, Result, Ok, Err, If
 use Rattle.std.specs.List.{Contains}
 use Rattle.std.proofs.lemmas.List.{map-append}
 use Rattle.std.proofs.lemmas.List.Elements.{filter-append, Contains-append_left, Contains-push_cases}
+use Rattle.std.proofs.lemmas.List.Elements.{Contains-push}
 use Rattle.wax_directory.specs.Counting.{grown, plus}
 use Rattle.wax_directory.specs.Law.{Law}
 use Rattle.wax_directory.specs.declared.tally.Tally.{Tally}
@@ -17,6 +18,7 @@ use Rattle.wax_walk.specs.declared.error.WalkError.{WalkError}
 use Rattle.wax_walk.specs.declared.error.WalkError.TheVariants.{Fault, Memory}
 use Rattle.wax_walk.specs.declared.error.FaultKind.TheVariants.{NotAFolder, Budget}
 use Rattle.wax_walk.specs.Collected.{IsCutShort, GaveAll, whole, Took, all_fault_counts, NoneLast, count_to_open}
+use Rattle.wax_walk.specs.Collected.{AreOfFolders, HasFolder}
 use Rattle.wax_walk.specs.Collected as all
 use Rattle.wax_walk.specs.Entries.{given_of, given_outcome, given_residue}
 use Rattle.wax_walk.specs.Forest.{Forest, nothing, item, lists, followed_by, Pending, pending, all_pending}
@@ -25,6 +27,7 @@ use Rattle.wax_walk.specs.Given.{Given, Facts, fault, no_memory, is_kept}
 use Rattle.wax_walk.specs.Known.{kept_of}
 use Rattle.wax_walk.specs.View.{WalkView, FeedStep, GivesOrStops, lacks_memory, over_budget, gives}
 use Rattle.wax_walk.specs.View.{CountsFaults, fault_counts, IsLast, IsMisplaced, Takes, IsToOpen, is_to_open}
+use Rattle.wax_walk.specs.View.{IsErrorAt, IsFolderAt, MayFail, Places}
 use Rattle.wax_walk.proofs.Accounting.{takes_within, takes_exactly, counts_faults_then, counts_then_none}
 use Rattle.wax_walk.proofs.Accounting.{counts_nothing, grown_then}
 
@@ -173,15 +176,15 @@ none_split (b ∷ before) after x e = cc
 -- the items with one more at the end, split at an item: the last one is that item, or comes after it
 snoc_split : {A : Type 0} (xs : List A) (x : A) (before after : List A) (y : A)
     → xs ++ x ∷ [] ≡ before ++ y ∷ after
-    → ((after ≡ []) × (x ≡ y)) ⊎ ((rest : List A) × (xs ≡ before ++ y ∷ rest))
-snoc_split [] x [] after y e = let t : after ≡ [] = cc in let h : x ≡ y = cc in inl (t, h)
+    → ((after ≡ []) × (x ≡ y) × (xs ≡ before)) ⊎ ((rest : List A) × (xs ≡ before ++ y ∷ rest))
+snoc_split [] x [] after y e = let t : after ≡ [] = cc in let h : x ≡ y = cc in inl (t, h, refl)
 snoc_split [] x (b ∷ before) after y e = let t : [] ≡ before ++ y ∷ after = cc in absurd (none_split before after y t)
 snoc_split (a ∷ xs) x [] after y e = let h : a ≡ y = cc in inr (xs, ap (λ v. v ∷ xs) h)
 snoc_split (a ∷ xs) x (b ∷ before) after y e =
     let t : xs ++ x ∷ [] ≡ before ++ y ∷ after = cc in
     let h : a ≡ b = cc in
     elim (snoc_split xs x before after y t) [
-      | inl i ↦ inl i
+      | inl i ↦ inl (i.0, i.1, λ k. h k ∷ i.2 k)
       | inr i ↦ inr (i.0, λ k. h k ∷ i.1 k)
     ]
 
@@ -213,6 +216,43 @@ one_opened : (b : Bool) (n : ℕ) → (b ≡ true → n ≡ 1) → cond b 1 0 �
 one_opened true n h = omega (arith, h refl)
 one_opened false n h = omega arith
 
+-- ---- where errors come
+
+-- errors may come only of folders that were yielded, or of one of the paths `first`
+abbrev pub MayFailAt : {D : Type 0} → (List ℕ → ℕ → Type 0) → ℕ → List Given → WalkView D → Type 0
+MayFailAt first most xs now = (path : List ℕ) (depth : ℕ) → MayFail now path depth
+    → first path depth ⊎ HasFolder most path depth xs
+
+folder_kept : (most : ℕ) (path : List ℕ) (depth : ℕ) (xs : List Given) (x : Given)
+    → HasFolder most path depth xs → HasFolder most path depth (xs ++ x ∷ [])
+folder_kept most path depth xs x h = (h.0, Contains-append_left xs (x ∷ []) h.0 h.1, h.2)
+
+of_folders_more : {D : Type 0} (first : List ℕ → ℕ → Type 0) (most : ℕ) (mid new : WalkView D)
+    (xs : List Given) (x : Given) → MayFailAt first most xs mid → Places mid (Some x) new
+    → AreOfFolders first most xs → AreOfFolders first most (xs ++ x ∷ [])
+of_folders_more first most mid new xs x may f are before after y path depth e i =
+    elim (snoc_split xs x before after y e) [
+      | inl l ↦
+          subst (λ v. first path depth ⊎ HasFolder most path depth v) l.2
+          (may path depth (f.item path depth (subst (λ v. IsErrorAt path depth (Some v)) (sym l.1) i)))
+      | inr r ↦ are before r.0 y path depth r.1 i
+    ]
+
+may_fail_more : {D : Type 0} (first : List ℕ → ℕ → Type 0) (most : ℕ) (mid new : WalkView D)
+    (xs : List Given) (x : Given) → mid.opens_above ≡ most → MayFailAt first most xs mid
+    → Places mid (Some x) new → MayFailAt first most (xs ++ x ∷ []) new
+may_fail_more first most mid new xs x same may f path depth i = elim i [
+  | inl l ↦ elim (may path depth (f.later path depth l)) [
+    | inl s ↦ inl s
+    | inr s ↦ inr (folder_kept most path depth xs x s)
+  ]
+  | inr b ↦ inr (
+    x,
+    Contains-push xs x,
+    subst (λ n. IsFolderAt n path depth (Some x)) same (f.below path depth b),
+  )
+]
+
 module _ {D C : Type 0} (law : Law D C) where
   -- these items were yielded, and `now` is the view of the walk; at most `less` more are to come, of `most`
   -- in all
@@ -230,6 +270,8 @@ module _ {D C : Type 0} (law : Law D C) where
     pub misplaced : (path : List ℕ) (depth : ℕ) → Contains xs (fault NotAFolder path depth)
         → 0 < walk.names_left
     pub ended : EndedThere now xs
+    pub of_folders : AreOfFolders (MayFail walk) walk.opens_above xs
+    pub may_fail : MayFailAt (MayFail walk) walk.opens_above xs now
     pub idle : walk.is_idle → now.is_idle × (now.directory ≡ walk.directory)
     pub opened : ℕ
     pub opened_is : (law.tally now.directory).opened ≡ grown opened (law.tally walk.directory).opened
@@ -299,6 +341,9 @@ module _ {D C : Type 0} (law : Law D C) where
           misplaced = λ path depth c. misplaced_more x path depth h.names f.misplaced (h.misplaced path depth)
               c;
           ended = ended_more mid new xs x n a.ends h.ended;
+          of_folders = of_folders_more (MayFail walk) walk.opens_above mid new xs x h.may_fail f.places
+              h.of_folders;
+          may_fail = may_fail_more (MayFail walk) walk.opens_above mid new xs x h.above h.may_fail f.places;
           idle = idles_more (Some x) h f;
           opened = h.opened + a.opened;
           opened_is = grown_then h.opened a.opened _ _ _ h.opened_is a.opened_is;
@@ -335,6 +380,7 @@ module _ {D C : Type 0} (law : Law D C) where
           spent = λ path depth c. omega (arith, h.spent path depth c, h.within, e);
           misplaced = h.misplaced;
           ends_there = λ before after x e last. (h.ended before after x e last).0;
+          of_folders = h.of_folders;
           unasked = λ i. (idles_more None h f i).1;
           opened = h.opened + a.opened;
           opened_is = grown_then h.opened a.opened _ _ _ h.opened_is a.opened_is;
@@ -357,6 +403,8 @@ module _ {D C : Type 0} (law : Law D C) where
     names = omega arith;
     misplaced = λ path depth c. absurd (contains_none (fault NotAFolder path depth) c);
     ended = λ before after x e last. absurd (none_split before after x e);
+    of_folders = λ before after x path depth e i. absurd (none_split before after x e);
+    may_fail = λ path depth i. inl i;
     idle = λ i. (i, refl);
     opened = 0;
     opened_is = omega arith;

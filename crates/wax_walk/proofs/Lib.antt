@@ -6,3 +6,4 @@ pub mod Knowing
 pub mod Wanted
 pub mod RuleSteps
 pub mod ClosureSteps
+pub mod Leaving

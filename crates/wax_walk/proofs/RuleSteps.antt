@@ -7,6 +7,7 @@ use Rattle.wax_walk.specs.Given.{Given, Facts, Mark, mark_by, with_mark, is_cut}
 use Rattle.wax_walk.specs.Ruled.{ruled_view}
 use Rattle.wax_walk.specs.View.{WalkView, FeedStep, CancelStep, GivesOrStops, IsToOpen}
 use Rattle.wax_walk.proofs.Accounting.{IsAsked, HasAnswered, step_ends, step_marked, opened_marked, opened_uncut}
+use Rattle.wax_walk.proofs.Accounting.{folder_uncut}
 use Rattle.wax_walk.proofs.Filtering.{layer_ends, layer_cuts, layer_passes}
 
 differ : (b : Bool) → b ≡ false → b ≡ true → ⊥
@@ -21,6 +22,7 @@ module _ {D C : Type 0} (law : Law D C) (rule : Facts → Mark) where
     listings_open = ap (λ c. cond c 0 v.listings_open) e;
     to_open = ap (λ c. cond c 0 v.to_open) e;
     opens_above = refl;
+    may_fail = λ path depth i. elim i [ inl f ↦ inl f | inr f ↦ inr (e, f) ];
     ended = λ h. elim h [ inl t ↦ absurd (differ b e t) | inr i ↦ i ];
     idle = λ h. elim h [ inl t ↦ absurd (differ b e t) | inr i ↦ i ];
   }
@@ -32,6 +34,7 @@ module _ {D C : Type 0} (law : Law D C) (rule : Facts → Mark) where
     names_left = refl;
     listings_open = ap (λ c. cond c 0 w.listings_open) e;
     opens_above = refl;
+    may_fail = λ path depth i. i;
     ended = inr;
     idle = inr;
   }
@@ -44,13 +47,15 @@ module _ {D C : Type 0} (law : Law D C) (rule : Facts → Mark) where
         names_left = k.names_left;
         listings_open = ap (λ c. cond c 0 u.listings_open) e ∙ k.listings_open;
         opens_above = k.opens_above;
+        may_fail = k.may_fail;
         ended = λ h. inr (k.ends h);
         idle = λ h. inr (k.idles h);
       }
 
   pub ruled_ends : (v w : WalkView D) (b : Bool) → b ≡ false → FeedStep law v None w
       → FeedStep law (ruled_view v rule b) None (ruled_view w rule b)
-  ruled_ends v w b e f = step_ends law v w _ _ (asked v b e) (answered w b e) f (λ q h.
+  ruled_ends v w b e f = step_ends law v w _ _ (asked v b e) (answered w b e) f
+      (λ path depth i. i.1) (λ q h.
       let p = h.1 in
       subst (λ z. GivesOrStops (ruled_view v rule b) z None (ruled_view w rule b)) (sym p.2)
       (layer_ends rule v w (ruled_view v rule b) (ruled_view w rule b) p.0 refl refl
@@ -61,7 +66,8 @@ module _ {D C : Type 0} (law : Law D C) (rule : Facts → Mark) where
       → FeedStep law (ruled_view v rule b) (Some y) (ruled_view w rule b)
   ruled_passes v w b e x y m f s k n = step_marked law v w _ _ (asked v b e) (answered w b e) x y m k f
       (λ i. ap (λ c. cond c 0 w.to_open) e ∙ f.to_open (opened_marked v.opens_above x m
-      (subst (λ z. IsToOpen v.opens_above (Some z)) k i))) (λ q h.
+      (subst (λ z. IsToOpen v.opens_above (Some z)) k i)))
+      (λ path depth i. folder_uncut v.opens_above path depth x m n (f.places.below path depth i.1)) (λ q h.
       let p = h.1 in
       subst (λ z. GivesOrStops (ruled_view v rule b) z (Some y) (ruled_view w rule b)) (sym p.2)
       (layer_passes rule v w (ruled_view v rule b) (ruled_view w rule b) p.0 x y m s k refl refl n
@@ -72,7 +78,8 @@ module _ {D C : Type 0} (law : Law D C) (rule : Facts → Mark) where
       → CancelStep w u → FeedStep law (ruled_view v rule b) (Some y) (ruled_view u rule b)
   ruled_cuts v w u b e x y m f s k n c = step_marked law v w _ _ (asked v b e) (answered_cut w u b e c) x y m k
       f (λ i. absurd (opened_uncut v.opens_above x m n
-      (subst (λ z. IsToOpen v.opens_above (Some z)) k i))) (λ q h.
+      (subst (λ z. IsToOpen v.opens_above (Some z)) k i)))
+      (λ path depth i. absurd (c.none_below path depth i.1)) (λ q h.
       let p = h.1 in
       subst (λ z. GivesOrStops (ruled_view v rule b) z (Some y) (ruled_view u rule b)) (sym p.2)
       (layer_cuts rule v w (ruled_view v rule b) (ruled_view u rule b) p.0 x y m s k refl c.listings_left n

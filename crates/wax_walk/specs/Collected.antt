@@ -1,5 +1,5 @@
 -- What a walk yielded, to its end.
-use Rattle.std.specs.Prelude.{◌≡◌, ℕ, ◌+◌, ◌<◌, ◌≤◌, cond, List, [], ◌∷◌, ◌++◌, Some, ⊤}
+use Rattle.std.specs.Prelude.{◌≡◌, ℕ, ◌+◌, ◌<◌, ◌≤◌, ◌⊎◌, cond, List, [], ◌∷◌, ◌++◌, Some, ⊤}
 use Rattle.std.specs.List.{Contains}
 use Rattle.wax_directory.specs.Counting.{no_counts, grown, plus}
 use Rattle.wax_directory.specs.Law.{Law}
@@ -7,7 +7,8 @@ use Rattle.wax_directory.specs.declared.tally.Tally.{Tally}
 use Rattle.wax_walk.specs.declared.error.FaultKind.TheVariants.{NotAFolder, Budget}
 use Rattle.wax_walk.specs.Forest.{Pending, all_pending, preorder, listings}
 use Rattle.wax_walk.specs.Given.{Given, fault, no_memory}
-use Rattle.wax_walk.specs.View.{WalkView, CountsFaults, IsLast, fault_counts, is_to_open}
+use Rattle.wax_walk.specs.View.{WalkView, CountsFaults, IsLast, IsErrorAt, IsFolderAt, MayFail, fault_counts}
+use Rattle.wax_walk.specs.View.{is_to_open}
 
 -- the items are a prefix of `all`, and then x
 abbrev pub IsCutShort : List Given → Given → List Given → Type 0
@@ -47,6 +48,17 @@ abbrev pub count_to_open : ℕ → List Given → ℕ
 count_to_open most [] = 0
 count_to_open most (x ∷ xs) = cond (is_to_open most x) 1 0 + count_to_open most xs
 
+-- a folder of this path and depth is among the items, above the depth `most` and not excluded with everything
+-- below it
+abbrev pub HasFolder : ℕ → List ℕ → ℕ → List Given → Type 0
+HasFolder most path depth xs = (x : Given) × Contains xs x × IsFolderAt most path depth (Some x)
+
+-- each error is of a folder that was yielded before it, or of one of the paths `first`
+abbrev pub AreOfFolders : (List ℕ → ℕ → Type 0) → ℕ → List Given → Type 0
+AreOfFolders first most xs = (before after : List Given) (x : Given) (path : List ℕ) (depth : ℕ)
+    → xs ≡ before ++ x ∷ after → IsErrorAt path depth (Some x)
+    → first path depth ⊎ HasFolder most path depth before
+
 -- a walk yielded these items to its end, and left the directory as `new`, unchanged if the walk was idle
 pub record Took {D C : Type 0} (law : Law D C) (walk : WalkView D) (new : D) (xs : List Given) : Type 0 where
   pub all : (p : Pending Given) → walk.to_come p → GaveAll (law.tells new) walk.listings_left p xs
@@ -58,6 +70,7 @@ pub record Took {D C : Type 0} (law : Law D C) (walk : WalkView D) (new : D) (xs
   pub misplaced : (path : List ℕ) (depth : ℕ) → Contains xs (fault NotAFolder path depth)
       → 0 < walk.names_left
   pub ends_there : EndsThere xs
+  pub of_folders : AreOfFolders (MayFail walk) walk.opens_above xs
   pub unasked : walk.is_idle → new ≡ walk.directory
   -- if no item ended the walk, each yielded folder was opened, and each listing was read to its end
   pub opened : ℕ

@@ -47,6 +47,8 @@ ruled_cancelling v w rules p q b c h e f = record {
   names_left = h.names_left;
   listings_open = ap (λ n. cond c 0 n) h.listings_open ∙ ap (λ i. cond i 0 v.listings_open) f;
   opens_above = h.opens_above;
+  may_fail = h.may_fail;
+  none_below = λ path depth i. h.none_below path depth i.1;
   ends = λ i. ended_either b c v.has_ended w.has_ended f h.ends i;
   idles = λ i. ended_either b c v.is_idle w.is_idle f h.idles i;
 }
@@ -71,6 +73,8 @@ module _ {F : Type 0} (step : F → Bor TreeEntry → Option EntryResidue → F 
     names_left = h.names_left;
     listings_open = h.listings_open;
     opens_above = h.opens_above;
+    may_fail = h.may_fail;
+    none_below = h.none_below;
     ends = h.ends;
     idles = h.idles;
   }

@@ -1,5 +1,6 @@
 pub mod Forest
 pub mod Given
+pub mod Left
 pub mod Entries
 pub mod Said
 pub mod View

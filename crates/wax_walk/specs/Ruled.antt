@@ -9,6 +9,7 @@ ruled_view inner rule lacked = record inner {
   to_come = λ q. (lacked ≡ false) × ToComeFiltered inner.to_come rule q;
   listings_open = cond lacked 0 inner.listings_open;
   to_open = cond lacked 0 inner.to_open;
+  may_fail_below = λ path depth. (lacked ≡ false) × inner.may_fail_below path depth;
   has_ended = (lacked ≡ true) ⊎ inner.has_ended;
   is_idle = (lacked ≡ true) ⊎ inner.is_idle;
 }

@@ -1,6 +1,6 @@
 -- What contracts see of a walk, and how a call of `feed` and cancelling change it.
 use Rattle.std.specs.Prelude.{◌≡◌, ℕ, ◌+◌, ◌<◌, ◌≤◌, ◌^◌, ◌-◌, min, List, Option, Some, None, ⊤}
-use Rattle.std.specs.Prelude.{Bool, true, false, ◌&&◌, nat_lt}
+use Rattle.std.specs.Prelude.{Bool, true, false, ◌&&◌, nat_lt, ◌⊎◌}
 use Rattle.wax_directory.specs.Counting.{no_counts, grown}
 use Rattle.wax_directory.specs.declared.directory.FileType.{FileType}
 use Rattle.wax_directory.specs.declared.directory.FileType.TheVariants as F
@@ -13,8 +13,9 @@ use Rattle.wax_walk.specs.Given.{Given, entry, fault, no_memory, kept, alone, wi
 
 -- what is to come; the directory; at most how many more items may be taken from listings; how many names are
 -- left to follow to where the walk begins; how many listings are open; 1 if the last yielded entry is a
--- folder that is still to be opened, else 0; the depth above which folders are opened; that the walk has
--- ended; and that it leaves the directory as it is
+-- folder that is still to be opened, else 0; the depth above which folders are opened; the paths, each with
+-- its depth, of which errors may come, and those of which errors may come unless what is below the last
+-- yielded item is cancelled; that the walk has ended; and that it leaves the directory as it is
 pub record WalkView (D : Type 0) : Type 1 where
   pub to_come : Pending Given → Type 0
   pub directory : D
@@ -23,6 +24,8 @@ pub record WalkView (D : Type 0) : Type 1 where
   pub listings_open : ℕ
   pub to_open : ℕ
   pub opens_above : ℕ
+  pub may_fail : List ℕ → ℕ → Type 0
+  pub may_fail_below : List ℕ → ℕ → Type 0
   pub has_ended : Type 0
   pub is_idle : Type 0
 
@@ -66,6 +69,18 @@ abbrev pub IsToOpen : ℕ → Option Given → Type 0
 IsToOpen most (Some x) = is_to_open most x ≡ true
 IsToOpen most None = ⊥
 
+-- the item is an error of this path and depth
+abbrev pub IsErrorAt : List ℕ → ℕ → Option Given → Type 0
+IsErrorAt path depth (Some (fault kind p d)) = (p ≡ path) × (d ≡ depth)
+IsErrorAt path depth r = ⊥
+
+-- the item is a folder of this path and depth, above the depth `most` and not excluded with everything below
+-- it
+abbrev pub IsFolderAt : ℕ → List ℕ → ℕ → Option Given → Type 0
+IsFolderAt most path depth (Some (entry m f)) = IsToOpen most (Some (entry m f)) × (f.path ≡ path)
+    × (f.depth ≡ depth)
+IsFolderAt most path depth r = ⊥
+
 -- of the allowed items, n were taken and `left` remain: all the others while the walk goes on, and no more
 -- than those after an error that ends it; if the budget is reached, all were taken and none remain
 abbrev pub Takes : Option Given → ℕ → ℕ → ℕ → Type 0
@@ -85,6 +100,18 @@ pub record CountsFaults (n old new : Tally) : Type 0 where
   pub bad_names : min (old.bad_names + n.bad_names) (2 ^ 64 - 1) ≤ new.bad_names
 
 module _ {D : Type 0} where
+  -- an error of this path and depth may come, if nothing is cancelled
+  abbrev pub MayFail : WalkView D → List ℕ → ℕ → Type 0
+  MayFail view path depth = view.may_fail path depth ⊎ view.may_fail_below path depth
+
+  -- the item r is an error only of a path of which errors could come. After it, errors may come of such paths
+  -- and, below r, of r itself if it is a folder
+  pub record Places (old : WalkView D) (r : Option Given) (new : WalkView D) : Type 0 where
+    pub item : (path : List ℕ) (depth : ℕ) → IsErrorAt path depth r → MayFail old path depth
+    pub later : (path : List ℕ) (depth : ℕ) → new.may_fail path depth → MayFail old path depth
+    pub below : (path : List ℕ) (depth : ℕ) → new.may_fail_below path depth
+        → IsFolderAt old.opens_above path depth r
+
   -- a call yields the first item of what was to come; or allocation failed; or the budget was reached in a
   -- listed folder, which happens only if no fewer items were to be taken than were allowed
   pub data GivesOrStops (old : WalkView D) (p : Pending Given) (r : Option Given) (new : WalkView D) : Type 0
@@ -126,6 +153,7 @@ module _ {D : Type 0} where
     pub idles : old.is_idle → new.is_idle × (new.directory ≡ old.directory)
     pub names : new.names_left ≤ old.names_left
     pub misplaced : IsMisplaced r → 0 < old.names_left
+    pub places : Places old r new
 
   -- what cancelling does: it drops what is below the last yielded item, and nothing else
   pub record CancelStep (old new : WalkView D) : Type 0 where
@@ -135,11 +163,13 @@ module _ {D : Type 0} where
     pub names_left : new.names_left ≡ old.names_left
     pub listings_open : new.listings_open ≡ old.listings_open
     pub opens_above : new.opens_above ≡ old.opens_above
+    pub may_fail : (path : List ℕ) (depth : ℕ) → new.may_fail path depth → old.may_fail path depth
+    pub none_below : (path : List ℕ) (depth : ℕ) → ¬ (new.may_fail_below path depth)
     pub ends : old.has_ended → new.has_ended
     pub idles : old.is_idle → new.is_idle
 
-  -- what is to come by `this` is to come by `that`; directory and counts are equal; an end by `that` is one
-  -- by `this`; and if `this` is idle, `that` is idle
+  -- what is to come by `this` is to come by `that`; directory and counts are equal; errors may come only of
+  -- the paths of `this`; an end by `that` is one by `this`; and if `this` is idle, `that` is idle
   pub record IsSeenAs (this that : WalkView D) : Type 0 where
     pub to_come : (p : Pending Given) → this.to_come p → that.to_come p
     pub directory : that.directory ≡ this.directory
@@ -148,5 +178,8 @@ module _ {D : Type 0} where
     pub listings_open : that.listings_open ≡ this.listings_open
     pub to_open : that.to_open ≡ this.to_open
     pub opens_above : that.opens_above ≡ this.opens_above
+    pub may_fail : (path : List ℕ) (depth : ℕ) → that.may_fail path depth → this.may_fail path depth
+    pub may_fail_below : (path : List ℕ) (depth : ℕ) → that.may_fail_below path depth
+        → this.may_fail_below path depth
     pub ends : that.has_ended → this.has_ended
     pub idles : this.is_idle → that.is_idle

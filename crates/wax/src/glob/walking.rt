@@ -210,7 +210,8 @@ impl<'t> Glob<'t> {
     ghost use Rattle.wax_walk.specs.Given.{Given, is_kept};
     ghost use Rattle.wax_walk.specs.Known.{KnownOutcome};
     ghost use Rattle.wax_exclude.specs.Wanted.{Filter};
-    ghost use Rattle.wax.specs.GlobWalks.{Beginning, GaveWithin, KeepsNothing, LeadsNowhere, request_of};
+    ghost use Rattle.wax.specs.GlobWalks.{Beginning, FailsAtFolders, GaveWithin, KeepsNothing};
+    ghost use Rattle.wax.specs.GlobWalks.{LeadsNowhere, request_of};
 
     /// Collects the walk of the glob from `start` without what the rules exclude: returns what is
     /// kept, in order, errors included, and the directory.
@@ -254,6 +255,7 @@ impl<'t> Glob<'t> {
         R: Exclude,
         ensures took { IfOk result (λ r. (xs : List Given)
             × GaveWithin self.now.tree D.law directory (behavior_range behavior) r.1 xs
+            × FailsAtFolders self.now.tree start.now (behavior_range behavior) xs
             × (map (given_outcome ⟦<GlobEntry as Entry>⟧.facts ⟦<TreeEntry as Entry>⟧.facts) r.0.items
             ≡ filter is_kept xs)) }
         ensures unmeant { IfOk result (λ r. (taken : ℕ) (prefix : List ℕ) (path : List ℕ) (s : Shown)

@@ -1,5 +1,6 @@
 use Rattle.std.proofs.Common.{subst, sym}
 use Rattle.wax_walk.proofs.Collecting.{map_ok}
+use Rattle.wax_exclude.proofs.Feeding.{feeds_wanted}
 use Rattle.wax_exclude.proofs.Shown.{well_named}
 use Rattle.wax_exclude.specs.GlobRequests.{KeepsWanted}
 use Rattle.wax_exclude.proofs.Wanting.{all_gave, keeps_wanted}
@@ -16,4 +17,15 @@ returns-clause-wanted g c =
     let all = all_gave law d request _ tells s listed h.0 comes shows told h.1.all in
     subst (KeepsWanted tells request s listed) (sym h.3)
     (keeps_wanted wanted.gives wanted.lists wanted.nothing tells request s listed h.0 can named all))
+    c.collect.result c.collect.ensures.took
+
+pub returns-clause-feed : goal.returns-clause-feed
+returns-clause-feed g c =
+    let law = g.I.Directory.Directory.law in
+    map_ok (λ r h d request s listed comes shows told. (
+      h.0,
+      feeds_wanted (law.tells r.1) request s listed h.0
+          (all_gave law d request _ (law.tells r.1) s listed h.0 comes shows told h.1.all),
+      h.3,
+    ))
     c.collect.result c.collect.ensures.took

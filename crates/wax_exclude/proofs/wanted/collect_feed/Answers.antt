@@ -1,4 +1,5 @@
 use Rattle.wax_walk.proofs.Collecting.{map_ok}
+use Rattle.wax_exclude.proofs.Feeding.{feeds_wanted}
 use Rattle.wax_exclude.proofs.Wanting.{all_gave}
 use Rattle.wax_exclude.proofs.wanted.collect_feed.Goals as goal
 
@@ -7,4 +8,12 @@ returns-clause-wanted g c =
     let law = g.I.Directory.Directory.law in
     map_ok (λ r h d request s listed comes shows told.
     all_gave law d request _ (law.tells r.1) s listed _ comes shows told h.all)
+    c.collect_feed.result c.collect_feed.ensures.took
+
+pub returns-clause-feed : goal.returns-clause-feed
+returns-clause-feed g c =
+    let law = g.I.Directory.Directory.law in
+    map_ok (λ r h d request s listed comes shows told.
+    feeds_wanted (law.tells r.1) request s listed _
+    (all_gave law d request _ (law.tells r.1) s listed _ comes shows told h.all))
     c.collect_feed.result c.collect_feed.ensures.took

@@ -10,6 +10,8 @@ returns-clause-view g c = record {
   listings_open = refl;
   to_open = refl;
   opens_above = refl;
+  may_fail = λ path depth h. h;
+  may_fail_below = λ path depth h. h;
   ends = λ h. h;
   idles = λ h. h;
 }

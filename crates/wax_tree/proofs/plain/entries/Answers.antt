@@ -1,10 +1,11 @@
-use Rattle.std.proofs.Common.{◌+◌, subst}
+use Rattle.std.proofs.Common.{[], ◌+◌, subst}
 use Rattle.wax_walk.proofs.Collecting.{map_ok}
 use Rattle.wax_walk.specs.Collected.{GaveAll}
 use Rattle.wax_tree.specs.Begins.{behavior_range, scope_in}
 use Rattle.wax_tree.specs.Whole.{plain_pending}
 use Rattle.wax_tree.proofs.InRange.{entries_are, untold}
 use Rattle.wax_tree.proofs.Kept.{plain_kept}
+use Rattle.wax_tree.proofs.Reaching.{errors_passed}
 use Rattle.wax_tree.proofs.plain.entries.Goals as goal
 
 pub returns-clause-items : goal.returns-clause-items
@@ -47,4 +48,15 @@ returns-clause-folders g c =
     let all = subst (λ n. GaveAll (law.tells r.1) n (plain_pending range start s listed) h.0) b.listings
     (h.1.all (plain_pending range start s listed) (b.shown s listed shows told)) in
     plain_kept (scope_in range start) (law.tells r.1) (range.budget + 1) s listed _ h.0 _ all h.3)
+    c.collect.result c.collect.ensures.took
+
+pub returns-clause-errors : goal.returns-clause-errors
+returns-clause-errors g c =
+    let range = behavior_range c.args.behavior in
+    let b = c.walk_from.ensures.begins in
+    map_ok (λ r h. (
+      h.0,
+      errors_passed range.min c.args.start.now [] range.max _ h.0 b.fails b.opens_above h.1.of_folders,
+      h.3,
+    ))
     c.collect.result c.collect.ensures.took

@@ -6,7 +6,7 @@ use Rattle.wax_walk.proofs.Knowing.{all_before}
 use Rattle.wax_walk.specs.Collected.{GaveAll}
 use Rattle.wax_walk.specs.Forest.{nothing, pending}
 use Rattle.wax.specs.GlobWalks.{request_of}
-use Rattle.wax.proofs.Kept.{gave_within, keeps_nothing}
+use Rattle.wax.proofs.Kept.{fails_at_folders, gave_within, keeps_nothing}
 use Rattle.wax.proofs.glob.Glob.collect_excluding.Goals as goal
 
 pub returns-clause-took : goal.returns-clause-took
@@ -17,6 +17,8 @@ returns-clause-took g c =
       k.0,
       gave_within c.args.self.now.tree g.D.Directory.law c.args.directory c.args.start.now
           (behavior_range c.args.behavior) _ _ r.1 k.0 h (omega (arith, k.2, ends.gives)) k.1,
+      fails_at_folders c.args.self.now.tree g.D.Directory.law c.args.directory c.args.start.now
+          (behavior_range c.args.behavior) _ _ r.1 k.0 h k.1,
       k.3,
     ))
     c.collect_excluding.result c.collect_excluding.ensures.took

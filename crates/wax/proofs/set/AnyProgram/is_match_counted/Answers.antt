@@ -1,4 +1,4 @@
-use Rattle.std.proofs.Common.{chars, IsTrue, length, sym, ap, subst, arith, rules}
+use Rattle.std.proofs.Common.{IsTrue, length, sym, ap, subst, arith, rules}
 use Rattle.wax_prefilter.proofs.Lengths.{chars_short}
 use Rattle.wax.specs.AnyView.{MeansText}
 use Rattle.wax.proofs.set.AnyProgram.is_match_counted.Goals as goal

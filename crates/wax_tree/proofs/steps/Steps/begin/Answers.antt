@@ -1,4 +1,4 @@
-use Rattle.std.proofs.Common.{arith, refl, sym, subst, string_bytes, length, ◌+◌}
+use Rattle.std.proofs.Common.{arith, refl, sym, subst, string_bytes, length, ◌+◌, inl}
 use Rattle.std.specs.Prelude.{Ok, Err, None}
 use Rattle.wax_directory.specs.declared.directory.DirectoryFault.TheVariants as F
 use Rattle.wax_directory.specs.Counting.{kind_counts}
@@ -13,6 +13,8 @@ use Rattle.wax_tree.proofs.Resting.{rest_moved, comes_rest}
 use Rattle.wax_tree.proofs.UsingAnswers.{counted_same, answer_used, failed_uses_answer, gives_uses_answer}
 use Rattle.wax_tree.proofs.UsingAnswers.{stopped_uses_answer, stops_with, step_from}
 use Rattle.wax_tree.proofs.Stepping.{gives_fault}
+use Rattle.wax_tree.specs.Reaching.{OfAny, OnWay, ReachesFrom, no_folders}
+use Rattle.wax_tree.proofs.Reaching.{fault_places, leads_here, reaches_more, stopped_places, way_here}
 use Rattle.wax_tree.proofs.steps.Steps.begin.Goals as goal
 
 pub returns-in-Ok-Some-clause-continues : goal.returns-in-Ok-Some-clause-continues
@@ -101,3 +103,21 @@ returns-in-Err-Memory-clause-answers g c =
           names_left w + length c.args.place.names.items;
     }) w (open_lists w) 0 c.kind.new.self _ _ o.counted refl (λ n. omega arith) (λ n. absurd (n tt))
     (failed_uses_answer _ (record w { directory = c.kind.new.self }) (omega arith) (omega arith)))
+
+pub returns-in-Ok-None-clause-places : goal.returns-in-Ok-None-clause-places
+returns-in-Ok-None-clause-places g c none =
+    let w = record c.args.self.now { directory = c.kind.new.self } in
+    let place = c.args.place in
+    let of = ReachesFrom w (OnWay place) in
+    stopped_places of of w.max w c.stop.new.self c.stop.result NotFound (string_bytes place.path) place.depth
+    (place.depth + 1) c.stop.ensures.gives c.stop.ensures.ended (omega arith)
+    (leads_here w.min (OfAny w (OnWay place)) _ _ (inl (way_here place _ _ (refl, refl))))
+
+pub returns-in-Err-Failed-clause-places : goal.returns-in-Err-Failed-clause-places
+returns-in-Err-Failed-clause-places g c none =
+    let w = record c.args.self.now { directory = c.kind.new.self } in
+    let place = c.args.place in
+    let of = ReachesFrom w (OnWay place) in
+    fault_places of of w.max w Listing place.path place.depth (place.depth + 1) (omega arith)
+    (leads_here w.min (OfAny w (OnWay place)) _ _ (inl (way_here place _ _ (refl, refl)))) none
+    (reaches_more w no_folders (OnWay place) (λ p n i. absurd i))

@@ -1,4 +1,4 @@
-use Rattle.std.proofs.Common.{refl, sym, ap, Err, string_bytes, ◌++◌, ◌∷◌, []}
+use Rattle.std.proofs.Common.{refl, sym, ap, inl, Err, string_bytes, ◌++◌, ◌∷◌, []}
 use Rattle.wax_walk.specs.declared.error.FaultKind.TheVariants.{Listing}
 use Rattle.wax_walk.specs.declared.error.WalkError.TheVariants.{Fault}
 use Rattle.wax_walk.specs.Given.{fault}
@@ -6,6 +6,9 @@ use Rattle.wax_walk.specs.View.{lacks_memory}
 use Rattle.wax_tree.specs.Walking.{cursors_of, folder_location}
 use Rattle.wax_tree.proofs.Resting.{rest_moved, listed_more}
 use Rattle.wax_tree.proofs.Stepping.{enters, enters_sealed}
+use Rattle.wax_tree.specs.Reaching.{IsOf, OfAny, ReachesFrom, no_folders}
+use Rattle.wax_tree.proofs.Reaching.{failed_places, fault_places, leads_here, pushed_reaches, reaches_more}
+use Rattle.wax_tree.proofs.Reaching.{silent_places}
 use Rattle.wax_tree.proofs.steps.Steps.enter.Goals as goal
 use Rattle.wax_tree.proofs.steps.Steps.enter.Goals.{in-Ok-push, in-Err}
 
@@ -43,3 +46,26 @@ returns-in-Err-Failed-clause-continues g c s h i rest items r e =
     (rest_moved law w c.open.new.self (rest.listed ++ path ∷ []) rest r o.shown
     (o.held (cursors_of w.levels.items) rest.has r.held) told
     (listed_more w.levels.items rest.listed (path ∷ []) r.opened)) e
+
+pub returns-after-push-clause-places : goal.returns-after-push-clause-places
+returns-after-push-clause-places g c none =
+    let w = c.args.self.now in
+    let of = ReachesFrom w (IsOf c.args.folder) in
+    elim c.match-push.branch [
+      | in-Ok-push v ↦ rw (v.self-is, v.result-is)
+          (silent_places of of w.max (record w { directory = c.open.new.self; levels = c.push.new.self }) _ refl
+          none (pushed_reaches w (record w { directory = c.open.new.self; levels = c.push.new.self })
+          (record { folder = c.args.folder; cursor = c.in-Ok.cursor }) no_folders refl refl
+          v.in-Ok-push.ensures.items (λ p n i. absurd i)))
+      | in-Err v ↦ rw (v.self-is, v.result-is, v.fail.ensures.memory, v.fail.ensures.ended)
+          (failed_places of of w.max (record w { directory = c.open.new.self; levels = c.push.new.self }))
+    ]
+
+pub returns-in-Err-Failed-clause-places : goal.returns-in-Err-Failed-clause-places
+returns-in-Err-Failed-clause-places g c none =
+    let w = record c.args.self.now { directory = c.open.new.self } in
+    let of = ReachesFrom w (IsOf c.args.folder) in
+    fault_places of of w.max w Listing c.args.folder.path c.saturating_sub-depth.result c.args.folder.depth
+    c.saturating_sub-depth.ensures
+    (leads_here w.min (OfAny w (IsOf c.args.folder)) _ _ (inl (refl, refl))) none
+    (reaches_more w no_folders (IsOf c.args.folder) (λ p n i. absurd i))

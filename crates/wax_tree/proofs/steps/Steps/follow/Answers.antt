@@ -1,5 +1,6 @@
 use Rattle.std.proofs.Common.{rules, true, false, ◌≡◌, ◌+◌, ◌∷◌, [], length, arith, ap, sym}
-use Rattle.std.proofs.Common.{subst, ◌∙◌, string_bytes, length-append}
+use Rattle.std.proofs.Common.{subst, ◌∙◌, string_bytes, length-append, inl, refl}
+use Rattle.std.specs.Prelude.{Some}
 use Rattle.wax_directory.specs.declared.directory.FileType.TheVariants.{Folder}
 use Rattle.wax_directory.specs.Shown.{join}
 use Rattle.wax_walk.specs.declared.error.FaultKind.TheVariants.{NotAFolder}
@@ -11,6 +12,10 @@ use Rattle.wax_tree.specs.Walking.{HasKind, scope_of, start_point_location}
 use Rattle.wax_tree.proofs.Showing.{none_left, plain_is, from_last_end, follows_leaf}
 use Rattle.wax_tree.proofs.UsingAnswers.{leaf_counted, stopped_uses_answer, stops_with}
 use Rattle.wax_tree.proofs.Stepping.{follows}
+use Rattle.wax_tree.specs.declared.steps.StartPoint.{StartPoint}
+use Rattle.wax_tree.specs.Reaching.{OfAny, OnWay, OneFolder, ReachesFrom, no_folders}
+use Rattle.wax_tree.proofs.Reaching.{leads_here, leads_more, next_reaches, places_more, reaches_more}
+use Rattle.wax_tree.proofs.Reaching.{silent_places, stopped_places, way_here}
 use Rattle.wax_tree.proofs.steps.Steps.follow.Goals as goal
 
 pub returns-in_default-clause-continues : goal.returns-in_default-clause-continues
@@ -71,3 +76,39 @@ returns-clause-continues g c s h k p d empty rest items r e =
     }) c.in-Some.name s rest items r h
     (subst (λ v. HasKind s v) folder k) p d empty e (λ at y t. g.met.D.Directory.child w.directory at y t)
     c.in-Some.ensures.items path candidate depth
+
+pub returns-in_default-clause-places : goal.returns-in_default-clause-places
+returns-in_default-clause-places g c none =
+    let w = c.args.self.now in
+    let place = c.args.place in
+    let of = ReachesFrom w (OnWay place) in
+    places_more _ of _ of w.max c.give.result c.give.new.self
+    (reaches_more w no_folders (OnWay place) (λ p n i. absurd i))
+    (λ p n i. leads_more w.min (OneFolder (string_bytes place.path) (place.depth + 1)) (OfAny w (OnWay place))
+    (λ q k j. inl (way_here place q k j)) p n i.1)
+    (c.give.ensures.places none)
+
+pub returns-then-ne-clause-places : goal.returns-then-ne-clause-places
+returns-then-ne-clause-places g c none =
+    let w = c.args.self.now in
+    let place = c.args.place in
+    let of = ReachesFrom w (OnWay place) in
+    stopped_places of of w.max w c.stop.new.self c.stop.result NotAFolder (string_bytes place.path) place.depth
+    (place.depth + 1) c.stop.ensures.gives c.stop.ensures.ended (omega arith)
+    (leads_here w.min (OfAny w (OnWay place)) _ _ (inl (way_here place _ _ (refl, refl))))
+
+pub returns-clause-places : goal.returns-clause-places
+returns-clause-places g c none =
+    let w = c.args.self.now in
+    let place = c.args.place in
+    let of = ReachesFrom w (OnWay place) in
+    let next : StartPoint = record {
+      path = c.in-Ok.path;
+      candidate = c.in-Ok-join.candidate;
+      depth = c.saturating_add.result;
+      names = c.pop.new.self;
+    } in
+    let path : string_bytes c.in-Ok.path ≡ join (string_bytes place.path) (string_bytes c.in-Some.name) =
+    rw (c.as_str.ensures.value, c.as_str-2.ensures.value) at c.in-Ok.ensures in
+    silent_places of of w.max (record w { first = Some next }) _ refl none
+    (next_reaches w place next c.in-Some.name c.in-Some.ensures.items path c.saturating_add.ensures)

@@ -7,6 +7,7 @@ use Rattle.wax_tree.specs.Walking.{names_left, scope_of}
 use Rattle.wax_tree.proofs.Finding.{found_entry, found_fault, entry_uses_answer, found_uses_answer}
 use Rattle.wax_tree.proofs.Resting.{comes_rest}
 use Rattle.wax_tree.proofs.Stepping.{gives_fault}
+use Rattle.wax_tree.proofs.Reaching.{entry_places, found_places}
 use Rattle.wax_tree.proofs.steps.Steps.give_found.Goals as goal
 
 pub returns-in-Entry-clause-uses_answer : goal.returns-in-Entry-clause-uses_answer
@@ -40,3 +41,13 @@ returns-in-Fault-clause-continues g c at x l f d h i rest items r e =
     (Err (W.Fault c.in-Fault.kind c.in-Fault.path c.saturating_sub.result)) is
     (ap (fault c.in-Fault.kind (string_bytes c.in-Fault.path)) depth) (λ n. refl)
     (comes_rest law w items rest r (omega (arith, e)))
+
+pub returns-in-Entry-clause-places : goal.returns-in-Entry-clause-places
+returns-in-Entry-clause-places g c none at x f d =
+    entry_places c.args.self.now at x c.in-Entry.path c.in-Entry.candidate c.in-Entry.kind c.args.depth
+    c.give.result c.give.new.self (rw c.in-Entry.is at f) (c.give.ensures.places none)
+
+pub returns-in-Fault-clause-places : goal.returns-in-Fault-clause-places
+returns-in-Fault-clause-places g c none at x f d =
+    found_places c.args.self.now at x c.in-Fault.kind c.in-Fault.path c.saturating_sub.result c.args.depth
+    (rw c.in-Fault.is at f) c.saturating_sub.ensures none

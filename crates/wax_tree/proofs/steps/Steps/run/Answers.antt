@@ -1,6 +1,7 @@
 use Rattle.std.proofs.Common.{◌≡◌, ◌∙◌, ℕ, refl, subst, arith}
 use Rattle.wax_tree.specs.declared.steps.Step.TheVariants.{Gives, Ends}
 use Rattle.wax_tree.proofs.Stepping.{leads_on, run_gives}
+use Rattle.wax_tree.proofs.Reaching.{run_places, run_reaches}
 use Rattle.wax_tree.proofs.Listing.{accounts_on, accounts_run, stopped_closed}
 use Rattle.wax_tree.specs.Walking.{step_given, entering}
 use Rattle.wax_walk.specs.View.{IsToOpen}
@@ -27,6 +28,8 @@ returns-in-Gives g c =
         idles = λ e. ((st.stays (i.stays e)).1, st.idles (i.stays e) ∙ i.idles e);
         names = omega (arith, st.names, i.names);
         misplaced = λ m. omega (arith, st.misplaced m, i.names);
+        places = run_places law c.args.self.now c.loop-item.self c.step.new.self (Gives c.in-Gives.item)
+            i.reaches i.above c.in-Gives.ensures.places (λ e. (cc));
       };
       fewer = omega (arith, c.in-Gives.ensures.measure, i.fewer);
     }
@@ -49,6 +52,8 @@ returns-in-Ends g c =
         idles = λ e. (st.at_end refl, st.idles (i.stays e) ∙ i.idles e);
         names = omega (arith, st.names, i.names);
         misplaced = λ m. absurd m;
+        places = run_places law c.args.self.now c.loop-item.self c.step.new.self Ends i.reaches i.above
+            c.in-Ends.ensures.places (λ e. st.at_end refl);
       };
       fewer = tt;
     }
@@ -65,6 +70,8 @@ loop-item-preserved g c =
       names = omega (arith, st.names, i.names);
       accounts = accounts_on law c.args.self.now c.loop-item.self c.step.new.self i.accounts st.accounts;
       above = st.above ∙ i.above;
+      reaches = run_reaches c.args.self.now c.loop-item.self c.step.new.self i.reaches
+          c.in-GoesOn.ensures.places;
       leads = λ p h.
           let q = i.leads p h in
           let n = c.in-GoesOn.ensures.step q.0 q.1 in

@@ -1,8 +1,9 @@
-use Rattle.std.proofs.Common.{◌≡◌, ◌≤◌, ◌+◌}
+use Rattle.std.proofs.Common.{◌≡◌, ◌≤◌, ◌+◌, ℕ, List}
 use Rattle.wax_walk.specs.Forest.{Pending}
 use Rattle.wax_walk.specs.Given.{Given}
 use Rattle.wax_tree.proofs.Lead.{ListsBetween}
 use Rattle.wax_tree.proofs.Listing.{AccountsSoFar}
+use Rattle.wax_tree.specs.Reaching.{MayReach}
 use Rattle.wax_tree.specs.Stepping.{items_left, steps_left}
 use Rattle.wax_tree.specs.Walking.{PlainToCome, allowance, names_left, HasStopped}
 use Rattle.wax_tree.proofs.steps.Steps.run.Given as goal
@@ -17,6 +18,7 @@ invariant-loop-item g l =
       names : names_left l.self ≤ names_left l.fn.self;
       accounts : AccountsSoFar law l.fn.self l.self;
       above : l.self.max ≡ l.fn.self.max;
+      reaches : (path : List ℕ) (n : ℕ) → MayReach l.self path n → MayReach l.fn.self path n;
       leads : (p : Pending Given) → PlainToCome law l.fn.self p
           → (q : Pending Given) × PlainToCome law l.self q × ListsBetween p q ×
           (q.items + allowance l.fn.self ≤ p.items + allowance l.self);

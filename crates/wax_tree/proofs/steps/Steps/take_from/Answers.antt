@@ -1,4 +1,4 @@
-use Rattle.std.proofs.Common.{arith, ap, refl, string_bytes, ◌≡◌, ◌≤◌, ◌+◌, ◌∙◌, cond}
+use Rattle.std.proofs.Common.{arith, ap, inl, refl, string_bytes, ◌≡◌, ◌≤◌, ◌+◌, ◌∙◌, cond}
 use Rattle.std.proofs.Common.{length-append, length, ◌-◌}
 use Rattle.wax_directory.specs.Answers.{listed_of}
 use Rattle.wax_directory.specs.Counting.{item_counts}
@@ -11,6 +11,9 @@ use Rattle.wax_tree.proofs.Resting.{rest_pushed, rest_spent}
 use Rattle.wax_tree.proofs.UsingAnswers.{stops_over, step_from}
 use Rattle.wax_tree.proofs.Showing.{headed_is, count_rest}
 use Rattle.wax_tree.proofs.Stepping.{saves_after}
+use Rattle.wax_walk.specs.declared.error.FaultKind.TheVariants.{Budget}
+use Rattle.wax_tree.specs.Reaching.{IsOf, OfAny, OneFolder, ReachesFrom}
+use Rattle.wax_tree.proofs.Reaching.{leads_here, places_more, pushed_reaches, stopped_places}
 use Rattle.wax_tree.proofs.steps.Steps.take_from.Goals as goal
 
 pub returns-then-self-eq0-clause-lists : goal.returns-then-self-eq0-clause-lists
@@ -61,3 +64,23 @@ returns-clause-measure g c e n =
     let long = ap length c.in-Ok-push.ensures.items ∙ length-append c.args.self.now.levels.items _ in
     saves_after c.args.self.now mid c.give_found.new.self c.give_found.result (omega arith)
     (omega (arith, long)) (c.give_found.ensures.measure e)
+
+pub returns-then-self-eq0-clause-places : goal.returns-then-self-eq0-clause-places
+returns-then-self-eq0-clause-places g c none =
+    let w = c.args.self.now in
+    let folder = c.args.folder in
+    let of = ReachesFrom w (IsOf folder) in
+    stopped_places of of w.max w c.stop.new.self c.stop.result Budget (string_bytes folder.path)
+    c.saturating_sub-depth.result folder.depth c.stop.ensures.gives c.stop.ensures.ended
+    c.saturating_sub-depth.ensures (leads_here w.min (OfAny w (IsOf folder)) _ _ (inl (refl, refl)))
+
+pub returns-clause-places : goal.returns-clause-places
+returns-clause-places g c none =
+    let w = c.args.self.now in
+    let folder = c.args.folder in
+    let of = ReachesFrom w (IsOf folder) in
+    let mid = record w { levels = c.push.new.self; budget = w.budget - 1 } in
+    let one = OneFolder (string_bytes folder.path) folder.depth in
+    let pushed = pushed_reaches w mid (record { folder = folder; cursor = c.args.cursor }) one refl refl c.in-Ok-push.ensures.items (λ p n i. i) in
+    places_more (ReachesFrom mid one) of (ReachesFrom mid one) of w.max c.give_found.result c.give_found.new.self pushed
+    pushed (c.give_found.ensures.places none (folder_location folder) c.args.item c.in-Ok.ensures refl)

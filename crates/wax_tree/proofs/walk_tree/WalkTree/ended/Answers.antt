@@ -1,26 +1,29 @@
 use Rattle.std.proofs.Common.{refl, ap, length, inr, false}
 use Rattle.std.specs.Prelude.{None}
+use Rattle.wax_tree.specs.declared.steps.Steps.{Steps}
 use Rattle.wax_tree.specs.Lacking.{goes}
 use Rattle.wax_tree.proofs.Making.{made_nothing}
+use Rattle.wax_tree.proofs.Reaching.{none_entered, none_reached}
 use Rattle.wax_tree.proofs.walk_tree.WalkTree.ended.Goals as goal
 
 pub returns-clause-ended : goal.returns-clause-ended
 returns-clause-ended g c =
     let law = g.D.Directory.law in
+    let made : Steps _ _ = record {
+      alloc = c.args.alloc;
+      directory = c.args.directory;
+      min = c.args.range.min;
+      max = c.args.range.max;
+      root = c.new.result;
+      first = None;
+      entered = None;
+      levels = c.new-2.result.levels;
+      budget = c.args.range.budget;
+      has_ended = false;
+    } in
     rw c.new-2.ensures.fields (record {
       comes = λ path s listed h told. goes refl (made_nothing law
-          (record {
-            alloc = c.args.alloc;
-            directory = c.args.directory;
-            min = c.args.range.min;
-            max = c.args.range.max;
-            root = c.new.result;
-            first = None;
-            entered = None;
-            levels = c.new-2.result.levels;
-            budget = c.args.range.budget;
-            has_ended = false;
-          })
+          made
           listed refl refl c.new-2.ensures.levels told
           (g.met.D.Directory.none_open c.args.directory path s h));
       ended = (refl, inr (refl, refl, c.new-2.ensures.levels));
@@ -29,5 +32,9 @@ returns-clause-ended g c =
       names = refl;
       none_listed = ap length c.new-2.ensures.levels;
       opens_above = refl;
+      fails = record {
+        at = none_reached made refl c.new-2.ensures.levels;
+        below = none_entered made refl;
+      };
       directory = refl;
     })

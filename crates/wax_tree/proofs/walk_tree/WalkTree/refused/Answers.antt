@@ -1,14 +1,34 @@
-use Rattle.std.proofs.Common.{refl, ap, length, inl}
+use Rattle.std.proofs.Common.{refl, ap, length, inl, false}
+use Rattle.std.specs.Prelude.{None}
+use Rattle.wax_tree.specs.declared.steps.Steps.{Steps}
 use Rattle.wax_tree.specs.Lacking.{lacks}
+use Rattle.wax_tree.proofs.Reaching.{none_entered, none_reached}
 use Rattle.wax_tree.proofs.walk_tree.WalkTree.refused.Goals as goal
 
 pub returns-clause-lacks : goal.returns-clause-lacks
-returns-clause-lacks g c = rw c.new-2.ensures.fields (record {
-  comes = λ p told. lacks refl told;
-  idle = inl refl;
-  listings = refl;
-  names = refl;
-  none_listed = ap length c.new-2.ensures.levels;
-  opens_above = refl;
-  directory = refl;
-})
+returns-clause-lacks g c =
+    let made : Steps _ _ = record {
+      alloc = c.args.alloc;
+      directory = c.args.directory;
+      min = c.args.range.min;
+      max = c.args.range.max;
+      root = c.new.result;
+      first = None;
+      entered = None;
+      levels = c.new-2.result.levels;
+      budget = c.args.range.budget;
+      has_ended = false;
+    } in
+    rw c.new-2.ensures.fields (record {
+      comes = λ p told. lacks refl told;
+      idle = inl refl;
+      listings = refl;
+      names = refl;
+      none_listed = ap length c.new-2.ensures.levels;
+      opens_above = refl;
+      fails = record {
+        at = none_reached made refl c.new-2.ensures.levels;
+        below = none_entered made refl;
+      };
+      directory = refl;
+    })

@@ -1,8 +1,10 @@
 use Rattle.std.proofs.Common.{◌≡◌, ◌≤◌, ◌+◌, ◌-◌, ◌^◌, length, refl, arith, ap, string_bytes, false}
 use Rattle.std.specs.Prelude.{Some, None}
+use Rattle.wax_tree.specs.declared.steps.Steps.{Steps}
 use Rattle.wax_tree.specs.Lacking.{goes}
 use Rattle.wax_tree.specs.Prefix.{from_last}
 use Rattle.wax_tree.proofs.Making.{ended_at, lacking_at, made_at, from_last_length}
+use Rattle.wax_tree.proofs.Reaching.{begins_passed, none_entered}
 use Rattle.wax_tree.proofs.walk_tree.WalkTree.to_place.Goals as goal
 
 pub returns-then-range-len-clause-begins : goal.returns-then-range-len-clause-begins
@@ -32,23 +34,21 @@ returns-in-Ok-place_at-clause-begins g c =
     let rest = c.in-Ok-place_at.ensures.rest in
     let names : c.in-Ok-place_at.place.names.items ≡ c.args.names.items = ap (λ v. v.items) rest.1 in
     let root : string_bytes c.in-Ok.root ≡ c.args.root.now = c.in-Ok.ensures.ok in
+    let made : Steps _ _ = record {
+      alloc = c.args.alloc;
+      directory = c.args.directory;
+      min = c.args.range.min;
+      max = c.args.range.max;
+      root = c.in-Ok.root;
+      first = Some c.in-Ok-place_at.place;
+      entered = None;
+      levels = c.new.result.levels;
+      budget = c.args.range.budget;
+      has_ended = false;
+    } in
     rw c.new.ensures.fields (record {
       shown = λ s listed h told p d. goes refl (made_at law
-          (record {
-            alloc = c.args.alloc;
-            directory = c.args.directory;
-            min = c.args.range.min;
-            max =
-                c.args.range.max;
-            root = c.in-Ok.root;
-            first = Some c.in-Ok-place_at.place;
-            entered =
-                None;
-            levels = c.new.result.levels;
-            budget = c.args.range.budget;
-            has_ended =
-                false;
-          })
+          made
           c.args.root.now c.in-Ok-place_at.place
           (record { path = c.args.start.now; candidate = c.args.candidate.now; depth = 0 })
           c.args.names.items s listed refl refl c.new.ensures.levels refl root texts.0
@@ -61,6 +61,12 @@ returns-in-Ok-place_at-clause-begins g c =
       names = omega (arith, ap length names, long);
       none_listed = ap length c.new.ensures.levels;
       opens_above = refl;
+      fails = record {
+        at = begins_passed made c.in-Ok-place_at.place c.args.start.now (from_last c.args.names.items) refl
+            c.new.ensures.levels texts.0 rest.0 (ap from_last names)
+            (omega (arith, long, c.args.names.small, c.args.names.ok.0));
+        below = none_entered made refl;
+      };
       directory = refl;
     })
 

@@ -11,6 +11,8 @@ returns-clause-view g c =
       listings_open = refl;
       to_open = refl;
       opens_above = refl;
+      may_fail = λ path depth h. h;
+      may_fail_below = λ path depth h. h;
       ends = λ h. h;
       idles = λ h. h;
     })

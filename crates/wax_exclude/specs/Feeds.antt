@@ -1,0 +1,45 @@
+-- The feed of a walk with filters, as a list.
+use Rattle.std.specs.Prelude.{◌≡◌, ℕ, ◌<◌, ◌≤◌, if◌then◌else◌, List, [], length}
+use Rattle.wax_directory.specs.Shown.{Shown}
+use Rattle.wax_glob_walk.specs.Programs.{any_mark}
+use Rattle.wax_tree.specs.Begins.{Origin}
+use Rattle.wax_tree.specs.declared.steps.DepthRange.{DepthRange}
+use Rattle.wax_tree.specs.Plain.{count_shown}
+use Rattle.wax_tree.specs.Whole.{whole_along, yielded}
+use Rattle.wax_walk.specs.Collected.{IsCutShort}
+use Rattle.wax_walk.specs.declared.error.FaultKind.TheVariants.{Budget}
+use Rattle.wax_walk.specs.Forest.{preorder}
+use Rattle.wax_walk.specs.Given.{Facts, Mark, Given, fault, no_memory}
+use Rattle.wax_walk.specs.Left.{left_of}
+use Rattle.wax_exclude.specs.GlobRequests.{GlobRequest, is_beyond, request_walk}
+use Rattle.wax_exclude.specs.Walked.{origin_location, origin_walk}
+use Rattle.wax_exclude.specs.Wanted.{rules_of, stacked}
+
+-- what rules, one after another, leave of the whole walk along the names of the origin, in the range
+abbrev pub feed_of : List (Facts → Mark) → DepthRange → Origin → Shown → List Given
+feed_of rules range origin s =
+    left_of (any_mark rules) (yielded range (whole_along origin.root (origin_location origin) s origin.names))
+
+-- the feed of a glob's walk; nothing if the origin has more names than the greatest depth
+abbrev pub request_feed : GlobRequest → Shown → List Given
+request_feed request s =
+    if is_beyond request then [] else feed_of (rules_of request.wanted) request.walked request.origin s
+
+-- a walk along the names of an origin and from there on, with filters by any rules, yields what they leave
+abbrev pub FeedsByRules : Type 0
+FeedsByRules = (rules : List (Facts → Mark)) (range : DepthRange) (origin : Origin) (s : Shown)
+    → length origin.names ≤ range.max
+    → preorder (stacked rules (origin_walk range origin s)) ≡ feed_of rules range origin s
+
+-- so does a glob's walk with filters
+abbrev pub FeedsByRequest : Type 0
+FeedsByRequest = (request : GlobRequest) (s : Shown)
+    → preorder (request_walk request s) ≡ request_feed request s
+
+-- A walk yielded these items: the whole feed; or a prefix of it and then one error, because allocation failed
+-- or the budget was reached.
+pub data FeedsWanted (request : GlobRequest) (s : Shown) (xs : List Given) : Type 0 where
+  gives : xs ≡ request_feed request s → FeedsWanted request s xs
+  lacks_memory : IsCutShort (request_feed request s) no_memory xs → FeedsWanted request s xs
+  over_budget : (path : List ℕ) (depth : ℕ) → request.walked.budget < count_shown s
+      → IsCutShort (request_feed request s) (fault Budget path depth) xs → FeedsWanted request s xs
