@@ -44,6 +44,7 @@ begins_so (form.Text letters false) c x e h = spelled letters.items x e h
 begins_so form.Name c x e h = absurd (cc)
 begins_so form.SlashOrNothing c x e h = absurd (cc)
 begins_so (form.Tree before after rooted) c x e h = absurd (cc)
+begins_so (form.Run test low high) c x e h = absurd (cc)
 begins_so (form.Coded program) c x e h = absurd (cc)
 
 module _ (forms : List Form) (firsts nexts : List ℕ) (links : AreLinked forms firsts nexts 0) where

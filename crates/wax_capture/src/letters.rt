@@ -7,7 +7,7 @@ ghost use Rattle.wax_capture.specs.inner.Letters.{ArePassed, NoneBegins, first_l
 use crate::piece::Ways;
 use std::alloc::{AllocError, Global};
 use std::marker::Model;
-use wax_lengths::Form;
+use wax_lengths::{Form, Text};
 
 /// The number of ASCII characters.
 const ASCII: usize = 128;
@@ -51,7 +51,7 @@ impl ByLetter {
     /// Returns the index of the first form, from `from` on, that may take a part of the text from
     /// `at` on, or at least the number of forms.
     #[inline(never)]
-    pub fn next_form(&self, from: usize, text: &[char], at: usize) -> usize
+    pub fn next_form(&self, from: usize, text: &Text<'_>, at: usize) -> usize
         requires { at ≤ length text.now }
         ensures further { from ≤ result }
         ensures passed { ArePassed self.now from result (drop at text.now) }
@@ -65,15 +65,15 @@ impl ByLetter {
 
     /// Returns the index of the first form, from `from` on, that begins with the letter at the
     /// place, or at least the number of forms.
-    fn next_by_letter(&self, from: usize, text: &[char], at: usize) -> usize
+    fn next_by_letter(&self, from: usize, text: &Text<'_>, at: usize) -> usize
         requires { at ≤ length text.now }
         ensures further { from ≤ result }
         ensures passed { ArePassed self.now from result (drop at text.now) }
     {
-        if at == text.len() || !text[at].is_ascii() {
+        if at == text.len() || !text.char_at(at).is_ascii() {
             return self.forms.len().max(from);
         }
-        self.next_with(from, text[at]).max(from)
+        self.next_with(from, text.char_at(at)).max(from)
     }
 
     /// Returns the index of the first form, from `from` on, that begins with the letter. If the
@@ -117,7 +117,7 @@ fn begins_with(form: &Form, letter: char) -> bool
 }
 
 /// Returns whether the text may have the letters of the form at the place.
-fn may_spell(form: &Form, text: &[char], at: usize) -> bool
+fn may_spell(form: &Form, text: &Text<'_>, at: usize) -> bool
     requires { at ≤ length text.now }
     ensures { IsFalse result → (n : ℕ) → TakenBy form.now (take n (drop at text.now)) → ⊥ }
 {
@@ -128,7 +128,7 @@ fn may_spell(form: &Form, text: &[char], at: usize) -> bool
 }
 
 /// Returns whether the text has the letters at the place.
-fn has_letters(letters: &[char], text: &[char], at: usize) -> bool
+fn has_letters(letters: &[char], text: &Text<'_>, at: usize) -> bool
     requires { at ≤ length text.now }
     ensures { IsFalse result → (n : ℕ) → SpelledBy false letters.now (take n (drop at text.now)) → ⊥ }
 {
@@ -136,7 +136,7 @@ fn has_letters(letters: &[char], text: &[char], at: usize) -> bool
         return false;
     }
     for index in 0..letters.len() {
-        if text[at + index] != letters[index] {
+        if text.char_after(at, index) != letters[index] {
             return false;
         }
     }

@@ -10,14 +10,14 @@ ghost use Rattle.wax_capture.specs.Matched.{AreOnly, IsMatched, square_visits};
 ghost use Rattle.wax_capture.specs.Pieces.{ArePieces};
 
 use crate::build::pieces_of;
-use crate::bytes::{characters, to_bytes};
+use crate::bytes::to_bytes;
 use crate::piece::Piece;
 use crate::size::size_of_all;
 use crate::split::split;
 use std::alloc::Global;
 use std::marker::Model;
 use wax_candidate::MatchedText;
-use wax_lengths::Visits;
+use wax_lengths::{Text, Visits};
 use wax_match::encode::CompileError;
 use wax_query::diagnostics::{NoMemory, Refusal};
 use wax_token::token::Token;
@@ -108,18 +108,18 @@ impl Pieces {
             → IfOk result (λ answer. answer.1 ≤ cube_visits (costs ts + 1) (chars text.now)) }
     {
         let mut visits = Visits::new();
-        let characters = characters(alloc, text)?;
+        let characters = Text::new(alloc, text)?;
         let found = split(
             alloc,
             self.pieces.as_slice(),
-            characters.as_slice(),
+            &characters,
             limit(self.size, characters.len()),
             &mut visits,
         )?;
         let Some(parts) = found else {
             return Ok((None, visits.count()));
         };
-        let captures = to_bytes(alloc, text, characters.as_slice(), parts)?;
+        let captures = to_bytes(alloc, text, &characters, parts)?;
         Ok((Some(MatchedText::new(text, captures)), visits.count()))
     }
 }

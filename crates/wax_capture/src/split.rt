@@ -11,24 +11,24 @@ use crate::piece::{Capture, Piece};
 use crate::table::split_by_table;
 use crate::trial::{Trial, split_by_trial};
 use std::alloc::{AllocError, Global};
-use wax_lengths::Visits;
+use wax_lengths::{Text, Visits};
 
 /// Returns the end of the part of `n` characters from `at` on, or `at` if the part is one `/`.
-fn end_unless_slash(text: &[char], at: usize, n: usize) -> usize
+fn end_unless_slash(text: &Text<'_>, at: usize, n: usize) -> usize
     requires { at + n ≤ length text.now }
     ensures part { part_between text.now (at, result) ≡ tree_capture false false (take n (drop at text.now)) }
     ensures within { IsWithin text.now (at, result) }
 {
-    if n == 1 && text[at] == '/' {
+    if n == 1 && text.char_at(at) == '/' {
         return at;
     }
-    at + n
+    text.place_after(at, n)
 }
 
 /// Appends what is captured of the `n` characters from `at` on, as its beginning and its end.
 fn add_capture(
     capture: Capture,
-    text: &[char],
+    text: &Text<'_>,
     at: usize,
     n: usize,
     captures: &mut Vec<(usize, usize)>,
@@ -41,8 +41,10 @@ fn add_capture(
 {
     match capture {
         Capture::Nothing => {}
-        Capture::Piece => captures.push((at, at + n))?,
-        Capture::AfterFirst => captures.push((at + n.min(1), at + n))?,
+        Capture::Piece => captures.push((at, text.place_after(at, n)))?,
+        Capture::AfterFirst => {
+            captures.push((text.place_after(at, n.min(1)), text.place_after(at, n)))?;
+        }
         Capture::UnlessSlash => captures.push((at, end_unless_slash(text, at, n)))?,
     }
     Ok(())
@@ -53,7 +55,7 @@ fn add_capture(
 fn captures_of(
     alloc: Global,
     pieces: &[Piece],
-    text: &[char],
+    text: &Text<'_>,
     lengths: &[usize],
 ) -> Result<Vec<(usize, usize)>, AllocError>
     requires { AreChosen pieces.now text.now lengths.now }
@@ -66,7 +68,7 @@ fn captures_of(
     for index in 0..pieces.len() {
         let n = lengths[index];
         add_capture(pieces[index].capture, text, at, n, &mut captures)?;
-        at += n;
+        at = text.place_after(at, n);
     }
     Ok(captures)
 }
@@ -76,7 +78,7 @@ fn captures_of(
 fn lengths_of(
     alloc: Global,
     pieces: &[Piece],
-    text: &[char],
+    text: &Text<'_>,
     limit: usize,
     visits: &mut Visits,
 ) -> Result<Option<Vec<usize>>, AllocError>
@@ -103,7 +105,7 @@ fn lengths_of(
 pub fn split(
     alloc: Global,
     pieces: &[Piece],
-    text: &[char],
+    text: &Text<'_>,
     limit: usize,
     visits: &mut Visits,
 ) -> Result<Option<Vec<(usize, usize)>>, AllocError>

@@ -8,10 +8,10 @@ ghost use Rattle.wax_capture.specs.declared.piece.Piece.{Piece};
 use crate::choice::choose;
 use crate::piece::Piece;
 use std::alloc::{AllocError, Global};
-use wax_lengths::Visits;
+use wax_lengths::{Text, Visits};
 
 /// Builds the row of no piece, which can split only the empty rest at the text's end.
-fn last_row(alloc: Global, text: &[char]) -> Result<Vec<Option<usize>>, AllocError>
+fn last_row(alloc: Global, text: &Text<'_>) -> Result<Vec<Option<usize>>, AllocError>
     ensures row { IfOk result (λ r. Row [] text.now r.items) }
     ensures len { IfOk result (λ r. length r.items ≡ length text.now + 1) }
 {
@@ -24,7 +24,7 @@ fn last_row(alloc: Global, text: &[char]) -> Result<Vec<Option<usize>>, AllocErr
 fn row_before(
     alloc: Global,
     piece: &Piece,
-    text: &[char],
+    text: &Text<'_>,
     next: &[Option<usize>],
     visits: &mut Visits,
 ) -> Result<Vec<Option<usize>>, AllocError>
@@ -48,7 +48,7 @@ fn row_before(
 fn table(
     alloc: Global,
     pieces: &[Piece],
-    text: &[char],
+    text: &Text<'_>,
     visits: &mut Visits,
 ) -> Result<Vec<Vec<Option<usize>>>, AllocError>
     ensures rows { IfOk result (λ rows. ArePieceRows pieces.now text.now rows.items) }
@@ -80,7 +80,7 @@ fn table(
 pub fn split_by_table(
     alloc: Global,
     pieces: &[Piece],
-    text: &[char],
+    text: &Text<'_>,
     visits: &mut Visits,
 ) -> Result<Option<Vec<usize>>, AllocError>
     ensures chosen { IfOk result (λ r. MatchOption r (Splits pieces.now text.now → ⊥)
@@ -100,7 +100,7 @@ pub fn split_by_table(
             return Ok(None);
         };
         lengths.push(n)?;
-        at += n;
+        at = text.place_after(at, n);
     }
     Ok(Some(lengths))
 }

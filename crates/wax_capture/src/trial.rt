@@ -12,7 +12,7 @@ ghost use Rattle.wax_capture.specs.declared.piece.Piece.{Piece};
 use crate::piece::Piece;
 use std::alloc::{AllocError, Global};
 use std::mem;
-use wax_lengths::{Form, LengthSpan, Visits, lengths_of, pick};
+use wax_lengths::{Form, LengthSpan, Text, Visits, lengths_of, pick};
 
 /// The trial of one piece: the length that it takes now, and what is left to be tried.
 #[derive(Drop)]
@@ -56,7 +56,7 @@ pub enum Trial {
 }
 
 /// Takes the best length that is left in the frame's span. Returns whether there was one.
-fn take_left(text: &[char], is_lazy: bool, frame: &mut Frame, visits: &mut Visits) -> bool
+fn take_left(text: &Text<'_>, is_lazy: bool, frame: &mut Frame, visits: &mut Visits) -> bool
     requires { frame.old.at + frame.old.span.end ≤ length text.now + 1 }
     ensures taken { MatchBool result
         (IsPicked frame.old.span frame.new.span (drop frame.old.at text.now) is_lazy frame.new.n)
@@ -83,7 +83,7 @@ fn lengths_left(
     alloc: Global,
     form: &Form,
     is_last: bool,
-    text: &[char],
+    text: &Text<'_>,
     at: usize,
     visits: &mut Visits,
 ) -> Result<LengthSpan, AllocError>
@@ -108,7 +108,7 @@ fn take_next(
     alloc: Global,
     piece: &Piece,
     is_last: bool,
-    text: &[char],
+    text: &Text<'_>,
     frame: &mut Frame,
     visits: &mut Visits,
 ) -> Result<bool, AllocError>
@@ -145,7 +145,7 @@ fn take_next(
 
 /// Returns whether the piece may take a part of the text from `at` on. Looks at the text only if
 /// the piece before it has other lengths left.
-fn may_begin(piece: &Piece, text: &[char], at: usize, has_others: bool) -> bool
+fn may_begin(piece: &Piece, text: &Text<'_>, at: usize, has_others: bool) -> bool
     requires { at ≤ length text.now }
     ensures { IsFalse result → (ps : List Piece) → Splits (piece.now ∷ ps) (drop at text.now) → ⊥ }
 {
@@ -177,7 +177,7 @@ fn lengths(alloc: Global, frames: &[Frame], last: usize) -> Result<Vec<usize>, A
 pub fn split_by_trial(
     alloc: Global,
     pieces: &[Piece],
-    text: &[char],
+    text: &Text<'_>,
     limit: usize,
     visits: &mut Visits,
 ) -> Result<Trial, AllocError>
@@ -200,13 +200,13 @@ pub fn split_by_trial(
             };
             top = frame;
         } else if index + 1 < pieces.len() {
-            let end = top.at + top.n;
+            let end = text.place_after(top.at, top.n);
             let has_others = top.span.low < top.span.end;
             if may_begin(&pieces[index + 1], text, end, has_others) {
                 let next = Frame::new(end);
                 below.push(mem::replace(&mut top, next))?;
             }
-        } else if top.at + top.n == text.len() {
+        } else if text.place_after(top.at, top.n) == text.len() {
             let chosen = lengths(alloc, below.as_slice(), top.n)?;
             return Ok(Trial::Chosen(chosen));
         }

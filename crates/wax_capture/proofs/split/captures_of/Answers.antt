@@ -29,9 +29,9 @@ loop-index-preserved c =
     let r = chosen_at ps text i p lt c.index-pieces-index.is at n ns long (got ns i long) c.loop-index.invariant.chosen in
     let added : parts text c.add_capture.new.captures.items ≡ parts text c.loop-index.captures.items ++ captured_by p.capture (take n (drop at text)) = search rules in
     record {
-      within = taken_within ps text i p lt c.index-pieces-index.is at n c.loop-index.invariant.within r.0;
-      chosen = r.1;
-      captured = taken_captured ps text i p lt c.index-pieces-index.is at n c.loop-index.invariant.within r.0 c.loop-index.captures.items c.add_capture.new.captures.items added c.loop-index.invariant.captured;
+      within = rw c.place_after-at.ensures (taken_within ps text i p lt c.index-pieces-index.is at n c.loop-index.invariant.within r.0);
+      chosen = rw c.place_after-at.ensures r.1;
+      captured = rw c.place_after-at.ensures (taken_captured ps text i p lt c.index-pieces-index.is at n c.loop-index.invariant.within r.0 c.loop-index.captures.items c.add_capture.new.captures.items added c.loop-index.invariant.captured);
       inside = c.in_ok-add_capture.ensures.within c.loop-index.invariant.inside;
     }
 

@@ -59,13 +59,13 @@ loop-index-preserved c =
     let chosen : IsChosenBy p.0 (drop (i + 1) ps) (drop at text) n = cell_chosen ps text i p.0 lt is at n r c.in-Some.is cell in
     let same : c.push.new.self.items ≡ c.loop-index.lengths.items ++ n ∷ [] = search rules in
     record {
-      within = taken_within ps text i p.0 lt is at n c.loop-index.invariant.within chosen;
-      splits = taken_splits ps text i p.0 lt is at n c.loop-index.invariant.within chosen;
-      chosen = rw same (taken_lengths ps text i p.0 lt is at n c.loop-index.invariant.within chosen c.loop-index.lengths.items c.loop-index.invariant.chosen);
+      within = rw c.place_after-at.ensures (taken_within ps text i p.0 lt is at n c.loop-index.invariant.within chosen);
+      splits = rw c.place_after-at.ensures (taken_splits ps text i p.0 lt is at n c.loop-index.invariant.within chosen);
+      chosen = rw (same, c.place_after-at.ensures) (taken_lengths ps text i p.0 lt is at n c.loop-index.invariant.within chosen c.loop-index.lengths.items c.loop-index.invariant.chosen);
     }
 
-pub overflow_add-at : goal.overflow_add-at
-overflow_add-at c =
+pub place_after-at-requires : goal.place_after-at-requires
+place_after-at-requires c =
     let ps = c.args.pieces.now in
     let text : List ℕ = c.args.text.now in
     let i : ℕ = c.loop-index.index in
@@ -78,7 +78,7 @@ overflow_add-at c =
     let cell : IsCell (drop i ps) (drop at text) r = cell_read ps text c.in_ok-rows.rows.items i at c.index-in-loop-index.result.now r c.in_ok-rows.ensures.len c.in_ok-rows.ensures.rows (omega (arith, lt)) c.index-in-loop-index.ensures c.index-in-loop-index-2.ensures c.loop-index.invariant.within in
     let chosen : IsChosenBy p.0 (drop (i + 1) ps) (drop at text) n = cell_chosen ps text i p.0 lt is at n r c.in-Some.is cell in
     let within : at + n ≤ length text = taken_within ps text i p.0 lt is at n c.loop-index.invariant.within chosen in
-    search (rules, within)
+    within
 
 pub returns-clause-chosen : goal.returns-clause-chosen
 returns-clause-chosen c = lengths_end c.args.pieces.now c.args.text.now c.loop-index.index c.loop-index.at c.loop-index.lengths.items c.loop-index-test.false c.loop-index.invariant.splits c.loop-index.invariant.chosen
