@@ -56,37 +56,30 @@ impl ByLetter {
         ensures further { from ≤ result }
         ensures passed { ArePassed self.now from result (drop at text.now) }
     {
-        let mut index = self.next_by_letter(from, text, at);
+        if at == text.len() || !text.char_at(at).is_ascii() {
+            return self.forms.len().max(from);
+        }
+        let letter = text.char_at(at);
+        let mut index = self.next_with(from, letter);
         while index < self.forms.len() && !may_spell(&self.forms[index], text, at) {
-            index = self.next_by_letter(index + 1, text, at);
+            index = self.next_with(index + 1, letter);
         }
         index
     }
 
-    /// Returns the index of the first form, from `from` on, that begins with the letter at the
-    /// place, or at least the number of forms.
-    fn next_by_letter(&self, from: usize, text: &Text<'_>, at: usize) -> usize
-        requires { at ≤ length text.now }
-        ensures further { from ≤ result }
-        ensures passed { ArePassed self.now from result (drop at text.now) }
-    {
-        if at == text.len() || !text.char_at(at).is_ascii() {
-            return self.forms.len().max(from);
-        }
-        self.next_with(from, text.char_at(at)).max(from)
-    }
-
     /// Returns the index of the first form, from `from` on, that begins with the letter. If the
     /// form before doesn't begin with it, `from` is returned.
+    #[inline]
     fn next_with(&self, from: usize, letter: char) -> usize
         requires { letter < 128 }
-        ensures { NoneBegins self.now from result letter }
+        ensures further { from ≤ result }
+        ensures none { NoneBegins self.now from result letter }
     {
         if from == 0 {
             return self.firsts[letter as usize];
         }
         if from <= self.forms.len() && begins_with(&self.forms[from - 1], letter) {
-            return self.nexts[from - 1];
+            return self.nexts[from - 1].max(from);
         }
         from
     }

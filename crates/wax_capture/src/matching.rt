@@ -55,12 +55,15 @@ impl Model for Pieces {
     ghost invariant = { λ p. p.size ≤ all_sizes p.pieces.items };
 }
 
+/// How often a trial may look at each character of a text, times the sizes of all forms.
+const OFTEN: usize = 8;
+
 /// Returns how many visits a trial may take for a text of `len` characters.
 fn limit(size: usize, len: usize) -> usize
     ensures { result ≤ size * ((len + 1) * (len + 1)) }
 {
     let side = len.saturating_add(1);
-    size.saturating_mul(side.saturating_mul(side))
+    size.saturating_mul(side.saturating_mul(side.min(OFTEN)))
 }
 
 impl Pieces {

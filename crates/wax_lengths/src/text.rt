@@ -75,10 +75,7 @@ impl<'t> Text<'t> {
         requires { place + n < length self.now }
         ensures { result ≡ get_or self.now (place + n) result }
     {
-        match &self.letters {
-            Letters::Bytes(bytes) => bytes[place + n] as char,
-            Letters::Listed(characters) => characters[place + n],
-        }
+        self.char_at(self.place_after(place, n))
     }
 
     /// Returns the place that is `n` characters after a place.

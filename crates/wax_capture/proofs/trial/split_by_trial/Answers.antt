@@ -6,7 +6,7 @@ use Rattle.wax_capture.specs.inner.Trials.{HasRoom, HasTaken, lengths_of}
 use Rattle.wax_capture.specs.declared.piece.Piece.{Piece}
 use Rattle.wax_capture.specs.declared.trial.Frame.{Frame}
 use Rattle.wax_capture.proofs.Counting.{reads_next, reads_piece}
-use Rattle.wax_capture.proofs.Trying.{Stands, Took, after_last, at_next, at_piece, none_first, stands_here, stands_last, stands_pop, stands_push, took_all, took_within}
+use Rattle.wax_capture.proofs.Trying.{Stands, Took, after_last, at_next, lengths_push, at_piece, none_first, stands_here, stands_last, stands_pop, stands_push, took_all, took_within}
 use Rattle.wax_capture.proofs.trial.split_by_trial.Goals as goal
 use Rattle.wax_capture.proofs.trial.split_by_trial.Goals.{then-not-branch+in-Some, else-not-branch+then-index-pieces-2+then-may_begin+in_ok-push, else-not-branch+then-index-pieces-2+else-may_begin, else-not-branch+else-index-pieces-2+else-place_after-len}
 
@@ -49,8 +49,8 @@ returns-in_err-push-clause-above c =
     reads_next ps i p c.if-index-pieces.false c.index-pieces-index.is c.args.visits.now c.loop.visits c.take_next.new.visits (looks c.loop.top.span) c.args.limit n mid c.loop.invariant.room.few c.take_next.ensures.above in
     read
 
-pub returns-in_err-chosen-clause-above : goal.returns-in_err-chosen-clause-above
-returns-in_err-chosen-clause-above c =
+pub returns-in_err-push-2-clause-above : goal.returns-in_err-push-2-clause-above
+returns-in_err-push-2-clause-above c =
     let ps : List Piece = c.args.pieces.now in
     let text : List ℕ = c.args.text.now in
     let n : ℕ = length text + 1 in
@@ -196,7 +196,8 @@ returns-then-place_after-len-clause-tried c =
       is = (p, is, subst (λ a. HasTaken p rest (drop a text) new) (sym at) got);
       room = room;
     } in
-    let same : c.in_ok-chosen.chosen.items ≡ lengths_of fs ++ new.n ∷ [] = search rules in
+    let pushed : c.push-then-place_after-len.new.self.items ≡ fs ++ new ∷ [] = search rules in
+    let same : lengths_of c.push-then-place_after-len.new.self.items ≡ lengths_of fs ++ new.n ∷ [] = ap lengths_of pushed ∙ lengths_push fs new in
     subst (AreChosen ps text) (sym same) (took_all text most ps fs new took (omega (arith, c.if-index-pieces.false, c.if-index-pieces-2.false, c.len-index.ensures)) (sym c.place_after.ensures ∙ c.if-place_after-len.true ∙ c.len.ensures.is))
 
 pub loop-preserved : goal.loop-preserved
