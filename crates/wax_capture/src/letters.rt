@@ -1,13 +1,12 @@
 //! Forms of letters, found by their first letters.
-ghost use Rattle.std.specs.Prelude.{◌≡◌, ◌<◌, ◌≤◌, ℕ, false, Some, IfOk, IsFalse, IsTrue, length, take, drop};
-ghost use Rattle.wax_lengths.specs.Forms.{SpelledBy, TakenBy};
+ghost use Rattle.std.specs.Prelude.{◌≡◌, ◌<◌, ◌≤◌, Some, IfOk, IsTrue, length, drop};
 ghost use Rattle.wax_capture.specs.Pieces.{forms_of};
 ghost use Rattle.wax_capture.specs.inner.Letters.{ArePassed, NoneBegins, first_letter};
 
 use crate::piece::Ways;
 use std::alloc::{AllocError, Global};
 use std::marker::Model;
-use wax_lengths::{Form, Text};
+use wax_lengths::{Form, Text, may_spell};
 
 /// The number of ASCII characters.
 const ASCII: usize = 128;
@@ -107,33 +106,6 @@ fn begins_with(form: &Form, letter: char) -> bool
         Some(first) => first == letter,
         None => false,
     }
-}
-
-/// Returns whether the text may have the letters of the form at the place.
-fn may_spell(form: &Form, text: &Text<'_>, at: usize) -> bool
-    requires { at ≤ length text.now }
-    ensures { IsFalse result → (n : ℕ) → TakenBy form.now (take n (drop at text.now)) → ⊥ }
-{
-    match form {
-        Form::Text(letters, is_folded) => *is_folded || has_letters(letters.as_slice(), text, at),
-        _ => true,
-    }
-}
-
-/// Returns whether the text has the letters at the place.
-fn has_letters(letters: &[char], text: &Text<'_>, at: usize) -> bool
-    requires { at ≤ length text.now }
-    ensures { IsFalse result → (n : ℕ) → SpelledBy false letters.now (take n (drop at text.now)) → ⊥ }
-{
-    if letters.len() > text.len() - at {
-        return false;
-    }
-    for index in 0..letters.len() {
-        if text.char_after(at, index) != letters[index] {
-            return false;
-        }
-    }
-    true
 }
 
 /// Links the forms if there are many, each with an ASCII letter at its beginning.

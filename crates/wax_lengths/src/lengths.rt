@@ -1,6 +1,6 @@
 //! The lengths of the parts of a text that a form takes from a place on.
 ghost use Rattle.std.specs.Prelude.{◌≡◌, ◌⊎◌, ◌||◌, ◌+◌, ◌*◌, ◌^◌, ◌<◌, ◌≤◌, ◌↔◌, ◌∷◌, [], ℕ, List};
-ghost use Rattle.std.specs.Prelude.{IfOk, IsFalse, IsTrue, length, take, drop};
+ghost use Rattle.std.specs.Prelude.{IfOk, IsFalse, IsTrue, false, length, take, drop};
 ghost use Rattle.wax_program.specs.Machine.{Accepts, PassesTest};
 ghost use Rattle.wax_query.specs.Components.{BeginsWithSlash};
 ghost use Rattle.wax_query.specs.Ranges.{AtMost};
@@ -76,7 +76,7 @@ fn is_spelled(
 
 /// Returns whether the text may have the letters at the place: whether it has the first of them.
 #[inline]
-fn may_spell(letters: &[char], is_folded: bool, text: &Text<'_>, at: usize) -> bool
+fn may_begin(letters: &[char], is_folded: bool, text: &Text<'_>, at: usize) -> bool
     requires { at ≤ length text.now }
     ensures { IsFalse result
         → (n : ℕ) → SpelledBy is_folded letters.now (take n (drop at text.now)) → ⊥ }
@@ -106,13 +106,41 @@ pub fn may_take(form: &Form, text: &Text<'_>, at: usize) -> bool
 {
     match form {
         Form::One(test) => may_pass(test, text, at),
-        Form::Text(letters, is_folded) => may_spell(letters.as_slice(), *is_folded, text, at),
+        Form::Text(letters, is_folded) => may_begin(letters.as_slice(), *is_folded, text, at),
         Form::Tree {
             before,
             after,
             has_root,
         } => tree_low(*before, *after, *has_root) == 0 || begins_with_slash(text, at),
         Form::Run { test, low, .. } => *low == 0 || may_pass(test, text, at),
+        _ => true,
+    }
+}
+
+/// Returns whether the text has the letters at the place.
+fn has_letters(letters: &[char], text: &Text<'_>, at: usize) -> bool
+    requires { at ≤ length text.now }
+    ensures { IsFalse result → (n : ℕ) → SpelledBy false letters.now (take n (drop at text.now)) → ⊥ }
+{
+    if letters.len() > text.len() - at {
+        return false;
+    }
+    for index in 0..letters.len() {
+        if text.char_after(at, index) != letters[index] {
+            return false;
+        }
+    }
+    true
+}
+
+/// Returns whether the form may take a part of the text from `at` on. Looks at each letter of a form
+/// that takes these letters only.
+pub fn may_spell(form: &Form, text: &Text<'_>, at: usize) -> bool
+    requires { at ≤ length text.now }
+    ensures { IsFalse result → (n : ℕ) → TakenBy form.now (take n (drop at text.now)) → ⊥ }
+{
+    match form {
+        Form::Text(letters, is_folded) => *is_folded || has_letters(letters.as_slice(), text, at),
         _ => true,
     }
 }

@@ -8,7 +8,7 @@ mod text;
 mod visits;
 
 pub use form::Form;
-pub use lengths::{lengths_of, may_take};
+pub use lengths::{lengths_of, may_spell, may_take};
 pub use span::{LengthSpan, Marks, pick};
 pub use text::Text;
 pub use visits::Visits;

@@ -1,7 +1,8 @@
 use Rattle.std.proofs.Common.{◌≡◌, ◌+◌, ◌-◌, ◌<◌, ◌∙◌, ℕ, List, drop, get_or, length, length-drop, arith, sym}
 use Rattle.std.proofs.lemmas.List.{get_or-drop}
-use Rattle.wax_capture.proofs.Linking.{read_within, spelled_at}
-use Rattle.wax_capture.proofs.letters.has_letters.Goals as goal
+use Rattle.wax_lengths.proofs.FormLengths.{spelled_at}
+use Rattle.wax_lengths.proofs.Lists.{read_within}
+use Rattle.wax_lengths.proofs.lengths.has_letters.Goals as goal
 
 pub returns-then-letters-len : goal.returns-then-letters-len
 returns-then-letters-len c = λ no n h.

@@ -2,7 +2,7 @@ use Rattle.std.proofs.Common.{ℕ, List, drop, get_or, sym, ap, ◌∙◌, true�
 use Rattle.std.proofs.lemmas.List.{get_or-drop}
 use Rattle.wax_lengths.specs.Forms.{IsLetter}
 use Rattle.wax_lengths.proofs.FormLengths.{spelled_first}
-use Rattle.wax_lengths.proofs.lengths.may_spell.Goals as goal
+use Rattle.wax_lengths.proofs.lengths.may_begin.Goals as goal
 
 pub returns-then-at-len : goal.returns-then-at-len
 returns-then-at-len c = λ no n h.
