@@ -96,6 +96,7 @@ impl Pieces {
     /// # Errors
     ///
     /// Returns `NoMemory` if allocation fails.
+    #[inline(never)]
     pub fn matched_counted<'p>(
         &self,
         alloc: Global,
