@@ -7,6 +7,7 @@ pub mod Linking
 pub mod NothingCaptured
 pub mod Parts
 pub mod Rows
+pub mod Runs
 pub mod Taking
 pub mod Tied
 pub mod TokenWays

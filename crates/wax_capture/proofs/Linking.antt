@@ -23,14 +23,6 @@ passed_join forms from mid to s first then k f le lt is n takes = elim (cases_lt
   | inr ge ↦ then k f ge lt is n takes
 ]
 
--- each letter stands where it is spelled
-pub spelled_at : (ls s : List ℕ) (n j : ℕ) → SpelledBy false ls (take n s) → j < length ls → (j < length s) × (get_or s j 0 ≡ get_or ls j 0)
-spelled_at [] s n j h lt = absurd (omega (arith, lt))
-spelled_at (l ∷ ls) s zero j h lt = absurd h
-spelled_at (l ∷ ls) [] (suc n) j h lt = absurd h
-spelled_at (l ∷ ls) (d ∷ s) (suc n) zero h lt = (omega arith, h.0)
-spelled_at (l ∷ ls) (d ∷ s) (suc n) (suc j) h lt = let (within, same) = spelled_at ls s n j h.1 (omega (arith, lt)) in (omega (arith, within), same)
-
 -- what a form with a first letter takes begins with it
 pub begins_so : (f : Form) (c : ℕ) (x : List ℕ) → first_letter f ≡ Some c → TakenBy f x → (y : List ℕ) × (x ≡ c ∷ y)
 begins_so (form.One test) c x e h = absurd (cc)
@@ -44,6 +36,7 @@ begins_so (form.Text letters false) c x e h = spelled letters.items x e h
 begins_so form.Name c x e h = absurd (cc)
 begins_so form.SlashOrNothing c x e h = absurd (cc)
 begins_so (form.Tree before after rooted) c x e h = absurd (cc)
+begins_so (form.Run test low high) c x e h = absurd (cc)
 begins_so (form.Coded program) c x e h = absurd (cc)
 
 module _ (forms : List Form) (firsts nexts : List ℕ) (links : AreLinked forms firsts nexts 0) where
@@ -78,11 +71,6 @@ module _ (forms : List Form) (firsts nexts : List ℕ) (links : AreLinked forms 
   pub passed_with : (from to d : ℕ) (s : List ℕ) → NoneBegins forms from to d → ArePassed forms from to (d ∷ s)
   passed_with from to d s none k f le lt is n takes =
       none k f le lt is (starts f d n s (links.lettered k f (omega arith) is) takes)
-
-pub read_within : (xs : List ℕ) (i d e : ℕ) → i < length xs → get_or xs i d ≡ get_or xs i e
-read_within [] i d e lt = absurd (omega (arith, lt))
-read_within (x ∷ xs) zero d e lt = refl
-read_within (x ∷ xs) (suc i) d e lt = read_within xs i d e (omega (arith, lt))
 
 -- one more form is linked
 pub links_more : (forms : List Form) (firsts nexts : List ℕ) (i c old : ℕ) (f : Form) → AreLinked forms firsts nexts (i + 1) → i < length forms → slice_get forms i ≡ Some f → first_letter f ≡ Some c → c < 128 →

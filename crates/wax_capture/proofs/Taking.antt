@@ -1,5 +1,5 @@
 -- The chosen pieces from left to right.
-use Rattle.std.proofs.Common.{◌≡◌, ℕ, zero, suc, ◌+◌, ◌-◌, ◌<◌, ◌≤◌, true, false, List, [], ◌∷◌, ◌++◌, length, get_or, take, drop}
+use Rattle.std.proofs.Common.{◌≡◌, ℕ, suc, ◌+◌, ◌-◌, ◌<◌, ◌≤◌, true, false, List, [], ◌∷◌, ◌++◌, length, get_or, take, drop}
 use Rattle.std.proofs.Common.{drop-cons, Option, Some, None, is_some, true≢false, slice_get, refl, sym, ◌∙◌, ap, subst, arith, append_assoc, append-nil, length-drop}
 use Rattle.std.specs.Global.{Vec}
 use Rattle.std.proofs.lemmas.List.{drop-drop, drop_all}
@@ -91,12 +91,6 @@ module _ (ps : List Piece) (s : List ℕ) (i : ℕ) (p : Piece) (lt : i < length
       let from : drop i ns ≡ n ∷ drop (i + 1) ns = drop-cons ns i n long ∙ ap (λ z. z ∷ drop (suc i) ns) (sym e) ∙ ap (λ k. n ∷ drop k ns) m in
       let g : AreChosen (p ∷ drop (i + 1) ps) (drop at s) (n ∷ drop (i + 1) ns) = subst (λ z. AreChosen z (drop at s) (n ∷ drop (i + 1) ns)) pieces_from (subst (AreChosen (drop i ps) (drop at s)) from h) in
       (g.0, subst (λ z. AreChosen (drop (i + 1) ps) z (drop (i + 1) ns)) (drop-drop n at s) g.1)
-
--- a length that was read
-pub got : (ns : List ℕ) (i : ℕ) → i < length ns → get_or ns i 0 ≡ get_or ns i (get_or ns i 0)
-got [] i lt = absurd (omega (arith, lt))
-got (n ∷ ns) zero lt = refl
-got (n ∷ ns) (suc i) lt = got ns i (omega (arith, lt))
 
 pub chosen_length : (ps : List Piece) (s ns : List ℕ) → AreChosen ps s ns → length ns ≡ length ps
 chosen_length [] s [] h = refl

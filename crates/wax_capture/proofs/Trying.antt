@@ -176,12 +176,14 @@ pub lengths_push : (fs : List Frame) (f : Frame) → lengths_of (fs ++ f ∷ [])
 lengths_push [] f = refl
 lengths_push (g ∷ fs) f = ap (λ z. g.n ∷ z) (lengths_push fs f)
 
-pub lengths_more : (fs : List Frame) (i : ℕ) (f : Frame) → i < length fs → f ≡ get_or fs i f → lengths_of (take (i + 1) fs) ≡ lengths_of (take i fs) ++ f.n ∷ []
-lengths_more [] i f lt e = absurd (omega (arith, lt))
-lengths_more (g ∷ fs) zero f lt e = ap (λ z. z.n ∷ []) (sym e)
-lengths_more (g ∷ fs) (suc i) f lt e =
-    let m : suc i + 1 ≡ suc (i + 1) = omega arith in
-    rw m (ap (λ z. g.n ∷ z) (lengths_more fs i f (omega (arith, lt)) e))
+pub length-lengths : (fs : List Frame) → length (lengths_of fs) ≡ length fs
+length-lengths [] = refl
+length-lengths (f ∷ fs) = ap (λ n. suc n) (length-lengths fs)
+
+pub lengths_at : (fs : List Frame) (i : ℕ) (f : Frame) → i < length fs → (get_or fs i f).n ≡ get_or (lengths_of fs) i (get_or fs i f).n
+lengths_at [] i f lt = absurd (omega (arith, lt))
+lengths_at (g ∷ fs) zero f lt = refl
+lengths_at (g ∷ fs) (suc i) f lt = lengths_at fs i f (omega (arith, lt))
 
 -- ---- the piece that is tried
 pub at_piece : (ps : List Piece) (fs : List Frame) (i : ℕ) (p : Piece) → i ≡ length fs → i < length ps → p ≡ get_or ps i p → drop (length fs) ps ≡ p ∷ drop (length fs + 1) ps

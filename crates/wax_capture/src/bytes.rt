@@ -6,47 +6,25 @@ ghost use Rattle.wax_capture.specs.inner.Bytes.{byte_at, in_bytes};
 ghost use Rattle.wax_capture.specs.inner.Parts.{IsWithin};
 
 use std::alloc::{AllocError, Global};
+use wax_lengths::Text;
 
-/// Returns the characters of a text as a list.
-///
-/// # Errors
-///
-/// Returns `AllocError` if allocation fails.
-pub fn characters(alloc: Global, text: &str) -> Result<Vec<char>, AllocError>
-    ensures { IfOk result (λ v. v.items ≡ chars text.now) }
-{
-    if text.is_ascii() {
-        return ascii_characters(alloc, text.as_bytes());
-    }
-    text.chars().collect(alloc)
-}
-
-/// Returns the bytes of a text as characters, one for each.
-fn ascii_characters(alloc: Global, text: &[u8]) -> Result<Vec<char>, AllocError>
-    ensures { IfOk result (λ v. v.items ≡ text.now) }
-{
-    let mut characters = Vec::with_capacity(alloc, text.len())?;
-    for byte in text {
-        characters.push(*byte as char)?;
-    }
-    Ok(characters)
-}
-
-/// Returns the length of the characters in bytes.
-fn byte_len(text: &[char]) -> usize
-    requires { utf8_len text.now < 2 ^ 64 }
-    ensures { result ≡ utf8_len text.now }
+/// Returns the number of bytes of the characters from one place up to another.
+fn byte_len(text: &Text<'_>, from: usize, to: usize) -> usize
+    requires ordered { from ≤ to }
+    requires within { to ≤ length text.now }
+    requires fits { utf8_len text.now < 2 ^ 64 }
+    ensures { byte_at text.now from + result ≡ byte_at text.now to }
 {
     let mut len = 0;
-    for c in text {
-        len += c.len_utf8();
+    for place in from..to {
+        len += text.char_at(place).len_utf8();
     }
     len
 }
 
 /// Returns the number of bytes before a place. Counts on from the place `known`, before which there
 /// are `bytes`, or from the beginning if the place is before `known`.
-fn bytes_before(text: &[char], known: usize, bytes: usize, place: usize) -> usize
+fn bytes_before(text: &Text<'_>, known: usize, bytes: usize, place: usize) -> usize
     requires known { bytes ≡ byte_at text.now known }
     requires before { known ≤ length text.now }
     requires within { place ≤ length text.now }
@@ -54,15 +32,15 @@ fn bytes_before(text: &[char], known: usize, bytes: usize, place: usize) -> usiz
     ensures { result ≡ byte_at text.now place }
 {
     if place < known {
-        return byte_len(&text[..place]);
+        return byte_len(text, 0, place);
     }
-    bytes + byte_len(&text[known..place])
+    bytes + byte_len(text, known, place)
 }
 
 /// Converts the places of parts to bytes. Takes one pass over the text if the parts are in order.
 fn count_bytes(
     alloc: Global,
-    text: &[char],
+    text: &Text<'_>,
     parts: &[(usize, usize)],
 ) -> Result<Vec<(usize, usize)>, AllocError>
     requires within { All (IsWithin text.now) parts.now }
@@ -92,7 +70,7 @@ fn count_bytes(
 pub fn to_bytes(
     alloc: Global,
     text: &str,
-    characters: &[char],
+    characters: &Text<'_>,
     parts: Vec<(usize, usize)>,
 ) -> Result<Vec<(usize, usize)>, AllocError>
     requires characters { characters.now ≡ chars text.now }

@@ -9,14 +9,14 @@ ghost use Rattle.wax_capture.specs.declared.piece.Piece.{Piece};
 
 use crate::piece::Piece;
 use std::alloc::{AllocError, Global};
-use wax_lengths::{Form, Visits, lengths_of, pick};
+use wax_lengths::{Form, Text, Visits, lengths_of, pick};
 
 /// Returns the best length that the form takes from `at` on, and after which the cell in `next`
 /// isn't empty.
 fn choose_by(
     alloc: Global,
     form: &Form,
-    text: &[char],
+    text: &Text<'_>,
     at: usize,
     next: &[Option<usize>],
     is_lazy: bool,
@@ -49,7 +49,7 @@ fn choose_by(
 pub fn choose(
     alloc: Global,
     piece: &Piece,
-    text: &[char],
+    text: &Text<'_>,
     at: usize,
     next: &[Option<usize>],
     visits: &mut Visits,

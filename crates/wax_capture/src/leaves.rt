@@ -1,17 +1,25 @@
 //! Building the forms of leaves.
-ghost use Rattle.std.specs.Prelude.{◌≡◌, ◌↔◌, ◌≤◌, ℕ, Bool, List, IfOk, IfSome, chars, length, map};
+ghost use Rattle.std.specs.Prelude.{◌≡◌, ◌↔◌, ◌≤◌, ℕ, Bool, true, List, IfOk, IfSome, chars, length, map};
 ghost use Rattle.unicode.specs.CaseFolding.{simple_fold};
 ghost use Rattle.wax_token.specs.Cost.{cost, leaf_cost};
-ghost use Rattle.wax_token.specs.Meaning.{LeafMeans, Means, SameText};
+ghost use Rattle.wax_program.specs.Machine.{PassesTest};
+ghost use Rattle.wax_token.specs.Meaning.{LeafMeans, Means, SameText, in_class};
 ghost use Rattle.wax_token.specs.View.{leaf_of, wildcard_leaf};
 ghost use Rattle.wax_lengths.specs.Forms.{TakenBy, form_size};
+ghost use Rattle.wax_capture.specs.inner.Ways.{PassesOne};
 
-use crate::bytes::characters;
 use std::alloc::{AllocError, Global};
 use unicode::case::simple_fold;
 use wax_lengths::Form;
 use wax_program::instruction::Test;
 use wax_token::token::{BranchKind, Class, LeafKind, Literal, Token, Topology, Wildcard};
+
+/// Returns the characters of a text as a list.
+fn characters(alloc: Global, text: &str) -> Result<Vec<char>, AllocError>
+    ensures { IfOk result (λ v. v.items ≡ chars text.now) }
+{
+    text.chars().collect(alloc)
+}
 
 /// Returns the simple case foldings of the characters.
 fn folded(alloc: Global, characters: &[char]) -> Result<Vec<char>, AllocError>
@@ -52,6 +60,31 @@ fn form_of_wildcard(wildcard: &Wildcard, before: bool, after: bool) -> Form
     }
 }
 
+fn test_of_class(alloc: Global, class: &Class) -> Result<Test, AllocError>
+    ensures { IfOk result (λ test. (c : ℕ)
+        → PassesTest test c ↔ (in_class class.now.0 class.now.1 c ≡ true)) }
+{
+    let archetypes = class.archetypes().to_vec(alloc)?;
+    Ok(Test::Class(Class::new(class.is_negated(), archetypes)))
+}
+
+/// Builds the test of a leaf that takes one character, or returns `None` for any other leaf.
+///
+/// # Errors
+///
+/// Returns `AllocError` if allocation fails.
+pub fn test_of_leaf(alloc: Global, leaf: &LeafKind<'_>) -> Result<Option<Test>, AllocError>
+    ensures { IfOk result (λ r. IfSome r (λ test. (before after : Bool) (x : List ℕ)
+        → PassesOne test x ↔ LeafMeans (leaf_of leaf.now) before after x)) }
+{
+    Ok(match leaf {
+        LeafKind::Class(class) => Some(test_of_class(alloc, class)?),
+        LeafKind::Separator(_) => Some(Test::Char('/')),
+        LeafKind::Wildcard(Wildcard::One) => Some(Test::NotSlash),
+        _ => None,
+    })
+}
+
 /// Builds the form of a leaf. `before` and `after` say whether something is written before and
 /// after it.
 ///
@@ -69,10 +102,7 @@ pub fn form_of_leaf(
     ensures few { IfOk result (λ form. form_size form ≤ leaf_cost (leaf_of leaf.now)) }
 {
     Ok(match leaf {
-        LeafKind::Class(class) => {
-            let archetypes = class.archetypes().to_vec(alloc)?;
-            Form::One(Test::Class(Class::new(class.is_negated(), archetypes)))
-        }
+        LeafKind::Class(class) => Form::One(test_of_class(alloc, class)?),
         LeafKind::Literal(literal) => form_of_literal(alloc, literal)?,
         LeafKind::Separator(_) => Form::One(Test::Char('/')),
         LeafKind::Wildcard(wildcard) => form_of_wildcard(wildcard, before, after),

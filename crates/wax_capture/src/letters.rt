@@ -1,13 +1,12 @@
 //! Forms of letters, found by their first letters.
-ghost use Rattle.std.specs.Prelude.{◌≡◌, ◌<◌, ◌≤◌, ℕ, false, Some, IfOk, IsFalse, IsTrue, length, take, drop};
-ghost use Rattle.wax_lengths.specs.Forms.{SpelledBy, TakenBy};
+ghost use Rattle.std.specs.Prelude.{◌≡◌, ◌<◌, ◌≤◌, Some, IfOk, IsTrue, length, drop};
 ghost use Rattle.wax_capture.specs.Pieces.{forms_of};
 ghost use Rattle.wax_capture.specs.inner.Letters.{ArePassed, NoneBegins, first_letter};
 
 use crate::piece::Ways;
 use std::alloc::{AllocError, Global};
 use std::marker::Model;
-use wax_lengths::Form;
+use wax_lengths::{Form, Text, may_spell};
 
 /// The number of ASCII characters.
 const ASCII: usize = 128;
@@ -51,42 +50,35 @@ impl ByLetter {
     /// Returns the index of the first form, from `from` on, that may take a part of the text from
     /// `at` on, or at least the number of forms.
     #[inline(never)]
-    pub fn next_form(&self, from: usize, text: &[char], at: usize) -> usize
+    pub fn next_form(&self, from: usize, text: &Text<'_>, at: usize) -> usize
         requires { at ≤ length text.now }
         ensures further { from ≤ result }
         ensures passed { ArePassed self.now from result (drop at text.now) }
     {
-        let mut index = self.next_by_letter(from, text, at);
+        if at == text.len() || !text.char_at(at).is_ascii() {
+            return self.forms.len().max(from);
+        }
+        let letter = text.char_at(at);
+        let mut index = self.next_with(from, letter);
         while index < self.forms.len() && !may_spell(&self.forms[index], text, at) {
-            index = self.next_by_letter(index + 1, text, at);
+            index = self.next_with(index + 1, letter);
         }
         index
     }
 
-    /// Returns the index of the first form, from `from` on, that begins with the letter at the
-    /// place, or at least the number of forms.
-    fn next_by_letter(&self, from: usize, text: &[char], at: usize) -> usize
-        requires { at ≤ length text.now }
-        ensures further { from ≤ result }
-        ensures passed { ArePassed self.now from result (drop at text.now) }
-    {
-        if at == text.len() || !text[at].is_ascii() {
-            return self.forms.len().max(from);
-        }
-        self.next_with(from, text[at]).max(from)
-    }
-
     /// Returns the index of the first form, from `from` on, that begins with the letter. If the
     /// form before doesn't begin with it, `from` is returned.
+    #[inline]
     fn next_with(&self, from: usize, letter: char) -> usize
         requires { letter < 128 }
-        ensures { NoneBegins self.now from result letter }
+        ensures further { from ≤ result }
+        ensures none { NoneBegins self.now from result letter }
     {
         if from == 0 {
             return self.firsts[letter as usize];
         }
         if from <= self.forms.len() && begins_with(&self.forms[from - 1], letter) {
-            return self.nexts[from - 1];
+            return self.nexts[from - 1].max(from);
         }
         from
     }
@@ -114,33 +106,6 @@ fn begins_with(form: &Form, letter: char) -> bool
         Some(first) => first == letter,
         None => false,
     }
-}
-
-/// Returns whether the text may have the letters of the form at the place.
-fn may_spell(form: &Form, text: &[char], at: usize) -> bool
-    requires { at ≤ length text.now }
-    ensures { IsFalse result → (n : ℕ) → TakenBy form.now (take n (drop at text.now)) → ⊥ }
-{
-    match form {
-        Form::Text(letters, is_folded) => *is_folded || has_letters(letters.as_slice(), text, at),
-        _ => true,
-    }
-}
-
-/// Returns whether the text has the letters at the place.
-fn has_letters(letters: &[char], text: &[char], at: usize) -> bool
-    requires { at ≤ length text.now }
-    ensures { IsFalse result → (n : ℕ) → SpelledBy false letters.now (take n (drop at text.now)) → ⊥ }
-{
-    if letters.len() > text.len() - at {
-        return false;
-    }
-    for index in 0..letters.len() {
-        if text[at + index] != letters[index] {
-            return false;
-        }
-    }
-    true
 }
 
 /// Links the forms if there are many, each with an ASCII letter at its beginning.

@@ -10,14 +10,14 @@ ghost use Rattle.wax_capture.specs.Matched.{AreOnly, IsMatched, square_visits};
 ghost use Rattle.wax_capture.specs.Pieces.{ArePieces};
 
 use crate::build::pieces_of;
-use crate::bytes::{characters, to_bytes};
+use crate::bytes::to_bytes;
 use crate::piece::Piece;
 use crate::size::size_of_all;
 use crate::split::split;
 use std::alloc::Global;
 use std::marker::Model;
 use wax_candidate::MatchedText;
-use wax_lengths::Visits;
+use wax_lengths::{Text, Visits};
 use wax_match::encode::CompileError;
 use wax_query::diagnostics::{NoMemory, Refusal};
 use wax_token::token::Token;
@@ -55,12 +55,15 @@ impl Model for Pieces {
     ghost invariant = { λ p. p.size ≤ all_sizes p.pieces.items };
 }
 
+/// How often a trial may look at each character of a text, times the sizes of all forms.
+const OFTEN: usize = 8;
+
 /// Returns how many visits a trial may take for a text of `len` characters.
 fn limit(size: usize, len: usize) -> usize
     ensures { result ≤ size * ((len + 1) * (len + 1)) }
 {
     let side = len.saturating_add(1);
-    size.saturating_mul(side.saturating_mul(side))
+    size.saturating_mul(side.saturating_mul(side.min(OFTEN)))
 }
 
 impl Pieces {
@@ -93,6 +96,7 @@ impl Pieces {
     /// # Errors
     ///
     /// Returns `NoMemory` if allocation fails.
+    #[inline(never)]
     pub fn matched_counted<'p>(
         &self,
         alloc: Global,
@@ -108,18 +112,18 @@ impl Pieces {
             → IfOk result (λ answer. answer.1 ≤ cube_visits (costs ts + 1) (chars text.now)) }
     {
         let mut visits = Visits::new();
-        let characters = characters(alloc, text)?;
+        let characters = Text::new(alloc, text)?;
         let found = split(
             alloc,
             self.pieces.as_slice(),
-            characters.as_slice(),
+            &characters,
             limit(self.size, characters.len()),
             &mut visits,
         )?;
         let Some(parts) = found else {
             return Ok((None, visits.count()));
         };
-        let captures = to_bytes(alloc, text, characters.as_slice(), parts)?;
+        let captures = to_bytes(alloc, text, &characters, parts)?;
         Ok((Some(MatchedText::new(text, captures)), visits.count()))
     }
 }

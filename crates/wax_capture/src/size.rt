@@ -1,25 +1,10 @@
 //! Sizes of forms: bounds of how often they look at each character of a text.
 ghost use Rattle.std.specs.Prelude.{◌≡◌, ◌≤◌};
 ghost use Rattle.wax_capture.specs.Pieces.{size_of};
-ghost use Rattle.wax_lengths.specs.Forms.{form_size};
 ghost use Rattle.wax_capture.specs.inner.Splits.{all_sizes};
 
 use crate::piece::Piece;
 use wax_lengths::Form;
-
-/// Returns the size of a form.
-fn size_of_form(form: &Form) -> usize
-    ensures { result ≤ form_size form.now }
-{
-    match form {
-        Form::One(_) => 1,
-        Form::Text(letters, _) => letters.len(),
-        Form::Name => 1,
-        Form::SlashOrNothing => 1,
-        Form::Tree { .. } => 2,
-        Form::Coded(program) => program.len().saturating_sub(1),
-    }
-}
 
 /// Returns the sum of the forms' sizes, or less if 64 bits can't hold it.
 fn size_of(forms: &[Form]) -> usize
@@ -27,7 +12,7 @@ fn size_of(forms: &[Form]) -> usize
 {
     let mut size: usize = 0;
     for index in 0..forms.len() {
-        size = size.saturating_add(size_of_form(&forms[index]));
+        size = size.saturating_add(forms[index].size());
     }
     size
 }

@@ -6,29 +6,30 @@ ghost use Rattle.wax_capture.specs.Captures.{tree_capture};
 ghost use Rattle.wax_capture.specs.Pieces.{captured_by};
 ghost use Rattle.wax_capture.specs.inner.Parts.{IsWithin, part_between, parts};
 ghost use Rattle.wax_capture.specs.inner.Splits.{AreChosen, CapturedBy, Splits, all_sizes};
+ghost use Rattle.wax_capture.specs.inner.Trials.{lengths_of};
 
 use crate::piece::{Capture, Piece};
 use crate::table::split_by_table;
-use crate::trial::{Trial, split_by_trial};
+use crate::trial::{Frame, Trial, split_by_trial};
 use std::alloc::{AllocError, Global};
-use wax_lengths::Visits;
+use wax_lengths::{Text, Visits};
 
 /// Returns the end of the part of `n` characters from `at` on, or `at` if the part is one `/`.
-fn end_unless_slash(text: &[char], at: usize, n: usize) -> usize
+fn end_unless_slash(text: &Text<'_>, at: usize, n: usize) -> usize
     requires { at + n ≤ length text.now }
     ensures part { part_between text.now (at, result) ≡ tree_capture false false (take n (drop at text.now)) }
     ensures within { IsWithin text.now (at, result) }
 {
-    if n == 1 && text[at] == '/' {
+    if n == 1 && text.char_at(at) == '/' {
         return at;
     }
-    at + n
+    text.place_after(at, n)
 }
 
 /// Appends what is captured of the `n` characters from `at` on, as its beginning and its end.
 fn add_capture(
     capture: Capture,
-    text: &[char],
+    text: &Text<'_>,
     at: usize,
     n: usize,
     captures: &mut Vec<(usize, usize)>,
@@ -41,22 +42,24 @@ fn add_capture(
 {
     match capture {
         Capture::Nothing => {}
-        Capture::Piece => captures.push((at, at + n))?,
-        Capture::AfterFirst => captures.push((at + n.min(1), at + n))?,
+        Capture::Piece => captures.push((at, text.place_after(at, n)))?,
+        Capture::AfterFirst => {
+            captures.push((text.place_after(at, n.min(1)), text.place_after(at, n)))?;
+        }
         Capture::UnlessSlash => captures.push((at, end_unless_slash(text, at, n)))?,
     }
     Ok(())
 }
 
-/// Returns the captures of pieces of these lengths, each as its beginning and its end, in
-/// characters.
+/// Returns what is captured of the pieces by the chosen split, each as its beginning and its end,
+/// in characters.
 fn captures_of(
     alloc: Global,
     pieces: &[Piece],
-    text: &[char],
-    lengths: &[usize],
+    text: &Text<'_>,
+    chosen: &[Frame],
 ) -> Result<Vec<(usize, usize)>, AllocError>
-    requires { AreChosen pieces.now text.now lengths.now }
+    requires { AreChosen pieces.now text.now (lengths_of chosen.now) }
     ensures captured { IfOk result (λ captures.
         CapturedBy pieces.now text.now (parts text.now captures.items)) }
     ensures within { IfOk result (λ captures. All (IsWithin text.now) captures.items) }
@@ -64,31 +67,31 @@ fn captures_of(
     let mut captures = Vec::with_capacity(alloc, pieces.len())?;
     let mut at = 0;
     for index in 0..pieces.len() {
-        let n = lengths[index];
+        let n = chosen[index].n;
         add_capture(pieces[index].capture, text, at, n, &mut captures)?;
-        at += n;
+        at = text.place_after(at, n);
     }
     Ok(captures)
 }
 
-/// Returns the lengths of the pieces by the chosen split, or `None` if the pieces don't split the
-/// text. Tries first, which is usually faster, and builds a table if that takes too long.
-fn lengths_of(
+/// Returns the pieces by the chosen split, or `None` if they don't split the text. Tries first,
+/// which is usually faster, and builds a table if that takes too long.
+fn chosen_split(
     alloc: Global,
     pieces: &[Piece],
-    text: &[char],
+    text: &Text<'_>,
     limit: usize,
     visits: &mut Visits,
-) -> Result<Option<Vec<usize>>, AllocError>
+) -> Result<Option<Vec<Frame>>, AllocError>
     requires { limit ≤ all_sizes pieces.now * ((length text.now + 1) * (length text.now + 1)) }
     ensures chosen { IfOk result (λ r. MatchOption r (Splits pieces.now text.now → ⊥)
-        (λ lengths. AreChosen pieces.now text.now lengths.items)) }
+        (λ chosen. AreChosen pieces.now text.now (lengths_of chosen.items))) }
     ensures above { visits.new
         ≤ visits.old + 4 * (all_sizes pieces.now * ((length text.now + 1) * (length text.now + 1))) }
     ensures steady { visits.old ≤ visits.new }
 {
     match split_by_trial(alloc, pieces, text, limit, visits)? {
-        Trial::Chosen(lengths) => Ok(Some(lengths)),
+        Trial::Chosen(chosen) => Ok(Some(chosen)),
         Trial::Nothing => Ok(None),
         Trial::Unknown => split_by_table(alloc, pieces, text, visits),
     }
@@ -103,7 +106,7 @@ fn lengths_of(
 pub fn split(
     alloc: Global,
     pieces: &[Piece],
-    text: &[char],
+    text: &Text<'_>,
     limit: usize,
     visits: &mut Visits,
 ) -> Result<Option<Vec<(usize, usize)>>, AllocError>
@@ -115,8 +118,8 @@ pub fn split(
         ≤ visits.old + 4 * (all_sizes pieces.now * ((length text.now + 1) * (length text.now + 1))) }
     ensures steady { visits.old ≤ visits.new }
 {
-    match lengths_of(alloc, pieces, text, limit, visits)? {
-        Some(lengths) => Ok(Some(captures_of(alloc, pieces, text, lengths.as_slice())?)),
+    match chosen_split(alloc, pieces, text, limit, visits)? {
+        Some(chosen) => Ok(Some(captures_of(alloc, pieces, text, chosen.as_slice())?)),
         None => Ok(None),
     }
 }

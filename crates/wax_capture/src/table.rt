@@ -3,15 +3,17 @@ ghost use Rattle.std.specs.Prelude.{◌≡◌, ◌+◌, ◌*◌, ◌≤◌, ◌�
 ghost use Rattle.wax_capture.specs.Pieces.{forms_of, size_of};
 ghost use Rattle.wax_capture.specs.inner.Rows.{ArePieceRows, Row};
 ghost use Rattle.wax_capture.specs.inner.Splits.{AreChosen, Splits, all_sizes};
+ghost use Rattle.wax_capture.specs.inner.Trials.{lengths_of};
 ghost use Rattle.wax_capture.specs.declared.piece.Piece.{Piece};
 
 use crate::choice::choose;
 use crate::piece::Piece;
+use crate::trial::Frame;
 use std::alloc::{AllocError, Global};
-use wax_lengths::Visits;
+use wax_lengths::{Text, Visits};
 
 /// Builds the row of no piece, which can split only the empty rest at the text's end.
-fn last_row(alloc: Global, text: &[char]) -> Result<Vec<Option<usize>>, AllocError>
+fn last_row(alloc: Global, text: &Text<'_>) -> Result<Vec<Option<usize>>, AllocError>
     ensures row { IfOk result (λ r. Row [] text.now r.items) }
     ensures len { IfOk result (λ r. length r.items ≡ length text.now + 1) }
 {
@@ -24,7 +26,7 @@ fn last_row(alloc: Global, text: &[char]) -> Result<Vec<Option<usize>>, AllocErr
 fn row_before(
     alloc: Global,
     piece: &Piece,
-    text: &[char],
+    text: &Text<'_>,
     next: &[Option<usize>],
     visits: &mut Visits,
 ) -> Result<Vec<Option<usize>>, AllocError>
@@ -48,7 +50,7 @@ fn row_before(
 fn table(
     alloc: Global,
     pieces: &[Piece],
-    text: &[char],
+    text: &Text<'_>,
     visits: &mut Visits,
 ) -> Result<Vec<Vec<Option<usize>>>, AllocError>
     ensures rows { IfOk result (λ rows. ArePieceRows pieces.now text.now rows.items) }
@@ -70,9 +72,8 @@ fn table(
     Ok(rows)
 }
 
-/// Returns the lengths of the pieces by the chosen split, in characters, or `None` if the pieces
-/// don't split the text. Takes time proportional to the sizes of the pieces and the square of the
-/// text's length.
+/// Returns the pieces by the chosen split, or `None` if they don't split the text. Takes time
+/// proportional to the sizes of the pieces and the square of the text's length.
 ///
 /// # Errors
 ///
@@ -80,11 +81,11 @@ fn table(
 pub fn split_by_table(
     alloc: Global,
     pieces: &[Piece],
-    text: &[char],
+    text: &Text<'_>,
     visits: &mut Visits,
-) -> Result<Option<Vec<usize>>, AllocError>
+) -> Result<Option<Vec<Frame>>, AllocError>
     ensures chosen { IfOk result (λ r. MatchOption r (Splits pieces.now text.now → ⊥)
-        (λ lengths. AreChosen pieces.now text.now lengths.items)) }
+        (λ chosen. AreChosen pieces.now text.now (lengths_of chosen.items))) }
     ensures above { visits.new
         ≤ visits.old + all_sizes pieces.now * ((length text.now + 1) * (length text.now + 1)) }
     ensures steady { visits.old ≤ visits.new }
@@ -93,14 +94,14 @@ pub fn split_by_table(
     if rows[pieces.len()][0].is_none() {
         return Ok(None);
     }
-    let mut lengths = Vec::new(alloc);
+    let mut chosen = Vec::with_capacity(alloc, pieces.len())?;
     let mut at = 0;
     for index in 0..pieces.len() {
         let Some(n) = rows[pieces.len() - index][at] else {
             return Ok(None);
         };
-        lengths.push(n)?;
-        at += n;
+        chosen.push(Frame::new(at, n))?;
+        at = text.place_after(at, n);
     }
-    Ok(Some(lengths))
+    Ok(Some(chosen))
 }

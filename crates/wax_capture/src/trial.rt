@@ -6,21 +6,21 @@ ghost use Rattle.wax_capture.specs.Pieces.{forms_of, size_of};
 ghost use Rattle.wax_lengths.specs.Forms.{form_size};
 ghost use Rattle.wax_lengths.specs.Spans.{InSpan, IsNarrowed, IsPicked, looks};
 ghost use Rattle.wax_capture.specs.inner.Splits.{Splits, all_sizes};
-ghost use Rattle.wax_capture.specs.inner.Trials.{AreLeft, HasTaken, IsOpen, IsTried, lengths_of};
+ghost use Rattle.wax_capture.specs.inner.Trials.{AreLeft, HasTaken, IsOpen, IsTried};
 ghost use Rattle.wax_capture.specs.declared.piece.Piece.{Piece};
 
 use crate::piece::Piece;
 use std::alloc::{AllocError, Global};
 use std::mem;
-use wax_lengths::{Form, LengthSpan, Visits, lengths_of, pick};
+use wax_lengths::{Form, LengthSpan, Text, Visits, lengths_of, pick};
 
-/// The trial of one piece: the length that it takes now, and what is left to be tried.
+/// A piece in a trial: the length that it takes now, and what is left to be tried.
 #[derive(Drop)]
 pub struct Frame {
     /// The place where the piece begins.
     at: usize,
     /// The number of characters that it takes now.
-    n: usize,
+    pub n: usize,
     /// The number of its forms that were tried, the last of them perhaps in part.
     opened: usize,
     /// The lengths by the last of these forms that are left to be tried.
@@ -28,16 +28,17 @@ pub struct Frame {
 }
 
 impl Frame {
-    /// Creates the frame of a piece of which nothing was tried.
-    fn new(at: usize) -> Frame
+    /// Creates the frame of a piece that takes `n` characters, and of which nothing was tried.
+    pub fn new(at: usize, n: usize) -> Frame
         ensures at { result.at ≡ at }
+        ensures takes { result.n ≡ n }
         ensures opened { result.opened ≡ 0 }
         ensures end { result.span.end ≡ 0 }
         ensures looks { looks result.span ≡ 0 }
     {
         Frame {
             at,
-            n: 0,
+            n,
             opened: 0,
             span: LengthSpan::new(0, 0),
         }
@@ -47,8 +48,8 @@ impl Frame {
 /// The outcome of a trial.
 #[derive(Drop)]
 pub enum Trial {
-    /// The lengths of the pieces by the chosen split, in characters.
-    Chosen(Vec<usize>),
+    /// The pieces by the chosen split, each with what it takes.
+    Chosen(Vec<Frame>),
     /// The pieces don't split the text.
     Nothing,
     /// The trial took too long.
@@ -56,7 +57,7 @@ pub enum Trial {
 }
 
 /// Takes the best length that is left in the frame's span. Returns whether there was one.
-fn take_left(text: &[char], is_lazy: bool, frame: &mut Frame, visits: &mut Visits) -> bool
+fn take_left(text: &Text<'_>, is_lazy: bool, frame: &mut Frame, visits: &mut Visits) -> bool
     requires { frame.old.at + frame.old.span.end ≤ length text.now + 1 }
     ensures taken { MatchBool result
         (IsPicked frame.old.span frame.new.span (drop frame.old.at text.now) is_lazy frame.new.n)
@@ -83,7 +84,7 @@ fn lengths_left(
     alloc: Global,
     form: &Form,
     is_last: bool,
-    text: &[char],
+    text: &Text<'_>,
     at: usize,
     visits: &mut Visits,
 ) -> Result<LengthSpan, AllocError>
@@ -108,7 +109,7 @@ fn take_next(
     alloc: Global,
     piece: &Piece,
     is_last: bool,
-    text: &[char],
+    text: &Text<'_>,
     frame: &mut Frame,
     visits: &mut Visits,
 ) -> Result<bool, AllocError>
@@ -145,7 +146,7 @@ fn take_next(
 
 /// Returns whether the piece may take a part of the text from `at` on. Looks at the text only if
 /// the piece before it has other lengths left.
-fn may_begin(piece: &Piece, text: &[char], at: usize, has_others: bool) -> bool
+fn may_begin(piece: &Piece, text: &Text<'_>, at: usize, has_others: bool) -> bool
     requires { at ≤ length text.now }
     ensures { IsFalse result → (ps : List Piece) → Splits (piece.now ∷ ps) (drop at text.now) → ⊥ }
 {
@@ -153,18 +154,6 @@ fn may_begin(piece: &Piece, text: &[char], at: usize, has_others: bool) -> bool
         return true;
     }
     piece.ways.next_form(0, text, at) < piece.ways.forms().len()
-}
-
-/// Returns the chosen lengths: one for each frame, and then `last`.
-fn lengths(alloc: Global, frames: &[Frame], last: usize) -> Result<Vec<usize>, AllocError>
-    ensures { IfOk result (λ r. r.items ≡ lengths_of frames.now ++ last ∷ []) }
-{
-    let mut lengths = Vec::with_capacity(alloc, frames.len().saturating_add(1))?;
-    for index in 0..frames.len() {
-        lengths.push(frames[index].n)?;
-    }
-    lengths.push(last)?;
-    Ok(lengths)
 }
 
 /// Finds the lengths of the pieces by the chosen split. Each piece in turn takes the best length
@@ -177,7 +166,7 @@ fn lengths(alloc: Global, frames: &[Frame], last: usize) -> Result<Vec<usize>, A
 pub fn split_by_trial(
     alloc: Global,
     pieces: &[Piece],
-    text: &[char],
+    text: &Text<'_>,
     limit: usize,
     visits: &mut Visits,
 ) -> Result<Trial, AllocError>
@@ -187,7 +176,7 @@ pub fn split_by_trial(
 {
     let last = visits.count().saturating_add(limit as u128);
     let mut below: Vec<Frame> = Vec::with_capacity(alloc, pieces.len())?;
-    let mut top = Frame::new(0);
+    let mut top = Frame::new(0, 0);
     for _ in 0..limit.saturating_mul(4) {
         let index = below.len();
         if index >= pieces.len() || visits.count() >= last {
@@ -200,15 +189,15 @@ pub fn split_by_trial(
             };
             top = frame;
         } else if index + 1 < pieces.len() {
-            let end = top.at + top.n;
+            let end = text.place_after(top.at, top.n);
             let has_others = top.span.low < top.span.end;
             if may_begin(&pieces[index + 1], text, end, has_others) {
-                let next = Frame::new(end);
+                let next = Frame::new(end, 0);
                 below.push(mem::replace(&mut top, next))?;
             }
-        } else if top.at + top.n == text.len() {
-            let chosen = lengths(alloc, below.as_slice(), top.n)?;
-            return Ok(Trial::Chosen(chosen));
+        } else if text.place_after(top.at, top.n) == text.len() {
+            below.push(top)?;
+            return Ok(Trial::Chosen(below));
         }
     }
     Ok(Trial::Unknown)

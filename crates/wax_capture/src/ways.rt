@@ -1,6 +1,6 @@
 //! Building the forms by which a token can take a piece.
-ghost use Rattle.std.specs.Prelude.{◌≡◌, ◌+◌, ◌<◌, ◌≤◌, ◌↔◌, ◌∷◌, [], ◌++◌, ℕ, List, IfOk, OnOk};
-ghost use Rattle.std.specs.Prelude.{length, true};
+ghost use Rattle.std.specs.Prelude.{◌≡◌, ◌+◌, ◌<◌, ◌≤◌, ◌↔◌, ◌∷◌, [], ◌++◌, ℕ, Bool, List, IfOk, IfSome};
+ghost use Rattle.std.specs.Prelude.{OnOk, length, true};
 ghost use Rattle.wax_query.specs.Outcome.{MatchBuild};
 ghost use Rattle.wax_token.specs.Cost.{branches_cost, cost};
 ghost use Rattle.wax_token.specs.Meaning.{Means};
@@ -11,7 +11,7 @@ ghost use Rattle.wax_capture.specs.Pieces.{WayIn, forms_of, size_of};
 ghost use Rattle.wax_lengths.specs.Forms.{TakenBy, form_size};
 ghost use Rattle.wax_capture.specs.inner.Ways.{IsAt, is_single};
 
-use crate::leaves::{form_of_leaf, lone_leaf};
+use crate::leaves::{form_of_leaf, lone_leaf, test_of_leaf};
 use crate::letters::linked;
 use crate::piece::Ways;
 use crate::tokens::tree_root;
@@ -29,7 +29,29 @@ fn add_form(forms: &mut Vec<Form>, form: Form) -> Result<(), AllocError>
     Ok(())
 }
 
-/// Builds the form of the token at the index. Only branches need a program.
+/// Builds the form of a repetition of one character, or returns `None` for any other token.
+fn form_of_run<'t, A>(alloc: Global, token: &Token<'t, A>) -> Result<Option<Form>, AllocError>
+    ensures means { IfOk result (λ r. IfSome r (λ form. (before after : Bool) (x : List ℕ)
+        → TakenBy form x ↔ Means token.now before after x)) }
+    ensures few { IfOk result (λ r. IfSome r (λ form. form_size form ≤ cost token.now)) }
+{
+    let Topology::Branch(BranchKind::Repetition(repetition)) = token.topology() else {
+        return Ok(None);
+    };
+    let Some(leaf) = lone_leaf(&repetition.token) else {
+        return Ok(None);
+    };
+    let Some(test) = test_of_leaf(alloc, leaf)? else {
+        return Ok(None);
+    };
+    Ok(Some(Form::Run {
+        test,
+        low: repetition.lower,
+        high: repetition.upper,
+    }))
+}
+
+/// Builds the form of the token at the index. Only branches of several tokens need a program.
 fn form_of<'t, A>(
     alloc: Global,
     tokens: &[Token<'t, A>],
@@ -44,8 +66,12 @@ fn form_of<'t, A>(
         (λ form. (t : Tree A) → IsAt tokens.now index t → form_size form ≤ cost t)
         (λ _. (t : Tree A) → IsAt tokens.now index t → 1048576 < cost t + 1) }
 {
-    if let Some(leaf) = lone_leaf(&tokens[index]) {
+    let token = &tokens[index];
+    if let Some(leaf) = lone_leaf(token) {
         return Ok(form_of_leaf(alloc, leaf, before, after)?);
+    }
+    if let Some(form) = form_of_run(alloc, token)? {
+        return Ok(form);
     }
     match compile(alloc, &tokens[index..index + 1], before, after) {
         Ok(program) => Ok(Form::Coded(program)),

@@ -23,3 +23,9 @@ slice_got (x ∷ xs) (suc i) lt = slice_got xs i (omega (arith, lt))
 -- what was read
 pub slice_read : {X : Type 0} (xs : List X) (i : ℕ) (x : X) → i < length xs → x ≡ get_or xs i x → slice_get xs i ≡ Some x
 slice_read xs i x lt e = slice_get_read xs (length xs) i x refl lt e
+
+-- whatever stands for what isn't there
+pub read_within : (xs : List ℕ) (i d e : ℕ) → i < length xs → get_or xs i d ≡ get_or xs i e
+read_within [] i d e lt = absurd (omega (arith, lt))
+read_within (x ∷ xs) zero d e lt = refl
+read_within (x ∷ xs) (suc i) d e lt = read_within xs i d e (omega (arith, lt))

@@ -10,10 +10,10 @@ use Rattle.wax_lengths.specs.declared.span.Marks.TheVariants.{All, AfterSlash, F
 use Rattle.wax_lengths.specs.declared.span.LengthSpan.{LengthSpan}
 
 -- the character before the part's end
-pub slash_before : (text : List ℕ) (at n c : ℕ) → n ≢ 0 → at + n ≤ length text → c ≡ get_or text (at + n - 1) c → (c ≡ 47) ↔ IsMarked AfterSlash (drop at text) n
+pub slash_before : (text : List ℕ) (at n c : ℕ) → n ≢ 0 → at + n ≤ length text → c ≡ get_or text (at + (n - 1)) c → (c ≡ 47) ↔ IsMarked AfterSlash (drop at text) n
 slash_before text at zero c some within is = absurd (some refl)
 slash_before text at (suc n) c some within is =
-    let k : at + suc n - 1 ≡ at + n = omega arith in
+    let k : at + (suc n - 1) ≡ at + n = omega arith in
     let e : get_or (drop at text) n 0 ≡ c = get_or-drop at text n 0 ∙ other text (at + n) c (omega (arith, within)) (is ∙ ap (λ i. get_or text i c) k) in
     ((λ h. e ∙ h), (λ h. sym e ∙ h))
   where

@@ -1,22 +1,25 @@
 //! The lengths of the parts of a text that a form takes from a place on.
-ghost use Rattle.std.specs.Prelude.{◌≡◌, ◌⊎◌, ◌||◌, ◌+◌, ◌*◌, ◌<◌, ◌≤◌, ◌↔◌, ◌∷◌, [], ℕ};
-ghost use Rattle.std.specs.Prelude.{IfOk, IsFalse, IsTrue, length, take, drop};
+ghost use Rattle.std.specs.Prelude.{◌≡◌, ◌⊎◌, ◌||◌, ◌+◌, ◌*◌, ◌^◌, ◌<◌, ◌≤◌, ◌↔◌, ◌∷◌, [], ℕ, List};
+ghost use Rattle.std.specs.Prelude.{IfOk, IsFalse, IsTrue, false, length, take, drop};
 ghost use Rattle.wax_program.specs.Machine.{Accepts, PassesTest};
 ghost use Rattle.wax_query.specs.Components.{BeginsWithSlash};
+ghost use Rattle.wax_query.specs.Ranges.{AtMost};
 ghost use Rattle.wax_token.specs.Meaning.{HasNoSlash, TreeMeans};
-ghost use Rattle.wax_lengths.specs.Forms.{IsLetter, SpelledBy, TakenBy, form_size, program_size};
+ghost use Rattle.wax_lengths.specs.Forms.{EachPasses, IsLetter, IsRunOf, SpelledBy, TakenBy};
+ghost use Rattle.wax_lengths.specs.Forms.{form_size, program_size};
 ghost use Rattle.wax_lengths.specs.inner.Names.{tree_end, tree_low, tree_marks, name_len};
 ghost use Rattle.wax_lengths.specs.Spans.{AreLengths, HasLengths, looks};
 
 use crate::form::Form;
 use crate::span::{LengthSpan, Marks};
+use crate::text::Text;
 use crate::visits::Visits;
 use std::alloc::{AllocError, Global};
 use wax_program::CompiledProgram;
 use wax_program::instruction::{Test, folds_to};
 
 /// Returns the lengths for one character that passes the test.
-fn lengths_of_char(test: &Test, text: &[char], at: usize, visits: &mut Visits) -> LengthSpan
+fn lengths_of_char(test: &Test, text: &Text<'_>, at: usize, visits: &mut Visits) -> LengthSpan
     requires { at ≤ length text.now }
     ensures lengths { AreLengths (λ x. (c : ℕ) × (x ≡ c ∷ []) × PassesTest test.now c)
         (drop at text.now) result }
@@ -28,7 +31,7 @@ fn lengths_of_char(test: &Test, text: &[char], at: usize, visits: &mut Visits) -
         return LengthSpan::new(0, 0);
     }
     visits.add(1);
-    if test.passes(text[at]) {
+    if test.passes(text.char_at(at)) {
         LengthSpan::new(1, 2)
     } else {
         LengthSpan::new(0, 0)
@@ -51,7 +54,7 @@ fn is_letter(is_folded: bool, letter: char, c: char) -> bool
 fn is_spelled(
     letters: &[char],
     is_folded: bool,
-    text: &[char],
+    text: &Text<'_>,
     at: usize,
     visits: &mut Visits,
 ) -> bool
@@ -62,7 +65,7 @@ fn is_spelled(
     ensures steady { visits.old ≤ visits.new }
 {
     for index in 0..letters.len() {
-        if !is_letter(is_folded, letters[index], text[at + index]) {
+        if !is_letter(is_folded, letters[index], text.char_after(at, index)) {
             visits.add(index + 1);
             return false;
         }
@@ -73,26 +76,71 @@ fn is_spelled(
 
 /// Returns whether the text may have the letters at the place: whether it has the first of them.
 #[inline]
-fn may_spell(letters: &[char], is_folded: bool, text: &[char], at: usize) -> bool
+fn may_begin(letters: &[char], is_folded: bool, text: &Text<'_>, at: usize) -> bool
     requires { at ≤ length text.now }
     ensures { IsFalse result
         → (n : ℕ) → SpelledBy is_folded letters.now (take n (drop at text.now)) → ⊥ }
 {
     match letters.first() {
-        Some(letter) => at < text.len() && is_letter(is_folded, *letter, text[at]),
+        Some(letter) => at < text.len() && is_letter(is_folded, *letter, text.char_at(at)),
         None => true,
     }
+}
+
+/// Returns whether a text from `at` on may begin with a character that passes the test.
+#[inline]
+fn may_pass(test: &Test, text: &Text<'_>, at: usize) -> bool
+    requires { at ≤ length text.now }
+    ensures { IsFalse result → (n c : ℕ) (x : List ℕ)
+        → take n (drop at text.now) ≡ c ∷ x → PassesTest test.now c → ⊥ }
+{
+    at < text.len() && test.passes(text.char_at(at))
 }
 
 /// Returns whether the form may take a part of the text from `at` on. Looks at one character at
 /// most, and takes much less time than [`lengths_of`].
 #[inline]
-pub fn may_take(form: &Form, text: &[char], at: usize) -> bool
+pub fn may_take(form: &Form, text: &Text<'_>, at: usize) -> bool
     requires { at ≤ length text.now }
     ensures { IsFalse result → (n : ℕ) → TakenBy form.now (take n (drop at text.now)) → ⊥ }
 {
     match form {
-        Form::Text(letters, is_folded) => may_spell(letters.as_slice(), *is_folded, text, at),
+        Form::One(test) => may_pass(test, text, at),
+        Form::Text(letters, is_folded) => may_begin(letters.as_slice(), *is_folded, text, at),
+        Form::Tree {
+            before,
+            after,
+            has_root,
+        } => tree_low(*before, *after, *has_root) == 0 || begins_with_slash(text, at),
+        Form::Run { test, low, .. } => *low == 0 || may_pass(test, text, at),
+        _ => true,
+    }
+}
+
+/// Returns whether the text has the letters at the place.
+fn has_letters(letters: &[char], text: &Text<'_>, at: usize) -> bool
+    requires { at ≤ length text.now }
+    ensures { IsFalse result → (n : ℕ) → SpelledBy false letters.now (take n (drop at text.now)) → ⊥ }
+{
+    if letters.len() > text.len() - at {
+        return false;
+    }
+    for index in 0..letters.len() {
+        if text.char_after(at, index) != letters[index] {
+            return false;
+        }
+    }
+    true
+}
+
+/// Returns whether the form may take a part of the text from `at` on. Looks at each letter of a form
+/// that takes these letters only.
+pub fn may_spell(form: &Form, text: &Text<'_>, at: usize) -> bool
+    requires { at ≤ length text.now }
+    ensures { IsFalse result → (n : ℕ) → TakenBy form.now (take n (drop at text.now)) → ⊥ }
+{
+    match form {
+        Form::Text(letters, is_folded) => *is_folded || has_letters(letters.as_slice(), text, at),
         _ => true,
     }
 }
@@ -101,7 +149,7 @@ pub fn may_take(form: &Form, text: &[char], at: usize) -> bool
 fn lengths_of_text(
     letters: &[char],
     is_folded: bool,
-    text: &[char],
+    text: &Text<'_>,
     at: usize,
     visits: &mut Visits,
 ) -> LengthSpan
@@ -122,20 +170,21 @@ fn lengths_of_text(
 }
 
 /// Returns the number of characters from the place to the next `/`, or to the text's end.
-fn name_len(text: &[char], at: usize) -> usize
+fn name_len(text: &Text<'_>, at: usize) -> usize
     requires { at ≤ length text.now }
     ensures is { result ≡ name_len (drop at text.now) }
     ensures within { at + result ≤ length text.now }
+    ensures fits { result < 2 ^ 63 }
 {
     let mut end = at;
-    while end < text.len() && text[end] != '/' {
+    while end < text.len() && text.char_at(end) != '/' {
         end += 1;
     }
     end - at
 }
 
 /// Returns the lengths for zero or more characters other than `/`.
-fn lengths_of_name(text: &[char], at: usize, visits: &mut Visits) -> LengthSpan
+fn lengths_of_name(text: &Text<'_>, at: usize, visits: &mut Visits) -> LengthSpan
     requires { at ≤ length text.now }
     ensures lengths { AreLengths HasNoSlash (drop at text.now) result }
     ensures end { at + result.end ≤ length text.now + 1 }
@@ -147,15 +196,15 @@ fn lengths_of_name(text: &[char], at: usize, visits: &mut Visits) -> LengthSpan
     LengthSpan::new(0, end)
 }
 
-fn begins_with_slash(text: &[char], at: usize) -> bool
+fn begins_with_slash(text: &Text<'_>, at: usize) -> bool
     requires { at ≤ length text.now }
     ensures { IsTrue result ↔ BeginsWithSlash (drop at text.now) }
 {
-    at < text.len() && text[at] == '/'
+    at < text.len() && text.char_at(at) == '/'
 }
 
 /// Returns the lengths for the empty text or `/`.
-fn lengths_of_slash_or_nothing(text: &[char], at: usize, visits: &mut Visits) -> LengthSpan
+fn lengths_of_slash_or_nothing(text: &Text<'_>, at: usize, visits: &mut Visits) -> LengthSpan
     requires { at ≤ length text.now }
     ensures lengths { AreLengths (λ x. (x ≡ []) ⊎ (x ≡ 47 ∷ [])) (drop at text.now) result }
     ensures end { at + result.end ≤ length text.now + 1 }
@@ -210,7 +259,7 @@ fn lengths_of_tree(
     before: bool,
     after: bool,
     has_root: bool,
-    text: &[char],
+    text: &Text<'_>,
     at: usize,
     visits: &mut Visits,
 ) -> LengthSpan
@@ -229,11 +278,57 @@ fn lengths_of_tree(
     }
 }
 
+/// Returns the greatest length that is allowed, of at most `rest` characters.
+fn run_most(high: Option<usize>, rest: usize) -> usize
+    ensures within { result ≤ rest }
+    ensures most { (n : ℕ) → n ≤ rest → AtMost n high ↔ (n ≤ result) }
+{
+    match high {
+        Some(high) => high.min(rest),
+        None => rest,
+    }
+}
+
+/// Returns how many characters from the place on pass the test, one after another; at most `most`.
+fn run_len(test: &Test, text: &Text<'_>, at: usize, most: usize) -> usize
+    requires { at + most ≤ length text.now }
+    ensures within { result ≤ most }
+    ensures passes { EachPasses test.now (take result (drop at text.now)) }
+    ensures longest { (n : ℕ) → n ≤ most → EachPasses test.now (take n (drop at text.now)) → n ≤ result }
+{
+    let mut n = 0;
+    while n < most && test.passes(text.char_after(at, n)) {
+        n += 1;
+    }
+    n
+}
+
+/// Returns the lengths for so many characters that pass the test.
+fn lengths_of_run(
+    test: &Test,
+    low: usize,
+    high: Option<usize>,
+    text: &Text<'_>,
+    at: usize,
+    visits: &mut Visits,
+) -> LengthSpan
+    requires { at ≤ length text.now }
+    ensures lengths { AreLengths (IsRunOf test.now low high) (drop at text.now) result }
+    ensures end { at + result.end ≤ length text.now + 1 }
+    ensures looked { visits.new + looks result ≤ visits.old + (length text.now + 1) }
+    ensures steady { visits.old ≤ visits.new }
+{
+    let most = run_most(high, text.len() - at);
+    let end = run_len(test, text, at, most) + 1;
+    visits.add(end);
+    LengthSpan::new(low, end)
+}
+
 /// Returns the lengths for a program, by one pass over the rest of the text.
 fn lengths_of_program(
     alloc: Global,
     program: &CompiledProgram,
-    text: &[char],
+    text: &Text<'_>,
     at: usize,
     visits: &mut Visits,
 ) -> Result<LengthSpan, AllocError>
@@ -244,8 +339,9 @@ fn lengths_of_program(
     ensures above { visits.new ≤ visits.old + program_size program.now * (length text.now + 1) }
     ensures steady { visits.old ≤ visits.new }
 {
-    let mut flags = Vec::with_capacity(alloc, text.len() - at + 1)?;
-    visits.run_ends(alloc, program, &text[at..], &mut flags)?;
+    let rest = text.rest(alloc, at)?;
+    let mut flags = Vec::with_capacity(alloc, rest.len() + 1)?;
+    visits.run_ends(alloc, program, rest.as_slice(), &mut flags)?;
     Ok(LengthSpan {
         low: 0,
         end: flags.len(),
@@ -262,7 +358,7 @@ fn lengths_of_program(
 pub fn lengths_of(
     alloc: Global,
     form: &Form,
-    text: &[char],
+    text: &Text<'_>,
     at: usize,
     visits: &mut Visits,
 ) -> Result<LengthSpan, AllocError>
@@ -286,6 +382,7 @@ pub fn lengths_of(
             after,
             has_root,
         } => Ok(lengths_of_tree(*before, *after, *has_root, text, at, visits)),
+        Form::Run { test, low, high } => Ok(lengths_of_run(test, *low, *high, text, at, visits)),
         Form::Coded(program) => lengths_of_program(alloc, program, text, at, visits),
     }
 }

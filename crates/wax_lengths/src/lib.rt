@@ -4,9 +4,11 @@
 mod form;
 mod lengths;
 mod span;
+mod text;
 mod visits;
 
 pub use form::Form;
-pub use lengths::{lengths_of, may_take};
+pub use lengths::{lengths_of, may_spell, may_take};
 pub use span::{LengthSpan, Marks, pick};
+pub use text::Text;
 pub use visits::Visits;

@@ -5,6 +5,7 @@ ghost use Rattle.std.specs.Prelude.{true, false};
 ghost use Rattle.wax_program.specs.Threads.{HoldsPlace};
 ghost use Rattle.wax_lengths.specs.Spans.{InSpan, IsMarked, IsNarrowed, IsPicked, looks, looks_of};
 
+use crate::text::Text;
 use crate::visits::Visits;
 
 /// Which lengths of a span count.
@@ -39,14 +40,14 @@ impl LengthSpan {
 }
 
 /// Returns whether the part of `n` characters from `at` on ends with a `/` or is empty.
-fn is_after_slash(text: &[char], at: usize, n: usize) -> bool
+fn is_after_slash(text: &Text<'_>, at: usize, n: usize) -> bool
     requires { at + n ≤ length text.now }
     ensures { IsTrue result ↔ IsMarked Marks.AfterSlash (drop at text.now) n }
 {
     if n == 0 {
         return true;
     }
-    text[at + n - 1] == '/'
+    text.char_after(at, n - 1) == '/'
 }
 
 /// Returns whether the flag of the length is set.
@@ -60,7 +61,7 @@ fn is_flagged(flags: &[bool], n: usize) -> bool
 }
 
 /// Returns whether the length `n` counts for the part from `at` on.
-fn is_marked(text: &[char], at: usize, n: usize, marks: &Marks, visits: &mut Visits) -> bool
+fn is_marked(text: &Text<'_>, at: usize, n: usize, marks: &Marks, visits: &mut Visits) -> bool
     requires { at + n ≤ length text.now }
     ensures marked { IsTrue result ↔ IsMarked marks.now (drop at text.now) n }
     ensures looked { visits.new ≤ visits.old + looks_of marks.now 1 }
@@ -78,7 +79,7 @@ fn is_marked(text: &[char], at: usize, n: usize, marks: &Marks, visits: &mut Vis
 
 /// Takes the greatest length out of the span. Smaller ones stay in it.
 fn pick_longest(
-    text: &[char],
+    text: &Text<'_>,
     at: usize,
     span: &mut LengthSpan,
     visits: &mut Visits,
@@ -103,7 +104,7 @@ fn pick_longest(
 
 /// Takes the least length out of the span. Greater ones stay in it.
 fn pick_shortest(
-    text: &[char],
+    text: &Text<'_>,
     at: usize,
     span: &mut LengthSpan,
     visits: &mut Visits,
@@ -130,7 +131,7 @@ fn pick_shortest(
 /// Takes the best length out of the span: the least one if `is_lazy`, and otherwise the greatest.
 /// Returns `None` if no length is left.
 pub fn pick(
-    text: &[char],
+    text: &Text<'_>,
     at: usize,
     span: &mut LengthSpan,
     is_lazy: bool,

@@ -18,6 +18,7 @@ first_letter (form.Text letters false) = slice_get letters.items 0
 first_letter form.Name = None
 first_letter form.SlashOrNothing = None
 first_letter (form.Tree before after rooted) = None
+first_letter (form.Run test low high) = None
 first_letter (form.Coded program) = None
 
 abbrev pub BeginsAscii : Form → Type 0

@@ -59,6 +59,6 @@ lengths_of (f ∷ fs) = f.n ∷ lengths_of fs
 
 -- what a trial came to holds
 abbrev pub IsTried : List Piece → List ℕ → Trial → Type 0
-IsTried ps s (Chosen lengths) = AreChosen ps s lengths.items
+IsTried ps s (Chosen frames) = AreChosen ps s (lengths_of frames.items)
 IsTried ps s Nothing = Splits ps s → ⊥
 IsTried ps s Unknown = ⊤

@@ -1,6 +1,6 @@
-use Rattle.std.proofs.Common.{◌≡◌, take}
-use Rattle.wax_token.specs.Reads.{utf8_len}
+use Rattle.std.proofs.Common.{◌≡◌, ◌+◌}
+use Rattle.wax_capture.specs.inner.Bytes.{byte_at}
 use Rattle.wax_capture.proofs.bytes.byte_len.Given as goal
 
-abbrev pub invariant-loop-c : goal.invariant-loop-c
-invariant-loop-c l = l.len ≡ utf8_len (take l.c-index l.text)
+abbrev pub invariant-loop-place : goal.invariant-loop-place
+invariant-loop-place l = byte_at l.text l.from + l.len ≡ byte_at l.text l.place

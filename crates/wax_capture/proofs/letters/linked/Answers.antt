@@ -1,8 +1,8 @@
 use Rattle.std.proofs.Common.{◌≡◌, ◌+◌, ◌-◌, ◌<◌, ℕ, List, Some, get_or, length, slice_get, arith, rules, subst, ◌∙◌}
 use Rattle.wax_lengths.specs.declared.form.Form.{Form}
-use Rattle.wax_lengths.proofs.Lists.{slice_read}
+use Rattle.wax_lengths.proofs.Lists.{read_within, slice_read}
 use Rattle.wax_capture.specs.inner.Letters.{AreLinked, first_letter}
-use Rattle.wax_capture.proofs.Linking.{links_more, read_within}
+use Rattle.wax_capture.proofs.Linking.{links_more}
 use Rattle.wax_capture.proofs.letters.linked.Goals as goal
 
 pub loop-index-preserved : goal.loop-index-preserved

@@ -1,8 +1,11 @@
-use Rattle.std.proofs.Common.{◌≡◌, ◌+◌, ◌<◌, ◌≤◌, ◌++◌, ◌∷◌, [], ℕ, List, length, get_or, drop, sym, arith, rules}
+use Rattle.std.proofs.Common.{◌≡◌, ◌+◌, ◌<◌, ◌≤◌, ◌++◌, ◌∷◌, [], ℕ, List, length, get_or, drop, ap, sym, ◌∙◌, arith, rules}
 use Rattle.std.proofs.lemmas.Option.{get_or_from_slice_get}
 use Rattle.wax_lengths.proofs.Lists.{slice_got}
 use Rattle.wax_capture.specs.inner.Rows.{IsCell}
 use Rattle.wax_capture.specs.inner.Splits.{IsChosenBy}
+use Rattle.wax_capture.specs.inner.Trials.{lengths_of}
+use Rattle.wax_capture.specs.declared.trial.Frame.{Frame}
+use Rattle.wax_capture.proofs.Trying.{lengths_push}
 use Rattle.wax_capture.proofs.Taking.{cell_chosen, cell_read, cell_some, lengths_end, row_long, taken_lengths, taken_splits, taken_within, whole_fails, whole_splits}
 use Rattle.wax_capture.proofs.table.split_by_table.Goals as goal
 
@@ -21,7 +24,7 @@ loop-index-init c =
     record {
       within = omega arith;
       splits = whole_splits ps text c.index-2.result.now (search rules) cell;
-      chosen = λ others h. rw c.new-lengths.ensures.items h;
+      chosen = λ others h. rw c.in_ok-chosen.ensures.items h;
     }
 
 pub index-requires-in-loop-index-2 : goal.index-requires-in-loop-index-2
@@ -57,15 +60,17 @@ loop-index-preserved c =
     let is : p.0 ≡ get_or ps i p.0 = sym (get_or_from_slice_get ps i p.0 p.0 p.1) in
     let cell : IsCell (drop i ps) (drop at text) r = cell_read ps text c.in_ok-rows.rows.items i at c.index-in-loop-index.result.now r c.in_ok-rows.ensures.len c.in_ok-rows.ensures.rows (omega (arith, lt)) c.index-in-loop-index.ensures c.index-in-loop-index-2.ensures c.loop-index.invariant.within in
     let chosen : IsChosenBy p.0 (drop (i + 1) ps) (drop at text) n = cell_chosen ps text i p.0 lt is at n r c.in-Some.is cell in
-    let same : c.push.new.self.items ≡ c.loop-index.lengths.items ++ n ∷ [] = search rules in
+    let f : Frame = c.new.result in
+    let pushed : c.push.new.self.items ≡ c.loop-index.chosen.items ++ f ∷ [] = search rules in
+    let same : lengths_of c.push.new.self.items ≡ lengths_of c.loop-index.chosen.items ++ n ∷ [] = ap lengths_of pushed ∙ lengths_push c.loop-index.chosen.items f ∙ ap (λ k. lengths_of c.loop-index.chosen.items ++ k ∷ []) c.new.ensures.takes in
     record {
-      within = taken_within ps text i p.0 lt is at n c.loop-index.invariant.within chosen;
-      splits = taken_splits ps text i p.0 lt is at n c.loop-index.invariant.within chosen;
-      chosen = rw same (taken_lengths ps text i p.0 lt is at n c.loop-index.invariant.within chosen c.loop-index.lengths.items c.loop-index.invariant.chosen);
+      within = rw c.place_after-at.ensures (taken_within ps text i p.0 lt is at n c.loop-index.invariant.within chosen);
+      splits = rw c.place_after-at.ensures (taken_splits ps text i p.0 lt is at n c.loop-index.invariant.within chosen);
+      chosen = rw (same, c.place_after-at.ensures) (taken_lengths ps text i p.0 lt is at n c.loop-index.invariant.within chosen (lengths_of c.loop-index.chosen.items) c.loop-index.invariant.chosen);
     }
 
-pub overflow_add-at : goal.overflow_add-at
-overflow_add-at c =
+pub place_after-at-requires : goal.place_after-at-requires
+place_after-at-requires c =
     let ps = c.args.pieces.now in
     let text : List ℕ = c.args.text.now in
     let i : ℕ = c.loop-index.index in
@@ -78,7 +83,7 @@ overflow_add-at c =
     let cell : IsCell (drop i ps) (drop at text) r = cell_read ps text c.in_ok-rows.rows.items i at c.index-in-loop-index.result.now r c.in_ok-rows.ensures.len c.in_ok-rows.ensures.rows (omega (arith, lt)) c.index-in-loop-index.ensures c.index-in-loop-index-2.ensures c.loop-index.invariant.within in
     let chosen : IsChosenBy p.0 (drop (i + 1) ps) (drop at text) n = cell_chosen ps text i p.0 lt is at n r c.in-Some.is cell in
     let within : at + n ≤ length text = taken_within ps text i p.0 lt is at n c.loop-index.invariant.within chosen in
-    search (rules, within)
+    within
 
 pub returns-clause-chosen : goal.returns-clause-chosen
-returns-clause-chosen c = lengths_end c.args.pieces.now c.args.text.now c.loop-index.index c.loop-index.at c.loop-index.lengths.items c.loop-index-test.false c.loop-index.invariant.splits c.loop-index.invariant.chosen
+returns-clause-chosen c = lengths_end c.args.pieces.now c.args.text.now c.loop-index.index c.loop-index.at (lengths_of c.loop-index.chosen.items) c.loop-index-test.false c.loop-index.invariant.splits c.loop-index.invariant.chosen

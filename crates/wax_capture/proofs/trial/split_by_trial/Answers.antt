@@ -1,4 +1,4 @@
-use Rattle.std.proofs.Common.{◌≡◌, ◌+◌, ◌*◌, ◌<◌, ◌≤◌, ℕ, List, [], ◌∷◌, ◌++◌, length, drop, drop-drop, sym, ◌∙◌, subst, arith, rules}
+use Rattle.std.proofs.Common.{◌≡◌, ◌+◌, ◌*◌, ◌≤◌, ℕ, List, [], ◌∷◌, ◌++◌, length, drop, drop-drop, ap, sym, ◌∙◌, subst, arith, rules}
 use Rattle.std.proofs.lemmas.Bool.{MatchBool-at_false, MatchBool-at_true}
 use Rattle.wax_lengths.specs.Spans.{looks}
 use Rattle.wax_capture.specs.inner.Splits.{AreChosen, Splits, all_sizes}
@@ -6,9 +6,9 @@ use Rattle.wax_capture.specs.inner.Trials.{HasRoom, HasTaken, lengths_of}
 use Rattle.wax_capture.specs.declared.piece.Piece.{Piece}
 use Rattle.wax_capture.specs.declared.trial.Frame.{Frame}
 use Rattle.wax_capture.proofs.Counting.{reads_next, reads_piece}
-use Rattle.wax_capture.proofs.Trying.{Stands, Took, after_last, at_next, at_piece, none_first, stands_here, stands_last, stands_pop, stands_push, took_all, took_within}
+use Rattle.wax_capture.proofs.Trying.{Stands, Took, after_last, at_next, lengths_push, at_piece, none_first, stands_here, stands_last, stands_pop, stands_push, took_all, took_within}
 use Rattle.wax_capture.proofs.trial.split_by_trial.Goals as goal
-use Rattle.wax_capture.proofs.trial.split_by_trial.Goals.{then-not-branch+in-Some, else-not-branch+then-index-pieces-2+then-may_begin+in_ok-push, else-not-branch+then-index-pieces-2+else-may_begin, else-not-branch+else-index-pieces-2+else-top-text}
+use Rattle.wax_capture.proofs.trial.split_by_trial.Goals.{then-not-branch+in-Some, else-not-branch+then-index-pieces-2+then-may_begin+in_ok-push, else-not-branch+then-index-pieces-2+else-may_begin, else-not-branch+else-index-pieces-2+else-place_after-len}
 
 pub returns-in_err-take_next-clause-above : goal.returns-in_err-take_next-clause-above
 returns-in_err-take_next-clause-above c =
@@ -49,8 +49,8 @@ returns-in_err-push-clause-above c =
     reads_next ps i p c.if-index-pieces.false c.index-pieces-index.is c.args.visits.now c.loop.visits c.take_next.new.visits (looks c.loop.top.span) c.args.limit n mid c.loop.invariant.room.few c.take_next.ensures.above in
     read
 
-pub returns-in_err-chosen-clause-above : goal.returns-in_err-chosen-clause-above
-returns-in_err-chosen-clause-above c =
+pub returns-in_err-push-2-clause-above : goal.returns-in_err-push-2-clause-above
+returns-in_err-push-2-clause-above c =
     let ps : List Piece = c.args.pieces.now in
     let text : List ℕ = c.args.text.now in
     let n : ℕ = length text + 1 in
@@ -62,8 +62,8 @@ returns-in_err-chosen-clause-above c =
     reads_next ps i p c.if-index-pieces.false c.index-pieces-index.is c.args.visits.now c.loop.visits c.take_next.new.visits (looks c.loop.top.span) c.args.limit n mid c.loop.invariant.room.few c.take_next.ensures.above in
     read
 
-pub returns-then-top-text-clause-above : goal.returns-then-top-text-clause-above
-returns-then-top-text-clause-above c =
+pub returns-then-place_after-len-clause-above : goal.returns-then-place_after-len-clause-above
+returns-then-place_after-len-clause-above c =
     let ps : List Piece = c.args.pieces.now in
     let text : List ℕ = c.args.text.now in
     let n : ℕ = length text + 1 in
@@ -90,8 +90,8 @@ returns-in_default-clause-tried c =
     let fails : Splits (p ∷ rest) (drop c.loop.top.at text) → ⊥ = MatchBool-at_false _ _ c.if-not-branch.true (c.in_ok-take_next.ensures.taken rest (λ l. after_last ps fs i (omega (arith, c.len-index.ensures)) (search (rules, l))) (c.loop.invariant.tried p rest is)) in
     none_first text ps fs c.loop.top.at p rest none c.loop.invariant.place is fails
 
-pub overflow_add-end : goal.overflow_add-end
-overflow_add-end c =
+pub place_after-requires : goal.place_after-requires
+place_after-requires c =
     let ps : List Piece = c.args.pieces.now in
     let text : List ℕ = c.args.text.now in
     let n : ℕ = length text + 1 in
@@ -115,8 +115,7 @@ overflow_add-end c =
       is = (p, is, subst (λ a. HasTaken p rest (drop a text) new) (sym at) got);
       room = room;
     } in
-    let fits : length text < 18446744073709551616 = search rules in
-    omega (arith, took_within text most ps fs new took, fits)
+    took_within text most ps fs new took
 
 pub may_begin-requires : goal.may_begin-requires
 may_begin-requires c =
@@ -143,10 +142,37 @@ may_begin-requires c =
       is = (p, is, subst (λ a. HasTaken p rest (drop a text) new) (sym at) got);
       room = room;
     } in
+    rw c.place_after-end.ensures (took_within text most ps fs new took)
+
+pub place_after-end-requires : goal.place_after-end-requires
+place_after-end-requires c =
+    let ps : List Piece = c.args.pieces.now in
+    let text : List ℕ = c.args.text.now in
+    let n : ℕ = length text + 1 in
+    let i : ℕ = c.len-index.result in
+    let p : Piece = c.index-pieces-index.result in
+    let most : ℕ = all_sizes ps * n in
+    let fs : List Frame = c.loop.below.items in
+    let rest : List Piece = drop (length fs + 1) ps in
+    let is : drop (length fs) ps ≡ p ∷ rest = at_piece ps fs i p (omega (arith, c.len-index.ensures)) c.if-index-pieces.false c.index-pieces-index.is in
+    let new : Frame = c.take_next.new.frame in
+    let at : new.at ≡ c.loop.top.at = c.in_ok-take_next.ensures.at in
+    let got : HasTaken p rest (drop c.loop.top.at text) new = MatchBool-at_true _ _ c.if-not-branch.false (c.in_ok-take_next.ensures.taken rest (λ l. after_last ps fs i (omega (arith, c.len-index.ensures)) (search (rules, l))) (c.loop.invariant.tried p rest is)) in
+    let room : HasRoom text most new = record {
+      within = omega (arith, at, c.loop.invariant.room.within);
+      end = c.in_ok-take_next.ensures.end;
+      few = c.in_ok-take_next.ensures.few most c.loop.invariant.room.few (reads_piece ps i p c.if-index-pieces.false c.index-pieces-index.is n);
+    } in
+    let took : Took text most ps fs new = record {
+      trail = c.loop.invariant.trail;
+      place = at ∙ c.loop.invariant.place;
+      is = (p, is, subst (λ a. HasTaken p rest (drop a text) new) (sym at) got);
+      room = room;
+    } in
     took_within text most ps fs new took
 
-pub overflow_add-top : goal.overflow_add-top
-overflow_add-top c =
+pub returns-then-place_after-len-clause-tried : goal.returns-then-place_after-len-clause-tried
+returns-then-place_after-len-clause-tried c =
     let ps : List Piece = c.args.pieces.now in
     let text : List ℕ = c.args.text.now in
     let n : ℕ = length text + 1 in
@@ -170,36 +196,9 @@ overflow_add-top c =
       is = (p, is, subst (λ a. HasTaken p rest (drop a text) new) (sym at) got);
       room = room;
     } in
-    let fits : length text < 18446744073709551616 = search rules in
-    omega (arith, took_within text most ps fs new took, fits)
-
-pub returns-then-top-text-clause-tried : goal.returns-then-top-text-clause-tried
-returns-then-top-text-clause-tried c =
-    let ps : List Piece = c.args.pieces.now in
-    let text : List ℕ = c.args.text.now in
-    let n : ℕ = length text + 1 in
-    let i : ℕ = c.len-index.result in
-    let p : Piece = c.index-pieces-index.result in
-    let most : ℕ = all_sizes ps * n in
-    let fs : List Frame = c.loop.below.items in
-    let rest : List Piece = drop (length fs + 1) ps in
-    let is : drop (length fs) ps ≡ p ∷ rest = at_piece ps fs i p (omega (arith, c.len-index.ensures)) c.if-index-pieces.false c.index-pieces-index.is in
-    let new : Frame = c.take_next.new.frame in
-    let at : new.at ≡ c.loop.top.at = c.in_ok-take_next.ensures.at in
-    let got : HasTaken p rest (drop c.loop.top.at text) new = MatchBool-at_true _ _ c.if-not-branch.false (c.in_ok-take_next.ensures.taken rest (λ l. after_last ps fs i (omega (arith, c.len-index.ensures)) (search (rules, l))) (c.loop.invariant.tried p rest is)) in
-    let room : HasRoom text most new = record {
-      within = omega (arith, at, c.loop.invariant.room.within);
-      end = c.in_ok-take_next.ensures.end;
-      few = c.in_ok-take_next.ensures.few most c.loop.invariant.room.few (reads_piece ps i p c.if-index-pieces.false c.index-pieces-index.is n);
-    } in
-    let took : Took text most ps fs new = record {
-      trail = c.loop.invariant.trail;
-      place = at ∙ c.loop.invariant.place;
-      is = (p, is, subst (λ a. HasTaken p rest (drop a text) new) (sym at) got);
-      room = room;
-    } in
-    let same : c.in_ok-chosen.chosen.items ≡ lengths_of fs ++ new.n ∷ [] = search rules in
-    subst (AreChosen ps text) (sym same) (took_all text most ps fs new took (omega (arith, c.if-index-pieces.false, c.if-index-pieces-2.false, c.len-index.ensures)) c.if-top-text.true)
+    let pushed : c.push-then-place_after-len.new.self.items ≡ fs ++ new ∷ [] = search rules in
+    let same : lengths_of c.push-then-place_after-len.new.self.items ≡ lengths_of fs ++ new.n ∷ [] = ap lengths_of pushed ∙ lengths_push fs new in
+    subst (AreChosen ps text) (sym same) (took_all text most ps fs new took (omega (arith, c.if-index-pieces.false, c.if-index-pieces-2.false, c.len-index.ensures)) (sym c.place_after.ensures ∙ c.if-place_after-len.true ∙ c.len.ensures.is))
 
 pub loop-preserved : goal.loop-preserved
 loop-preserved c =
@@ -238,7 +237,7 @@ loop-preserved c =
           } in
           let pushed : w.push.new.self.items ≡ fs ++ new ∷ [] = search rules in
           let next : w.replace.new.dest ≡ w.new-next.result = search rules in
-          rw w.below-is (rw w.top-is (rw pushed (rw next (stands_push text most ps fs new w.new-next.result took w.new-next.ensures.at w.new-next.ensures.opened w.new-next.ensures.end w.new-next.ensures.looks)))))
+          rw w.below-is (rw w.top-is (rw pushed (rw next (stands_push text most ps fs new w.new-next.result took (w.new-next.ensures.at ∙ w.place_after-end.ensures) w.new-next.ensures.opened w.new-next.ensures.end w.new-next.ensures.looks)))))
       | else-not-branch+then-index-pieces-2+else-may_begin w ↦ (
           let new : Frame = c.take_next.new.frame in
           let at : new.at ≡ c.loop.top.at = c.in_ok-take_next.ensures.at in
@@ -255,10 +254,10 @@ loop-preserved c =
             room = room;
           } in
           let (others, next) = at_next ps fs i w.index-pieces-index-then-index-pieces-2.result (omega (arith, c.len-index.ensures)) w.if-index-pieces-2.true w.index-pieces-index-then-index-pieces-2.is in
-          let place : drop new.n (drop new.at text) ≡ drop (new.at + new.n) text = drop-drop new.n new.at text in
+          let place : drop new.n (drop new.at text) ≡ drop w.place_after-end.result text = drop-drop new.n new.at text ∙ ap (λ k. drop k text) (sym w.place_after-end.ensures) in
           let fails : Splits rest (drop new.n (drop new.at text)) → ⊥ = λ h. w.may_begin.ensures (search rules) others (subst (Splits (w.index-pieces-index-then-index-pieces-2.result ∷ others)) place (subst (λ z. Splits z (drop new.n (drop new.at text))) next h)) in
           rw w.below-is (rw w.top-is (stands_here text most ps fs new took fails)))
-      | else-not-branch+else-index-pieces-2+else-top-text w ↦ (
+      | else-not-branch+else-index-pieces-2+else-place_after-len w ↦ (
           let new : Frame = c.take_next.new.frame in
           let at : new.at ≡ c.loop.top.at = c.in_ok-take_next.ensures.at in
           let got : HasTaken p rest (drop c.loop.top.at text) new = MatchBool-at_true _ _ w.if-not-branch.false (c.in_ok-take_next.ensures.taken rest (λ l. after_last ps fs i (omega (arith, c.len-index.ensures)) (search (rules, l))) (c.loop.invariant.tried p rest is)) in
@@ -273,7 +272,7 @@ loop-preserved c =
             is = (p, is, subst (λ a. HasTaken p rest (drop a text) new) (sym at) got);
             room = room;
           } in
-          rw w.below-is (rw w.top-is (stands_last text most ps fs new took (omega (arith, w.if-index-pieces-2.false, c.len-index.ensures)) w.if-top-text.false)))
+          rw w.below-is (rw w.top-is (stands_last text most ps fs new took (omega (arith, w.if-index-pieces-2.false, c.len-index.ensures)) (λ e. w.if-place_after-len.false (w.place_after.ensures ∙ e ∙ sym w.len.ensures.is)))))
     ] in
     record {
       trail = stands.trail;

@@ -12,10 +12,10 @@ loop-index-preserved c =
     let text : List ℕ = c.args.text.now in
     let i : ℕ = c.loop-index.index in
     let at : ℕ = c.args.at in
-    let ch : ℕ = c.index-text-at.result in
+    let ch : ℕ = c.char_after.result in
     let here : IsLetter c.args.is_folded c.index-letters-index.result ch = search rules in
     record {
-      spelled = spelled_more c.args.is_folded c.args.letters.now (drop at text) i c.index-letters-index.result ch c.loop-index-test.true (omega (arith, c.loop-index-test.true, c.requires, length-drop at text)) c.index-letters-index.is (c.index-text-at.is ∙ sym (get_or-drop at text i ch)) here c.loop-index.invariant.spelled;
+      spelled = spelled_more c.args.is_folded c.args.letters.now (drop at text) i c.index-letters-index.result ch c.loop-index-test.true (omega (arith, c.loop-index-test.true, c.requires, length-drop at text)) c.index-letters-index.is (c.char_after.ensures ∙ sym (get_or-drop at text i ch)) here c.loop-index.invariant.spelled;
       same = c.loop-index.invariant.same;
     }
 
@@ -24,10 +24,10 @@ returns-then-not-is_letter-clause-spelled c =
     let text : List ℕ = c.args.text.now in
     let i : ℕ = c.loop-index.index in
     let at : ℕ = c.args.at in
-    let ch : ℕ = c.index-text-at.result in
+    let ch : ℕ = c.char_after.result in
     let fails : IsLetter c.args.is_folded c.index-letters-index.result ch → ⊥ = search rules in (
       (λ e. absurd (true≢false (sym e))),
-      (λ h. absurd (fails (spelled_each c.args.is_folded c.args.letters.now (drop at text) h i c.index-letters-index.result ch c.loop-index-test.true c.index-letters-index.is (c.index-text-at.is ∙ sym (get_or-drop at text i ch)) (omega (arith, c.requires, length-drop at text))))),
+      (λ h. absurd (fails (spelled_each c.args.is_folded c.args.letters.now (drop at text) h i c.index-letters-index.result ch c.loop-index-test.true c.index-letters-index.is (c.char_after.ensures ∙ sym (get_or-drop at text i ch)) (omega (arith, c.requires, length-drop at text))))),
     )
 
 pub returns-then-not-is_letter-clause-looked : goal.returns-then-not-is_letter-clause-looked

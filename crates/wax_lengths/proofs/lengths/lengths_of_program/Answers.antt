@@ -1,5 +1,4 @@
-use Rattle.std.proofs.Common.{◌≡◌, ◌+◌, ◌-◌, ◌*◌, ◌≤◌, ℕ, List, length, drop, take, arith, ap, length-drop}
-use Rattle.std.proofs.lemmas.List.{take_rest}
+use Rattle.std.proofs.Common.{◌≡◌, ◌+◌, ◌-◌, ◌*◌, ◌≤◌, ℕ, List, length, drop, arith, rules, ap, length-drop}
 use Rattle.std.proofs.Math.Nat.{le-max_left, mul-le-mul_left, mul-le-mul_right}
 use Rattle.wax_program.specs.Ends.{MarksBeginnings}
 use Rattle.wax_lengths.specs.Forms.{program_size}
@@ -11,7 +10,7 @@ returns-clause-lengths c =
     let text : List ℕ = c.args.text.now in
     let at : ℕ = c.args.at in
     let flags = c.run_ends.new.ends.items in
-    let left : take (length text - at) (drop at text) ≡ drop at text = take_rest text at in
+    let left : c.as_slice.result.now ≡ drop at text = search rules in
     let marked : MarksBeginnings c.args.program.now.0 (drop at text) flags (length (drop at text) + 1) = rw left at c.in_ok-run_ends.ensures.marked in
     λ n le. let m = marked n (omega (arith, le)) in (
       (λ h. (omega arith, omega (arith, has_within flags n (m.1 h), c.len.ensures), m.1 h)),
@@ -27,8 +26,9 @@ returns-in_err-run_ends-clause-above c =
     let text : List ℕ = c.args.text.now in
     let at : ℕ = c.args.at in
     let p = c.args.program.now in
-    let part : List ℕ = take (length text - at) (drop at text) in
-    let left : length part + 1 ≤ length text + 1 = omega (arith, ap length (take_rest text at), length-drop at text) in
+    let part : List ℕ = c.as_slice.result.now in
+    let same : part ≡ drop at text = search rules in
+    let left : length part + 1 ≤ length text + 1 = omega (arith, ap length same, length-drop at text) in
     omega (arith, c.run_ends.ensures.above, few (length p.0) (program_size p) (length part + 1) (length text + 1) (le-max_left (length p.0) (p.1 - 1)) left)
 
 pub returns-clause-above : goal.returns-clause-above
@@ -36,6 +36,7 @@ returns-clause-above c =
     let text : List ℕ = c.args.text.now in
     let at : ℕ = c.args.at in
     let p = c.args.program.now in
-    let part : List ℕ = take (length text - at) (drop at text) in
-    let left : length part + 1 ≤ length text + 1 = omega (arith, ap length (take_rest text at), length-drop at text) in
+    let part : List ℕ = c.as_slice.result.now in
+    let same : part ≡ drop at text = search rules in
+    let left : length part + 1 ≤ length text + 1 = omega (arith, ap length same, length-drop at text) in
     omega (arith, c.run_ends.ensures.above, few (length p.0) (program_size p) (length part + 1) (length text + 1) (le-max_left (length p.0) (p.1 - 1)) left)

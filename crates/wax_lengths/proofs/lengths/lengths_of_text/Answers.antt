@@ -8,5 +8,5 @@ returns-then-is_spelled-clause-lengths c = rw c.new-then-is_spelled.ensures (tex
 pub returns-clause-lengths : goal.returns-clause-lengths
 returns-clause-lengths c = rw c.new-2.ensures (text_no c.args.is_folded c.args.letters.now (drop c.args.at c.args.text.now) (λ le h. search rules))
 
-pub returns-then-len-text-clause-lengths : goal.returns-then-len-text-clause-lengths
-returns-then-len-text-clause-lengths c = rw c.new.ensures (text_no c.args.is_folded c.args.letters.now (drop c.args.at c.args.text.now) (λ le h. omega (arith, le, c.if-len-text.true, c.requires, length-drop c.args.at c.args.text.now)))
+pub returns-then-len-at-clause-lengths : goal.returns-then-len-at-clause-lengths
+returns-then-len-at-clause-lengths c = rw c.new.ensures (text_no c.args.is_folded c.args.letters.now (drop c.args.at c.args.text.now) (λ le h. omega (arith, le, c.if-len-at.true, c.len.ensures.is, c.requires, length-drop c.args.at c.args.text.now)))
