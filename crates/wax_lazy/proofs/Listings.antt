@@ -5,7 +5,7 @@ use Rattle.std.proofs.lemmas.List.{get_or_default}
 use Rattle.std.proofs.lemmas.List.Sorted.{Contains-permutation, IsPermutation-sym}
 use Rattle.std.proofs.lemmas.List.Elements.{Contains-append_left, Contains-get_or, Contains-push, Contains-push_cases}
 use Rattle.std.proofs.lemmas.Option.{get_or_from_slice_get, slice_get-get_or, slice_get_within}
-use Rattle.wax_lazy.specs.inner.Listed.{AreListed, AreRead, AreReached, HasLost, Inserts, IsJoined, IsLoaded, IsListing, Listing, Lists, Waits, unread}
+use Rattle.wax_lazy.specs.inner.Listed.{AreHeld, AreRead, AreReached, HasLost, Inserts, IsJoined, IsLoaded, IsListing, Listing, Lists, Waits, unread}
 use Rattle.wax_program.specs.declared.instruction.Instruction.{Instruction}
 use Rattle.wax_program.specs.Threads.{Advances, AnyAmong, AnyOf, HoldsPlace, Inserted, InsertedNext, IsDone, IsEmpty, Position, Taken, Within, member_count}
 use Rattle.wax_program.proofs.Advancing.{in_range}
@@ -163,7 +163,7 @@ module _ (limit capacity at : ℕ) (flags : List Bool) (places : List ℕ) (list
 abbrev pub sets_of : ℕ → Listing → List Bool → Listing → Position
 sets_of size here read next = record { size = size; pending = unread here.flags read; read = read; next = next.flags }
 
-module _ (size taken : ℕ) (here next : Listing) (read : List Bool) (listed : AreListed size here taken read next) where
+module _ (size taken : ℕ) (here next : Listing) (read : List Bool) (listed : AreHeld size here taken read next) where
   -- a place is inserted here
   module _ (at : ℕ) (low : at ≤ size) (new : Listing) (i : Inserts here new at) where
     pub inserts_here : Inserted (sets_of size here read next) (sets_of size new read next) at
@@ -183,7 +183,7 @@ module _ (size taken : ℕ) (here next : Listing) (read : List Bool) (listed : A
           ]);
     }
 
-    pub listed_here : AreListed size new taken read next
+    pub listed_here : AreHeld size new taken read next
     listed_here = record {
       here_room = omega (arith, listed.here_room, i.limit);
       next_room = listed.next_room;
@@ -227,7 +227,7 @@ module _ (size taken : ℕ) (here next : Listing) (read : List Bool) (listed : A
       only = i.only;
     }
 
-    pub listed_next : AreListed size here taken read new
+    pub listed_next : AreHeld size here taken read new
     listed_next = record {
       here_room = listed.here_room;
       next_room = omega (arith, listed.next_room, i.limit);
@@ -295,7 +295,7 @@ module _ (size taken : ℕ) (here next : Listing) (read : List Bool) (listed : A
     pub takes_few : member_count (set read at true) ≤ size
     takes_few = members_within size (set read at true) within_read
 
-    pub listed_taken : AreRead here.places taken index size read → AreListed size here (index + 1) (set read at true) next
+    pub listed_taken : AreRead here.places taken index size read → AreHeld size here (index + 1) (set read at true) next
     listed_taken before = record {
       here_room = listed.here_room;
       next_room = listed.next_room;
@@ -323,7 +323,7 @@ lists_none places flags e none k = ((λ h. absurd (not_in k (subst (λ z. Contai
 
 -- no place is left here
 pub nothing_listed : (size : ℕ) (here next : Listing) (read : List Bool) → size < here.limit → size < next.limit → size < length read → IsEmpty here.flags
-    → IsEmpty read → Within (size + 1) next.flags → Lists next.places next.flags → AreListed size here 0 read next
+    → IsEmpty read → Within (size + 1) next.flags → Lists next.places next.flags → AreHeld size here 0 read next
 nothing_listed size here next read here_room next_room read_room no_here no_read next_within next_lists = record {
   here_room = here_room;
   next_room = next_room;
@@ -338,8 +338,8 @@ nothing_listed size here next read here_room next_room read_room no_here no_read
 }
 
 -- the next position is here
-pub turned : (size taken : ℕ) (here next clear : Listing) (read none : List Bool) → AreListed size here taken read next → clear.limit ≡ here.limit → IsEmpty clear.flags
-    → clear.places ≡ [] → length none ≡ length read → IsEmpty none → AreListed size next 0 none clear
+pub turned : (size taken : ℕ) (here next clear : Listing) (read none : List Bool) → AreHeld size here taken read next → clear.limit ≡ here.limit → IsEmpty clear.flags
+    → clear.places ≡ [] → length none ≡ length read → IsEmpty none → AreHeld size next 0 none clear
 turned size taken here next clear read none listed limit no_clear no_places room no_read = record {
   here_room = listed.next_room;
   next_room = omega (arith, listed.here_room, limit);

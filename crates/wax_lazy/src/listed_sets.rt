@@ -1,7 +1,7 @@
 //! The sets of places of a step, which takes time in proportion to the places that it reaches, and
 //! not to the length of the program.
 ghost use Rattle.std.specs.Prelude.{◌≡◌, ◌<◌, ℕ, [], IfOk, IsTrue, MatchOption, length};
-ghost use Rattle.wax_lazy.specs.inner.Listed.{AreRead, IsFirstUnread, IsJoined, IsLoaded, Lists};
+ghost use Rattle.wax_lazy.specs.inner.Listed.{AreRead, IsNextUnread, IsJoined, IsLoaded, Lists};
 ghost use Rattle.wax_program.specs.Threads.{HoldsPlace, IsEmpty};
 
 use crate::listed::{ListedSet, remove_all};
@@ -26,7 +26,7 @@ pub struct ListedSets {
 }
 
 impl Model for ListedSets {
-    ghost use Rattle.wax_lazy.specs.inner.Listed.{AreListed, unread};
+    ghost use Rattle.wax_lazy.specs.inner.Listed.{AreHeld, unread};
     ghost use Rattle.wax_program.specs.Threads.{Position};
 
     ghost Value = { Position };
@@ -38,7 +38,7 @@ impl Model for ListedSets {
       next = r.next.flags;
     } };
 
-    ghost invariant = { λ r. AreListed r.size r.here r.taken r.read r.next };
+    ghost invariant = { λ r. AreHeld r.size r.here r.taken r.read r.next };
 }
 
 impl ListedSets {
@@ -219,7 +219,7 @@ fn clear_position(here: &mut ListedSet, read: &mut Set)
 fn first_unread(places: &[usize], from: usize, size: usize, read: &Set) -> Option<(usize, usize)>
     requires { size < length read.now }
     ensures { MatchOption result (AreRead places.now from (length places.now) size read.now)
-        (λ found. IsFirstUnread places.now from size read.now found.0 found.1) }
+        (λ found. IsNextUnread places.now from size read.now found.0 found.1) }
 {
     for index in from..places.len() {
         let at = places[index];

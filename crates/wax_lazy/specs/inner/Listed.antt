@@ -1,6 +1,6 @@
 -- Sets of places that are also listed.
-use Rattle.std.specs.Prelude.{◌≡◌, ◌↔◌, ◌⊎◌, ℕ, ◌+◌, ◌<◌, ◌≤◌, Bool, true, false, not, ◌&&◌, List, [], ◌∷◌, Contains, Some}
-use Rattle.std.specs.Prelude.{length, slice_get}
+use Rattle.std.specs.Prelude.{◌≡◌, ◌↔◌, ◌⊎◌, ℕ, ◌+◌, ◌<◌, ◌≤◌, Bool, true, false, not, ◌&&◌, List, [], ◌∷◌}
+use Rattle.std.specs.Prelude.{Contains, Some, length, slice_get}
 use Rattle.wax_program.specs.declared.instruction.Instruction.{Instruction}
 use Rattle.wax_program.specs.Threads.{AnyAmong, HoldsPlace, IsEmpty, Position, Within, member_count}
 
@@ -32,8 +32,8 @@ unread (b ∷ here) (r ∷ read) = (b && not r) ∷ unread here read
 abbrev pub Waits : List ℕ → ℕ → ℕ → Type 0
 Waits places taken k = (j : ℕ) × (taken ≤ j) × (slice_get places j ≡ Some k)
 
--- the place was inserted: it is in the set, nothing else is new, places that wait still do, and it waits if it
--- wasn't in the set
+-- the place was inserted: it is in the set, nothing else is new, places that wait still do, and it waits if
+-- it wasn't in the set
 pub record Inserts (old new : Listing) (at : ℕ) : Type 0 where
   pub limit : new.limit ≡ old.limit
   pub has : HoldsPlace new.flags at
@@ -44,9 +44,11 @@ pub record Inserts (old new : Listing) (at : ℕ) : Type 0 where
   pub stays : (taken k : ℕ) → Waits old.places taken k → Waits new.places taken k
   pub waits : (taken : ℕ) → taken ≤ length old.places → HoldsPlace old.flags at ⊎ Waits new.places taken at
 
--- the places that were reached here, those of them that were read, and those of the next position, for a program of
--- `size` instructions: a place that is still to be read is in the list, at an index from `taken` on
-pub record AreListed (size : ℕ) (here : Listing) (taken : ℕ) (read : List Bool) (next : Listing) : Type 0 where
+-- the places that were reached here, those of them that were read, and those of the next position, for a
+-- program of `size` instructions: a place that is still to be read is in the list, at an index from `taken`
+-- on
+pub record AreHeld (size : ℕ) (here : Listing) (taken : ℕ) (read : List Bool) (next : Listing) :
+    Type 0 where
   pub here_room : size < here.limit
   pub next_room : size < next.limit
   pub read_room : size < length read
@@ -63,8 +65,9 @@ abbrev pub AreRead : List ℕ → ℕ → ℕ → ℕ → List Bool → Type 0
 AreRead places from end size read = (j k : ℕ) → from ≤ j → j < end → slice_get places j ≡ Some k → k < size
     → HoldsPlace read k
 
--- the first place in the list, from the index `from` on, that is below `size` and wasn't read, and the index after it
-pub record IsFirstUnread (places : List ℕ) (from size : ℕ) (read : List Bool) (next at : ℕ) : Type 0 where
+-- the first place in the list, from the index `from` on, that is below `size` and wasn't read; and the index
+-- after it
+pub record IsNextUnread (places : List ℕ) (from size : ℕ) (read : List Bool) (next at : ℕ) : Type 0 where
   pub index : ℕ
   pub next_is : next ≡ index + 1
   pub before : AreRead places from index size read

@@ -1,5 +1,5 @@
 use Rattle.std.proofs.Common.{refl, sym, subst, length}
-use Rattle.wax_lazy.specs.inner.Listed.{AreRead, IsFirstUnread, Lists}
+use Rattle.wax_lazy.specs.inner.Listed.{AreRead, IsNextUnread, Lists}
 use Rattle.wax_program.proofs.Members.{members_within}
 use Rattle.wax_lazy.proofs.Listings.{all_read, listed_taken, takes_few, takes_listed}
 use Rattle.wax_lazy.proofs.listed_sets.ListedSetsSets.take.Goals as goal
@@ -17,7 +17,7 @@ pub invariant_of-self : goal.invariant_of-self
 invariant_of-self c =
     let s = c.self.inside in
     let same = sym c.places.ensures.places in
-    let found = subst (λ z. IsFirstUnread z s.taken s.size s.read c.in_ok-next.next c.in_ok-next.at) same c.in_ok-next.ensures in
+    let found = subst (λ z. IsNextUnread z s.taken s.size s.read c.in_ok-next.next c.in_ok-next.at) same c.in_ok-next.ensures in
     let lists = subst (λ z. Lists z s.here.flags) same c.places.ensures.all in
     rw (c.insert.ensures, found.next_is)
     (listed_taken s.size s.taken s.here s.next s.read c.self.invariant lists found.index c.in_ok-next.at found.is found.below found.fresh found.before)
@@ -26,7 +26,7 @@ pub returns-clause-few : goal.returns-clause-few
 returns-clause-few c =
     let s = c.self.inside in
     let same = sym c.places.ensures.places in
-    let found = subst (λ z. IsFirstUnread z s.taken s.size s.read c.in_ok-next.next c.in_ok-next.at) same c.in_ok-next.ensures in
+    let found = subst (λ z. IsNextUnread z s.taken s.size s.read c.in_ok-next.next c.in_ok-next.at) same c.in_ok-next.ensures in
     let lists = subst (λ z. Lists z s.here.flags) same c.places.ensures.all in
     rw c.insert.ensures (takes_few s.size s.taken s.here s.next s.read c.self.invariant lists found.index c.in_ok-next.at found.is found.below found.fresh)
 
@@ -34,7 +34,7 @@ pub returns-clause-taken : goal.returns-clause-taken
 returns-clause-taken c =
     let s = c.self.inside in
     let same = sym c.places.ensures.places in
-    let found = subst (λ z. IsFirstUnread z s.taken s.size s.read c.in_ok-next.next c.in_ok-next.at) same c.in_ok-next.ensures in
+    let found = subst (λ z. IsNextUnread z s.taken s.size s.read c.in_ok-next.next c.in_ok-next.at) same c.in_ok-next.ensures in
     let lists = subst (λ z. Lists z s.here.flags) same c.places.ensures.all in
     rw (← c.self.view_is, c.insert.ensures)
     (takes_listed s.size s.taken s.here s.next s.read c.self.invariant lists found.index c.in_ok-next.at found.is found.below found.fresh)
