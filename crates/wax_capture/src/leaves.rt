@@ -68,7 +68,7 @@ fn test_of_class(alloc: Global, class: &Class) -> Result<Test, AllocError>
     Ok(Test::Class(Class::new(class.is_negated(), archetypes)))
 }
 
-/// Builds the test of a leaf that takes one character, or returns `None` for any other leaf.
+/// Builds the test of a class, `?` or `/`, or returns `None` for any other leaf.
 ///
 /// # Errors
 ///

@@ -29,7 +29,7 @@ fn add_form(forms: &mut Vec<Form>, form: Form) -> Result<(), AllocError>
     Ok(())
 }
 
-/// Builds the form of a repetition of one character, or returns `None` for any other token.
+/// Builds the form of a repeated class, `?` or `/`, or returns `None` for any other token.
 fn form_of_run<'t, A>(alloc: Global, token: &Token<'t, A>) -> Result<Option<Form>, AllocError>
     ensures means { IfOk result (λ r. IfSome r (λ form. (before after : Bool) (x : List ℕ)
         → TakenBy form x ↔ Means token.now before after x)) }
@@ -51,7 +51,8 @@ fn form_of_run<'t, A>(alloc: Global, token: &Token<'t, A>) -> Result<Option<Form
     }))
 }
 
-/// Builds the form of the token at the index. Only branches of several tokens need a program.
+/// Builds the form of the token at the index. Only branches need a program, except for a repeated
+/// class, `?` or `/`.
 fn form_of<'t, A>(
     alloc: Global,
     tokens: &[Token<'t, A>],

@@ -84,6 +84,7 @@ impl<'t> Text<'t> {
         requires { place + n ≤ length self.now }
         ensures { result ≡ place + n }
     {
+        // each arm knows that the text's length fits into 64 bits
         match &self.letters {
             Letters::Bytes(_) => place + n,
             Letters::Listed(_) => place + n,
