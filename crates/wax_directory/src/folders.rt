@@ -4,6 +4,7 @@ ghost use Rattle.std.specs.Prelude.{◌≡◌};
 ghost use Rattle.wax_directory.specs.Counting.{no_counts};
 
 use crate::directory::{Directory, DirectoryFault, FileType, ListItem};
+use crate::path::is_open;
 use crate::tally::Tally;
 use std::alloc::Global;
 use std::fs::ReadDir;
@@ -17,6 +18,18 @@ use wax_query::diagnostics::NoMemory;
 pub struct Folders {
     runtime: HostRuntime,
     tally: Tally,
+    // The path of the item that `next` returned last, if it is a folder, and else empty. A walk
+    // opens that folder next, without looking at its kind again.
+    last_folder: String,
+}
+
+/// A folder of the real file system that is being listed.
+#[derive(Drop)]
+pub struct FolderListing {
+    items: ReadDir,
+    // Where the path of an item, and its name, begin in the system's path of it.
+    path_start: usize,
+    name_start: usize,
 }
 
 impl Folders {
@@ -24,10 +37,56 @@ impl Folders {
     pub fn new(runtime: HostRuntime) -> Folders
         ensures { ⟦<Self as Directory>⟧.law.tally result ≡ no_counts }
     {
+        let last_folder = String::new(runtime.alloc());
         Folders {
             runtime,
             tally: Tally::none(),
+            last_folder,
         }
+    }
+
+    // Opens a folder. Its kind is looked at first, so that a link isn't opened.
+    fn opened_at(&mut self, alloc: Global, path: &str) -> Result<Box<FolderListing>, DirectoryFault>
+        ensures { self.new.tally ≡ self.old.tally }
+    {
+        if path.is_empty() || self.last_folder.as_str() != path {
+            let Some(FileType::Folder) = kind_at(&self.runtime, path)? else {
+                return Err(DirectoryFault::Failed);
+            };
+        }
+        self.last_folder.clear();
+        listing_of(alloc, &self.runtime, path)
+    }
+
+    // Converts an entry of a listing into an item, and remembers the path of a folder. If there is
+    // no memory for that, the kind of the folder is looked at once more.
+    fn listed(
+        &mut self,
+        alloc: Global,
+        entry: io::Result<fs::DirEntry>,
+        listing: &FolderListing,
+    ) -> Result<ListItem, NoMemory>
+        ensures { self.new.tally ≡ self.old.tally }
+    {
+        self.last_folder.clear();
+        let entry = match entry {
+            Ok(entry) => entry,
+            Err(error) => return unread(&error),
+        };
+        let kind = match entry.file_type() {
+            Ok(kind) => type_of(kind),
+            Err(error) => return unread(&error),
+        };
+        let path = entry.path();
+        let path = path.to_string_lossy();
+        if kind == FileType::Folder {
+            let _ = self
+                .last_folder
+                .push_str(text_from(path, listing.path_start));
+        }
+        let mut name = String::with_capacity(alloc, path.len())?;
+        name.push_str(text_from(path, listing.name_start))?;
+        Ok(ListItem::Name(name, kind))
     }
 }
 
@@ -65,22 +124,35 @@ fn kind_at(runtime: &HostRuntime, path: &str) -> Result<Option<FileType>, Direct
     }
 }
 
-// Opens a folder. The cursor is in a box, since it holds the 8 KiB that the system fills. The kind
-// is looked at first, so that a link isn't opened.
-fn opened_at(
+// Begins to list a folder. The listing is in a box, since it holds the 8 KiB that the system fills.
+fn listing_of(
     alloc: Global,
     runtime: &HostRuntime,
     path: &str,
-) -> Result<Box<ReadDir>, DirectoryFault> {
-    let Some(FileType::Folder) = kind_at(runtime, path)? else {
-        return Err(DirectoryFault::Failed);
+) -> Result<Box<FolderListing>, DirectoryFault> {
+    let system_path = system_path(path);
+    let items = match fs::read_dir(runtime, system_path) {
+        Ok(items) => items,
+        Err(error) => return Err(fault_of(&error)),
     };
-    match fs::read_dir(runtime, system_path(path)) {
-        Ok(cursor) => match Box::new(alloc, cursor) {
-            Ok(cursor) => Ok(cursor),
-            Err(_) => Err(DirectoryFault::Memory),
-        },
-        Err(error) => Err(fault_of(&error)),
+    let listing = FolderListing {
+        items,
+        path_start: if path.is_empty() { "./".len() } else { 0 },
+        name_start: system_path
+            .len()
+            .saturating_add(usize::from(!is_open(system_path))),
+    };
+    match Box::new(alloc, listing) {
+        Ok(listing) => Ok(listing),
+        Err(_) => Err(DirectoryFault::Memory),
+    }
+}
+
+// Returns the text from a byte on. The byte begins a character: it is the first of a name.
+fn text_from(text: &str, start: usize) -> &str {
+    match text.split_at_checked(start) {
+        Some((_, rest)) => rest,
+        None => "",
     }
 }
 
@@ -94,23 +166,10 @@ fn unread(error: &io::Error) -> Result<ListItem, NoMemory> {
     }
 }
 
-fn listed(alloc: Global, entry: io::Result<fs::DirEntry>) -> Result<ListItem, NoMemory> {
-    match entry {
-        Err(error) => unread(&error),
-        Ok(entry) => match entry.file_type() {
-            Err(error) => unread(&error),
-            Ok(kind) => Ok(ListItem::Name(
-                String::from_str(alloc, entry.file_name())?,
-                type_of(kind),
-            )),
-        },
-    }
-}
-
 impl Directory for Folders {
     ghost use Rattle.std.specs.Prelude.{⊤, []};
 
-    type Cursor = Box<ReadDir>;
+    type Cursor = Box<FolderListing>;
 
     ghost law = { record { shows = λ _ _ _. ⊥; holds = λ _ _ _. ⊥; tells = λ _ _. ⊤; tally = λ s. s.tally } };
 
@@ -120,8 +179,8 @@ impl Directory for Folders {
         answer
     }
 
-    fn open(&mut self, alloc: Global, path: &str) -> Result<Box<ReadDir>, DirectoryFault> {
-        let answer = opened_at(alloc, &self.runtime, path);
+    fn open(&mut self, alloc: Global, path: &str) -> Result<Box<FolderListing>, DirectoryFault> {
+        let answer = self.opened_at(alloc, path);
         self.tally.add(Tally::of_opening(&answer));
         answer
     }
@@ -129,13 +188,13 @@ impl Directory for Folders {
     fn next(
         &mut self,
         alloc: Global,
-        cursor: &mut Box<ReadDir>,
+        cursor: &mut Box<FolderListing>,
     ) -> Result<Option<ListItem>, NoMemory> {
-        let Some(entry) = cursor.next() else {
+        let Some(entry) = cursor.items.next() else {
             self.tally.add(Tally::of_end());
             return Ok(None);
         };
-        let item = listed(alloc, entry)?;
+        let item = self.listed(alloc, entry, cursor)?;
         self.tally.add(Tally::of_item(&item));
         Ok(Some(item))
     }

@@ -5,7 +5,7 @@ mod copies;
 pub mod directory;
 pub mod failing;
 pub mod folders;
-pub mod name;
+pub mod path;
 mod paths;
 pub mod starving;
 pub mod tally;

@@ -6,11 +6,12 @@ ghost use Rattle.wax_directory.specs.Counting.{no_counts};
 ghost use Rattle.wax_directory.specs.Nodes.{names_of, HasDistinctNames};
 ghost use Rattle.wax_directory.specs.PathTails.{below_name, first_name, leads_on, rest_after, tails_from};
 ghost use Rattle.wax_directory.specs.PathTails.{tails_to, starts_at, StandsBy};
-ghost use Rattle.wax_directory.specs.Shown.{Shown, is_open};
+ghost use Rattle.wax_directory.specs.Shown.{Shown};
 ghost use Rattle.wax_directory.specs.Trees.{tree_law};
 ghost use Rattle.wax_directory.specs.inner.Growing.{new_name, Grows};
 
-use crate::tree::{Node, Tree, TreeItem, begins_at_root, has_entry, names_in};
+use crate::path::{is_open, is_rooted, names_in};
+use crate::tree::{Node, Tree, TreeItem, has_entry};
 use std::alloc::{AllocError, Global};
 use std::marker::Model;
 use wax_query::diagnostics::NoMemory;
@@ -118,19 +119,10 @@ impl<'a> GivenPath<'a> {
     }
 }
 
-fn is_folder(text: &str) -> bool
-    ensures { result ≡ is_open text.now }
-{
-    match text.as_bytes().last() {
-        None => true,
-        Some(last) => *last == b'/',
-    }
-}
-
 fn is_taken_from(text: &str, at_root: bool) -> bool
     ensures { result ≡ starts_at at_root text.now }
 {
-    begins_at_root(text) == at_root
+    is_rooted(text) == at_root
 }
 
 fn lead_on(tails: &[PathTail<'_>]) -> bool
@@ -189,7 +181,7 @@ fn given_paths<'a>(
         if is_taken_from(text, at_root) {
             paths.push(GivenPath {
                 names: names_in(alloc, text)?,
-                is_folder: is_folder(text),
+                is_folder: is_open(text),
             })?;
         }
     }

@@ -5,7 +5,7 @@ ghost use Rattle.wax_directory.specs.Counting.{after_counting, kind_counts, open
 ghost use Rattle.wax_directory.specs.Counting.{no_counts, end_counts};
 
 use crate::directory::{DirectoryFault, FileType, ListItem};
-use crate::name::is_plain;
+use crate::path::is_plain;
 use wax_query::diagnostics::NoMemory;
 
 /// How often a directory returned what. Each number is at most `u64::MAX`, and then stays there.

@@ -6,7 +6,7 @@ ghost use Rattle.std.specs.Prelude.{option_map, string_bytes, IfOk, IfErr, IfSom
 ghost use Rattle.wax_directory.specs.declared.directory.DirectoryFault.TheVariants.{Failed};
 ghost use Rattle.wax_directory.specs.declared.tree.Node.TheViews.{out-Node};
 ghost use Rattle.wax_directory.specs.Answers.{listed_of, KindIs, Opens};
-ghost use Rattle.wax_directory.specs.Names.{names_in_path, is_rooted, are_distinct};
+ghost use Rattle.wax_directory.specs.Names.{are_distinct};
 ghost use Rattle.wax_directory.specs.Nodes.{node_at, child_at, held, entry_node, shown_of, listed_item};
 ghost use Rattle.wax_directory.specs.Nodes.{names_of, HasDistinctNames, HasDuplicateName, named_in};
 ghost use Rattle.wax_directory.specs.Nodes.{below_layer, reached};
@@ -16,6 +16,7 @@ ghost use Rattle.wax_directory.specs.Trees.{tree_law, HasItems, tree_start, reac
 ghost use Rattle.wax_directory.specs.inner.Places.{has_name, reached_place, reached_at, Locates};
 
 use crate::directory::{Directory, DirectoryFault, FileType, ListItem};
+use crate::path::{is_rooted, names_in};
 use crate::tally::Tally;
 use std::alloc::{AllocError, Global};
 use std::collections::HashSet;
@@ -265,8 +266,7 @@ impl Tree {
         let Ok(names) = names_in(alloc, path) else {
             return Err(DirectoryFault::Memory);
         };
-        self.start(begins_at_root(path))
-            .locate(alloc, names.as_slice())
+        self.start(is_rooted(path)).locate(alloc, names.as_slice())
     }
 
     fn look(&self, alloc: Global, path: &str) -> Result<Option<FileType>, DirectoryFault>
@@ -275,7 +275,7 @@ impl Tree {
         let Some(places) = self.find(alloc, path)? else {
             return Ok(None);
         };
-        match self.start(begins_at_root(path)).at(places.as_slice()) {
+        match self.start(is_rooted(path)).at(places.as_slice()) {
             Some(node) => Ok(Some(node.kind())),
             None => Ok(None),
         }
@@ -288,7 +288,7 @@ impl Tree {
         let Some(places) = self.find(alloc, path)? else {
             return Err(DirectoryFault::Failed);
         };
-        let is_rooted = begins_at_root(path);
+        let is_rooted = is_rooted(path);
         match self.start(is_rooted).at(places.as_slice()) {
             Some(Node::Folder(_)) => Ok(TreeCursor {
                 is_rooted,
@@ -410,19 +410,4 @@ fn hold_distinct_names(alloc: Global, items: &[TreeItem]) -> Result<bool, AllocE
         }
     }
     Ok(true)
-}
-
-// Splits a path into its names, without empty parts.
-pub(crate) fn names_in(alloc: Global, path: &str) -> Result<Vec<&str>, AllocError>
-    ensures { IfOk result (λ v. map (λ x. x.now) v.items ≡ names_in_path path.now) }
-{
-    path.split('/')
-        .filter(|name| !name.is_empty())
-        .collect(alloc)
-}
-
-pub(crate) fn begins_at_root(path: &str) -> bool
-    ensures { result ≡ is_rooted path.now }
-{
-    path.starts_with('/')
 }

@@ -1,5 +1,5 @@
 -- What is found in a folder.
-use Rattle.std.proofs.Common.{◌≡◌, ℕ, ◌+◌, ◌-◌, List, false, inl, inr, sym, subst, ◌∙◌, arith, string_bytes}
+use Rattle.std.proofs.Common.{◌≡◌, ℕ, ◌+◌, ◌-◌, List, false, inl, inr, sym, subst, ◌∙◌, ap, arith, string_bytes}
 use Rattle.std.proofs.lemmas.Str.{IsUtf8-string_bytes}
 use Rattle.std.specs.Prelude.{Option, Some, None, Err, String}
 use Rattle.std.specs.declared.alloc.Global.{Global}
@@ -12,9 +12,11 @@ use Rattle.wax_directory.specs.Counting.{item_counts, no_counts}
 use Rattle.wax_directory.specs.Names.{is_plain}
 use Rattle.wax_directory.specs.Shown.{Items, Shown, ShowsIn, first_item}
 use Rattle.wax_directory.specs.TreeLaw.{not_plain, plain_of}
+use Rattle.wax_walk.specs.declared.entry.TreeEntry.{TreeEntry}
 use Rattle.wax_walk.specs.declared.error.FaultKind.{FaultKind}
 use Rattle.wax_walk.specs.declared.error.FaultKind.TheVariants as K
 use Rattle.wax_walk.specs.declared.error.WalkError.TheVariants as W
+use Rattle.wax_walk.specs.Entries.{facts_of}
 use Rattle.wax_walk.specs.Forest.{Forest, nothing, item}
 use Rattle.wax_walk.specs.Given.{Given, entry, fault, no_memory}
 use Rattle.wax_walk.specs.View.{Takes, fault_counts}
@@ -26,37 +28,38 @@ use Rattle.wax_tree.specs.Plain.{WalkScope, Location, count_shown, entry_forest}
 use Rattle.wax_tree.specs.inner.Finding.{IsFault, IsFound}
 use Rattle.wax_tree.specs.inner.Heads.{first_item_forest, own_count}
 use Rattle.wax_tree.specs.Stepping.{Asked, IsCounted, UsesAnswer, nothing_asked}
-use Rattle.wax_tree.specs.Walking.{HasKind, allowance, names_left, step_given}
+use Rattle.wax_tree.specs.Walking.{HasKind, allowance, entry_location, names_left, step_given}
 use Rattle.wax_tree.proofs.UsingAnswers.{gives_uses_answer}
 use Rattle.wax_tree.proofs.Showing.{takes_name, takes_misnamed, takes_failed, takes_not_text}
 
 module _ (scope : WalkScope) (at : Location) (shows : List ℕ → Shown → Type 0) where
   -- an entry of the folder
-  pub found_entry : (x : ListItem) (path candidate : String Global) (kind : FileType) (depth : ℕ) (l : Items)
-      (g : Forest Given) → IsFound at x (Entry path candidate kind) → at.depth ≡ depth
-      → Some (listed_of x) ≡ first_item l → ShowsIn shows at.path l
-      → (s : Shown) × shows (string_bytes path) s × HasKind s kind × (own_count l ≡ count_shown s)
-      × (first_item_forest scope at l g ≡ entry_forest scope (record {
-        path = string_bytes path;
-        candidate = string_bytes candidate;
-        depth = depth;
-      }) kind s g)
-  found_entry (I.Name name k) path candidate kind depth l g f d h i = elim f [
+  pub found_entry : (x : ListItem) (e : TreeEntry) (l : Items) (g : Forest Given)
+      → IsFound at scope.root x (Entry e) → Some (listed_of x) ≡ first_item l → ShowsIn shows at.path l
+      → let f = facts_of e in
+      ((s : Shown) × shows f.path s × HasKind s f.kind × (own_count l ≡ count_shown s)
+      × (first_item_forest scope at l g ≡ entry_forest scope (entry_location f) f.kind s g))
+  found_entry (I.Name name k) e l g f h i = elim f [
     | inl a ↦
         let t = takes_name scope at shows (string_bytes name) k l g h
         (plain_of (string_bytes name) (IsUtf8-string_bytes name) a.0) i in
-        let e = a.1 in (
+        let is = sym a.1 in (
           t.0,
-          subst (λ v. shows v t.0) (sym e.0) t.1,
-          subst (HasKind t.0) (sym e.2) t.2,
+          subst (λ v. shows v.path t.0) is t.1,
+          subst (λ v. HasKind t.0 v.kind) is t.2,
           t.3,
-          t.4 ∙ (λ j. entry_forest scope
-              (record { path = sym e.0 j; candidate = sym e.1 j; depth = d j }) (sym e.2 j) t.0 g),
+          t.4 ∙ (λ j. entry_forest scope (entry_location (is j)) (is j).kind t.0 g),
         )
     | inr a ↦ absurd a.1
   ]
-  found_entry I.Failed path candidate kind depth l g f d h i = absurd f
-  found_entry I.NotText path candidate kind depth l g f d h i = absurd f
+  found_entry I.Failed e l g f h i = absurd f
+  found_entry I.NotText e l g f h i = absurd f
+
+  pub found_root : (x : ListItem) (e : TreeEntry) → IsFound at scope.root x (Entry e)
+      → (facts_of e).root ≡ scope.root
+  found_root (I.Name name k) e f = elim f [ inl a ↦ ap (λ v. v.root) a.1 | inr a ↦ absurd a.1 ]
+  found_root I.Failed e f = absurd f
+  found_root I.NotText e f = absurd f
 
   fault_told : (kind : FaultKind) (k : FaultKind) (path : String Global) (head g : Forest Given)
       → IsFault at kind (Fault k path) → head ≡ item (fault kind at.path (at.depth - 1)) nothing g
@@ -66,7 +69,7 @@ module _ (scope : WalkScope) (at : Location) (shows : List ℕ → Shown → Typ
 
   -- a fault of the folder
   pub found_fault : (x : ListItem) (kind : FaultKind) (path : String Global) (l : Items) (g : Forest Given)
-      → IsFound at x (Fault kind path) → Some (listed_of x) ≡ first_item l → ShowsIn shows at.path l
+      → IsFound at scope.root x (Fault kind path) → Some (listed_of x) ≡ first_item l → ShowsIn shows at.path l
       → first_item_forest scope at l g ≡ item (fault kind (string_bytes path) (at.depth - 1)) nothing g
   found_fault (I.Name name k) kind path l g f h i = elim f [
     | inl a ↦ absurd a.1
@@ -134,7 +137,7 @@ module _ {D C : Type 0} where
 
   -- a fault was counted
   pub found_uses_answer : (at : Location) (x : ListItem) (kind : FaultKind) (path : String Global) (depth : ℕ)
-      (w : Steps D C) → IsFound at x (Fault kind path)
+      (w : Steps D C) → IsFound at (string_bytes w.root) x (Fault kind path)
       → UsesAnswer (record { counts = item_counts x; taken = 0; names = names_left w }) w
       (Gives (Err (W.Fault kind path depth))) w
   found_uses_answer at (I.Name name k) kind path depth w f = elim f [

@@ -6,6 +6,8 @@ use Rattle.std.specs.declared.alloc.Global.{Global}
 use Rattle.std.proofs.lemmas.Str.{IsUtf8-string_bytes}
 use Rattle.wax_directory.specs.declared.directory.FileType.{FileType}
 use Rattle.wax_directory.specs.Shown.{IsPlain, join}
+use Rattle.wax_walk.specs.declared.entry.TreeEntry.{TreeEntry}
+use Rattle.wax_walk.specs.Entries.{facts_of}
 use Rattle.wax_walk.specs.declared.error.FaultKind.{FaultKind}
 use Rattle.wax_walk.specs.declared.error.WalkError.TheVariants.{Memory, Fault}
 use Rattle.wax_walk.specs.Collected.{AreOfFolders, HasFolder}
@@ -396,51 +398,57 @@ module _ {D C : Type 0} where
 -- ---- the items of a folder
 
 -- an entry of a folder has a plain name
-found_name : (at : Location) (x : ListItem) (path candidate : String Global) (kind : FileType)
-    → IsFound at x (Entry path candidate kind)
-    → (name : List ℕ) × IsPlain name × (string_bytes path ≡ join at.path name)
-found_name at (I.Name name k) path candidate kind f = elim f [
-  | inl a ↦ (string_bytes name, plain_of (string_bytes name) (IsUtf8-string_bytes name) a.0, a.1.0)
+found_name : (at : Location) (root : List ℕ) (x : ListItem) (e : TreeEntry) → IsFound at root x (Entry e)
+    → (name : List ℕ) × IsPlain name × ((facts_of e).path ≡ join at.path name) × ((facts_of e).depth ≡ at.depth)
+found_name at root (I.Name name k) e f = elim f [
+  | inl a ↦ (
+    string_bytes name,
+    plain_of (string_bytes name) (IsUtf8-string_bytes name) a.0,
+    ap (λ v. v.path) a.1,
+    ap (λ v. v.depth) a.1,
+  )
   | inr a ↦ absurd a.1
 ]
-found_name at I.Failed path candidate kind f = absurd f
-found_name at I.NotText path candidate kind f = absurd f
+found_name at root I.Failed e f = absurd f
+found_name at root I.NotText e f = absurd f
 
 -- an error of a folder has its path
-found_path : (at : Location) (x : ListItem) (kind : FaultKind) (path : String Global)
-    → IsFound at x (FoundFault kind path) → string_bytes path ≡ at.path
-found_path at (I.Name name k) kind path f = elim f [ inl a ↦ absurd a.1 | inr a ↦ a.1.1 ]
-found_path at I.Failed kind path f = f.1
-found_path at I.NotText kind path f = f.1
+found_path : (at : Location) (root : List ℕ) (x : ListItem) (kind : FaultKind) (path : String Global)
+    → IsFound at root x (FoundFault kind path) → string_bytes path ≡ at.path
+found_path at root (I.Name name k) kind path f = elim f [ inl a ↦ absurd a.1 | inr a ↦ a.1.1 ]
+found_path at root I.Failed kind path f = f.1
+found_path at root I.NotText kind path f = f.1
 
 module _ {D C : Type 0} (w : Steps D C) (at : Location) (x : ListItem) where
   -- an entry that isn't yielded is below its folder
-  pub entry_places : (path candidate : String Global) (kind : FileType) (depth : ℕ) (r : Step) (new : Steps D C)
-      → IsFound at x (Entry path candidate kind)
-      → StepPlaces (ReachesFrom w no_folders)
-      (λ p n. (depth < w.min) × LeadsUnseen w.min (OneFolder (string_bytes path) (depth + 1)) p n) w.max r new
-      → StepPlaces (ReachesFrom w (OneFolder at.path depth)) (ReachesFrom w (OneFolder at.path depth)) w.max r new
-  entry_places path candidate kind depth r new f s =
-      let one = OneFolder at.path depth in
-      let named = found_name at x path candidate kind f in
+  pub entry_places : (e : TreeEntry) (r : Step) (new : Steps D C) → IsFound at (string_bytes w.root) x (Entry e)
+      → let f = facts_of e in
+      (StepPlaces (ReachesFrom w no_folders)
+      (λ p n. (f.depth < w.min) × LeadsUnseen w.min (OneFolder f.path (f.depth + 1)) p n) w.max r new
+      → StepPlaces (ReachesFrom w (OneFolder at.path at.depth)) (ReachesFrom w (OneFolder at.path at.depth))
+      w.max r new)
+  entry_places e r new found s =
+      let f = facts_of e in
+      let one = OneFolder at.path at.depth in
+      let named = found_name at (string_bytes w.root) x e found in
       places_more _ (ReachesFrom w one) _ (ReachesFrom w one) w.max r new
       (λ p n h. reaches_more w no_folders one (λ q k i. absurd i) p n h)
       (λ p n h. leads_on w.min (OfAny w one) p n
-      (leads_more w.min (OneFolder (string_bytes path) (depth + 1)) (ReachesFrom w one) (λ q k i.
+      (leads_more w.min (OneFolder f.path (f.depth + 1)) (ReachesFrom w one) (λ q k i.
       subst (λ v. ReachesFrom w one v k) (sym (i.0 ∙ named.2))
-      (subst (λ m. ReachesFrom w one (join at.path named.0) m) (sym i.1)
-      (leads_name w.min (OfAny w one) at.path named.0 depth named.1 (omega (arith, h.0))
-      (leads_here w.min (OfAny w one) at.path depth (inl (refl, refl))))))
+      (subst (λ m. ReachesFrom w one (join at.path named.0) m) (sym (i.1 ∙ ap (λ v. v + 1) named.3))
+      (leads_name w.min (OfAny w one) at.path named.0 at.depth named.1 (omega (arith, h.0, named.3))
+      (leads_here w.min (OfAny w one) at.path at.depth (inl (refl, refl))))))
       p n h.1)) s
 
   pub found_places : (kind : FaultKind) (path : String Global) (depth inside : ℕ)
-      → IsFound at x (FoundFault kind path) → depth ≡ inside - 1 → w.entered ≡ None
+      → IsFound at (string_bytes w.root) x (FoundFault kind path) → depth ≡ inside - 1 → w.entered ≡ None
       → StepPlaces (ReachesFrom w (OneFolder at.path inside)) (ReachesFrom w (OneFolder at.path inside)) w.max
       (Gives (Err (Fault kind path depth))) w
   found_places kind path depth inside f d none =
       let one = OneFolder at.path inside in
       fault_places (ReachesFrom w one) (ReachesFrom w one) w.max w kind path depth inside d
-      (leads_here w.min (OfAny w one) (string_bytes path) inside (inl (found_path at x kind path f, refl))) none
+      (leads_here w.min (OfAny w one) (string_bytes path) inside (inl (found_path at (string_bytes w.root) x kind path f, refl))) none
       (λ p k h. reaches_more w no_folders one (λ q m i. absurd i) p k h)
 
 -- ---- a walk when it is made

@@ -10,7 +10,7 @@ use Rattle.wax_walk.specs.declared.error.WalkError.{WalkError}
 use Rattle.wax_walk.specs.declared.entry.TreeEntry.{TreeEntry}
 use Rattle.wax_walk.specs.Entries.{facts_of, given_outcome}
 use Rattle.wax_walk.specs.Forest.{Forest, nothing, lists, followed_by, Pending, all_pending}
-use Rattle.wax_walk.specs.Given.{Given}
+use Rattle.wax_walk.specs.Given.{Facts, Given}
 use Rattle.wax_walk.specs.View.{WalkView}
 use Rattle.wax_tree.specs.declared.steps.Folder.{Folder}
 use Rattle.wax_tree.specs.declared.steps.OpenFolder.{OpenFolder}
@@ -54,6 +54,10 @@ folder_location folder = record {
   candidate = string_bytes folder.candidate;
   depth = folder.depth;
 }
+
+-- where an entry is
+abbrev pub entry_location : Facts → Location
+entry_location f = record { path = f.path; candidate = f.candidate; depth = f.depth }
 
 -- what is below a folder that was entered
 abbrev pub entered_forest : WalkScope → Location → Shown → Forest Given

@@ -3,7 +3,6 @@
 
 mod behavior;
 mod path_ext;
-mod path_text;
 mod plain;
 mod steps;
 mod walk_tree;

@@ -7,6 +7,7 @@ ghost use Rattle.wax_directory.specs.Answers.{listed_of};
 ghost use Rattle.wax_directory.specs.Counting.{kind_counts, item_counts};
 ghost use Rattle.wax_directory.specs.Shown.{Items, Shown, ShowsIn, first_item, rest_of};
 ghost use Rattle.wax_directory.specs.declared.directory.ListItem.{ListItem};
+ghost use Rattle.wax_walk.specs.Entries.{facts_of};
 ghost use Rattle.wax_walk.specs.Forest.{Forest, Pending, followed_by};
 ghost use Rattle.wax_walk.specs.Given.{Given, fault};
 ghost use Rattle.wax_walk.specs.View.{Accounts, FeedStep};
@@ -22,13 +23,13 @@ ghost use Rattle.wax_tree.specs.Stepping.{WeaklyDecreases, Decreases, StepIs, Co
 ghost use Rattle.wax_tree.specs.Stepping.{listing_pending, StepAnswers, IsStep, items_left};
 ghost use Rattle.wax_tree.specs.Walking.{HasKind, IsFolder, EnteredShows, PlainToCome, entered_forest};
 ghost use Rattle.wax_tree.specs.Walking.{start_point_location, folder_location, scope_of, steps_view};
+ghost use Rattle.wax_tree.specs.Walking.{entry_location};
 ghost use Rattle.wax_tree.specs.Walking.{names_left, step_given, tree_answer, Rest, open_lists, if_some};
 
-use crate::path_text::join;
 use std::alloc::{AllocError, Global};
 use wax_directory::directory::{Directory, DirectoryFault, FileType, ListItem};
-use wax_directory::name::is_plain;
-use wax_walk::{FaultKind, TreeEntry, WalkError};
+use wax_directory::path::{is_plain, join};
+use wax_walk::{Entry, FaultKind, ListedFolder, TreeEntry, WalkError};
 
 /// A folder. `depth` is that of what is in it.
 #[derive(Drop)]
@@ -63,11 +64,10 @@ enum Step {
     Ends,
 }
 
-/// What an item of a folder becomes: an entry with its path, candidate and kind, or a fault of the
-/// folder with this path.
+/// What an item of a folder becomes: an entry, or a fault of the folder with this path.
 #[derive(Drop)]
 enum FoundItem {
-    Entry(String, String, FileType),
+    Entry(TreeEntry),
     Fault(FaultKind, String),
 }
 
@@ -97,15 +97,20 @@ pub struct DepthRange {
 
 fn entry_in(
     alloc: Global,
+    root: &str,
     folder: &Folder,
-    name: &str,
+    name: String,
     kind: FileType,
 ) -> Result<FoundItem, AllocError>
-    ensures { IfOk result (IsEntry (folder_location folder.now) name.now kind) }
+    ensures { IfOk result (IsEntry (folder_location folder.now) root.now (string_bytes name) kind) }
 {
-    let path = join(alloc, folder.path.as_str(), name)?;
-    let candidate = join(alloc, folder.candidate.as_str(), name)?;
-    Ok(FoundItem::Entry(path, candidate, kind))
+    let listed = ListedFolder {
+        root,
+        path: folder.path.as_str(),
+        candidate: folder.candidate.as_str(),
+    };
+    let entry = TreeEntry::in_folder(alloc, listed, name, folder.depth, kind)?;
+    Ok(FoundItem::Entry(entry))
 }
 
 fn fault_in(folder: &Folder, kind: FaultKind) -> Result<FoundItem, AllocError>
@@ -116,13 +121,18 @@ fn fault_in(folder: &Folder, kind: FaultKind) -> Result<FoundItem, AllocError>
 }
 
 // Checks the name of an item before it becomes a part of a path.
-fn found_in(alloc: Global, folder: &Folder, item: ListItem) -> Result<FoundItem, AllocError>
-    ensures { IfOk result (IsFound (folder_location folder.now) item) }
+fn found_in(
+    alloc: Global,
+    root: &str,
+    folder: &Folder,
+    item: ListItem,
+) -> Result<FoundItem, AllocError>
+    ensures { IfOk result (IsFound (folder_location folder.now) root.now item) }
 {
     match item {
         ListItem::Name(name, kind) => {
             if is_plain(name.as_str()) {
-                entry_in(alloc, folder, name.as_str(), kind)
+                entry_in(alloc, root, folder, name, kind)
             } else {
                 fault_in(folder, FaultKind::BadName)
             }
@@ -196,26 +206,23 @@ impl<D: Directory> Steps<D> {
 
     // Remembers an entry if it is a folder above the greatest depth. The folder is opened by a
     // later step, so that it can be cancelled before.
-    fn enter_later(
-        &mut self,
-        path: &str,
-        candidate: &str,
-        kind: FileType,
-        depth: usize,
-    ) -> Result<(), AllocError>
+    fn enter_later(&mut self, entry: &TreeEntry) -> Result<(), AllocError>
         ensures rest { self.new ≡ record self.old { entered = self.new.entered } }
-        ensures entered { OnOk result ((s : Shown) → (self.old.entered ≡ None)
-            → D.law.shows self.old.directory path.now s → HasKind s kind
-            → let at : Location = record { path = path.now; candidate = candidate.now; depth = depth } in
-            (n : ℕ) × (n ≤ count_shown s) × EnteredShows (D.law.shows self.old.directory) (scope_of self.old)
-            self.new.entered (below_forest (scope_of self.old) at s) n) }
-        ensures remembered { IfOk result (λ _. (kind ≡ FileType.Folder) → depth < self.old.max
-            → if_some self.new.entered 1 ≡ 1) }
-        ensures folder { (self.old.entered ≡ None) → (p : List ℕ) (n : ℕ) → OfEntered self.new.entered p n
-            → OneFolder path.now (depth + 1) p n × (kind ≡ FileType.Folder) × (depth < self.old.max) }
+        ensures entered { let f = facts_of entry.now in
+            OnOk result ((s : Shown) → (self.old.entered ≡ None)
+            → D.law.shows self.old.directory f.path s → HasKind s f.kind → (n : ℕ) × (n ≤ count_shown s)
+            × EnteredShows (D.law.shows self.old.directory) (scope_of self.old) self.new.entered
+            (below_forest (scope_of self.old) (entry_location f) s) n) }
+        ensures remembered { IfOk result (λ _. ((facts_of entry.now).kind ≡ FileType.Folder)
+            → (facts_of entry.now).depth < self.old.max → if_some self.new.entered 1 ≡ 1) }
+        ensures folder { let f = facts_of entry.now in
+            (self.old.entered ≡ None) → (p : List ℕ) (n : ℕ) → OfEntered self.new.entered p n
+            → OneFolder f.path (f.depth + 1) p n × (f.kind ≡ FileType.Folder) × (f.depth < self.old.max) }
     {
-        if kind == FileType::Folder && depth < self.max {
-            let path = String::from_str(self.alloc, path)?;
+        let depth = entry.depth();
+        if entry.file_type() == FileType::Folder && depth < self.max {
+            let (_, candidate) = entry.root_relative_paths();
+            let path = String::from_str(self.alloc, entry.path())?;
             let candidate = String::from_str(self.alloc, candidate)?;
             self.entered = Some(Folder {
                 path,
@@ -227,36 +234,28 @@ impl<D: Directory> Steps<D> {
     }
 
     // Yields an entry if its depth is in range, and remembers it as a folder to be opened.
-    fn give(&mut self, path: String, candidate: String, kind: FileType, depth: usize) -> Step
+    fn give(&mut self, entry: TreeEntry) -> Step
         ensures uses_answer { UsesAnswer (nothing_asked (names_left self.old)) self.old result self.new }
         ensures lists { KeepsLists (open_lists self.old) result self.new }
         ensures remembers { Remembers self.old result self.new }
-        ensures places { (self.old.entered ≡ None) → StepPlaces (ReachesFrom self.old no_folders)
-            (λ p n. (depth < self.old.min)
-            × LeadsUnseen self.old.min (OneFolder (string_bytes path) (depth + 1)) p n)
+        ensures places { let f = facts_of entry in
+            (self.old.entered ≡ None) → StepPlaces (ReachesFrom self.old no_folders)
+            (λ p n. (f.depth < self.old.min) × LeadsUnseen self.old.min (OneFolder f.path (f.depth + 1)) p n)
             self.old.max result self.new }
-        ensures continues { (s : Shown) → D.law.shows self.old.directory (string_bytes path) s
-            → HasKind s kind
-            → let at : Location = record {
-              path = string_bytes path;
-              candidate = string_bytes candidate;
-              depth =
-                  depth;
-            } in
-            Continues D.law self.old (entry_forest (scope_of self.old) at kind s) (count_shown s) result
-            self.new }
+        ensures continues { let f = facts_of entry in
+            (s : Shown) → (f.root ≡ string_bytes self.old.root) → D.law.shows self.old.directory f.path s
+            → HasKind s f.kind
+            → Continues D.law self.old (entry_forest (scope_of self.old) (entry_location f) f.kind s)
+            (count_shown s) result self.new }
         ensures measure { (self.old.entered ≡ None) → IncreasesBy 1 2 self.old result self.new }
     {
-        let Ok(()) = self.enter_later(path.as_str(), candidate.as_str(), kind, depth) else {
+        let Ok(()) = self.enter_later(&entry) else {
             return self.fail();
         };
-        if depth < self.min {
+        if entry.depth() < self.min {
             return Step::GoesOn;
         }
-        let Ok(root) = self.root.clone() else {
-            return self.fail();
-        };
-        Step::Gives(Ok(TreeEntry::new(path, root, candidate, depth, kind)))
+        Step::Gives(Ok(entry))
     }
 
     // Goes on to the next name of a place, which has to be a folder; without a next name, yields
@@ -289,7 +288,10 @@ impl<D: Directory> Steps<D> {
             mut names,
         } = place;
         let Some(name) = names.pop() else {
-            return self.give(path, candidate, kind, depth);
+            let Ok(root) = self.root.clone() else {
+                return self.fail();
+            };
+            return self.give(TreeEntry::new(path, root, candidate, depth, kind));
         };
         if kind != FileType::Folder {
             return self.stop(FaultKind::NotAFolder, path, depth);
@@ -371,22 +373,23 @@ impl<D: Directory> Steps<D> {
 
     // Yields what was found in a folder. `depth` is that of the folder's items.
     fn give_found(&mut self, found: FoundItem, depth: usize) -> Step
-        ensures uses_answer { (at : Location) (x : ListItem) → IsFound at x found
+        ensures uses_answer { (at : Location) (x : ListItem) → IsFound at (string_bytes self.old.root) x found
             → UsesAnswer (record { counts = item_counts x; taken = 0; names = names_left self.old })
             self.old result self.new }
         ensures lists { KeepsLists (open_lists self.old) result self.new }
         ensures remembers { Remembers self.old result self.new }
-        ensures places { (self.old.entered ≡ None) → (at : Location) (x : ListItem) → IsFound at x found
-            → at.depth ≡ depth → StepPlaces (ReachesFrom self.old (OneFolder at.path depth))
+        ensures places { (self.old.entered ≡ None) → (at : Location) (x : ListItem)
+            → IsFound at (string_bytes self.old.root) x found → at.depth ≡ depth → StepPlaces (ReachesFrom self.old (OneFolder at.path depth))
             (ReachesFrom self.old (OneFolder at.path depth)) self.old.max result self.new }
-        ensures continues { (at : Location) (x : ListItem) (l : Items) → IsFound at x found → at.depth ≡ depth
+        ensures continues { (at : Location) (x : ListItem) (l : Items)
+            → IsFound at (string_bytes self.old.root) x found → at.depth ≡ depth
             → Some (listed_of x) ≡ first_item l → ShowsIn (D.law.shows self.old.directory) at.path l
             → Continues D.law self.old (first_item_forest (scope_of self.old) at l) (own_count l) result
             self.new }
         ensures measure { (self.old.entered ≡ None) → IncreasesBy 1 2 self.old result self.new }
     {
         match found {
-            FoundItem::Entry(path, candidate, kind) => self.give(path, candidate, kind, depth),
+            FoundItem::Entry(entry) => self.give(entry),
             FoundItem::Fault(kind, path) => {
                 Step::Gives(Err(WalkError::Fault(kind, path, depth.saturating_sub(1))))
             }
@@ -418,7 +421,7 @@ impl<D: Directory> Steps<D> {
             return self.stop(FaultKind::Budget, folder.path, depth);
         }
         self.budget -= 1;
-        let Ok(found) = found_in(self.alloc, &folder, item) else {
+        let Ok(found) = found_in(self.alloc, self.root.as_str(), &folder, item) else {
             return self.fail();
         };
         let depth = folder.depth;

@@ -7,3 +7,4 @@ pub mod Wanted
 pub mod RuleSteps
 pub mod ClosureSteps
 pub mod Leaving
+pub mod Sharing

@@ -19,9 +19,9 @@ use Rattle.wax_walk.specs.Given.{Facts, Given, entry, fault, no_memory, kept, al
 -- the facts of an entry of a plain walk
 abbrev pub facts_of : TreeEntry → Facts
 facts_of e = record {
-  path = string_bytes e.path;
-  root = string_bytes e.root;
-  candidate = string_bytes e.candidate;
+  path = e.at.path;
+  root = e.at.root;
+  candidate = e.at.candidate;
   depth = e.depth;
   kind = e.kind;
 }

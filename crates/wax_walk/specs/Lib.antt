@@ -9,3 +9,5 @@ pub mod Ruled
 pub mod Collected
 pub mod Known
 pub mod Laws
+pub mod Paths
+pub mod inner

@@ -1,18 +1,20 @@
 //! Entries of walks.
 
-ghost use Rattle.std.specs.Prelude.{◌≡◌, string_bytes};
+ghost use Rattle.std.specs.Prelude.{◌≡◌, string_bytes, IfOk};
+ghost use Rattle.wax_directory.specs.Shown.{join};
 ghost use Rattle.wax_walk.specs.Given.{Facts};
 ghost use Rattle.wax_walk.specs.Entries.{facts_of};
 
-use std::alloc::AllocError;
+use crate::walked_path::{ListedFolder, WalkedPath};
+use std::alloc::{AllocError, Global};
+use std::fmt;
+use std::fmt::{Debug, Formatter};
 use wax_directory::directory::FileType;
 
 /// An entry of a plain walk. A walk of a glob wraps one and adds the captures.
-#[derive(Debug, Drop)]
+#[derive(Drop)]
 pub struct TreeEntry {
-    path: String,
-    root: String,
-    candidate: String,
+    at: WalkedPath,
     depth: usize,
     kind: FileType,
 }
@@ -30,12 +32,49 @@ impl TreeEntry {
         } }
     {
         TreeEntry {
-            path,
-            root,
-            candidate,
+            at: WalkedPath::new(path, root, candidate),
             depth,
             kind,
         }
+    }
+
+    /// Builds the entry of an item of a folder. `depth` is that of the item. It doesn't allocate if
+    /// the name has room for the path, and the folder's path begins with that of the start and ends
+    /// with the candidate.
+    ///
+    /// # Errors
+    ///
+    /// Returns `AllocError` if allocation fails.
+    pub fn in_folder(
+        alloc: Global,
+        folder: ListedFolder<'_>,
+        name: String,
+        depth: usize,
+        kind: FileType,
+    ) -> Result<Self, AllocError>
+        ensures { IfOk result (λ e. ⟦<Self as Entry>⟧.facts e ≡ record {
+          path = join folder.entry.path.now (string_bytes name);
+          root = folder.entry.root.now;
+          candidate = join folder.entry.candidate.now (string_bytes name);
+          depth = depth;
+          kind = kind;
+        }) }
+    {
+        let at = WalkedPath::in_folder(alloc, folder, name)?;
+        Ok(TreeEntry { at, depth, kind })
+    }
+}
+
+/// Prints the texts of the entry, its depth and its kind.
+impl Debug for TreeEntry {
+    fn fmt<W: fmt::Write>(&self, f: &mut Formatter<W>) -> fmt::Result {
+        f.debug_struct("TreeEntry")
+            .field("path", &self.at.path())
+            .field("root", &self.at.root())
+            .field("candidate", &self.at.candidate())
+            .field("depth", &self.depth)
+            .field("kind", &self.kind)
+            .finish()
     }
 }
 
@@ -48,9 +87,7 @@ impl Clone for TreeEntry {
 
     fn clone(&self) -> Result<Self, AllocError> {
         Ok(TreeEntry {
-            path: self.path.clone()?,
-            root: self.root.clone()?,
-            candidate: self.candidate.clone()?,
+            at: self.at.try_clone()?,
             depth: self.depth,
             kind: self.kind,
         })
@@ -100,15 +137,15 @@ impl Entry for TreeEntry {
     }
 
     fn path(&self) -> &str {
-        self.path.as_str()
+        self.at.path()
     }
 
     fn into_path(self) -> String {
-        self.path
+        self.at.into_path()
     }
 
     fn root_relative_paths(&self) -> (&str, &str) {
-        (self.root.as_str(), self.candidate.as_str())
+        (self.at.root(), self.at.candidate())
     }
 
     fn file_type(&self) -> FileType {

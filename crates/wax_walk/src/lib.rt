@@ -7,6 +7,7 @@ mod excluding;
 mod filter_entry;
 mod gather;
 mod iterator;
+mod walked_path;
 
 pub use entry::{Entry, TreeEntry};
 pub use error::{FaultKind, WalkError, WalkErrorKind};
@@ -14,3 +15,4 @@ pub use excluding::{Exclude, Excluding};
 pub use filter_entry::FilterEntry;
 pub use gather::{collect, collect_feed};
 pub use iterator::{EntryResidue, FileIterator};
+pub use walked_path::ListedFolder;

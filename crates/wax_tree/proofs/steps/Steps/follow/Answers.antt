@@ -1,19 +1,20 @@
-use Rattle.std.proofs.Common.{rules, true, false, ◌≡◌, ◌+◌, ◌∷◌, [], length, arith, ap, sym}
+use Rattle.std.proofs.Common.{rules, true, false, ◌≡◌, ◌+◌, ◌<◌, ◌∷◌, [], length, arith, ap, sym}
 use Rattle.std.proofs.Common.{subst, ◌∙◌, string_bytes, length-append, inl, refl}
 use Rattle.std.specs.Prelude.{Some}
 use Rattle.wax_directory.specs.declared.directory.FileType.TheVariants.{Folder}
 use Rattle.wax_directory.specs.Shown.{join}
 use Rattle.wax_walk.specs.declared.error.FaultKind.TheVariants.{NotAFolder}
 use Rattle.wax_walk.specs.Forest.{pending, nothing}
-use Rattle.wax_walk.specs.Given.{fault}
+use Rattle.wax_walk.specs.Given.{Facts, fault}
 use Rattle.wax_tree.specs.Prefix.{from_last, walk_from}
-use Rattle.wax_tree.specs.Stepping.{StepIs}
-use Rattle.wax_tree.specs.Walking.{HasKind, scope_of, start_point_location}
+use Rattle.wax_tree.specs.Stepping.{Continues, StepIs, StepPlaces}
+use Rattle.wax_tree.specs.Plain.{count_shown, entry_forest}
+use Rattle.wax_tree.specs.Walking.{HasKind, entry_location, scope_of, start_point_location}
 use Rattle.wax_tree.proofs.Showing.{none_left, plain_is, from_last_end, follows_leaf}
 use Rattle.wax_tree.proofs.UsingAnswers.{leaf_counted, stopped_uses_answer, stops_with}
 use Rattle.wax_tree.proofs.Stepping.{follows}
 use Rattle.wax_tree.specs.declared.steps.StartPoint.{StartPoint}
-use Rattle.wax_tree.specs.Reaching.{OfAny, OnWay, OneFolder, ReachesFrom, no_folders}
+use Rattle.wax_tree.specs.Reaching.{LeadsUnseen, OfAny, OnWay, OneFolder, ReachesFrom, no_folders}
 use Rattle.wax_tree.proofs.Reaching.{leads_here, leads_more, next_reaches, places_more, reaches_more}
 use Rattle.wax_tree.proofs.Reaching.{silent_places, stopped_places, way_here}
 use Rattle.wax_tree.proofs.steps.Steps.follow.Goals as goal
@@ -26,8 +27,12 @@ returns-in_default-clause-continues g c s h k p d empty rest items r e =
     (omega (arith, i, c.args.place.names.ok.0)) in (cc)) in
     let is = ap (λ v. walk_from (scope_of w) (start_point_location c.args.place) s (from_last v) rest.forest) none ∙
     plain_is (scope_of w) (start_point_location c.args.place) s c.args.kind rest.forest k in
+    let root : string_bytes c.in-Ok.root ≡ string_bytes w.root = c.in-Ok.ensures.cases in
+    let given = subst (λ (f : Facts). (f.root ≡ string_bytes w.root) → g.D.Directory.law.shows w.directory f.path s
+    → HasKind s f.kind → Continues g.D.Directory.law w (entry_forest (scope_of w) (entry_location f) f.kind s)
+    (count_shown s) c.give.result c.give.new.self) c.new.ensures (c.give.ensures.continues s) in
     subst (λ v. StepIs g.D.Directory.law w (pending nothing v rest.listed items) c.give.result
-    c.give.new.self) (sym is) (c.give.ensures.continues s h k rest items r e)
+    c.give.new.self) (sym is) (given root h k rest items r e)
 
 pub returns-then-ne-clause-uses_answer : goal.returns-then-ne-clause-uses_answer
 returns-then-ne-clause-uses_answer g c =
@@ -57,20 +62,20 @@ pub returns-clause-continues : goal.returns-clause-continues
 returns-clause-continues g c s h k p d empty rest items r e =
     let w = c.args.self.now in
     let folder : c.args.kind ≡ Folder = search rules in
-    let path : string_bytes c.in-Ok.path ≡ join (string_bytes c.args.place.path)
+    let path : string_bytes c.in-Ok-join.path ≡ join (string_bytes c.args.place.path)
     (string_bytes c.in-Some.name) = rw (c.as_str.ensures.value, c.as_str-2.ensures.value) at
-    c.in-Ok.ensures in
-    let candidate : string_bytes c.in-Ok-join.candidate ≡ join (string_bytes c.args.place.candidate)
-    (string_bytes c.in-Some.name) = rw (c.as_str-3.ensures.value, c.as_str-4.ensures.value) at
     c.in-Ok-join.ensures in
+    let candidate : string_bytes c.in-Ok-join-2.candidate ≡ join (string_bytes c.args.place.candidate)
+    (string_bytes c.in-Some.name) = rw (c.as_str-3.ensures.value, c.as_str-4.ensures.value) at
+    c.in-Ok-join-2.ensures in
     let long : length c.args.place.names.items ≡ length c.pop.new.self.items + 1 =
     ap length c.in-Some.ensures.items ∙ length-append c.pop.new.self.items (c.in-Some.name ∷ []) in
     let depth : c.saturating_add.result ≡ c.args.place.depth + 1 =
     omega (arith, d, long, c.saturating_add.ensures) in
     follows g.D.Directory.law w c.args.place
     (record {
-      path = c.in-Ok.path;
-      candidate = c.in-Ok-join.candidate;
+      path = c.in-Ok-join.path;
+      candidate = c.in-Ok-join-2.candidate;
       depth = c.saturating_add.result;
       names = c.pop.new.self;
     }) c.in-Some.name s rest items r h
@@ -86,7 +91,9 @@ returns-in_default-clause-places g c none =
     (reaches_more w no_folders (OnWay place) (λ p n i. absurd i))
     (λ p n i. leads_more w.min (OneFolder (string_bytes place.path) (place.depth + 1)) (OfAny w (OnWay place))
     (λ q k j. inl (way_here place q k j)) p n i.1)
-    (c.give.ensures.places none)
+    (subst (λ (f : Facts). StepPlaces (ReachesFrom w no_folders)
+    (λ p n. (f.depth < w.min) × LeadsUnseen w.min (OneFolder f.path (f.depth + 1)) p n) w.max c.give.result
+    c.give.new.self) c.new.ensures (c.give.ensures.places none))
 
 pub returns-then-ne-clause-places : goal.returns-then-ne-clause-places
 returns-then-ne-clause-places g c none =
@@ -103,12 +110,12 @@ returns-clause-places g c none =
     let place = c.args.place in
     let of = ReachesFrom w (OnWay place) in
     let next : StartPoint = record {
-      path = c.in-Ok.path;
-      candidate = c.in-Ok-join.candidate;
+      path = c.in-Ok-join.path;
+      candidate = c.in-Ok-join-2.candidate;
       depth = c.saturating_add.result;
       names = c.pop.new.self;
     } in
-    let path : string_bytes c.in-Ok.path ≡ join (string_bytes place.path) (string_bytes c.in-Some.name) =
-    rw (c.as_str.ensures.value, c.as_str-2.ensures.value) at c.in-Ok.ensures in
+    let path : string_bytes c.in-Ok-join.path ≡ join (string_bytes place.path) (string_bytes c.in-Some.name) =
+    rw (c.as_str.ensures.value, c.as_str-2.ensures.value) at c.in-Ok-join.ensures in
     silent_places of of w.max (record w { first = Some next }) _ refl none
     (next_reaches w place next c.in-Some.name c.in-Some.ensures.items path c.saturating_add.ensures)

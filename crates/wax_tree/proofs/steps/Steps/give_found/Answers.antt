@@ -1,10 +1,12 @@
-use Rattle.std.proofs.Common.{arith, ap, refl, string_bytes, ◌≡◌, ◌≤◌, ◌+◌, ◌-◌}
+use Rattle.std.proofs.Common.{arith, ap, refl, subst, string_bytes, ◌≡◌, ◌≤◌, ◌+◌, ◌-◌}
 use Rattle.std.specs.Prelude.{Err}
 use Rattle.wax_walk.specs.declared.error.WalkError.TheVariants as W
 use Rattle.wax_walk.specs.Given.{fault}
 use Rattle.wax_tree.specs.Plain.{count_shown}
+use Rattle.wax_tree.specs.Reaching.{OneFolder, ReachesFrom}
+use Rattle.wax_tree.specs.Stepping.{StepPlaces}
 use Rattle.wax_tree.specs.Walking.{names_left, scope_of}
-use Rattle.wax_tree.proofs.Finding.{found_entry, found_fault, entry_uses_answer, found_uses_answer}
+use Rattle.wax_tree.proofs.Finding.{found_entry, found_root, found_fault, entry_uses_answer, found_uses_answer}
 use Rattle.wax_tree.proofs.Resting.{comes_rest}
 use Rattle.wax_tree.proofs.Stepping.{gives_fault}
 use Rattle.wax_tree.proofs.Reaching.{entry_places, found_places}
@@ -17,12 +19,13 @@ returns-in-Entry-clause-uses_answer g c at x f =
 
 pub returns-in-Entry-clause-continues : goal.returns-in-Entry-clause-continues
 returns-in-Entry-clause-continues g c at x l f d h i rest items r e =
-    let law = g.D.Directory.law in
     let w = c.args.self.now in
-    let t = found_entry (scope_of w) at (law.shows w.directory) x c.in-Entry.path c.in-Entry.candidate
-    c.in-Entry.kind c.args.depth l rest.forest (rw c.in-Entry.is at f) d h i in
+    let found = rw c.in-Entry.is at f in
+    let t = found_entry (scope_of w) at (g.D.Directory.law.shows w.directory) x c.in-Entry.entry l rest.forest found
+    h i in
+    let root = found_root (scope_of w) at (g.D.Directory.law.shows w.directory) x c.in-Entry.entry found in
     let few : count_shown t.0 + rest.count ≤ items = omega (arith, e, t.3) in
-    rw t.4 (c.give.ensures.continues t.0 t.1 t.2 rest items r few)
+    rw t.4 (c.give.ensures.continues t.0 root t.1 t.2 rest items r few)
 
 pub returns-in-Fault-clause-uses_answer : goal.returns-in-Fault-clause-uses_answer
 returns-in-Fault-clause-uses_answer g c at x f =
@@ -44,8 +47,11 @@ returns-in-Fault-clause-continues g c at x l f d h i rest items r e =
 
 pub returns-in-Entry-clause-places : goal.returns-in-Entry-clause-places
 returns-in-Entry-clause-places g c none at x f d =
-    entry_places c.args.self.now at x c.in-Entry.path c.in-Entry.candidate c.in-Entry.kind c.args.depth
-    c.give.result c.give.new.self (rw c.in-Entry.is at f) (c.give.ensures.places none)
+    let w = c.args.self.now in
+    subst (λ depth. StepPlaces (ReachesFrom w (OneFolder at.path depth)) (ReachesFrom w (OneFolder at.path depth))
+    w.max c.give.result c.give.new.self) d
+    (entry_places w at x c.in-Entry.entry c.give.result c.give.new.self (rw c.in-Entry.is at f)
+    (c.give.ensures.places none))
 
 pub returns-in-Fault-clause-places : goal.returns-in-Fault-clause-places
 returns-in-Fault-clause-places g c none at x f d =

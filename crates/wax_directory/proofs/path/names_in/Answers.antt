@@ -3,7 +3,7 @@ use Rattle.std.proofs.lemmas.Iterator.Consumers.{map_from_collect, YieldsList-fr
 use Rattle.std.proofs.lemmas.Iterator.Splits.{YieldsList-from_str_split}
 use Rattle.wax_directory.specs.Names.{is_some_name}
 use Rattle.wax_directory.proofs.PathNames.{some_name}
-use Rattle.wax_directory.proofs.tree.names_in.Goals as goal
+use Rattle.wax_directory.proofs.path.names_in.Goals as goal
 
 pub returns : goal.returns
 returns c =
