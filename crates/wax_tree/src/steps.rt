@@ -379,8 +379,9 @@ impl<D: Directory> Steps<D> {
         ensures lists { KeepsLists (open_lists self.old) result self.new }
         ensures remembers { Remembers self.old result self.new }
         ensures places { (self.old.entered ≡ None) → (at : Location) (x : ListItem)
-            → IsFound at (string_bytes self.old.root) x found → at.depth ≡ depth → StepPlaces (ReachesFrom self.old (OneFolder at.path depth))
-            (ReachesFrom self.old (OneFolder at.path depth)) self.old.max result self.new }
+            → IsFound at (string_bytes self.old.root) x found → at.depth ≡ depth
+            → let from = ReachesFrom self.old (OneFolder at.path depth) in
+            StepPlaces from from self.old.max result self.new }
         ensures continues { (at : Location) (x : ListItem) (l : Items)
             → IsFound at (string_bytes self.old.root) x found → at.depth ≡ depth
             → Some (listed_of x) ≡ first_item l → ShowsIn (D.law.shows self.old.directory) at.path l

@@ -55,7 +55,7 @@ impl Model for WalkedPath {
 // Returns where the candidate begins in the folder's path, if the path begins with that of the
 // start and ends with the candidate.
 fn shared_start(folder: ListedFolder<'_>) -> Option<usize>
-    ensures { IfSome result (IsShared folder.entry.path.now folder.entry.root.now folder.entry.candidate.now) }
+    ensures { let f = folder.entry in IfSome result (IsShared f.path.now f.root.now f.candidate.now) }
 {
     let (root, _) = folder.path.split_at_checked(folder.root.len())?;
     let start = folder.path.len().checked_sub(folder.candidate.len())?;
