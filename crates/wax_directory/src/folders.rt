@@ -6,11 +6,14 @@ ghost use Rattle.wax_directory.specs.Counting.{no_counts};
 use crate::directory::{Directory, DirectoryFault, FileType, ListItem};
 use crate::path::is_open;
 use crate::tally::Tally;
-use std::alloc::Global;
-use std::fs::ReadDir;
-use std::io::ErrorKind;
+use std::alloc::{AllocError, Global};
+use std::fs::Files;
+use std::io::{ErrorKind, Read};
 use std::{fs, io};
 use wax_query::diagnostics::NoMemory;
+
+/// How many bytes of a folder's entries the system is asked for at once.
+const CHUNK: usize = 8192;
 
 /// The real file system. Links aren't followed, and items come in the system's order. Each item
 /// costs one system call. Nothing is claimed of what is shown, only of the counts.
@@ -18,18 +21,8 @@ use wax_query::diagnostics::NoMemory;
 pub struct Folders {
     runtime: HostRuntime,
     tally: Tally,
-    // The path of the item that `next` returned last, if it is a folder, and else empty. A walk
-    // opens that folder next, without looking at its kind again.
-    last_folder: String,
-}
-
-/// A folder of the real file system that is being listed.
-#[derive(Drop)]
-pub struct FolderListing {
-    items: ReadDir,
-    // Where the path of an item, and its name, begin in the system's path of it.
-    path_start: usize,
-    name_start: usize,
+    // The path of the item whose kind was looked at last: its text is used again for the next one.
+    item_path: String,
 }
 
 impl Folders {
@@ -37,57 +30,109 @@ impl Folders {
     pub fn new(runtime: HostRuntime) -> Folders
         ensures { ⟦<Self as Directory>⟧.law.tally result ≡ no_counts }
     {
-        let last_folder = String::new(runtime.alloc());
+        let item_path = String::new(runtime.alloc());
         Folders {
             runtime,
             tally: Tally::none(),
-            last_folder,
+            item_path,
         }
     }
 
-    // Opens a folder. Its kind is looked at first, so that a link isn't opened.
-    fn opened_at(&mut self, alloc: Global, path: &str) -> Result<Box<FolderListing>, DirectoryFault>
+    // Returns the item with this name in a folder. The name has room for the path that a walk makes
+    // of it.
+    fn item(&mut self, alloc: Global, folder: &str, name: &[u8]) -> Result<ListItem, NoMemory>
         ensures { self.new.tally ≡ self.old.tally }
     {
-        if path.is_empty() || self.last_folder.as_str() != path {
-            let Some(FileType::Folder) = kind_at(&self.runtime, path)? else {
-                return Err(DirectoryFault::Failed);
-            };
+        let Ok(name) = str::from_utf8(name) else {
+            return Ok(ListItem::NotText);
+        };
+        self.item_path.clear();
+        self.item_path.push_str(folder)?;
+        self.item_path.push_str(name)?;
+        match fs::symlink_metadata(&self.runtime, self.item_path.as_str()) {
+            Ok(metadata) => {
+                let mut text = String::with_capacity(alloc, self.item_path.len())?;
+                text.push_str(name)?;
+                Ok(ListItem::Name(text, type_of(metadata.file_type())))
+            }
+            Err(error) => unread(&error),
         }
-        self.last_folder.clear();
-        listing_of(alloc, &self.runtime, path)
+    }
+}
+
+/// A folder of the real file system that is being listed.
+#[derive(Drop)]
+pub struct FolderListing {
+    // The path of the folder, to which a name can be appended.
+    path: String,
+    names: NameReader,
+}
+
+// Reads the names of a folder, in parts. A part has whole names, each with a NUL at its end.
+#[derive(Drop)]
+struct NameReader {
+    folder: <HostRuntime as Files>::Dir,
+    buffer: Vec<u8>,
+    // Where the names in the buffer that weren't returned yet begin and end.
+    start: usize,
+    end: usize,
+    is_done: bool,
+}
+
+impl NameReader {
+    // Reads the next part if all names of the last one were returned. Returns whether there is a
+    // name.
+    fn fill(&mut self) -> io::Result<bool> {
+        if self.start < self.end {
+            return Ok(true);
+        }
+        if self.is_done {
+            return Ok(false);
+        }
+        let count = match self.folder.read(self.buffer.as_mut_slice()) {
+            Ok(count) => count,
+            Err(error) => {
+                self.is_done = true;
+                return Err(error);
+            }
+        };
+        self.start = 0;
+        self.end = count;
+        self.is_done = count == 0;
+        Ok(count > 0)
     }
 
-    // Converts an entry of a listing into an item, and remembers the path of a folder. If there is
-    // no memory for that, the kind of the folder is looked at once more.
-    fn listed(
-        &mut self,
-        alloc: Global,
-        entry: io::Result<fs::DirEntry>,
-        listing: &FolderListing,
-    ) -> Result<ListItem, NoMemory>
-        ensures { self.new.tally ≡ self.old.tally }
-    {
-        self.last_folder.clear();
-        let entry = match entry {
-            Ok(entry) => entry,
-            Err(error) => return unread(&error),
-        };
-        let kind = match entry.file_type() {
-            Ok(kind) => type_of(kind),
-            Err(error) => return unread(&error),
-        };
-        let path = entry.path();
-        let path = path.to_string_lossy();
-        if kind == FileType::Folder {
-            let _ = self
-                .last_folder
-                .push_str(text_from(path, listing.path_start));
-        }
-        let mut name = String::with_capacity(alloc, path.len())?;
-        name.push_str(text_from(path, listing.name_start))?;
-        Ok(ListItem::Name(name, kind))
+    // Returns where the next name begins and ends in the buffer, and passes over it.
+    fn pass_name(&mut self) -> (usize, usize) {
+        let start = self.start;
+        let rest = self.buffer.get(start..self.end).unwrap_or(&[]);
+        let len = rest
+            .iter()
+            .position(|byte| *byte == 0)
+            .unwrap_or(rest.len());
+        let end = start.saturating_add(len);
+        self.start = end.saturating_add(1);
+        (start, end)
     }
+
+    // Returns the next name, without `.` and `..`, or `None` at the end.
+    fn next(&mut self) -> io::Result<Option<&[u8]>> {
+        for _ in 0..u64::MAX {
+            if !self.fill()? {
+                return Ok(None);
+            }
+            let (start, end) = self.pass_name();
+            if !is_dots(self.buffer.get(start..end).unwrap_or(&[])) {
+                return Ok(self.buffer.get(start..end));
+            }
+        }
+        Ok(None)
+    }
+}
+
+// Returns whether a name is that of the folder itself or of the one above.
+fn is_dots(name: &[u8]) -> bool {
+    matches!(name, [b'.'] | [b'.', b'.'])
 }
 
 // Replaces the empty path, which the system doesn't know.
@@ -124,44 +169,48 @@ fn kind_at(runtime: &HostRuntime, path: &str) -> Result<Option<FileType>, Direct
     }
 }
 
-// Begins to list a folder. The listing is in a box, since it holds the 8 KiB that the system fills.
-fn listing_of(
+// Begins to list a folder. The system refuses to open a link.
+fn opened_at(
     alloc: Global,
     runtime: &HostRuntime,
     path: &str,
 ) -> Result<Box<FolderListing>, DirectoryFault> {
-    let system_path = system_path(path);
-    let items = match fs::read_dir(runtime, system_path) {
-        Ok(items) => items,
-        Err(error) => return Err(fault_of(&error)),
-    };
-    let listing = FolderListing {
-        items,
-        path_start: if path.is_empty() { "./".len() } else { 0 },
-        name_start: system_path
-            .len()
-            .saturating_add(usize::from(!is_open(system_path))),
-    };
-    match Box::new(alloc, listing) {
-        Ok(listing) => Ok(listing),
-        Err(_) => Err(DirectoryFault::Memory),
+    match runtime.open_dir(system_path(path)) {
+        Ok(folder) => match listing_of(alloc, folder, path) {
+            Ok(listing) => Ok(listing),
+            Err(_) => Err(DirectoryFault::Memory),
+        },
+        Err(error) => Err(fault_of(&error)),
     }
 }
 
-// Returns the text from a byte on. The byte begins a character: it is the first of a name.
-fn text_from(text: &str, start: usize) -> &str {
-    match text.split_at_checked(start) {
-        Some((_, rest)) => rest,
-        None => "",
+// The listing is in a box, so that little is moved with it.
+fn listing_of(
+    alloc: Global,
+    folder: <HostRuntime as Files>::Dir,
+    path: &str,
+) -> Result<Box<FolderListing>, AllocError> {
+    let mut buffer = Vec::with_capacity(alloc, CHUNK)?;
+    buffer.extend_from_slice(&[0; CHUNK])?;
+    let mut text = String::with_capacity(alloc, path.len() + 1)?;
+    text.push_str(path)?;
+    if !is_open(path) {
+        text.push('/')?;
     }
+    let names = NameReader {
+        folder,
+        buffer,
+        start: 0,
+        end: 0,
+        is_done: false,
+    };
+    Ok(Box::new(alloc, FolderListing { path: text, names })?)
 }
 
-// Converts an error of the system into an item. The error of a name that isn't text has no number
-// of the system.
+// Converts an error of the system into an item.
 fn unread(error: &io::Error) -> Result<ListItem, NoMemory> {
     match error.kind() {
         ErrorKind::OutOfMemory => Err(NoMemory),
-        ErrorKind::InvalidFilename if error.raw_os_error().is_none() => Ok(ListItem::NotText),
         _ => Ok(ListItem::Failed),
     }
 }
@@ -180,7 +229,7 @@ impl Directory for Folders {
     }
 
     fn open(&mut self, alloc: Global, path: &str) -> Result<Box<FolderListing>, DirectoryFault> {
-        let answer = self.opened_at(alloc, path);
+        let answer = opened_at(alloc, &self.runtime, path);
         self.tally.add(Tally::of_opening(&answer));
         answer
     }
@@ -190,11 +239,15 @@ impl Directory for Folders {
         alloc: Global,
         cursor: &mut Box<FolderListing>,
     ) -> Result<Option<ListItem>, NoMemory> {
-        let Some(entry) = cursor.items.next() else {
-            self.tally.add(Tally::of_end());
-            return Ok(None);
+        let FolderListing { path, names } = &mut **cursor;
+        let item = match names.next() {
+            Ok(Some(name)) => self.item(alloc, path.as_str(), name)?,
+            Ok(None) => {
+                self.tally.add(Tally::of_end());
+                return Ok(None);
+            }
+            Err(error) => unread(&error)?,
         };
-        let item = self.listed(alloc, entry, cursor)?;
         self.tally.add(Tally::of_item(&item));
         Ok(Some(item))
     }
