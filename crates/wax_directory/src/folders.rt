@@ -12,7 +12,7 @@ use std::io::{ErrorKind, Read};
 use std::{fs, io};
 use wax_query::diagnostics::NoMemory;
 
-/// How many bytes of a folder's entries the system is asked for at once.
+/// How many bytes of a folder's entries are read at once.
 const CHUNK: usize = 8192;
 
 /// The real file system. Links aren't followed, and items come in the system's order. Each item
