@@ -4,9 +4,6 @@ pub mod GoingAlong
 pub mod IgnoreLines
 pub mod Kept
 pub mod Lemmas
-pub mod Matchers
 pub mod Parts
-pub mod Patterns
-pub mod Sets
 pub mod Whole
 pub mod Excluding

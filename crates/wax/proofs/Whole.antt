@@ -14,19 +14,8 @@ use Rattle.wax_token.specs.Meaning.{Means, MeansEach}
 use Rattle.wax_token.specs.Reads.{Span}
 use Rattle.wax_token.specs.Syntax.{Tree, leaf, alternation, concatenation, repetition, Trees}
 use Rattle.wax_token.specs.Words.{members}
+use Rattle.wax_set.proofs.Members.{costs_members, means_members}
 use Rattle.wax.specs.GlobView.{IsCompiled, IsKept}
-
-pub means_members : {A : Type 0} (t : Tree A) (before after : Bool) (s : List ℕ) → MeansEach (members t) before after s ↔ Means t before after s
-means_members (leaf a l) before after s = (λ h. h, λ h. h)
-means_members (alternation a ts) before after s = (λ h. h, λ h. h)
-means_members (concatenation a ts) before after s = (λ h. h, λ h. h)
-means_members (repetition a t low high) before after s = (λ h. h, λ h. h)
-
-pub costs_members : {A : Type 0} (t : Tree A) → costs (members t) ≡ cost t
-costs_members (leaf a l) = add-zero _
-costs_members (alternation a ts) = add-zero _
-costs_members (concatenation a ts) = refl
-costs_members (repetition a t low high) = add-zero _
 
 -- what was made of a tree's tokens
 pub is_compiled : (t : Tree Span) (ts : Trees Span) (program : List Instruction × ℕ) (reads_last : Bool) (prefilter : PrefilterView) (pieces : List Piece) → ts ≡ members t

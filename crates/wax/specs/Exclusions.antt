@@ -9,7 +9,7 @@ use Rattle.wax_walk.specs.Ruled.{ruled_view}
 use Rattle.wax_walk.specs.View.{IsSeenAs, WalkView}
 use Rattle.wax_exclude.specs.Marks.{not_mark, of_candidate}
 use Rattle.wax_exclude.specs.Wanted.{not_meant}
-use Rattle.wax.specs.Patterns.{IsOnly}
+use Rattle.wax_set.specs.Patterns.{IsOnly}
 use Rattle.wax_error.specs.declared.build_error.BuildError.{BuildError}
 use Rattle.wax_error.specs.declared.build_error.BuildError.TheVariants.{Parse, Rule, Compile, Memory}
 use Rattle.wax.specs.declared.ignoring.IgnoreList.{IgnoreList}

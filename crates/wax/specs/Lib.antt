@@ -1,4 +1,3 @@
-pub mod AnyView
 pub mod Build
 pub mod Exclusions
 pub mod GlobView

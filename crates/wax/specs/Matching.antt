@@ -1,9 +1,6 @@
--- Words of contracts on matching texts and lines, and programs that accept what a glob or a set means.
+-- Words of contracts on matching texts and lines, and programs that accept what a glob means.
 use Rattle.std.specs.Prelude.{◌↔◌, ℕ, List}
-use Rattle.wax.specs.AnyView.{MeansText}
 use Rattle.wax.specs.GlobView.{GlobView, IsMeant}
-use Rattle.wax_token.specs.Reads.{Span}
-use Rattle.wax_token.specs.Syntax.{Tree}
 pub use Rattle.wax_candidate.specs.Matched.{IsMatchOf, MatchedView, cube_visits, texts}
 pub use Rattle.wax_candidate.specs.Parts.{IsPart, NoLineEndsBefore, cut}
 pub use Rattle.wax_capture.specs.Captures.{Captured, First}
@@ -14,11 +11,8 @@ pub use Rattle.wax_lines.specs.Lines.{Filtered, Filters, Stopped, WritesCaptures
 pub use Rattle.wax_lines.specs.Written.{WritesPart}
 pub use Rattle.wax_program.specs.Machine.{Accepts}
 pub use Rattle.wax_program.specs.declared.instruction.Instruction.{Instruction}
+pub use Rattle.wax_set.specs.Sets.{IsAlternation, IsCompiledAny, IsWhole, MeansText, any_code, AcceptsText}
 
 -- the program accepts exactly the texts that the glob means
 abbrev pub AcceptsMeant : List Instruction → GlobView → Type 0
 AcceptsMeant code g = (text : List ℕ) → Accepts code 0 text ↔ IsMeant g text
-
--- the program accepts exactly the texts that the tree of a set means
-abbrev pub AcceptsText : List Instruction → Tree Span → Type 0
-AcceptsText code t = (text : List ℕ) → Accepts code 0 text ↔ MeansText t text

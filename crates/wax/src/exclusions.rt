@@ -12,12 +12,12 @@ ghost use Rattle.wax.specs.Exclusions.{IsExclusionOf, IsWalkExcluding, NoExclusi
 ghost use Rattle.wax.specs.Ignoring.{HoldsLines, IsWalkIgnoring};
 
 use crate::ignoring::IgnoreList;
-use crate::pattern::Pattern;
 use std::alloc::Global;
 use wax_error::BuildError;
 use wax_exclude::Exclusion;
 use wax_filter::filter::SeparatingFilter;
 use wax_query::diagnostics::Refusal;
+use wax_set::Pattern;
 use wax_walk::{Exclude, Excluding, FileIterator};
 
 /// A walk without what a pattern matches.

@@ -11,7 +11,6 @@ ghost use Rattle.wax_exclude.specs.Ignored.{Line, is_ignored};
 ghost use Rattle.wax.specs.Ignoring.{HoldsLines, IsListOf, IsNoList, IsReadAs, IsUnread};
 ghost use Rattle.wax.specs.Ignoring.{refusal_number, refused_at};
 
-use crate::pattern::Pattern;
 use std::alloc::Global;
 use thiserror::Error;
 use wax_candidate::CandidatePath;
@@ -19,6 +18,7 @@ use wax_directory::directory::Directory;
 use wax_error::BuildError;
 use wax_exclude::{IgnoreLine, IgnoreRule, WrittenLine, collect_unignored, written_lines};
 use wax_query::diagnostics::NoMemory;
+use wax_set::Pattern;
 use wax_tree::{PathExt, WalkBehavior};
 use wax_walk::{Entry, EntryResidue, Exclude, TreeEntry, WalkError};
 

@@ -9,11 +9,11 @@ ghost use Rattle.wax.specs.Ignoring.{HoldsLines};
 
 use crate::exclusions::exclusion_of;
 use crate::ignoring::IgnoreList;
-use crate::pattern::Pattern;
 use std::alloc::Global;
 use wax_error::BuildError;
 use wax_exclude::Exclusion;
 use wax_query::diagnostics::NoMemory;
+use wax_set::Pattern;
 use wax_walk::{Entry, EntryResidue, Exclude};
 
 /// A filter of a walk: it excludes what a pattern matches, or what an ignore list ignores.

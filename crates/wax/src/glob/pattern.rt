@@ -1,12 +1,12 @@
 //! A glob as one of the patterns of a set.
 ghost use Rattle.std.specs.Prelude.{◌≡◌};
-ghost use Rattle.wax.specs.Patterns.{LacksMemory};
+ghost use Rattle.wax_set.specs.Patterns.{LacksMemory};
 
 use crate::glob::Glob;
-use crate::pattern::Pattern;
 use std::alloc::Global;
 use wax_error::BuildError;
 use wax_rule::rule::{Checked, already_checked};
+use wax_set::Pattern;
 use wax_token::token::{ExpressionMetadata, Token};
 
 impl<'t> Pattern for Glob<'t> {

@@ -1,5 +1,5 @@
 use Rattle.std.proofs.Common.{chars, refl, subst, sym}
-use Rattle.wax.specs.Patterns.{IsOnly, Spells}
+use Rattle.wax_set.specs.Patterns.{IsOnly, Spells}
 use Rattle.wax.proofs.ignoring.read.Goals as goal
 
 pub returns : goal.returns

@@ -1,7 +1,7 @@
 use Rattle.std.proofs.Common.{◌↔◌, IfOk, IsTrue, chars, true, false, refl, sym, subst, rules}
 use Rattle.wax.specs.GlobView.{IsMeant}
 use Rattle.wax_token.specs.Decided.{means_tested}
-use Rattle.wax.proofs.Matchers.{decided_alike, same_truth}
+use Rattle.wax_set.proofs.Matchers.{decided_alike, same_truth}
 use Rattle.wax.proofs.glob.matcher.GlobMatcher.is_match.Goals as goal
 
 pub returns-then-self-clause-means : goal.returns-then-self-clause-means

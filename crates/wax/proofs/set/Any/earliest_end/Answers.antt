@@ -1,9 +1,0 @@
-use Rattle.std.proofs.Common.{false, chars, sym, subst}
-use Rattle.wax_token.specs.Decided.{means_tested}
-use Rattle.wax_token.specs.Meaning.{Means}
-use Rattle.wax.proofs.set.Any.earliest_end.Goals as goal
-
-pub returns : goal.returns
-returns c = λ x y z e utf8 accepted.
-    let meant : Means c.args.self.now false false (chars y) = (means_tested c.args.self.now false false (chars y)).0 accepted in
-    c.earliest_end.ensures x y z e utf8 (c.self.invariant.passes (chars y) (subst (λ t. Means t false false (chars y)) (sym c.self.view_is) meant))

@@ -1,0 +1,4 @@
+pub mod Members
+pub mod Sets
+pub mod Patterns
+pub mod Matchers

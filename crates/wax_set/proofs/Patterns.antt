@@ -1,0 +1,97 @@
+-- What the alternation of the patterns' trees means, and why there is none.
+use Rattle.std.proofs.Common.{◌≡◌, ◌↔◌, ◌<◌, ◌≤◌, ◌++◌, ◌∷◌, ℕ, false, List, [], inl, inr, refl, sym, ap, ◌∙◌, subst}
+use Rattle.wax_token.specs.Cost.{program_length}
+use Rattle.wax_token.specs.Meaning.{Means, MeansSome}
+use Rattle.wax_break.specs.Rules.{broken}
+use Rattle.wax_token.specs.Reads.{Reads, Span}
+use Rattle.wax_token.specs.Syntax.{Tree, alternation}
+use Rattle.wax_token.specs.Words.{trees}
+use Rattle.wax_set.specs.Sets.{MeansText}
+use Rattle.wax_set.specs.Patterns.{AreOversized, IsAnyOf, IsFirstRefused, IsOnly, NoSet, OneMeans, SpellEach, Spells}
+use Rattle.wax_error.specs.declared.build_error.BuildError.{BuildError}
+use Rattle.wax_error.specs.declared.build_error.BuildError.TheVariants.{Parse, Rule, Compile, Memory}
+
+module _ {P : Type 0} (S : P → Tree Span → Type 0) where
+  -- one branch means what the tree of its pattern does
+  to_one : (ps : List P) (ts : List (Tree Span)) → SpellEach S ps ts → (s : List ℕ) →
+      MeansSome (trees ts) false false s → OneMeans S ps s
+  to_one [] [] h s m = m
+  to_one [] (t ∷ ts) h s m = absurd h
+  to_one (p ∷ ps) [] h s m = absurd h
+  to_one (p ∷ ps) (t ∷ ts) h s m = elim m [ inl k ↦ inl (t, h.0.0, k) | inr k ↦ inr (to_one ps ts h.1 s k) ]
+
+  from_one : (ps : List P) (ts : List (Tree Span)) → SpellEach S ps ts → (s : List ℕ) →
+      OneMeans S ps s → MeansSome (trees ts) false false s
+  from_one [] [] h s m = m
+  from_one [] (t ∷ ts) h s m = absurd h
+  from_one (p ∷ ps) [] h s m = absurd h
+  from_one (p ∷ ps) (t ∷ ts) h s m = elim m [
+    | inl k ↦ inl (subst (λ u. Means u false false s) (h.0.1 k.0 k.1) k.2)
+    | inr k ↦ inr (from_one ps ts h.1 s k)
+  ]
+
+  pub is_any_of : (ps : List P) (ts : List (Tree Span)) (t : Tree Span) → SpellEach S ps ts →
+      t ≡ alternation (0, 0) (trees ts) → program_length t ≤ 1048576 → IsAnyOf S ps t
+  is_any_of ps ts t h e fits = record {
+    branches = ts;
+    each = h;
+    tree = e;
+    fits = fits;
+    means = λ s. subst (λ u. MeansText u s ↔ OneMeans S ps s) (sym e) (to_one ps ts h s, from_one ps ts h s);
+  }
+
+  pub are_oversized : (ps : List P) (ts : List (Tree Span)) (t : Tree Span) → SpellEach S ps ts →
+      t ≡ alternation (0, 0) (trees ts) → 1048576 < program_length t → AreOversized S ps
+  are_oversized ps ts t h e large = record {
+    branches = ts;
+    each = h;
+    oversized = subst (λ u. 1048576 < program_length u) e large;
+  }
+
+  -- one more pattern with its tree
+  pub one_more : (ps : List P) (ts : List (Tree Span)) (p : P) (t : Tree Span) →
+      SpellEach S ps ts → IsOnly (S p) t → SpellEach S (ps ++ p ∷ []) (ts ++ t ∷ [])
+  one_more [] [] p t h k = (k, tt)
+  one_more [] (u ∷ ts) p t h k = absurd h
+  one_more (q ∷ ps) [] p t h k = absurd h
+  one_more (q ∷ ps) (u ∷ ts) p t h k = (h.0, one_more ps ts p t h.1 k)
+
+-- the tree that an expression spells is the only one
+pub only_spelled : (e : List ℕ) (t : Tree Span) → Reads e t → ((u : Tree Span) → Reads e u → u ≡ t) →
+    broken t ≡ [] → IsOnly (Spells e) t
+only_spelled e t reads only keeps = ((reads, keeps), λ u h. only u h.0)
+
+-- the first of those that are left is taken
+pushed : {P : Type 0} (before : List P) (p : P) (rest : List P) → (before ++ p ∷ []) ++ rest ≡ before ++ p ∷ rest
+pushed [] p rest = refl
+pushed (q ∷ before) p rest = ap (λ z. q ∷ z) (pushed before p rest)
+
+pub one_taken : {P : Type 0} (before : List P) (p : P) (rest left all : List P) → left ≡ p ∷ rest →
+    before ++ left ≡ all → (before ++ p ∷ []) ++ rest ≡ all
+one_taken before p rest left all taken joined =
+    pushed before p rest ∙ ap (λ z. before ++ z) (sym taken) ∙ joined
+
+module _ {P : Type 0} (S : P → Tree Span → Type 0) (R : P → BuildError → Type 0) where
+  pub refused_first : (all before : List P) (ts : List (Tree Span)) (p : P) (after : List P) (e : BuildError) →
+      SpellEach S before ts → all ≡ before ++ p ∷ after → R p e → IsFirstRefused S R all e
+  refused_first all before ts p after e h same r = record {
+    before = before;
+    branches = ts;
+    each = h;
+    pattern = p;
+    refused = r;
+    after = after;
+    all = same;
+  }
+
+  pub no_set : (all : List P) (e : BuildError) → IsFirstRefused S R all e → NoSet S R all e
+  no_set all (Parse place) h = h
+  no_set all (Rule error) h = h
+  no_set all (Compile error) h = inl h
+  no_set all Memory h = tt
+
+  -- the pattern after those that spell a tree is refused
+  pub refused_next : (all before : List P) (ts : List (Tree Span)) (p : P) (rest after : List P) (e : BuildError) →
+      SpellEach S before ts → before ++ rest ≡ all → rest ≡ p ∷ after → R p e → NoSet S R all e
+  refused_next all before ts p rest after e h joined here r =
+      no_set all e (refused_first all before ts p after e h (sym joined ∙ ap (λ z. before ++ z) here) r)

@@ -1,0 +1,91 @@
+-- What patterns stand for, and how the building of a set of them ends.
+use Rattle.std.specs.Prelude.{◌≡◌, ◌↔◌, ◌<◌, ◌≤◌, ◌++◌, ◌∷◌, ◌⊎◌, ℕ, List, [], Result, Ok, Err, ⊤}
+use Rattle.std.specs.List.{AllZip}
+use Rattle.wax_parse.specs.Accepted.{IsPlace}
+use Rattle.wax_rule.specs.FirstBreak.{TellsFirst}
+use Rattle.wax_break.specs.Rules.{broken}
+use Rattle.wax_token.specs.Cost.{program_length}
+use Rattle.wax_token.specs.Reads.{Reads, Span}
+use Rattle.wax_token.specs.Syntax.{Tree, alternation}
+use Rattle.wax_token.specs.Words.{trees}
+use Rattle.wax_set.specs.Sets.{MeansText}
+use Rattle.wax_error.specs.declared.build_error.BuildError.{BuildError}
+use Rattle.wax_error.specs.declared.build_error.BuildError.TheVariants.{Parse, Rule, Compile, Memory}
+
+-- ---- expressions
+
+-- the expression spells the tree, which breaks no rule
+abbrev pub Spells : List ℕ → Tree Span → Type 0
+Spells e t = Reads e t × (broken t ≡ [])
+
+-- why it spells none; nothing is said where memory was refused
+abbrev pub Refuses : List ℕ → BuildError → Type 0
+Refuses e (Parse place) = ((t : Tree Span) → Reads e t → ⊥) × IsPlace e place
+Refuses e (Rule error) = (t : Tree Span) × Reads e t × TellsFirst (broken t) error × (error.expression ≡ e)
+Refuses e (Compile _) = ⊥
+Refuses e Memory = ⊤
+
+-- want of memory alone
+abbrev pub LacksMemory : BuildError → Type 0
+LacksMemory error = error ≡ Memory
+
+-- ---- what may have been refused before
+
+abbrev pub SpellsOk : {P : Type 0} → (P → Tree Span → Type 0) → Result P BuildError → Tree Span → Type 0
+SpellsOk SpellsTree (Ok pattern) t = SpellsTree pattern t
+SpellsOk SpellsTree (Err e) t = ⊥
+
+abbrev pub RefusesOk : {P : Type 0} → (P → BuildError → Type 0) → Result P BuildError → BuildError → Type 0
+RefusesOk RefusesAs (Ok pattern) error = RefusesAs pattern error
+RefusesOk RefusesAs (Err e) error = error ≡ e
+
+-- ---- sets
+
+-- the only tree that is spelled
+abbrev pub IsOnly : (Tree Span → Type 0) → Tree Span → Type 0
+IsOnly SpellsTree t = SpellsTree t × ((u : Tree Span) → SpellsTree u → u ≡ t)
+
+-- the only tree of each pattern, in their order
+abbrev pub SpellEach : {P : Type 0} → (P → Tree Span → Type 0) → List P → List (Tree Span) → Type 0
+SpellEach SpellsTree patterns ts = AllZip (λ pattern t. IsOnly (SpellsTree pattern) t) patterns ts
+
+-- one of the patterns spells a tree that means the text
+abbrev pub OneMeans : {P : Type 0} → (P → Tree Span → Type 0) → List P → List ℕ → Type 0
+OneMeans SpellsTree [] s = ⊥
+OneMeans SpellsTree (pattern ∷ patterns) s =
+    ((t : Tree Span) × SpellsTree pattern t × MeansText t s) ⊎ OneMeans SpellsTree patterns s
+
+-- The set of the patterns: the alternation of their trees, which fits.
+pub record IsAnyOf {P : Type 0} (SpellsTree : P → Tree Span → Type 0) (patterns : List P) (t : Tree Span)
+    : Type 0 where
+  pub branches : List (Tree Span)
+  pub each : SpellEach SpellsTree patterns branches
+  pub tree : t ≡ alternation (0, 0) (trees branches)
+  pub fits : program_length t ≤ 1048576
+  pub means : (s : List ℕ) → MeansText t s ↔ OneMeans SpellsTree patterns s
+
+-- The alternation of their trees costs too much.
+pub record AreOversized {P : Type 0} (SpellsTree : P → Tree Span → Type 0) (patterns : List P) : Type 0 where
+  pub branches : List (Tree Span)
+  pub each : SpellEach SpellsTree patterns branches
+  pub oversized : 1048576 < program_length (alternation (0, 0) (trees branches))
+
+-- The pattern is refused so, and each one before it spells a tree.
+pub record IsFirstRefused {P : Type 0} (SpellsTree : P → Tree Span → Type 0)
+    (RefusesAs : P → BuildError → Type 0) (patterns : List P) (error : BuildError) : Type 0 where
+  pub before : List P
+  pub branches : List (Tree Span)
+  pub each : SpellEach SpellsTree before branches
+  pub pattern : P
+  pub refused : RefusesAs pattern error
+  pub after : List P
+  pub all : patterns ≡ before ++ pattern ∷ after
+
+-- why there is no set of the patterns; nothing is said where memory was refused
+abbrev pub NoSet : {P : Type 0} → (P → Tree Span → Type 0) → (P → BuildError → Type 0) → List P
+    → BuildError → Type 0
+NoSet SpellsTree RefusesAs patterns (Parse place) = IsFirstRefused SpellsTree RefusesAs patterns (Parse place)
+NoSet SpellsTree RefusesAs patterns (Rule error) = IsFirstRefused SpellsTree RefusesAs patterns (Rule error)
+NoSet SpellsTree RefusesAs patterns (Compile error) =
+    IsFirstRefused SpellsTree RefusesAs patterns (Compile error) ⊎ AreOversized SpellsTree patterns
+NoSet SpellsTree RefusesAs patterns Memory = ⊤

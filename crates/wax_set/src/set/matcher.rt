@@ -1,0 +1,96 @@
+//! A matcher of one set of patterns for many paths.
+ghost use Rattle.std.specs.Prelude.{◌≡◌, ◌↔◌, IfOk, IsTrue, false};
+ghost use Rattle.wax_set.specs.Sets.{MeansText};
+ghost use Rattle.wax_token.specs.Decided.{means_test};
+
+use crate::set::Any;
+use std::alloc::Global;
+use std::marker::Model;
+use wax_candidate::{BuildMatcher, CandidatePath, PathMatcher};
+use wax_lazy::Matcher;
+use wax_query::diagnostics::NoMemory;
+
+/// A matcher of a set of patterns for many paths, which keeps what it learns from each for the next
+/// ones. Contracts see the view of its set.
+pub struct AnyMatcher<'a, 't> {
+    any: &'a Any<'t>,
+    matcher: Matcher<'a>,
+}
+
+impl Drop for AnyMatcher<'_, '_> {
+    fn drop(self) {
+        let AnyMatcher { any: _, matcher: _ } = self;
+    }
+}
+
+impl<'a, 't> Model for AnyMatcher<'a, 't> {
+    ghost use Rattle.wax_set.specs.Sets.{any_code};
+    ghost use Rattle.wax_set.specs.Sets.{AcceptsText};
+    ghost use Rattle.wax_token.specs.Reads.{Span};
+    ghost use Rattle.wax_token.specs.Syntax.{Tree};
+
+    ghost Value = { Tree Span };
+
+    ghost coded = { any_code };
+
+    ghost view = { λ m. m.any.now };
+
+    ghost invariant = { λ m. AcceptsText m.matcher m.any.now };
+}
+
+impl<'t> Any<'t> {
+    /// Builds a matcher, which is faster than the set for many paths if its patterns have many
+    /// branches. It keeps about 2 MiB at most.
+    ///
+    /// # Errors
+    ///
+    /// Returns `NoMemory` if allocation fails.
+    pub fn matcher<'a>(&'a self, alloc: Global) -> Result<AnyMatcher<'a, 't>, NoMemory>
+        ensures { IfOk result (λ m. m ≡ self.now) }
+    {
+        let matcher = Matcher::new(alloc, &self.program)?;
+        Ok(AnyMatcher { any: self, matcher })
+    }
+}
+
+impl AnyMatcher<'_, '_> {
+    /// Returns whether one of the patterns matches the whole path. A quick test comes first, which
+    /// rejects most texts that don't match.
+    ///
+    /// # Errors
+    ///
+    /// Returns `NoMemory` if allocation fails. The matcher can be used for further paths after
+    /// that.
+    pub fn is_match(&mut self, path: &CandidatePath<'_>) -> Result<bool, NoMemory>
+        ensures means { IfOk result (λ answer. IsTrue answer ↔ MeansText self.old path.now) }
+        ensures decides { IfOk result (λ answer. answer ≡ means_test self.old false false path.now) }
+        ensures same { self.new ≡ self.old }
+    {
+        let text = path.as_str();
+        let any = self.any;
+        if !any.may_match_at_once(text) {
+            return Ok(false);
+        }
+        self.matcher.is_match(text)
+    }
+}
+
+impl PathMatcher for AnyMatcher<'_, '_> {
+    ghost decides = { λ m. means_test m false false };
+
+    fn is_match(&mut self, path: &CandidatePath<'_>) -> Result<bool, NoMemory> {
+        self.is_match(path)
+    }
+
+    fn earliest_end(&self, text: &str) -> usize {
+        self.any.earliest_end(text)
+    }
+}
+
+impl<'a, 't: 'a> BuildMatcher<'a> for Any<'t> {
+    type Matcher = AnyMatcher<'a, 't>;
+
+    fn build_matcher(&'a self, alloc: Global) -> Result<AnyMatcher<'a, 't>, NoMemory> {
+        self.matcher(alloc)
+    }
+}
