@@ -1,11 +1,11 @@
 -- Alternatives that are joined where they begin or end with the same leaf.
-use Rattle.std.proofs.Common.{length, ◌<◌, ◌≡◌, ◌∙◌, ◌↔◌, ◌⊎◌, ℕ, zero, suc, ◌==◌, Bool, true, false, List, [], ◌∷◌, ◌++◌, append_assoc, ap, arith, inl, inr, refl, subst, sym}
+use Rattle.std.proofs.Common.{length, length-append, ◌<◌, ◌≡◌, ◌∙◌, ◌↔◌, ◌⊎◌, ℕ, zero, suc, ◌==◌, Bool, true, false, List, [], ◌∷◌, ◌++◌, append_assoc, ap, arith, inl, inr, refl, subst, sym}
 use Rattle.std.proofs.lemmas.Bool.{false≢true}
 use Rattle.wax_token.specs.Meaning.{LeafMeans, Means, MeansEach, MeansSome}
 use Rattle.wax_token.specs.Reads.{Span}
 use Rattle.wax_token.specs.Syntax.{Leaf, Tree, none, more, alternation, concatenation, repetition, leaf}
 use Rattle.wax_token.specs.Words.{members, trees}
-use Rattle.wax_alternatives.specs.Joined.{IsParted, MeansBeside, MeansEnded, MeansLed, SameTexts}
+use Rattle.wax_alternatives.specs.Joined.{IsParted, MeansBeside, MeansEnded, MeansLed, MeansOneOf, SameTexts}
 
 -- ---- what is within a token
 pub as_members : {A : Type 0} (t : Tree A) (b a : Bool) (s : List ℕ) → Means t b a s → MeansEach (members t) b a s
@@ -146,34 +146,45 @@ module _ (Beside : MeansBeside) where
 -- ---- one more alternative
 
 -- the leaf and then the alternatives, as a token of its own
-abbrev pub led_token : (lead : Leaf) (after : List (Tree Span)) → Tree Span
-led_token lead after = concatenation (0, 0) (more (leaf (0, 0) lead) (more (alternation (0, 0) (trees after)) none))
+abbrev pub led_token : (lead : Leaf) (after : Tree Span) → Tree Span
+led_token lead after = concatenation (0, 0) (more (leaf (0, 0) lead) (more after none))
 
-pub added_led : (lead : Leaf) (joined after : List (Tree Span)) (b a : Bool) (s : List ℕ)
-    → MeansSome (trees (joined ++ led_token lead after ∷ [])) b a s ↔ (MeansLed lead after b a s ⊎ MeansSome (trees joined) b a s)
-added_led lead joined after b a s =
-    let all = some_append joined (led_token lead after ∷ []) b a s in (
+pub added_led : (lead : Leaf) (one : Tree Span) (joined after : List (Tree Span)) → MeansOneOf one after → (b a : Bool) (s : List ℕ)
+    → MeansSome (trees (joined ++ led_token lead one ∷ [])) b a s ↔ (MeansLed lead after b a s ⊎ MeansSome (trees joined) b a s)
+added_led lead one joined after same b a s =
+    let all = some_append joined (led_token lead one ∷ []) b a s in (
       (λ h. elim (all.0 h) [
         | inl k ↦ inr k
-        | inr k ↦ elim k [ inl m ↦ inl m | inr m ↦ absurd m ]
+        | inr k ↦ elim k [ inl m ↦ inl (m.0, m.1, m.2, m.3, (same true a m.1).0 m.4) | inr m ↦ absurd m ]
       ]),
-      (λ h. elim h [ inl k ↦ all.1 (inr (inl k)) | inr k ↦ all.1 (inl k) ]),
+      (λ h. elim h [ inl k ↦ all.1 (inr (inl (k.0, k.1, k.2, k.3, (same true a k.1).1 k.4))) | inr k ↦ all.1 (inl k) ]),
     )
 
 -- the alternatives and then the leaf, as a token of its own
-abbrev pub ended_token : (end : Leaf) (before : List (Tree Span)) → Tree Span
-ended_token end before = concatenation (0, 0) (more (alternation (0, 0) (trees before)) (more (leaf (0, 0) end) none))
+abbrev pub ended_token : (end : Leaf) (before : Tree Span) → Tree Span
+ended_token end before = concatenation (0, 0) (more before (more (leaf (0, 0) end) none))
 
-pub added_ended : (end : Leaf) (joined before : List (Tree Span)) (b a : Bool) (s : List ℕ)
-    → MeansSome (trees (joined ++ ended_token end before ∷ [])) b a s ↔ (MeansEnded end before b a s ⊎ MeansSome (trees joined) b a s)
-added_ended end joined before b a s =
-    let all = some_append joined (ended_token end before ∷ []) b a s in (
+pub added_ended : (end : Leaf) (one : Tree Span) (joined before : List (Tree Span)) → MeansOneOf one before → (b a : Bool) (s : List ℕ)
+    → MeansSome (trees (joined ++ ended_token end one ∷ [])) b a s ↔ (MeansEnded end before b a s ⊎ MeansSome (trees joined) b a s)
+added_ended end one joined before same b a s =
+    let all = some_append joined (ended_token end one ∷ []) b a s in (
       (λ h. elim (all.0 h) [
         | inl k ↦ inr k
-        | inr k ↦ elim k [ inl m ↦ inl m | inr m ↦ absurd m ]
+        | inr k ↦ elim k [ inl m ↦ inl (m.0, m.1, m.2, (same b true m.0).0 m.3, m.4) | inr m ↦ absurd m ]
       ]),
-      (λ h. elim h [ inl k ↦ all.1 (inr (inl k)) | inr k ↦ all.1 (inl k) ]),
+      (λ h. elim h [ inl k ↦ all.1 (inr (inl (k.0, k.1, k.2, (same b true k.0).1 k.3, k.4))) | inr k ↦ all.1 (inl k) ]),
     )
+
+-- a single alternative matches what some of them does
+pub one_alone : (t : Tree Span) (ts : List (Tree Span)) → ts ≡ t ∷ [] → MeansOneOf t ts
+one_alone t ts e b a s = (
+  (λ h. subst (λ z. MeansSome (trees z) b a s) (sym e) (inl h)),
+  (λ h. elim (subst (λ z. MeansSome (trees z) b a s) e h) [ inl m ↦ m | inr m ↦ absurd m ]),
+)
+
+pub last_alone : (t : Tree Span) (ts rest : List (Tree Span)) → ts ≡ rest ++ t ∷ [] → length ts ≡ 1 → ts ≡ t ∷ []
+last_alone t ts [] e one = e
+last_alone t ts (r ∷ rest) e one = absurd (omega (arith, ap length e, one, length-append rest (t ∷ [])))
 
 pub not_none : (k : ℕ) → (k == 0) ≡ false → 0 < k
 not_none zero e = absurd (false≢true (sym e))

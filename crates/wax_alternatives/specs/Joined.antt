@@ -1,6 +1,6 @@
 -- Alternatives that begin or end with the same leaf, joined.
 use Rattle.std.specs.Prelude.{◌≡◌, ◌↔◌, ℕ, Bool, true, ◌⊎◌, List, [], ◌∷◌, ◌++◌}
-use Rattle.wax_token.specs.Meaning.{LeafMeans, MeansSome}
+use Rattle.wax_token.specs.Meaning.{LeafMeans, Means, MeansSome}
 use Rattle.wax_token.specs.Reads.{Span}
 use Rattle.wax_alternatives.specs.declared.letters.Letter.{Letter}
 use Rattle.wax_token.specs.Syntax.{Leaf, literal, Tree}
@@ -9,6 +9,10 @@ use Rattle.wax_token.specs.Words.{trees}
 -- the two lists of alternatives match the same texts
 abbrev pub SameTexts : List (Tree Span) → List (Tree Span) → Type 0
 SameTexts ts us = (b a : Bool) (s : List ℕ) → MeansSome (trees ts) b a s ↔ MeansSome (trees us) b a s
+
+-- the token matches what some of the alternatives does
+abbrev pub MeansOneOf : Tree Span → List (Tree Span) → Type 0
+MeansOneOf t ts = (b a : Bool) (s : List ℕ) → Means t b a s ↔ MeansSome (trees ts) b a s
 
 -- a text of the leaf, and then one that some of the alternatives matches
 abbrev pub MeansLed : Leaf → List (Tree Span) → Bool → Bool → List ℕ → Type 0

@@ -2,10 +2,10 @@
 //! all of them.
 ghost use Rattle.std.specs.Prelude.{◌≡◌, ◌++◌, ◌∷◌, [], ◌↔◌, ◌⊎◌, ℕ, Bool, IfOk, IfSome, IsTrue, List};
 ghost use Rattle.wax_token.specs.Meaning.{LeafMeans, Means, MeansSome};
-ghost use Rattle.wax_token.specs.Syntax.{alternation, concatenation};
+ghost use Rattle.wax_token.specs.Syntax.{concatenation};
 ghost use Rattle.wax_token.specs.View.{leaf_of, wildcard_leaf};
 ghost use Rattle.wax_token.specs.Words.{trees};
-ghost use Rattle.wax_alternatives.specs.Joined.{IsParted, MeansEnded, MeansLed, SameTexts};
+ghost use Rattle.wax_alternatives.specs.Joined.{IsParted, MeansEnded, MeansLed, MeansOneOf, SameTexts};
 
 use crate::letters::join_letters;
 use std::alloc::Global;
@@ -178,7 +178,7 @@ pub fn add_led(
     }
     let mut tokens = Vec::new(alloc);
     push(&mut tokens, new_leaf(lead, unwritten()))?;
-    push(&mut tokens, alternation(after))?;
+    push(&mut tokens, one_of(after))?;
     push(joined, concatenation(tokens))
 }
 
@@ -198,7 +198,7 @@ fn add_ended(
         return Ok(());
     }
     let mut tokens = Vec::new(alloc);
-    push(&mut tokens, alternation(before))?;
+    push(&mut tokens, one_of(before))?;
     push(&mut tokens, new_leaf(LeafKind::Wildcard(end), unwritten()))?;
     push(joined, concatenation(tokens))
 }
@@ -225,12 +225,20 @@ fn copies_of(
     Ok(copies)
 }
 
-/// Builds an alternation that no expression writes.
-pub fn alternation(
-    tokens: Vec<Token<'static, ExpressionMetadata>>,
+/// Builds a token that matches what at least one of the alternatives does: the only one of them, or
+/// an alternation that no expression writes.
+pub fn one_of(
+    alternatives: Vec<Token<'static, ExpressionMetadata>>,
 ) -> Token<'static, ExpressionMetadata>
-    ensures { result ≡ alternation (0, 0) (trees tokens.entry.items) }
+    ensures { MeansOneOf result alternatives.entry.items }
 {
+    let mut tokens = alternatives;
+    if tokens.len() == 1 {
+        match tokens.pop() {
+            Some(only) => return only,
+            None => unreachable!(),
+        }
+    }
     new_branch(BranchKind::Alternation(Alternation { tokens }), unwritten())
 }
 

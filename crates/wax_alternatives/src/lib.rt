@@ -7,4 +7,4 @@ mod letters;
 mod opened;
 
 pub use alternatives::into_alternatives;
-pub use joined::{alternation, join_alternatives};
+pub use joined::{join_alternatives, one_of};

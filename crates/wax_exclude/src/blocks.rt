@@ -13,7 +13,7 @@ ghost use Rattle.wax_walk.specs.Said.{mark_of};
 use crate::exclusions::{ends_wild, some_everything};
 use crate::rules::{IgnoreLine, Said, passed, residue_after};
 use std::alloc::Global;
-use wax_alternatives::{alternation, join_alternatives};
+use wax_alternatives::{join_alternatives, one_of};
 use wax_lazy::OwnedMatcher;
 use wax_match::encode;
 use wax_match::encode::CompiledProgram;
@@ -250,7 +250,7 @@ fn program_of_some(
 ) -> Result<Option<CompiledProgram>, NoMemory>
     ensures { IfOk result (λ made. IfSome made (λ p. AcceptsSome p.0 alternatives.now)) }
 {
-    let token = alternation(join_alternatives(alloc, alternatives)?);
+    let token = one_of(join_alternatives(alloc, alternatives)?);
     match encode::compile(alloc, token.concatenation(), false, false) {
         Ok(program) => Ok(Some(program)),
         Err(Refusal::Refused(_)) => Ok(None),

@@ -3,8 +3,9 @@ use Rattle.std.proofs.Common.{◌≡◌, ◌≤◌, ◌<◌, ◌↔◌, ℕ, Boo
 use Rattle.std.proofs.lemmas.List.{length-replicate}
 use Rattle.wax_lazy.specs.declared.cache.Cache.{Cache}
 use Rattle.wax_lazy.specs.declared.table.State.{State}
-use Rattle.wax_lazy.specs.inner.Cached.{GrowsByOne, IsAdded, IsCacheOf, IsCleared, IsRestarted, IsSameMaker}
-use Rattle.wax_lazy.specs.inner.Table.{BeginsTexts, IsSettled, IsState, IsStatePlace, IsTable, IsTransition, KeepsStates, places_at, places_in}
+use Rattle.std.specs.Global.{Vec}
+use Rattle.wax_lazy.specs.inner.Cached.{AreParted, GrowsBy, IsAdded, IsCacheOf, IsCleared, IsRestarted, IsSameMaker}
+use Rattle.wax_lazy.specs.inner.Table.{BeginsTexts, IsSettled, IsRest, IsState, IsStatePlace, IsTable, IsTransition, KeepsStates, places_at, places_in}
 use Rattle.wax_lazy.proofs.Tables.{begins_keeps, keeps_append, settled_keeps, slice_get_end, table_empty, table_filled, table_push, table_settled}
 use Rattle.wax_program.specs.declared.instruction.Instruction.{Instruction}
 use Rattle.wax_program.specs.Threads.{AnyAmong}
@@ -32,15 +33,22 @@ module _ (code : List Instruction) (old new : Cache) (held : IsCacheOf code old)
     first = no_first code new.table.states.items new.start new.first c.first;
   }
 
-  pub cache_restarted : (s : State) → IsState code s → IsRestarted old new s → IsCacheOf code new
+  alone : (s left : State) → IsState code old.table.states.items s → left.places ≡ s.places → left.rest ≡ None → left.accepts ≡ s.accepts → IsState code [] left
+  alone s left good places rest accepts = record {
+    ends = subst (λ z. IfSome left.accepts (λ b. IsTrue b ↔ AnyAmong code z.items [])) (sym places)
+        (subst (λ o. IfSome o (λ b. IsTrue b ↔ AnyAmong code s.places.items [])) (sym accepts) good.ends);
+    rest = subst (λ o. IfSome o (IsRest code [] left.places.items left.own.items)) (sym rest) tt;
+  }
+
+  pub cache_restarted : (s : State) → IsState code old.table.states.items s → IsRestarted old new s → IsCacheOf code new
   cache_restarted s good c = record {
     size = size_same c.maker;
     start = start_same c.maker;
-    table = subst (λ z. IsTable code z new.table.cells.items) (sym c.states) (subst (IsTable code (s ∷ [])) (sym c.cells) (table_push code [] [] (table_empty code) s good));
+    table = subst (λ z. IsTable code z new.table.cells.items) (sym c.states) (subst (IsTable code (c.left ∷ [])) (sym c.cells) (table_push code [] [] (table_empty code) c.left (alone s c.left good c.places c.rest c.accepts)));
     first = no_first code new.table.states.items new.start new.first c.first;
   }
 
-  pub cache_added : (s : State) (number : ℕ) → IsState code s → IsAdded old new s number → IsCacheOf code new
+  pub cache_added : (s : State) (number : ℕ) → IsState code old.table.states.items s → IsAdded old new s number → IsCacheOf code new
   cache_added s number good a = record {
     size = size_same a.maker;
     start = start_same a.maker;
@@ -53,7 +61,7 @@ module _ (code : List Instruction) (old new : Cache) (held : IsCacheOf code old)
         (first_keeps code old.table.states.items (old.table.states.items ++ s ∷ []) old.start old.first (keeps_append old.table.states.items (s ∷ [])) held.first)));
   }
 
-  pub cache_kept : {E : Type 0} (s : State) (result : Result ℕ E) → IsState code s → IfOk result (IsAdded old new s) → OnErr result (IsCleared old new)
+  pub cache_kept : {E : Type 0} (s : State) (result : Result ℕ E) → IsState code old.table.states.items s → IfOk result (IsAdded old new s) → OnErr result (IsCleared old new)
       → IsCacheOf code new
   cache_kept s (Ok number) good ok err = cache_added s number good ok
   cache_kept s (Err e) good ok err = cache_cleared err
@@ -72,11 +80,10 @@ module _ (old new : Cache) (s : State) (number : ℕ) (a : IsAdded old new s num
   pub added_within : number < length new.table.states.items
   added_within = omega (arith, a.numbered, ap length a.states, length-append old.table.states.items (s ∷ []))
 
-  pub added_grows : GrowsByOne old new
+  pub added_grows : GrowsBy 1 old new
   added_grows = record {
     kept = added_keeps;
     few = omega (arith, ap length a.states, length-append old.table.states.items (s ∷ []));
-    others = a.maker.others;
   }
 
   pub added_room : length old.table.cells.items ≡ 128 * length old.table.states.items
@@ -114,7 +121,7 @@ module _ (old new : Cache) (s : State) (r : IsRestarted old new s) where
   restarted_place = record { whole = refl; kept = let one = restarted_one in omega (arith, one) }
 
   pub restarted_places : (t : ℕ) → slice_get old.table.states.items t ≡ Some s → places_at new.table.states.items 0 ≡ places_at old.table.states.items t
-  restarted_places t e = ap (λ z. places_in (slice_get z 0)) r.states ∙ ap places_in (sym e)
+  restarted_places t e = ap (λ z. places_in (slice_get z 0)) r.states ∙ ap (λ z. z.items) r.places ∙ ap places_in (sym e)
 
 pub cache_settled : (code : List Instruction) (old new : Cache) (t : ℕ) (b : Bool) → IsCacheOf code old
     → IsSettled old.table.states.items new.table.states.items t b → (IsTrue b ↔ AnyAmong code (places_at old.table.states.items t) [])
@@ -129,3 +136,42 @@ cache_settled code old new t b held settled ends sized start first cells = recor
       (first_keeps code old.table.states.items new.table.states.items old.start old.first
       (settled_keeps old.table.states.items new.table.states.items t b settled) held.first));
 }
+
+-- a new state whose places are those that were reached, in the parts that are known
+pub state_parted : (code : List Instruction) (c : Cache) (places own : Vec ℕ) (rest : Option ℕ) → IfSome rest (AreParted code c)
+    → places.items ≡ c.reached.items → IfSome rest (λ _. own.items ≡ c.others.items)
+    → IsState code c.table.states.items (record { places = places; own = own; rest = rest; accepts = None })
+state_parted code c places own (Some at) parted same copied = record {
+  ends = tt;
+  rest = subst (λ z. IsRest code c.table.states.items z own.items at) (sym same)
+      (subst (λ z. IsRest code c.table.states.items c.reached.items z at) (sym copied) parted);
+}
+state_parted code c places own None parted same copied = record { ends = tt; rest = tt }
+
+some_state : {s r : State} → Some s ≡ Some r → s ≡ r
+some_state e = cc
+
+-- a state that is kept without its rest, after all states were removed
+pub restarted : (old mid new : Cache) (s taken left : State) (number t : ℕ) → IsCleared old mid → IsAdded mid new left number
+    → slice_get old.table.states.items t ≡ Some s → slice_get old.table.states.items t ≡ Some taken
+    → left.places ≡ taken.places → left.rest ≡ None → left.accepts ≡ taken.accepts → IsRestarted old new s
+restarted old mid new s taken left number t cleared added is took places rest accepts =
+    let same : taken ≡ s = some_state (sym took ∙ is) in
+    record {
+      maker = record {
+        stepper = added.maker.stepper ∙ cleared.maker.stepper;
+        start = added.maker.start ∙ cleared.maker.start;
+        lists = record {
+          reached = added.maker.lists.reached ∙ cleared.maker.lists.reached;
+          others = added.maker.lists.others ∙ cleared.maker.lists.others;
+          loops = added.maker.lists.loops ∙ cleared.maker.lists.loops;
+        };
+      };
+      left = left;
+      places = places ∙ ap (λ z. z.places) same;
+      rest = rest;
+      accepts = accepts ∙ ap (λ z. z.accepts) same;
+      states = added.states ∙ ap (λ z. z ++ left ∷ []) cleared.states;
+      cells = added.cells ∙ ap (λ z. z ++ replicate 128 0) cleared.cells;
+      first = added.first ∙ cleared.first;
+    }

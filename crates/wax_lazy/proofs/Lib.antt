@@ -1,4 +1,5 @@
 pub mod Caches
 pub mod Listings
+pub mod Lone
 pub mod Tables
 pub mod Walking

@@ -401,3 +401,11 @@ lists_permuted places others flags p lists k = (
   (λ h. (lists k).0 (Contains-permutation others places k (IsPermutation-sym places others p) h)),
   (λ h. Contains-permutation places others k p ((lists k).1 h)),
 )
+
+-- no places are joined to a set
+pub joined_nothing : (set : List Bool) (size : ℕ) → IsJoined set [] size set
+joined_nothing set size = record {
+  only = λ k h. inl h;
+  keeps = λ k h. h;
+  all = λ k h. absurd (let lt : h.0 < 0 = h.1 in omega (arith, lt));
+}

@@ -4,7 +4,9 @@ use Rattle.std.proofs.lemmas.Bool.{cases_eq, cases_lt}
 use Rattle.std.proofs.lemmas.List.{get_or_append_left, get_or-append_right, get_or-replicate, length-replicate}
 use Rattle.std.proofs.lemmas.Option.{slice_get_cases, slice_get_within}
 use Rattle.wax_lazy.specs.declared.table.State.{State}
-use Rattle.wax_lazy.specs.inner.Table.{BeginsTexts, IsDead, IsSettled, IsState, IsStatePlace, IsTable, IsTransition, KeepsStates, LeadOn, Leads, LeadsNext, LeadsTo, TakesAll, next_of, places_at, places_in, places_led}
+use Rattle.wax_lazy.specs.declared.table.Next.{Next}
+use Rattle.wax_lazy.specs.declared.table.Next.TheVariants.{To, Nothing, Everything}
+use Rattle.wax_lazy.specs.inner.Table.{BeginsTexts, IsDead, IsRest, IsSettled, IsState, IsStatePlace, IsTable, IsTransition, IsUnion, KeepsStates, LeadOn, Leads, LeadsNext, LeadsTo, TakesAll, led_of, own_at, own_in, places_at, places_in, places_led}
 use Rattle.wax_program.specs.declared.instruction.Instruction.{Instruction}
 use Rattle.wax_program.specs.Machine.{Accepts}
 use Rattle.wax_lazy.specs.inner.Listed.{AreReached, taken_if}
@@ -41,13 +43,13 @@ none_some e = cc
 -- ---- states that keep their numbers
 pub keeps_append : (states more : List State) → KeepsStates states (states ++ more)
 keeps_append states more t lt =
-    (omega (arith, length-append states more, lt), ap places_in (slice_get_append states more t lt))
+    (omega (arith, length-append states more, lt), ap places_in (slice_get_append states more t lt), ap own_in (slice_get_append states more t lt))
 
 pub keeps_same : (states : List State) → KeepsStates states states
-keeps_same states t lt = (lt, refl)
+keeps_same states t lt = (lt, refl, refl)
 
 pub keeps_more : (old mid new : List State) → KeepsStates old mid → KeepsStates mid new → KeepsStates old new
-keeps_more old mid new f g t lt = ((g t (f t lt).0).0, (g t (f t lt).0).1 ∙ (f t lt).1)
+keeps_more old mid new f g t lt = ((g t (f t lt).0).0, (g t (f t lt).0).1 ∙ (f t lt).1, (g t (f t lt).0).2 ∙ (f t lt).2)
 
 module _ (old new : List State) (keeps : KeepsStates old new) where
   pub placed_keeps : (at : ℕ) → IsStatePlace old at → IsStatePlace new at
@@ -74,6 +76,17 @@ module _ (old new : List State) (keeps : KeepsStates old new) where
     accepts = λ s. subst (λ z. Accepts code start s ↔ AnyAmong code z s) (sym (places_keep at b.placed)) (b.accepts s);
   }
 
+  pub rest_keeps : (code : List Instruction) (places others : List ℕ) (rest : Option ℕ) → IfSome rest (IsRest code old places others)
+      → IfSome rest (IsRest code new places others)
+  rest_keeps code places others (Some at) r = record {
+    placed = placed_keeps at r.placed;
+    union = subst (λ z. IsUnion code places z others) (sym (places_keep at r.placed)) r.union;
+  }
+  rest_keeps code places others None r = tt
+
+  pub state_keeps : (code : List Instruction) (s : State) → IsState code old s → IsState code new s
+  state_keeps code s good = record { ends = good.ends; rest = rest_keeps code s.places.items s.own.items s.rest good.rest }
+
 -- ---- tables
 pub table_empty : (code : List Instruction) → IsTable code [] []
 table_empty code = record {
@@ -83,17 +96,20 @@ table_empty code = record {
 }
 
 module _ (code : List Instruction) (states : List State) (cells : List ℕ) (table : IsTable code states cells) where
-  module _ (s : State) (good : IsState code s) where
+  module _ (s : State) (good : IsState code states s) where
     longer : length (states ++ s ∷ []) ≡ length states + 1
     longer = length-append states (s ∷ [])
 
-    row_pushed : (t : ℕ) (r : State) → slice_get (states ++ s ∷ []) t ≡ Some r → IsState code r
+    row_kept : (r : State) → IsState code states r → IsState code (states ++ s ∷ []) r
+    row_kept = state_keeps states (states ++ s ∷ []) (keeps_append states (s ∷ [])) code
+
+    row_pushed : (t : ℕ) (r : State) → slice_get (states ++ s ∷ []) t ≡ Some r → IsState code (states ++ s ∷ []) r
     row_pushed t r e = elim (cases_lt t (length states)) [
-      | inl lt ↦ table.rows t r (sym (slice_get_append states (s ∷ []) t lt) ∙ e)
+      | inl lt ↦ row_kept r (table.rows t r (sym (slice_get_append states (s ∷ []) t lt) ∙ e))
       | inr ge ↦ (let within : t < length (states ++ s ∷ []) = slice_get_within (states ++ s ∷ []) t r e in
           let last : t ≡ length states = omega (arith, within, ge, longer) in
           let same : s ≡ r = some_same (sym (slice_get_end states s) ∙ ap (slice_get (states ++ s ∷ [])) (sym last) ∙ e) in
-          subst (IsState code) same good)
+          subst (IsState code (states ++ s ∷ [])) same (row_kept s good))
     ]
 
     cell_pushed : (t k : ℕ) → t < length (states ++ s ∷ []) → k < 128
@@ -149,7 +165,7 @@ module _ (code : List Instruction) (states : List State) (cells : List ℕ) (tab
 -- ---- whether a text may end in a state is known
 module _ (old new : List State) (t : ℕ) (b : Bool) (settled : IsSettled old new t b) where
   abbrev said : State
-  said = record { places = settled.0.places; accepts = Some b }
+  said = record { places = settled.0.places; own = settled.0.own; rest = settled.0.rest; accepts = Some b }
 
   here : slice_get new t ≡ Some said
   here = ap (λ z. slice_get z t) settled.2 ∙ slice_get_set_same old t said (slice_get_within old t settled.0 settled.1)
@@ -167,6 +183,10 @@ module _ (old new : List State) (t : ℕ) (b : Bool) (settled : IsSettled old ne
       | inl same ↦ subst (λ k. places_at new k ≡ places_at old k) (sym same) (ap places_in here ∙ sym (ap places_in settled.1))
       | inr other ↦ ap places_in (others u other)
     ],
+    elim (cases_eq u t) [
+      | inl same ↦ subst (λ k. own_at new k ≡ own_at old k) (sym same) (ap own_in here ∙ sym (ap own_in settled.1))
+      | inr other ↦ ap own_in (others u other)
+    ],
   )
 
   pub table_settled : (code : List Instruction) (cells : List ℕ) → IsTable code old cells → (IsTrue b ↔ AnyAmong code (places_at old t) [])
@@ -175,8 +195,12 @@ module _ (old new : List State) (t : ℕ) (b : Bool) (settled : IsSettled old ne
     room = omega (arith, table.room, count);
     rows = λ u r e. elim (cases_eq u t) [
       | inl same ↦ (let is : said ≡ r = some_same (sym here ∙ ap (slice_get new) (sym same) ∙ e) in
-          subst (IsState code) is (subst (λ z. IsTrue b ↔ AnyAmong code z []) (ap places_in settled.1) ends))
-      | inr other ↦ table.rows u r (sym (others u other) ∙ e)
+          let was : IsState code old settled.0 = table.rows t settled.0 settled.1 in
+          subst (IsState code new) is (record {
+            ends = subst (λ z. IsTrue b ↔ AnyAmong code z []) (ap places_in settled.1) ends;
+            rest = rest_keeps old new settled_keeps code settled.0.places.items settled.0.own.items settled.0.rest was.rest;
+          }))
+      | inr other ↦ state_keeps old new settled_keeps code r (table.rows u r (sym (others u other) ∙ e))
     ];
     says = λ u k lt low. (let within : u < length old = omega (arith, lt, count) in
         subst (λ z. IsTransition code new z k (get_or cells (128 * u + k) 0)) (sym (settled_keeps u within).1)
@@ -223,10 +247,11 @@ leads_everywhere code states place c cell (inr (inl d)) h = absurd (let e : cell
 leads_everywhere code states place c cell (inr (inr (inl t))) h = t.1
 leads_everywhere code states place c cell (inr (inr (inr l))) h = absurd (let e : cell ≡ l.0 / 128 + 3 = l.1 in omega (arith, e, h))
 
-pub leads_next : (code : List Instruction) (states : List State) (place : List ℕ) (c : ℕ) (led : Option ℕ) → Leads code states place c led
-    → LeadsNext code states place c (next_of led)
-leads_next code states place c (Some at) l = l
-leads_next code states place c None dead = dead
+pub leads_known : (code : List Instruction) (states : List State) (place : List ℕ) (c : ℕ) (next : Next) → LeadsNext code states place c next
+    → (next ≡ Everything → ⊥) → Leads code states place c (led_of next)
+leads_known code states place c (To at) l h = l
+leads_known code states place c Nothing dead h = dead
+leads_known code states place c Everything all h = absurd (h refl)
 
 pub table_filled : (code : List Instruction) (states : List State) (cells written : List ℕ) (at c cell : ℕ) → IsTable code states cells
     → IsStatePlace states at → IsTransition code states (places_at states (at / 128)) c cell
@@ -269,32 +294,41 @@ all_leads code c places reached false a s = (
   (λ h. elim ((a s).0 h) [ inl g ↦ g | inr g ↦ absurd (no_place code s g) ]),
 )
 
--- a step from one part, where it is known to what the other leads
-pub parts_lead : (code : List Instruction) (c : ℕ) (places part other also reached : List ℕ) → AreParts places part other → LeadOn code c part also
-    → AreReached code c other also reached → LeadOn code c places reached
+-- places in two parts
+pub union_of_parts : (code : List Instruction) (places part other : List ℕ) → AreParts places part other → IsUnion code places part other
+union_of_parts code places part other parts s = (
+  (λ h. elim ((parts h.0).0 h.1) [ inl g ↦ inl (h.0, g, h.2) | inr g ↦ inr (h.0, g, h.2) ]),
+  (λ h. elim h [ inl g ↦ (g.0, (parts g.0).1 (inl g.1), g.2) | inr g ↦ (g.0, (parts g.0).1 (inr g.1), g.2) ]),
+)
+
+-- a step from the one part, where it is known to what the other leads
+pub parts_lead : (code : List Instruction) (c : ℕ) (places part other also reached : List ℕ) → IsUnion code places part other → LeadOn code c part also
+    → ((s : List ℕ) → AnyAmong code reached s ↔ (AnyAmong code other (c ∷ s) ⊎ AnyAmong code also s)) → LeadOn code c places reached
 parts_lead code c places part other also reached parts leads a s = (
-  (λ h. elim ((parts h.0).0 h.1) [
-    | inl g ↦ (a s).1 (inr ((leads s).0 (h.0, g, h.2)))
-    | inr g ↦ (a s).1 (inl (h.0, g, h.2))
+  (λ h. elim ((parts (c ∷ s)).0 h) [
+    | inl g ↦ (a s).1 (inr ((leads s).0 g))
+    | inr g ↦ (a s).1 (inl g)
   ]),
   (λ h. elim ((a s).0 h) [
-    | inl g ↦ (g.0, (parts g.0).1 (inr g.1), g.2)
-    | inr g ↦ (let f : AnyAmong code part (c ∷ s) = (leads s).1 g in (f.0, (parts f.0).1 (inl f.1), f.2))
+    | inl g ↦ (parts (c ∷ s)).1 (inr g)
+    | inr g ↦ (parts (c ∷ s)).1 (inl ((leads s).1 g))
   ]),
 )
 
--- if one part leads nowhere, all places lead to where the other part does
-module _ (code : List Instruction) (c : ℕ) (places part other : List ℕ) (parts : AreParts places part other) (dead : AreReached code c other [] []) where
-  none_there : IsDead code other c
-  none_there s h = no_place code s ((dead s).1 (inl h))
+-- what was reached from the one part, and that to which the other leads, are all that was reached
+pub parts_reached : (code : List Instruction) (c : ℕ) (own also reached others : List ℕ)
+    → ((s : List ℕ) → AnyAmong code reached s ↔ (AnyAmong code own (c ∷ s) ⊎ AnyAmong code also s)) → LeadOn code c own others → IsUnion code reached also others
+parts_reached code c own also reached others a leads s = (
+  (λ h. elim ((a s).0 h) [ inl g ↦ inr ((leads s).0 g) | inr g ↦ inl g ]),
+  (λ h. elim h [ inl g ↦ (a s).1 (inr g) | inr g ↦ (a s).1 (inl ((leads s).1 g)) ]),
+)
 
+-- if the one part leads nowhere, all places lead to where the other part does
+module _ (code : List Instruction) (c : ℕ) (places part other : List ℕ) (parts : IsUnion code places part other) (dead : IsDead code other c) where
   as_part : (s : List ℕ) → AnyAmong code places (c ∷ s) ↔ AnyAmong code part (c ∷ s)
   as_part s = (
-    (λ h. elim ((parts h.0).0 h.1) [
-      | inl g ↦ (h.0, g, h.2)
-      | inr g ↦ absurd (none_there s (h.0, g, h.2))
-    ]),
-    (λ h. (h.0, (parts h.0).1 (inl h.1), h.2)),
+    (λ h. elim ((parts (c ∷ s)).0 h) [ inl g ↦ g | inr g ↦ absurd (dead s g) ]),
+    (λ h. (parts (c ∷ s)).1 (inl h)),
   )
 
   led_as_part : (states : List State) (at : ℕ) → LeadsTo code states part c at → LeadsTo code states places c at
@@ -303,15 +337,24 @@ module _ (code : List Instruction) (c : ℕ) (places part other : List ℕ) (par
     leads = λ s. ((λ h. (l.leads s).0 ((as_part s).0 h)), (λ h. (as_part s).1 ((l.leads s).1 h)));
   }
 
-  pub leads_as_part : (states : List State) (led : Option ℕ) → Leads code states part c led → Leads code states places c led
-  leads_as_part states (Some at) l = led_as_part states at l
-  leads_as_part states None none = λ s h. none s ((as_part s).0 h)
+  pub leads_as_part : (states : List State) (next : Next) → LeadsNext code states part c next → LeadsNext code states places c next
+  leads_as_part states (To at) l = led_as_part states at l
+  leads_as_part states Nothing none = λ s h. none s ((as_part s).0 h)
+  leads_as_part states Everything all = λ s. (as_part s).1 (all s)
 
   pub cell_as_part : (states : List State) (cell : ℕ) → IsTransition code states part c cell → IsTransition code states places c cell
   cell_as_part states cell (inl e) = inl e
   cell_as_part states cell (inr (inl h)) = inr (inl (h.0, (λ s g. h.1 s ((as_part s).0 g))))
   cell_as_part states cell (inr (inr (inl h))) = inr (inr (inl (h.0, (λ s. (as_part s).1 (h.1 s)))))
   cell_as_part states cell (inr (inr (inr h))) = inr (inr (inr (h.0, h.1, led_as_part states h.0 h.2)))
+
+-- places that lead to no places are dead
+pub nowhere_dead : (code : List Instruction) (c : ℕ) (places : List ℕ) → AreReached code c places [] [] → IsDead code places c
+nowhere_dead code c places dead s h = no_place code s ((dead s).1 (inl h))
+
+-- where one part takes all, all places do
+pub part_takes_all : (code : List Instruction) (c : ℕ) (places part other : List ℕ) → IsUnion code places part other → TakesAll code part c → TakesAll code places c
+part_takes_all code c places part other parts all s = (parts (c ∷ s)).1 (inl (all s))
 
 -- if every text is accepted from the places that follow, every text is that begins with the character
 pub takes_all : (code : List Instruction) (c : ℕ) (places others : List ℕ) → LeadOn code c places others → ((s : List ℕ) → AnyAmong code others s)
@@ -356,3 +399,52 @@ led code states from places others c t same lt e a = record {
   leads = subst (λ z. LeadOn code c z (places_at states (t * 128 / 128))) (sym same)
       (subst (LeadOn code c places) (sym (at_number states t ∙ e)) a);
 }
+
+-- ---- lone places
+pub only_item : (xs : List ℕ) → length xs ≡ 1 → xs ≡ get_or xs 0 0 ∷ []
+only_item [] e = absurd (omega (arith, e))
+only_item (x ∷ []) e = refl
+only_item (x ∷ y ∷ xs) e = absurd (omega (arith, e))
+
+-- a single place is all places of a state without a rest
+pub union_alone : (code : List Instruction) (places : List ℕ) → IsUnion code places [] places
+union_alone code places s = ((λ h. inr h), (λ h. elim h [ inl g ↦ absurd (no_place code s g) | inr g ↦ g ]))
+
+pub rest_at : (code : List Instruction) (states : List State) (cells : List ℕ) (at : ℕ) (s : State) (rest : ℕ) → IsTable code states cells
+    → slice_get states (at / 128) ≡ Some s → s.rest ≡ Some rest → IsRest code states (places_at states (at / 128)) (own_at states (at / 128)) rest
+rest_at code states cells at s rest table is has =
+    let good = (table.rows (at / 128) s is).rest in
+    let held = subst (λ o. IfSome o (IsRest code states s.places.items s.own.items)) has good in
+    subst (λ z. IsRest code states z (own_at states (at / 128)) rest) (sym (ap places_in is))
+    (subst (λ z. IsRest code states s.places.items z rest) (sym (ap own_in is)) held)
+
+-- the rest of a state, among more states
+pub rest_later : (code : List Instruction) (old new : List State) (cells : List ℕ) (at : ℕ) (s : State) (rest : ℕ) → IsTable code old cells
+    → IsStatePlace old at → slice_get old (at / 128) ≡ Some s → s.rest ≡ Some rest → KeepsStates old new
+    → IsRest code new (places_at old (at / 128)) (own_at new (at / 128)) rest
+rest_later code old new cells at s rest table here is has keeps =
+    let r = rest_at code old cells at s rest table is has in
+    record {
+      placed = placed_keeps old new keeps rest r.placed;
+      union = subst (λ z. IsUnion code (places_at old (at / 128)) z (own_at new (at / 128))) (sym (places_keep old new keeps rest r.placed))
+          (subst (λ z. IsUnion code (places_at old (at / 128)) (places_at old (rest / 128)) z) (sym (keeps (at / 128) here.kept).2) r.union);
+    }
+
+-- where the rest of a state leads, among more states
+pub leads_later : (code : List Instruction) (old new : List State) (cells : List ℕ) (at : ℕ) (s : State) (rest c : ℕ) (next : Next) → IsTable code old cells
+    → slice_get old (at / 128) ≡ Some s → s.rest ≡ Some rest → KeepsStates old new → LeadsNext code new (places_at old (rest / 128)) c next
+    → LeadsNext code new (places_at new (rest / 128)) c next
+leads_later code old new cells at s rest c next table is has keeps leads =
+    let r = rest_at code old cells at s rest table is has in
+    subst (λ z. LeadsNext code new z c next) (sym (places_keep old new keeps rest r.placed)) leads
+
+pub led_parted : (code : List Instruction) (states : List State) (part : List ℕ) (c : ℕ) (own reached others : List ℕ) (led : Option ℕ) → Leads code states part c led
+    → ((s : List ℕ) → AnyAmong code reached s ↔ (AnyAmong code own (c ∷ s) ⊎ AnyAmong code (places_led states led) s)) → LeadOn code c own others
+    → IfSome led (IsRest code states reached others)
+led_parted code states part c own reached others (Some at) l a o =
+    record { placed = l.placed; union = parts_reached code c own (places_at states (at / 128)) reached others a o }
+led_parted code states part c own reached others None l a o = tt
+
+pub led_placed : (code : List Instruction) (states : List State) (part : List ℕ) (c : ℕ) (led : Option ℕ) → Leads code states part c led → IfSome led (IsStatePlace states)
+led_placed code states part c (Some at) l = l.placed
+led_placed code states part c None l = tt

@@ -1,19 +1,21 @@
 //! The cache of a program's states, which outlives a text.
-ghost use Rattle.std.specs.Prelude.{◌≡◌, ◌*◌, ◌/◌, ◌<◌, ◌≤◌, ◌↔◌, ℕ, [], List, IfOk, IsFalse, IsTrue, OnErr};
-ghost use Rattle.std.specs.Prelude.{Some};
-ghost use Rattle.std.specs.Prelude.{length, slice_get};
+ghost use Rattle.std.specs.Prelude.{◌≡◌, ◌+◌, ◌*◌, ◌/◌, ◌^◌, ◌<◌, ◌≤◌, ◌↔◌, ◌∷◌, ℕ, [], List, true, None};
+ghost use Rattle.std.specs.Prelude.{IfOk, IfSome, IsFalse, IsTrue, OnErr, Some, drop, length, slice_get, slice_index};
+ghost use Rattle.std.specs.Str.{IsAscii};
 ghost use Rattle.wax_lazy.specs.declared.table.State.{State};
-ghost use Rattle.wax_lazy.specs.inner.Cached.{GrowsByOne, IsAdded, IsCacheOf, IsCleared, IsInterned};
-ghost use Rattle.wax_lazy.specs.inner.Cached.{AreNext, IsRestarted};
-ghost use Rattle.wax_lazy.specs.inner.Table.{BeginsTexts, IsStatePlace, KeepsStates, Leads, LeadsNext};
-ghost use Rattle.wax_lazy.specs.inner.Table.{places_at};
+ghost use Rattle.wax_lazy.specs.inner.Cached.{AreNext, AreParted, AreSameLists, AreStepped, GrowsBy, IsAdded};
+ghost use Rattle.wax_lazy.specs.inner.Cached.{Decides, IsCacheOf, IsCleared, IsInterned, IsLone, IsRestarted};
+ghost use Rattle.wax_lazy.specs.inner.Table.{BeginsTexts, IsDead, IsStatePlace, IsUnion, LeadsNext, own_at};
+ghost use Rattle.wax_lazy.specs.inner.Table.{places_at, places_led};
+ghost use Rattle.wax_program.specs.Checks.{IsCheckAt};
 ghost use Rattle.wax_program.specs.declared.instruction.Instruction.{Instruction};
 ghost use Rattle.wax_program.specs.Threads.{AnyAmong};
 
 use crate::stepper::Stepper;
-use crate::table::{ALL, COLUMNS, DEAD, FIRST, Next, State, Table, next_of};
+use crate::table::{ALL, COLUMNS, DEAD, FIRST, Next, State, Table};
 use std::alloc::{AllocError, Global};
-use wax_program::{CompiledProgram, part_loops, place_of_all};
+use std::mem;
+use wax_program::{CompiledProgram, check_at, has_loop, part_loops, place_of_all};
 
 /// The size of a state in bytes, without its places: that of its cells, and about fifty more.
 const STATE_BYTES: usize = 306;
@@ -24,6 +26,9 @@ const PLACE_BYTES: usize = 8;
 /// The least number of instructions of a program whose states are followed in two parts. In smaller
 /// ones, all instructions behind the loops are soon read.
 const LEAST_PARTED: usize = 256;
+
+/// How many states may be followed one after another to find where a character leads from one.
+const MOST_PARTS: usize = 64;
 
 /// The number of states that are kept however many bytes they take.
 const LEAST_STATES: usize = 16;
@@ -39,8 +44,10 @@ pub struct Cache {
     table: Table,
     /// The places that the last step reached.
     reached: Vec<usize>,
-    /// Those of a state's places that aren't loops.
+    /// Those of these places that aren't due to a state that is known.
     others: Vec<usize>,
+    /// Those of them that are loops.
+    loops: Vec<usize>,
     /// The place at which texts begin.
     start: usize,
     /// Where the cells begin of the state in which texts begin, if there is one.
@@ -55,6 +62,13 @@ pub struct Cache {
     read: usize,
     /// True if states were removed before they had served enough text.
     pub gives_up: bool,
+}
+
+/// A place by itself, and where the cells begin of a state with all other places, if there is one.
+#[derive(Clone, Copy)]
+pub struct Lone {
+    pub place: usize,
+    pub rest: Option<usize>,
 }
 
 impl Cache {
@@ -82,6 +96,7 @@ impl Cache {
             table,
             reached: Vec::new(alloc),
             others: Vec::new(alloc),
+            loops: Vec::new(alloc),
             start,
             first: None,
             most_bytes,
@@ -110,7 +125,7 @@ impl Cache {
         self.clear();
         self.reached.clear();
         self.reached.push(self.start)?;
-        let number = self.intern()?;
+        let number = self.intern(program, None)?;
         let at = number * COLUMNS;
         self.first = Some(at);
         Ok(at)
@@ -136,159 +151,335 @@ impl Cache {
             IfOk result (LeadsNext program.now.0 self.new.table.states.items places c) }
     {
         if c.is_ascii() {
-            return self.advance_ascii(program, at, c as u8);
+            if let Some(next) = self.known(at, c as u8) {
+                return Ok(next);
+            }
         }
-        let led = self.fill(program, at, c)?;
-        Ok(next_of(led))
+        self.fill(program, at, c)
     }
 
-    /// Follows an ASCII character, passed as its byte, as `advance` does. Takes one load and one
-    /// comparison once its cell is filled.
+    /// Returns where an ASCII character leads, passed as its byte, if its cell is filled. Takes one
+    /// load and one comparison if it leads to a state.
+    #[inline(always)]
+    pub fn known(&self, at: usize, c: u8) -> Option<Next>
+        requires placed { IsStatePlace self.now.table.states.items at }
+        requires room { length self.now.table.cells.items ≡ 128 * length self.now.table.states.items }
+        requires ascii { c < 128 }
+        ensures { (code : List Instruction) → IsCacheOf code self.now → IfSome result
+            (LeadsNext code self.now.table.states.items
+            (places_at self.now.table.states.items (at / 128)) c) }
+    {
+        let cell = self.table.cells[at + usize::from(c)];
+        if cell >= FIRST {
+            return Some(Next::To(usize::from(cell - FIRST) * COLUMNS));
+        }
+        if cell == ALL {
+            return Some(Next::Everything);
+        }
+        if cell == DEAD {
+            return Some(Next::Nothing);
+        }
+        None
+    }
+
+    /// Follows the ASCII characters of a text from the place `index` on: one of them, or more if the
+    /// state has one own place, and checks follow there that take them. Passing over these needs no
+    /// states. Returns where that leads, and up to which place.
     ///
     /// # Errors
     ///
     /// Returns `AllocError` if allocation fails.
-    #[inline(always)]
-    pub fn advance_ascii(
+    #[inline(never)]
+    pub fn advance_far(
         &mut self,
         program: &CompiledProgram,
         at: usize,
-        c: u8,
-    ) -> Result<Next, AllocError>
+        text: &[u8],
+        index: usize,
+    ) -> Result<(Next, usize), AllocError>
         requires cache { IsCacheOf program.now.0 self.old }
         requires placed { IsStatePlace self.old.table.states.items at }
+        requires ascii { IsAscii text.now }
+        requires within { index < length text.now }
+        ensures cache { IsCacheOf program.now.0 self.new }
+        ensures start { self.new.start ≡ self.old.start }
+        ensures further { IfOk result (λ r. (index < r.1) × (r.1 ≤ length text.now)) }
+        ensures decides { let places = places_at self.old.table.states.items (at / 128) in
+            IfOk result (λ r. Decides program.now.0 self.new.table.states.items places
+            (drop index text.now) (drop r.1 text.now) r.0) }
+    {
+        let c = char::from(text[index]);
+        if !self.is_full() {
+            if let Some(lone) = self.lone(program, at) {
+                if let Some(true) = check_at(program, lone.place, c) {
+                    return self.pass(program, lone, text, index);
+                }
+            }
+        }
+        let next = self.fill(program, at, c)?;
+        Ok((next, index + 1))
+    }
+
+    /// Returns the own place of a state in a large program, if it has one, and its rest.
+    fn lone(&self, program: &CompiledProgram, at: usize) -> Option<Lone>
+        requires cache { IsCacheOf program.now.0 self.now }
+        requires placed { IsStatePlace self.now.table.states.items at }
+        ensures { let places = places_at self.now.table.states.items (at / 128) in
+            IfSome result (IsLone program.now.0 self.now.table.states.items places) }
+    {
+        if program.size() < LEAST_PARTED {
+            return None;
+        }
+        let state = self.table.state(at);
+        match state.rest {
+            Some(rest) => match state.own.as_slice() {
+                [place] => Some(Lone {
+                    place: *place,
+                    rest: Some(rest),
+                }),
+                _ => None,
+            },
+            None => match state.places.as_slice() {
+                [place] => Some(Lone {
+                    place: *place,
+                    rest: None,
+                }),
+                _ => None,
+            },
+        }
+    }
+
+    /// Passes over characters of a text from the place `index` on: the one there, which the check at
+    /// the lone place takes, and those that the next checks take. Returns where that leads, and up
+    /// to which place.
+    fn pass(
+        &mut self,
+        program: &CompiledProgram,
+        lone: Lone,
+        text: &[u8],
+        index: usize,
+    ) -> Result<(Next, usize), AllocError>
+        requires cache { IsCacheOf program.now.0 self.old }
+        requires placed { IfSome lone.rest (IsStatePlace self.old.table.states.items) }
+        requires few { length self.old.table.states.items < 60000 }
+        requires small { length program.now.0 < 2 ^ 64 }
+        requires ascii { IsAscii text.now }
+        requires within { index < length text.now }
+        requires check { IsCheckAt program.now.0 lone.place (slice_index text.now index) true }
+        ensures cache { IsCacheOf program.now.0 self.new }
+        ensures start { self.new.start ≡ self.old.start }
+        ensures further { IfOk result (λ r. (index < r.1) × (r.1 ≤ length text.now)) }
+        ensures decides { (places : List ℕ)
+            → IsLone program.now.0 self.old.table.states.items places lone
+            → IfOk result (λ r. Decides program.now.0 self.new.table.states.items places
+            (drop index text.now) (drop r.1 text.now) r.0) }
+    {
+        let mut here = lone;
+        let mut end = index;
+        loop {
+            let next = self.follow_rest(program, here.rest, char::from(text[end]))?;
+            end += 1;
+            if let Next::Everything = next {
+                return Ok((next, end));
+            }
+            here = Lone {
+                place: here.place + 1,
+                rest: next.led(),
+            };
+            if end >= text.len() || self.is_full() {
+                break;
+            }
+            let c = char::from(text[end]);
+            match check_at(program, here.place, c) {
+                Some(true) => {}
+                Some(false) => {
+                    let next = self.follow_rest(program, here.rest, c)?;
+                    return Ok((next, end + 1));
+                }
+                None => break,
+            }
+        }
+        let at = self.arrive(program, here)?;
+        Ok((Next::To(at), end))
+    }
+
+    /// Follows an ASCII character from a state, if there is one.
+    fn follow_rest(
+        &mut self,
+        program: &CompiledProgram,
+        rest: Option<usize>,
+        c: char,
+    ) -> Result<Next, AllocError>
+        requires cache { IsCacheOf program.now.0 self.old }
+        requires placed { IfSome rest (IsStatePlace self.old.table.states.items) }
+        requires few { length self.old.table.states.items < 60000 }
         requires ascii { c < 128 }
         ensures cache { IsCacheOf program.now.0 self.new }
         ensures start { self.new.start ≡ self.old.start }
-        ensures leads { let places = places_at self.old.table.states.items (at / 128) in
+        ensures leads { let places = places_led self.old.table.states.items rest in
             IfOk result (LeadsNext program.now.0 self.new.table.states.items places c) }
+        ensures grows { IfOk result (λ _. GrowsBy 130 self.old self.new) }
     {
-        let cell = self.table.cells[at + usize::from(c)];
-        if cell >= FIRST {
-            return Ok(Next::To(usize::from(cell - FIRST) * COLUMNS));
+        match rest {
+            Some(rest) => self.follow_known(program, rest, c, MOST_PARTS),
+            None => Ok(Next::Nothing),
         }
-        if cell == ALL {
-            return Ok(Next::Everything);
-        }
-        if cell == DEAD {
-            return Ok(Next::Nothing);
-        }
-        let led = self.fill(program, at, char::from(c))?;
-        Ok(next_of(led))
+    }
+
+    /// Returns where the cells begin of the state of a lone place and its rest.
+    fn arrive(&mut self, program: &CompiledProgram, lone: Lone) -> Result<usize, AllocError>
+        requires cache { IsCacheOf program.now.0 self.old }
+        requires placed { IfSome lone.rest (IsStatePlace self.old.table.states.items) }
+        requires few { length self.old.table.states.items < 65000 }
+        ensures cache { IsCacheOf program.now.0 self.new }
+        ensures start { self.new.start ≡ self.old.start }
+        ensures placed { IfOk result (IsStatePlace self.new.table.states.items) }
+        ensures union { let rest = places_led self.old.table.states.items lone.rest in IfOk result
+            (λ at. IsUnion program.now.0 (places_at self.new.table.states.items (at / 128)) rest
+            (lone.place ∷ [])) }
+    {
+        self.others.clear();
+        self.others.push(lone.place)?;
+        self.reached.clear();
+        self.reached
+            .extend_from_slice(self.table.places_led(lone.rest))?;
+        self.reached.push(lone.place)?;
+        self.reached.sort_unstable();
+        let number = self.intern_parted(program, lone.rest)?;
+        Ok(number * COLUMNS)
     }
 
     /// Follows a character by a step of the program, and fills its cell if it is ASCII. If the
     /// cache is full, first removes all states but the current one.
     #[inline(never)]
-    fn fill(
-        &mut self,
-        program: &CompiledProgram,
-        at: usize,
-        c: char,
-    ) -> Result<Option<usize>, AllocError>
+    fn fill(&mut self, program: &CompiledProgram, at: usize, c: char) -> Result<Next, AllocError>
         requires cache { IsCacheOf program.now.0 self.old }
         requires placed { IsStatePlace self.old.table.states.items at }
         ensures cache { IsCacheOf program.now.0 self.new }
         ensures start { self.new.start ≡ self.old.start }
         ensures leads { let places = places_at self.old.table.states.items (at / 128) in
-            IfOk result (Leads program.now.0 self.new.table.states.items places c) }
+            IfOk result (LeadsNext program.now.0 self.new.table.states.items places c) }
     {
         if self.is_full() {
             self.restart(at)?;
-            return self.follow(program, 0, c);
+            return self.follow(program, 0, c, MOST_PARTS);
         }
-        self.follow(program, at, c)
+        self.follow(program, at, c, MOST_PARTS)
     }
 
-    /// Follows a character by a step of the program, if there is room for three more states. In a
-    /// large program, mostly steps only from the places that aren't loops. If these lead nowhere,
-    /// the state of the loops decides.
+    /// Follows a character by a step of the program, mostly only from the state's own places: where
+    /// those of the state `rest` lead is found by its cell, which is filled in the same way, up to
+    /// `depth` times. If its own places lead nowhere, the state `rest` decides.
+    #[cycle(follow)]
     fn follow(
         &mut self,
         program: &CompiledProgram,
         at: usize,
         c: char,
-    ) -> Result<Option<usize>, AllocError>
+        depth: usize,
+    ) -> Result<Next, AllocError>
         requires cache { IsCacheOf program.now.0 self.old }
         requires placed { IsStatePlace self.old.table.states.items at }
-        requires few { length self.old.table.states.items < 65531 }
+        requires few { length self.old.table.states.items + (2 * depth + 2) < 65533 }
         ensures cache { IsCacheOf program.now.0 self.new }
         ensures start { self.new.start ≡ self.old.start }
         ensures leads { let places = places_at self.old.table.states.items (at / 128) in
-            IfOk result (Leads program.now.0 self.new.table.states.items places c) }
+            IfOk result (LeadsNext program.now.0 self.new.table.states.items places c) }
+        ensures grows { IfOk result (λ _. GrowsBy (2 * depth + 2) self.old self.new) }
     {
-        let places = self.table.places(at);
-        if program.size() < LEAST_PARTED || !c.is_ascii() {
+        let Some(rest) = self.table.state(at).rest else {
+            return self.follow_all(program, at, c);
+        };
+        if depth == 0 || !c.is_ascii() {
             return self.follow_all(program, at, c);
         }
-        part_loops(program, places, &mut self.reached, &mut self.others)?;
-        if self.reached.is_empty() || self.others.is_empty() {
-            return self.follow_all(program, at, c);
+        let next = self.follow_known(program, rest, c, depth - 1)?;
+        if let Next::Everything = next {
+            self.table.write(at, c, ALL);
+            return Ok(next);
         }
-        let loops = self.intern()? * COLUMNS;
-        let led = self.follow_loops(program, loops, c)?;
-        let also = self.table.places_led(led);
-        let leads = self
-            .stepper
-            .step(program, &self.others, c, also, &mut self.reached)?;
+        let led = next.led();
+        let leads = self.step_own(program, at, c, led)?;
         if !leads {
-            self.table.copy_cell(loops, at, c);
-            return Ok(led);
+            self.table.copy_cell(rest, at, c);
+            return Ok(next);
         }
-        let takes_all = self.takes_all(program);
-        self.enter(at, c, takes_all)
+        self.enter(program, at, c, led)
     }
 
-    /// Follows an ASCII character from the loops of a state, which other states share: mostly by
-    /// their cell.
-    fn follow_loops(
+    /// Follows an ASCII character by its cell, if that is filled, and otherwise as `follow` does.
+    #[cycle(follow)]
+    fn follow_known(
         &mut self,
         program: &CompiledProgram,
         at: usize,
         c: char,
-    ) -> Result<Option<usize>, AllocError>
+        depth: usize,
+    ) -> Result<Next, AllocError>
         requires cache { IsCacheOf program.now.0 self.old }
         requires placed { IsStatePlace self.old.table.states.items at }
-        requires few { length self.old.table.states.items < 65533 }
+        requires few { length self.old.table.states.items + (2 * depth + 2) < 65533 }
         requires ascii { c < 128 }
         ensures cache { IsCacheOf program.now.0 self.new }
         ensures start { self.new.start ≡ self.old.start }
         ensures leads { let places = places_at self.old.table.states.items (at / 128) in
-            IfOk result (Leads program.now.0 self.new.table.states.items places c) }
-        ensures grows { IfOk result (λ _. GrowsByOne self.old self.new) }
+            IfOk result (LeadsNext program.now.0 self.new.table.states.items places c) }
+        ensures grows { IfOk result (λ _. GrowsBy (2 * depth + 2) self.old self.new) }
     {
-        let cell = self.table.cells[at + c as usize];
-        if cell >= FIRST {
-            return Ok(Some(usize::from(cell - FIRST) * COLUMNS));
+        if let Some(next) = self.known(at, c as u8) {
+            return Ok(next);
         }
-        if cell == DEAD {
-            return Ok(None);
-        }
-        self.follow_all(program, at, c)
+        self.follow(program, at, c, depth)
     }
 
-    /// Follows a character by a step of the program from all places of a state, if there is room
-    /// for one more state.
+    /// Steps from a state's own places. Writes the places that were reached, and those of the state
+    /// `led`, into `self.reached`, and the first of these into `self.others`. Returns `false` if its
+    /// own places lead nowhere.
+    fn step_own(
+        &mut self,
+        program: &CompiledProgram,
+        at: usize,
+        c: char,
+        led: Option<usize>,
+    ) -> Result<bool, AllocError>
+        requires cache { IsCacheOf program.now.0 self.old }
+        requires placed { IsStatePlace self.old.table.states.items at }
+        requires led { IfSome led (IsStatePlace self.old.table.states.items) }
+        ensures cache { IsCacheOf program.now.0 self.new }
+        ensures start { self.new.start ≡ self.old.start }
+        ensures table { self.new.table ≡ self.old.table }
+        ensures nowhere { IfOk result (λ leads. IsFalse leads
+            → IsDead program.now.0 (own_at self.old.table.states.items (at / 128)) c) }
+        ensures reaches { IfOk result (λ leads. IsTrue leads
+            → AreStepped program.now.0 self.old.table.states.items at led c self.new) }
+    {
+        let own = &self.table.state(at).own;
+        let also = self.table.places_led(led);
+        let leads = self
+            .stepper
+            .step(program, own, c, also, &mut self.reached, &mut self.others)?;
+        Ok(leads)
+    }
+
+    /// Follows a character by a step of the program from all places of a state.
     fn follow_all(
         &mut self,
         program: &CompiledProgram,
         at: usize,
         c: char,
-    ) -> Result<Option<usize>, AllocError>
+    ) -> Result<Next, AllocError>
         requires cache { IsCacheOf program.now.0 self.old }
         requires placed { IsStatePlace self.old.table.states.items at }
-        requires few { length self.old.table.states.items < 65533 }
+        requires few { length self.old.table.states.items + 2 < 65533 }
         ensures cache { IsCacheOf program.now.0 self.new }
         ensures start { self.new.start ≡ self.old.start }
         ensures leads { let places = places_at self.old.table.states.items (at / 128) in
-            IfOk result (Leads program.now.0 self.new.table.states.items places c) }
-        ensures grows { IfOk result (λ _. GrowsByOne self.old self.new) }
+            IfOk result (LeadsNext program.now.0 self.new.table.states.items places c) }
+        ensures grows { IfOk result (λ _. GrowsBy 2 self.old self.new) }
     {
         let places = self.table.places(at);
-        self.stepper
-            .step(program, places, c, &[], &mut self.reached)?;
-        let takes_all = self.takes_all(program);
-        self.enter(at, c, takes_all)
+        self.stepper.step(program, places, c, &[], &mut self.reached, &mut self.others)?;
+        self.enter(program, at, c, None)
     }
 
     /// Returns whether every text is known to be accepted from the places that were reached.
@@ -307,53 +498,108 @@ impl Cache {
     }
 
     /// Fills the cell of an ASCII character in the state whose cells begin at `at`, by the places
-    /// that were reached. Returns where the cells of their state begin, or `None` if no place was
-    /// reached. `takes_all` says that every text is accepted from these places.
-    fn enter(&mut self, at: usize, c: char, takes_all: bool) -> Result<Option<usize>, AllocError>
-        requires few { length self.old.table.states.items < 65533 }
-        requires room { length self.old.table.cells.items ≡ 128 * length self.old.table.states.items }
+    /// that were reached. Those in `self.others`, and those of the state `led`, if there is one, are
+    /// all of them.
+    fn enter(
+        &mut self,
+        program: &CompiledProgram,
+        at: usize,
+        c: char,
+        led: Option<usize>,
+    ) -> Result<Next, AllocError>
+        requires cache { IsCacheOf program.now.0 self.old }
         requires placed { IsStatePlace self.old.table.states.items at }
-        ensures cache { (code : List Instruction) → IsCacheOf code self.old → AreNext code self.old at c
-            → (IsTrue takes_all → (s : List ℕ) → AnyAmong code self.old.reached.items s)
-            → IsCacheOf code self.new }
+        requires few { length self.old.table.states.items + 2 < 65533 }
+        requires next { AreNext program.now.0 self.old at c }
+        requires led { IfSome led (AreParted program.now.0 self.old) }
+        ensures cache { IsCacheOf program.now.0 self.new }
         ensures start { self.new.start ≡ self.old.start }
         ensures leads { let places = places_at self.old.table.states.items (at / 128) in
-            (code : List Instruction) → AreNext code self.old at c
-            → IfOk result (Leads code self.new.table.states.items places c) }
-        ensures grows { IfOk result (λ _. GrowsByOne self.old self.new) }
+            IfOk result (LeadsNext program.now.0 self.new.table.states.items places c) }
+        ensures grows { IfOk result (λ _. GrowsBy 2 self.old self.new) }
     {
         if self.reached.is_empty() {
             self.table.write(at, c, DEAD);
-            return Ok(None);
+            return Ok(Next::Nothing);
         }
-        let number = self.intern()?;
-        let cell = if takes_all {
-            ALL
-        } else {
-            number as u16 + FIRST
-        };
-        self.table.write(at, c, cell);
-        Ok(Some(number * COLUMNS))
+        if self.takes_all(program) {
+            self.table.write(at, c, ALL);
+            return Ok(Next::Everything);
+        }
+        let number = self.intern_parted(program, led)?;
+        self.table.write(at, c, number as u16 + FIRST);
+        Ok(Next::To(number * COLUMNS))
     }
 
-    /// Finds the state of the places that were reached, and adds it if it is new. Returns its
-    /// number.
-    fn intern(&mut self) -> Result<usize, AllocError>
-        requires few { length self.old.table.states.items < 65533 }
-        requires room { length self.old.table.cells.items ≡ 128 * length self.old.table.states.items }
-        ensures cache { (code : List Instruction) → IsCacheOf code self.old → IsCacheOf code self.new }
+    /// Finds or adds the state of the places that were reached. Its rest is the state `led`, unless
+    /// others of its places are loops. In a large program, it is that of its loops then.
+    fn intern_parted(
+        &mut self,
+        program: &CompiledProgram,
+        led: Option<usize>,
+    ) -> Result<usize, AllocError>
+        requires few { length self.old.table.states.items + 2 < 65533 }
+        requires cache { IsCacheOf program.now.0 self.old }
+        requires led { IfSome led (AreParted program.now.0 self.old) }
+        ensures cache { IsCacheOf program.now.0 self.new }
         ensures start { self.new.start ≡ self.old.start }
         ensures small { IfOk result (λ t. t < 65533) }
-        ensures interned { IfOk result (IsInterned self.old self.new) }
+        ensures interned { IfOk result (λ t. IsInterned 2 self.old self.new self.old.reached.items t) }
+    {
+        if led.is_some() && !has_loop(program, &self.others) {
+            return self.intern(program, led);
+        }
+        if program.size() < LEAST_PARTED {
+            return self.intern(program, None);
+        }
+        part_loops(program, &self.reached, &mut self.loops, &mut self.others)?;
+        if self.loops.is_empty() || self.others.is_empty() {
+            return self.intern(program, None);
+        }
+        mem::swap(&mut self.reached, &mut self.loops);
+        let loops = self.intern(program, None);
+        mem::swap(&mut self.reached, &mut self.loops);
+        let rest = loops? * COLUMNS;
+        self.intern(program, Some(rest))
+    }
+
+    /// Finds the state of the places that were reached, and adds it if it is new, with `rest` as its
+    /// rest. Returns its number.
+    fn intern(
+        &mut self,
+        program: &CompiledProgram,
+        rest: Option<usize>,
+    ) -> Result<usize, AllocError>
+        requires few { length self.old.table.states.items < 65533 }
+        requires cache { IsCacheOf program.now.0 self.old }
+        requires rest { IfSome rest (AreParted program.now.0 self.old) }
+        ensures cache { IsCacheOf program.now.0 self.new }
+        ensures start { self.new.start ≡ self.old.start }
+        ensures lists { AreSameLists self.old self.new }
+        ensures small { IfOk result (λ t. t < 65533) }
+        ensures interned { IfOk result (λ t. IsInterned 1 self.old self.new self.old.reached.items t) }
     {
         if let Some(number) = self.table.find(&self.reached) {
             return Ok(number);
         }
         let places = Vec::from_slice(self.alloc, &self.reached)?;
+        let own = self.own_with(rest)?;
         self.keep(State {
             places,
+            own,
+            rest,
             accepts: None,
         })
+    }
+
+    /// Copies the places that aren't those of `rest`, if there is such a state.
+    fn own_with(&self, rest: Option<usize>) -> Result<Vec<usize>, AllocError>
+        ensures { IfOk result (λ own. IfSome rest (λ _. own.items ≡ self.now.others.items)) }
+    {
+        match rest {
+            Some(_) => Vec::from_slice(self.alloc, &self.others),
+            None => Ok(Vec::new(self.alloc)),
+        }
     }
 
     /// Adds a state and returns its number. If that fails, removes all states.
@@ -380,11 +626,10 @@ impl Cache {
             → IfOk result (λ _. IsRestarted self.old self.new s) }
         ensures err { OnErr result (IsCleared self.old self.new) }
     {
-        if self.read < self.table.states.len().saturating_mul(self.least_read) {
-            self.gives_up = true;
-        }
+        let least = self.table.states.len().saturating_mul(self.least_read);
+        self.gives_up = self.gives_up || self.read < least;
         self.read = 0;
-        let state = self.table.take(at);
+        let state = whole(self.alloc, self.table.take(at));
         self.clear();
         self.keep(state)?;
         Ok(())
@@ -402,7 +647,7 @@ impl Cache {
     /// Returns whether the greatest number of states is reached.
     #[inline]
     fn is_full(&self) -> bool
-        ensures { IsFalse result → length self.now.table.states.items < 65531 }
+        ensures { IsFalse result → length self.now.table.states.items < 60000 }
     {
         let states = self.table.states.len();
         states >= MOST_STATES || states >= LEAST_STATES && self.bytes >= self.most_bytes
@@ -419,12 +664,77 @@ impl Cache {
         ensures accepts { let places = places_at self.old.table.states.items (at / 128) in
             IsTrue result ↔ AnyAmong program.now.0 places [] }
     {
-        if let Some(accepts) = self.table.accepts(at) {
+        if let Some(accepts) = self.table.state(at).accepts {
             return accepts;
         }
-        let accepts = self.stepper.accepts(program, self.table.places(at));
+        let accepts = self.computed(program, at);
         self.table.settle(at, accepts);
         accepts
+    }
+
+    /// Computes what `accepts` returns: by the own places of the state, and then by its rest.
+    fn computed(&mut self, program: &CompiledProgram, at: usize) -> bool
+        requires cache { IsCacheOf program.now.0 self.old }
+        requires placed { IsStatePlace self.old.table.states.items at }
+        ensures cache { IsCacheOf program.now.0 self.new }
+        ensures start { self.new.start ≡ self.old.start }
+        ensures table { self.new.table ≡ self.old.table }
+        ensures first { self.new.first ≡ self.old.first }
+        ensures accepts { let places = places_at self.old.table.states.items (at / 128) in
+            IsTrue result ↔ AnyAmong program.now.0 places [] }
+    {
+        let mut here = at;
+        for _part in 0..MOST_PARTS {
+            let state = self.table.state(here);
+            if let Some(accepts) = state.accepts {
+                return accepts;
+            }
+            let Some(rest) = state.rest else {
+                break;
+            };
+            if self.own_accept(program, here) {
+                return true;
+            }
+            here = rest;
+        }
+        self.stepper.accepts(program, self.table.places(here))
+    }
+
+    /// Returns whether the program, begun at one of the own places of the state, accepts the empty
+    /// text.
+    fn own_accept(&mut self, program: &CompiledProgram, at: usize) -> bool
+        requires cache { IsCacheOf program.now.0 self.old }
+        requires placed { IsStatePlace self.old.table.states.items at }
+        ensures cache { IsCacheOf program.now.0 self.new }
+        ensures start { self.new.start ≡ self.old.start }
+        ensures table { self.new.table ≡ self.old.table }
+        ensures first { self.new.first ≡ self.old.first }
+        ensures accepts { IsTrue result
+            ↔ AnyAmong program.now.0 (own_at self.old.table.states.items (at / 128)) [] }
+    {
+        let own = &self.table.state(at).own;
+        let accepts = self.stepper.accepts(program, own);
+        accepts
+    }
+}
+
+/// Returns the state without its rest.
+fn whole(alloc: Global, state: State) -> State
+    ensures places { result.places ≡ state.places }
+    ensures rest { result.rest ≡ None }
+    ensures accepts { result.accepts ≡ state.accepts }
+{
+    let State {
+        places,
+        own: _,
+        rest: _,
+        accepts,
+    } = state;
+    State {
+        places,
+        own: Vec::new(alloc),
+        rest: None,
+        accepts,
     }
 }
 

@@ -40,12 +40,12 @@ impl Stepper {
 
     /// Writes the places to which `places` lead by the character into `reached`, ascending, and
     /// also those in `also`, unless `places` lead to none. Then it writes nothing and returns
-    /// `false`. Takes time in proportion to the instructions that it reads and the places that it
-    /// writes.
+    /// `false`. Writes those that aren't due to `also` into `own`. Takes time in proportion to the
+    /// instructions that it reads and the places that it writes.
     ///
     /// # Errors
     ///
-    /// Returns `AllocError` if `reached` has too little room and allocation fails.
+    /// Returns `AllocError` if the lists have too little room and allocation fails.
     pub fn step(
         &mut self,
         program: &CompiledProgram,
@@ -53,11 +53,13 @@ impl Stepper {
         c: char,
         also: &[usize],
         reached: &mut Vec<usize>,
+        own: &mut Vec<usize>,
     ) -> Result<bool, AllocError>
         requires { self.old ≡ length program.now.0 }
         ensures same { self.new ≡ self.old }
         ensures reaches { IfOk result (λ leads.
             AreReached program.now.0 c places.now (taken_if leads also.now) reached.new.items) }
+        ensures own { IfOk result (λ _. AreReached program.now.0 c places.now [] own.new.items) }
         ensures nowhere { IfOk result (λ leads. IsFalse leads → reached.new.items ≡ []) }
     {
         self.sets.load(places);
@@ -65,11 +67,14 @@ impl Stepper {
         if self.sets.leads_nowhere() {
             self.sets.clear();
             reached.clear();
+            own.clear();
             return Ok(false);
         }
+        let listed_own = self.sets.list_next(own);
         self.sets.add_next(also);
         let listed = self.sets.list_next(reached);
         self.sets.clear();
+        listed_own?;
         listed?;
         reached.sort_unstable();
         Ok(true)

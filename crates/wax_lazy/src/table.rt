@@ -2,7 +2,7 @@
 ghost use Rattle.std.specs.Prelude.{◌≡◌, ◌+◌, ◌*◌, ◌/◌, ◌<◌, ◌≤◌, ◌++◌, ◌∷◌, [], IfOk, IfSome, IsTrue, Some};
 ghost use Rattle.std.specs.Prelude.{length, replicate, slice_get, slice_index, slice_set};
 ghost use Rattle.wax_lazy.specs.declared.table.State.{State};
-ghost use Rattle.wax_lazy.specs.inner.Table.{IsSettled, next_of, places_at, places_led};
+ghost use Rattle.wax_lazy.specs.inner.Table.{IsSettled, led_of, places_at, places_led};
 
 use std::alloc::{AllocError, Global};
 
@@ -33,14 +33,15 @@ pub enum Next {
     Everything,
 }
 
-/// Returns where a character leads, by the place where the cells of the next state begin.
-#[inline(always)]
-pub fn next_of(led: Option<usize>) -> Next
-    ensures { result ≡ next_of led }
-{
-    match led {
-        Some(at) => Next::To(at),
-        None => Next::Nothing,
+impl Next {
+    /// Returns where the cells of the next state begin, if there is one.
+    pub fn led(self) -> Option<usize>
+        ensures { result ≡ led_of self }
+    {
+        match self {
+            Next::To(at) => Some(at),
+            _ => None,
+        }
     }
 }
 
@@ -49,6 +50,10 @@ pub fn next_of(led: Option<usize>) -> Next
 pub struct State {
     /// The places, ascending.
     pub places: Vec<usize>,
+    /// Those that aren't places of `rest`, or more of them. Empty if there is no such state.
+    pub own: Vec<usize>,
+    /// Where the cells begin of a state with some of the places, if one is known.
+    pub rest: Option<usize>,
     /// True if a text that ends here is accepted, and `None` if no text has ended here.
     pub accepts: Option<bool>,
 }
@@ -103,15 +108,13 @@ impl Table {
         }
     }
 
-    /// Returns whether a text that ends in the state whose cells begin at `at` is accepted, if that
-    /// is known.
+    /// Returns the state whose cells begin at `at`.
     #[inline]
-    pub fn accepts(&self, at: usize) -> Option<bool>
+    pub fn state(&self, at: usize) -> &State
         requires { at / 128 < length self.now.states.items }
-        ensures { (s : State) × (slice_get self.now.states.items (at / 128) ≡ Some s)
-            × (result ≡ s.accepts) }
+        ensures { slice_get self.now.states.items (at / 128) ≡ Some result.now }
     {
-        self.states[at / COLUMNS].accepts
+        &self.states[at / COLUMNS]
     }
 
     /// Remembers whether a text that ends in the state whose cells begin at `at` is accepted.
@@ -167,7 +170,7 @@ impl Table {
         ensures cells { IfOk result (λ _. self.new.cells.items ≡ self.old.cells.items ++ replicate 128 0) }
     {
         let number = self.states.len();
-        self.cells.resize(self.cells.len() + COLUMNS, UNKNOWN)?;
+        self.cells.extend_from_slice(&[UNKNOWN; COLUMNS])?;
         enter(&mut self.slots, hash_of(&state.places), number as u16 + 1);
         self.states.push(state)?;
         Ok(number)

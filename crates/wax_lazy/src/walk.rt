@@ -1,7 +1,8 @@
 //! Following a text from state to state.
-ghost use Rattle.std.specs.Prelude.{◌≡◌, ◌↔◌, IfOk, IsTrue, chars};
+ghost use Rattle.std.specs.Prelude.{◌≡◌, ◌↔◌, ◌/◌, ◌<◌, ◌≤◌, IfOk, IsTrue, chars, drop, length};
 ghost use Rattle.std.specs.Str.{IsAscii};
-ghost use Rattle.wax_lazy.specs.inner.Cached.{IsCacheOf};
+ghost use Rattle.wax_lazy.specs.inner.Cached.{Decides, IsCacheOf};
+ghost use Rattle.wax_lazy.specs.inner.Table.{IsStatePlace, places_at};
 ghost use Rattle.wax_program.specs.Machine.{Accepts};
 
 use crate::cache::Cache;
@@ -36,14 +37,44 @@ fn walk_ascii(program: &CompiledProgram, cache: &mut Cache, text: &[u8]) -> Resu
     ensures decides { IfOk result (λ b. IsTrue b ↔ Accepts program.now.0 cache.old.start text.now) }
 {
     let mut at = cache.begin(program, text.len())?;
-    for byte in text {
-        match cache.advance_ascii(program, at, *byte)? {
+    let mut index = 0;
+    while index < text.len() {
+        let (next, end) = advance_in(program, cache, at, text, index)?;
+        match next {
             Next::To(next) => at = next,
             Next::Nothing => return Ok(false),
             Next::Everything => return Ok(true),
         }
+        index = end;
     }
     Ok(cache.accepts(program, at))
+}
+
+/// Follows ASCII characters of a text from the place `index` on: one if its cell is filled, and
+/// otherwise one or more. Returns where they lead, and up to which place.
+#[inline(always)]
+fn advance_in(
+    program: &CompiledProgram,
+    cache: &mut Cache,
+    at: usize,
+    text: &[u8],
+    index: usize,
+) -> Result<(Next, usize), AllocError>
+    requires cache { IsCacheOf program.now.0 cache.old }
+    requires placed { IsStatePlace cache.old.table.states.items at }
+    requires ascii { IsAscii text.now }
+    requires within { index < length text.now }
+    ensures cache { IsCacheOf program.now.0 cache.new }
+    ensures start { cache.new.start ≡ cache.old.start }
+    ensures further { IfOk result (λ r. (index < r.1) × (r.1 ≤ length text.now)) }
+    ensures decides { let places = places_at cache.old.table.states.items (at / 128) in
+        IfOk result (λ r. Decides program.now.0 cache.new.table.states.items places
+        (drop index text.now) (drop r.1 text.now) r.0) }
+{
+    if let Some(next) = cache.known(at, text[index]) {
+        return Ok((next, index + 1));
+    }
+    cache.advance_far(program, at, text, index)
 }
 
 /// Decides any text, character by character.

@@ -1,6 +1,7 @@
-//! Instructions that lead to themselves.
-ghost use Rattle.std.specs.Prelude.{◌≡◌, ℕ, IfOk, IfSome, IsTrue, List};
+//! Instructions that lead to themselves, and those that take one character.
+ghost use Rattle.std.specs.Prelude.{◌≡◌, ◌^◌, ◌<◌, ℕ, IfOk, IfSome, IsTrue, List, length};
 ghost use Rattle.wax_program.specs.Machine.{Accepts};
+ghost use Rattle.wax_program.specs.Checks.{IsCheckAt, IsCheckOf};
 ghost use Rattle.wax_program.specs.Threads.{AreParts};
 ghost use Rattle.wax_program.specs.declared.instruction.Instruction.TheVariants.{Repeat};
 ghost use Rattle.wax_program.specs.declared.instruction.Test.TheVariants.{Any};
@@ -35,6 +36,11 @@ pub fn part_loops(
     Ok(())
 }
 
+/// Returns whether one of the places is that of a loop.
+pub fn has_loop(program: &CompiledProgram, places: &[usize]) -> bool {
+    places.iter().any(|place| is_loop(program, *place))
+}
+
 /// Returns whether the instruction at a place can lead to itself.
 fn is_loop(program: &CompiledProgram, at: usize) -> bool {
     if at >= program.size() {
@@ -48,6 +54,30 @@ fn is_loop(program: &CompiledProgram, at: usize) -> bool {
     };
     meter.add(visits);
     loops
+}
+
+/// Returns whether the character passes the test of the check at a place. Returns `None` if there is
+/// no check.
+pub fn check_at(program: &CompiledProgram, at: usize, c: char) -> Option<bool>
+    ensures check { IfSome result (IsCheckAt program.now.0 at c) }
+    ensures small { length program.now.0 < 2 ^ 64 }
+{
+    if at >= program.size() {
+        return None;
+    }
+    let mut visits = Visits::new();
+    let passes = passes_check(program.fetch(at, &mut visits), c);
+    Meter::new().add(visits);
+    passes
+}
+
+fn passes_check(instruction: &Instruction, c: char) -> Option<bool>
+    ensures { IfSome result (IsCheckOf instruction.now c) }
+{
+    match instruction {
+        Instruction::Check(test) => Some(test.passes(c)),
+        _ => None,
+    }
 }
 
 /// Returns a place from which the program accepts every text, if its last instruction repeats any

@@ -1,12 +1,17 @@
 -- What is kept between texts.
-use Rattle.std.specs.Prelude.{◌≡◌, ℕ, ◌+◌, ◌*◌, ◌/◌, ◌<◌, ◌≤◌, List, [], ◌∷◌, ◌++◌, Bool, None}
-use Rattle.std.specs.Prelude.{IfSome, IsFalse, IsTrue, length, replicate}
+use Rattle.std.specs.Prelude.{◌≡◌, ℕ, ◌+◌, ◌*◌, ◌/◌, ◌<◌, ◌≤◌, ◌⊎◌, ◌↔◌, List, [], ◌∷◌, ◌++◌, Bool, None}
+use Rattle.std.specs.Prelude.{IfSome, IsFalse, IsTrue, Option, length, replicate}
 use Rattle.wax_lazy.specs.declared.cache.Cache.{Cache}
+use Rattle.wax_lazy.specs.declared.cache.Lone.{Lone}
+use Rattle.wax_lazy.specs.declared.table.Next.{Next}
+use Rattle.wax_lazy.specs.declared.table.Next.TheVariants.{To, Nothing, Everything}
 use Rattle.wax_lazy.specs.declared.known.Known.{Known}
 use Rattle.wax_lazy.specs.declared.table.State.{State}
-use Rattle.wax_lazy.specs.inner.Table.{BeginsTexts, IsTable, KeepsStates, LeadOn, places_at}
+use Rattle.wax_lazy.specs.inner.Table.{BeginsTexts, IsRest, IsStatePlace, IsTable, IsUnion, KeepsStates, LeadOn}
+use Rattle.wax_lazy.specs.inner.Table.{own_at, places_at, places_led}
 use Rattle.wax_program.specs.declared.instruction.Instruction.{Instruction}
 use Rattle.wax_program.specs.Last.{ReadsLast}
+use Rattle.wax_program.specs.Threads.{AnyAmong}
 
 -- the cache was made for a program of these instructions, and all that it says holds of it
 pub record IsCacheOf (code : List Instruction) (c : Cache) : Type 0 where
@@ -15,11 +20,17 @@ pub record IsCacheOf (code : List Instruction) (c : Cache) : Type 0 where
   pub table : IsTable code c.table.states.items c.table.cells.items
   pub first : IfSome c.first (BeginsTexts code c.table.states.items c.start)
 
+-- the lists of places that a step wrote are as they were
+pub record AreSameLists (old new : Cache) : Type 0 where
+  pub reached : new.reached ≡ old.reached
+  pub others : new.others ≡ old.others
+  pub loops : new.loops ≡ old.loops
+
 -- what doesn't depend on the states is as it was
 pub record IsSameMaker (old new : Cache) : Type 0 where
   pub stepper : new.stepper ≡ old.stepper
   pub start : new.start ≡ old.start
-  pub others : new.others ≡ old.others
+  pub lists : AreSameLists old new
 
 -- no state is left
 pub record IsCleared (old new : Cache) : Type 0 where
@@ -28,10 +39,14 @@ pub record IsCleared (old new : Cache) : Type 0 where
   pub cells : new.table.cells.items ≡ []
   pub first : new.first ≡ None
 
--- one state is left, with empty cells
+-- one state is left, without its rest and with empty cells
 pub record IsRestarted (old new : Cache) (s : State) : Type 0 where
   pub maker : IsSameMaker old new
-  pub states : new.table.states.items ≡ s ∷ []
+  pub left : State
+  pub places : left.places ≡ s.places
+  pub rest : left.rest ≡ None
+  pub accepts : left.accepts ≡ s.accepts
+  pub states : new.table.states.items ≡ left ∷ []
   pub cells : new.table.cells.items ≡ replicate 128 0
   pub first : new.first ≡ None
 
@@ -43,22 +58,45 @@ pub record IsAdded (old new : Cache) (s : State) (number : ℕ) : Type 0 where
   pub cells : new.table.cells.items ≡ old.table.cells.items ++ replicate 128 0
   pub first : new.first ≡ old.first
 
--- all states are kept, and there is at most one more
-pub record GrowsByOne (old new : Cache) : Type 0 where
+-- all states are kept, and there are at most so many more
+pub record GrowsBy (most : ℕ) (old new : Cache) : Type 0 where
   pub kept : KeepsStates old.table.states.items new.table.states.items
-  pub few : length new.table.states.items ≤ length old.table.states.items + 1
-  pub others : new.others ≡ old.others
+  pub few : length new.table.states.items ≤ length old.table.states.items + most
 
--- the places that were reached are those of the state with this number
-pub record IsInterned (old new : Cache) (t : ℕ) : Type 0 where
-  pub grows : GrowsByOne old new
+-- the places are those of the state with this number, and there are at most so many more states
+pub record IsInterned (most : ℕ) (old new : Cache) (places : List ℕ) (t : ℕ) : Type 0 where
+  pub grows : GrowsBy most old new
   pub known : t < length new.table.states.items
-  pub places : places_at new.table.states.items t ≡ old.reached.items
+  pub places_are : places_at new.table.states.items t ≡ places
   pub room : length new.table.cells.items ≡ 128 * length new.table.states.items
+
+-- the places that were reached are those of the state whose cells begin at `at`, and the others
+abbrev pub AreParted : List Instruction → Cache → ℕ → Type 0
+AreParted code c at = IsRest code c.table.states.items c.reached.items c.others.items at
+
+-- the places that were reached are those to which the own places of the state whose cells begin at `at` lead by
+-- the character, which are the others, and those of the state `led`
+pub record AreStepped (code : List Instruction) (states : List State) (at : ℕ) (led : Option ℕ) (d : ℕ)
+    (new : Cache) : Type 0 where
+  pub reached : (s : List ℕ) → AnyAmong code new.reached.items s
+      ↔ (AnyAmong code (own_at states (at / 128)) (d ∷ s) ⊎ AnyAmong code (places_led states led) s)
+  pub others : LeadOn code d (own_at states (at / 128)) new.others.items
 
 -- the places that were reached follow by the character from those of the state whose cells begin at `at`
 abbrev pub AreNext : List Instruction → Cache → ℕ → ℕ → Type 0
 AreNext code c at d = LeadOn code d (places_at c.table.states.items (at / 128)) c.reached.items
+
+-- the places are the lone one and those of its rest
+pub record IsLone (code : List Instruction) (states : List State) (places : List ℕ) (lone : Lone) : Type 0 where
+  pub placed : IfSome lone.rest (IsStatePlace states)
+  pub union : IsUnion code places (places_led states lone.rest) (lone.place ∷ [])
+
+-- the places accept what is left of a text exactly where the next state accepts what is left after it
+abbrev pub Decides : List Instruction → List State → List ℕ → List ℕ → List ℕ → Next → Type 0
+Decides code states places left after (To at) =
+    IsStatePlace states at × (AnyAmong code places left ↔ AnyAmong code (places_at states (at / 128)) after)
+Decides code states places left after Nothing = AnyAmong code places left → ⊥
+Decides code states places left after Everything = AnyAmong code places left
 
 -- the cache of a program of these instructions, for texts of which the last component alone is read where the
 -- flag says so

@@ -18,6 +18,15 @@ places_in None = []
 abbrev pub places_at : List State → ℕ → List ℕ
 places_at states t = places_in (slice_get states t)
 
+-- the own places of a state, or none
+abbrev pub own_in : Option State → List ℕ
+own_in (Some s) = s.own.items
+own_in None = []
+
+-- the own places of the state with this number
+abbrev pub own_at : List State → ℕ → List ℕ
+own_at states t = own_in (slice_get states t)
+
 -- the places of the state whose cells begin at `at`, if there is one
 abbrev pub places_led : List State → Option ℕ → List ℕ
 places_led states (Some at) = places_at states (at / 128)
@@ -30,22 +39,35 @@ LeadOn code c places others = (s : List ℕ) → AnyAmong code places (c ∷ s) 
 
 -- the states keep their numbers and their places
 abbrev pub KeepsStates : List State → List State → Type 0
-KeepsStates old new = (t : ℕ) → t < length old → (t < length new) × (places_at new t ≡ places_at old t)
+KeepsStates old new = (t : ℕ) → t < length old
+    → (t < length new) × (places_at new t ≡ places_at old t) × (own_at new t ≡ own_at old t)
+
+-- some of the places accept a text exactly where some of the one part or of the other do
+abbrev pub IsUnion : List Instruction → List ℕ → List ℕ → List ℕ → Type 0
+IsUnion code places part other = (s : List ℕ) → AnyAmong code places s ↔ (AnyAmong code part s ⊎ AnyAmong code other s)
 
 -- the state with this number says now whether a text that ends there is accepted
 abbrev pub IsSettled : List State → List State → ℕ → Bool → Type 0
 IsSettled old new t b =
     (s : State) × (slice_get old t ≡ Some s)
-    × (new ≡ slice_set old t (record { places = s.places; accepts = Some b }))
-
--- where the state says whether the empty text is accepted, it says so rightly
-abbrev pub IsState : List Instruction → State → Type 0
-IsState code s = IfSome s.accepts (λ b. IsTrue b ↔ AnyAmong code s.places.items [])
+    × (new ≡ slice_set old t (record { places = s.places; own = s.own; rest = s.rest; accepts = Some b }))
 
 -- a state's cells begin at the place
 pub record IsStatePlace (states : List State) (at : ℕ) : Type 0 where
   pub whole : at % 128 ≡ 0
   pub kept : at / 128 < length states
+
+-- the places are those of the state whose cells begin at `at`, and the others
+pub record IsRest (code : List Instruction) (states : List State) (places others : List ℕ) (at : ℕ) :
+    Type 0 where
+  pub placed : IsStatePlace states at
+  pub union : IsUnion code places (places_at states (at / 128)) others
+
+-- where the state says whether the empty text is accepted, it says so rightly; and if it has a rest, its
+-- places are those of the rest and its own
+pub record IsState (code : List Instruction) (states : List State) (s : State) : Type 0 where
+  pub ends : IfSome s.accepts (λ b. IsTrue b ↔ AnyAmong code s.places.items [])
+  pub rest : IfSome s.rest (IsRest code states s.places.items s.own.items)
 
 -- from the places the character leads to the state whose cells begin at `at`
 pub record LeadsTo (code : List Instruction) (states : List State) (places : List ℕ) (c at : ℕ) : Type 0 where
@@ -65,10 +87,11 @@ Leads code states places c (Some at) = LeadsTo code states places c at
 abbrev pub TakesAll : List Instruction → List ℕ → ℕ → Type 0
 TakesAll code places c = (s : List ℕ) → AnyAmong code places (c ∷ s)
 
--- the next state, or that there is none since no text is accepted
-abbrev pub next_of : Option ℕ → Next
-next_of (Some at) = To at
-next_of None = Nothing
+-- where the cells of the next state begin, if there is one
+abbrev pub led_of : Next → Option ℕ
+led_of (To at) = Some at
+led_of Nothing = None
+led_of Everything = None
 
 -- where the character leads from the places, or that the rest of the text doesn't matter
 abbrev pub LeadsNext : List Instruction → List State → List ℕ → ℕ → Next → Type 0
@@ -85,7 +108,7 @@ IsTransition code states places c cell =
 -- the states are those of a program, and each has a cell for each of 128 characters
 pub record IsTable (code : List Instruction) (states : List State) (cells : List ℕ) : Type 0 where
   pub room : length cells ≡ 128 * length states
-  pub rows : (t : ℕ) (s : State) → slice_get states t ≡ Some s → IsState code s
+  pub rows : (t : ℕ) (s : State) → slice_get states t ≡ Some s → IsState code states s
   pub says : (t k : ℕ) → t < length states → k < 128
       → IsTransition code states (places_at states t) k (slice_index cells (128 * t + k))
 

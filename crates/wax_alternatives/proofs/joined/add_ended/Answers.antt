@@ -12,6 +12,7 @@ returns c =
     let leaf = wildcard_leaf c.args.end in
     let old = c.args.joined.now.items in
     let ts = c.args.before.items in
-    let token : c.concatenation.result ≡ ended_token leaf ts = search rules in
+    let one = c.one_of.result in
+    let token : c.concatenation.result ≡ ended_token leaf one = search rules in
     IfOk-weaker c.push-3.result _ _ (λ r h. subst (λ us. (b a : Bool) (s : List ℕ) → MeansSome (trees us) b a s ↔ (MeansEnded leaf ts b a s ⊎ MeansSome (trees old) b a s))
-    (sym (h ∙ ap (λ t. old ++ t ∷ []) token)) (added_ended leaf old ts)) c.push-3.ensures
+    (sym (h ∙ ap (λ t. old ++ t ∷ []) token)) (added_ended leaf one old ts c.one_of.ensures)) c.push-3.ensures

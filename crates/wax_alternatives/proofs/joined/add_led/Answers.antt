@@ -12,6 +12,7 @@ returns c =
     let leaf = leaf_of c.args.lead in
     let old = c.args.joined.now.items in
     let ts = c.args.after.items in
-    let token : c.concatenation.result ≡ led_token leaf ts = search rules in
+    let one = c.one_of.result in
+    let token : c.concatenation.result ≡ led_token leaf one = search rules in
     IfOk-weaker c.push-3.result _ _ (λ r h. subst (λ us. (b a : Bool) (s : List ℕ) → MeansSome (trees us) b a s ↔ (MeansLed leaf ts b a s ⊎ MeansSome (trees old) b a s))
-    (sym (h ∙ ap (λ t. old ++ t ∷ []) token)) (added_led leaf old ts)) c.push-3.ensures
+    (sym (h ∙ ap (λ t. old ++ t ∷ []) token)) (added_led leaf one old ts c.one_of.ensures)) c.push-3.ensures

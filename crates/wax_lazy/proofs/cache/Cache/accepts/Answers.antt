@@ -1,5 +1,5 @@
-use Rattle.std.proofs.Common.{◌/◌, ◌↔◌, [], IfSome, IsTrue, refl, sym, ◌∙◌, ap, subst}
-use Rattle.wax_lazy.specs.inner.Table.{places_in}
+use Rattle.std.proofs.Common.{◌/◌, ◌↔◌, [], IfSome, IsTrue, sym, ◌∙◌, ap, subst}
+use Rattle.wax_lazy.specs.inner.Table.{IsSettled, places_in}
 use Rattle.wax_lazy.proofs.Caches.{cache_settled}
 use Rattle.wax_program.specs.Threads.{AnyAmong}
 use Rattle.wax_lazy.proofs.cache.Cache.accepts.Goals as goal
@@ -7,17 +7,30 @@ use Rattle.wax_lazy.proofs.cache.Cache.accepts.Goals as goal
 pub returns-in-Some-clause-accepts : goal.returns-in-Some-clause-accepts
 returns-in-Some-clause-accepts c =
     let code = c.args.program.now.0 in
-    let (s, is, told) = c.accepts.ensures in
-    let known = subst (λ o. IfSome o (λ b. IsTrue b ↔ AnyAmong code s.places.items [])) (sym told ∙ c.in-Some.is) (c.requires.cache.table.rows (c.args.at / 128) s is) in
-    subst (λ z. IsTrue c.in-Some.accepts ↔ AnyAmong code z []) (sym (ap places_in is)) known
+    let s = c.state.result.now in
+    let known = subst (λ o. IfSome o (λ b. IsTrue b ↔ AnyAmong code s.places.items [])) c.in-Some.is (c.requires.cache.table.rows (c.args.at / 128) s c.state.ensures).ends in
+    subst (λ z. IsTrue c.in-Some.accepts ↔ AnyAmong code z []) (sym (ap places_in c.state.ensures)) known
 
 pub returns-clause-cache : goal.returns-clause-cache
 returns-clause-cache c =
     let code = c.args.program.now.0 in
-    let ends = subst (λ z. IsTrue c.accepts-accepts.result ↔ AnyAmong code z []) (sym c.places.ensures) c.accepts-accepts.ensures.accepts in
-    cache_settled code c.args.self.now _ (c.args.at / 128) c.accepts-accepts.result c.requires.cache c.settle.ensures.states ends
-    (c.accepts-accepts.ensures.same ∙ c.requires.cache.size) refl refl c.settle.ensures.cells
-
-pub returns-clause-accepts : goal.returns-clause-accepts
-returns-clause-accepts c =
-    subst (λ z. IsTrue c.accepts-accepts.result ↔ AnyAmong c.args.program.now.0 z []) (sym c.places.ensures) c.accepts-accepts.ensures.accepts
+    let same = c.computed-accepts.ensures.table in
+    let settled = subst (λ z. IsSettled z.states.items c.settle.new.self.states.items (c.args.at / 128) c.computed-accepts.result) same c.settle.ensures.states in
+    cache_settled code c.args.self.now
+    (record {
+      alloc = c.computed-accepts.new.self.alloc;
+      stepper = c.computed-accepts.new.self.stepper;
+      table = c.settle.new.self;
+      reached = c.computed-accepts.new.self.reached;
+      others = c.computed-accepts.new.self.others;
+      loops = c.computed-accepts.new.self.loops;
+      start = c.computed-accepts.new.self.start;
+      first = c.computed-accepts.new.self.first;
+      most_bytes = c.computed-accepts.new.self.most_bytes;
+      bytes = c.computed-accepts.new.self.bytes;
+      least_read = c.computed-accepts.new.self.least_read;
+      read = c.computed-accepts.new.self.read;
+      gives_up = c.computed-accepts.new.self.gives_up;
+    })
+    (c.args.at / 128) c.computed-accepts.result c.requires.cache settled c.computed-accepts.ensures.accepts
+    c.computed-accepts.ensures.cache.size c.computed-accepts.ensures.start c.computed-accepts.ensures.first (c.settle.ensures.cells ∙ ap (λ z. z.cells) same)

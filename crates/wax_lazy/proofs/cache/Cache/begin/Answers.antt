@@ -4,15 +4,20 @@ use Rattle.wax_lazy.proofs.Caches.{cache_cleared}
 use Rattle.wax_lazy.proofs.Tables.{begun}
 use Rattle.wax_lazy.proofs.cache.Cache.begin.Goals as goal
 
+pub intern-requires-clause-cache : goal.intern-requires-clause-cache
+intern-requires-clause-cache c =
+    let code = c.args.program.now.0 in
+    let cleared = cache_cleared code _ c.clear.new.self
+    (record { size = c.requires.size; start = c.requires.start; table = c.requires.table; first = c.requires.first }) c.clear.ensures in
+    record { size = cleared.size; start = cleared.start; table = cleared.table; first = cleared.first }
+
 pub returns-clause-cache : goal.returns-clause-cache
 returns-clause-cache c =
     let code = c.args.program.now.0 in
     let states = c.intern.new.self.table.states.items in
     let made = c.in_ok-number.ensures in
-    let cleared = cache_cleared code _ c.clear.new.self
-    (record { size = c.requires.size; start = c.requires.start; table = c.requires.table; first = c.requires.first }) c.clear.ensures in
-    let held = made.cache code (record { size = cleared.size; start = cleared.start; table = cleared.table; first = cleared.first }) in
-    let one : places_at states c.in_ok-number.number ≡ c.clear.new.self.start ∷ [] = made.interned.places ∙ search rules in
+    let held = c.intern.ensures.cache in
+    let one : places_at states c.in_ok-number.number ≡ c.clear.new.self.start ∷ [] = made.interned.places_are ∙ search rules in
     let first = begun code states c.clear.new.self.start c.in_ok-number.number made.interned.known one in
     record {
       size = held.size;
@@ -26,6 +31,6 @@ returns-clause-begins c =
     let code = c.args.program.now.0 in
     let states = c.intern.new.self.table.states.items in
     let made = c.in_ok-number.ensures in
-    let one : places_at states c.in_ok-number.number ≡ c.clear.new.self.start ∷ [] = made.interned.places ∙ search rules in
+    let one : places_at states c.in_ok-number.number ≡ c.clear.new.self.start ∷ [] = made.interned.places_are ∙ search rules in
     let first = begun code states c.clear.new.self.start c.in_ok-number.number made.interned.known one in
     subst (λ n. BeginsTexts code states n (c.in_ok-number.number * 128)) c.clear.ensures.maker.start first

@@ -1,5 +1,5 @@
 use Rattle.std.proofs.Common.{◌/◌, IfOk, ◌∙◌, subst, arith}
-use Rattle.wax_lazy.specs.inner.Table.{Leads}
+use Rattle.wax_lazy.specs.inner.Table.{LeadsNext}
 use Rattle.wax_lazy.proofs.Caches.{cache_restarted, restarted_one, restarted_place, restarted_places}
 use Rattle.wax_lazy.proofs.Tables.{state_at}
 use Rattle.wax_lazy.proofs.cache.Cache.fill.Goals as goal
@@ -28,4 +28,4 @@ pub returns-then-is_full-clause-leads : goal.returns-then-is_full-clause-leads
 returns-then-is_full-clause-leads c =
     let (s, is) = state_at c.args.self.now.table.states.items (c.args.at / 128) c.requires.placed.kept in
     let same = restarted_places c.args.self.now c.restart.new.self s (c.in_ok-restart.ensures.ok s is) (c.args.at / 128) is in
-    subst (λ z. IfOk c.follow.result (Leads c.args.program.now.0 c.follow.new.self.table.states.items z c.args.c)) same c.follow.ensures.leads
+    subst (λ z. IfOk c.follow.result (LeadsNext c.args.program.now.0 c.follow.new.self.table.states.items z c.args.c)) same c.follow.ensures.leads

@@ -1,0 +1,159 @@
+-- Places by themselves, which checks follow.
+use Rattle.std.proofs.Common.{IsPermutation, ◌≡◌, ℕ, zero, suc, ◌+◌, ◌/◌, ◌<◌, ◌⊎◌, ◌↔◌, inl, inr, Bool, true, false, List, [], ◌∷◌, ◌++◌, Option, Some, None, IfSome, IsTrue, length, slice_get, refl, sym, ◌∙◌, ap, subst, true≢false, arith}
+use Rattle.std.proofs.lemmas.List.Elements.{Contains-append_left, Contains-push, Contains-push_cases}
+use Rattle.std.proofs.lemmas.List.Sorted.{Contains-permutation, IsPermutation-sym}
+use Rattle.std.proofs.lemmas.Option.{slice_get_within}
+use Rattle.wax_lazy.specs.declared.cache.Lone.{Lone}
+use Rattle.wax_lazy.specs.declared.table.Next.{Next}
+use Rattle.wax_lazy.specs.declared.table.Next.TheVariants.{To, Nothing, Everything}
+use Rattle.wax_lazy.specs.declared.table.State.{State}
+use Rattle.wax_lazy.specs.inner.Cached.{Decides, IsLone}
+use Rattle.wax_lazy.specs.inner.Table.{IsRest, IsStatePlace, IsTable, IsUnion, LeadsNext, TakesAll, led_of, own_at, places_at, places_in, places_led}
+use Rattle.wax_lazy.proofs.Tables.{one_place, rest_at}
+use Rattle.wax_program.specs.Checks.{IsCheckAt}
+use Rattle.wax_program.specs.declared.instruction.Instruction.{Instruction}
+use Rattle.wax_program.specs.declared.instruction.Instruction.TheVariants.{Check}
+use Rattle.wax_program.specs.Machine.{Accepts, AcceptsIn, Moves}
+use Rattle.wax_program.specs.Threads.{AnyAmong}
+
+-- ---- checks
+same_instruction : {i j : Instruction} → Some i ≡ Some j → i ≡ j
+same_instruction e = cc
+
+not_nil : {c : ℕ} {s : List ℕ} → c ∷ s ≡ [] → ⊥
+not_nil e = cc
+
+-- a check takes the character, and the rest of the text follows at the next place
+pub check_on : (code : List Instruction) (at c : ℕ) (passes : Bool) (s : List ℕ) → IsCheckAt code at c passes
+    → Accepts code at (c ∷ s) ↔ (IsTrue passes × Accepts code (at + 1) s)
+check_on code at c passes s (i, is, (t, check, tests)) = ((λ h. onward h.0 h.1), (λ h. (suc h.1.0, inr (i, is, moved h.0 h.1.0 h.1.1))))
+  where
+    moved : (ok : IsTrue passes) (n : ℕ) → AcceptsIn code n (at + 1) s → Moves i (AcceptsIn code n) at (c ∷ s)
+    moved ok n a = subst (λ j. Moves j (AcceptsIn code n) at (c ∷ s)) (sym check) (tests.0 ok, a)
+
+    onward : (n : ℕ) → AcceptsIn code n at (c ∷ s) → IsTrue passes × Accepts code (at + 1) s
+    onward zero a = absurd a
+    onward (suc n) (inl e) = absurd (not_nil e.1)
+    onward (suc n) (inr m) =
+        let j : m.0 ≡ i = same_instruction (sym m.1 ∙ is) in
+        let here : Moves (Check t) (AcceptsIn code n) at (c ∷ s) = subst (λ k. Moves k (AcceptsIn code n) at (c ∷ s)) (j ∙ check) m.2 in
+        (tests.1 here.0, (n, here.1))
+
+-- ---- lists
+pub joined_place : (code : List Instruction) (led sorted : List ℕ) (place : ℕ) → IsPermutation (led ++ place ∷ []) sorted → IsUnion code sorted led (place ∷ [])
+joined_place code led sorted place p s = (
+  (λ h. elim (Contains-push_cases led place h.0 (Contains-permutation sorted (led ++ place ∷ []) h.0 (IsPermutation-sym (led ++ place ∷ []) sorted p) h.1)) [
+    | inl g ↦ inl (h.0, g, h.2)
+    | inr e ↦ inr ((one_place code place s).0 (subst (λ k. Accepts code k s) (sym e) h.2))
+  ]),
+  (λ h. elim h [
+    | inl g ↦ (g.0, Contains-permutation (led ++ place ∷ []) sorted g.0 p (Contains-append_left led (place ∷ []) g.0 g.1), g.2)
+    | inr g ↦ (place, Contains-permutation (led ++ place ∷ []) sorted place p (Contains-push led place), (one_place code place s).1 g)
+  ]),
+)
+
+pub parted_lone : (code : List Instruction) (states : List State) (rest : Option ℕ) (reached others : List ℕ) → IfSome rest (IsStatePlace states)
+    → IsUnion code reached (places_led states rest) others → IfSome rest (IsRest code states reached others)
+parted_lone code states (Some at) reached others placed union = record { placed = placed; union = union }
+parted_lone code states None reached others placed union = tt
+
+-- ---- following a text
+-- one character
+pub next_decides : (code : List Instruction) (states : List State) (places left after : List ℕ) (c : ℕ) (next : Next) → left ≡ c ∷ after
+    → LeadsNext code states places c next → Decides code states places left after next
+next_decides code states places left after c (To at) e l = (
+  l.placed,
+  (
+    (λ h. (l.leads after).0 (subst (AnyAmong code places) e h)),
+    (λ h. subst (AnyAmong code places) (sym e) ((l.leads after).1 h)),
+  ),
+)
+next_decides code states places left after c Nothing e dead = λ h. dead after (subst (AnyAmong code places) e h)
+next_decides code states places left after c Everything e all = subst (AnyAmong code places) (sym e) (all after)
+
+module _ (code : List Instruction) (states : List State) (places part text left after : List ℕ) (place c : ℕ) (stays : AnyAmong code places text ↔ (AnyAmong code part left ⊎ Accepts code place left)) (e : left ≡ c ∷ after) where
+  -- the check takes the character: both lead on
+  pub both_on : (next : Next) → IsCheckAt code place c true → LeadsNext code states part c next → (next ≡ Everything → ⊥)
+      → AnyAmong code places text ↔ (AnyAmong code (places_led states (led_of next)) after ⊎ Accepts code (place + 1) after)
+  both_on next check leads apart = (
+    (λ h. elim (stays.0 h) [
+      | inl g ↦ inl ((onward next leads apart).0 (subst (AnyAmong code part) e g))
+      | inr g ↦ inr ((check_on code place c true after check).0 (subst (Accepts code place) e g)).1
+    ]),
+    (λ h. elim h [
+      | inl g ↦ stays.1 (inl (subst (AnyAmong code part) (sym e) ((onward next leads apart).1 g)))
+      | inr g ↦ stays.1 (inr (subst (Accepts code place) (sym e) ((check_on code place c true after check).1 (refl, g))))
+    ]),
+  )
+    where
+      nothing_in : AnyAmong code [] after → ⊥
+      nothing_in h = absurd (let lt : h.1.0 < 0 = h.1.1 in omega (arith, lt))
+
+      onward : (next : Next) → LeadsNext code states part c next → (next ≡ Everything → ⊥) → AnyAmong code part (c ∷ after) ↔ AnyAmong code (places_led states (led_of next)) after
+      onward (To at) l apart = l.leads after
+      onward Nothing dead apart = ((λ h. absurd (dead after h)), (λ h. absurd (nothing_in h)))
+      onward Everything all apart = absurd (apart refl)
+
+  -- every text is accepted, whether the check takes the character or not
+  pub all_on : TakesAll code part c → AnyAmong code places text
+  all_on all = stays.1 (inl (subst (AnyAmong code part) (sym e) (all after)))
+
+  -- the check doesn't take the character: the rest decides
+  pub rest_on : (next : Next) → IsCheckAt code place c false → LeadsNext code states part c next → Decides code states places text after next
+  rest_on (To at) check l = (
+    l.placed,
+    (
+      (λ h. elim (stays.0 h) [
+        | inl g ↦ (l.leads after).0 (subst (AnyAmong code part) e g)
+        | inr g ↦ absurd (true≢false (sym ((check_on code place c false after check).0 (subst (Accepts code place) e g)).0))
+      ]),
+      (λ h. stays.1 (inl (subst (AnyAmong code part) (sym e) ((l.leads after).1 h)))),
+    ),
+  )
+  rest_on Nothing check dead = λ h. elim (stays.0 h) [
+    | inl g ↦ dead after (subst (AnyAmong code part) e g)
+    | inr g ↦ absurd (true≢false (sym ((check_on code place c false after check).0 (subst (Accepts code place) e g)).0))
+  ]
+  rest_on Everything check all = all_on all
+
+pub next_placed : (code : List Instruction) (states : List State) (part : List ℕ) (c : ℕ) (next : Next) → LeadsNext code states part c next → IfSome (led_of next) (IsStatePlace states)
+next_placed code states part c (To at) l = l.placed
+next_placed code states part c Nothing l = tt
+next_placed code states part c Everything l = tt
+
+pub check_within : (code : List Instruction) (at c : ℕ) (passes : Bool) → IsCheckAt code at c passes → at < length code
+check_within code at c passes h = slice_get_within code at h.0 h.1
+
+-- at first, the lone place and its rest are all places
+pub lone_begins : (code : List Instruction) (states : List State) (places : List ℕ) (lone : Lone) (text : List ℕ) → IsLone code states places lone
+    → AnyAmong code places text ↔ (AnyAmong code (places_led states lone.rest) text ⊎ Accepts code lone.place text)
+lone_begins code states places lone text l = (
+  (λ h. elim ((l.union text).0 h) [ inl g ↦ inl g | inr g ↦ inr ((one_place code lone.place text).1 g) ]),
+  (λ h. elim h [ inl g ↦ (l.union text).1 (inl g) | inr g ↦ (l.union text).1 (inr ((one_place code lone.place text).0 g)) ]),
+)
+
+-- at last, the state of both decides
+pub lone_ends : (code : List Instruction) (places held rest text after : List ℕ) (place : ℕ)
+    → AnyAmong code places text ↔ (AnyAmong code rest after ⊎ Accepts code place after) → IsUnion code held rest (place ∷ [])
+    → AnyAmong code places text ↔ AnyAmong code held after
+lone_ends code places held rest text after place stays union = (
+  (λ h. (union after).1 (elim (stays.0 h) [ inl g ↦ inl g | inr g ↦ inr ((one_place code place after).0 g) ])),
+  (λ h. stays.1 (elim ((union after).0 h) [ inl g ↦ inl g | inr g ↦ inr ((one_place code place after).1 g) ])),
+)
+
+-- ---- whether a text may end
+module _ (code : List Instruction) (states : List State) (cells : List ℕ) (at : ℕ) (s : State) (table : IsTable code states cells) (is : slice_get states (at / 128) ≡ Some s) where
+  pub said_ends : (b : Bool) → s.accepts ≡ Some b → IsTrue b ↔ AnyAmong code (places_at states (at / 128)) []
+  said_ends b said = subst (λ z. IsTrue b ↔ AnyAmong code z []) (sym (ap places_in is))
+      (subst (λ o. IfSome o (λ b. IsTrue b ↔ AnyAmong code s.places.items [])) said (table.rows (at / 128) s is).ends)
+
+  pub own_ends : (rest : ℕ) → s.rest ≡ Some rest → AnyAmong code (own_at states (at / 128)) [] → AnyAmong code (places_at states (at / 128)) []
+  own_ends rest has h = ((rest_at code states cells at s rest table is has).union []).1 (inr h)
+
+  pub rest_ends : (rest : ℕ) (b : Bool) → s.rest ≡ Some rest → b ≡ false → (IsTrue b ↔ AnyAmong code (own_at states (at / 128)) [])
+      → AnyAmong code (places_at states (at / 128)) [] ↔ AnyAmong code (places_at states (rest / 128)) []
+  rest_ends rest b has unsaid ends =
+      let union = (rest_at code states cells at s rest table is has).union [] in (
+        (λ h. elim (union.0 h) [ inl g ↦ g | inr g ↦ absurd (true≢false (sym (ends.1 g) ∙ unsaid)) ]),
+        (λ h. union.1 (inl h)),
+      )

@@ -1,0 +1,122 @@
+use Rattle.std.proofs.Common.{◌+◌, ◌/◌, ◌<◌, ℕ, ap, get_or, length, refl, rules, sym, ◌∙◌, subst, arith, inl, inr}
+use Rattle.wax_lazy.specs.inner.Cached.{AreStepped}
+use Rattle.wax_lazy.specs.inner.Table.{IsDead, IsTransition, KeepsStates, Leads, LeadOn, LeadsNext, TakesAll, places_at, places_led, own_at}
+use Rattle.wax_lazy.proofs.Caches.{cache_filled}
+use Rattle.wax_lazy.proofs.Tables.{cell_as_part, leads_as_part, leads_known, leads_later, led_leads, led_parted, part_takes_all, parts_lead, place_inside, placed_keeps, rest_at, rest_later, says_at}
+use Rattle.wax_lazy.proofs.cache.Cache.+follow.Goals as goal
+
+pub follow-follow_known-requires : goal.follow-follow_known-requires
+follow-follow_known-requires t c =
+    let was = c.requires.cache in
+    let held = rest_at c.args.program.now.0 c.args.self.now.table.states.items c.args.self.now.table.cells.items c.args.at c.state.result.now c.in-Some.rest was.table c.state.ensures c.in-Some.is in
+    let ascii : c.args.c < 128 = search rules in (
+      omega (arith, c.decreases, c.if-depth-eq0.false),
+      (
+        record { size = was.size; start = was.start; table = was.table; first = was.first },
+        (held.placed, (omega (arith, c.requires.few), ascii)),
+      ),
+    )
+
+pub follow-returns-in-Everything-clause-cache : goal.follow-returns-in-Everything-clause-cache
+follow-returns-in-Everything-clause-cache t c =
+    let code = c.args.program.now.0 in
+    let was = c.requires.cache in
+    let old = c.args.self.now.table.states.items in
+    let new = c.follow_known.new.self.table.states.items in
+    let keeps = c.in_ok-next.ensures.grows.kept in
+    let now = c.follow_known.ensures.cache in
+    let later = rest_later code old new c.args.self.now.table.cells.items c.args.at c.state.result.now c.in-Some.rest was.table c.requires.placed c.state.ensures c.in-Some.is keeps in
+    let leads = leads_later code old new c.args.self.now.table.cells.items c.args.at c.state.result.now c.in-Some.rest c.args.c c.in_ok-next.next was.table c.state.ensures c.in-Some.is keeps c.in_ok-next.ensures.leads in
+    let rest = rw c.in-Everything.is at leads in
+    let all = part_takes_all code c.args.c (places_at old (c.args.at / 128)) (places_at new (c.in-Some.rest / 128)) (own_at new (c.args.at / 128)) later.union rest in
+    let here = subst (λ z. TakesAll code z c.args.c) (sym (keeps (c.args.at / 128) c.requires.placed.kept).1) all in
+    cache_filled code c.follow_known.new.self _ c.args.at c.args.c 2 now (placed_keeps old new keeps c.args.at c.requires.placed) (inr (inr (inl (refl, here))))
+    now.size refl refl c.write.ensures.states c.write.ensures.filled c.write.ensures.unfilled
+
+pub follow-returns-in-Everything-clause-leads : goal.follow-returns-in-Everything-clause-leads
+follow-returns-in-Everything-clause-leads t c =
+    let code = c.args.program.now.0 in
+    let was = c.requires.cache in
+    let old = c.args.self.now.table.states.items in
+    let new = c.follow_known.new.self.table.states.items in
+    let keeps = c.in_ok-next.ensures.grows.kept in
+    let later = rest_later code old new c.args.self.now.table.cells.items c.args.at c.state.result.now c.in-Some.rest was.table c.requires.placed c.state.ensures c.in-Some.is keeps in
+    let leads = leads_later code old new c.args.self.now.table.cells.items c.args.at c.state.result.now c.in-Some.rest c.args.c c.in_ok-next.next was.table c.state.ensures c.in-Some.is keeps c.in_ok-next.ensures.leads in
+    let rest = rw c.in-Everything.is at leads in
+    let all = part_takes_all code c.args.c (places_at old (c.args.at / 128)) (places_at new (c.in-Some.rest / 128)) (own_at new (c.args.at / 128)) later.union rest in
+    subst (λ n. LeadsNext code c.write.new.self.states.items (places_at old (c.args.at / 128)) c.args.c n) (sym c.in-Everything.is) all
+
+pub follow-copy_cell-requires : goal.follow-copy_cell-requires
+follow-copy_cell-requires t c =
+    let code = c.args.program.now.0 in
+    let was = c.requires.cache in
+    let old = c.args.self.now.table.states.items in
+    let new = c.step_own.new.self.table.states.items in
+    let same = ap (λ z. z.states.items) c.step_own.ensures.table in
+    let keeps = subst (KeepsStates old) (sym same) c.in_ok-next.ensures.grows.kept in
+    let now = c.step_own.ensures.cache in
+    let ascii : c.args.c < 128 = search rules in
+    let later = rest_later code old new c.args.self.now.table.cells.items c.args.at c.state.result.now c.in-Some.rest was.table c.requires.placed c.state.ensures c.in-Some.is keeps in
+    record {
+      ascii = ascii;
+      from = place_inside code new c.step_own.new.self.table.cells.items c.in-Some.rest c.args.c now.table later.placed ascii;
+      to = place_inside code new c.step_own.new.self.table.cells.items c.args.at c.args.c now.table (placed_keeps old new keeps c.args.at c.requires.placed) ascii;
+    }
+
+pub follow-returns-then-not-leads : goal.follow-returns-then-not-leads
+follow-returns-then-not-leads t c =
+    let code = c.args.program.now.0 in
+    let was = c.requires.cache in
+    let old = c.args.self.now.table.states.items in
+    let new = c.step_own.new.self.table.states.items in
+    let cells = c.step_own.new.self.table.cells.items in
+    let same = ap (λ z. z.states.items) c.step_own.ensures.table in
+    let keeps = subst (KeepsStates old) (sym same) c.in_ok-next.ensures.grows.kept in
+    let now = c.step_own.ensures.cache in
+    let rest : ℕ = c.in-Some.rest in
+    let ascii : c.args.c < 128 = search rules in
+    let later = rest_later code old new c.args.self.now.table.cells.items c.args.at c.state.result.now rest was.table c.requires.placed c.state.ensures c.in-Some.is keeps in
+    let known = subst (λ z. LeadsNext code z (places_at old (rest / 128)) c.args.c c.in_ok-next.next) (sym same) c.in_ok-next.ensures.leads in
+    let leads = leads_later code old new c.args.self.now.table.cells.items c.args.at c.state.result.now rest c.args.c c.in_ok-next.next was.table c.state.ensures c.in-Some.is keeps known in
+    let dead = subst (λ z. IsDead code (own_at z (c.args.at / 128)) c.args.c) (sym same) (c.in_ok-leads.ensures.nowhere c.if-not-leads.true) in
+    let cell : ℕ = get_or cells (rest + c.args.c) 0 in
+    let says = says_at code new cells rest c.args.c now.table later.placed ascii in
+    let own = cell_as_part code c.args.c (places_at old (c.args.at / 128)) (places_at new (rest / 128)) (own_at new (c.args.at / 128)) later.union dead new cell says in
+    let here = subst (λ z. IsTransition code new z c.args.c cell) (sym (keeps (c.args.at / 128) c.requires.placed.kept).1) own in
+    record {
+      cache = cache_filled code c.step_own.new.self _ c.args.at c.args.c cell now (placed_keeps old new keeps c.args.at c.requires.placed) here
+          now.size refl refl c.copy_cell.ensures.states (λ _. c.copy_cell.ensures.cells) (λ past. absurd (omega (arith, past, ascii)));
+      start = c.step_own.ensures.start ∙ c.follow_known.ensures.start;
+      leads = rw c.copy_cell.ensures.states (leads_as_part code c.args.c (places_at old (c.args.at / 128)) (places_at new (rest / 128)) (own_at new (c.args.at / 128)) later.union dead new c.in_ok-next.next leads);
+      grows = record {
+        kept = subst (λ z. KeepsStates old z.items) (sym c.copy_cell.ensures.states) keeps;
+        few = omega (arith, ap (λ z. length z.items) c.copy_cell.ensures.states, ap length same, c.in_ok-next.ensures.grows.few);
+      };
+    }
+
+pub follow-enter-requires : goal.follow-enter-requires
+follow-enter-requires t c =
+    let code = c.args.program.now.0 in
+    let was = c.requires.cache in
+    let old = c.args.self.now.table.states.items in
+    let new = c.step_own.new.self.table.states.items in
+    let same = ap (λ z. z.states.items) c.step_own.ensures.table in
+    let keeps = subst (KeepsStates old) (sym same) c.in_ok-next.ensures.grows.kept in
+    let rest : ℕ = c.in-Some.rest in
+    let led = c.led-led.result in
+    let here = places_at old (c.args.at / 128) in
+    let part = places_at new (rest / 128) in
+    let own = own_at new (c.args.at / 128) in
+    let later = rest_later code old new c.args.self.now.table.cells.items c.args.at c.state.result.now rest was.table c.requires.placed c.state.ensures c.in-Some.is keeps in
+    let known = subst (λ z. LeadsNext code z (places_at old (rest / 128)) c.args.c c.in_ok-next.next) (sym same) c.in_ok-next.ensures.leads in
+    let leads = leads_later code old new c.args.self.now.table.cells.items c.args.at c.state.result.now rest c.args.c c.in_ok-next.next was.table c.state.ensures c.in-Some.is keeps known in
+    let by = subst (λ z. Leads code new part c.args.c z) (sym c.led-led.ensures) (leads_known code new part c.args.c c.in_ok-next.next leads c.in_default-next.not-Everything) in
+    let stepped = subst (λ z. AreStepped code z c.args.at led c.args.c c.step_own.new.self) (sym same) (c.in_ok-leads.ensures.reaches c.if-not-leads.false) in
+    let next = parts_lead code c.args.c here part own (places_led new led) c.step_own.new.self.reached.items later.union (led_leads code new part c.args.c led by) stepped.reached in
+    record {
+      cache = c.step_own.ensures.cache;
+      placed = placed_keeps old new keeps c.args.at c.requires.placed;
+      few = omega (arith, ap length same, c.in_ok-next.ensures.grows.few, c.requires.few, c.if-depth-eq0.false);
+      next = subst (λ z. LeadOn code c.args.c z c.step_own.new.self.reached.items) (sym (keeps (c.args.at / 128) c.requires.placed.kept).1) next;
+      led = led_parted code new part c.args.c own c.step_own.new.self.reached.items c.step_own.new.self.others.items led by stepped.reached stepped.others;
+    }

@@ -1,0 +1,42 @@
+use Rattle.std.proofs.Common.{◌/◌, [], refl, sym, ◌∙◌, subst}
+use Rattle.wax_lazy.specs.inner.Table.{IsStatePlace, places_at}
+use Rattle.wax_lazy.proofs.Lone.{own_ends, rest_ends, said_ends}
+use Rattle.wax_lazy.proofs.Tables.{rest_at}
+use Rattle.wax_lazy.proofs.Walking.{decides_by}
+use Rattle.wax_program.specs.Threads.{AnyAmong}
+use Rattle.wax_lazy.proofs.cache.Cache.computed.Goals as goal
+
+pub returns-in-Some-clause-accepts : goal.returns-in-Some-clause-accepts
+returns-in-Some-clause-accepts c =
+    let l = c.loop-part in
+    let held = l.invariant in
+    let ends = said_ends c.args.program.now.0 l.self.table.states.items l.self.table.cells.items l.here c.state-state.result.now held.cache.table c.state-state.ensures c.in-Some.accepts c.in-Some.is in
+    decides_by c.in-Some.accepts _ _ (held.same.1, held.same.0) ends
+
+pub returns-then-own_accept-clause-accepts : goal.returns-then-own_accept-clause-accepts
+returns-then-own_accept-clause-accepts c =
+    let l = c.loop-part in
+    let held = l.invariant in
+    let all = own_ends c.args.program.now.0 l.self.table.states.items l.self.table.cells.items l.here c.state-state.result.now held.cache.table c.state-state.ensures c.in-Some-rest.rest c.in-Some-rest.is (c.own_accept.ensures.accepts.0 c.if-own_accept.true) in
+    ((λ _. held.same.1 all), (λ _. refl))
+
+pub loop-part-preserved : goal.loop-part-preserved
+loop-part-preserved c =
+    let l = c.loop-part in
+    let held = l.invariant in
+    let code = c.args.program.now.0 in
+    let rest = c.in-Some-rest.rest in
+    let parted = rest_at code l.self.table.states.items l.self.table.cells.items l.here c.state-state.result.now rest held.cache.table c.state-state.ensures c.in-Some-rest.is in
+    let ends = rest_ends code l.self.table.states.items l.self.table.cells.items l.here c.state-state.result.now held.cache.table c.state-state.ensures rest c.own_accept.result c.in-Some-rest.is c.if-own_accept.false c.own_accept.ensures.accepts in
+    let now = c.own_accept.ensures.table in
+    record {
+      cache = c.own_accept.ensures.cache;
+      start = c.own_accept.ensures.start ∙ held.start;
+      table = now ∙ held.table;
+      first = c.own_accept.ensures.first ∙ held.first;
+      placed = subst (λ z. IsStatePlace z.states.items rest) (sym now) parted.placed;
+      same = (
+        (λ h. subst (λ z. AnyAmong code (places_at z.states.items (rest / 128)) []) (sym now) (ends.0 (held.same.0 h))),
+        (λ h. held.same.1 (ends.1 (subst (λ z. AnyAmong code (places_at z.states.items (rest / 128)) []) now h))),
+      );
+    }

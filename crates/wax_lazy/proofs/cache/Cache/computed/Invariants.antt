@@ -1,0 +1,15 @@
+use Rattle.std.proofs.Common.{◌≡◌, ◌↔◌, ◌/◌, []}
+use Rattle.wax_lazy.specs.inner.Cached.{IsCacheOf}
+use Rattle.wax_lazy.specs.inner.Table.{IsStatePlace, places_at}
+use Rattle.wax_program.specs.Threads.{AnyAmong}
+use Rattle.wax_lazy.proofs.cache.Cache.computed.Given as goal
+
+abbrev pub invariant-loop-part : goal.invariant-loop-part
+invariant-loop-part l = record {
+  cache : IsCacheOf l.program.0 l.self;
+  start : l.self.start ≡ l.fn.self.start;
+  table : l.self.table ≡ l.fn.self.table;
+  first : l.self.first ≡ l.fn.self.first;
+  placed : IsStatePlace l.self.table.states.items l.here;
+  same : AnyAmong l.program.0 (places_at l.fn.self.table.states.items (l.at / 128)) [] ↔ AnyAmong l.program.0 (places_at l.self.table.states.items (l.here / 128)) [];
+}

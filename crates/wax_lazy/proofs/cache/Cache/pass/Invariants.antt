@@ -1,0 +1,24 @@
+use Rattle.std.proofs.Common.{◌≡◌, ◌↔◌, ◌⊎◌, ◌<◌, ◌≤◌, ◌-◌, ℕ, List, IfSome, drop, get_or, length, true}
+use Rattle.wax_lazy.specs.inner.Cached.{IsCacheOf, IsLone}
+use Rattle.wax_lazy.specs.inner.Table.{IsStatePlace, places_led}
+use Rattle.wax_program.specs.Checks.{IsCheckAt}
+use Rattle.wax_program.specs.Machine.{Accepts}
+use Rattle.wax_program.specs.Threads.{AnyAmong}
+use Rattle.wax_lazy.proofs.cache.Cache.pass.Given as goal
+
+abbrev pub invariant-loop-next : goal.invariant-loop-next
+invariant-loop-next l = record {
+  cache : IsCacheOf l.program.0 l.self;
+  start : l.self.start ≡ l.fn.self.start;
+  placed : IfSome l.here.rest (IsStatePlace l.self.table.states.items);
+  few : length l.self.table.states.items < 60000;
+  from : l.fn.index ≤ l.end;
+  within : l.end < length l.text;
+  check : IsCheckAt l.program.0 l.here.place (get_or l.text l.end 0) true;
+  stays : (places : List ℕ) → IsLone l.program.0 l.fn.self.table.states.items places l.fn.lone
+      → AnyAmong l.program.0 places (drop l.fn.index l.text)
+      ↔ (AnyAmong l.program.0 (places_led l.self.table.states.items l.here.rest) (drop l.end l.text) ⊎ Accepts l.program.0 l.here.place (drop l.end l.text));
+}
+
+abbrev pub decreases-loop-next : goal.decreases-loop-next
+decreases-loop-next l = length l.text - l.end
