@@ -126,8 +126,8 @@ fn has_letters(letters: &[char], is_folded: bool, text: &Text<'_>, at: usize) ->
     if letters.len() > text.len() - at {
         return false;
     }
-    for index in 0..letters.len() {
-        if !is_letter(is_folded, letters[index], text.char_after(at, index)) {
+    for n in 0..letters.len() {
+        if !is_letter(is_folded, letters[n], text.char_after(at, n)) {
             return false;
         }
     }

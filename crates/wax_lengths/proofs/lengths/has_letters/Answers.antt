@@ -17,13 +17,13 @@ returns-then-not-is_letter c = λ no n h.
     let text : List ℕ = c.args.text.now in
     let letters : List ℕ = c.args.letters.now in
     let at : ℕ = c.args.at in
-    let i : ℕ = c.loop-index.index in
+    let i : ℕ = c.loop-n.n in
     let a : ℕ = c.char_after.result in
-    let b : ℕ = c.index-letters-index.result in
-    let lt : i < length letters = c.loop-index-test.true in
+    let b : ℕ = c.index-letters-n.result in
+    let lt : i < length letters = c.loop-n-test.true in
     let (within, is) = spelled_at c.args.is_folded letters (drop at text) n i h lt in
     let inside : at + i < length text = omega (arith, within, length-drop at text) in
     let read : a ≡ get_or (drop at text) i 0 = c.char_after.ensures ∙ read_within text (at + i) a 0 inside ∙ sym (get_or-drop at text i 0) in
-    let letter : b ≡ get_or letters i 0 = c.index-letters-index.is ∙ read_within letters i b 0 lt in
+    let letter : b ≡ get_or letters i 0 = c.index-letters-n.is ∙ read_within letters i b 0 lt in
     let fails : IsLetter c.args.is_folded b a → ⊥ = search rules in
     fails (subst (λ z. IsLetter c.args.is_folded z a) (sym letter) (subst (λ z. IsLetter c.args.is_folded (get_or letters i 0) z) (sym read) is))
