@@ -5,7 +5,6 @@ pub mod LastNames
 pub mod Lists
 mod Slashes
 pub mod Members
-pub mod Starts
 pub mod Staying
 pub mod Steps
 pub mod Words
