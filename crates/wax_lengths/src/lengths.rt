@@ -340,9 +340,8 @@ fn lengths_of_program(
     ensures above { visits.new ≤ visits.old + program_size program.now * (length text.now + 1) }
     ensures steady { visits.old ≤ visits.new }
 {
-    let rest = text.rest(alloc, at)?;
-    let mut flags = Vec::with_capacity(alloc, rest.len() + 1)?;
-    visits.run_ends(alloc, program, rest.as_slice(), &mut flags)?;
+    let mut flags = Vec::with_capacity(alloc, text.len() - at + 1)?;
+    visits.run_ends(alloc, program, text, at, &mut flags)?;
     Ok(LengthSpan {
         low: 0,
         end: flags.len(),

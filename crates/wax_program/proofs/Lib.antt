@@ -1,5 +1,4 @@
 pub mod Advancing
-pub mod Beginnings
 pub mod Bits
 pub mod LastNames
 pub mod Lists
