@@ -48,7 +48,6 @@ bench: globs
 	bench/table
 	bench/run
 	bench/families
-	bench/alternatives
 	bench/lists
 	bench/shards
 

@@ -1,26 +1,31 @@
 //! Forms of letters, found by their first letters.
-ghost use Rattle.std.specs.Prelude.{◌≡◌, ◌<◌, ◌≤◌, Some, IfOk, IsTrue, length, drop};
+ghost use Rattle.std.specs.Prelude.{◌≡◌, ◌<◌, ◌≤◌, Some, IfOk, IsTrue, ℕ, length, drop};
 ghost use Rattle.wax_capture.specs.Pieces.{forms_of};
-ghost use Rattle.wax_capture.specs.inner.Letters.{ArePassed, NoneBegins, first_letter};
+ghost use Rattle.wax_capture.specs.inner.Letters.{ArePassed, NoneBegins};
+ghost use Rattle.wax_capture.specs.inner.Letters.{first_letter, group_of, is_folded, letter_of};
 
 use crate::piece::Ways;
 use std::alloc::{AllocError, Global};
 use std::marker::Model;
+use unicode::case::simple_fold;
 use wax_lengths::{Form, Text, may_spell};
 
-/// The number of ASCII characters.
-const ASCII: usize = 128;
+/// The number of groups of letters. Each ASCII letter has a group that no other ASCII letter has.
+const GROUPS: usize = 128;
 
 /// Fewer forms than these are looked through in their order.
 const LEAST: usize = 8;
 
-/// Forms of letters. Those that begin with the same ASCII letter are linked in their order.
+/// Forms of letters, all of them in one case, or all in any case. Those that begin with a letter of
+/// the same group are linked in their order.
 #[derive(Drop)]
 pub struct ByLetter {
     forms: Vec<Form>,
-    /// For each ASCII character, the first form that begins with it.
+    /// True if the letters are simple case foldings, and match in any case.
+    is_folded: bool,
+    /// For each group, the first form that begins with a letter of it.
     firsts: Vec<usize>,
-    /// For each form, the next one that begins with the same letter.
+    /// For each form, the next one that begins with a letter of the same group.
     nexts: Vec<usize>,
 }
 
@@ -37,7 +42,7 @@ impl Model for ByLetter {
 
     ghost view = { λ b. b.forms.items };
 
-    ghost invariant = { λ b. AreLinked b.forms.items b.firsts.items b.nexts.items 0 };
+    ghost invariant = { λ b. AreLinked b.forms.items b.is_folded b.firsts.items b.nexts.items 0 };
 }
 
 impl ByLetter {
@@ -55,60 +60,84 @@ impl ByLetter {
         ensures further { from ≤ result }
         ensures passed { ArePassed self.now from result (drop at text.now) }
     {
-        if at == text.len() || !text.char_at(at).is_ascii() {
+        if at == text.len() {
             return self.forms.len().max(from);
         }
-        let letter = text.char_at(at);
-        let mut index = self.next_with(from, letter);
+        let group = group_of(letter_of(self.is_folded, text.char_at(at)));
+        let mut index = self.next_in(from, group);
         while index < self.forms.len() && !may_spell(&self.forms[index], text, at) {
-            index = self.next_with(index + 1, letter);
+            index = self.next_in(index + 1, group);
         }
         index
     }
 
-    /// Returns the index of the first form, from `from` on, that begins with the letter. If the
-    /// form before doesn't begin with it, `from` is returned.
+    /// Returns the index of the first form, from `from` on, that begins with a letter of the group.
+    /// If the form before doesn't begin with one, `from` is returned.
     #[inline]
-    fn next_with(&self, from: usize, letter: char) -> usize
-        requires { letter < 128 }
+    fn next_in(&self, from: usize, group: usize) -> usize
+        requires { group < 128 }
         ensures further { from ≤ result }
-        ensures none { NoneBegins self.now from result letter }
+        ensures none { NoneBegins self.now from result group }
     {
         if from == 0 {
-            return self.firsts[letter as usize];
+            return self.firsts[group];
         }
-        if from <= self.forms.len() && begins_with(&self.forms[from - 1], letter) {
+        if from <= self.forms.len() && begins_in(&self.forms[from - 1], group) {
             return self.nexts[from - 1].max(from);
         }
         from
     }
 }
 
-/// Returns the first letter, if the form takes one text that isn't empty.
+/// Returns the letter with which the form begins, if it takes letters.
 fn first_letter(form: &Form) -> Option<char>
     ensures { result ≡ first_letter form.now }
 {
     match form {
-        Form::Text(letters, is_folded) => {
-            if *is_folded || letters.is_empty() {
-                return None;
-            }
-            Some(letters[0])
-        }
+        Form::Text(letters, _) => letters.first().copied(),
         _ => None,
     }
 }
 
-fn begins_with(form: &Form, letter: char) -> bool
-    ensures { IsTrue result → first_letter form.now ≡ Some letter }
+/// Returns whether the form takes letters in any case.
+fn is_folded(form: &Form) -> bool
+    ensures { result ≡ is_folded form.now }
+{
+    match form {
+        Form::Text(_, is_folded) => *is_folded,
+        _ => false,
+    }
+}
+
+/// Returns the letter that a form may have for the character: the character itself, or its simple
+/// case folding if `is_folded`.
+#[inline]
+fn letter_of(is_folded: bool, c: char) -> char
+    ensures { result ≡ letter_of is_folded c }
+{
+    if is_folded { simple_fold(c) } else { c }
+}
+
+/// Returns the group of the letter.
+#[inline]
+fn group_of(letter: char) -> usize
+    ensures is { result ≡ group_of letter }
+    ensures within { result < 128 }
+{
+    letter as usize % GROUPS
+}
+
+fn begins_in(form: &Form, group: usize) -> bool
+    ensures { IsTrue result → (c : ℕ) × (first_letter form.now ≡ Some c) × (group_of c ≡ group) }
 {
     match first_letter(form) {
-        Some(first) => first == letter,
+        Some(letter) => group_of(letter) == group,
         None => false,
     }
 }
 
-/// Links the forms if there are many, each with an ASCII letter at its beginning.
+/// Links the forms if there are many, each with a letter at its beginning, and all of them in one
+/// case, or all in any case.
 ///
 /// # Errors
 ///
@@ -119,22 +148,26 @@ pub fn linked(alloc: Global, forms: Vec<Form>) -> Result<Ways, AllocError>
     if forms.len() < LEAST {
         return Ok(Ways::Each(forms));
     }
-    let mut firsts = vec![in alloc; forms.len(); ASCII]?;
+    let is_any_case = is_folded(&forms[0]);
+    let mut firsts = vec![in alloc; forms.len(); GROUPS]?;
     let mut nexts = vec![in alloc; 0usize; forms.len()]?;
     let mut index = forms.len();
     while index > 0 {
         index -= 1;
-        let Some(letter) = first_letter(&forms[index]) else {
+        let form = &forms[index];
+        let Some(letter) = first_letter(form) else {
             return Ok(Ways::Each(forms));
         };
-        if !letter.is_ascii() {
+        if is_folded(form) != is_any_case {
             return Ok(Ways::Each(forms));
         }
-        nexts[index] = firsts[letter as usize];
-        firsts[letter as usize] = index;
+        let group = group_of(letter);
+        nexts[index] = firsts[group];
+        firsts[group] = index;
     }
     Ok(Ways::Linked(ByLetter {
         forms,
+        is_folded: is_any_case,
         firsts,
         nexts,
     }))

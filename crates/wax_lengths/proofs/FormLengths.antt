@@ -103,13 +103,13 @@ spelled_each f (k ∷ ls) [] h j l c lt le ce long = absurd (omega (arith, long)
 spelled_each f (k ∷ ls) (d ∷ s) h zero l c lt le ce long = subst (λ z. IsLetter f z c) (sym le) (subst (IsLetter f k) (sym ce) h.0)
 spelled_each f (k ∷ ls) (d ∷ s) h (suc j) l c lt le ce long = spelled_each f ls s h.1 j l c (omega (arith, lt)) le ce (omega (arith, long))
 
--- each letter stands where it is spelled
-pub spelled_at : (ls s : List ℕ) (n j : ℕ) → SpelledBy false ls (take n s) → j < length ls → (j < length s) × (get_or s j 0 ≡ get_or ls j 0)
-spelled_at [] s n j h lt = absurd (omega (arith, lt))
-spelled_at (l ∷ ls) s zero j h lt = absurd h
-spelled_at (l ∷ ls) [] (suc n) j h lt = absurd h
-spelled_at (l ∷ ls) (d ∷ s) (suc n) zero h lt = (omega arith, h.0)
-spelled_at (l ∷ ls) (d ∷ s) (suc n) (suc j) h lt = let (within, same) = spelled_at ls s n j h.1 (omega (arith, lt)) in (omega (arith, within), same)
+-- each letter is where it is spelled
+pub spelled_at : (f : Bool) (ls s : List ℕ) (n j : ℕ) → SpelledBy f ls (take n s) → j < length ls → (j < length s) × IsLetter f (get_or ls j 0) (get_or s j 0)
+spelled_at f [] s n j h lt = absurd (omega (arith, lt))
+spelled_at f (l ∷ ls) s zero j h lt = absurd h
+spelled_at f (l ∷ ls) [] (suc n) j h lt = absurd h
+spelled_at f (l ∷ ls) (d ∷ s) (suc n) zero h lt = (omega arith, h.0)
+spelled_at f (l ∷ ls) (d ∷ s) (suc n) (suc j) h lt = let (within, same) = spelled_at f ls s n j h.1 (omega (arith, lt)) in (omega (arith, within), same)
 
 -- the letters before a place stand there
 abbrev pub SpelledTo : Bool → List ℕ → List ℕ → ℕ → Type 0

@@ -1,3 +1,4 @@
+pub mod Beginnings
 pub mod FormLengths
 pub mod Lists
 pub mod Picking

@@ -1,3 +1,4 @@
+pub mod Ends
 pub mod Forms
 pub mod Prefers
 pub mod Spans

@@ -118,15 +118,16 @@ pub fn may_take(form: &Form, text: &Text<'_>, at: usize) -> bool
 }
 
 /// Returns whether the text has the letters at the place.
-fn has_letters(letters: &[char], text: &Text<'_>, at: usize) -> bool
+fn has_letters(letters: &[char], is_folded: bool, text: &Text<'_>, at: usize) -> bool
     requires { at ≤ length text.now }
-    ensures { IsFalse result → (n : ℕ) → SpelledBy false letters.now (take n (drop at text.now)) → ⊥ }
+    ensures { IsFalse result
+        → (n : ℕ) → SpelledBy is_folded letters.now (take n (drop at text.now)) → ⊥ }
 {
     if letters.len() > text.len() - at {
         return false;
     }
-    for index in 0..letters.len() {
-        if text.char_after(at, index) != letters[index] {
+    for n in 0..letters.len() {
+        if !is_letter(is_folded, letters[n], text.char_after(at, n)) {
             return false;
         }
     }
@@ -140,7 +141,7 @@ pub fn may_spell(form: &Form, text: &Text<'_>, at: usize) -> bool
     ensures { IsFalse result → (n : ℕ) → TakenBy form.now (take n (drop at text.now)) → ⊥ }
 {
     match form {
-        Form::Text(letters, is_folded) => *is_folded || has_letters(letters.as_slice(), text, at),
+        Form::Text(letters, is_folded) => has_letters(letters.as_slice(), *is_folded, text, at),
         _ => true,
     }
 }
@@ -339,9 +340,8 @@ fn lengths_of_program(
     ensures above { visits.new ≤ visits.old + program_size program.now * (length text.now + 1) }
     ensures steady { visits.old ≤ visits.new }
 {
-    let rest = text.rest(alloc, at)?;
-    let mut flags = Vec::with_capacity(alloc, rest.len() + 1)?;
-    visits.run_ends(alloc, program, rest.as_slice(), &mut flags)?;
+    let mut flags = Vec::with_capacity(alloc, text.len() - at + 1)?;
+    visits.run_ends(alloc, program, text, at, &mut flags)?;
     Ok(LengthSpan {
         low: 0,
         end: flags.len(),

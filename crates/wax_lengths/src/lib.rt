@@ -1,6 +1,7 @@
 //! The lengths of the parts of a text that a form takes, where a form is a set of texts.
 #![tactic(auto)]
 
+mod ends;
 mod form;
 mod lengths;
 mod span;

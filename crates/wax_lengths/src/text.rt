@@ -1,5 +1,5 @@
 //! Texts whose characters are read by their places.
-ghost use Rattle.std.specs.Prelude.{◌≡◌, ◌+◌, ◌^◌, ◌<◌, ◌≤◌, IfOk, chars, drop, get_or, length};
+ghost use Rattle.std.specs.Prelude.{◌≡◌, ◌+◌, ◌^◌, ◌<◌, ◌≤◌, IfOk, chars, get_or, length};
 
 use std::alloc::{AllocError, Global};
 use std::marker::Model;
@@ -89,21 +89,5 @@ impl<'t> Text<'t> {
             Letters::Bytes(_) => place + n,
             Letters::Listed(_) => place + n,
         }
-    }
-
-    /// Lists the characters from a place on.
-    ///
-    /// # Errors
-    ///
-    /// Returns `AllocError` if allocation fails.
-    pub fn rest(&self, alloc: Global, at: usize) -> Result<Vec<char>, AllocError>
-        requires { at ≤ length self.now }
-        ensures { IfOk result (λ v. v.items ≡ drop at self.now) }
-    {
-        let mut characters = Vec::with_capacity(alloc, self.len() - at)?;
-        for index in at..self.len() {
-            characters.push(self.char_at(index))?;
-        }
-        Ok(characters)
     }
 }

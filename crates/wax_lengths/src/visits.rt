@@ -1,10 +1,12 @@
 //! Counting how often instructions of programs and characters of texts are looked at.
-ghost use Rattle.std.specs.Prelude.{◌≡◌, ◌+◌, ◌*◌, ◌^◌, ◌<◌, ◌≤◌, OnOk, length};
-ghost use Rattle.wax_program.specs.Ends.{MarksBeginnings};
+ghost use Rattle.std.specs.Prelude.{◌≡◌, ◌+◌, ◌*◌, ◌^◌, ◌<◌, ◌≤◌, OnOk, drop, length};
+ghost use Rattle.wax_lengths.specs.Ends.{MarksBeginnings};
 
+use crate::ends::run_ends;
+use crate::text::Text;
 use std::alloc::{AllocError, Global};
 use std::marker::Model;
-use wax_program::{CompiledProgram, Meter, run_ends};
+use wax_program::{CompiledProgram, Meter};
 
 /// The number of instructions that were read, and of characters that were looked at without one. It
 /// stays at its greatest number once it reaches it.
@@ -50,8 +52,8 @@ impl Visits {
         self.characters = self.characters.saturating_add(characters as u128);
     }
 
-    /// Fills `ends` with one flag for each beginning of the text, from the empty one on: whether
-    /// the program accepts it. Flags that are missing at the end count as `false`.
+    /// Fills `ends` with one flag for each part of the text that begins at `at`, from the empty one
+    /// on: whether the program accepts it. Flags that are missing at the end count as `false`.
     ///
     /// # Errors
     ///
@@ -60,15 +62,17 @@ impl Visits {
         &mut self,
         alloc: Global,
         program: &CompiledProgram,
-        text: &[char],
+        text: &Text<'_>,
+        at: usize,
         ends: &mut Vec<bool>,
     ) -> Result<(), AllocError>
-        ensures marked { OnOk result
-            (MarksBeginnings program.now.0 text.now ends.new.items (length text.now + 1)) }
-        ensures few { OnOk result (length ends.new.items ≤ length text.now + 1) }
+        requires { at ≤ length text.now }
+        ensures marked { OnOk result (MarksBeginnings program.now.0 (drop at text.now) ends.new.items
+            (length (drop at text.now) + 1)) }
+        ensures few { OnOk result (at + length ends.new.items ≤ length text.now + 1) }
         ensures above { self.new ≤ self.old + length program.now.0 * (length text.now + 1) }
         ensures steady { self.old ≤ self.new }
     {
-        run_ends(alloc, program, text, ends, &mut self.meter)
+        run_ends(alloc, program, text, at, ends, &mut self.meter)
     }
 }

@@ -1,11 +1,9 @@
 pub mod Advancing
-pub mod Beginnings
 pub mod Bits
 pub mod LastNames
 pub mod Lists
 mod Slashes
 pub mod Members
-pub mod Starts
 pub mod Staying
 pub mod Steps
 pub mod Words

@@ -1,9 +1,10 @@
 //! Times matches, captures, builds and walks. Prints a line for each expression or folder, with
 //! tabs between its fields.
 //!
-//! `time match EXPR..` matches each line of standard input, `time matcher EXPR..` does so by one
-//! matcher, and `time captures EXPR..` with captures. They print nanoseconds and visits for each
-//! line (a matcher counts no visits), and how many lines match.
+//! `time match EXPR..` matches each line of standard input, and `time captures EXPR..` with
+//! captures. `time matcher EXPR..` does the former by one matcher, and `time captures-by-matcher
+//! EXPR..` captures only from lines that one matcher accepts. They print nanoseconds and visits for
+//! each line (a matcher counts no visits), and how many lines match.
 //!
 //! `time new EXPR..` builds each glob many times. It prints nanoseconds for each build, and how
 //! many succeeded.
@@ -36,6 +37,7 @@ enum Timed {
     Matches,
     Matcher,
     Captures,
+    CapturesByMatcher,
 }
 
 /// Times what the arguments after `time` say.
@@ -61,6 +63,7 @@ fn time_word(rt: HostRuntime, job: &str, word: &str, given: &str) -> io::Result<
         "match" => time_lines(rt, Timed::Matches, word, given),
         "matcher" => time_lines(rt, Timed::Matcher, word, given),
         "captures" => time_lines(rt, Timed::Captures, word, given),
+        "captures-by-matcher" => time_lines(rt, Timed::CapturesByMatcher, word, given),
         "new" => time_new(rt, word),
         "build" => time_build(rt, given.trim_end()),
         _ => time_walk(rt, word),
@@ -82,6 +85,7 @@ fn time_glob(rt: HostRuntime, timed: Timed, glob: &Glob<'_>, lines: &[&str]) -> 
         Timed::Matches => match_lines(rt.alloc(), glob, lines),
         Timed::Matcher => match_by_matcher(rt.alloc(), glob, lines),
         Timed::Captures => capture_lines(rt.alloc(), glob, lines),
+        Timed::CapturesByMatcher => capture_by_matcher(rt.alloc(), glob, lines),
     };
     let time = start.elapsed(&rt)?;
     let Ok(matches) = answer else {
@@ -133,6 +137,20 @@ fn capture_lines(alloc: Global, glob: &Glob<'_>, lines: &[&str]) -> Result<Match
         visits = visits.saturating_add(answer.1);
     }
     Ok(Matches { matched, visits })
+}
+
+/// Matches each line by one matcher, and those that match with captures.
+fn capture_by_matcher(alloc: Global, glob: &Glob<'_>, lines: &[&str]) -> Result<Matches, NoMemory> {
+    let mut matched: u64 = 0;
+    let mut matcher = glob.matcher(alloc)?;
+    for line in lines {
+        let path = CandidatePath::from(*line);
+        if matcher.is_match(&path)? {
+            let answer = glob.matched(alloc, &path)?;
+            matched = matched.saturating_add(answer.is_some() as u64);
+        }
+    }
+    Ok(Matches { matched, visits: 0 })
 }
 
 fn time_new(rt: HostRuntime, expression: &str) -> io::Result<()> {
