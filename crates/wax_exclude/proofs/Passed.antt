@@ -13,7 +13,7 @@ use Rattle.wax_token.specs.Words.{members, trees}
 use Rattle.wax_walk.specs.Given.{Facts, Mark, kept, alone, with_tree, combined_mark}
 use Rattle.wax_exclude.proofs.Descending.{covers_some_meant}
 use Rattle.wax_exclude.proofs.Excluding.{not_truly, same_truth}
-use Rattle.wax_alternatives.proofs.Joining.{some_append}
+use Rattle.wax_alternatives.proofs.Joining.{as_members, of_members, some_append}
 use Rattle.wax_exclude.proofs.ListingLines.{after_line, at_end, mark_from}
 use Rattle.wax_exclude.proofs.Tests.{covers_tested, wild_tested}
 use Rattle.wax_exclude.specs.Candidates.{Candidate, candidate_of}
@@ -24,7 +24,7 @@ use Rattle.wax_exclude.specs.Marks.{covered_mark}
 use Rattle.wax_exclude.specs.declared.blocks.Block.{Block}
 use Rattle.wax_exclude.specs.declared.rules.IgnoreLine.{IgnoreLine}
 use Rattle.wax_exclude.specs.inner.Blocks.{AcceptsSome, IsBlockOf, KnowsLines, SomeMeans, alternatives_in, lines_between, mark_passed, marks_after, some_ignores, some_reincludes}
-use Rattle.wax_alternatives.specs.Joined.{SameTexts}
+use Rattle.wax_alternatives.specs.Joined.{MeansOneOf, SameTexts}
 use Rattle.wax_exclude.specs.inner.Listed.{ignored_by, listed_mark, mark_after}
 
 -- ---- line after line
@@ -341,8 +341,8 @@ module _ (block : Block) (lines : List IgnoreLine) (k : KnowsLines block lines) 
 -- ---- programs of alternatives
 
 pub accepts_some : (held us : List (Tree Span)) (program : Instructions) (t : Tree Span) (zs : Trees Span) → zs ≡ members t
-    → t ≡ alternation (0, 0) (trees us) → SameTexts held us → ((s : List ℕ) → Accepts program.0 0 s ↔ MeansEach zs false false s) → AcceptsSome program.0 held
-accepts_some held us program t zs e same texts means s = (
-  (λ a. (texts false false s).1 (subst (λ z. MeansEach z false false s) (e ∙ ap members same) ((means s).0 a))),
-  (λ m. (means s).1 (subst (λ z. MeansEach z false false s) (sym (e ∙ ap members same)) ((texts false false s).0 m))),
+    → MeansOneOf t us → SameTexts held us → ((s : List ℕ) → Accepts program.0 0 s ↔ MeansEach zs false false s) → AcceptsSome program.0 held
+accepts_some held us program t zs e one texts means s = (
+  (λ a. (texts false false s).1 ((one false false s).0 (of_members t false false s (subst (λ z. MeansEach z false false s) e ((means s).0 a))))),
+  (λ m. (means s).1 (subst (λ z. MeansEach z false false s) (sym e) (as_members t false false s ((one false false s).1 ((texts false false s).0 m))))),
 )

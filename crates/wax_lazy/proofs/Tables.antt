@@ -9,7 +9,7 @@ use Rattle.wax_lazy.specs.declared.table.Next.TheVariants.{To, Nothing, Everythi
 use Rattle.wax_lazy.specs.inner.Table.{BeginsTexts, IsDead, IsRest, IsSettled, IsState, IsStatePlace, IsTable, IsTransition, IsUnion, KeepsStates, LeadOn, Leads, LeadsNext, LeadsTo, TakesAll, led_of, own_at, own_in, places_at, places_in, places_led}
 use Rattle.wax_program.specs.declared.instruction.Instruction.{Instruction}
 use Rattle.wax_program.specs.Machine.{Accepts}
-use Rattle.wax_lazy.specs.inner.Listed.{AreReached, taken_if}
+use Rattle.wax_stepper.specs.Reached.{AreReached, taken_if}
 use Rattle.wax_program.specs.Threads.{AnyAmong, AreParts}
 
 -- ---- lists

@@ -1,3 +1,2 @@
 pub mod Cached
-pub mod Listed
 pub mod Table

@@ -11,11 +11,11 @@ ghost use Rattle.wax_program.specs.Checks.{IsCheckAt};
 ghost use Rattle.wax_program.specs.declared.instruction.Instruction.{Instruction};
 ghost use Rattle.wax_program.specs.Threads.{AnyAmong};
 
-use crate::stepper::Stepper;
 use crate::table::{ALL, COLUMNS, DEAD, FIRST, Next, State, Table};
 use std::alloc::{AllocError, Global};
 use std::mem;
 use wax_program::{CompiledProgram, check_at, has_loop, part_loops, place_of_all};
+use wax_stepper::Stepper;
 
 /// The size of a state in bytes, without its places: that of its cells, and about fifty more.
 const STATE_BYTES: usize = 306;

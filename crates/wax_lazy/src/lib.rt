@@ -4,10 +4,7 @@
 
 mod cache;
 mod known;
-mod listed;
-mod listed_sets;
 mod matcher;
-mod stepper;
 mod table;
 mod walk;
 

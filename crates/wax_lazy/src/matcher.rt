@@ -11,6 +11,12 @@ use wax_query::diagnostics::NoMemory;
 /// How many bytes states and their cells may take, about.
 const MOST_BYTES: usize = 2_097_152;
 
+/// How many they may take for each instruction of a large program, about.
+const BYTES_PER_INSTRUCTION: usize = 512;
+
+/// How many they may take, about, however large the program is.
+const MOST_BYTES_OF_ALL: usize = 16_777_216;
+
 /// A borrowed program for matching many texts. It keeps the states that earlier texts led to, so
 /// that later texts take less time. Contracts see the instructions.
 pub struct Matcher<'p> {
@@ -46,7 +52,8 @@ impl<'p> Model for Matcher<'p> {
 }
 
 impl<'p> Matcher<'p> {
-    /// Creates a matcher that has seen no text. It keeps at most about 2 MiB.
+    /// Creates a matcher that has seen no text. It keeps at most about 2 MiB; or 512 bytes for each
+    /// instruction of the program, if that is more, but at most about 16 MiB.
     ///
     /// # Errors
     ///
@@ -54,7 +61,12 @@ impl<'p> Matcher<'p> {
     pub fn new(alloc: Global, program: &'p CompiledProgram) -> Result<Matcher<'p>, NoMemory>
         ensures { IfOk result (λ m. m ≡ program.now.0) }
     {
-        Matcher::with_most(alloc, program, MOST_BYTES)
+        let most_bytes = program.size().saturating_mul(BYTES_PER_INSTRUCTION);
+        Matcher::with_most(
+            alloc,
+            program,
+            most_bytes.max(MOST_BYTES).min(MOST_BYTES_OF_ALL),
+        )
     }
 
     /// Creates a matcher that has seen no text. It keeps at most about `most_bytes` bytes, but at

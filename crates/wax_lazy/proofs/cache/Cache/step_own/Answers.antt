@@ -1,5 +1,5 @@
 use Rattle.std.proofs.Common.{◌∙◌, [], true, ap, sym, subst}
-use Rattle.wax_lazy.specs.inner.Listed.{AreReached, taken_if}
+use Rattle.wax_stepper.specs.Reached.{AreReached, taken_if}
 use Rattle.wax_lazy.specs.inner.Table.{IsDead, LeadOn, own_in, places_led}
 use Rattle.wax_lazy.proofs.Tables.{all_leads, nowhere_dead}
 use Rattle.wax_lazy.proofs.cache.Cache.step_own.Goals as goal

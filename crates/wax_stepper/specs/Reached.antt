@@ -1,0 +1,15 @@
+-- The places that a step reaches.
+use Rattle.std.specs.Prelude.{◌↔◌, ◌⊎◌, ℕ, Bool, true, false, List, [], ◌∷◌}
+use Rattle.wax_program.specs.declared.instruction.Instruction.{Instruction}
+use Rattle.wax_program.specs.Threads.{AnyAmong}
+
+-- the places that were reached accept the rest exactly where some of `places` accept a text that begins with
+-- the character, or some of `also` accept the rest
+abbrev pub AreReached : List Instruction → ℕ → List ℕ → List ℕ → List ℕ → Type 0
+AreReached code c places also reached =
+    (s : List ℕ) → AnyAmong code reached s ↔ (AnyAmong code places (c ∷ s) ⊎ AnyAmong code also s)
+
+-- the places if the flag is true, and otherwise none
+abbrev pub taken_if : Bool → List ℕ → List ℕ
+taken_if true places = places
+taken_if false places = []
