@@ -67,21 +67,6 @@ impl Sets for HeapSets {
     }
 
     #[inline]
-    fn word(&self) -> Option<u64> {
-        None
-    }
-
-    #[inline]
-    fn is_at(&self, _word: u64) -> bool {
-        false
-    }
-
-    #[inline]
-    fn leads_to(&self, _word: u64) -> bool {
-        false
-    }
-
-    #[inline]
     fn take(&mut self) -> Option<usize> {
         let at = self.pending.first_from(self.first)?;
         if at >= self.size {

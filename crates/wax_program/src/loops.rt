@@ -43,7 +43,10 @@ fn is_loop(program: &CompiledProgram, at: usize) -> bool {
     let mut visits = Visits::new();
     let mut meter = Meter::new();
     let instruction = program.fetch(at, &mut visits);
-    let loops = matches!(instruction, Instruction::Repeat(_) | Instruction::Components);
+    let loops = matches!(
+        instruction,
+        Instruction::Repeat(_) | Instruction::Components
+    );
     meter.add(visits);
     loops
 }
