@@ -6,7 +6,8 @@ use Rattle.wax_lengths.specs.Forms.{IsLetter, SpelledBy, TakenBy}
 use Rattle.wax_lengths.specs.declared.form.Form.{Form}
 use Rattle.wax_lengths.specs.declared.form.Form.TheVariants as form
 use Rattle.wax_lengths.proofs.Lists.{some_same}
-use Rattle.wax_capture.specs.inner.Letters.{AreLinked, ArePassed, NoneBegins, first_letter, group_of, is_folded, letter_of}
+use Rattle.wax_lengths.specs.FirstLetters.{first_letter, group_of, is_folded, letter_of}
+use Rattle.wax_capture.specs.inner.Letters.{AreLinked, ArePassed, NoneBegins}
 
 pub passed_more : (forms : List Form) (from k : ℕ) (f : Form) (s : List ℕ) → slice_get forms k ≡ Some f → ((n : ℕ) → TakenBy f (take n s) → ⊥) → ArePassed forms from k s → ArePassed forms from (k + 1) s
 passed_more forms from k f s is fails passed j g le lt at n takes = elim (cases_lt j k) [

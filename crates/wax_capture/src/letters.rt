@@ -1,17 +1,13 @@
 //! Forms of letters, found by their first letters.
-ghost use Rattle.std.specs.Prelude.{◌≡◌, ◌<◌, ◌≤◌, Some, IfOk, IsTrue, ℕ, length, drop};
+ghost use Rattle.std.specs.Prelude.{◌≡◌, ◌<◌, ◌≤◌, IfOk, length, drop};
 ghost use Rattle.wax_capture.specs.Pieces.{forms_of};
 ghost use Rattle.wax_capture.specs.inner.Letters.{ArePassed, NoneBegins};
-ghost use Rattle.wax_capture.specs.inner.Letters.{first_letter, group_of, is_folded, letter_of};
 
 use crate::piece::Ways;
 use std::alloc::{AllocError, Global};
 use std::marker::Model;
-use unicode::case::simple_fold;
+use wax_lengths::letters::{GROUPS, begins_in, first_letter, group_of, is_folded, letter_of};
 use wax_lengths::{Form, Text, may_spell};
-
-/// The number of groups of letters. Each ASCII letter has a group that no other ASCII letter has.
-const GROUPS: usize = 128;
 
 /// Fewer forms than these are looked through in their order.
 const LEAST: usize = 8;
@@ -86,53 +82,6 @@ impl ByLetter {
             return self.nexts[from - 1].max(from);
         }
         from
-    }
-}
-
-/// Returns the letter with which the form begins, if it takes letters.
-fn first_letter(form: &Form) -> Option<char>
-    ensures { result ≡ first_letter form.now }
-{
-    match form {
-        Form::Text(letters, _) => letters.first().copied(),
-        _ => None,
-    }
-}
-
-/// Returns whether the form takes letters in any case.
-fn is_folded(form: &Form) -> bool
-    ensures { result ≡ is_folded form.now }
-{
-    match form {
-        Form::Text(_, is_folded) => *is_folded,
-        _ => false,
-    }
-}
-
-/// Returns the letter that a form may have for the character: the character itself, or its simple
-/// case folding if `is_folded`.
-#[inline]
-fn letter_of(is_folded: bool, c: char) -> char
-    ensures { result ≡ letter_of is_folded c }
-{
-    if is_folded { simple_fold(c) } else { c }
-}
-
-/// Returns the group of the letter.
-#[inline]
-fn group_of(letter: char) -> usize
-    ensures is { result ≡ group_of letter }
-    ensures within { result < 128 }
-{
-    letter as usize % GROUPS
-}
-
-fn begins_in(form: &Form, group: usize) -> bool
-    ensures { IsTrue result → (c : ℕ) × (first_letter form.now ≡ Some c) × (group_of c ≡ group) }
-{
-    match first_letter(form) {
-        Some(letter) => group_of(letter) == group,
-        None => false,
     }
 }
 

@@ -1,4 +1,5 @@
 pub mod Ends
+pub mod FirstLetters
 pub mod Forms
 pub mod Prefers
 pub mod Spans

@@ -4,6 +4,7 @@
 mod ends;
 mod form;
 mod lengths;
+pub mod letters;
 mod span;
 mod text;
 mod visits;

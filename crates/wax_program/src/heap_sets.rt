@@ -45,15 +45,12 @@ impl HeapSets {
         ensures read { IfOk result (λ r. IsEmpty r.read) }
         ensures next { IfOk result (λ r. IsEmpty r.next) }
     {
-        let pending = Set::new(alloc, size)?;
-        let read = Set::new(alloc, size)?;
-        let next = Set::new(alloc, size)?;
         Ok(HeapSets {
             size,
             first: 0,
-            pending,
-            read,
-            next,
+            pending: Set::new(alloc, size)?,
+            read: Set::new(alloc, size)?,
+            next: Set::new(alloc, size)?,
         })
     }
 }
@@ -67,21 +64,6 @@ impl Sets for HeapSets {
             Some(at) => at >= self.size,
             None => true,
         }
-    }
-
-    #[inline]
-    fn word(&self) -> Option<u64> {
-        None
-    }
-
-    #[inline]
-    fn is_at(&self, _word: u64) -> bool {
-        false
-    }
-
-    #[inline]
-    fn leads_to(&self, _word: u64) -> bool {
-        false
     }
 
     #[inline]

@@ -130,19 +130,13 @@ fn begins_with_components(program: &CompiledProgram) -> bool
 fn is_fork_by_one(instruction: &Instruction) -> bool
     ensures { IsTrue result → instruction.now ≡ Fork 1 }
 {
-    match instruction {
-        Instruction::Fork(n) => *n == 1,
-        _ => false,
-    }
+    matches!(instruction, Instruction::Fork(1))
 }
 
 fn is_components(instruction: &Instruction) -> bool
     ensures { IsTrue result → instruction.now ≡ Components }
 {
-    match instruction {
-        Instruction::Components => true,
-        _ => false,
-    }
+    matches!(instruction, Instruction::Components)
 }
 
 /// Returns whether no instruction from the place 2 on takes a `/` or leads to a place before it.

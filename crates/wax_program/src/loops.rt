@@ -48,10 +48,11 @@ fn is_loop(program: &CompiledProgram, at: usize) -> bool {
     }
     let mut visits = Visits::new();
     let mut meter = Meter::new();
-    let loops = match program.fetch(at, &mut visits) {
-        Instruction::Repeat(_) | Instruction::Components => true,
-        _ => false,
-    };
+    let instruction = program.fetch(at, &mut visits);
+    let loops = matches!(
+        instruction,
+        Instruction::Repeat(_) | Instruction::Components
+    );
     meter.add(visits);
     loops
 }
@@ -98,8 +99,5 @@ pub fn place_of_all(program: &CompiledProgram) -> Option<usize>
 fn repeats_any(instruction: &Instruction) -> bool
     ensures { IsTrue result → instruction.now ≡ Repeat Any }
 {
-    match instruction {
-        Instruction::Repeat(Test::Any) => true,
-        _ => false,
-    }
+    matches!(instruction, Instruction::Repeat(Test::Any))
 }

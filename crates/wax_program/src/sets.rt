@@ -17,19 +17,30 @@ pub trait Sets {
         ensures { MatchBool result (IsDone (position self.now))
             ((k : ℕ) × HoldsPlace (position self.now).pending k × (k < (position self.now).size)) };
 
-    /// Returns the set that is to be read here, if it fits in one word.
+    /// Returns the set that is to be read here, if it is kept as one word.
+    #[inline]
     fn word(&self) -> Option<u64>
-        ensures { IfSome result (λ word. (position self.now).pending ≡ places_of word) };
+        ensures { IfSome result (λ word. (position self.now).pending ≡ places_of word) }
+    {
+        None
+    }
 
-    /// Returns whether the word's set is to be read here. May return `false` if sets aren't single
+    /// Returns whether the word's set is to be read here, if sets are kept as single words.
+    #[inline]
+    fn is_at(&self, _word: u64) -> bool
+        ensures { IsTrue result → (position self.now).pending ≡ places_of _word }
+    {
+        false
+    }
+
+    /// Returns whether the word's set is to be read at the next position, if sets are kept as single
     /// words.
-    fn is_at(&self, word: u64) -> bool
-        ensures { IsTrue result → (position self.now).pending ≡ places_of word };
-
-    /// Returns whether the word's set is to be read at the next position. May return `false` if
-    /// sets aren't single words.
-    fn leads_to(&self, word: u64) -> bool
-        ensures { IsTrue result → (position self.now).next ≡ places_of word };
+    #[inline]
+    fn leads_to(&self, _word: u64) -> bool
+        ensures { IsTrue result → (position self.now).next ≡ places_of _word }
+    {
+        false
+    }
 
     /// Takes an instruction that is still to be read here, and marks it as read.
     fn take(&mut self) -> Option<usize>

@@ -79,10 +79,7 @@ impl Watched {
     pub fn is_nothing(self) -> bool
         ensures { IsTrue result → (code : List Instruction) (d : ℕ) → MissesWatched code self d }
     {
-        match self {
-            Watched::Nothing => true,
-            _ => false,
-        }
+        matches!(self, Watched::Nothing)
     }
 }
 

@@ -40,14 +40,11 @@ impl WordSets {
         ensures read { IsEmpty result.read }
         ensures next { IsEmpty result.next }
     {
-        let pending = Word::new();
-        let read = Word::new();
-        let next = Word::new();
         WordSets {
             size,
-            pending,
-            read,
-            next,
+            pending: Word::new(),
+            read: Word::new(),
+            next: Word::new(),
         }
     }
 }
