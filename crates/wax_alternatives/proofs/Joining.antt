@@ -5,7 +5,7 @@ use Rattle.wax_token.specs.Meaning.{LeafMeans, Means, MeansEach, MeansSome}
 use Rattle.wax_token.specs.Reads.{Span}
 use Rattle.wax_token.specs.Syntax.{Leaf, Tree, none, more, alternation, concatenation, repetition, leaf}
 use Rattle.wax_token.specs.Words.{members, trees}
-use Rattle.wax_alternatives.specs.Joined.{IsParted, MeansBeside, MeansEnded, MeansLed, MeansOneOf, SameTexts}
+use Rattle.wax_alternatives.specs.Joined.{IsParted, MeansBeside, MeansEnded, MeansLed, MeansAnyOf, SameTexts}
 
 -- ---- what is within a token
 pub as_members : {A : Type 0} (t : Tree A) (b a : Bool) (s : List ℕ) → Means t b a s → MeansEach (members t) b a s
@@ -149,7 +149,7 @@ module _ (Beside : MeansBeside) where
 abbrev pub led_token : (lead : Leaf) (after : Tree Span) → Tree Span
 led_token lead after = concatenation (0, 0) (more (leaf (0, 0) lead) (more after none))
 
-pub added_led : (lead : Leaf) (one : Tree Span) (joined after : List (Tree Span)) → MeansOneOf one after → (b a : Bool) (s : List ℕ)
+pub added_led : (lead : Leaf) (one : Tree Span) (joined after : List (Tree Span)) → MeansAnyOf one after → (b a : Bool) (s : List ℕ)
     → MeansSome (trees (joined ++ led_token lead one ∷ [])) b a s ↔ (MeansLed lead after b a s ⊎ MeansSome (trees joined) b a s)
 added_led lead one joined after same b a s =
     let all = some_append joined (led_token lead one ∷ []) b a s in (
@@ -164,7 +164,7 @@ added_led lead one joined after same b a s =
 abbrev pub ended_token : (end : Leaf) (before : Tree Span) → Tree Span
 ended_token end before = concatenation (0, 0) (more before (more (leaf (0, 0) end) none))
 
-pub added_ended : (end : Leaf) (one : Tree Span) (joined before : List (Tree Span)) → MeansOneOf one before → (b a : Bool) (s : List ℕ)
+pub added_ended : (end : Leaf) (one : Tree Span) (joined before : List (Tree Span)) → MeansAnyOf one before → (b a : Bool) (s : List ℕ)
     → MeansSome (trees (joined ++ ended_token end one ∷ [])) b a s ↔ (MeansEnded end before b a s ⊎ MeansSome (trees joined) b a s)
 added_ended end one joined before same b a s =
     let all = some_append joined (ended_token end one ∷ []) b a s in (
@@ -176,7 +176,7 @@ added_ended end one joined before same b a s =
     )
 
 -- a single alternative matches what some of them does
-pub one_alone : (t : Tree Span) (ts : List (Tree Span)) → ts ≡ t ∷ [] → MeansOneOf t ts
+pub one_alone : (t : Tree Span) (ts : List (Tree Span)) → ts ≡ t ∷ [] → MeansAnyOf t ts
 one_alone t ts e b a s = (
   (λ h. subst (λ z. MeansSome (trees z) b a s) (sym e) (inl h)),
   (λ h. elim (subst (λ z. MeansSome (trees z) b a s) e h) [ inl m ↦ m | inr m ↦ absurd m ]),

@@ -11,8 +11,8 @@ abbrev pub SameTexts : List (Tree Span) → List (Tree Span) → Type 0
 SameTexts ts us = (b a : Bool) (s : List ℕ) → MeansSome (trees ts) b a s ↔ MeansSome (trees us) b a s
 
 -- the token matches what some of the alternatives does
-abbrev pub MeansOneOf : Tree Span → List (Tree Span) → Type 0
-MeansOneOf t ts = (b a : Bool) (s : List ℕ) → Means t b a s ↔ MeansSome (trees ts) b a s
+abbrev pub MeansAnyOf : Tree Span → List (Tree Span) → Type 0
+MeansAnyOf t ts = (b a : Bool) (s : List ℕ) → Means t b a s ↔ MeansSome (trees ts) b a s
 
 -- a text of the leaf, and then one that some of the alternatives matches
 abbrev pub MeansLed : Leaf → List (Tree Span) → Bool → Bool → List ℕ → Type 0

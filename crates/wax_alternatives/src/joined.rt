@@ -5,7 +5,7 @@ ghost use Rattle.wax_token.specs.Meaning.{LeafMeans, Means, MeansSome};
 ghost use Rattle.wax_token.specs.Syntax.{concatenation};
 ghost use Rattle.wax_token.specs.View.{leaf_of, wildcard_leaf};
 ghost use Rattle.wax_token.specs.Words.{trees};
-ghost use Rattle.wax_alternatives.specs.Joined.{IsParted, MeansEnded, MeansLed, MeansOneOf, SameTexts};
+ghost use Rattle.wax_alternatives.specs.Joined.{IsParted, MeansEnded, MeansLed, MeansAnyOf, SameTexts};
 
 use crate::letters::join_letters;
 use std::alloc::Global;
@@ -230,7 +230,7 @@ fn copies_of(
 pub fn one_of(
     alternatives: Vec<Token<'static, ExpressionMetadata>>,
 ) -> Token<'static, ExpressionMetadata>
-    ensures { MeansOneOf result alternatives.entry.items }
+    ensures { MeansAnyOf result alternatives.entry.items }
 {
     let mut tokens = alternatives;
     if tokens.len() == 1 {

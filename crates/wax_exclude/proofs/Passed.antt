@@ -24,7 +24,7 @@ use Rattle.wax_exclude.specs.Marks.{covered_mark}
 use Rattle.wax_exclude.specs.declared.blocks.Block.{Block}
 use Rattle.wax_exclude.specs.declared.rules.IgnoreLine.{IgnoreLine}
 use Rattle.wax_exclude.specs.inner.Blocks.{AcceptsSome, IsBlockOf, KnowsLines, SomeMeans, alternatives_in, lines_between, mark_passed, marks_after, some_ignores, some_reincludes}
-use Rattle.wax_alternatives.specs.Joined.{MeansOneOf, SameTexts}
+use Rattle.wax_alternatives.specs.Joined.{MeansAnyOf, SameTexts}
 use Rattle.wax_exclude.specs.inner.Listed.{ignored_by, listed_mark, mark_after}
 
 -- ---- line after line
@@ -341,7 +341,7 @@ module _ (block : Block) (lines : List IgnoreLine) (k : KnowsLines block lines) 
 -- ---- programs of alternatives
 
 pub accepts_some : (held us : List (Tree Span)) (program : Instructions) (t : Tree Span) (zs : Trees Span) → zs ≡ members t
-    → MeansOneOf t us → SameTexts held us → ((s : List ℕ) → Accepts program.0 0 s ↔ MeansEach zs false false s) → AcceptsSome program.0 held
+    → MeansAnyOf t us → SameTexts held us → ((s : List ℕ) → Accepts program.0 0 s ↔ MeansEach zs false false s) → AcceptsSome program.0 held
 accepts_some held us program t zs e one texts means s = (
   (λ a. (texts false false s).1 ((one false false s).0 (of_members t false false s (subst (λ z. MeansEach z false false s) e ((means s).0 a))))),
   (λ m. (means s).1 (subst (λ z. MeansEach z false false s) (sym e) (as_members t false false s ((one false false s).1 ((texts false false s).0 m))))),

@@ -5,7 +5,7 @@ use Rattle.wax_lazy.specs.declared.cache.Cache.{Cache}
 use Rattle.wax_lazy.specs.declared.table.State.{State}
 use Rattle.std.specs.Global.{Vec}
 use Rattle.wax_lazy.specs.inner.Cached.{AreParted, GrowsBy, IsAdded, IsCacheOf, IsCleared, IsRestarted, IsSameMaker}
-use Rattle.wax_lazy.specs.inner.Table.{BeginsTexts, IsSettled, IsRest, IsState, IsStatePlace, IsTable, IsTransition, KeepsStates, places_at, places_in}
+use Rattle.wax_lazy.specs.inner.Table.{BeginsTexts, IsSettled, IsRestState, IsState, IsStatePlace, IsTable, IsTransition, KeepsStates, places_at, places_in}
 use Rattle.wax_lazy.proofs.Tables.{begins_keeps, keeps_append, settled_keeps, slice_get_end, table_empty, table_filled, table_push, table_settled}
 use Rattle.wax_program.specs.declared.instruction.Instruction.{Instruction}
 use Rattle.wax_program.specs.Threads.{AnyAmong}
@@ -37,7 +37,7 @@ module _ (code : List Instruction) (old new : Cache) (held : IsCacheOf code old)
   alone s left good places rest accepts = record {
     ends = subst (λ z. IfSome left.accepts (λ b. IsTrue b ↔ AnyAmong code z.items [])) (sym places)
         (subst (λ o. IfSome o (λ b. IsTrue b ↔ AnyAmong code s.places.items [])) (sym accepts) good.ends);
-    rest = subst (λ o. IfSome o (IsRest code [] left.places.items left.own.items)) (sym rest) tt;
+    rest = subst (λ o. IfSome o (IsRestState code [] left.places.items left.own.items)) (sym rest) tt;
   }
 
   pub cache_restarted : (s : State) → IsState code old.table.states.items s → IsRestarted old new s → IsCacheOf code new
@@ -143,8 +143,8 @@ pub state_parted : (code : List Instruction) (c : Cache) (places own : Vec ℕ) 
     → IsState code c.table.states.items (record { places = places; own = own; rest = rest; accepts = None })
 state_parted code c places own (Some at) parted same copied = record {
   ends = tt;
-  rest = subst (λ z. IsRest code c.table.states.items z own.items at) (sym same)
-      (subst (λ z. IsRest code c.table.states.items c.reached.items z at) (sym copied) parted);
+  rest = subst (λ z. IsRestState code c.table.states.items z own.items at) (sym same)
+      (subst (λ z. IsRestState code c.table.states.items c.reached.items z at) (sym copied) parted);
 }
 state_parted code c places own None parted same copied = record { ends = tt; rest = tt }
 

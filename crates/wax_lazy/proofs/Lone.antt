@@ -7,8 +7,8 @@ use Rattle.wax_lazy.specs.declared.cache.Lone.{Lone}
 use Rattle.wax_lazy.specs.declared.table.Next.{Next}
 use Rattle.wax_lazy.specs.declared.table.Next.TheVariants.{To, Nothing, Everything}
 use Rattle.wax_lazy.specs.declared.table.State.{State}
-use Rattle.wax_lazy.specs.inner.Cached.{Decides, IsLone}
-use Rattle.wax_lazy.specs.inner.Table.{IsRest, IsStatePlace, IsTable, IsUnion, LeadsNext, TakesAll, led_of, own_at, places_at, places_in, places_led}
+use Rattle.wax_lazy.specs.inner.Cached.{DecidesLeft, IsLone}
+use Rattle.wax_lazy.specs.inner.Table.{IsRestState, IsStatePlace, IsTable, IsJoinOf, LeadsNext, TakesAll, led_of, own_at, places_at, places_in, places_led}
 use Rattle.wax_lazy.proofs.Tables.{one_place, rest_at}
 use Rattle.wax_program.specs.Checks.{IsCheckAt}
 use Rattle.wax_program.specs.declared.instruction.Instruction.{Instruction}
@@ -40,7 +40,7 @@ check_on code at c passes s (i, is, (t, check, tests)) = ((λ h. onward h.0 h.1)
         (tests.1 here.0, (n, here.1))
 
 -- ---- lists
-pub joined_place : (code : List Instruction) (led sorted : List ℕ) (place : ℕ) → IsPermutation (led ++ place ∷ []) sorted → IsUnion code sorted led (place ∷ [])
+pub joined_place : (code : List Instruction) (led sorted : List ℕ) (place : ℕ) → IsPermutation (led ++ place ∷ []) sorted → IsJoinOf code sorted led (place ∷ [])
 joined_place code led sorted place p s = (
   (λ h. elim (Contains-push_cases led place h.0 (Contains-permutation sorted (led ++ place ∷ []) h.0 (IsPermutation-sym (led ++ place ∷ []) sorted p) h.1)) [
     | inl g ↦ inl (h.0, g, h.2)
@@ -53,14 +53,14 @@ joined_place code led sorted place p s = (
 )
 
 pub parted_lone : (code : List Instruction) (states : List State) (rest : Option ℕ) (reached others : List ℕ) → IfSome rest (IsStatePlace states)
-    → IsUnion code reached (places_led states rest) others → IfSome rest (IsRest code states reached others)
+    → IsJoinOf code reached (places_led states rest) others → IfSome rest (IsRestState code states reached others)
 parted_lone code states (Some at) reached others placed union = record { placed = placed; union = union }
 parted_lone code states None reached others placed union = tt
 
 -- ---- following a text
 -- one character
 pub next_decides : (code : List Instruction) (states : List State) (places left after : List ℕ) (c : ℕ) (next : Next) → left ≡ c ∷ after
-    → LeadsNext code states places c next → Decides code states places left after next
+    → LeadsNext code states places c next → DecidesLeft code states places left after next
 next_decides code states places left after c (To at) e l = (
   l.placed,
   (
@@ -99,7 +99,7 @@ module _ (code : List Instruction) (states : List State) (places part text left 
   all_on all = stays.1 (inl (subst (AnyAmong code part) (sym e) (all after)))
 
   -- the check doesn't take the character: the rest decides
-  pub rest_on : (next : Next) → IsCheckAt code place c false → LeadsNext code states part c next → Decides code states places text after next
+  pub rest_on : (next : Next) → IsCheckAt code place c false → LeadsNext code states part c next → DecidesLeft code states places text after next
   rest_on (To at) check l = (
     l.placed,
     (
@@ -134,7 +134,7 @@ lone_begins code states places lone text l = (
 
 -- at last, the state of both decides
 pub lone_ends : (code : List Instruction) (places held rest text after : List ℕ) (place : ℕ)
-    → AnyAmong code places text ↔ (AnyAmong code rest after ⊎ Accepts code place after) → IsUnion code held rest (place ∷ [])
+    → AnyAmong code places text ↔ (AnyAmong code rest after ⊎ Accepts code place after) → IsJoinOf code held rest (place ∷ [])
     → AnyAmong code places text ↔ AnyAmong code held after
 lone_ends code places held rest text after place stays union = (
   (λ h. (union after).1 (elim (stays.0 h) [ inl g ↦ inl g | inr g ↦ inr ((one_place code place after).0 g) ])),

@@ -6,7 +6,7 @@ use Rattle.std.proofs.lemmas.Option.{slice_get_cases, slice_get_within}
 use Rattle.wax_lazy.specs.declared.table.State.{State}
 use Rattle.wax_lazy.specs.declared.table.Next.{Next}
 use Rattle.wax_lazy.specs.declared.table.Next.TheVariants.{To, Nothing, Everything}
-use Rattle.wax_lazy.specs.inner.Table.{BeginsTexts, IsDead, IsRest, IsSettled, IsState, IsStatePlace, IsTable, IsTransition, IsUnion, KeepsStates, LeadOn, Leads, LeadsNext, LeadsTo, TakesAll, led_of, own_at, own_in, places_at, places_in, places_led}
+use Rattle.wax_lazy.specs.inner.Table.{BeginsTexts, IsDead, IsRestState, IsSettled, IsState, IsStatePlace, IsTable, IsTransition, IsJoinOf, KeepsStates, LeadOn, Leads, LeadsNext, LeadsTo, TakesAll, led_of, own_at, own_in, places_at, places_in, places_led}
 use Rattle.wax_program.specs.declared.instruction.Instruction.{Instruction}
 use Rattle.wax_program.specs.Machine.{Accepts}
 use Rattle.wax_stepper.specs.Reached.{AreReached, taken_if}
@@ -76,11 +76,11 @@ module _ (old new : List State) (keeps : KeepsStates old new) where
     accepts = λ s. subst (λ z. Accepts code start s ↔ AnyAmong code z s) (sym (places_keep at b.placed)) (b.accepts s);
   }
 
-  pub rest_keeps : (code : List Instruction) (places others : List ℕ) (rest : Option ℕ) → IfSome rest (IsRest code old places others)
-      → IfSome rest (IsRest code new places others)
+  pub rest_keeps : (code : List Instruction) (places others : List ℕ) (rest : Option ℕ) → IfSome rest (IsRestState code old places others)
+      → IfSome rest (IsRestState code new places others)
   rest_keeps code places others (Some at) r = record {
     placed = placed_keeps at r.placed;
-    union = subst (λ z. IsUnion code places z others) (sym (places_keep at r.placed)) r.union;
+    union = subst (λ z. IsJoinOf code places z others) (sym (places_keep at r.placed)) r.union;
   }
   rest_keeps code places others None r = tt
 
@@ -295,14 +295,14 @@ all_leads code c places reached false a s = (
 )
 
 -- places in two parts
-pub union_of_parts : (code : List Instruction) (places part other : List ℕ) → AreParts places part other → IsUnion code places part other
+pub union_of_parts : (code : List Instruction) (places part other : List ℕ) → AreParts places part other → IsJoinOf code places part other
 union_of_parts code places part other parts s = (
   (λ h. elim ((parts h.0).0 h.1) [ inl g ↦ inl (h.0, g, h.2) | inr g ↦ inr (h.0, g, h.2) ]),
   (λ h. elim h [ inl g ↦ (g.0, (parts g.0).1 (inl g.1), g.2) | inr g ↦ (g.0, (parts g.0).1 (inr g.1), g.2) ]),
 )
 
 -- a step from the one part, where it is known to what the other leads
-pub parts_lead : (code : List Instruction) (c : ℕ) (places part other also reached : List ℕ) → IsUnion code places part other → LeadOn code c part also
+pub parts_lead : (code : List Instruction) (c : ℕ) (places part other also reached : List ℕ) → IsJoinOf code places part other → LeadOn code c part also
     → ((s : List ℕ) → AnyAmong code reached s ↔ (AnyAmong code other (c ∷ s) ⊎ AnyAmong code also s)) → LeadOn code c places reached
 parts_lead code c places part other also reached parts leads a s = (
   (λ h. elim ((parts (c ∷ s)).0 h) [
@@ -317,14 +317,14 @@ parts_lead code c places part other also reached parts leads a s = (
 
 -- what was reached from the one part, and that to which the other leads, are all that was reached
 pub parts_reached : (code : List Instruction) (c : ℕ) (own also reached others : List ℕ)
-    → ((s : List ℕ) → AnyAmong code reached s ↔ (AnyAmong code own (c ∷ s) ⊎ AnyAmong code also s)) → LeadOn code c own others → IsUnion code reached also others
+    → ((s : List ℕ) → AnyAmong code reached s ↔ (AnyAmong code own (c ∷ s) ⊎ AnyAmong code also s)) → LeadOn code c own others → IsJoinOf code reached also others
 parts_reached code c own also reached others a leads s = (
   (λ h. elim ((a s).0 h) [ inl g ↦ inr ((leads s).0 g) | inr g ↦ inl g ]),
   (λ h. elim h [ inl g ↦ (a s).1 (inr g) | inr g ↦ (a s).1 (inl ((leads s).1 g)) ]),
 )
 
 -- if the one part leads nowhere, all places lead to where the other part does
-module _ (code : List Instruction) (c : ℕ) (places part other : List ℕ) (parts : IsUnion code places part other) (dead : IsDead code other c) where
+module _ (code : List Instruction) (c : ℕ) (places part other : List ℕ) (parts : IsJoinOf code places part other) (dead : IsDead code other c) where
   as_part : (s : List ℕ) → AnyAmong code places (c ∷ s) ↔ AnyAmong code part (c ∷ s)
   as_part s = (
     (λ h. elim ((parts (c ∷ s)).0 h) [ inl g ↦ g | inr g ↦ absurd (dead s g) ]),
@@ -353,7 +353,7 @@ pub nowhere_dead : (code : List Instruction) (c : ℕ) (places : List ℕ) → A
 nowhere_dead code c places dead s h = no_place code s ((dead s).1 (inl h))
 
 -- where one part takes all, all places do
-pub part_takes_all : (code : List Instruction) (c : ℕ) (places part other : List ℕ) → IsUnion code places part other → TakesAll code part c → TakesAll code places c
+pub part_takes_all : (code : List Instruction) (c : ℕ) (places part other : List ℕ) → IsJoinOf code places part other → TakesAll code part c → TakesAll code places c
 part_takes_all code c places part other parts all s = (parts (c ∷ s)).1 (inl (all s))
 
 -- if every text is accepted from the places that follow, every text is that begins with the character
@@ -407,27 +407,27 @@ only_item (x ∷ []) e = refl
 only_item (x ∷ y ∷ xs) e = absurd (omega (arith, e))
 
 -- a single place is all places of a state without a rest
-pub union_alone : (code : List Instruction) (places : List ℕ) → IsUnion code places [] places
+pub union_alone : (code : List Instruction) (places : List ℕ) → IsJoinOf code places [] places
 union_alone code places s = ((λ h. inr h), (λ h. elim h [ inl g ↦ absurd (no_place code s g) | inr g ↦ g ]))
 
 pub rest_at : (code : List Instruction) (states : List State) (cells : List ℕ) (at : ℕ) (s : State) (rest : ℕ) → IsTable code states cells
-    → slice_get states (at / 128) ≡ Some s → s.rest ≡ Some rest → IsRest code states (places_at states (at / 128)) (own_at states (at / 128)) rest
+    → slice_get states (at / 128) ≡ Some s → s.rest ≡ Some rest → IsRestState code states (places_at states (at / 128)) (own_at states (at / 128)) rest
 rest_at code states cells at s rest table is has =
     let good = (table.rows (at / 128) s is).rest in
-    let held = subst (λ o. IfSome o (IsRest code states s.places.items s.own.items)) has good in
-    subst (λ z. IsRest code states z (own_at states (at / 128)) rest) (sym (ap places_in is))
-    (subst (λ z. IsRest code states s.places.items z rest) (sym (ap own_in is)) held)
+    let held = subst (λ o. IfSome o (IsRestState code states s.places.items s.own.items)) has good in
+    subst (λ z. IsRestState code states z (own_at states (at / 128)) rest) (sym (ap places_in is))
+    (subst (λ z. IsRestState code states s.places.items z rest) (sym (ap own_in is)) held)
 
 -- the rest of a state, among more states
 pub rest_later : (code : List Instruction) (old new : List State) (cells : List ℕ) (at : ℕ) (s : State) (rest : ℕ) → IsTable code old cells
     → IsStatePlace old at → slice_get old (at / 128) ≡ Some s → s.rest ≡ Some rest → KeepsStates old new
-    → IsRest code new (places_at old (at / 128)) (own_at new (at / 128)) rest
+    → IsRestState code new (places_at old (at / 128)) (own_at new (at / 128)) rest
 rest_later code old new cells at s rest table here is has keeps =
     let r = rest_at code old cells at s rest table is has in
     record {
       placed = placed_keeps old new keeps rest r.placed;
-      union = subst (λ z. IsUnion code (places_at old (at / 128)) z (own_at new (at / 128))) (sym (places_keep old new keeps rest r.placed))
-          (subst (λ z. IsUnion code (places_at old (at / 128)) (places_at old (rest / 128)) z) (sym (keeps (at / 128) here.kept).2) r.union);
+      union = subst (λ z. IsJoinOf code (places_at old (at / 128)) z (own_at new (at / 128))) (sym (places_keep old new keeps rest r.placed))
+          (subst (λ z. IsJoinOf code (places_at old (at / 128)) (places_at old (rest / 128)) z) (sym (keeps (at / 128) here.kept).2) r.union);
     }
 
 -- where the rest of a state leads, among more states
@@ -440,7 +440,7 @@ leads_later code old new cells at s rest c next table is has keeps leads =
 
 pub led_parted : (code : List Instruction) (states : List State) (part : List ℕ) (c : ℕ) (own reached others : List ℕ) (led : Option ℕ) → Leads code states part c led
     → ((s : List ℕ) → AnyAmong code reached s ↔ (AnyAmong code own (c ∷ s) ⊎ AnyAmong code (places_led states led) s)) → LeadOn code c own others
-    → IfSome led (IsRest code states reached others)
+    → IfSome led (IsRestState code states reached others)
 led_parted code states part c own reached others (Some at) l a o =
     record { placed = l.placed; union = parts_reached code c own (places_at states (at / 128)) reached others a o }
 led_parted code states part c own reached others None l a o = tt

@@ -1,11 +1,13 @@
 //! The cache of a program's states, which outlives a text.
 ghost use Rattle.std.specs.Prelude.{◌≡◌, ◌+◌, ◌*◌, ◌/◌, ◌^◌, ◌<◌, ◌≤◌, ◌↔◌, ◌∷◌, ℕ, [], List, true, None};
-ghost use Rattle.std.specs.Prelude.{IfOk, IfSome, IsFalse, IsTrue, OnErr, Some, drop, length, slice_get, slice_index};
+ghost use Rattle.std.specs.Prelude.{IfOk, IfSome, IsFalse, IsTrue, OnErr, Some, drop, length, slice_get};
+ghost use Rattle.std.specs.Prelude.{slice_index};
 ghost use Rattle.std.specs.Str.{IsAscii};
 ghost use Rattle.wax_lazy.specs.declared.table.State.{State};
 ghost use Rattle.wax_lazy.specs.inner.Cached.{AreNext, AreParted, AreSameLists, AreStepped, GrowsBy, IsAdded};
-ghost use Rattle.wax_lazy.specs.inner.Cached.{Decides, IsCacheOf, IsCleared, IsInterned, IsLone, IsRestarted};
-ghost use Rattle.wax_lazy.specs.inner.Table.{BeginsTexts, IsDead, IsStatePlace, IsUnion, LeadsNext, own_at};
+ghost use Rattle.wax_lazy.specs.inner.Cached.{DecidesLeft, IsCacheOf, IsCleared, IsInterned, IsLone};
+ghost use Rattle.wax_lazy.specs.inner.Cached.{IsRestarted};
+ghost use Rattle.wax_lazy.specs.inner.Table.{BeginsTexts, IsDead, IsStatePlace, IsJoinOf, LeadsNext, own_at};
 ghost use Rattle.wax_lazy.specs.inner.Table.{places_at, places_led};
 ghost use Rattle.wax_program.specs.Checks.{IsCheckAt};
 ghost use Rattle.wax_program.specs.declared.instruction.Instruction.{Instruction};
@@ -205,7 +207,7 @@ impl Cache {
         ensures start { self.new.start ≡ self.old.start }
         ensures further { IfOk result (λ r. (index < r.1) × (r.1 ≤ length text.now)) }
         ensures decides { let places = places_at self.old.table.states.items (at / 128) in
-            IfOk result (λ r. Decides program.now.0 self.new.table.states.items places
+            IfOk result (λ r. DecidesLeft program.now.0 self.new.table.states.items places
             (drop index text.now) (drop r.1 text.now) r.0) }
     {
         let c = char::from(text[index]);
@@ -271,7 +273,7 @@ impl Cache {
         ensures further { IfOk result (λ r. (index < r.1) × (r.1 ≤ length text.now)) }
         ensures decides { (places : List ℕ)
             → IsLone program.now.0 self.old.table.states.items places lone
-            → IfOk result (λ r. Decides program.now.0 self.new.table.states.items places
+            → IfOk result (λ r. DecidesLeft program.now.0 self.new.table.states.items places
             (drop index text.now) (drop r.1 text.now) r.0) }
     {
         let mut here = lone;
@@ -335,7 +337,7 @@ impl Cache {
         ensures start { self.new.start ≡ self.old.start }
         ensures placed { IfOk result (IsStatePlace self.new.table.states.items) }
         ensures union { let rest = places_led self.old.table.states.items lone.rest in IfOk result
-            (λ at. IsUnion program.now.0 (places_at self.new.table.states.items (at / 128)) rest
+            (λ at. IsJoinOf program.now.0 (places_at self.new.table.states.items (at / 128)) rest
             (lone.place ∷ [])) }
     {
         self.others.clear();

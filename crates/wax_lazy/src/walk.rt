@@ -1,7 +1,7 @@
 //! Following a text from state to state.
 ghost use Rattle.std.specs.Prelude.{◌≡◌, ◌↔◌, ◌/◌, ◌<◌, ◌≤◌, IfOk, IsTrue, chars, drop, length};
 ghost use Rattle.std.specs.Str.{IsAscii};
-ghost use Rattle.wax_lazy.specs.inner.Cached.{Decides, IsCacheOf};
+ghost use Rattle.wax_lazy.specs.inner.Cached.{DecidesLeft, IsCacheOf};
 ghost use Rattle.wax_lazy.specs.inner.Table.{IsStatePlace, places_at};
 ghost use Rattle.wax_program.specs.Machine.{Accepts};
 
@@ -68,7 +68,7 @@ fn advance_in(
     ensures start { cache.new.start ≡ cache.old.start }
     ensures further { IfOk result (λ r. (index < r.1) × (r.1 ≤ length text.now)) }
     ensures decides { let places = places_at cache.old.table.states.items (at / 128) in
-        IfOk result (λ r. Decides program.now.0 cache.new.table.states.items places
+        IfOk result (λ r. DecidesLeft program.now.0 cache.new.table.states.items places
         (drop index text.now) (drop r.1 text.now) r.0) }
 {
     if let Some(next) = cache.known(at, text[index]) {

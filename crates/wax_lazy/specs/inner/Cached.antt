@@ -7,8 +7,8 @@ use Rattle.wax_lazy.specs.declared.table.Next.{Next}
 use Rattle.wax_lazy.specs.declared.table.Next.TheVariants.{To, Nothing, Everything}
 use Rattle.wax_lazy.specs.declared.known.Known.{Known}
 use Rattle.wax_lazy.specs.declared.table.State.{State}
-use Rattle.wax_lazy.specs.inner.Table.{BeginsTexts, IsRest, IsStatePlace, IsTable, IsUnion, KeepsStates, LeadOn}
-use Rattle.wax_lazy.specs.inner.Table.{own_at, places_at, places_led}
+use Rattle.wax_lazy.specs.inner.Table.{BeginsTexts, IsRestState, IsStatePlace, IsTable, IsJoinOf}
+use Rattle.wax_lazy.specs.inner.Table.{KeepsStates, LeadOn, own_at, places_at, places_led}
 use Rattle.wax_program.specs.declared.instruction.Instruction.{Instruction}
 use Rattle.wax_program.specs.Last.{ReadsLast}
 use Rattle.wax_program.specs.Threads.{AnyAmong}
@@ -72,10 +72,10 @@ pub record IsInterned (most : ℕ) (old new : Cache) (places : List ℕ) (t : �
 
 -- the places that were reached are those of the state whose cells begin at `at`, and the others
 abbrev pub AreParted : List Instruction → Cache → ℕ → Type 0
-AreParted code c at = IsRest code c.table.states.items c.reached.items c.others.items at
+AreParted code c at = IsRestState code c.table.states.items c.reached.items c.others.items at
 
--- the places that were reached are those to which the own places of the state whose cells begin at `at` lead by
--- the character, which are the others, and those of the state `led`
+-- the places that were reached are those to which the own places of the state whose cells begin at `at`
+-- lead by the character, which are the others, and those of the state `led`
 pub record AreStepped (code : List Instruction) (states : List State) (at : ℕ) (led : Option ℕ) (d : ℕ)
     (new : Cache) : Type 0 where
   pub reached : (s : List ℕ) → AnyAmong code new.reached.items s
@@ -87,16 +87,17 @@ abbrev pub AreNext : List Instruction → Cache → ℕ → ℕ → Type 0
 AreNext code c at d = LeadOn code d (places_at c.table.states.items (at / 128)) c.reached.items
 
 -- the places are the lone one and those of its rest
-pub record IsLone (code : List Instruction) (states : List State) (places : List ℕ) (lone : Lone) : Type 0 where
+pub record IsLone (code : List Instruction) (states : List State) (places : List ℕ) (lone : Lone) :
+    Type 0 where
   pub placed : IfSome lone.rest (IsStatePlace states)
-  pub union : IsUnion code places (places_led states lone.rest) (lone.place ∷ [])
+  pub union : IsJoinOf code places (places_led states lone.rest) (lone.place ∷ [])
 
 -- the places accept what is left of a text exactly where the next state accepts what is left after it
-abbrev pub Decides : List Instruction → List State → List ℕ → List ℕ → List ℕ → Next → Type 0
-Decides code states places left after (To at) =
+abbrev pub DecidesLeft : List Instruction → List State → List ℕ → List ℕ → List ℕ → Next → Type 0
+DecidesLeft code states places left after (To at) =
     IsStatePlace states at × (AnyAmong code places left ↔ AnyAmong code (places_at states (at / 128)) after)
-Decides code states places left after Nothing = AnyAmong code places left → ⊥
-Decides code states places left after Everything = AnyAmong code places left
+DecidesLeft code states places left after Nothing = AnyAmong code places left → ⊥
+DecidesLeft code states places left after Everything = AnyAmong code places left
 
 -- the cache of a program of these instructions, for texts of which the last component alone is read where the
 -- flag says so

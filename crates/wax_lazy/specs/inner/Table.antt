@@ -43,8 +43,9 @@ KeepsStates old new = (t : ℕ) → t < length old
     → (t < length new) × (places_at new t ≡ places_at old t) × (own_at new t ≡ own_at old t)
 
 -- some of the places accept a text exactly where some of the one part or of the other do
-abbrev pub IsUnion : List Instruction → List ℕ → List ℕ → List ℕ → Type 0
-IsUnion code places part other = (s : List ℕ) → AnyAmong code places s ↔ (AnyAmong code part s ⊎ AnyAmong code other s)
+abbrev pub IsJoinOf : List Instruction → List ℕ → List ℕ → List ℕ → Type 0
+IsJoinOf code places part other =
+    (s : List ℕ) → AnyAmong code places s ↔ (AnyAmong code part s ⊎ AnyAmong code other s)
 
 -- the state with this number says now whether a text that ends there is accepted
 abbrev pub IsSettled : List State → List State → ℕ → Bool → Type 0
@@ -58,16 +59,16 @@ pub record IsStatePlace (states : List State) (at : ℕ) : Type 0 where
   pub kept : at / 128 < length states
 
 -- the places are those of the state whose cells begin at `at`, and the others
-pub record IsRest (code : List Instruction) (states : List State) (places others : List ℕ) (at : ℕ) :
+pub record IsRestState (code : List Instruction) (states : List State) (places others : List ℕ) (at : ℕ) :
     Type 0 where
   pub placed : IsStatePlace states at
-  pub union : IsUnion code places (places_at states (at / 128)) others
+  pub union : IsJoinOf code places (places_at states (at / 128)) others
 
 -- where the state says whether the empty text is accepted, it says so rightly; and if it has a rest, its
 -- places are those of the rest and its own
 pub record IsState (code : List Instruction) (states : List State) (s : State) : Type 0 where
   pub ends : IfSome s.accepts (λ b. IsTrue b ↔ AnyAmong code s.places.items [])
-  pub rest : IfSome s.rest (IsRest code states s.places.items s.own.items)
+  pub rest : IfSome s.rest (IsRestState code states s.places.items s.own.items)
 
 -- from the places the character leads to the state whose cells begin at `at`
 pub record LeadsTo (code : List Instruction) (states : List State) (places : List ℕ) (c at : ℕ) : Type 0 where

@@ -1,5 +1,5 @@
 use Rattle.std.proofs.Common.{◌∙◌, ◌*◌, ◌/◌, ℕ, ap, sym, subst}
-use Rattle.wax_lazy.specs.inner.Table.{IsUnion, places_at}
+use Rattle.wax_lazy.specs.inner.Table.{IsJoinOf, places_at}
 use Rattle.wax_lazy.proofs.Tables.{at_number, placed_number, union_of_parts}
 use Rattle.wax_program.specs.Threads.{AreParts}
 use Rattle.wax_lazy.proofs.cache.Cache.intern_parted.Goals as goal
@@ -18,7 +18,7 @@ intern-requires-2-clause-rest c =
     let union = union_of_parts code _ _ _ parts in
     record {
       placed = placed_number states number made.known;
-      union = subst (λ z. IsUnion code z (places_at states (number * 128 / 128)) c.intern-loops.new.self.others.items) (sym all)
-          (subst (λ z. IsUnion code c.args.self.now.reached.items z c.intern-loops.new.self.others.items) (sym here)
-          (subst (λ z. IsUnion code c.args.self.now.reached.items c.part_loops.new.loops.items z) (sym others) union));
+      union = subst (λ z. IsJoinOf code z (places_at states (number * 128 / 128)) c.intern-loops.new.self.others.items) (sym all)
+          (subst (λ z. IsJoinOf code c.args.self.now.reached.items z c.intern-loops.new.self.others.items) (sym here)
+          (subst (λ z. IsJoinOf code c.args.self.now.reached.items c.part_loops.new.loops.items z) (sym others) union));
     }

@@ -1,5 +1,5 @@
 use Rattle.std.proofs.Common.{◌≡◌, ◌∙◌, ◌/◌, ap, sym, subst, length, arith}
-use Rattle.wax_lazy.specs.inner.Table.{IsUnion, own_in, places_at}
+use Rattle.wax_lazy.specs.inner.Table.{IsJoinOf, own_in, places_at}
 use Rattle.wax_lazy.proofs.Tables.{only_item, rest_at}
 use Rattle.wax_lazy.proofs.cache.Cache.lone.Goals as goal
 
@@ -12,5 +12,5 @@ returns-in-len1 c =
     let own = ap own_in c.state-state.ensures ∙ sym c.as_slice.ensures.value ∙ only_item c.as_slice.result.now one in
     record {
       placed = held.placed;
-      union = subst (IsUnion code (places_at states (c.args.at / 128)) (places_at states (c.in-Some.rest / 128))) own held.union;
+      union = subst (IsJoinOf code (places_at states (c.args.at / 128)) (places_at states (c.in-Some.rest / 128))) own held.union;
     }

@@ -1,5 +1,5 @@
 use Rattle.std.proofs.Common.{◌≡◌, ◌+◌, ◌/◌, ◌↔◌, ◌⊎◌, ◌∷◌, ◌<◌, ℕ, List, IfSome, true, drop, length, refl, sym, ◌∙◌, ap, subst, arith}
-use Rattle.wax_lazy.specs.inner.Cached.{Decides}
+use Rattle.wax_lazy.specs.inner.Cached.{DecidesLeft}
 use Rattle.wax_lazy.specs.inner.Table.{IsStatePlace, places_at, places_led}
 use Rattle.wax_lazy.proofs.Lone.{all_on, both_on, check_within, lone_begins, lone_ends, next_placed, rest_on}
 use Rattle.wax_lazy.proofs.Walking.{next_of}
@@ -31,7 +31,7 @@ returns-in-Everything-clause-decides c = λ places lone.
     let after : List ℕ = drop (l.end + 1) text in
     let one : drop l.end text ≡ c.from.result ∷ after = next_of text l.end held.within ∙ ap (λ k. k ∷ after) (sym c.from.ensures) in
     let takes = rw c.in-Everything.is at c.in_ok-next.ensures.leads in
-    subst (λ n. Decides code new places (drop c.args.index text) after n) (sym c.in-Everything.is)
+    subst (λ n. DecidesLeft code new places (drop c.args.index text) after n) (sym c.in-Everything.is)
     (all_on code new places part (drop c.args.index text) (drop l.end text) after l.here.place c.from.result (held.stays places lone) one takes)
 
 pub overflow_add-here : goal.overflow_add-here
