@@ -47,7 +47,7 @@ impl<'g, 't> Model for GlobMatcher<'g, 't> {
 
 impl<'t> Glob<'t> {
     /// Builds a matcher, which is faster than the glob for many paths if the expression has many
-    /// alternatives. It keeps about 2 MiB at most.
+    /// alternatives. It keeps about 2 MiB at most, or up to 16 MiB if the expression is long.
     ///
     /// ```
     /// let glob = Glob::new(alloc, "**/{node_modules,target,build}/**")?;
