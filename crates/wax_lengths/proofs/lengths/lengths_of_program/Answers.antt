@@ -1,5 +1,5 @@
-use Rattle.std.proofs.Common.{◌≡◌, ◌+◌, ◌-◌, ◌*◌, ◌≤◌, ℕ, List, length, drop, arith, rules, ap, length-drop}
-use Rattle.std.proofs.Math.Nat.{le-max_left, mul-le-mul_left, mul-le-mul_right}
+use Rattle.std.proofs.Common.{◌+◌, ◌-◌, ◌*◌, ◌≤◌, ℕ, List, length, drop, arith}
+use Rattle.std.proofs.Math.Nat.{le-max_left, mul-le-mul_right}
 use Rattle.wax_lengths.specs.Ends.{MarksBeginnings}
 use Rattle.wax_lengths.specs.Forms.{program_size}
 use Rattle.wax_lengths.proofs.FormLengths.{has_within}
