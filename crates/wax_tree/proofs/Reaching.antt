@@ -4,7 +4,6 @@ use Rattle.std.proofs.Common.{refl, sym, ap, subst, ◌∙◌, arith, inl, inr, 
 use Rattle.std.specs.Prelude.{Some, None, ◌⊎◌, Err, String}
 use Rattle.std.specs.declared.alloc.Global.{Global}
 use Rattle.std.proofs.lemmas.Str.{IsUtf8-string_bytes}
-use Rattle.wax_directory.specs.declared.directory.FileType.{FileType}
 use Rattle.wax_directory.specs.Shown.{IsPlain, join}
 use Rattle.wax_walk.specs.declared.entry.TreeEntry.{TreeEntry}
 use Rattle.wax_walk.specs.Entries.{facts_of}

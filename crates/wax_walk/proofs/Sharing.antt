@@ -1,6 +1,6 @@
 -- The path of an item, which begins with the path of its folder and ends with its name.
-use Rattle.std.proofs.Common.{◌≡◌, ◌∙◌, ap, refl, sym, subst, inl, inr, arith, ℕ, ◌-◌, ◌<◌, ◌≤◌, Bool, true, false}
-use Rattle.std.proofs.Common.{length, List, [], ◌∷◌, ◌++◌, cond, ◌==◌, not, suc}
+use Rattle.std.proofs.Common.{◌≡◌, ◌∙◌, ap, refl, sym, subst, inl, inr, arith, ℕ, ◌-◌, Bool, true, false}
+use Rattle.std.proofs.Common.{length, List, [], ◌∷◌, ◌++◌, cond, ◌==◌}
 use Rattle.std.specs.Prelude.{take, drop, slice_index}
 use Rattle.std.proofs.lemmas.Bool.{cases_lt}
 use Rattle.std.proofs.Math.Dec.{eqb-suc-zero}
@@ -62,13 +62,6 @@ pub item_name_begins : (path name : List ℕ) → IsUtf8 name
     → IsCharBoundary (join path name) (length (join path name) - length name)
 item_name_begins path name u = IsCharBoundary-from_drop (join path name) _ (omega arith)
     (rw (item_name path name) u)
-
-no_shorter : (path name : List ℕ) (b : Bool) → length name ≤ length (path ++ tail_of b name)
-no_shorter path name true = omega (arith, length-append path name)
-no_shorter path name false = omega (arith, length-append path (47 ∷ name))
-
-pub item_no_shorter : (path name : List ℕ) → length name ≤ length (join path name)
-item_no_shorter path name = rw (join_tail path name (is_open path) refl) (no_shorter path name (is_open path))
 
 -- the path of an item still begins with the start
 item_begins : (path root candidate name : List ℕ) (start : ℕ) → IsShared path root candidate start → IsUtf8 name

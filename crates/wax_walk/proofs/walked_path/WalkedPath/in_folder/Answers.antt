@@ -1,8 +1,8 @@
-use Rattle.std.proofs.Common.{◌≡◌, ◌∙◌, sym, ap, refl, subst, string_bytes, arith, length, ◌-◌}
+use Rattle.std.proofs.Common.{◌≡◌, ap, string_bytes, arith, length, ◌-◌}
 use Rattle.std.proofs.lemmas.Str.{IsUtf8-string_bytes}
 use Rattle.wax_directory.specs.Shown.{join}
 use Rattle.wax_walk.specs.inner.Shared.{IsShared}
-use Rattle.wax_walk.proofs.Sharing.{shared_name, shared_candidate, item_no_shorter}
+use Rattle.wax_walk.proofs.Sharing.{shared_name, shared_candidate}
 use Rattle.wax_walk.proofs.walked_path.WalkedPath.in_folder.Goals.{then-is_empty, else-is_empty}
 use Rattle.wax_walk.proofs.walked_path.WalkedPath.in_folder.Goals as goal
 
