@@ -1,12 +1,12 @@
 -- Caches whose states change.
-use Rattle.std.proofs.Common.{◌≡◌, ◌≤◌, ◌<◌, ◌↔◌, ℕ, Bool, IsTrue, ◌+◌, ◌*◌, ◌/◌, slice_get, set, List, [], ◌∷◌, ◌++◌, Option, Some, None, IfSome, Result, Ok, Err, IfOk, OnErr, length, refl, sym, ◌∙◌, ap, subst, arith, length-append, replicate}
+use Rattle.std.proofs.Common.{◌≡◌, ◌≤◌, ◌<◌, ◌↔◌, ℕ, Bool, IsTrue, ◌+◌, ◌*◌, ◌/◌, slice_get, set, List, [], ◌∷◌, ◌++◌, ◌⊎◌, inl, inr, Option, Some, None, IfSome, Result, Ok, Err, IfOk, OnErr, length, refl, sym, ◌∙◌, ap, subst, arith, length-append, replicate}
 use Rattle.std.proofs.lemmas.List.{length-replicate}
 use Rattle.wax_lazy.specs.declared.cache.Cache.{Cache}
 use Rattle.wax_lazy.specs.declared.table.State.{State}
 use Rattle.std.specs.Global.{Vec}
 use Rattle.wax_lazy.specs.inner.Cached.{AreParted, GrowsBy, IsAdded, IsCacheOf, IsCleared, IsRestarted, IsSameMaker}
-use Rattle.wax_lazy.specs.inner.Table.{BeginsTexts, IsSettled, IsRestState, IsState, IsStatePlace, IsTable, IsTransition, KeepsStates, places_at, places_in}
-use Rattle.wax_lazy.proofs.Tables.{begins_keeps, keeps_append, settled_keeps, slice_get_end, table_empty, table_filled, table_push, table_settled}
+use Rattle.wax_lazy.specs.inner.Table.{BeginsTexts, IsSettled, IsRestState, IsState, IsStatePlace, IsTable, IsTransition, IsWrittenWide, AreEmpty, AreWideCells, KeepsStates, places_at, places_in}
+use Rattle.wax_lazy.proofs.Tables.{begins_keeps, keeps_append, settled_keeps, slice_get_end, table_empty, table_filled, table_push, table_settled, wide_empty, wide_keeps, wide_written}
 use Rattle.wax_program.specs.declared.instruction.Instruction.{Instruction}
 use Rattle.wax_program.specs.Threads.{AnyAmong}
 
@@ -30,6 +30,7 @@ module _ (code : List Instruction) (old new : Cache) (held : IsCacheOf code old)
     size = size_same c.maker;
     start = start_same c.maker;
     table = subst (λ z. IsTable code z new.table.cells.items) (sym c.states) (subst (IsTable code []) (sym c.cells) (table_empty code));
+    wide = wide_empty code new.table.states.items new.table.wide_cells.items c.wide;
     first = no_first code new.table.states.items new.start new.first c.first;
   }
 
@@ -45,6 +46,7 @@ module _ (code : List Instruction) (old new : Cache) (held : IsCacheOf code old)
     size = size_same c.maker;
     start = start_same c.maker;
     table = subst (λ z. IsTable code z new.table.cells.items) (sym c.states) (subst (IsTable code (c.left ∷ [])) (sym c.cells) (table_push code [] [] (table_empty code) c.left (alone s c.left good c.places c.rest c.accepts)));
+    wide = wide_empty code new.table.states.items new.table.wide_cells.items c.wide;
     first = no_first code new.table.states.items new.start new.first c.first;
   }
 
@@ -55,6 +57,9 @@ module _ (code : List Instruction) (old new : Cache) (held : IsCacheOf code old)
     table = subst (λ z. IsTable code z new.table.cells.items) (sym a.states)
         (subst (IsTable code (old.table.states.items ++ s ∷ [])) (sym a.cells)
         (table_push code old.table.states.items old.table.cells.items held.table s good));
+    wide = subst (λ z. AreWideCells code new.table.states.items z.items) (sym a.wide)
+        (subst (λ z. AreWideCells code z old.table.wide_cells.items) (sym a.states)
+        (wide_keeps code old.table.states.items (old.table.states.items ++ s ∷ []) old.table.wide_cells.items (keeps_append old.table.states.items (s ∷ [])) held.wide));
     first = subst (λ z. IfSome z (BeginsTexts code new.table.states.items new.start)) (sym a.first)
         (subst (λ z. IfSome old.first (BeginsTexts code z new.start)) (sym a.states)
         (subst (λ z. IfSome old.first (BeginsTexts code (old.table.states.items ++ s ∷ []) z)) (sym a.maker.start)
@@ -102,12 +107,14 @@ pub cache_filled : (code : List Instruction) (old new : Cache) (at c cell : ℕ)
     → IsTransition code old.table.states.items (places_at old.table.states.items (at / 128)) c cell
     → new.stepper ≡ length code → new.start ≡ old.start → new.first ≡ old.first → new.table.states ≡ old.table.states
     → (c < 128 → new.table.cells.items ≡ set old.table.cells.items (at + c) cell) → (128 ≤ c → new.table.cells.items ≡ old.table.cells.items)
-    → IsCacheOf code new
-cache_filled code old new at c cell held p says sized start first states filled unfilled = record {
+    → IsWrittenWide old.table.wide_cells.items new.table.wide_cells.items at c cell → IsCacheOf code new
+cache_filled code old new at c cell held p says sized start first states filled unfilled written = record {
   size = sized;
   start = subst (λ n. n ≤ length code) (sym start) held.start;
   table = subst (λ z. IsTable code z.items new.table.cells.items) (sym states)
       (table_filled code old.table.states.items old.table.cells.items new.table.cells.items at c cell held.table p says filled unfilled);
+  wide = subst (λ z. AreWideCells code z.items new.table.wide_cells.items) (sym states)
+      (wide_written code old.table.states.items old.table.wide_cells.items new.table.wide_cells.items at c cell held.wide p says written);
   first = subst (λ z. IfSome z (BeginsTexts code new.table.states.items new.start)) (sym first)
       (subst (λ z. IfSome old.first (BeginsTexts code z.items new.start)) (sym states)
       (subst (λ n. IfSome old.first (BeginsTexts code old.table.states.items n)) (sym start) held.first));
@@ -125,16 +132,37 @@ module _ (old new : Cache) (s : State) (r : IsRestarted old new s) where
 
 pub cache_settled : (code : List Instruction) (old new : Cache) (t : ℕ) (b : Bool) → IsCacheOf code old
     → IsSettled old.table.states.items new.table.states.items t b → (IsTrue b ↔ AnyAmong code (places_at old.table.states.items t) [])
-    → new.stepper ≡ length code → new.start ≡ old.start → new.first ≡ old.first → new.table.cells ≡ old.table.cells → IsCacheOf code new
-cache_settled code old new t b held settled ends sized start first cells = record {
+    → new.stepper ≡ length code → new.start ≡ old.start → new.first ≡ old.first → new.table.cells ≡ old.table.cells → new.table.wide_cells ≡ old.table.wide_cells
+    → IsCacheOf code new
+cache_settled code old new t b held settled ends sized start first cells wide = record {
   size = sized;
   start = subst (λ n. n ≤ length code) (sym start) held.start;
   table = subst (λ z. IsTable code new.table.states.items z.items) (sym cells)
       (table_settled old.table.states.items new.table.states.items t b settled code old.table.cells.items held.table ends);
+  wide = subst (λ z. AreWideCells code new.table.states.items z.items) (sym wide)
+      (wide_keeps code old.table.states.items new.table.states.items old.table.wide_cells.items (settled_keeps old.table.states.items new.table.states.items t b settled) held.wide);
   first = subst (λ z. IfSome z (BeginsTexts code new.table.states.items new.start)) (sym first)
       (subst (λ n. IfSome old.first (BeginsTexts code new.table.states.items n)) (sym start)
       (first_keeps code old.table.states.items new.table.states.items old.start old.first
       (settled_keeps old.table.states.items new.table.states.items t b settled) held.first));
+}
+
+-- cells of characters past ASCII that were made room for
+pub cache_prepared : (code : List Instruction) (old new : Cache) → IsCacheOf code old → new.stepper ≡ old.stepper → new.start ≡ old.start → new.first ≡ old.first
+    → new.table.states ≡ old.table.states → new.table.cells ≡ old.table.cells
+    → (new.table.wide_cells ≡ old.table.wide_cells) ⊎ AreEmpty new.table.wide_cells.items → IsCacheOf code new
+cache_prepared code old new held stepper start first states cells wide = record {
+  size = stepper ∙ held.size;
+  start = subst (λ n. n ≤ length code) (sym start) held.start;
+  table = subst (λ z. IsTable code z.items new.table.cells.items) (sym states) (subst (λ z. IsTable code old.table.states.items z.items) (sym cells) held.table);
+  wide = elim wide [
+    | inl same ↦ subst (λ z. AreWideCells code z.items new.table.wide_cells.items) (sym states)
+        (subst (λ z. AreWideCells code old.table.states.items z.items) (sym same) held.wide)
+    | inr empty ↦ wide_empty code new.table.states.items new.table.wide_cells.items empty
+  ];
+  first = subst (λ z. IfSome z (BeginsTexts code new.table.states.items new.start)) (sym first)
+      (subst (λ z. IfSome old.first (BeginsTexts code z.items new.start)) (sym states)
+      (subst (λ n. IfSome old.first (BeginsTexts code old.table.states.items n)) (sym start) held.first));
 }
 
 -- a new state whose places are those that were reached, in the parts that are known
@@ -173,5 +201,6 @@ restarted old mid new s taken left number t cleared added is took places rest ac
       accepts = accepts ∙ ap (λ z. z.accepts) same;
       states = added.states ∙ ap (λ z. z ++ left ∷ []) cleared.states;
       cells = added.cells ∙ ap (λ z. z ++ replicate 128 0) cleared.cells;
+      wide = subst (λ z. AreEmpty z.items) (sym added.wide) cleared.wide;
       first = added.first ∙ cleared.first;
     }

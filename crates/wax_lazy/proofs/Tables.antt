@@ -4,9 +4,10 @@ use Rattle.std.proofs.lemmas.Bool.{cases_eq, cases_lt}
 use Rattle.std.proofs.lemmas.List.{get_or_append_left, get_or-append_right, get_or-replicate, length-replicate}
 use Rattle.std.proofs.lemmas.Option.{slice_get_cases, slice_get_within}
 use Rattle.wax_lazy.specs.declared.table.State.{State}
+use Rattle.wax_lazy.specs.declared.table.WideCell.{WideCell}
 use Rattle.wax_lazy.specs.declared.table.Next.{Next}
 use Rattle.wax_lazy.specs.declared.table.Next.TheVariants.{To, Nothing, Everything}
-use Rattle.wax_lazy.specs.inner.Table.{BeginsTexts, IsDead, IsRestState, IsSettled, IsState, IsStatePlace, IsTable, IsTransition, IsJoinOf, KeepsStates, LeadOn, Leads, LeadsNext, LeadsTo, TakesAll, led_of, own_at, own_in, places_at, places_in, places_led}
+use Rattle.wax_lazy.specs.inner.Table.{AreEmpty, AreWideCells, HasWide, IsWrittenWide, cell_of_next, BeginsTexts, IsDead, IsRestState, IsSettled, IsState, IsStatePlace, IsTable, IsTransition, IsJoinOf, KeepsStates, LeadOn, Leads, LeadsNext, LeadsTo, TakesAll, led_of, own_at, own_in, places_at, places_in, places_led}
 use Rattle.wax_program.specs.declared.instruction.Instruction.{Instruction}
 use Rattle.wax_program.specs.Machine.{Accepts}
 use Rattle.wax_stepper.specs.Reached.{AreReached, taken_if}
@@ -399,6 +400,66 @@ led code states from places others c t same lt e a = record {
   leads = subst (λ z. LeadOn code c z (places_at states (t * 128 / 128))) (sym same)
       (subst (LeadOn code c places) (sym (at_number states t ∙ e)) a);
 }
+
+-- ---- cells of characters past ASCII
+some_cell : {w v : WideCell} → Some w ≡ Some v → w ≡ v
+some_cell e = cc
+
+no_cell : {w : WideCell} → None ≡ Some w → ⊥
+no_cell e = cc
+
+pub wide_empty : (code : List Instruction) (states : List State) (ws : List WideCell) → AreEmpty ws → AreWideCells code states ws
+wide_empty code states ws empty i w is = inl (empty i w is)
+
+pub empty_replicate : (n : ℕ) (w : WideCell) → w.cell ≡ 0 → AreEmpty (replicate n w)
+empty_replicate zero w e i v is = absurd (no_cell is)
+empty_replicate (suc n) w e zero v is = sym (ap (λ z. z.cell) (some_cell is)) ∙ e
+empty_replicate (suc n) w e (suc i) v is = empty_replicate n w e i v is
+
+pub wide_keeps : (code : List Instruction) (old new : List State) (ws : List WideCell) → KeepsStates old new → AreWideCells code old ws → AreWideCells code new ws
+wide_keeps code old new ws keeps held i w is = elim (held i w is) [
+  | inl e ↦ inl e
+  | inr h ↦ inr (
+    placed_keeps old new keeps w.at h.0,
+    subst (λ z. IsTransition code new z w.character w.cell) (sym (places_keep old new keeps w.at h.0))
+        (cell_keeps old new keeps code (places_at old (w.at / 128)) w.character w.cell h.1),
+  )
+]
+
+pub wide_written : (code : List Instruction) (states : List State) (old new : List WideCell) (at c cell : ℕ) → AreWideCells code states old → IsStatePlace states at
+    → IsTransition code states (places_at states (at / 128)) c cell → IsWrittenWide old new at c cell → AreWideCells code states new
+wide_written code states old new at c cell held p says written i w is = elim (written i w is) [
+  | inl e ↦ held i w e
+  | inr h ↦ inr (
+    subst (IsStatePlace states) (sym h.0) p,
+    subst (λ a. IsTransition code states (places_at states (a / 128)) w.character w.cell) (sym h.0)
+        (subst (λ k. IsTransition code states (places_at states (at / 128)) k w.cell) (sym h.1)
+        (subst (IsTransition code states (places_at states (at / 128)) c) (sym h.2) says)),
+  )
+]
+
+pub wide_says : (code : List Instruction) (states : List State) (ws : List WideCell) (at c cell : ℕ) → AreWideCells code states ws → (cell ≡ 0) ⊎ HasWide ws at c cell
+    → IsTransition code states (places_at states (at / 128)) c cell
+wide_says code states ws at c cell held (inl e) = inl e
+wide_says code states ws at c cell held (inr (i, w, is, (state, character, says))) = elim (held i w is) [
+  | inl e ↦ inl (sym says ∙ e)
+  | inr h ↦ subst (λ a. IsTransition code states (places_at states (a / 128)) c cell) state
+      (subst (λ k. IsTransition code states (places_at states (w.at / 128)) k cell) character
+      (subst (IsTransition code states (places_at states (w.at / 128)) w.character) says h.1))
+]
+
+-- the cell of a character that leads there says so
+pub cell_says : (code : List Instruction) (states : List State) (places : List ℕ) (c : ℕ) (next : Next) → LeadsNext code states places c next
+    → IsTransition code states places c (cell_of_next next)
+cell_says code states places c (To at) l = inr (inr (inr (at, refl, l)))
+cell_says code states places c Nothing dead = inr (inl (refl, dead))
+cell_says code states places c Everything all = inr (inr (inl (refl, all)))
+
+pub next_within : (code : List Instruction) (states : List State) (places : List ℕ) (c : ℕ) (next : Next) (most : ℕ) → LeadsNext code states places c next
+    → length states ≤ most → IfSome (led_of next) (λ at. at / 128 < most)
+next_within code states places c (To at) most l few = let kept = l.placed.kept in omega (arith, kept, few)
+next_within code states places c Nothing most l few = tt
+next_within code states places c Everything most l few = tt
 
 -- ---- lone places
 pub only_item : (xs : List ℕ) → length xs ≡ 1 → xs ≡ get_or xs 0 0 ∷ []

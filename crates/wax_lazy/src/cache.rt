@@ -13,7 +13,7 @@ ghost use Rattle.wax_program.specs.Checks.{IsCheckAt};
 ghost use Rattle.wax_program.specs.declared.instruction.Instruction.{Instruction};
 ghost use Rattle.wax_program.specs.Threads.{AnyAmong};
 
-use crate::table::{ALL, COLUMNS, DEAD, FIRST, Next, State, Table};
+use crate::table::{ALL, COLUMNS, DEAD, FIRST, Next, State, Table, cell_of, next_of};
 use std::alloc::{AllocError, Global};
 use std::mem;
 use wax_program::{CompiledProgram, check_at, has_loop, part_loops, place_of_all};
@@ -152,12 +152,39 @@ impl Cache {
         ensures leads { let places = places_at self.old.table.states.items (at / 128) in
             IfOk result (LeadsNext program.now.0 self.new.table.states.items places c) }
     {
-        if c.is_ascii() {
-            if let Some(next) = self.known(at, c as u8) {
-                return Ok(next);
-            }
+        if let Some(next) = self.known_char(at, c) {
+            return Ok(next);
         }
+        self.prepare_for(program, c)?;
         self.fill(program, at, c)
+    }
+
+    /// Makes room for the cell of a character, if it is past ASCII.
+    fn prepare_for(&mut self, _program: &CompiledProgram, c: char) -> Result<(), AllocError>
+        requires { IsCacheOf _program.now.0 self.old }
+        ensures cache { IsCacheOf _program.now.0 self.new }
+        ensures start { self.new.start ≡ self.old.start }
+        ensures states { self.new.table.states ≡ self.old.table.states }
+    {
+        if c.is_ascii() {
+            return Ok(());
+        }
+        self.table.prepare_wide(self.alloc)
+    }
+
+    /// Returns where a character leads, if its cell is filled.
+    #[inline]
+    fn known_char(&self, at: usize, c: char) -> Option<Next>
+        requires placed { IsStatePlace self.now.table.states.items at }
+        requires room { length self.now.table.cells.items ≡ 128 * length self.now.table.states.items }
+        ensures { (code : List Instruction) → IsCacheOf code self.now → IfSome result
+            (LeadsNext code self.now.table.states.items
+            (places_at self.now.table.states.items (at / 128)) c) }
+    {
+        if c.is_ascii() {
+            return self.known(at, c as u8);
+        }
+        next_of(self.table.wide_cell(at, c))
     }
 
     /// Returns where an ASCII character leads, passed as its byte, if its cell is filled. Takes one
@@ -171,17 +198,7 @@ impl Cache {
             (LeadsNext code self.now.table.states.items
             (places_at self.now.table.states.items (at / 128)) c) }
     {
-        let cell = self.table.cells[at + usize::from(c)];
-        if cell >= FIRST {
-            return Some(Next::To(usize::from(cell - FIRST) * COLUMNS));
-        }
-        if cell == ALL {
-            return Some(Next::Everything);
-        }
-        if cell == DEAD {
-            return Some(Next::Nothing);
-        }
-        None
+        next_of(self.table.cells[at + usize::from(c)])
     }
 
     /// Follows the ASCII characters of a text from the place `index` on: one of them, or more if the
@@ -305,7 +322,7 @@ impl Cache {
         Ok((Next::To(at), end))
     }
 
-    /// Follows an ASCII character from a state, if there is one.
+    /// Follows a character from a state, if there is one.
     fn follow_rest(
         &mut self,
         program: &CompiledProgram,
@@ -315,7 +332,6 @@ impl Cache {
         requires cache { IsCacheOf program.now.0 self.old }
         requires placed { IfSome rest (IsStatePlace self.old.table.states.items) }
         requires few { length self.old.table.states.items < 60000 }
-        requires ascii { c < 128 }
         ensures cache { IsCacheOf program.now.0 self.new }
         ensures start { self.new.start ≡ self.old.start }
         ensures leads { let places = places_led self.old.table.states.items rest in
@@ -351,8 +367,8 @@ impl Cache {
         Ok(number * COLUMNS)
     }
 
-    /// Follows a character by a step of the program, and fills its cell if it is ASCII. If the
-    /// cache is full, first removes all states but the current one.
+    /// Follows a character by a step of the program, and fills its cell. If the cache is full, first
+    /// removes all states but the current one.
     #[inline(never)]
     fn fill(&mut self, program: &CompiledProgram, at: usize, c: char) -> Result<Next, AllocError>
         requires cache { IsCacheOf program.now.0 self.old }
@@ -392,7 +408,7 @@ impl Cache {
         let Some(rest) = self.table.state(at).rest else {
             return self.follow_all(program, at, c);
         };
-        if depth == 0 || !c.is_ascii() {
+        if depth == 0 {
             return self.follow_all(program, at, c);
         }
         let next = self.follow_known(program, rest, c, depth - 1)?;
@@ -403,13 +419,13 @@ impl Cache {
         let led = next.led();
         let leads = self.step_own(program, at, c, led)?;
         if !leads {
-            self.table.copy_cell(rest, at, c);
+            self.table.write(at, c, cell_of(next));
             return Ok(next);
         }
         self.enter(program, at, c, led)
     }
 
-    /// Follows an ASCII character by its cell, if that is filled, and otherwise as `follow` does.
+    /// Follows a character by its cell, if that is filled, and otherwise as `follow` does.
     #[cycle(follow)]
     fn follow_known(
         &mut self,
@@ -421,14 +437,13 @@ impl Cache {
         requires cache { IsCacheOf program.now.0 self.old }
         requires placed { IsStatePlace self.old.table.states.items at }
         requires few { length self.old.table.states.items + (2 * depth + 2) < 65533 }
-        requires ascii { c < 128 }
         ensures cache { IsCacheOf program.now.0 self.new }
         ensures start { self.new.start ≡ self.old.start }
         ensures leads { let places = places_at self.old.table.states.items (at / 128) in
             IfOk result (LeadsNext program.now.0 self.new.table.states.items places c) }
         ensures grows { IfOk result (λ _. GrowsBy (2 * depth + 2) self.old self.new) }
     {
-        if let Some(next) = self.known(at, c as u8) {
+        if let Some(next) = self.known_char(at, c) {
             return Ok(next);
         }
         self.follow(program, at, c, depth)
@@ -499,8 +514,8 @@ impl Cache {
         false
     }
 
-    /// Fills the cell of an ASCII character in the state whose cells begin at `at`, by the places
-    /// that were reached. Those in `self.others`, and those of the state `led`, if there is one, are
+    /// Fills the cell of a character in the state whose cells begin at `at`, by the places that were
+    /// reached. Those in `self.others`, and those of the state `led`, if there is one, are
     /// all of them.
     fn enter(
         &mut self,

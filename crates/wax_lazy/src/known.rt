@@ -10,11 +10,6 @@ use std::alloc::{AllocError, Global};
 use wax_program::{CompiledProgram, Meter, last_name, reads_last, run_known};
 use wax_query::diagnostics::NoMemory;
 
-/// The least number of instructions of a program that isn't run over texts that are mostly of
-/// characters past ASCII. There a smaller program takes less time than a step of the cache for each
-/// character.
-const LEAST_SIZE: usize = 64;
-
 /// What is known of a program, and the states that earlier texts led to.
 #[derive(Drop)]
 pub struct Known {
@@ -113,8 +108,7 @@ fn empty_cache(
     Cache::new(alloc, program, 0, most_bytes)
 }
 
-/// Decides a text by the cache. Runs the program instead if the cache gave up, or if the program
-/// has fewer than [`LEAST_SIZE`] instructions and the text is mostly of characters past ASCII.
+/// Decides a text by the cache, or by a run of the program if the cache gave up.
 fn decide(
     alloc: Global,
     program: &CompiledProgram,
@@ -127,7 +121,7 @@ fn decide(
     ensures cache { IsKeptFor program.now.0 reads_last cache.new }
     ensures decides { IfOk result (λ b. IsTrue b ↔ Accepts program.now.0 0 (chars text.now)) }
 {
-    if cache.gives_up || program.size() < LEAST_SIZE && is_past_ascii(text) {
+    if cache.gives_up {
         return decide_once(alloc, program, reads_last, text);
     }
     if reads_last {
@@ -147,13 +141,4 @@ fn decide_once(
 {
     let mut meter = Meter::new();
     run_known(alloc, program, reads_last, text, &mut meter)
-}
-
-/// Returns whether most bytes of the text are of characters past ASCII.
-fn is_past_ascii(text: &str) -> bool {
-    if text.is_ascii() {
-        return false;
-    }
-    let ascii = text.bytes().filter(|byte| byte.is_ascii()).count();
-    ascii < text.len() / 2
 }

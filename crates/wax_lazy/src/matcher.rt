@@ -92,8 +92,8 @@ impl<'p> Matcher<'p> {
     }
 
     /// Returns whether the program accepts the text. If the text leads only to states that are
-    /// known, this takes one load and one comparison for each ASCII character, and a round of the
-    /// program for any other.
+    /// known, this takes one load and one comparison for each ASCII character, and a look into a
+    /// hash table for any other.
     ///
     /// # Errors
     ///

@@ -1,8 +1,10 @@
 //! The table of states, with the next state for each ASCII character.
-ghost use Rattle.std.specs.Prelude.{◌≡◌, ◌+◌, ◌*◌, ◌/◌, ◌<◌, ◌≤◌, ◌++◌, ◌∷◌, [], IfOk, IfSome, IsTrue, Some};
-ghost use Rattle.std.specs.Prelude.{length, replicate, slice_get, slice_index, slice_set};
+ghost use Rattle.std.specs.Prelude.{◌≡◌, ◌+◌, ◌*◌, ◌/◌, ◌<◌, ◌≤◌, ◌++◌, ◌∷◌, ◌⊎◌, ℕ, [], IfOk, IfSome, IsTrue};
+ghost use Rattle.std.specs.Prelude.{List, Some, length, replicate, slice_get, slice_index, slice_set};
 ghost use Rattle.wax_lazy.specs.declared.table.State.{State};
-ghost use Rattle.wax_lazy.specs.inner.Table.{IsSettled, led_of, places_at, places_led};
+ghost use Rattle.wax_lazy.specs.inner.Table.{AreEmpty, HasWide, IsSettled, IsTransition, IsWrittenWide};
+ghost use Rattle.wax_lazy.specs.inner.Table.{LeadsNext, cell_of_next, led_of, places_at, places_led};
+ghost use Rattle.wax_program.specs.declared.instruction.Instruction.{Instruction};
 
 use std::alloc::{AllocError, Global};
 
@@ -21,6 +23,9 @@ pub const ALL: u16 = 2;
 
 /// The cell of a character that leads to the first state.
 pub const FIRST: u16 = 3;
+
+/// The number of cells for characters past ASCII, for all states together.
+const WIDE_CELLS: usize = 4_096;
 
 /// Where a character leads from a state.
 #[derive(Clone, Copy)]
@@ -45,6 +50,53 @@ impl Next {
     }
 }
 
+/// Returns what a cell says, unless it is empty.
+#[inline(always)]
+pub fn next_of(cell: u16) -> Option<Next>
+    ensures { (code : List Instruction) → (states : List State) → (places : List ℕ) → (c : ℕ)
+        → IsTransition code states places c cell → IfSome result (LeadsNext code states places c) }
+{
+    if cell >= FIRST {
+        return Some(Next::To(usize::from(cell - FIRST) * COLUMNS));
+    }
+    if cell == ALL {
+        return Some(Next::Everything);
+    }
+    if cell == DEAD {
+        return Some(Next::Nothing);
+    }
+    None
+}
+
+/// Returns the cell of a character that leads there.
+pub fn cell_of(next: Next) -> u16
+    requires { IfSome (led_of next) (λ at. at / 128 < 65533) }
+    ensures { result ≡ cell_of_next next }
+{
+    match next {
+        Next::To(at) => (at / COLUMNS) as u16 + FIRST,
+        Next::Nothing => DEAD,
+        Next::Everything => ALL,
+    }
+}
+
+/// The cell of a character past ASCII in the state whose cells begin at `at`.
+#[derive(Clone, Copy)]
+pub struct WideCell {
+    pub at: usize,
+    pub character: char,
+    pub cell: u16,
+}
+
+impl WideCell {
+    /// A cell that is still empty.
+    const EMPTY: WideCell = WideCell {
+        at: 0,
+        character: '\0',
+        cell: UNKNOWN,
+    };
+}
+
 /// A state: places that were reached.
 #[derive(Drop)]
 pub struct State {
@@ -64,6 +116,9 @@ pub struct Table {
     pub states: Vec<State>,
     /// The cells of each state, one state after another.
     pub cells: Vec<u16>,
+    /// Cells of characters past ASCII, each where the hash of its state and its character says. A
+    /// later one replaces an earlier one. There are none before the first such character.
+    pub wide_cells: Vec<WideCell>,
     /// A hash table: the number of a state plus 1, at the hash of its places or soon after it.
     /// Empty slots are 0. The number of slots is a power of two.
     slots: Vec<u16>,
@@ -79,11 +134,13 @@ impl Table {
     pub fn new(alloc: Global, most: usize) -> Result<Table, AllocError>
         ensures states { IfOk result (λ t. t.states.items ≡ []) }
         ensures cells { IfOk result (λ t. t.cells.items ≡ []) }
+        ensures wide { IfOk result (λ t. t.wide_cells.items ≡ []) }
     {
         let slots = vec![in alloc; 0u16; slots_for(most)]?;
         Ok(Table {
             states: Vec::new(alloc),
             cells: Vec::new(alloc),
+            wide_cells: Vec::new(alloc),
             slots,
         })
     }
@@ -122,6 +179,7 @@ impl Table {
         requires { at / 128 < length self.old.states.items }
         ensures states { IsSettled self.old.states.items self.new.states.items (at / 128) accepts }
         ensures cells { self.new.cells ≡ self.old.cells }
+        ensures wide { self.new.wide_cells ≡ self.old.wide_cells }
     {
         self.states[at / COLUMNS].accepts = Some(accepts);
     }
@@ -168,6 +226,7 @@ impl Table {
         ensures number { IfOk result (λ t. t ≡ length self.old.states.items) }
         ensures states { IfOk result (λ _. self.new.states.items ≡ self.old.states.items ++ state ∷ []) }
         ensures cells { IfOk result (λ _. self.new.cells.items ≡ self.old.cells.items ++ replicate 128 0) }
+        ensures wide { self.new.wide_cells ≡ self.old.wide_cells }
     {
         let number = self.states.len();
         self.cells.extend_from_slice(&[UNKNOWN; COLUMNS])?;
@@ -176,31 +235,66 @@ impl Table {
         Ok(number)
     }
 
-    /// Fills the cell of an ASCII character in the state whose cells begin at `at`. Does nothing
-    /// for any other character.
+    /// Makes room for the cells of characters past ASCII, unless there is some. Allocates 64 KiB.
+    ///
+    /// # Errors
+    ///
+    /// Returns `AllocError` if allocation fails.
+    pub fn prepare_wide(&mut self, alloc: Global) -> Result<(), AllocError>
+        ensures states { self.new.states ≡ self.old.states }
+        ensures cells { self.new.cells ≡ self.old.cells }
+        ensures wide { (self.new.wide_cells ≡ self.old.wide_cells) ⊎ AreEmpty self.new.wide_cells.items }
+    {
+        if self.wide_cells.is_empty() {
+            self.wide_cells = vec![in alloc; WideCell::EMPTY; WIDE_CELLS]?;
+        }
+        Ok(())
+    }
+
+    /// Returns the cell of a character past ASCII in the state whose cells begin at `at`, or an
+    /// empty one if another has replaced it.
+    #[inline]
+    pub fn wide_cell(&self, at: usize, c: char) -> u16
+        ensures { (result ≡ 0) ⊎ HasWide self.now.wide_cells.items at c result }
+    {
+        match self.wide_cells.get(wide_slot(at, c)) {
+            Some(wide) if wide.at == at && wide.character == c => wide.cell,
+            _ => UNKNOWN,
+        }
+    }
+
+    /// Fills the cell of a character in the state whose cells begin at `at`. Does nothing if the
+    /// character is past ASCII and there is no room for such cells.
     #[inline]
     pub fn write(&mut self, at: usize, c: char, cell: u16)
         requires { c < 128 → at + c < length self.old.cells.items }
         ensures states { self.new.states ≡ self.old.states }
         ensures filled { c < 128 → self.new.cells.items ≡ slice_set self.old.cells.items (at + c) cell }
         ensures unfilled { 128 ≤ c → self.new.cells.items ≡ self.old.cells.items }
+        ensures wide { IsWrittenWide self.old.wide_cells.items self.new.wide_cells.items at c cell }
     {
         if c.is_ascii() {
             self.cells[at + c as usize] = cell;
+            return;
         }
+        self.write_wide(WideCell {
+            at,
+            character: c,
+            cell,
+        });
     }
 
-    /// Copies the cell of an ASCII character of the state whose cells begin at `from` to the state
-    /// whose cells begin at `to`.
-    pub fn copy_cell(&mut self, from: usize, to: usize, c: char)
-        requires ascii { c < 128 }
-        requires from { from + c < length self.old.cells.items }
-        requires to { to + c < length self.old.cells.items }
+    /// Writes the cell of a character past ASCII, if there is room for such cells.
+    fn write_wide(&mut self, wide: WideCell)
         ensures states { self.new.states ≡ self.old.states }
-        ensures cells { self.new.cells.items ≡ slice_set self.old.cells.items (to + c)
-            (slice_index self.old.cells.items (from + c)) }
+        ensures cells { self.new.cells ≡ self.old.cells }
+        ensures wide { IsWrittenWide self.old.wide_cells.items self.new.wide_cells.items
+            wide.at wide.character wide.cell }
     {
-        self.cells[to + c as usize] = self.cells[from + c as usize];
+        let slot = wide_slot(wide.at, wide.character);
+        if slot < self.wide_cells.len() {
+            self.wide_cells[slot] = wide;
+        }
     }
 
     /// Removes a state and returns it. The table then has to be cleared.
@@ -215,11 +309,20 @@ impl Table {
     pub fn clear(&mut self)
         ensures states { self.new.states.items ≡ [] }
         ensures cells { self.new.cells.items ≡ [] }
+        ensures wide { AreEmpty self.new.wide_cells.items }
     {
         self.states.clear();
         self.cells.clear();
+        self.wide_cells.fill(WideCell::EMPTY);
         self.slots.fill(0);
     }
+}
+
+/// Returns where the cell of a character past ASCII is among the cells of such characters.
+#[inline]
+fn wide_slot(at: usize, c: char) -> usize {
+    let key = (at as u64).wrapping_mul(1 << 14) ^ u64::from(c);
+    (key.wrapping_mul(0x9E37_79B9_7F4A_7C15) >> 52) as usize
 }
 
 /// Returns the slot that is looked at after `probe` others, or 0 if there are no slots.

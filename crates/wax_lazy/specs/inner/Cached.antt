@@ -7,8 +7,8 @@ use Rattle.wax_lazy.specs.declared.table.Next.{Next}
 use Rattle.wax_lazy.specs.declared.table.Next.TheVariants.{To, Nothing, Everything}
 use Rattle.wax_lazy.specs.declared.known.Known.{Known}
 use Rattle.wax_lazy.specs.declared.table.State.{State}
-use Rattle.wax_lazy.specs.inner.Table.{BeginsTexts, IsRestState, IsStatePlace, IsTable, IsJoinOf}
-use Rattle.wax_lazy.specs.inner.Table.{KeepsStates, LeadOn, own_at, places_at, places_led}
+use Rattle.wax_lazy.specs.inner.Table.{AreEmpty, AreWideCells, BeginsTexts, IsRestState, IsStatePlace}
+use Rattle.wax_lazy.specs.inner.Table.{IsJoinOf, IsTable, KeepsStates, LeadOn, own_at, places_at, places_led}
 use Rattle.wax_program.specs.declared.instruction.Instruction.{Instruction}
 use Rattle.wax_program.specs.Last.{ReadsLast}
 use Rattle.wax_program.specs.Threads.{AnyAmong}
@@ -18,6 +18,7 @@ pub record IsCacheOf (code : List Instruction) (c : Cache) : Type 0 where
   pub size : c.stepper ≡ length code
   pub start : c.start ≤ length code
   pub table : IsTable code c.table.states.items c.table.cells.items
+  pub wide : AreWideCells code c.table.states.items c.table.wide_cells.items
   pub first : IfSome c.first (BeginsTexts code c.table.states.items c.start)
 
 -- the lists of places that a step wrote are as they were
@@ -37,6 +38,7 @@ pub record IsCleared (old new : Cache) : Type 0 where
   pub maker : IsSameMaker old new
   pub states : new.table.states.items ≡ []
   pub cells : new.table.cells.items ≡ []
+  pub wide : AreEmpty new.table.wide_cells.items
   pub first : new.first ≡ None
 
 -- one state is left, without its rest and with empty cells
@@ -48,6 +50,7 @@ pub record IsRestarted (old new : Cache) (s : State) : Type 0 where
   pub accepts : left.accepts ≡ s.accepts
   pub states : new.table.states.items ≡ left ∷ []
   pub cells : new.table.cells.items ≡ replicate 128 0
+  pub wide : AreEmpty new.table.wide_cells.items
   pub first : new.first ≡ None
 
 -- the state was added behind the others, with empty cells, under this number
@@ -56,6 +59,7 @@ pub record IsAdded (old new : Cache) (s : State) (number : ℕ) : Type 0 where
   pub numbered : number ≡ length old.table.states.items
   pub states : new.table.states.items ≡ old.table.states.items ++ s ∷ []
   pub cells : new.table.cells.items ≡ old.table.cells.items ++ replicate 128 0
+  pub wide : new.table.wide_cells ≡ old.table.wide_cells
   pub first : new.first ≡ old.first
 
 -- all states are kept, and there are at most so many more

@@ -5,6 +5,7 @@ use Rattle.std.specs.Prelude.{slice_get, slice_index, slice_set}
 use Rattle.wax_lazy.specs.declared.table.Next.{Next}
 use Rattle.wax_lazy.specs.declared.table.Next.TheVariants.{To, Nothing, Everything}
 use Rattle.wax_lazy.specs.declared.table.State.{State}
+use Rattle.wax_lazy.specs.declared.table.WideCell.{WideCell}
 use Rattle.wax_program.specs.declared.instruction.Instruction.{Instruction}
 use Rattle.wax_program.specs.Machine.{Accepts}
 use Rattle.wax_program.specs.Threads.{AnyAmong}
@@ -94,6 +95,12 @@ led_of (To at) = Some at
 led_of Nothing = None
 led_of Everything = None
 
+-- the cell of a character that leads there
+abbrev pub cell_of_next : Next → ℕ
+cell_of_next (To at) = at / 128 + 3
+cell_of_next Nothing = 1
+cell_of_next Everything = 2
+
 -- where the character leads from the places, or that the rest of the text doesn't matter
 abbrev pub LeadsNext : List Instruction → List State → List ℕ → ℕ → Next → Type 0
 LeadsNext code states places c (To at) = LeadsTo code states places c at
@@ -105,6 +112,33 @@ abbrev pub IsTransition : List Instruction → List State → List ℕ → ℕ �
 IsTransition code states places c cell =
     (cell ≡ 0) ⊎ (((cell ≡ 1) × IsDead code places c) ⊎ (((cell ≡ 2) × TakesAll code places c)
     ⊎ ((at : ℕ) × (cell ≡ at / 128 + 3) × LeadsTo code states places c at)))
+
+-- the cell is empty, or says where its character leads from the places of its state
+abbrev pub IsWideCell : List Instruction → List State → WideCell → Type 0
+IsWideCell code states w = (w.cell ≡ 0)
+    ⊎ (IsStatePlace states w.at × IsTransition code states (places_at states (w.at / 128)) w.character w.cell)
+
+-- each cell of a character past ASCII is such a cell
+abbrev pub AreWideCells : List Instruction → List State → List WideCell → Type 0
+AreWideCells code states ws = (i : ℕ) (w : WideCell) → slice_get ws i ≡ Some w → IsWideCell code states w
+
+-- each cell of a character past ASCII is empty
+abbrev pub AreEmpty : List WideCell → Type 0
+AreEmpty ws = (i : ℕ) (w : WideCell) → slice_get ws i ≡ Some w → w.cell ≡ 0
+
+-- this is the cell of the character in the state whose cells begin at `at`
+abbrev pub IsWideOf : ℕ → ℕ → ℕ → WideCell → Type 0
+IsWideOf at c cell w = (w.at ≡ at) × (w.character ≡ c) × (w.cell ≡ cell)
+
+-- the cell of the character in the state whose cells begin at `at` is among them
+abbrev pub HasWide : List WideCell → ℕ → ℕ → ℕ → Type 0
+HasWide ws at c cell = (i : ℕ) × (w : WideCell) × (slice_get ws i ≡ Some w) × IsWideOf at c cell w
+
+-- the cells are as they were, but that one of them may be that of the character in the state whose cells
+-- begin at `at`
+abbrev pub IsWrittenWide : List WideCell → List WideCell → ℕ → ℕ → ℕ → Type 0
+IsWrittenWide old new at c cell = (i : ℕ) (w : WideCell) → slice_get new i ≡ Some w
+    → (slice_get old i ≡ Some w) ⊎ IsWideOf at c cell w
 
 -- the states are those of a program, and each has a cell for each of 128 characters
 pub record IsTable (code : List Instruction) (states : List State) (cells : List ℕ) : Type 0 where

@@ -1,19 +1,18 @@
-use Rattle.std.proofs.Common.{◌+◌, ◌/◌, ◌<◌, ℕ, ap, get_or, length, refl, rules, sym, ◌∙◌, subst, arith, inl, inr}
+use Rattle.std.proofs.Common.{◌/◌, ◌≤◌, ℕ, ap, length, refl, sym, ◌∙◌, subst, arith, inl, inr}
 use Rattle.wax_lazy.specs.inner.Cached.{AreStepped}
-use Rattle.wax_lazy.specs.inner.Table.{IsDead, IsTransition, KeepsStates, Leads, LeadOn, LeadsNext, TakesAll, places_at, places_led, own_at}
+use Rattle.wax_lazy.specs.inner.Table.{IsDead, IsTransition, KeepsStates, Leads, LeadOn, LeadsNext, TakesAll, cell_of_next, places_at, places_led, own_at}
 use Rattle.wax_lazy.proofs.Caches.{cache_filled}
-use Rattle.wax_lazy.proofs.Tables.{cell_as_part, leads_as_part, leads_known, leads_later, led_leads, led_parted, part_takes_all, parts_lead, place_inside, placed_keeps, rest_at, rest_later, says_at}
+use Rattle.wax_lazy.proofs.Tables.{cell_says, leads_as_part, leads_known, leads_later, led_leads, led_parted, next_within, part_takes_all, parts_lead, placed_keeps, rest_at, rest_later}
 use Rattle.wax_lazy.proofs.cache.Cache.+follow.Goals as goal
 
 pub follow-follow_known-requires : goal.follow-follow_known-requires
 follow-follow_known-requires t c =
     let was = c.requires.cache in
-    let held = rest_at c.args.program.now.0 c.args.self.now.table.states.items c.args.self.now.table.cells.items c.args.at c.state.result.now c.in-Some.rest was.table c.state.ensures c.in-Some.is in
-    let ascii : c.args.c < 128 = search rules in (
+    let held = rest_at c.args.program.now.0 c.args.self.now.table.states.items c.args.self.now.table.cells.items c.args.at c.state.result.now c.in-Some.rest was.table c.state.ensures c.in-Some.is in (
       omega (arith, c.decreases, c.if-depth-eq0.false),
       (
-        record { size = was.size; start = was.start; table = was.table; first = was.first },
-        (held.placed, (omega (arith, c.requires.few), ascii)),
+        record { size = was.size; start = was.start; table = was.table; wide = was.wide; first = was.first },
+        (held.placed, omega (arith, c.requires.few)),
       ),
     )
 
@@ -31,7 +30,7 @@ follow-returns-in-Everything-clause-cache t c =
     let all = part_takes_all code c.args.c (places_at old (c.args.at / 128)) (places_at new (c.in-Some.rest / 128)) (own_at new (c.args.at / 128)) later.union rest in
     let here = subst (λ z. TakesAll code z c.args.c) (sym (keeps (c.args.at / 128) c.requires.placed.kept).1) all in
     cache_filled code c.follow_known.new.self _ c.args.at c.args.c 2 now (placed_keeps old new keeps c.args.at c.requires.placed) (inr (inr (inl (refl, here))))
-    now.size refl refl c.write.ensures.states c.write.ensures.filled c.write.ensures.unfilled
+    now.size refl refl c.write.ensures.states c.write.ensures.filled c.write.ensures.unfilled c.write.ensures.wide
 
 pub follow-returns-in-Everything-clause-leads : goal.follow-returns-in-Everything-clause-leads
 follow-returns-in-Everything-clause-leads t c =
@@ -46,22 +45,13 @@ follow-returns-in-Everything-clause-leads t c =
     let all = part_takes_all code c.args.c (places_at old (c.args.at / 128)) (places_at new (c.in-Some.rest / 128)) (own_at new (c.args.at / 128)) later.union rest in
     subst (λ n. LeadsNext code c.write.new.self.states.items (places_at old (c.args.at / 128)) c.args.c n) (sym c.in-Everything.is) all
 
-pub follow-copy_cell-requires : goal.follow-copy_cell-requires
-follow-copy_cell-requires t c =
+pub follow-cell_of-requires : goal.follow-cell_of-requires
+follow-cell_of-requires t c =
     let code = c.args.program.now.0 in
-    let was = c.requires.cache in
     let old = c.args.self.now.table.states.items in
-    let new = c.step_own.new.self.table.states.items in
-    let same = ap (λ z. z.states.items) c.step_own.ensures.table in
-    let keeps = subst (KeepsStates old) (sym same) c.in_ok-next.ensures.grows.kept in
-    let now = c.step_own.ensures.cache in
-    let ascii : c.args.c < 128 = search rules in
-    let later = rest_later code old new c.args.self.now.table.cells.items c.args.at c.state.result.now c.in-Some.rest was.table c.requires.placed c.state.ensures c.in-Some.is keeps in
-    record {
-      ascii = ascii;
-      from = place_inside code new c.step_own.new.self.table.cells.items c.in-Some.rest c.args.c now.table later.placed ascii;
-      to = place_inside code new c.step_own.new.self.table.cells.items c.args.at c.args.c now.table (placed_keeps old new keeps c.args.at c.requires.placed) ascii;
-    }
+    let made = c.follow_known.new.self.table.states.items in
+    let few : length made ≤ 65533 = omega (arith, c.in_ok-next.ensures.grows.few, c.requires.few, c.if-depth-eq0.false) in
+    next_within code made (places_at old (c.in-Some.rest / 128)) c.args.c c.in_ok-next.next 65533 c.in_ok-next.ensures.leads few
 
 pub follow-returns-then-not-leads : goal.follow-returns-then-not-leads
 follow-returns-then-not-leads t c =
@@ -69,28 +59,27 @@ follow-returns-then-not-leads t c =
     let was = c.requires.cache in
     let old = c.args.self.now.table.states.items in
     let new = c.step_own.new.self.table.states.items in
-    let cells = c.step_own.new.self.table.cells.items in
     let same = ap (λ z. z.states.items) c.step_own.ensures.table in
     let keeps = subst (KeepsStates old) (sym same) c.in_ok-next.ensures.grows.kept in
     let now = c.step_own.ensures.cache in
     let rest : ℕ = c.in-Some.rest in
-    let ascii : c.args.c < 128 = search rules in
+    let next = c.in_ok-next.next in
+    let here = places_at old (c.args.at / 128) in
     let later = rest_later code old new c.args.self.now.table.cells.items c.args.at c.state.result.now rest was.table c.requires.placed c.state.ensures c.in-Some.is keeps in
-    let known = subst (λ z. LeadsNext code z (places_at old (rest / 128)) c.args.c c.in_ok-next.next) (sym same) c.in_ok-next.ensures.leads in
-    let leads = leads_later code old new c.args.self.now.table.cells.items c.args.at c.state.result.now rest c.args.c c.in_ok-next.next was.table c.state.ensures c.in-Some.is keeps known in
+    let known = subst (λ z. LeadsNext code z (places_at old (rest / 128)) c.args.c next) (sym same) c.in_ok-next.ensures.leads in
+    let part = leads_later code old new c.args.self.now.table.cells.items c.args.at c.state.result.now rest c.args.c next was.table c.state.ensures c.in-Some.is keeps known in
     let dead = subst (λ z. IsDead code (own_at z (c.args.at / 128)) c.args.c) (sym same) (c.in_ok-leads.ensures.nowhere c.if-not-leads.true) in
-    let cell : ℕ = get_or cells (rest + c.args.c) 0 in
-    let says = says_at code new cells rest c.args.c now.table later.placed ascii in
-    let own = cell_as_part code c.args.c (places_at old (c.args.at / 128)) (places_at new (rest / 128)) (own_at new (c.args.at / 128)) later.union dead new cell says in
-    let here = subst (λ z. IsTransition code new z c.args.c cell) (sym (keeps (c.args.at / 128) c.requires.placed.kept).1) own in
+    let leads = leads_as_part code c.args.c here (places_at new (rest / 128)) (own_at new (c.args.at / 128)) later.union dead new next part in
+    let says = subst (λ z. IsTransition code new z c.args.c (cell_of_next next)) (sym (keeps (c.args.at / 128) c.requires.placed.kept).1) (cell_says code new here c.args.c next leads) in
+    let written = subst (IsTransition code new (places_at new (c.args.at / 128)) c.args.c) (sym c.cell_of.ensures) says in
     record {
-      cache = cache_filled code c.step_own.new.self _ c.args.at c.args.c cell now (placed_keeps old new keeps c.args.at c.requires.placed) here
-          now.size refl refl c.copy_cell.ensures.states (λ _. c.copy_cell.ensures.cells) (λ past. absurd (omega (arith, past, ascii)));
+      cache = cache_filled code c.step_own.new.self _ c.args.at c.args.c c.cell_of.result now (placed_keeps old new keeps c.args.at c.requires.placed) written
+          now.size refl refl c.write-then-not-leads.ensures.states c.write-then-not-leads.ensures.filled c.write-then-not-leads.ensures.unfilled c.write-then-not-leads.ensures.wide;
       start = c.step_own.ensures.start ∙ c.follow_known.ensures.start;
-      leads = rw c.copy_cell.ensures.states (leads_as_part code c.args.c (places_at old (c.args.at / 128)) (places_at new (rest / 128)) (own_at new (c.args.at / 128)) later.union dead new c.in_ok-next.next leads);
+      leads = rw c.write-then-not-leads.ensures.states leads;
       grows = record {
-        kept = subst (λ z. KeepsStates old z.items) (sym c.copy_cell.ensures.states) keeps;
-        few = omega (arith, ap (λ z. length z.items) c.copy_cell.ensures.states, ap length same, c.in_ok-next.ensures.grows.few);
+        kept = subst (λ z. KeepsStates old z.items) (sym c.write-then-not-leads.ensures.states) keeps;
+        few = omega (arith, ap (λ z. length z.items) c.write-then-not-leads.ensures.states, ap length same, c.in_ok-next.ensures.grows.few);
       };
     }
 

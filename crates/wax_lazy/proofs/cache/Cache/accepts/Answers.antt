@@ -33,4 +33,4 @@ returns-clause-cache c =
       gives_up = c.computed-accepts.new.self.gives_up;
     })
     (c.args.at / 128) c.computed-accepts.result c.requires.cache settled c.computed-accepts.ensures.accepts
-    c.computed-accepts.ensures.cache.size c.computed-accepts.ensures.start c.computed-accepts.ensures.first (c.settle.ensures.cells ∙ ap (λ z. z.cells) same)
+    c.computed-accepts.ensures.cache.size c.computed-accepts.ensures.start c.computed-accepts.ensures.first (c.settle.ensures.cells ∙ ap (λ z. z.cells) same) (c.settle.ensures.wide ∙ ap (λ z. z.wide_cells) same)

@@ -8,8 +8,8 @@ pub intern-requires-clause-cache : goal.intern-requires-clause-cache
 intern-requires-clause-cache c =
     let code = c.args.program.now.0 in
     let cleared = cache_cleared code _ c.clear.new.self
-    (record { size = c.requires.size; start = c.requires.start; table = c.requires.table; first = c.requires.first }) c.clear.ensures in
-    record { size = cleared.size; start = cleared.start; table = cleared.table; first = cleared.first }
+    (record { size = c.requires.size; start = c.requires.start; table = c.requires.table; wide = c.requires.wide; first = c.requires.first }) c.clear.ensures in
+    record { size = cleared.size; start = cleared.start; table = cleared.table; wide = cleared.wide; first = cleared.first }
 
 pub returns-clause-cache : goal.returns-clause-cache
 returns-clause-cache c =
@@ -23,6 +23,7 @@ returns-clause-cache c =
       size = held.size;
       start = held.start;
       table = held.table;
+      wide = held.wide;
       first = subst (λ n. BeginsTexts code states n (c.in_ok-number.number * 128)) (sym made.start) first;
     }
 
