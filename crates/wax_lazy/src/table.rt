@@ -1,6 +1,6 @@
 //! The table of states, with the next state for each ASCII character.
-ghost use Rattle.std.specs.Prelude.{◌≡◌, ◌+◌, ◌*◌, ◌/◌, ◌<◌, ◌≤◌, ◌++◌, ◌∷◌, ◌⊎◌, ℕ, [], IfOk, IfSome, IsTrue};
-ghost use Rattle.std.specs.Prelude.{List, Some, length, replicate, slice_get, slice_index, slice_set};
+ghost use Rattle.std.specs.Prelude.{◌≡◌, ◌+◌, ◌*◌, ◌/◌, ◌<◌, ◌≤◌, ◌++◌, ◌∷◌, ◌⊎◌, ℕ, [], List, IfOk, IfSome};
+ghost use Rattle.std.specs.Prelude.{IsTrue, Some, length, replicate, slice_get, slice_index, slice_set};
 ghost use Rattle.wax_lazy.specs.declared.table.State.{State};
 ghost use Rattle.wax_lazy.specs.inner.Table.{AreEmpty, HasWide, IsSettled, IsTransition, IsWrittenWide};
 ghost use Rattle.wax_lazy.specs.inner.Table.{LeadsNext, cell_of_next, led_of, places_at, places_led};
