@@ -1,4 +1,5 @@
 mod AsciiForms
+mod Ends
 mod Marks
 pub mod AnyCase
 pub mod Holding

@@ -5,6 +5,7 @@
 mod any_case;
 mod facts;
 mod least;
+mod line_end;
 mod needle;
 mod pair;
 mod prefilter;

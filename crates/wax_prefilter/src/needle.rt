@@ -4,12 +4,17 @@ ghost use Rattle.std.specs.Str.{IsUtf8};
 ghost use Rattle.wax_token.specs.Meaning.{SameText};
 ghost use Rattle.wax_prefilter.specs.Facts.{StandsAt};
 ghost use Rattle.wax_prefilter.specs.declared.needle.Place.{Place};
+ghost use Rattle.wax_prefilter.specs.inner.Ends.{EndsWith};
 ghost use Rattle.wax_prefilter.specs.inner.Pairs.{AddsPairs};
 
 use crate::any_case::{add_forms, ascii_forms_len, begins_in_any_case, holds_in_any_case};
+use crate::line_end::is_end;
 use crate::pair::Pair;
 use std::alloc::{AllocError, Global};
 use std::marker::Model;
+
+/// The greatest number of bytes of a short needle.
+const MOST_SHORT: usize = 5;
 
 /// Where a text contains a needle.
 #[derive(Clone, Copy)]
@@ -43,6 +48,12 @@ impl Needle {
             text: String::from_str(alloc, text)?,
             is_case_insensitive,
         })
+    }
+
+    /// Returns whether the needle is so short that its bytes are in many paths, such as those of an
+    /// extension.
+    pub fn is_short(&self) -> bool {
+        self.text.len() <= MOST_SHORT
     }
 
     /// Returns whether the needle is searched for in any case.
@@ -109,6 +120,15 @@ impl Needle {
             Place::End => self.ends(text),
             Place::Anywhere => self.is_held(text),
         }
+    }
+
+    /// Returns whether the bytes may have the needle at their end. Always returns `true` for a needle
+    /// in any case.
+    #[inline]
+    pub fn is_at_end(&self, bytes: &[u8]) -> bool
+        ensures { EndsWith self.now bytes.now → IsTrue result }
+    {
+        self.is_case_insensitive || is_end(self.text.as_str().as_bytes(), bytes)
     }
 
     fn begins(&self, text: &str) -> bool

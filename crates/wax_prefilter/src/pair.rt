@@ -138,14 +138,16 @@ impl Pair {
         })
     }
 
-    /// Returns the rarest of the bytes and the line feed after them, or `None` without a byte.
+    /// Returns the rarest of the bytes and the line feed after them, or `None` without a byte. A `.`
+    /// with which they begin doesn't count, since many paths have one so near their end.
     pub fn rarest_with_feed(bytes: &[u8]) -> Option<Pair>
         ensures { IfSome result (StandsIn (bytes.now ++ 10 ∷ [])) }
     {
         if bytes.is_empty() {
             return None;
         }
-        let at = rarest_but(bytes.len(), bytes);
+        let starts_extension = bytes.len() > 1 && bytes[0] == b'.';
+        let at = rarest_but(if starts_extension { 0 } else { bytes.len() }, bytes);
         Some(Pair {
             first: bytes[at],
             last: b'\n',
@@ -153,8 +155,9 @@ impl Pair {
         })
     }
 
-    // Returns what `find_first` does, for one pair.
-    fn find(self, bytes: &[u8]) -> usize
+    /// Returns what `find_first` does, for one pair.
+    #[inline(always)]
+    pub fn find(self, bytes: &[u8]) -> usize
         ensures before { NoPairBefore self bytes.now result }
         ensures inside { result ≤ length bytes.now }
     {

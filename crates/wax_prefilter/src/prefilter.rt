@@ -9,12 +9,16 @@ ghost use Rattle.wax_prefilter.specs.inner.Pairs.{ArePairsOf, LineHasOne};
 
 use crate::facts::all_facts;
 use crate::least::least_of_each;
+use crate::line_end::find_line_end;
 use crate::needle::{Needle, Place};
 use crate::pair::{Pair, find_first};
 use std::alloc::{AllocError, Global};
 use std::marker::Model;
 use wax_query::diagnostics::NoMemory;
 use wax_token::token::{ExpressionMetadata, Token};
+
+/// The greatest number of needles for which the end of each line is tested.
+const MOST_ENDS: usize = 8;
 
 /// The greatest number of pairs that are searched for.
 const MOST_PAIRS: usize = 8;
@@ -63,9 +67,20 @@ impl Fact {
         }
     }
 
+    /// Returns whether there are several needles, at the end of lines, and so few that each line can
+    /// be tested for all of them.
+    fn has_several_ends(&self) -> bool
+        ensures { IsTrue result → self.now.0 ≡ Place.End }
+    {
+        match self.place {
+            Place::End => self.needles.len() > 1 && self.needles.len() <= MOST_ENDS,
+            _ => false,
+        }
+    }
+
     /// Returns pairs of which each text that has a needle has one, or `None` if they aren't known or
-    /// are too many. At the end, several needles are searched for with the line feed after them,
-    /// since short ones are in many texts.
+    /// are too many. At the end, a short needle is searched for with the line feed after it, since its
+    /// bytes are in many texts.
     fn pairs(&self, alloc: Global) -> Result<Option<Vec<Pair>>, AllocError>
         ensures { IfOk result (λ known. IfSome known (λ pairs. (text : List ℕ) → IsUtf8 text
             → HoldsOne self.now.0 self.now.1 (chars text) → LineHasOne pairs.items text)) }
@@ -73,7 +88,7 @@ impl Fact {
         let mut pairs = Vec::new(alloc);
         for needle in &self.needles {
             let is_known = match self.place {
-                Place::End if self.needles.len() > 1 => needle.add_pair_at_end(&mut pairs)?,
+                Place::End if needle.is_short() => needle.add_pair_at_end(&mut pairs)?,
                 _ => needle.add_pairs(&mut pairs)?,
             };
             if !is_known || pairs.len() > MOST_PAIRS {
@@ -185,8 +200,14 @@ impl Prefilter {
         ensures { (x y z : List ℕ) → text.now ++ 10 ∷ [] ≡ x ++ (y ++ 10 ∷ z) → IsUtf8 y
             → PassesFacts self.now (chars y) → result ≤ length (x ++ y) }
     {
+        let bytes = text.as_bytes();
+        if let Some(fact) = self.facts.first() {
+            if fact.has_several_ends() {
+                return find_line_end(&fact.needles, bytes);
+            }
+        }
         match &self.pairs {
-            Some(pairs) => find_first(pairs, text.as_bytes()),
+            Some(pairs) => find_first(pairs, bytes),
             None => 0,
         }
     }
