@@ -7,3 +7,4 @@ pub mod Lengths
 pub mod MeantEdges
 pub mod MeantPieces
 mod Pairs
+mod Within
