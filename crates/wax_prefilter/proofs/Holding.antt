@@ -1,5 +1,5 @@
 -- What pieces of a text hold, the text holds.
-use Rattle.std.proofs.Common.{◌≡◌, ℕ, ◌+◌, ◌-◌, ◌<◌, ◌≤◌, inl, inr, Bool, true, false, List, [], ◌∷◌, ◌++◌, length, get_or, Some, slice_get, chars}
+use Rattle.std.proofs.Common.{◌≡◌, ℕ, ◌+◌, ◌-◌, ◌<◌, ◌≤◌, inl, inr, Bool, true, false, List, [], ◌∷◌, ◌++◌, length, get_or, Some, slice_get, chars, IsUtf8}
 use Rattle.std.proofs.Common.{refl, sym, ◌∙◌, ap, subst, arith, append_assoc, append-nil, length-append}
 use Rattle.std.proofs.lemmas.Bool.{cases_lt}
 use Rattle.std.proofs.lemmas.List.Elements.{All-push}
@@ -58,9 +58,13 @@ stands_whole Beginning held text m = (text, [], sym (append-nil text), m)
 stands_whole End held text m = ([], text, refl, m)
 stands_whole Anywhere held text m = ([], text, [], sym (append-nil text), m)
 
-chars_slash : chars (47 ∷ []) ≡ 47 ∷ []
+pub slash_text : IsUtf8 (47 ∷ [])
 unfolding lib.Utf8.encode
-chars_slash = chars_past_char (47 ∷ []) [] 47 (47 ∷ [], (refl, refl)) refl ∙ ap (λ z. 47 ∷ z) chars-nil
+slash_text = (47 ∷ [], (refl, refl))
+
+pub chars_slash : chars (47 ∷ []) ≡ 47 ∷ []
+unfolding lib.Utf8.encode
+chars_slash = chars_past_char (47 ∷ []) [] 47 slash_text refl ∙ ap (λ z. 47 ∷ z) chars-nil
 
 pub same_slash : (text : List ℕ) → text ≡ 47 ∷ [] → SameText false (chars (47 ∷ [])) text
 same_slash text e = subst (λ t. SameText false t text) (sym chars_slash) (subst (SameText false (47 ∷ [])) (sym e) (refl, tt))

@@ -1,4 +1,5 @@
 mod AsciiForms
+mod Ends
 mod Marks
 pub mod AnyCase
 pub mod Holding
@@ -6,3 +7,4 @@ pub mod Lengths
 pub mod MeantEdges
 pub mod MeantPieces
 mod Pairs
+mod Within

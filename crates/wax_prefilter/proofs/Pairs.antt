@@ -112,7 +112,7 @@ ends_after pairs text x y z n e inside none (k, (i, pair, lt, is, stands)) =
 pub is_drop : (n : ℕ) (bytes rest : List ℕ) → rest ≡ slice_range bytes n (length bytes) → rest ≡ drop n bytes
 is_drop n bytes rest e = e ∙ take_all _ _ (omega (arith, length-drop n bytes))
 
-stands_in_rest : (pair : Pair) (bytes : List ℕ) (at k : ℕ) → PairStandsAt pair bytes (at + k) → PairStandsAt pair (drop at bytes) k
+pub stands_in_rest : (pair : Pair) (bytes : List ℕ) (at k : ℕ) → PairStandsAt pair bytes (at + k) → PairStandsAt pair (drop at bytes) k
 stands_in_rest pair bytes at k stands = record {
   inside = omega (arith, stands.inside, length-drop at bytes);
   first = get_or-drop at bytes k 0 ∙ stands.first;

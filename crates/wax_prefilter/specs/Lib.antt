@@ -1,3 +1,4 @@
 pub mod Facts
 pub mod Known
+pub mod Within
 pub mod inner

@@ -4,9 +4,12 @@
 
 mod any_case;
 mod facts;
+mod folder;
 mod least;
+mod line_end;
 mod needle;
 mod pair;
 mod prefilter;
 
+pub use folder::{folder_of, is_within};
 pub use prefilter::Prefilter;

@@ -1,12 +1,14 @@
 //! Needles: texts that others contain at some place.
-ghost use Rattle.std.specs.Prelude.{◌≡◌, ℕ, IsTrue, IfOk, List, ◌++◌, chars, true, false};
+ghost use Rattle.std.specs.Prelude.{◌≡◌, ℕ, IsTrue, IfOk, IfSome, List, [], ◌∷◌, ◌++◌, chars, true, false};
 ghost use Rattle.std.specs.Str.{IsUtf8};
 ghost use Rattle.wax_token.specs.Meaning.{SameText};
 ghost use Rattle.wax_prefilter.specs.Facts.{StandsAt};
 ghost use Rattle.wax_prefilter.specs.declared.needle.Place.{Place};
+ghost use Rattle.wax_prefilter.specs.inner.Ends.{ComesBefore, EndsWith};
 ghost use Rattle.wax_prefilter.specs.inner.Pairs.{AddsPairs};
 
 use crate::any_case::{add_forms, ascii_forms_len, begins_in_any_case, holds_in_any_case};
+use crate::line_end::{EndPair, is_end};
 use crate::pair::Pair;
 use std::alloc::{AllocError, Global};
 use std::marker::Model;
@@ -64,38 +66,28 @@ impl Needle {
     {
         let bytes = self.text.as_str().as_bytes();
         if !self.is_case_insensitive {
-            let Some(pair) = Pair::rarest_of(bytes) else {
+            let Some((_, pair)) = Pair::rarest_of(bytes) else {
                 return Ok(false);
             };
             pairs.push(pair)?;
             return Ok(true);
         }
-        let Some(pair) = Pair::rarest_of(&bytes[..ascii_forms_len(bytes)]) else {
+        let Some((_, pair)) = Pair::rarest_of(&bytes[..ascii_forms_len(bytes)]) else {
             return Ok(false);
         };
         add_forms(pair, pairs)?;
         Ok(true)
     }
 
-    /// Appends a pair that each text has with the needle at its end: the needle's rarest byte and the
-    /// line feed after the text. Returns `false` if there is none, since the needle is empty or is
-    /// searched for in any case.
-    ///
-    /// # Errors
-    ///
-    /// Returns `AllocError` if allocation fails.
-    pub fn add_pair_at_end(&self, pairs: &mut Vec<Pair>) -> Result<bool, AllocError>
-        ensures { IfOk result (λ known. AddsPairs pairs.old.items pairs.new.items known
-            (StandsAt Place.End self.now)) }
+    /// Returns a pair that is found before the end of all lines that have the needle at their end.
+    /// Returns `None` if the needle has fewer than two bytes, or is searched for in any case.
+    pub fn end_pair(&self) -> Option<EndPair>
+        ensures { IfSome result (λ end. ComesBefore end (self.now ∷ [])) }
     {
         if self.is_case_insensitive {
-            return Ok(false);
+            return None;
         }
-        let Some(pair) = Pair::rarest_with_feed(self.text.as_str().as_bytes()) else {
-            return Ok(false);
-        };
-        pairs.push(pair)?;
-        Ok(true)
+        EndPair::of(self.text.as_str().as_bytes())
     }
 
     /// Returns whether the text may have the needle at the place. Always returns `true` for a
@@ -109,6 +101,15 @@ impl Needle {
             Place::End => self.ends(text),
             Place::Anywhere => self.is_held(text),
         }
+    }
+
+    /// Returns whether the bytes may have the needle at their end. Always returns `true` for a needle
+    /// in any case.
+    #[inline]
+    pub fn is_at_end(&self, bytes: &[u8]) -> bool
+        ensures { EndsWith self.now bytes.now → IsTrue result }
+    {
+        self.is_case_insensitive || is_end(self.text.as_str().as_bytes(), bytes)
     }
 
     fn begins(&self, text: &str) -> bool

@@ -2,7 +2,7 @@
 ghost use Rattle.std.specs.List.{position_or_len};
 ghost use Rattle.std.specs.Prelude.{◌≡◌, ◌<◌, ◌≤◌, ◌+◌, ◌++◌, ◌∷◌, [], All, IfSome, length, map};
 ghost use Rattle.std.specs.Simd.Lanes.{mask_l};
-ghost use Rattle.wax_prefilter.specs.inner.Pairs.{NoPairBefore, NoneStandsBefore, StandsIn};
+ghost use Rattle.wax_prefilter.specs.inner.Pairs.{NoPairBefore, NoneStandsBefore, PairStandsAt};
 ghost use Rattle.wax_prefilter.specs.inner.Pairs.{ZeroWhere, is_zero};
 
 use std::simd::prelude::*;
@@ -101,8 +101,8 @@ fn rarity(byte: u8) -> usize {
     }
 }
 
-// Returns the place of the rarest of the bytes, apart from the byte at the place `other`.
-fn rarest_but(other: usize, bytes: &[u8]) -> usize
+/// Returns the place of the rarest of the bytes, apart from the byte at the place `other`.
+pub fn rarest_but(other: usize, bytes: &[u8]) -> usize
     requires some { 1 ≤ length bytes.now }
     requires more { other ≡ 0 → 2 ≤ length bytes.now }
     ensures inside { result < length bytes.now }
@@ -121,9 +121,10 @@ fn rarest_but(other: usize, bytes: &[u8]) -> usize
 }
 
 impl Pair {
-    /// Returns the two of the bytes that are rarest in paths, or `None` if there are fewer than two.
-    pub fn rarest_of(bytes: &[u8]) -> Option<Pair>
-        ensures { IfSome result (StandsIn bytes.now) }
+    /// Returns the two of the bytes that are rarest in paths, with the place of the first of them, or
+    /// `None` if there are fewer than two.
+    pub fn rarest_of(bytes: &[u8]) -> Option<(usize, Pair)>
+        ensures { IfSome result (λ found. PairStandsAt found.1 bytes.now found.0) }
     {
         if bytes.len() < 2 {
             return None;
@@ -131,30 +132,17 @@ impl Pair {
         let rarest = rarest_but(bytes.len(), bytes);
         let other = rarest_but(rarest, bytes);
         let (at, end) = (rarest.min(other), rarest.max(other));
-        Some(Pair {
+        let pair = Pair {
             first: bytes[at],
             last: bytes[end],
             distance: end - at,
-        })
+        };
+        Some((at, pair))
     }
 
-    /// Returns the rarest of the bytes and the line feed after them, or `None` without a byte.
-    pub fn rarest_with_feed(bytes: &[u8]) -> Option<Pair>
-        ensures { IfSome result (StandsIn (bytes.now ++ 10 ∷ [])) }
-    {
-        if bytes.is_empty() {
-            return None;
-        }
-        let at = rarest_but(bytes.len(), bytes);
-        Some(Pair {
-            first: bytes[at],
-            last: b'\n',
-            distance: bytes.len() - at,
-        })
-    }
-
-    // Returns what `find_first` does, for one pair.
-    fn find(self, bytes: &[u8]) -> usize
+    /// Returns what `find_first` does, for one pair.
+    #[inline(always)]
+    pub fn find(self, bytes: &[u8]) -> usize
         ensures before { NoPairBefore self bytes.now result }
         ensures inside { result ≤ length bytes.now }
     {

@@ -5,10 +5,12 @@ ghost use Rattle.std.specs.Str.{IsUtf8};
 ghost use Rattle.wax_token.specs.Words.{trees};
 ghost use Rattle.wax_prefilter.specs.Facts.{HoldsOne, PassesFacts};
 ghost use Rattle.wax_prefilter.specs.Known.{MeantPass};
+ghost use Rattle.wax_prefilter.specs.inner.Ends.{ComesBefore, IsOfFirst, NoneEndsBefore};
 ghost use Rattle.wax_prefilter.specs.inner.Pairs.{ArePairsOf, LineHasOne};
 
 use crate::facts::all_facts;
 use crate::least::least_of_each;
+use crate::line_end::{EndPair, FEED, find_line_end};
 use crate::needle::{Needle, Place};
 use crate::pair::{Pair, find_first};
 use std::alloc::{AllocError, Global};
@@ -16,7 +18,7 @@ use std::marker::Model;
 use wax_query::diagnostics::NoMemory;
 use wax_token::token::{ExpressionMetadata, Token};
 
-/// The greatest number of pairs that are searched for.
+/// The greatest number of pairs that are searched for, and of needles for which ends are tested.
 const MOST_PAIRS: usize = 8;
 
 /// The greatest number of texts that are searched for in less time than a matcher takes.
@@ -63,24 +65,46 @@ impl Fact {
         }
     }
 
+    /// Returns a pair that is found before the end of all lines for which the fact holds, or `None` if
+    /// it isn't about ends, or has too many needles.
+    fn end_pair(&self) -> Option<EndPair>
+        ensures { IfSome result (λ end. (self.now.0 ≡ Place.End) × ComesBefore end self.now.1) }
+    {
+        match (self.place, self.needles.as_slice()) {
+            (Place::End, [needle]) => needle.end_pair(),
+            (Place::End, needles) if needles.len() <= MOST_PAIRS => Some(FEED),
+            _ => None,
+        }
+    }
+
     /// Returns pairs of which each text that has a needle has one, or `None` if they aren't known or
-    /// are too many. At the end, several needles are searched for with the line feed after them,
-    /// since short ones are in many texts.
+    /// are too many.
     fn pairs(&self, alloc: Global) -> Result<Option<Vec<Pair>>, AllocError>
         ensures { IfOk result (λ known. IfSome known (λ pairs. (text : List ℕ) → IsUtf8 text
             → HoldsOne self.now.0 self.now.1 (chars text) → LineHasOne pairs.items text)) }
     {
         let mut pairs = Vec::new(alloc);
         for needle in &self.needles {
-            let is_known = match self.place {
-                Place::End if self.needles.len() > 1 => needle.add_pair_at_end(&mut pairs)?,
-                _ => needle.add_pairs(&mut pairs)?,
-            };
+            let is_known = needle.add_pairs(&mut pairs)?;
             if !is_known || pairs.len() > MOST_PAIRS {
                 return Ok(None);
             }
         }
         Ok(Some(pairs))
+    }
+
+    /// Returns a place before which no line feed comes after one of the needles. The line feed is given
+    /// as it is, so that the search for it is compiled by itself.
+    fn find_line_end(&self, end: EndPair, bytes: &[u8]) -> usize
+        requires { ComesBefore end self.now.1 }
+        ensures before { NoneEndsBefore self.now.1 bytes.now result }
+        ensures inside { result ≤ length bytes.now }
+    {
+        if end.is_feed() {
+            find_line_end(FEED, &self.needles, bytes)
+        } else {
+            find_line_end(end, &self.needles, bytes)
+        }
     }
 
     fn may_hold(&self, text: &str, at_once: bool) -> bool
@@ -116,6 +140,18 @@ fn fewest_pairs(alloc: Global, facts: &[Fact]) -> Result<Option<Vec<Pair>>, Allo
     Ok(fewest)
 }
 
+/// Returns a pair that is found before the end of all lines for which the first fact holds, if it is
+/// about ends. Returns `None` if another fact has fewer pairs than this one has needles.
+fn end_of(facts: &[Fact], pairs: &Option<Vec<Pair>>) -> Option<EndPair>
+    ensures { IfSome result (IsOfFirst facts.now) }
+{
+    let fact = facts.first()?;
+    match pairs {
+        Some(pairs) if pairs.len() < fact.needles.len() => None,
+        _ => fact.end_pair(),
+    }
+}
+
 /// Facts about all texts that some tokens match: their least length, and how they begin, how they
 /// end and what they contain. Keeps at most 16 facts, each of at most 64 texts, and no tokens.
 /// Contracts see the least length in characters, and the facts.
@@ -125,18 +161,22 @@ pub struct Prefilter {
     facts: Vec<Fact>,
     /// Pairs of which each of the texts has one, if they are known.
     pairs: Option<Vec<Pair>>,
+    /// A pair that is found before the end of each of them, if the first fact is about ends.
+    end: Option<EndPair>,
 }
 
 impl Model for Prefilter {
     ghost use Rattle.std.specs.Prelude.{IfSome};
     ghost use Rattle.wax_prefilter.specs.Facts.{PrefilterView};
+    ghost use Rattle.wax_prefilter.specs.inner.Ends.{IsOfFirst};
     ghost use Rattle.wax_prefilter.specs.inner.Pairs.{ArePairsOf};
 
     ghost Value = { PrefilterView };
 
     ghost view = { λ p. (p.least, p.facts.items) };
 
-    ghost invariant = { λ p. IfSome p.pairs (λ pairs. ArePairsOf p.facts.items pairs.items) };
+    ghost invariant = { λ p. IfSome p.pairs (λ pairs. ArePairsOf p.facts.items pairs.items)
+        × IfSome p.end (IsOfFirst p.facts.items) };
 }
 
 impl Prefilter {
@@ -154,10 +194,12 @@ impl Prefilter {
     {
         let facts = all_facts(alloc, tokens)?;
         let pairs = fewest_pairs(alloc, &facts)?;
+        let end = end_of(&facts, &pairs);
         Ok(Prefilter {
             least: least_of_each(tokens),
             facts,
             pairs,
+            end,
         })
     }
 
@@ -185,8 +227,12 @@ impl Prefilter {
         ensures { (x y z : List ℕ) → text.now ++ 10 ∷ [] ≡ x ++ (y ++ 10 ∷ z) → IsUtf8 y
             → PassesFacts self.now (chars y) → result ≤ length (x ++ y) }
     {
+        let bytes = text.as_bytes();
+        if let (Some(end), Some(fact)) = (self.end, self.facts.first()) {
+            return fact.find_line_end(end, bytes);
+        }
         match &self.pairs {
-            Some(pairs) => find_first(pairs, text.as_bytes()),
+            Some(pairs) => find_first(pairs, bytes),
             None => 0,
         }
     }

@@ -23,7 +23,7 @@ returns-then-not-self c = (
       bytes_within text bytes x held z utf8 c.as_bytes-bytes.ensures.utf8 (ap chars (c.as_bytes-bytes.ensures.value ∙ c.as_str.ensures.value))
       (e ∙ ap (λ w. x ++ (w ++ z)) same) in
       part_has _ text (encode_utf8_all x) bytes (encode_utf8_all z ++ 10 ∷ []) (part_of_line text (encode_utf8_all x) bytes (encode_utf8_all z) within)
-      c.in-Some.ensures,
+      (_, c.in-Some.ensures),
 )
 
 pub returns : goal.returns
@@ -48,5 +48,5 @@ returns c = (
       as_seen c.args.self.now.0 true c.args.self.now.1 _ y (sym (ap (λ v. v.0) c.self.view_is) ∙ c.if-not-self.false) (sym seen ∙ ap (λ v. v.1) c.self.view_is) h in
       let (begins, rest, cut, same) = same_beginning front (chars (drop len bytes)) y alike in
       alike_has c.in-Some-rarest_of.pair front text x begins (rest ++ z) utf8
-      (e ∙ ap (λ w. x ++ w) (ap (λ w. w ++ z) cut ∙ append_assoc begins rest z)) same each c.in-Some-rarest_of.ensures,
+      (e ∙ ap (λ w. x ++ w) (ap (λ w. w ++ z) cut ∙ append_assoc begins rest z)) same each (_, c.in-Some-rarest_of.ensures),
 )

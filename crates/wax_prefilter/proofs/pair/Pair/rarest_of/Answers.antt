@@ -6,11 +6,9 @@ returns c =
     let rarest = c.rarest_but-rarest.ensures in
     let other = c.rarest_but-other.ensures in
     let low = c.min-at.ensures in
-    let high = c.max-end.ensures in (
-      _,
-      record {
-        inside = omega (arith, rarest.inside, other.inside, low, high);
-        first = refl;
-        last = ap (λ k. get_or c.args.bytes.now k 0) (omega (arith, low, high));
-      },
-    )
+    let high = c.max-end.ensures in
+    record {
+      inside = omega (arith, rarest.inside, other.inside, low, high);
+      first = refl;
+      last = ap (λ k. get_or c.args.bytes.now k 0) (omega (arith, low, high));
+    }
