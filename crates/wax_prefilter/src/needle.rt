@@ -52,6 +52,11 @@ impl Needle {
         self.is_case_insensitive
     }
 
+    /// Returns whether the needle has at most two bytes.
+    pub fn is_short(&self) -> bool {
+        self.text.len() <= 2
+    }
+
     /// Appends pairs such that each text that has the needle, at any place, has one of them: the two
     /// rarest bytes of the needle. For a needle in any case, appends these bytes in both cases, and
     /// looks only at the bytes before the first that has forms past ASCII. Returns `false` if there

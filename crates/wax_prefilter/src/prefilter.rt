@@ -53,14 +53,14 @@ impl Fact {
         Ok(())
     }
 
-    /// Returns whether the fact takes long to test: it needs a search for more than a few texts, or
-    /// one of the whole text in any case.
+    /// Returns whether the fact takes long to test, for what it rejects: it needs a search for more
+    /// than a few texts, or one of the whole text for a short text or in any case.
     fn takes_long(&self) -> bool {
         if self.needles.len() > FEW_NEEDLES {
             return true;
         }
         match (self.place, self.needles.first()) {
-            (Place::Anywhere, Some(needle)) => needle.is_case_insensitive(),
+            (Place::Anywhere, Some(needle)) => needle.is_case_insensitive() || needle.is_short(),
             _ => false,
         }
     }
@@ -213,7 +213,8 @@ impl Prefilter {
     }
 
     /// Tests the text as `may_match` does, but skips facts that need a search for more than four
-    /// texts, or one in any case. This is better if a match takes less time than such a search.
+    /// texts, for a text of one or two bytes, or in any case. This is better if a match takes less
+    /// time than such a search.
     pub fn may_match_at_once(&self, text: &str) -> bool
         ensures { PassesFacts self.now (chars text.now) → IsTrue result }
     {
