@@ -10,6 +10,14 @@ use std::alloc::{AllocError, Global};
 use wax_program::{CompiledProgram, Meter, last_name, reads_last, run_known};
 use wax_query::diagnostics::NoMemory;
 
+/// The least number of instructions of a program that isn't run over texts of many characters, as
+/// Chinese ones are. There a smaller program takes less time than filling a cell for each character.
+const LEAST_SIZE: usize = 64;
+
+/// The least first byte of a character of three bytes or more in UTF-8. Alphabets mostly have
+/// characters of one or two bytes; scripts with thousands of characters have longer ones.
+const LONG_CHARACTER: u8 = 0xE0;
+
 /// What is known of a program, and the states that earlier texts led to.
 #[derive(Drop)]
 pub struct Known {
@@ -108,7 +116,8 @@ fn empty_cache(
     Cache::new(alloc, program, 0, most_bytes)
 }
 
-/// Decides a text by the cache, or by a run of the program if the cache gave up.
+/// Decides a text by the cache. Runs the program instead if the cache gave up, or if the program
+/// has fewer than [`LEAST_SIZE`] instructions and the text is mostly of long characters.
 fn decide(
     alloc: Global,
     program: &CompiledProgram,
@@ -121,7 +130,7 @@ fn decide(
     ensures cache { IsKeptFor program.now.0 reads_last cache.new }
     ensures decides { IfOk result (λ b. IsTrue b ↔ Accepts program.now.0 0 (chars text.now)) }
 {
-    if cache.gives_up {
+    if cache.gives_up || program.size() < LEAST_SIZE && has_long_characters(text) {
         return decide_once(alloc, program, reads_last, text);
     }
     if reads_last {
@@ -141,4 +150,14 @@ fn decide_once(
 {
     let mut meter = Meter::new();
     run_known(alloc, program, reads_last, text, &mut meter)
+}
+
+/// Returns whether most bytes of the text are of characters of three bytes or more.
+fn has_long_characters(text: &str) -> bool {
+    if text.is_ascii() {
+        return false;
+    }
+    let bytes = text.bytes();
+    let count = bytes.filter(|byte| *byte >= LONG_CHARACTER).count();
+    count > text.len() / 6
 }
