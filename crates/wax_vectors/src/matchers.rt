@@ -8,8 +8,8 @@ use std::alloc::{AllocError, Global};
 use wax::encode::{CompiledProgram, Matcher, Meter, run};
 use wax::{BuildMatcher, CandidatePath, NoMemory, PathMatcher};
 
-/// Letters of words and of texts. One of them isn't ASCII.
-const LETTERS: &[&str] = &["a", "b", "c", "é"];
+/// Letters of words and of texts. Two of them are past ASCII.
+const LETTERS: &[&str] = &["a", "b", "é", "ж"];
 
 /// What may be before an alternation of words.
 const HEADS: &[&str] = &["", "*", "**/", "**/*", "(?i)", "a/**/"];
