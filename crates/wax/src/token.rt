@@ -2,15 +2,10 @@
 
 pub mod walk;
 
-pub use wax_alternatives::into_alternatives;
-pub use wax_components::{
-    Component, LiteralSequence, capture_count, captures, components, depth, literals,
-};
-pub use wax_facts::{TokenFacts, has_variant_casing};
+pub use wax_components::{Component, LiteralSequence, capture_count, captures};
 pub use wax_fold::walk::{fold, fold_map};
 pub use wax_parse::parse::{ErrorEntry, ParseError, parse};
-pub use wax_partition::{Partitioned, partition};
-pub use wax_rule::size;
+pub use wax_partition::{LiteralExt, Partitioned, TokenExt, partition};
 pub use wax_token::token::{
     Alternation, Annotation, Archetype, Boundary, BranchKind, Class, Composition, Concatenation,
     ConcatenationTree, Evaluation, ExpressionMetadata, LeafKind, Literal,

@@ -3,7 +3,6 @@
 #![tactic(auto)]
 
 mod exhaustive;
-mod facts;
 mod invariant;
 mod opened;
 mod optional;
@@ -13,7 +12,6 @@ mod rest;
 mod root;
 
 pub use exhaustive::is_exhaustive;
-pub use facts::TokenFacts;
 pub use invariant::{has_variant_casing, text};
 pub use parts::{built_is_orderly, is_rooted_tree, partition, split_tokens};
 pub use prefix::invariant_text_prefix;

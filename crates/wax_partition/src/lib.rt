@@ -1,4 +1,5 @@
-//! Splitting a glob into its prefix and the rest, which is an expression of its own.
+//! Splitting a glob into its prefix and the rest, which is an expression of its own; and the methods
+//! of a token, which are functions of several crates.
 #![tactic(auto)]
 
 mod flat;
@@ -6,6 +7,8 @@ mod in_two;
 mod kept;
 mod parts;
 mod shift;
+mod token_ext;
 
 pub use in_two::Partitioned;
 pub use parts::partition;
+pub use token_ext::{LiteralExt, TokenExt};

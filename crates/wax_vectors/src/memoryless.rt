@@ -8,7 +8,7 @@ use crate::row::Row;
 use std::alloc::Global;
 use wax::encode::compile;
 use wax::query::When;
-use wax::token::{ExpressionMetadata, TokenFacts, Tokenized, parse};
+use wax::token::{ExpressionMetadata, TokenExt, Tokenized, parse};
 use wax::walk::DepthMinMax;
 use wax::{
     CandidatePath, Glob, MatchedText, NoMemory, Program, encode, is_contextual_meta_character,

@@ -8,8 +8,7 @@ use crate::row::Row;
 use std::alloc::Global;
 use std::fmt::Debug;
 use wax::token::{
-    Component, ExpressionMetadata, LeafKind, Token, TokenFacts, Tokenized, Topology, components,
-    depth, into_alternatives, literals, parse, size,
+    Component, ExpressionMetadata, LeafKind, Token, TokenExt, Tokenized, Topology, parse,
 };
 use wax::{NoMemory, Refusal};
 
@@ -61,12 +60,12 @@ fn of_token(
     made: &mut Answer,
 ) -> Result<(), NoMemory> {
     match fact {
-        TokenFact::Depth => add_depth(depth(token), made),
+        TokenFact::Depth => add_depth(token.depth(), made),
         TokenFact::Root => made.add(when(token.has_root())),
         TokenFact::Exhaustive => made.add(when(token.is_exhaustive())),
         TokenFact::Casing => add_casing(token, made),
         TokenFact::Tokens => add_tokens(token, made),
-        TokenFact::Size => match size(alloc, token)? {
+        TokenFact::Size => match token.size(alloc)? {
             Some(size) => made.show(&size),
             None => made.add("varies"),
         },
@@ -165,7 +164,7 @@ fn add_components(
     token: &Token<'_, ExpressionMetadata>,
     made: &mut Answer,
 ) -> Result<(), NoMemory> {
-    for component in &components(alloc, token)? {
+    for component in &token.components(alloc)? {
         add_component(component, made);
     }
     Ok(())
@@ -177,7 +176,7 @@ fn add_literals(
     token: &Token<'_, ExpressionMetadata>,
     made: &mut Answer,
 ) -> Result<(), NoMemory> {
-    for (component, literal) in &literals(alloc, token)? {
+    for (component, literal) in &token.literals(alloc)? {
         made.add(literal.text(alloc)?.as_str());
         made.add(" ");
         add_component(component, made);
@@ -200,7 +199,7 @@ fn add_prefix(
 
 /// Adds the texts of the alternatives, with a bar after each.
 fn add_alternatives(alloc: Global, tokens: Tokens<'_>, made: &mut Answer) -> Result<(), NoMemory> {
-    let alternatives = into_alternatives(alloc, tokens.into_token())?;
+    let alternatives = tokens.into_token().into_alternatives(alloc)?;
     add_texts(alloc, &alternatives, made)
 }
 
