@@ -1,3 +1,4 @@
+mod Folders
 pub mod GlobWalks
 pub mod Globs
 pub mod GoingAlong

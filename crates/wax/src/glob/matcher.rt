@@ -9,6 +9,7 @@ use std::marker::Model;
 use wax_candidate::{BuildMatcher, CandidatePath, PathMatcher};
 use wax_exclude::is_everything;
 use wax_lazy::Matcher;
+use wax_prefilter::{folder_of, is_within};
 use wax_query::diagnostics::NoMemory;
 
 /// A matcher of a glob for many paths, which keeps what it learns from each for the next ones.
@@ -18,6 +19,8 @@ pub struct GlobMatcher<'g, 't> {
     matcher: Matcher<'g>,
     /// True if the glob is `**`, which matches a text without a look at it.
     matches_all: bool,
+    /// The folder, if the glob matches exactly a folder and everything below it, as `usr/**` does.
+    folder: Option<&'g str>,
 }
 
 impl Drop for GlobMatcher<'_, '_> {
@@ -26,14 +29,16 @@ impl Drop for GlobMatcher<'_, '_> {
             glob: _,
             matcher: _,
             matches_all: _,
+            folder: _,
         } = self;
     }
 }
 
 impl<'g, 't> Model for GlobMatcher<'g, 't> {
-    ghost use Rattle.std.specs.Prelude.{IsTrue, List, ℕ};
+    ghost use Rattle.std.specs.Prelude.{◌↔◌, IfSome, IsTrue, List, chars, ℕ};
     ghost use Rattle.wax.specs.GlobView.{GlobView, IsMeant, glob_code};
     ghost use Rattle.wax.specs.Matching.{AcceptsMeant};
+    ghost use Rattle.wax_prefilter.specs.Within.{IsInFolder};
 
     ghost Value = { GlobView };
 
@@ -42,7 +47,9 @@ impl<'g, 't> Model for GlobMatcher<'g, 't> {
     ghost view = { λ m. m.glob.now };
 
     ghost invariant = { λ m. AcceptsMeant m.matcher m.glob.now
-        × (IsTrue m.matches_all → (text : List ℕ) → IsMeant m.glob.now text) };
+        × (IsTrue m.matches_all → (text : List ℕ) → IsMeant m.glob.now text)
+        × IfSome m.folder (λ folder. (text : List ℕ)
+        → IsMeant m.glob.now text ↔ IsInFolder (chars folder.now) text) };
 }
 
 impl<'t> Glob<'t> {
@@ -68,6 +75,7 @@ impl<'t> Glob<'t> {
             glob: self,
             matcher,
             matches_all: is_everything(&self.tokenized.token),
+            folder: folder_of(self.tokenized.token.concatenation()),
         })
     }
 }
@@ -90,6 +98,9 @@ impl GlobMatcher<'_, '_> {
             return Ok(true);
         }
         let text = path.as_str();
+        if let Some(folder) = self.folder {
+            return Ok(is_within(text, folder));
+        }
         let glob = self.glob;
         if !glob.may_match_at_once(text) {
             return Ok(false);

@@ -5,7 +5,7 @@ use Rattle.wax_program.proofs.LastNames.{same_answer}
 use Rattle.wax.proofs.glob.matcher.GlobMatcher.follow.Goals as goal
 
 pub invariant_of-self : goal.invariant_of-self
-invariant_of-self c = (subst (λ code. AcceptsMeant code c.self.inside.glob.now) (sym c.is_match.ensures.same) c.self.invariant.0, c.self.invariant.1)
+invariant_of-self c = (subst (λ code. AcceptsMeant code c.self.inside.glob.now) (sym c.is_match.ensures.same) c.self.invariant.0, c.self.invariant.1, c.self.invariant.2)
 
 pub returns-clause-means : goal.returns-clause-means
 returns-clause-means c =
