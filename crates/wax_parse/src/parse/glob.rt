@@ -49,6 +49,7 @@ pub(super) fn read_glob<'t>(
     if cursor.rest.len() == from.rest.len() {
         return Err(refusal(scope.expression, from.rest));
     }
+    tokens.shrink_to_fit();
     let annotation = metadata(scope.expression, from.rest, cursor.rest);
     let glob = new_branch(
         BranchKind::Concatenation(Concatenation { tokens }),
@@ -131,6 +132,7 @@ fn read_branches<'t>(
         let (branch, next) = read_glob(alloc, scope, cursor)?;
         push(&mut branches, branch)?;
         if let Some(rest) = strip(next.rest, '}') {
+            branches.shrink_to_fit();
             return Ok((branches, Cursor { rest, ..next }));
         }
         let Some(rest) = strip(next.rest, ',') else {

@@ -176,7 +176,7 @@ read_branches-returns-in-Some t c =
     let q : Place = at c.in_ok-branch.next.is_case_insensitive (chars c.in-Some.rest.now) in
     let m : Place = place c.in_ok-branch.next in
     let e : m.rest ≡ 125 ∷ q.rest = strip_is 125 m.rest q.rest c.in-Some.ensures in (
-      as_made (BranchesFrom (utf8_len (chars c.args.scope.expression.now)) c.args.scope.depth (place c.args.from)) (trees c.push.new.tokens.items) _ q (ap trees c.in_ok-push.ensures)
+      as_made (BranchesFrom (utf8_len (chars c.args.scope.expression.now)) c.args.scope.depth (place c.args.from)) (trees c.shrink_to_fit.new.self.items) _ q (ap trees (c.shrink_to_fit.ensures.items ∙ c.in_ok-push.ensures))
           (branches_sole (utf8_len (chars c.args.scope.expression.now)) c.args.scope.depth (place c.args.from) (place c.loop-branches.cursor) m q c.loop-branches.branches.items c.in_ok-branch.branch e refl
           (subst (λ a. Sole (GlobFrom (utf8_len (chars c.args.scope.expression.now)) a c.args.scope.depth (place c.loop-branches.cursor)) c.in_ok-branch.branch m) c.requires.around c.in_ok-branch.ensures.0)
           c.loop-branches.invariant.1.begun),
@@ -276,7 +276,8 @@ read_glob-returns t c =
     let size = utf8_len (chars c.args.scope.expression.now) in
     let p : Place = place c.args.from in let q : Place = place c.loop-alloc.cursor in (
       as_made (GlobFrom size (around_of c.args.scope.around) c.args.scope.depth p) c.new_branch-glob.result _ q
-          (c.new_branch-glob.ensures ∙ ap (λ s. concatenation s (trees c.loop-alloc.tokens.items)) c.metadata-annotation.ensures)
+          (c.new_branch-glob.ensures ∙ ap (λ ts. concatenation c.metadata-annotation.result (trees ts)) c.shrink_to_fit.ensures.items
+          ∙ ap (λ s. concatenation s (trees c.loop-alloc.tokens.items)) c.metadata-annotation.ensures)
           (glob_sole size (around_of c.args.scope.around) c.args.scope.depth p q c.loop-alloc.tokens.items (sym c.is_end.ensures ∙ c.loop-alloc-test.false)
           (λ e. c.if-cursor-from.false (bytes_len c.loop-alloc.cursor.rest.now c.loop-alloc.invariant.0 ∙ ap utf8_len e ∙ sym (bytes_len c.args.from.rest.now from_text)))
           (end_shorter (chars c.args.scope.expression.now) p.rest c.requires) (end_shorter p.rest q.rest c.loop-alloc.invariant.1.beyond) c.loop-alloc.invariant.1.begun),
