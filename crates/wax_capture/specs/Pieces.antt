@@ -16,7 +16,7 @@ use Rattle.wax_capture.specs.declared.piece.Ways.TheVariants.{Only, Each, Linked
 abbrev pub forms_of : Ways → List Form
 forms_of (Only form) = form ∷ []
 forms_of (Each forms) = forms.items
-forms_of (Linked forms) = forms
+forms_of (Linked forms) = forms.value
 
 -- the k-th form takes the text
 abbrev pub WayIn : List Form → ℕ → List ℕ → Type 0

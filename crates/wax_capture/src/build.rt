@@ -60,7 +60,7 @@ pub fn pieces_of<'t, A>(
     ensures { MatchBuild result (λ ps. ArePieces (trees tokens.now) false false ps.items)
         (λ _. 1048576 < costs (trees tokens.now) + 1) }
 {
-    let mut pieces = Vec::new(alloc);
+    let mut pieces = Vec::with_capacity(alloc, tokens.len())?;
     let mut index = tokens.len();
     while index > 0 {
         let has_next = index < tokens.len();

@@ -11,7 +11,7 @@ ghost use Rattle.wax_capture.specs.inner.Ways.{PassesOne};
 use std::alloc::{AllocError, Global};
 use unicode::case::simple_fold;
 use wax_lengths::Form;
-use wax_program::instruction::Test;
+use wax_program::instruction::{BoxedClass, Test};
 use wax_token::token::{BranchKind, Class, LeafKind, Literal, Token, Topology, Wildcard};
 
 /// Returns the characters of a text as a list.
@@ -64,8 +64,7 @@ fn test_of_class(alloc: Global, class: &Class) -> Result<Test, AllocError>
     ensures { IfOk result (λ test. (c : ℕ)
         → PassesTest test c ↔ (in_class class.now.0 class.now.1 c ≡ true)) }
 {
-    let archetypes = class.archetypes().to_vec(alloc)?;
-    Ok(Test::Class(Class::new(class.is_negated(), archetypes)))
+    Ok(Test::Class(BoxedClass::copied(alloc, class)?))
 }
 
 /// Builds the test of a class, `?` or `/`, or returns `None` for any other leaf.

@@ -114,10 +114,11 @@ pub fn linked(alloc: Global, forms: Vec<Form>) -> Result<Ways, AllocError>
         nexts[index] = firsts[group];
         firsts[group] = index;
     }
-    Ok(Ways::Linked(ByLetter {
+    let by_letter = ByLetter {
         forms,
         is_folded: is_any_case,
         firsts,
         nexts,
-    }))
+    };
+    Ok(Ways::Linked(Box::new(alloc, by_letter)?))
 }

@@ -45,7 +45,7 @@ fn form_of_run<'t, A>(alloc: Global, token: &Token<'t, A>) -> Result<Option<Form
         return Ok(None);
     };
     Ok(Some(Form::Run {
-        test,
+        test: Box::new(alloc, test)?,
         low: repetition.lower,
         high: repetition.upper,
     }))

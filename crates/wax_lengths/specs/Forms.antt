@@ -37,7 +37,7 @@ TakenBy (form.Text letters folded) x = SpelledBy folded letters.items x
 TakenBy form.Name x = HasNoSlash x
 TakenBy form.SlashOrNothing x = (x ≡ []) ⊎ (x ≡ 47 ∷ [])
 TakenBy (form.Tree before after rooted) x = TreeMeans before after rooted x
-TakenBy (form.Run test low high) x = IsRunOf test low high x
+TakenBy (form.Run test low high) x = IsRunOf test.value low high x
 TakenBy (form.Coded program) x = Accepts program.0 0 x
 
 -- how much a program comes to: its length without the last 1, or its instructions where these are more

@@ -26,7 +26,7 @@ pub enum Form {
     /// So many characters, each of which passes the test: at least `low`, and at most `high` unless
     /// that is `None`.
     Run {
-        test: Test,
+        test: Box<Test>,
         low: usize,
         high: Option<usize>,
     },

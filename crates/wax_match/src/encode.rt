@@ -29,6 +29,9 @@ pub use wax_program::{CompiledProgram, Meter, last_name, reads_last, run, run_kn
 #[error("failed to compile glob: oversized program")]
 pub struct CompileError;
 
+/// For how many instructions there is room at most when compiling begins.
+const FIRST_ROOM: usize = 16;
+
 /// Compiles tokens, matched one after another, to a program that accepts exactly the texts that
 /// they match. `before` and `after` say whether something is written before and after them, on
 /// which `**` depends.
@@ -56,7 +59,7 @@ pub fn compile<'t, A>(
     if cost >= LONGEST {
         return Err(Refusal::Refused(CompileError));
     }
-    let mut tail = Tail::new(alloc);
+    let mut tail = Tail::with_room(alloc, cost.min(FIRST_ROOM))?;
     tail.put_sequence(tokens, Sides { before, after })?;
     Ok(CompiledProgram::new(tail.into_instructions(), cost + 1))
 }

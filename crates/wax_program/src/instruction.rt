@@ -1,9 +1,11 @@
 //! The instructions of a program.
-ghost use Rattle.std.specs.Prelude.{◌≡◌, ◌↔◌, IsTrue, true};
+ghost use Rattle.std.specs.Prelude.{◌≡◌, ◌↔◌, IfOk, IsTrue, true};
 ghost use Rattle.unicode.specs.CaseFolding.{simple_fold};
 ghost use Rattle.wax_program.specs.Machine.{PassesTest};
 ghost use Rattle.wax_token.specs.Meaning.{in_class};
 
+use std::alloc::{AllocError, Global};
+use std::marker::Model;
 use unicode::case::simple_fold;
 use wax_token::token::Class;
 
@@ -15,13 +17,53 @@ pub enum Test {
     /// Passes for a character whose simple case folding is this one.
     Folded(char),
     /// Passes for a character that the class matches.
-    Class(Class),
+    Class(BoxedClass),
     /// Passes for any character but `/`.
     NotSlash,
     /// Passes for any character.
     Any,
     /// Passes for no character.
     Never,
+}
+
+/// A class behind a pointer, so that instructions and forms without a class take little room.
+/// Contracts see the class.
+#[derive(Drop)]
+pub struct BoxedClass {
+    class: Box<Class>,
+}
+
+impl Model for BoxedClass {
+    ghost use Rattle.std.specs.Prelude.{Bool, List};
+    ghost use Rattle.wax_token.specs.declared.token.Archetype.{Archetype};
+
+    ghost Value = { Bool × List Archetype };
+
+    ghost view = { λ b. b.class.value };
+}
+
+impl BoxedClass {
+    /// Copies the class.
+    ///
+    /// # Errors
+    ///
+    /// Returns `AllocError` if allocation fails.
+    pub fn copied(alloc: Global, class: &Class) -> Result<BoxedClass, AllocError>
+        ensures { IfOk result (λ b. b ≡ class.now) }
+    {
+        let archetypes = class.archetypes().to_vec(alloc)?;
+        let class = Class::new(class.is_negated(), archetypes);
+        Ok(BoxedClass {
+            class: Box::new(alloc, class)?,
+        })
+    }
+
+    /// Returns whether the class matches `c`.
+    fn contains(&self, c: char) -> bool
+        ensures { result ≡ in_class self.now.0 self.now.1 c }
+    {
+        self.class.contains(c)
+    }
 }
 
 /// An instruction. The next one follows, unless it says something else. A text is accepted if it
@@ -80,7 +122,7 @@ fn folds_far(c: char, d: char) -> bool
 }
 
 #[inline(never)]
-fn is_in(class: &Class, c: char) -> bool
+fn is_in(class: &BoxedClass, c: char) -> bool
     ensures { IsTrue result ↔ (in_class class.now.0 class.now.1 c ≡ true) }
 {
     class.contains(c)

@@ -6,11 +6,11 @@ use Rattle.std.specs.List.{flat_map, range_with_len}
 use Rattle.itertools.specs.Consumer.{find_at}
 use Rattle.wax_break.specs.declared.Break.{Break}
 use Rattle.wax_rule.specs.declared.rule.Rule.{Rule}
-use Rattle.wax_rule.specs.FirstBreak.{head_of, shape_breaks, breaks_of, first_in, is_broken_at, oversized}
+use Rattle.wax_rule.specs.FirstBreak.{head_of, shape_breaks, breaks_of, first_in, is_broken_at, oversized_among, oversized_in, oversized_inside}
 use Rattle.wax_rule.specs.declared.rule.Rule.TheVariants.{Boundary, Bounds, Branch}
 use Rattle.wax_break.specs.declared.Sort.TheVariants.{Alternation}
 use Rattle.wax_break.specs.declared.Side.{Side}
-use Rattle.wax_break.specs.Rules.{alternative_breaks, breaks_among, size_breaks, sub_glob_breaks}
+use Rattle.wax_break.specs.Rules.{alternative_breaks, size_breaks, sub_glob_breaks}
 use Rattle.wax_break.specs.Situated.{Situated}
 use Rattle.wax_token.specs.Reads.{Span}
 use Rattle.wax_token.specs.Syntax.{Tree}
@@ -60,15 +60,19 @@ first_shape_break row a b c o p x y z j k =
     ∙ ap (λ a. option_or (option_or a b) c) x ∙ ap (λ b. option_or (option_or (head_of u) b) c) y ∙ ap (option_or (option_or (head_of u) (head_of v))) z
     ∙ ap (λ o. option_or o (head_of w)) (sym (head_of_append u v)) ∙ sym (head_of_append (u ++ v) w)
 
-pub first_among : (row : List Situated) → head_of (breaks_among row) ≡ option_or (head_of (shape_breaks row)) (head_of (oversized row))
-first_among row = head_of_append (shape_breaks row) (oversized row)
+pub oversized_among_step : (ts : List (Tree Span)) (i : ℕ) (t : Tree Span) → i < length ts → t ≡ get_or ts i t →
+    head_of (oversized_among (trees (drop i ts))) ≡ option_or (head_of (size_breaks t)) (head_of (oversized_among (trees (drop (i + 1) ts))))
+oversized_among_step ts i t h e =
+    ap (λ z. head_of (oversized_among (trees z))) (drop_more ts i t h)
+    ∙ head_of_append (size_breaks (get_or ts i t)) (oversized_among (trees (drop (i + 1) ts)))
+    ∙ ap (λ z. option_or (head_of (size_breaks z)) (head_of (oversized_among (trees (drop (i + 1) ts))))) (sym e)
 
-pub oversized_step : (row : List Situated) (i : ℕ) (s : Situated) → i < length row → s ≡ get_or row i s →
-    head_of (oversized (drop i row)) ≡ option_or (head_of (size_breaks s.token)) (head_of (oversized (drop (i + 1) row)))
-oversized_step row i s h e =
-    ap (λ z. head_of (oversized z)) (drop_more row i s h)
-    ∙ head_of_append (size_breaks (get_or row i s).token) (oversized (drop (i + 1) row))
-    ∙ ap (λ (z : Situated). option_or (head_of (size_breaks z.token)) (head_of (oversized (drop (i + 1) row)))) (sym e)
+pub oversized_inside_step : (row : List Situated) (i : ℕ) (s : Situated) → i < length row → s ≡ get_or row i s →
+    head_of (oversized_inside (drop i row)) ≡ option_or (head_of (oversized_in s.token)) (head_of (oversized_inside (drop (i + 1) row)))
+oversized_inside_step row i s h e =
+    ap (λ z. head_of (oversized_inside z)) (drop_more row i s h)
+    ∙ head_of_append (oversized_in (get_or row i s).token) (oversized_inside (drop (i + 1) row))
+    ∙ ap (λ (z : Situated). option_or (head_of (oversized_in z.token)) (head_of (oversized_inside (drop (i + 1) row)))) (sym e)
 
 -- ---- the branches of an alternation
 pub alternatives_step : (s : Span) (left right : Option Side) (ts : List (Tree Span)) (i : ℕ) (t : Tree Span) → i < length ts → t ≡ get_or ts i t →

@@ -1,4 +1,5 @@
 pub mod Adjacent
+pub mod Branches
 pub mod Digits
 pub mod Examples
 pub mod Firsts

@@ -10,7 +10,7 @@ use Rattle.wax_rule.specs.declared.rule.Rule.TheVariants.{Boundary, Bounds, Bran
 use Rattle.wax_break.specs.Situated.{Situated}
 use Rattle.wax_break.specs.Rules.{adjacent_span, boundary_breaks, bounds_breaks, branch_breaks, size_breaks}
 use Rattle.wax_token.specs.Reads.{Span}
-use Rattle.wax_token.specs.Syntax.{Tree, Trees, none, more}
+use Rattle.wax_token.specs.Syntax.{Tree, leaf, alternation, concatenation, repetition, Trees, none, more}
 
 -- What contracts see of an error: the rule, where it is broken, and the characters of the expression.
 pub record ErrorView : Type 0 where
@@ -69,3 +69,18 @@ shape_breaks row =
 
 abbrev pub oversized : List Situated → List Break
 oversized row = flat_map (λ s. size_breaks s.token) row
+
+-- the breaks of sizes of these tokens themselves
+abbrev pub oversized_among : Trees Span → List Break
+oversized_among none = []
+oversized_among (more t ts) = size_breaks t ++ oversized_among ts
+
+-- those of the tokens that a token holds, at the next level only
+abbrev pub oversized_in : Tree Span → List Break
+oversized_in (leaf a l) = []
+oversized_in (alternation a ts) = oversized_among ts
+oversized_in (concatenation a ts) = oversized_among ts
+oversized_in (repetition a t low high) = size_breaks t
+
+abbrev pub oversized_inside : List Situated → List Break
+oversized_inside row = flat_map (λ s. oversized_in s.token) row

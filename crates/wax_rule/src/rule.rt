@@ -3,11 +3,14 @@ ghost use Rattle.std.specs.Prelude.{◌≡◌, ◌∷◌, ◌++◌, ◌<◌, [],
 ghost use Rattle.std.specs.Prelude.{encode_utf8_all, length, map, slice_get};
 ghost use Rattle.std.specs.Cow.{cow_str_bytes};
 ghost use Rattle.std.specs.List.{flat_map, range_with_len};
+ghost use Rattle.std.specs.Option.{option_or};
+ghost use Rattle.wax_token.specs.Words.{trees};
 ghost use Rattle.itertools.specs.Consumer.{find_at};
 ghost use Rattle.wax_query.specs.Outcome.{MatchBuild};
 ghost use Rattle.wax_break.specs.Situated.{breadth_first};
-ghost use Rattle.wax_break.specs.Rules.{broken, break_here, breaks_among, size_breaks};
-ghost use Rattle.wax_rule.specs.FirstBreak.{TellsFirst, head_of, breaks_of, shape_breaks, oversized};
+ghost use Rattle.wax_break.specs.Rules.{broken, break_here, size_breaks};
+ghost use Rattle.wax_rule.specs.FirstBreak.{TellsFirst, head_of, breaks_of, shape_breaks};
+ghost use Rattle.wax_rule.specs.FirstBreak.{oversized_among, oversized_in, oversized_inside};
 ghost use Rattle.wax_rule.specs.FirstBreak.{first_in, is_broken_at};
 ghost use Rattle.wax_rule.specs.Keeping.{KeepsRules};
 
@@ -33,7 +36,7 @@ use std::marker::Model;
 use wax_break::Break;
 pub use wax_break::RuleErrorKind;
 use wax_query::diagnostics::{CompositeSpan, NoMemory, Refusal, Span};
-use wax_token::token::{ExpressionMetadata, Token, Tokenized};
+use wax_token::token::{BranchKind, ExpressionMetadata, Token, Tokenized, Topology};
 
 /// The first rule that an expression breaks, and the place (errors 2 to 8). Its `Display` form
 /// describes the rule. Contracts see the rule, the place and the characters of the expression.
@@ -254,26 +257,79 @@ fn size_break<'t>(
     Ok(None)
 }
 
-/// Finds the first token that is too large.
-fn find_oversized(alloc: Global, row: &[Situated<'_, '_>]) -> Result<Option<Break>, AllocError>
-    ensures { IfOk result (λ found. found ≡ head_of (oversized row.now)) }
+/// Finds the first of the tokens that is too large.
+fn find_oversized_among<'t>(
+    alloc: Global,
+    tokens: &[Token<'t, ExpressionMetadata>],
+) -> Result<Option<Break>, AllocError>
+    ensures { IfOk result (λ found. found ≡ head_of (oversized_among (trees tokens.now))) }
 {
-    for token in row {
-        if let Some(found) = size_break(alloc, token.token())? {
+    for token in tokens {
+        if let Some(found) = size_break(alloc, token)? {
             return Ok(Some(found));
         }
     }
     Ok(None)
 }
 
-/// Finds the first break of any rule in a list of tokens. Sizes are computed only if no other rule
-/// is broken.
-fn find_break_in_row(alloc: Global, row: &[Situated<'_, '_>]) -> Result<Option<Break>, AllocError>
-    ensures { IfOk result (λ found. found ≡ head_of (breaks_among row.now)) }
+/// Finds the first of the tokens that this one contains, at the next level, that is too large.
+fn find_oversized_in<'t>(
+    alloc: Global,
+    token: &Token<'t, ExpressionMetadata>,
+) -> Result<Option<Break>, AllocError>
+    ensures { IfOk result (λ found. found ≡ head_of (oversized_in token.now)) }
+{
+    match token.topology() {
+        Topology::Branch(branch) => match branch {
+            BranchKind::Alternation(a) => find_oversized_among(alloc, a.tokens.as_slice()),
+            BranchKind::Concatenation(c) => find_oversized_among(alloc, c.tokens.as_slice()),
+            BranchKind::Repetition(r) => size_break(alloc, &r.token),
+        },
+        Topology::Leaf(_) => Ok(None),
+    }
+}
+
+/// Finds the first token that is too large inside one of the row.
+fn find_oversized(alloc: Global, row: &[Situated<'_, '_>]) -> Result<Option<Break>, AllocError>
+    ensures { IfOk result (λ found. found ≡ head_of (oversized_inside row.now)) }
+{
+    for token in row {
+        if let Some(found) = find_oversized_in(alloc, token.token())? {
+            return Ok(Some(found));
+        }
+    }
+    Ok(None)
+}
+
+/// Finds the first token of a glob that is too large, the whole glob first. `row` lists all tokens
+/// that contain tokens.
+fn find_size_break<'t>(
+    alloc: Global,
+    whole: &Token<'t, ExpressionMetadata>,
+    row: &[Situated<'_, '_>],
+) -> Result<Option<Break>, AllocError>
+    ensures { IfOk result (λ found. found
+        ≡ option_or (head_of (size_breaks whole.now)) (head_of (oversized_inside row.now))) }
+{
+    match size_break(alloc, whole)? {
+        Some(found) => Ok(Some(found)),
+        None => find_oversized(alloc, row),
+    }
+}
+
+/// Finds the first break of any rule in a glob. `row` lists all tokens that contain tokens: leaves
+/// can only be too large. Sizes are computed only if no other rule is broken.
+fn find_break_in_row<'t>(
+    alloc: Global,
+    whole: &Token<'t, ExpressionMetadata>,
+    row: &[Situated<'_, '_>],
+) -> Result<Option<Break>, AllocError>
+    ensures { IfOk result (λ found. found ≡ option_or (head_of (shape_breaks row.now))
+        (option_or (head_of (size_breaks whole.now)) (head_of (oversized_inside row.now)))) }
 {
     match find_shape_break(row) {
         Some(found) => Ok(Some(found)),
-        None => find_oversized(alloc, row),
+        None => find_size_break(alloc, whole, row),
     }
 }
 
@@ -285,13 +341,13 @@ fn find_break_in_tree<'t>(
     ensures { IfOk result (λ found. found ≡ head_of (broken token.now)) }
 {
     let row = breadth_first(alloc, token)?;
-    find_break_in_row(alloc, row.as_slice())
+    find_break_in_row(alloc, token, row.as_slice())
 }
 
 /// Checks the rules, and returns the tokens unchanged if they break none.
 ///
-/// Allocates a list of all tokens. Takes time proportional to their number and to how deep they
-/// nest.
+/// Allocates a list of all tokens that contain tokens. Takes time proportional to the number of
+/// tokens and to how deep they nest.
 ///
 /// # Errors
 ///

@@ -8,8 +8,8 @@ use crate::encode::sides::Sides;
 use crate::encode::tail::Tail;
 use std::alloc::{AllocError, Global};
 use unicode::case::simple_fold;
-use wax_program::instruction::{Instruction, Test};
-use wax_token::token::{Class, LeafKind, Literal, Wildcard};
+use wax_program::instruction::{BoxedClass, Instruction, Test};
+use wax_token::token::{LeafKind, Literal, Wildcard};
 
 impl Tail {
     /// Writes a leaf, by what is before and after it.
@@ -23,7 +23,7 @@ impl Tail {
     {
         match leaf {
             LeafKind::Class(class) => {
-                let class = copy(self.allocator(), class)?;
+                let class = BoxedClass::copied(self.allocator(), class)?;
                 self.put(Instruction::Check(Test::Class(class)))
             }
             LeafKind::Literal(literal) => self.put_literal(literal),
@@ -108,11 +108,4 @@ pub fn characters(alloc: Global, text: &str) -> Result<Vec<char>, AllocError>
     ensures { IfOk result (λ v. v.items ≡ chars text.now) }
 {
     text.chars().collect(alloc)
-}
-
-fn copy(alloc: Global, class: &Class) -> Result<Class, AllocError>
-    ensures { IfOk result (λ c. c ≡ class.now) }
-{
-    let archetypes = class.archetypes().to_vec(alloc)?;
-    Ok(Class::new(class.is_negated(), archetypes))
 }

@@ -1,5 +1,5 @@
 //! Writing a program from its end, so that most offsets are known when they are written.
-ghost use Rattle.std.specs.Prelude.{◌≡◌, ◌+◌, ◌-◌, ◌<◌, [], ◌∷◌, List, OnOk, length, slice_set};
+ghost use Rattle.std.specs.Prelude.{◌≡◌, ◌+◌, ◌-◌, ◌<◌, [], ◌∷◌, List, IfOk, OnOk, length, slice_set};
 
 use std::alloc::{AllocError, Global};
 use std::marker::Model;
@@ -26,12 +26,17 @@ impl Model for Tail {
 }
 
 impl Tail {
-    pub fn new(alloc: Global) -> Tail
-        ensures { result ≡ [] }
+    /// Creates an empty program with room for so many instructions.
+    ///
+    /// # Errors
+    ///
+    /// Returns `AllocError` if allocation fails.
+    pub fn with_room(alloc: Global, room: usize) -> Result<Tail, AllocError>
+        ensures { IfOk result (λ tail. tail ≡ []) }
     {
-        Tail {
-            reversed: Vec::new(alloc),
-        }
+        Ok(Tail {
+            reversed: Vec::with_capacity(alloc, room)?,
+        })
     }
 
     /// Returns the allocator of the instructions.

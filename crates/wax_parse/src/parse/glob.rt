@@ -39,7 +39,7 @@ pub(super) fn read_glob<'t>(
         × Beyond (chars from.entry.rest.now) (chars r.1.rest.now))
         (λ e. Unreadable (GlobAt scope.entry from.entry) × IsPlace (chars scope.entry.expression.now) e) }
 {
-    let mut tokens = Vec::new(alloc);
+    let mut tokens = Vec::with_capacity(alloc, first_room(scope.around))?;
     let mut cursor = from;
     while !scope.around.is_end(cursor.rest) {
         let (token, next) = read_token(alloc, scope, tokens.is_empty(), cursor)?;
@@ -49,9 +49,10 @@ pub(super) fn read_glob<'t>(
     if cursor.rest.len() == from.rest.len() {
         return Err(refusal(scope.expression, from.rest));
     }
+    let fitted = without_spare_room(scope.around, tokens);
     let annotation = metadata(scope.expression, from.rest, cursor.rest);
     let glob = new_branch(
-        BranchKind::Concatenation(Concatenation { tokens }),
+        BranchKind::Concatenation(Concatenation { tokens: fitted }),
         annotation,
     );
     Ok((glob, cursor))
@@ -125,12 +126,13 @@ fn read_branches<'t>(
         × Beyond (chars from.entry.rest.now) (chars r.1.rest.now))
         (λ e. Unreadable (BranchesAt scope.entry from.entry) × IsPlace (chars scope.entry.expression.now) e) }
 {
-    let mut branches = Vec::new(alloc);
+    let mut branches = Vec::with_capacity(alloc, 2)?;
     let mut cursor = from;
     loop {
         let (branch, next) = read_glob(alloc, scope, cursor)?;
         push(&mut branches, branch)?;
         if let Some(rest) = strip(next.rest, '}') {
+            branches.shrink_to_fit();
             return Ok((branches, Cursor { rest, ..next }));
         }
         let Some(rest) = strip(next.rest, ',') else {
@@ -174,6 +176,27 @@ fn read_repetition<'t>(
         new_branch(BranchKind::Repetition(repetition), annotation),
         after,
     ))
+}
+
+/// Returns for how many tokens there is room when the reading of a glob begins. Most globs in
+/// branches are one token.
+fn first_room(around: Around) -> usize {
+    match around {
+        Around::Whole => 4,
+        Around::InAlternation | Around::InRepetition => 1,
+    }
+}
+
+/// Returns the tokens of a glob in a list without spare room. The list of the whole expression keeps
+/// it, since there is only one.
+fn without_spare_room<'t>(around: Around, tokens: Vec<ReadToken<'t>>) -> Vec<ReadToken<'t>>
+    ensures { result.items ≡ tokens.entry.items }
+{
+    let mut fitted = tokens;
+    if !matches!(around, Around::Whole) {
+        fitted.shrink_to_fit();
+    }
+    fitted
 }
 
 fn push<'t>(tokens: &mut Vec<ReadToken<'t>>, token: ReadToken<'t>) -> Result<(), AllocError>

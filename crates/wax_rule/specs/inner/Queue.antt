@@ -1,11 +1,14 @@
 -- How the tokens are put into a row. No part of the rules' definition.
-use Rattle.std.specs.Prelude.{ℕ, take, drop, List, [], ◌∷◌, Option, Some, Bool, refl}
+use Rattle.std.specs.Prelude.{ℕ, take, drop, List, [], ◌∷◌, Option, Some, None, Bool, refl}
 use Rattle.std.specs.List.{flat_map}
 use Rattle.std.specs.Coded.{Coded, code_by, coded_ℕ, coded_bool, coded_option, coded×}
 use Rattle.wax_token.specs.TreeCode.{tree_code}
 use Rattle.wax_token.specs.Reads.{Span}
 use Rattle.wax_token.specs.Syntax.{Tree, leaf, alternation, concatenation, repetition, Trees, none, more}
 use Rattle.wax_break.specs.declared.Side.{Side}
+use Rattle.wax_token.specs.Words.{annotation_of}
+use Rattle.wax_rule.specs.declared.rule.situated.Edge.{Edge}
+use Rattle.wax_rule.specs.declared.rule.situated.Neighbour.{Neighbour}
 use Rattle.wax_alternatives.specs.Alternatives.{beside}
 use Rattle.wax_break.specs.Situated.{Situated, end_side, right_of, situated_levels}
 
@@ -36,6 +39,26 @@ all_levels (s ∷ ss) = beside (situated_levels s.left s.right s.token) (all_lev
 -- the tokens that the one at the index holds
 abbrev pub queue_children : List Situated → ℕ → List Situated
 queue_children ss i = flat_map children (take 1 (drop i ss))
+
+-- the side of a token at which this was found, if it is a neighbour
+abbrev pub side_at : Tree Span → Option Edge → Option Side
+side_at t None = None
+side_at t (Some e) =
+    Some (record { span = annotation_of t; has_boundary = e.boundary; has_zero_or_more = e.zero_or_more })
+
+abbrev pub neighbour_side : Neighbour → Option Side
+neighbour_side n = side_at n.token.now n.edge
+
+-- the token alone, unless it is a leaf
+abbrev pub unless_leaf : Situated → Tree Span → List Situated
+unless_leaf s (leaf a l) = []
+unless_leaf s (alternation a ts) = s ∷ []
+unless_leaf s (concatenation a ts) = s ∷ []
+unless_leaf s (repetition a t low high) = s ∷ []
+
+-- those of the tokens that hold tokens
+abbrev pub only_branches : List Situated → List Situated
+only_branches ss = flat_map (λ s. unless_leaf s s.token) ss
 
 -- how proofs tell these apart: each is stored as the tuple of its fields
 abbrev pub side_code : Coded Side

@@ -7,7 +7,8 @@ ghost use Rattle.wax_token.specs.Words.{trees, annotation_of};
 ghost use Rattle.wax_break.specs.Situated.{starts_with_leaf, some_starts_in, ends_in, some_ends_in, end_side};
 ghost use Rattle.wax_break.specs.Situated.{start_side, right_of, breadth_first};
 ghost use Rattle.wax_token.specs.Kinds.{is_boundary_leaf, is_zero_or_more_leaf};
-ghost use Rattle.wax_rule.specs.inner.Queue.{branches, siblings, children, queue_children};
+ghost use Rattle.wax_rule.specs.inner.Queue.{branches, siblings, children, only_branches, queue_children};
+ghost use Rattle.wax_rule.specs.inner.Queue.{neighbour_side, side_at};
 
 use std::alloc::{AllocError, Global};
 use std::marker::Model;
@@ -15,49 +16,104 @@ use wax_break::Side;
 use wax_query::diagnostics::Span;
 use wax_token::token::{BranchKind, ExpressionMetadata, LeafKind, Token, Topology};
 
-/// A token, and the sides of its neighbours that it touches.
+/// A token, and the sides of its neighbours that it touches. Keeps the neighbours as references,
+/// which take less room than their sides.
 #[derive(Drop)]
 pub(super) struct Situated<'i, 't> {
     token: &'i Token<'t, ExpressionMetadata>,
-    left: Option<Side>,
-    right: Option<Side>,
+    left: &'i Token<'t, ExpressionMetadata>,
+    right: &'i Token<'t, ExpressionMetadata>,
+    left_edge: Option<Edge>,
+    right_edge: Option<Edge>,
 }
 
 impl<'i, 't> Model for Situated<'i, 't> {
     ghost use Rattle.wax_break.specs.Situated.{Situated as ASituated};
-    ghost use Rattle.wax_rule.specs.inner.Queue.{situated_code};
+    ghost use Rattle.wax_rule.specs.inner.Queue.{side_at, situated_code};
 
     ghost Value = { ASituated };
 
     ghost coded = { situated_code };
 
-    ghost view = { λ s. record { token = s.token.now; left = s.left; right = s.right } };
+    ghost view = { λ s. record {
+      token = s.token.now;
+      left = side_at s.left.now s.left_edge;
+      right = side_at s.right.now s.right_edge;
+    } };
 }
 
 impl<'i, 't> Situated<'i, 't> {
+    fn new(
+        token: &'i Token<'t, ExpressionMetadata>,
+        left: Neighbour<'i, 't>,
+        right: Neighbour<'i, 't>,
+    ) -> Self
+        ensures { result ≡ record {
+          token = token.now;
+          left = neighbour_side left.entry;
+          right = neighbour_side right.entry;
+        } }
+    {
+        Situated {
+            token,
+            left: left.token,
+            right: right.token,
+            left_edge: left.edge,
+            right_edge: right.edge,
+        }
+    }
+
     pub fn token(&self) -> &'i Token<'t, ExpressionMetadata>
         ensures { result.now ≡ self.now.token }
     {
         self.token
     }
 
+    /// Returns the side of the left neighbour, or `None` if there is none.
     pub fn left(&self) -> Option<Side>
         ensures { result ≡ self.now.left }
     {
-        self.left
+        side_at(self.left, self.left_edge)
     }
 
+    /// Returns the side of the right neighbour, or `None` if there is none.
     pub fn right(&self) -> Option<Side>
         ensures { result ≡ self.now.right }
     {
-        self.right
+        side_at(self.right, self.right_edge)
     }
+
+    fn left_neighbour(&self) -> Neighbour<'i, 't>
+        ensures { neighbour_side result ≡ self.now.left }
+    {
+        Neighbour {
+            token: self.left,
+            edge: self.left_edge,
+        }
+    }
+
+    fn right_neighbour(&self) -> Neighbour<'i, 't>
+        ensures { neighbour_side result ≡ self.now.right }
+    {
+        Neighbour {
+            token: self.right,
+            edge: self.right_edge,
+        }
+    }
+}
+
+/// A neighbour of a token, and what was found at its side that faces the token. Without an edge,
+/// there is no neighbour, and the token doesn't matter.
+#[derive(Clone, Copy)]
+struct Neighbour<'i, 't> {
+    token: &'i Token<'t, ExpressionMetadata>,
+    edge: Option<Edge>,
 }
 
 /// What was found at one side of a token: a boundary, a `*` or `$`, both (in different branches) or
 /// neither.
 #[derive(Clone, Copy)]
-struct Edge {
+pub(super) struct Edge {
     boundary: bool,
     zero_or_more: bool,
 }
@@ -170,98 +226,126 @@ fn side_of<'t>(token: &Token<'t, ExpressionMetadata>, found: Edge) -> Side
     }
 }
 
-fn start_side<'t>(token: &Token<'t, ExpressionMetadata>) -> Side
-    ensures { result ≡ start_side token.now }
+/// Returns the side of the token with this edge, or `None` without an edge.
+fn side_at<'t>(token: &Token<'t, ExpressionMetadata>, edge: Option<Edge>) -> Option<Side>
+    ensures { result ≡ side_at token.now edge }
 {
-    side_of(token, found_at_start(token))
+    Some(side_of(token, edge?))
 }
 
-fn end_side<'t>(token: &Token<'t, ExpressionMetadata>) -> Side
-    ensures { result ≡ end_side token.now }
+/// Returns the token as the neighbour of the one before it.
+fn start_of<'i, 't>(token: &'i Token<'t, ExpressionMetadata>) -> Neighbour<'i, 't>
+    ensures { neighbour_side result ≡ Some (start_side token.now) }
 {
-    side_of(token, found_at_end(token))
+    Neighbour {
+        token,
+        edge: Some(found_at_start(token)),
+    }
+}
+
+/// Returns the token as the neighbour of the one after it.
+fn end_of<'i, 't>(token: &'i Token<'t, ExpressionMetadata>) -> Neighbour<'i, 't>
+    ensures { neighbour_side result ≡ Some (end_side token.now) }
+{
+    Neighbour {
+        token,
+        edge: Some(found_at_end(token)),
+    }
 }
 
 /// Returns the neighbour to the right of the token before `index`: the token at `index`, or at the
 /// end of the sequence the neighbour of the branch around it.
-fn right_of<'t>(
-    tokens: &[Token<'t, ExpressionMetadata>],
+fn right_of<'i, 't>(
+    tokens: &'i [Token<'t, ExpressionMetadata>],
     index: usize,
-    outer: Option<Side>,
-) -> Option<Side>
-    ensures { result ≡ right_of (trees (drop index tokens.now)) outer }
+    outer: Neighbour<'i, 't>,
+) -> Neighbour<'i, 't>
+    ensures { neighbour_side result
+        ≡ right_of (trees (drop index tokens.now)) (neighbour_side outer.entry) }
 {
     match tokens.get(index) {
-        Some(token) => Some(start_side(token)),
+        Some(token) => start_of(token),
         None => outer,
     }
 }
 
-/// Appends the tokens of a concatenation. Each is the neighbour of the next.
+/// Appends the token unless it is a leaf.
+fn push_branch<'i, 't>(
+    row: &mut Vec<Situated<'i, 't>>,
+    token: Situated<'i, 't>,
+) -> Result<(), AllocError>
+    ensures { OnOk result (row.new.items ≡ row.old.items ++ only_branches (token.entry ∷ [])) }
+{
+    if token.token().as_branch().is_some() {
+        row.push(token)?;
+    }
+    Ok(())
+}
+
+/// Appends the branches among the tokens of a concatenation. Each token is the neighbour of the
+/// next.
 fn push_siblings<'i, 't>(
     row: &mut Vec<Situated<'i, 't>>,
     tokens: &'i [Token<'t, ExpressionMetadata>],
-    left: Option<Side>,
-    right: Option<Side>,
+    left: Neighbour<'i, 't>,
+    right: Neighbour<'i, 't>,
 ) -> Result<(), AllocError>
-    ensures { OnOk result (row.new.items ≡ row.old.items ++ siblings left right (trees tokens.now)) }
+    ensures { OnOk result
+        (row.new.items ≡ row.old.items ++ only_branches
+        (siblings (neighbour_side left.entry) (neighbour_side right.entry) (trees tokens.now))) }
 {
     let mut before = left;
     for index in 0..tokens.len() {
         let token = &tokens[index];
-        row.push(Situated {
-            token,
-            left: before,
-            right: right_of(tokens, index + 1, right),
-        })?;
-        before = Some(end_side(token));
+        let after = right_of(tokens, index + 1, right);
+        push_branch(row, Situated::new(token, before, after))?;
+        before = end_of(token);
     }
     Ok(())
 }
 
-/// Appends the branches of an alternation. They all have the alternation's neighbours.
-fn push_branches<'i, 't>(
+/// Appends the branches among the tokens of an alternation. They all have the alternation's
+/// neighbours.
+fn push_alternatives<'i, 't>(
     row: &mut Vec<Situated<'i, 't>>,
     tokens: &'i [Token<'t, ExpressionMetadata>],
-    left: Option<Side>,
-    right: Option<Side>,
+    left: Neighbour<'i, 't>,
+    right: Neighbour<'i, 't>,
 ) -> Result<(), AllocError>
-    ensures { OnOk result (row.new.items ≡ row.old.items ++ branches left right (trees tokens.now)) }
+    ensures { OnOk result
+        (row.new.items ≡ row.old.items ++ only_branches
+        (branches (neighbour_side left.entry) (neighbour_side right.entry) (trees tokens.now))) }
 {
     for token in tokens {
-        row.push(Situated { token, left, right })?;
+        push_branch(row, Situated::new(token, left, right))?;
     }
     Ok(())
 }
 
-/// Appends the tokens inside the token at the index.
+/// Appends the branches among the tokens inside the token at the index.
 fn push_children<'i, 't>(row: &mut Vec<Situated<'i, 't>>, index: usize) -> Result<(), AllocError>
     requires { index < length row.old.items }
-    ensures { OnOk result (row.new.items ≡ row.old.items ++ queue_children row.old.items index) }
+    ensures { OnOk result
+        (row.new.items ≡ row.old.items ++ only_branches (queue_children row.old.items index)) }
 {
     let here = &row[index];
-    let (token, left, right) = (here.token(), here.left(), here.right());
+    let (token, left, right) = (here.token(), here.left_neighbour(), here.right_neighbour());
     match token.topology() {
         Topology::Branch(branch) => match branch {
-            BranchKind::Alternation(a) => push_branches(row, a.tokens.as_slice(), left, right),
+            BranchKind::Alternation(a) => push_alternatives(row, a.tokens.as_slice(), left, right),
             BranchKind::Concatenation(c) => push_siblings(row, c.tokens.as_slice(), left, right),
-            BranchKind::Repetition(r) => {
-                row.push(Situated {
-                    token: &r.token,
-                    left,
-                    right,
-                })?;
-                Ok(())
-            }
+            BranchKind::Repetition(r) => { push_branch(row, Situated::new(&r.token, left, right)) }
         },
         Topology::Leaf(_) => Ok(()),
     }
 }
 
-/// Appends the tokens inside each of the tokens from the index on: the next level.
+/// Appends the branches among the tokens inside each of the tokens from the index on: those of the
+/// next level.
 fn push_level<'i, 't>(row: &mut Vec<Situated<'i, 't>>, from: usize) -> Result<(), AllocError>
     requires { from ≤ length row.old.items }
-    ensures { OnOk result (row.new.items ≡ row.old.items ++ flat_map children (drop from row.old.items)) }
+    ensures { OnOk result (row.new.items
+        ≡ row.old.items ++ only_branches (flat_map children (drop from row.old.items))) }
 {
     for index in from..row.len() {
         push_children(row, index)?;
@@ -269,19 +353,19 @@ fn push_level<'i, 't>(row: &mut Vec<Situated<'i, 't>>, from: usize) -> Result<()
     Ok(())
 }
 
-/// Lists all tokens of a glob, breadth first.
+/// Lists the tokens of a glob that contain tokens, breadth first. Leaves take no room.
 pub(super) fn breadth_first<'i, 't>(
     alloc: Global,
     whole: &'i Token<'t, ExpressionMetadata>,
 ) -> Result<Vec<Situated<'i, 't>>, AllocError>
-    ensures { IfOk result (λ row. row.items ≡ breadth_first whole.now) }
+    ensures { IfOk result (λ row. row.items ≡ only_branches (breadth_first whole.now)) }
 {
     let mut row = Vec::new(alloc);
-    row.push(Situated {
+    let nothing = Neighbour {
         token: whole,
-        left: None,
-        right: None,
-    })?;
+        edge: None,
+    };
+    push_branch(&mut row, Situated::new(whole, nothing, nothing))?;
     let mut from = 0;
     while from < row.len() {
         let to = row.len();

@@ -38,7 +38,7 @@ loop-index-preserved c =
       linked = rw is_group (links_more forms folded firsts nexts i letter old f (subst (AreLinked forms folded firsts nexts) one c.loop-index.invariant.linked) lt is begins case small (subst (λ z. old ≡ get_or firsts z 0) is_group was));
     }
 
-pub invariant_of-result : goal.invariant_of-result
-invariant_of-result c =
+pub invariant_of-by_letter : goal.invariant_of-by_letter
+invariant_of-by_letter c =
     let none : c.loop-index.index ≡ 0 = omega (arith, c.loop-index-test.false) in
     subst (AreLinked c.args.forms.items c.is_folded-is_any_case.result c.loop-index.firsts.items c.loop-index.nexts.items) none c.loop-index.invariant.linked

@@ -146,7 +146,7 @@ read_branches-read_glob-requires t c = (
 )
 
 pub read_branches-returns-in_err-branch : goal.read_branches-returns-in_err-branch
-read_branches-returns-in_err-branch t c = passed_up c.from_residual.result c.in_err-branch.field-0.0 _ _ _ _ c.from_residual.ensures.1
+read_branches-returns-in_err-branch t c = passed_up c.from_residual-in_err-branch.result c.in_err-branch.field-0.0 _ _ _ _ c.from_residual-in_err-branch.ensures.1
     (λ e h. (
       branches_unreadable (utf8_len (chars c.args.scope.expression.now)) c.args.scope.depth (place c.args.from) (place c.loop-branches.cursor) c.loop-branches.branches.items
           (subst (λ a. Unreadable (GlobFrom (utf8_len (chars c.args.scope.expression.now)) a c.args.scope.depth (place c.loop-branches.cursor))) c.requires.around h.0) c.loop-branches.invariant.1.begun,
@@ -176,7 +176,7 @@ read_branches-returns-in-Some t c =
     let q : Place = at c.in_ok-branch.next.is_case_insensitive (chars c.in-Some.rest.now) in
     let m : Place = place c.in_ok-branch.next in
     let e : m.rest ≡ 125 ∷ q.rest = strip_is 125 m.rest q.rest c.in-Some.ensures in (
-      as_made (BranchesFrom (utf8_len (chars c.args.scope.expression.now)) c.args.scope.depth (place c.args.from)) (trees c.push.new.tokens.items) _ q (ap trees c.in_ok-push.ensures)
+      as_made (BranchesFrom (utf8_len (chars c.args.scope.expression.now)) c.args.scope.depth (place c.args.from)) (trees c.shrink_to_fit.new.self.items) _ q (ap trees (c.shrink_to_fit.ensures.items ∙ c.in_ok-push.ensures))
           (branches_sole (utf8_len (chars c.args.scope.expression.now)) c.args.scope.depth (place c.args.from) (place c.loop-branches.cursor) m q c.loop-branches.branches.items c.in_ok-branch.branch e refl
           (subst (λ a. Sole (GlobFrom (utf8_len (chars c.args.scope.expression.now)) a c.args.scope.depth (place c.loop-branches.cursor)) c.in_ok-branch.branch m) c.requires.around c.in_ok-branch.ensures.0)
           c.loop-branches.invariant.1.begun),
@@ -189,7 +189,7 @@ read_branches-loop-branches-init t c = (
   record {
     beyond = beyond_same (chars c.args.from.rest.now);
     begun = subst (λ ts. Begun (BranchesFrom (utf8_len (chars c.args.scope.expression.now)) c.args.scope.depth (place c.args.from)) (BranchesFrom (utf8_len (chars c.args.scope.expression.now)) c.args.scope.depth (place c.args.from)) ts)
-        (sym c.new-branches.ensures.items) (begun_start (BranchesFrom (utf8_len (chars c.args.scope.expression.now)) c.args.scope.depth (place c.args.from)));
+        (sym c.in_ok-branches.ensures.items) (begun_start (BranchesFrom (utf8_len (chars c.args.scope.expression.now)) c.args.scope.depth (place c.args.from)));
   },
 )
 
@@ -216,7 +216,7 @@ read_glob-loop-alloc-init t c = (
   record {
     beyond = beyond_same (chars c.args.from.rest.now);
     begun = subst (λ ts. Begun (TokensFrom (utf8_len (chars c.args.scope.expression.now)) (around_of c.args.scope.around) c.args.scope.depth true (place c.args.from)) (TokensFrom (utf8_len (chars c.args.scope.expression.now)) (around_of c.args.scope.around) c.args.scope.depth (is_nil ts) (place c.args.from)) ts)
-        (sym c.new-tokens.ensures.items) (begun_start (TokensFrom (utf8_len (chars c.args.scope.expression.now)) (around_of c.args.scope.around) c.args.scope.depth true (place c.args.from)));
+        (sym c.in_ok-tokens.ensures.items) (begun_start (TokensFrom (utf8_len (chars c.args.scope.expression.now)) (around_of c.args.scope.around) c.args.scope.depth true (place c.args.from)));
   },
 )
 
@@ -230,7 +230,7 @@ pub read_glob-returns-in_err-token : goal.read_glob-returns-in_err-token
 read_glob-returns-in_err-token t c =
     let size = utf8_len (chars c.args.scope.expression.now) in
     let first : c.is_empty.result ≡ is_nil c.loop-alloc.tokens.items = nil_asked c.loop-alloc.tokens.items c.is_empty.result (c.is_empty.ensures ∙ ap (λ n. n == 0) (let e : vec_len c.loop-alloc.tokens ≡ length c.loop-alloc.tokens.items = search rules in e)) in
-    passed_up c.from_residual.result c.in_err-token.field-0.0 _ _ _ _ c.from_residual.ensures.1
+    passed_up c.from_residual-in_err-token.result c.in_err-token.field-0.0 _ _ _ _ c.from_residual-in_err-token.ensures.1
     (λ e h. (
       glob_unreadable size (around_of c.args.scope.around) c.args.scope.depth (place c.args.from) (place c.loop-alloc.cursor) c.loop-alloc.tokens.items (sym c.is_end.ensures ∙ c.loop-alloc-test.true)
           (subst (λ b. Unreadable (TokenFrom size (around_of c.args.scope.around) c.args.scope.depth b (place c.loop-alloc.cursor))) first h.0) c.loop-alloc.invariant.1.begun,
@@ -276,7 +276,8 @@ read_glob-returns t c =
     let size = utf8_len (chars c.args.scope.expression.now) in
     let p : Place = place c.args.from in let q : Place = place c.loop-alloc.cursor in (
       as_made (GlobFrom size (around_of c.args.scope.around) c.args.scope.depth p) c.new_branch-glob.result _ q
-          (c.new_branch-glob.ensures ∙ ap (λ s. concatenation s (trees c.loop-alloc.tokens.items)) c.metadata-annotation.ensures)
+          (c.new_branch-glob.ensures ∙ ap (λ ts. concatenation c.metadata-annotation.result (trees ts)) c.without_spare_room-fitted.ensures
+          ∙ ap (λ s. concatenation s (trees c.loop-alloc.tokens.items)) c.metadata-annotation.ensures)
           (glob_sole size (around_of c.args.scope.around) c.args.scope.depth p q c.loop-alloc.tokens.items (sym c.is_end.ensures ∙ c.loop-alloc-test.false)
           (λ e. c.if-cursor-from.false (bytes_len c.loop-alloc.cursor.rest.now c.loop-alloc.invariant.0 ∙ ap utf8_len e ∙ sym (bytes_len c.args.from.rest.now from_text)))
           (end_shorter (chars c.args.scope.expression.now) p.rest c.requires) (end_shorter p.rest q.rest c.loop-alloc.invariant.1.beyond) c.loop-alloc.invariant.1.begun),

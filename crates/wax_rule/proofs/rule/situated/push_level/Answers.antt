@@ -1,5 +1,5 @@
 use Rattle.std.proofs.Common.{arith}
-use Rattle.wax_rule.proofs.Levels.{children_more}
+use Rattle.wax_rule.proofs.Branches.{children_more}
 use Rattle.wax_rule.proofs.rule.situated.push_level.Goals as goal
 
 pub loop-index-preserved : goal.loop-index-preserved
