@@ -1,6 +1,6 @@
 //! What is known of a token and made of it, as methods.
-ghost use Rattle.std.specs.Prelude.{◌≡◌, ◌↔◌, ◌<◌, ◌≤◌, ◌∷◌, ◌++◌, [], ℕ, Bool, List, All, IfOk, IfSome, IsTrue};
-ghost use Rattle.std.specs.Prelude.{MatchOption, chars, false, string_bytes};
+ghost use Rattle.std.specs.Prelude.{◌≡◌, ◌↔◌, ◌<◌, ◌≤◌, ◌∷◌, ◌++◌, [], ℕ, Bool, List, All, IfOk, IfSome};
+ghost use Rattle.std.specs.Prelude.{IsTrue, MatchOption, chars, false, string_bytes};
 ghost use Rattle.wax_alternatives.specs.Alternatives.{MeansOneOf, alternatives};
 ghost use Rattle.wax_break.specs.Sizes.{saturated_size};
 ghost use Rattle.wax_components.specs.Bounds.{BoundsComponents, SaturatedBounds};
