@@ -1,6 +1,6 @@
 //! The candidates of a walk, as lines.
-ghost use Rattle.std.specs.Prelude.{◌≡◌, ◌<◌, ◌≤◌, ◌∷◌, ◌++◌, ◌⊎◌, [], IfOk, IfErr, IsErrOf, OnOk, OnErr, false};
-ghost use Rattle.std.specs.Prelude.{map};
+ghost use Rattle.std.specs.Prelude.{◌≡◌, ◌<◌, ◌≤◌, ◌∷◌, ◌++◌, ◌⊎◌, [], IfOk, IfErr, IsErrOf, OnOk};
+ghost use Rattle.std.specs.Prelude.{OnErr, false, map};
 ghost use Rattle.std.specs.Iterator.{IsFinite};
 ghost use Rattle.wax_command_line.specs.Wanted.{WroteFirst};
 ghost use Rattle.wax_command_line.specs.inner.Written.{MovesBytes, WroteAll, WroteSome};
