@@ -1,10 +1,12 @@
 //! The candidates of a walk, as lines.
-ghost use Rattle.std.specs.Prelude.{◌≡◌, ◌∷◌, ◌++◌, [], IfOk, IfErr, OnOk, OnErr, false, map};
+ghost use Rattle.std.specs.Prelude.{◌≡◌, ◌<◌, ◌≤◌, ◌∷◌, ◌++◌, ◌⊎◌, [], IfOk, IfErr, IsErrOf, OnOk};
+ghost use Rattle.std.specs.Prelude.{OnErr, false, map};
 ghost use Rattle.std.specs.Iterator.{IsFinite};
 ghost use Rattle.wax_command_line.specs.Wanted.{WroteFirst};
 ghost use Rattle.wax_command_line.specs.inner.Written.{MovesBytes, WroteAll, WroteSome};
 ghost use Rattle.wax_command_line.specs.Wanted.{WroteWanted};
 ghost use Rattle.wax_command_line.specs.Candidates.{candidate_line, is_error};
+ghost use Rattle.wax_lines.specs.Counts.{greatest_count};
 ghost use Rattle.wax_lines.specs.Written.{WritesPart};
 ghost use Rattle.wax_walk.specs.Entries.{given_of};
 
@@ -51,6 +53,9 @@ where
     ensures stopped { OnErr result (WroteFirst D.law
         (⟦<GlobWalk<'g, D, P, C> as FileIterator>⟧.view walk.entry) (map R.rule rules.items)
         (W.contents output.old.inner) (W.contents output.new.inner)) }
+    ensures unread { IsErrOf result LinesError.Read → ⊥ }
+    ensures write_failed { IsErrOf result LinesError.Write →
+        (output.old.failures < output.new.failures) ⊎ (output.new.failures ≡ greatest_count) }
     ensures quiet { IfOk result (λ has_errors. has_errors ≡ false → faults.new ≡ faults.old) }
 {
     write_excluding(alloc, walk.uncaptured()?, rules, output, faults)
@@ -75,6 +80,9 @@ where
         (W.contents output.old.inner) (W.contents output.new.inner)) }
     ensures stopped { OnErr result (WroteFirst I.Directory.law (I.view walk) (map R.rule rules.items)
         (W.contents output.old.inner) (W.contents output.new.inner)) }
+    ensures unread { IsErrOf result LinesError.Read → ⊥ }
+    ensures write_failed { IsErrOf result LinesError.Write →
+        (output.old.failures < output.new.failures) ⊎ (output.new.failures ≡ greatest_count) }
     ensures quiet { IfOk result (λ has_errors. has_errors ≡ false → faults.new ≡ faults.old) }
 {
     law_of_walks();
@@ -99,6 +107,9 @@ where
         (W.contents output.old.inner) (W.contents output.new.inner)) }
     ensures stopped { OnErr result (WroteSome (I.view walk)
         (W.contents output.old.inner) (W.contents output.new.inner)) }
+    ensures unread { IsErrOf result LinesError.Read → ⊥ }
+    ensures write_failed { IsErrOf result LinesError.Write →
+        (output.old.failures < output.new.failures) ⊎ (output.new.failures ≡ greatest_count) }
     ensures quiet { IfOk result (λ has_errors. has_errors ≡ false → faults.new ≡ faults.old) }
 {
     let mut lines = Vec::new(alloc);
@@ -128,6 +139,10 @@ where
     ensures error { IfOk result (λ was. was ≡ is_error (given_of T.facts R.facts separation)) }
     ensures err { OnErr result (WritesPart (W.contents output.old.inner) (W.contents output.new.inner)
         (lines.old.items ++ candidate_line (given_of T.facts R.facts separation))) }
+    ensures unread { IsErrOf result LinesError.Read → ⊥ }
+    ensures write_failed { IsErrOf result LinesError.Write →
+        (output.old.failures < output.new.failures) ⊎ (output.new.failures ≡ greatest_count) }
+    ensures steady { output.old.failures ≤ output.new.failures }
     ensures quiet { IfOk result (λ was. was ≡ false → faults.new ≡ faults.old) }
 {
     match separation {
@@ -156,6 +171,10 @@ fn write_candidate<E: Entry, W: Write>(
         lines.old.items lines.new.items ((E.facts entry.now).candidate ++ 10 ∷ [])) }
     ensures err { OnErr result (WritesPart (W.contents output.old.inner) (W.contents output.new.inner)
         (lines.old.items ++ ((E.facts entry.now).candidate ++ 10 ∷ []))) }
+    ensures unread { IsErrOf result LinesError.Read → ⊥ }
+    ensures write_failed { IsErrOf result LinesError.Write →
+        (output.old.failures < output.new.failures) ⊎ (output.new.failures ≡ greatest_count) }
+    ensures steady { output.old.failures ≤ output.new.failures }
 {
     let (_, candidate) = entry.root_relative_paths();
     let Ok(()) = push_line(candidate, lines) else {

@@ -1,4 +1,4 @@
-use Rattle.std.proofs.Common.{rules, refl, subst, ap, ◌≡◌, ◌∙◌}
+use Rattle.std.proofs.Common.{arith, rules, refl, subst, ap, ◌≡◌, ◌∙◌}
 use Rattle.std.specs.Prelude.{Some, None, ◌||◌}
 use Rattle.std.proofs.lemmas.Bool.{or_parts}
 use Rattle.std.specs.Io.KnownBytes.{Appends}
@@ -13,6 +13,7 @@ loop-item-init g c = record {
   ends = search rules;
   writing = rw c.new-lines.ensures.items (writing_none g.I.Directory.Directory.law _ _ _);
   quiet = λ _. refl;
+  steady = search rules;
 }
 
 pub returns-in_err-has_errors-clause-stopped : goal.returns-in_err-has_errors-clause-stopped
@@ -36,6 +37,7 @@ loop-item-preserved g c =
       ends = search rules;
       writing = writing_more g.I.Directory.Directory.law _ _ _ _ _ _ _ _ _ _ _ _ _ x c.loop-item.invariant.writing fed goes.2 c.in_ok-has_errors.ensures.ok (ap (λ v. c.loop-item.has_errors || v) c.in_ok-has_errors.ensures.error);
       quiet = λ e. let none = or_parts c.loop-item.has_errors c.in_ok-has_errors.field-0 e in c.in_ok-has_errors.ensures.quiet none.1 ∙ c.loop-item.invariant.quiet none.0;
+      steady = omega (arith, c.in_ok-has_errors.ensures.steady, c.loop-item.invariant.steady);
     }
 
 pub returns-in_err-write_whole-clause-stopped : goal.returns-in_err-write_whole-clause-stopped

@@ -1,4 +1,4 @@
-use Rattle.std.proofs.Common.{◌≡◌, false}
+use Rattle.std.proofs.Common.{◌≡◌, ◌≤◌, false}
 use Rattle.std.specs.Iterator.{IsFinite, size}
 use Rattle.wax_command_line.proofs.Lines.{Writing}
 use Rattle.wax_command_line.proofs.candidates.write_candidates.Given as goal
@@ -14,6 +14,7 @@ invariant-loop-item g l =
       writing : Writing g.I.Directory.Directory.law (view l.fn.walk) (view l.walk) (size (left l.fn.walk)) (size (left l.walk))
           (contents l.fn.output.inner) (contents l.output.inner) l.lines.items l.has_errors;
       quiet : l.has_errors ≡ false → l.faults ≡ l.fn.faults;
+      steady : l.fn.output.failures ≤ l.output.failures;
     }
 
 abbrev pub decreases-loop-item : goal.decreases-loop-item
