@@ -1,4 +1,4 @@
-//! All tokens of a glob in one list, breadth first, each with its neighbours.
+//! The tokens of a glob that contain tokens in one list, breadth first, each with its neighbours.
 ghost use Rattle.std.specs.Prelude.{◌≡◌, ◌++◌, ◌∷◌, [], Bool, IfOk, OnOk, Option, Some, None, drop, ◌<◌, ◌≤◌};
 ghost use Rattle.std.specs.Prelude.{◌||◌, length};
 ghost use Rattle.std.specs.List.{flat_map};
@@ -334,7 +334,7 @@ fn push_children<'i, 't>(row: &mut Vec<Situated<'i, 't>>, index: usize) -> Resul
         Topology::Branch(branch) => match branch {
             BranchKind::Alternation(a) => push_alternatives(row, a.tokens.as_slice(), left, right),
             BranchKind::Concatenation(c) => push_siblings(row, c.tokens.as_slice(), left, right),
-            BranchKind::Repetition(r) => { push_branch(row, Situated::new(&r.token, left, right)) }
+            BranchKind::Repetition(r) => push_branch(row, Situated::new(&r.token, left, right)),
         },
         Topology::Leaf(_) => Ok(()),
     }
