@@ -128,6 +128,12 @@ impl PathMatcher for GlobMatcher<'_, '_> {
     }
 
     fn earliest_end(&self, text: &str) -> usize {
+        if let Some(folder) = self.folder {
+            // Lines in a folder often follow one another, so the first one is looked at before a search.
+            if text.as_bytes().starts_with(folder.as_bytes()) {
+                return 0;
+            }
+        }
         self.glob.earliest_end(text)
     }
 }
