@@ -24,6 +24,7 @@ pub struct Pair {
 
 /// Returns a place before which none of the pairs stands: that of the first one, unless it is near
 /// the end. Takes time proportional to the place and to the number of pairs.
+#[inline(never)]
 pub fn find_first(pairs: &[Pair], bytes: &[u8]) -> usize
     ensures before { NoneStandsBefore pairs.now bytes.now result }
     ensures inside { result ≤ length bytes.now }

@@ -95,6 +95,7 @@ impl Fact {
 
     /// Returns a place before which no line feed comes after one of the needles. The line feed is given
     /// as it is, so that the search for it is compiled by itself.
+    #[inline(never)]
     fn find_line_end(&self, end: EndPair, bytes: &[u8]) -> usize
         requires { ComesBefore end self.now.1 }
         ensures before { NoneEndsBefore self.now.1 bytes.now result }
