@@ -117,7 +117,7 @@ fn empty_cache(
 }
 
 /// Decides a text by the cache. Runs the program instead if the cache gave up, or if the program
-/// has fewer than [`LEAST_SIZE`] instructions and the text is mostly of long characters.
+/// has fewer than [`LEAST_SIZE`] instructions and the text has long characters.
 fn decide(
     alloc: Global,
     program: &CompiledProgram,
@@ -130,7 +130,7 @@ fn decide(
     ensures cache { IsKeptFor program.now.0 reads_last cache.new }
     ensures decides { IfOk result (λ b. IsTrue b ↔ Accepts program.now.0 0 (chars text.now)) }
 {
-    if cache.gives_up || program.size() < LEAST_SIZE && has_long_characters(text) {
+    if cache.gives_up || program.size() < LEAST_SIZE && is_of_long_characters(text) {
         return decide_once(alloc, program, reads_last, text);
     }
     if reads_last {
@@ -152,12 +152,12 @@ fn decide_once(
     run_known(alloc, program, reads_last, text, &mut meter)
 }
 
-/// Returns whether most bytes of the text are of characters of three bytes or more.
-fn has_long_characters(text: &str) -> bool {
-    if text.is_ascii() {
-        return false;
+/// Returns whether the first character past ASCII, if there is one, has three bytes or more. The
+/// others are taken to be of the same script.
+fn is_of_long_characters(text: &str) -> bool {
+    let mut bytes = text.bytes();
+    match bytes.find(|byte| !byte.is_ascii()) {
+        Some(byte) => byte >= LONG_CHARACTER,
+        None => false,
     }
-    let bytes = text.bytes();
-    let count = bytes.filter(|byte| *byte >= LONG_CHARACTER).count();
-    count > text.len() / 6
 }
