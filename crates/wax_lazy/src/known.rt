@@ -155,6 +155,9 @@ fn decide_once(
 /// Returns whether the first character past ASCII, if there is one, has three bytes or more. The
 /// others are taken to be of the same script.
 fn is_of_long_characters(text: &str) -> bool {
+    if text.is_ascii() {
+        return false;
+    }
     let mut bytes = text.bytes();
     match bytes.find(|byte| !byte.is_ascii()) {
         Some(byte) => byte >= LONG_CHARACTER,
