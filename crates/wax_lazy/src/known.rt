@@ -7,7 +7,7 @@ ghost use Rattle.wax_program.specs.Machine.{Accepts};
 use crate::cache::Cache;
 use crate::walk::walk;
 use std::alloc::{AllocError, Global};
-use wax_program::{CompiledProgram, Meter, last_name, reads_last, run_known};
+use wax_program::{CompiledProgram, Meter, last_name, run};
 use wax_query::diagnostics::NoMemory;
 
 /// The least number of instructions of a program that isn't run over texts of many characters, as
@@ -36,7 +36,7 @@ impl Known {
         ensures { IsKnownOf program.now.0 result }
     {
         Known {
-            reads_last: reads_only_name(program),
+            reads_last: program.reads_last(),
             most_bytes,
             cache: None,
         }
@@ -77,7 +77,7 @@ impl Known {
         self.prepare(alloc, program)?;
         match &mut self.cache {
             Some(cache) => decide(alloc, program, self.reads_last, cache, text),
-            None => decide_once(alloc, program, self.reads_last, text),
+            None => decide_once(alloc, program, text),
         }
     }
 
@@ -88,14 +88,6 @@ impl Known {
             None => false,
         }
     }
-}
-
-/// Returns whether the program is known to depend only on the last component of a text.
-fn reads_only_name(program: &CompiledProgram) -> bool
-    ensures last { IsTrue result → ReadsLast program.now.0 }
-    ensures long { IsTrue result → 2 ≤ length program.now.0 }
-{
-    reads_last(program) && program.size() >= 2
 }
 
 /// Creates a cache for last components, which begin at the place 2, or for whole texts.
@@ -131,7 +123,7 @@ fn decide(
     ensures decides { IfOk result (λ b. IsTrue b ↔ Accepts program.now.0 0 (chars text.now)) }
 {
     if cache.gives_up || program.size() < LEAST_SIZE && is_of_long_characters(text) {
-        return decide_once(alloc, program, reads_last, text);
+        return decide_once(alloc, program, text);
     }
     if reads_last {
         return Ok(walk(program, cache, last_name(text))?);
@@ -139,17 +131,11 @@ fn decide(
     Ok(walk(program, cache, text)?)
 }
 
-fn decide_once(
-    alloc: Global,
-    program: &CompiledProgram,
-    reads_last: bool,
-    text: &str,
-) -> Result<bool, NoMemory>
-    requires { IsTrue reads_last → ReadsLast program.now.0 }
+fn decide_once(alloc: Global, program: &CompiledProgram, text: &str) -> Result<bool, NoMemory>
     ensures { IfOk result (λ b. IsTrue b ↔ Accepts program.now.0 0 (chars text.now)) }
 {
     let mut meter = Meter::new();
-    run_known(alloc, program, reads_last, text, &mut meter)
+    run(alloc, program, text, &mut meter)
 }
 
 /// Returns whether the first character past ASCII, if there is one, has three bytes or more. The

@@ -22,7 +22,7 @@ mod sides;
 mod tail;
 
 pub use folding::case_folded_eq;
-pub use wax_program::{CompiledProgram, Meter, last_name, reads_last, run, run_known};
+pub use wax_program::{CompiledProgram, Meter, last_name, run};
 
 /// Tokens cost more than a program may (error 9).
 #[derive(Clone, Copy, Debug, Error)]

@@ -10,8 +10,8 @@ ghost use Rattle.wax_program.specs.Machine.{Accepts};
 ghost use Rattle.wax_program.specs.Meter.{most_ticks};
 
 use crate::instruction::Instruction;
-use crate::machine::{CompiledProgram, Meter, Visits};
-use crate::matching::{run, run_at};
+use crate::machine::{CompiledProgram, Meter};
+use crate::matching::run_at;
 use crate::skipped::Skipped;
 use std::alloc::Global;
 use std::simd::prelude::*;
@@ -20,37 +20,9 @@ use wax_query::diagnostics::NoMemory;
 /// How many bytes are compared at once.
 const LANES: usize = 32;
 
-/// Returns whether the program accepts the text, as [`run`] does. If the program is known to depend
-/// only on the last component, only that is followed, and what is before it is counted by its
-/// bytes.
-///
-/// # Errors
-///
-/// Returns `NoMemory` if allocation fails.
-pub fn run_known(
-    alloc: Global,
-    program: &CompiledProgram,
-    reads_last: bool,
-    text: &str,
-    meter: &mut Meter,
-) -> Result<bool, NoMemory>
-    requires known { IsTrue reads_last → ReadsLast program.now.0 }
-    ensures decides { IfOk result (λ b. IsTrue b ↔ Accepts program.now.0 0 (chars text.now)) }
-    ensures above { meter.new ≤ meter.old + program.now.1 * (length (chars text.now) + 1) }
-    ensures below { IfOk result
-        (λ b. IsTrue b → min (meter.old + length (chars text.now)) most_ticks ≤ meter.new) }
-    ensures steady { meter.old ≤ meter.new }
-{
-    // A name of one instruction is read in no less time than `run` takes, which ends early.
-    if reads_last && program.size() > 3 && program.len() > 3 {
-        return run_name(alloc, program, text, meter);
-    }
-    run(alloc, program, text, meter)
-}
-
 /// Runs a program that depends only on the last component: from the place 2, after the instructions
 /// that take other components.
-fn run_name(
+pub(crate) fn run_name(
     alloc: Global,
     program: &CompiledProgram,
     text: &str,
@@ -105,50 +77,32 @@ fn slashes(bytes: u8x32) -> u64
     bytes.simd_eq(u8x32::splat(b'/')).to_bitmask()
 }
 
-/// Returns whether the program is known to depend only on the last component: it begins with zero
-/// or more components, and takes no `/` after them. Reads each instruction at most once.
-pub fn reads_last(program: &CompiledProgram) -> bool
-    ensures { IsTrue result → ReadsLast program.now.0 }
+/// Returns whether a program of these instructions is known to depend only on the last component: it
+/// begins with zero or more components, and takes no `/` after them.
+pub(crate) fn is_last_read(instructions: &[Instruction]) -> bool
+    ensures last { IsTrue result → ReadsLast instructions.now }
+    ensures long { IsTrue result → 2 ≤ length instructions.now }
 {
-    begins_with_components(program) && stay_in_name(program)
+    begins_with_components(instructions) && stay_in_name(instructions)
 }
 
-fn begins_with_components(program: &CompiledProgram) -> bool
-    ensures fork { IsTrue result → slice_get program.now.0 0 ≡ Some (Fork 1) }
-    ensures components { IsTrue result → slice_get program.now.0 1 ≡ Some Components }
+fn begins_with_components(instructions: &[Instruction]) -> bool
+    ensures fork { IsTrue result → slice_get instructions.now 0 ≡ Some (Fork 1) }
+    ensures components { IsTrue result → slice_get instructions.now 1 ≡ Some Components }
+    ensures long { IsTrue result → 2 ≤ length instructions.now }
 {
-    if program.size() < 2 {
-        return false;
-    }
-    let mut visits = Visits::new();
-    let forks = is_fork_by_one(program.fetch(0, &mut visits));
-    let goes_on = is_components(program.fetch(1, &mut visits));
-    Meter::new().add(visits);
-    forks && goes_on
-}
-
-fn is_fork_by_one(instruction: &Instruction) -> bool
-    ensures { IsTrue result → instruction.now ≡ Fork 1 }
-{
-    matches!(instruction, Instruction::Fork(1))
-}
-
-fn is_components(instruction: &Instruction) -> bool
-    ensures { IsTrue result → instruction.now ≡ Components }
-{
-    matches!(instruction, Instruction::Components)
+    matches!(
+        instructions,
+        [Instruction::Fork(1), Instruction::Components, ..]
+    )
 }
 
 /// Returns whether no instruction from the place 2 on takes a `/` or leads to a place before it.
-fn stay_in_name(program: &CompiledProgram) -> bool
-    ensures { IsTrue result → StayInName program.now.0 (length program.now.0) }
+fn stay_in_name(instructions: &[Instruction]) -> bool
+    ensures { IsTrue result → StayInName instructions.now (length instructions.now) }
 {
-    let mut meter = Meter::new();
-    for at in 2..program.size() {
-        let mut visits = Visits::new();
-        let stays = stays_in_name(program.fetch(at, &mut visits), at);
-        meter.add(visits);
-        if !stays {
+    for at in 2..instructions.len() {
+        if !stays_in_name(&instructions[at], at) {
             return false;
         }
     }
