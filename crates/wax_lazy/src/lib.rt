@@ -8,4 +8,4 @@ mod matcher;
 mod table;
 mod walk;
 
-pub use matcher::{Matcher, OwnedMatcher};
+pub use matcher::{HasProgram, Matcher};

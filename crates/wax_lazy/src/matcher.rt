@@ -1,6 +1,7 @@
 //! Matchers of many texts.
-ghost use Rattle.std.specs.Prelude.{◌≡◌, ◌↔◌, IfOk, IsTrue, chars};
+ghost use Rattle.std.specs.Prelude.{◌≡◌, ◌↔◌, IfOk, IsTrue, List, chars};
 ghost use Rattle.wax_program.specs.Machine.{Accepts};
+ghost use Rattle.wax_program.specs.declared.instruction.Instruction.{Instruction};
 
 use crate::known::Known;
 use std::alloc::Global;
@@ -17,15 +18,57 @@ const BYTES_PER_INSTRUCTION: usize = 512;
 /// How many they may take, about, however large the program is.
 const MOST_BYTES_OF_ALL: usize = 16_777_216;
 
-/// A borrowed program for matching many texts. It keeps the states that earlier texts led to, so
-/// that later texts take less time. Contracts see the instructions.
-pub struct Matcher<'p> {
+/// A program with what else is known of the texts that it accepts, or a reference to one.
+pub trait HasProgram {
+    // The instructions of the program.
+    ghost code: { Self → List Instruction };
+
+    /// Returns the program.
+    fn program(&self) -> &CompiledProgram
+        ensures { result.now.0 ≡ code self.now };
+
+    /// Returns `false` only if the program doesn't accept the text, by a test that takes less time
+    /// than a matcher. By default, returns `true`. Doesn't allocate.
+    #[inline]
+    fn may_accept(&self, _text: &str) -> bool
+        ensures { Accepts (code self.now) 0 (chars _text.now) → IsTrue result }
+    {
+        true
+    }
+}
+
+impl HasProgram for CompiledProgram {
+    ghost code = { λ program. program.0 };
+
+    #[inline]
+    fn program(&self) -> &CompiledProgram {
+        self
+    }
+}
+
+impl<P: HasProgram> HasProgram for &P {
+    ghost code = { λ held. P.code held.now };
+
+    #[inline]
+    fn program(&self) -> &CompiledProgram {
+        P::program(*self)
+    }
+
+    #[inline]
+    fn may_accept(&self, text: &str) -> bool {
+        P::may_accept(*self, text)
+    }
+}
+
+/// A program for matching many texts. It keeps the states that earlier texts led to, so that later
+/// texts take less time. Contracts see the instructions.
+pub struct Matcher<P: HasProgram> {
     alloc: Global,
-    program: &'p CompiledProgram,
+    program: P,
     known: Known,
 }
 
-impl Drop for Matcher<'_> {
+impl<P: HasProgram + Drop> Drop for Matcher<P> {
     fn drop(self) {
         let Matcher {
             alloc: _,
@@ -35,7 +78,7 @@ impl Drop for Matcher<'_> {
     }
 }
 
-impl<'p> Model for Matcher<'p> {
+impl<P: HasProgram> Model for Matcher<P> {
     ghost use Rattle.std.specs.Prelude.{List};
     ghost use Rattle.std.specs.Coded.{coded_list};
     ghost use Rattle.wax_program.specs.declared.instruction.Instruction.{Instruction};
@@ -46,49 +89,55 @@ impl<'p> Model for Matcher<'p> {
 
     ghost coded = { coded_list instruction.the_row.coded };
 
-    ghost view = { λ m. m.program.now.0 };
+    ghost view = { λ m. P.code m.program };
 
-    ghost invariant = { λ m. IsKnownOf m.program.now.0 m.known };
+    ghost invariant = { λ m. IsKnownOf (P.code m.program) m.known };
 }
 
-impl<'p> Matcher<'p> {
+impl<P: HasProgram> Matcher<P> {
     /// Creates a matcher that has seen no text. It keeps at most about 2 MiB; or 512 bytes for each
     /// instruction of the program, if that is more, but at most about 16 MiB.
     ///
     /// # Errors
     ///
     /// Returns `NoMemory` if allocation fails.
-    pub fn new(alloc: Global, program: &'p CompiledProgram) -> Result<Matcher<'p>, NoMemory>
-        ensures { IfOk result (λ m. m ≡ program.now.0) }
+    pub fn new(alloc: Global, program: P) -> Result<Matcher<P>, NoMemory>
+    where
+        P: Drop,
+        ensures { IfOk result (λ m. m ≡ P.code program) }
     {
-        let most_bytes = program.size().saturating_mul(BYTES_PER_INSTRUCTION);
-        Matcher::with_most(
-            alloc,
-            program,
-            most_bytes.max(MOST_BYTES).min(MOST_BYTES_OF_ALL),
-        )
-    }
-
-    /// Creates a matcher that has seen no text. It keeps at most about `most_bytes` bytes, but at
-    /// least what 16 states need.
-    ///
-    /// # Errors
-    ///
-    /// Returns `NoMemory` if allocation fails.
-    pub fn with_most(
-        alloc: Global,
-        program: &'p CompiledProgram,
-        most_bytes: usize,
-    ) -> Result<Matcher<'p>, NoMemory>
-        ensures { IfOk result (λ m. m ≡ program.now.0) }
-    {
-        let mut known = Known::new(program, most_bytes);
-        known.prepare(alloc, program)?;
+        let most_bytes = program
+            .program()
+            .size()
+            .saturating_mul(BYTES_PER_INSTRUCTION);
+        let most_bytes = most_bytes.max(MOST_BYTES).min(MOST_BYTES_OF_ALL);
+        let mut known = Known::new(program.program(), most_bytes);
+        known.prepare(alloc, program.program())?;
         Ok(Matcher {
             alloc,
             program,
             known,
         })
+    }
+
+    /// Creates a matcher that has seen no text. It keeps at most about `most_bytes` bytes, but at
+    /// least what 16 states need. Doesn't allocate before the first text.
+    pub fn with_most(alloc: Global, program: P, most_bytes: usize) -> Matcher<P>
+        ensures { result ≡ P.code program }
+    {
+        let known = Known::new(program.program(), most_bytes);
+        Matcher {
+            alloc,
+            program,
+            known,
+        }
+    }
+
+    /// Returns what holds the program.
+    pub fn holder(&self) -> &P
+        ensures { P.code result.now ≡ self.now }
+    {
+        &self.program
     }
 
     /// Returns whether the program accepts the text. If the text leads only to states that are
@@ -98,78 +147,26 @@ impl<'p> Matcher<'p> {
     /// # Errors
     ///
     /// Returns `NoMemory` if allocation fails. The matcher can be used for further texts even then.
+    #[inline]
     pub fn is_match(&mut self, text: &str) -> Result<bool, NoMemory>
         ensures decides { IfOk result (λ b. IsTrue b ↔ Accepts self.old 0 (chars text.now)) }
         ensures same { self.new ≡ self.old }
     {
-        self.known.is_match(self.alloc, self.program, text)
-    }
-}
-
-/// An owned program for matching many texts, as a [`Matcher`] does. Contracts see the instructions.
-pub struct OwnedMatcher {
-    alloc: Global,
-    program: CompiledProgram,
-    known: Known,
-}
-
-impl Drop for OwnedMatcher {
-    fn drop(self) {
-        let OwnedMatcher {
-            alloc: _,
-            program: _,
-            known: _,
-        } = self;
-    }
-}
-
-impl Model for OwnedMatcher {
-    ghost use Rattle.std.specs.Prelude.{List};
-    ghost use Rattle.std.specs.Coded.{coded_list};
-    ghost use Rattle.wax_program.specs.declared.instruction.Instruction.{Instruction};
-    ghost use Rattle.wax_program.specs.contracts.instruction.Instruction as instruction;
-    ghost use Rattle.wax_lazy.specs.inner.Cached.{IsKnownOf};
-
-    ghost Value = { List Instruction };
-
-    ghost coded = { coded_list instruction.the_row.coded };
-
-    ghost view = { λ m. m.program.0 };
-
-    ghost invariant = { λ m. IsKnownOf m.program.0 m.known };
-}
-
-impl OwnedMatcher {
-    /// Creates a matcher that has seen no text. It keeps at most about `most_bytes` bytes, but at
-    /// least what 16 states need. Doesn't allocate before the first text.
-    pub fn new(alloc: Global, program: CompiledProgram, most_bytes: usize) -> OwnedMatcher
-        ensures { result ≡ program.0 }
-    {
-        let known = Known::new(&program, most_bytes);
-        OwnedMatcher {
-            alloc,
-            program,
-            known,
+        if !self.program.may_accept(text) {
+            return Ok(false);
         }
+        self.follow(text)
     }
 
-    /// Returns the program.
-    pub fn program(&self) -> &CompiledProgram
-        ensures { result.now.0 ≡ self.now }
-    {
-        &self.program
-    }
-
-    /// Returns whether the program accepts the text. Takes the time of [`Matcher::is_match`].
-    ///
-    /// # Errors
-    ///
-    /// Returns `NoMemory` if allocation fails. The matcher can be used for further texts even then.
-    pub fn is_match(&mut self, text: &str) -> Result<bool, NoMemory>
+    /// Follows the text. It is a function of its own, never inlined, so that a text that the test
+    /// before it rejects costs little more than the test.
+    #[inline(never)]
+    fn follow(&mut self, text: &str) -> Result<bool, NoMemory>
         ensures decides { IfOk result (λ b. IsTrue b ↔ Accepts self.old 0 (chars text.now)) }
         ensures same { self.new ≡ self.old }
     {
-        self.known.is_match(self.alloc, &self.program, text)
+        self.known
+            .is_match(self.alloc, self.program.program(), text)
     }
 
     /// Returns whether the matcher runs its program for each text from now on, since the states
