@@ -1,4 +1,5 @@
 pub mod Drawn
+pub mod Expressions
 pub mod Locations
 pub mod Numbers
 pub mod Refusals

@@ -135,7 +135,7 @@ impl From<NoMemory> for BuildError {
 }
 
 /// Converts the result of checking the rules into an error that owns a copy of the expression.
-pub fn rule_refused(alloc: Global, refusal: Refusal<RuleError<'_>>) -> BuildError
+pub(crate) fn rule_refused(alloc: Global, refusal: Refusal<RuleError<'_>>) -> BuildError
     ensures { IsRuleRefusal refusal.entry result }
 {
     match refusal {

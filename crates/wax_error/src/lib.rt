@@ -1,12 +1,14 @@
-//! Errors of builds, their places in an expression, and pictures of these.
+//! Reading and checking expressions; errors of builds, their places, and pictures of these.
 #![tactic(auto)]
 
 mod build_error;
 mod drawing;
+mod expression;
 mod glob_error;
 mod location;
 
-pub use build_error::{BuildError, rule_refused};
+pub use build_error::BuildError;
 pub use drawing::picture;
+pub use expression::parse_and_check;
 pub use glob_error::GlobError;
 pub use location::ErrorLocation;

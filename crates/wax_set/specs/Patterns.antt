@@ -1,29 +1,15 @@
 -- What patterns stand for, and how the building of a set of them ends.
 use Rattle.std.specs.Prelude.{◌≡◌, ◌↔◌, ◌<◌, ◌≤◌, ◌++◌, ◌∷◌, ◌⊎◌, ℕ, List, [], Result, Ok, Err, ⊤}
 use Rattle.std.specs.List.{AllZip}
-use Rattle.wax_parse.specs.Accepted.{IsPlace}
-use Rattle.wax_rule.specs.FirstBreak.{TellsFirst}
-use Rattle.wax_break.specs.Rules.{broken}
 use Rattle.wax_token.specs.Cost.{program_length}
-use Rattle.wax_token.specs.Reads.{Reads, Span}
+use Rattle.wax_token.specs.Reads.{Span}
 use Rattle.wax_token.specs.Syntax.{Tree, alternation}
 use Rattle.wax_token.specs.Words.{trees}
 use Rattle.wax_set.specs.Sets.{MeansText}
 use Rattle.wax_error.specs.declared.build_error.BuildError.{BuildError}
 use Rattle.wax_error.specs.declared.build_error.BuildError.TheVariants.{Parse, Rule, Compile, Memory}
 
--- ---- expressions
-
--- the expression spells the tree, which breaks no rule
-abbrev pub Spells : List ℕ → Tree Span → Type 0
-Spells e t = Reads e t × (broken t ≡ [])
-
--- why it spells none; nothing is said where memory was refused
-abbrev pub Refuses : List ℕ → BuildError → Type 0
-Refuses e (Parse place) = ((t : Tree Span) → Reads e t → ⊥) × IsPlace e place
-Refuses e (Rule error) = (t : Tree Span) × Reads e t × TellsFirst (broken t) error × (error.expression ≡ e)
-Refuses e (Compile _) = ⊥
-Refuses e Memory = ⊤
+-- ---- single patterns
 
 -- want of memory alone
 abbrev pub LacksMemory : BuildError → Type 0

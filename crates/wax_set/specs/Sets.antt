@@ -1,13 +1,11 @@
 -- What contracts see of a set of patterns.
-use Rattle.std.specs.Prelude.{◌≡◌, ◌↔◌, ◌≤◌, ℕ, false, List, [], ◌∷◌}
+use Rattle.std.specs.Prelude.{◌≡◌, ◌↔◌, ℕ, false, List, [], ◌∷◌}
 use Rattle.std.specs.Coded.{Coded, coded×, coded_ℕ}
 use Rattle.wax_capture.specs.Pieces.{ArePieces}
 use Rattle.wax_capture.specs.declared.piece.Piece.{Piece}
-use Rattle.wax_prefilter.specs.Facts.{PrefilterView, PassesFacts}
+use Rattle.wax_compiled.specs.Compiled.{Instructions, IsCompiled}
 use Rattle.wax_program.specs.Machine.{Accepts}
 use Rattle.wax_program.specs.declared.instruction.Instruction.{Instruction}
-use Rattle.wax_rule.specs.Keeping.{KeepsRules}
-use Rattle.wax_token.specs.Cost.{program_length}
 use Rattle.wax_token.specs.Meaning.{Means}
 use Rattle.wax_token.specs.Reads.{Span}
 use Rattle.wax_token.specs.Syntax.{Tree, Trees, alternation}
@@ -30,18 +28,11 @@ IsAlternation t = (branches : Trees Span) × (t ≡ alternation (0, 0) branches)
 abbrev pub IsWhole : List ℕ → List (List ℕ) → Type 0
 IsWhole text captures = captures ≡ text ∷ []
 
--- The program accepts what the alternation means with nothing around it, and has the length of its cost,
--- which fits; each such text passes the prefilter; the pieces are those of the alternation; and it keeps the
--- rules.
-pub record IsCompiledAny (t : Tree Span) (program : List Instruction × ℕ) (prefilter : PrefilterView)
-    (pieces : List Piece) : Type 0 where
-  pub accepts : (text : List ℕ) → Accepts program.0 0 text ↔ Means t false false text
-  pub len : program.1 ≡ program_length t
-  pub fits : program_length t ≤ 1048576
-  pub passes : (text : List ℕ) → Means t false false text → PassesFacts prefilter text
+-- What a set is compiled to: the alternation of its patterns, with its program and its pieces.
+pub record IsCompiledAny (t : Tree Span) (program : Instructions) (pieces : List Piece) : Type 0 where
+  pub compiled : IsCompiled t program
   pub split : ArePieces (members t) false false pieces
   pub alternates : IsAlternation t
-  pub rules : KeepsRules t
 
 -- the program accepts exactly the texts that the tree of a set means
 abbrev pub AcceptsText : List Instruction → Tree Span → Type 0

@@ -1,20 +1,18 @@
 //! Patterns, and sets that are built from them.
 ghost use Rattle.std.specs.Prelude.{◌≡◌, ◌++◌, ◌∷◌, [], IfOk, MatchResult, OnOk, chars};
-ghost use Rattle.std.specs.List.{Contains};
 ghost use Rattle.wax_token.specs.Reads.{Span};
 ghost use Rattle.wax_token.specs.Syntax.{Tree};
-ghost use Rattle.wax_rule.specs.Keeping.{KeepsRules};
-ghost use Rattle.wax_set.specs.Patterns.{IsAnyOf, IsOnly, LacksMemory, NoSet, Refuses, RefusesOk};
-ghost use Rattle.wax_set.specs.Patterns.{SpellEach, Spells, SpellsOk};
+ghost use Rattle.wax_error.specs.Expressions.{Refuses, Spells};
+ghost use Rattle.wax_set.specs.Patterns.{IsAnyOf, IsOnly, LacksMemory, NoSet, RefusesOk};
+ghost use Rattle.wax_set.specs.Patterns.{SpellEach, SpellsOk};
 ghost use Rattle.wax_error.specs.declared.build_error.BuildError.{BuildError};
 
 use crate::set::{Any, compiled};
 use std::alloc::Global;
-use wax_error::{BuildError, rule_refused};
-use wax_parse::parse::parse;
+use wax_error::{BuildError, parse_and_check};
 use wax_query::diagnostics::{NoMemory, Refusal};
-use wax_rule::rule::{Checked, check};
-use wax_token::token::{Alternation, BranchKind, ExpressionMetadata, Token, Tokenized, new_branch};
+use wax_rule::rule::Checked;
+use wax_token::token::{ExpressionMetadata, Token, Tokenized};
 
 /// A pattern of a set: an expression, a glob, a set, tokens that were checked, or a `Result` with
 /// one of these.
@@ -48,7 +46,7 @@ impl<'t> Pattern for &'t str {
         self,
         alloc: Global,
     ) -> Result<Checked<Token<'static, ExpressionMetadata>>, BuildError> {
-        let checked = parse_and_check(alloc, self)?;
+        let checked = token_of(parse_and_check(alloc, self)?);
         Ok(checked.into_owned(alloc)?)
     }
 }
@@ -115,26 +113,11 @@ pub fn any<P: Pattern + Drop>(alloc: Global, patterns: Vec<P>) -> Result<Any<'st
         (NoSet P.spells P.refuses patterns.items) }
 {
     let tokens = tokens_of(alloc, patterns)?;
-    let branch = BranchKind::Alternation(Alternation { tokens });
-    let token = new_branch(branch, ExpressionMetadata::new((0, 0)));
+    let token = Checked::any(alloc, tokens)?;
     match compiled(alloc, token) {
         Ok(any) => Ok(any),
         Err(Refusal::Refused(error)) => Err(BuildError::Compile(error)),
         Err(Refusal::Memory) => Err(BuildError::Memory),
-    }
-}
-
-fn parse_and_check<'t>(
-    alloc: Global,
-    expression: &'t str,
-) -> Result<Checked<Token<'t, ExpressionMetadata>>, BuildError>
-    ensures { MatchResult result (IsOnly (Spells (chars expression.now)))
-        (Refuses (chars expression.now)) }
-{
-    let tokenized = parse(alloc, expression)?;
-    match check(alloc, tokenized) {
-        Ok(checked) => Ok(token_of(checked)),
-        Err(refusal) => Err(rule_refused(alloc, refusal)),
     }
 }
 
@@ -151,10 +134,9 @@ fn token_of<'t>(
 fn tokens_of<P: Pattern + Drop>(
     alloc: Global,
     patterns: Vec<P>,
-) -> Result<Vec<Token<'static, ExpressionMetadata>>, BuildError>
-    ensures each { MatchResult result (λ tokens. SpellEach P.spells patterns.items tokens.items)
+) -> Result<Vec<Checked<Token<'static, ExpressionMetadata>>>, BuildError>
+    ensures { MatchResult result (λ tokens. SpellEach P.spells patterns.items tokens.items)
         (NoSet P.spells P.refuses patterns.items) }
-    ensures rules { IfOk result (λ tokens. (t : Tree Span) → Contains tokens.items t → KeepsRules t) }
 {
     let mut tokens = Vec::new(alloc);
     for pattern in patterns {
@@ -162,7 +144,7 @@ fn tokens_of<P: Pattern + Drop>(
             Ok(checked) => checked,
             Err(error) => return Err(error),
         };
-        push(&mut tokens, checked.release())?;
+        push(&mut tokens, checked)?;
     }
     Ok(tokens)
 }

@@ -1,7 +1,6 @@
-//! Sets of patterns: the alternation of their tokens, with its program and its pieces.
+//! Sets of patterns: the alternation of their tokens, compiled, with its pieces.
 ghost use Rattle.std.specs.Prelude.{◌≡◌, ◌≤◌, ◌<◌, ◌++◌, ◌∷◌, ℕ, List, IsTrue, chars, false};
 ghost use Rattle.std.specs.Prelude.{IfOk, IfSome, MatchOption, Some, codes};
-ghost use Rattle.wax_candidate.specs.Parts.{NoLineEndsBefore};
 ghost use Rattle.wax_components.specs.Depth.{Depth};
 ghost use Rattle.wax_facts.specs.Exhaustive.{exhaustive};
 ghost use Rattle.wax_facts.specs.InvariantText.{Text, Variant};
@@ -15,7 +14,6 @@ ghost use Rattle.wax_token.specs.Cost.{program_length};
 ghost use Rattle.wax_token.specs.Decided.{means_test, means_tested};
 ghost use Rattle.wax_set.specs.Sets.{IsAlternation, IsWhole, MeansText};
 ghost use Rattle.wax_set.specs.Patterns.{LacksMemory};
-ghost use Rattle.wax_rule.specs.Keeping.{KeepsRules};
 
 mod matcher;
 
@@ -27,23 +25,21 @@ use std::fmt;
 use std::marker::Model;
 use wax_candidate::{CandidatePath, MatchedText, Program};
 use wax_capture::Pieces;
+use wax_compiled::CompiledTokens;
 use wax_components::depth;
 use wax_error::BuildError;
 use wax_facts::{has_root, is_exhaustive, text};
-use wax_match::encode;
-use wax_match::encode::{CompileError, Meter};
-use wax_prefilter::Prefilter;
+use wax_match::encode::CompileError;
 use wax_query::diagnostics::{NoMemory, Refusal};
 use wax_query::query::{DepthVariance, TextVariance, Variance, When};
-use wax_rule::rule::{Checked, already_checked};
+use wax_rule::rule::Checked;
 use wax_token::token::{ExpressionMetadata, Token};
 
 /// A set of patterns, which matches a path if one of its patterns does. `any` builds it. Contracts
 /// see the alternation of their trees.
 pub struct Any<'t> {
-    token: Token<'t, ExpressionMetadata>,
-    program: encode::CompiledProgram,
-    prefilter: Prefilter,
+    token: Checked<Token<'t, ExpressionMetadata>>,
+    compiled: CompiledTokens,
     pieces: Pieces,
 }
 
@@ -52,8 +48,7 @@ impl Drop for Any<'_> {
     fn drop(self) {
         let Any {
             token: _,
-            program: _,
-            prefilter: _,
+            compiled: _,
             pieces: _,
         } = self;
     }
@@ -70,7 +65,7 @@ impl<'t> Model for Any<'t> {
 
     ghost view = { λ a. a.token };
 
-    ghost invariant = { λ a. IsCompiledAny a.token a.program a.prefilter a.pieces };
+    ghost invariant = { λ a. IsCompiledAny a.token a.compiled a.pieces };
 }
 
 /// Compiles an alternation into a set.
@@ -81,50 +76,20 @@ impl<'t> Model for Any<'t> {
 /// `Refusal::Memory` (10) if allocation fails.
 pub(crate) fn compiled<'t>(
     alloc: Global,
-    token: Token<'t, ExpressionMetadata>,
+    token: Checked<Token<'t, ExpressionMetadata>>,
 ) -> Result<Any<'t>, Refusal<CompileError>>
-    requires alternates { IsAlternation token }
-    requires rules { KeepsRules token }
+    requires { IsAlternation token }
     ensures same { IfOk result (λ any. any ≡ token.entry) }
     ensures fits { MatchBuild result (λ any. program_length any ≤ 1048576)
         (λ _. 1048576 < program_length token.entry) }
 {
-    let tokens = token.concatenation();
-    let program = encode::compile(alloc, tokens, false, false)?;
-    let prefilter = Prefilter::new(alloc, tokens)?;
-    let pieces = Pieces::new(alloc, tokens)?;
+    let compiled = CompiledTokens::of_token(alloc, token.as_ref())?;
+    let pieces = Pieces::new(alloc, token.as_ref().concatenation())?;
     Ok(Any {
         token,
-        program,
-        prefilter,
+        compiled,
         pieces,
     })
-}
-
-impl Any<'_> {
-    /// Returns whether a pattern may match the text, by a quick test. If it returns false, none
-    /// does.
-    fn may_match(&self, text: &str) -> bool
-        ensures { MeansText self.now (chars text.now) → IsTrue result }
-    {
-        self.prefilter.may_match(text)
-    }
-
-    /// Returns whether a pattern may match the text, by tests that take less time than a matcher. If
-    /// it returns false, none does.
-    fn may_match_at_once(&self, text: &str) -> bool
-        ensures { MeansText self.now (chars text.now) → IsTrue result }
-    {
-        self.prefilter.may_match_at_once(text)
-    }
-
-    /// Returns how many bytes at the beginning of a text can be passed over in a search for lines
-    /// that a pattern matches: none of them ends before so many bytes.
-    fn earliest_end(&self, text: &str) -> usize
-        ensures { NoLineEndsBefore (means_test self.now false false) text.now result }
-    {
-        self.prefilter.earliest_end(text)
-    }
 }
 
 /// Prints `Any { .. }`, since a set has no expression.
@@ -152,13 +117,7 @@ impl Program for Any<'_> {
         alloc: Global,
         path: &CandidatePath<'_>,
     ) -> Result<(bool, u128), NoMemory> {
-        let text = path.as_str();
-        if !self.may_match(text) {
-            return Ok((false, 0));
-        }
-        let mut meter = Meter::new();
-        let answer = encode::run(alloc, &self.program, text, &mut meter)?;
-        Ok((answer, meter.ticks()))
+        self.compiled.is_match_counted(alloc, path.as_str())
     }
 
     fn matched_counted<'p>(
@@ -167,7 +126,7 @@ impl Program for Any<'_> {
         path: &'p CandidatePath<'_>,
     ) -> Result<(Option<MatchedText<'p>>, u128), NoMemory> {
         let text = path.as_str();
-        if !self.may_match(text) {
+        if !self.compiled.may_match(text) {
             return Ok((None, 0));
         }
         self.pieces.matched_counted(alloc, text)
@@ -182,7 +141,7 @@ impl Program for Any<'_> {
         ensures greatest { (s : List ℕ) → MeansText self.now s
             → AtMost (component_total s) (bounds result).1 }
     {
-        depth(&self.token)
+        depth(self.token.as_ref())
     }
 
     /// Returns the only text that can match, if every branch is written as this text; the empty
@@ -197,7 +156,7 @@ impl Program for Any<'_> {
         ensures only { IfOk result (λ text. IfSome (text_of text) (λ t. (s : List ℕ)
             → MeansText self.now s → s ≡ chars t)) }
     {
-        Ok(match text(alloc, &self.token)? {
+        Ok(match text(alloc, self.token.as_ref())? {
             Some(text) => Variance::Invariant(CowStr::Owned(text)),
             None => Variance::Variant(()),
         })
@@ -209,7 +168,7 @@ impl Program for Any<'_> {
         ensures root { result ≡ root self.now }
         ensures always { result ≡ Always → (s : List ℕ) → MeansText self.now s → BeginsWithSlash s }
     {
-        has_root(&self.token)
+        has_root(self.token.as_ref())
     }
 
     /// Returns whether everything below a match matches too, from the last tokens of the branches;
@@ -219,7 +178,7 @@ impl Program for Any<'_> {
         ensures always { result ≡ Always → (s r : List ℕ)
             → MeansText self.now s → MeansText self.now (s ++ 47 ∷ r) }
     {
-        is_exhaustive(&self.token)
+        is_exhaustive(self.token.as_ref())
     }
 }
 
@@ -234,11 +193,9 @@ impl<'t> Pattern for Any<'t> {
     ) -> Result<Checked<Token<'static, ExpressionMetadata>>, BuildError> {
         let Any {
             token,
-            program: _,
-            prefilter: _,
+            compiled: _,
             pieces: _,
         } = self;
-        let checked = already_checked(token);
-        Ok(checked.into_owned(alloc)?)
+        Ok(token.into_owned(alloc)?)
     }
 }

@@ -7,6 +7,7 @@ use crate::set::Any;
 use std::alloc::Global;
 use std::marker::Model;
 use wax_candidate::{BuildMatcher, CandidatePath, PathMatcher};
+use wax_compiled::CompiledTokens;
 use wax_lazy::Matcher;
 use wax_query::diagnostics::NoMemory;
 
@@ -14,7 +15,7 @@ use wax_query::diagnostics::NoMemory;
 /// ones. Contracts see the view of its set.
 pub struct AnyMatcher<'a, 't> {
     any: &'a Any<'t>,
-    matcher: Matcher<'a>,
+    matcher: Matcher<&'a CompiledTokens>,
 }
 
 impl Drop for AnyMatcher<'_, '_> {
@@ -48,7 +49,7 @@ impl<'t> Any<'t> {
     pub fn matcher<'a>(&'a self, alloc: Global) -> Result<AnyMatcher<'a, 't>, NoMemory>
         ensures { IfOk result (λ m. m ≡ self.now) }
     {
-        let matcher = Matcher::new(alloc, &self.program)?;
+        let matcher = Matcher::new(alloc, &self.compiled)?;
         Ok(AnyMatcher { any: self, matcher })
     }
 }
@@ -66,12 +67,7 @@ impl AnyMatcher<'_, '_> {
         ensures decides { IfOk result (λ answer. answer ≡ means_test self.old false false path.now) }
         ensures same { self.new ≡ self.old }
     {
-        let text = path.as_str();
-        let any = self.any;
-        if !any.may_match_at_once(text) {
-            return Ok(false);
-        }
-        self.matcher.is_match(text)
+        self.matcher.is_match(path.as_str())
     }
 }
 
@@ -83,7 +79,7 @@ impl PathMatcher for AnyMatcher<'_, '_> {
     }
 
     fn earliest_end(&self, text: &str) -> usize {
-        self.any.earliest_end(text)
+        self.any.compiled.earliest_end(text)
     }
 }
 
