@@ -1,4 +1,3 @@
-pub mod Members
 pub mod Sets
 pub mod Patterns
 pub mod Matchers

@@ -1,13 +1,13 @@
 -- What the alternation of the patterns' trees means, and why there is none.
-use Rattle.std.proofs.Common.{◌≡◌, ◌↔◌, ◌<◌, ◌≤◌, ◌++◌, ◌∷◌, ℕ, false, List, [], inl, inr, refl, sym, ap, ◌∙◌, subst}
+use Rattle.std.proofs.Common.{◌≡◌, ◌↔◌, ◌<◌, ◌≤◌, ◌++◌, ◌∷◌, ℕ, false, List, [], inl, inr, map, refl, sym, ap, ◌∙◌, subst}
 use Rattle.wax_token.specs.Cost.{program_length}
 use Rattle.wax_token.specs.Meaning.{Means, MeansSome}
-use Rattle.wax_break.specs.Rules.{broken}
 use Rattle.wax_token.specs.Reads.{Reads, Span}
 use Rattle.wax_token.specs.Syntax.{Tree, alternation}
 use Rattle.wax_token.specs.Words.{trees}
 use Rattle.wax_set.specs.Sets.{MeansText}
-use Rattle.wax_set.specs.Patterns.{AreOversized, IsAnyOf, IsFirstRefused, IsOnly, NoSet, OneMeans, SpellEach, Spells}
+use Rattle.wax_error.specs.Expressions.{Spells}
+use Rattle.wax_set.specs.Patterns.{AreOversized, IsAnyOf, IsFirstRefused, IsOnly, NoSet, OneMeans, SpellEach}
 use Rattle.wax_error.specs.declared.build_error.BuildError.{BuildError}
 use Rattle.wax_error.specs.declared.build_error.BuildError.TheVariants.{Parse, Rule, Compile, Memory}
 
@@ -56,10 +56,13 @@ module _ {P : Type 0} (S : P → Tree Span → Type 0) where
   one_more (q ∷ ps) [] p t h k = absurd h
   one_more (q ∷ ps) (u ∷ ts) p t h k = (h.0, one_more ps ts p t h.1 k)
 
+pub mapped_to_itself : (ts : List (Tree Span)) → map (λ t. t) ts ≡ ts
+mapped_to_itself [] = refl
+mapped_to_itself (t ∷ ts) = ap (λ z. t ∷ z) (mapped_to_itself ts)
+
 -- the tree that an expression spells is the only one
-pub only_spelled : (e : List ℕ) (t : Tree Span) → Reads e t → ((u : Tree Span) → Reads e u → u ≡ t) →
-    broken t ≡ [] → IsOnly (Spells e) t
-only_spelled e t reads only keeps = ((reads, keeps), λ u h. only u h.0)
+pub only_spelled : (e : List ℕ) (t : Tree Span) → Spells e t → ((u : Tree Span) → Reads e u → u ≡ t) → IsOnly (Spells e) t
+only_spelled e t spells only = (spells, λ u h. only u h.0)
 
 -- the first of those that are left is taken
 pushed : {P : Type 0} (before : List P) (p : P) (rest : List P) → (before ++ p ∷ []) ++ rest ≡ before ++ p ∷ rest

@@ -1,4 +1,4 @@
--- A set's alternation means, costs and captures what its token does.
+-- What a set's alternation captures.
 use Rattle.std.proofs.Common.{◌≡◌, ◌↔◌, ℕ, ◌+◌, ◌≤◌, false, List, [], ◌∷◌, ◌++◌, Option, None, Some, ap, ◌∙◌, sym, subst}
 use Rattle.std.proofs.Common.{append-nil, arith, drop, take}
 use Rattle.std.proofs.lemmas.List.{take-append-drop}
@@ -7,38 +7,10 @@ use Rattle.wax_capture.specs.Captures.{Captured}
 use Rattle.wax_capture.specs.Matched.{IsMatched}
 use Rattle.wax_capture.specs.Pieces.{ArePieces}
 use Rattle.wax_capture.specs.declared.piece.Piece.{Piece}
-use Rattle.wax_prefilter.specs.Facts.{PrefilterView}
-use Rattle.wax_prefilter.specs.Known.{MeantPass}
-use Rattle.wax_program.specs.Machine.{Accepts}
-use Rattle.wax_program.specs.declared.instruction.Instruction.{Instruction}
-use Rattle.wax_rule.specs.Keeping.{KeepsRules}
-use Rattle.wax_token.specs.Cost.{costs, program_length}
-use Rattle.wax_token.specs.Meaning.{MeansEach}
 use Rattle.wax_token.specs.Reads.{Span}
 use Rattle.wax_token.specs.Syntax.{Tree, Trees, alternation, more, none}
 use Rattle.wax_token.specs.Words.{members}
-use Rattle.wax_set.specs.Sets.{IsAlternation, IsCompiledAny, IsWhole, MeansText}
-use Rattle.wax_set.proofs.Members.{costs_members, means_members}
-
--- what was made of the alternation
-pub is_compiled_any : (t : Tree Span) (ts : Trees Span) (program : List Instruction × ℕ) (prefilter : PrefilterView) (pieces : List Piece) → ts ≡ members t
-    → ((s : List ℕ) → Accepts program.0 0 s ↔ MeansEach ts false false s) → program.1 ≡ costs ts + 1 → program.1 ≤ 1048576
-    → MeantPass ts prefilter → ArePieces ts false false pieces → IsAlternation t → KeepsRules t
-    → IsCompiledAny t program prefilter pieces
-is_compiled_any t ts program prefilter pieces same accepts len fits passes split alternates rules = record {
-  accepts = λ s.
-      let whole = subst (λ z. Accepts program.0 0 s ↔ MeansEach z false false s) same (accepts s) in
-      let parts = means_members t false false s in
-      (λ h. parts.0 (whole.0 h), λ h. whole.1 (parts.1 h));
-  len = total;
-  fits = omega (arith, total, fits);
-  passes = λ s h. subst (λ z. MeantPass z prefilter) same passes s ((means_members t false false s).1 h);
-  split = subst (λ z. ArePieces z false false pieces) same split;
-  alternates = alternates;
-  rules = rules;
-} where
-  total : program.1 ≡ program_length t
-  total = len ∙ ap (λ z. costs z + 1) same ∙ ap (λ n. n + 1) (costs_members t)
+use Rattle.wax_set.specs.Sets.{IsAlternation, IsWhole, MeansText}
 
 -- ---- its captures
 taken_whole : (n : ℕ) (s : List ℕ) → drop n s ≡ [] → take n s ≡ s

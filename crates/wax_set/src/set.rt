@@ -1,6 +1,7 @@
 //! Sets of patterns: the alternation of their tokens, compiled, with its pieces.
 ghost use Rattle.std.specs.Prelude.{◌≡◌, ◌≤◌, ◌<◌, ◌++◌, ◌∷◌, ℕ, List, IsTrue, chars, false};
 ghost use Rattle.std.specs.Prelude.{IfOk, IfSome, MatchOption, Some, codes};
+ghost use Rattle.wax_candidate.specs.Parts.{NoLineEndsBefore};
 ghost use Rattle.wax_components.specs.Depth.{Depth};
 ghost use Rattle.wax_facts.specs.Exhaustive.{exhaustive};
 ghost use Rattle.wax_facts.specs.InvariantText.{Text, Variant};
@@ -90,6 +91,16 @@ pub(crate) fn compiled<'t>(
         compiled,
         pieces,
     })
+}
+
+impl Any<'_> {
+    /// Returns how many bytes at the beginning of a text can be passed over in a search for lines
+    /// that a pattern matches: none of them ends before so many bytes.
+    fn earliest_end(&self, text: &str) -> usize
+        ensures { NoLineEndsBefore (means_test self.now false false) text.now result }
+    {
+        self.compiled.earliest_end(text)
+    }
 }
 
 /// Prints `Any { .. }`, since a set has no expression.

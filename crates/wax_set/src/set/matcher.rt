@@ -79,7 +79,7 @@ impl PathMatcher for AnyMatcher<'_, '_> {
     }
 
     fn earliest_end(&self, text: &str) -> usize {
-        self.any.compiled.earliest_end(text)
+        self.any.earliest_end(text)
     }
 }
 

@@ -1,7 +1,5 @@
 use Rattle.std.proofs.Common.{◌≡◌, ◌++◌, ◌∷◌, [], rules, subst, sym}
 use Rattle.std.specs.Vec.Iter.{into_iter_items}
-use Rattle.wax_rule.specs.Keeping.{KeepsRules}
-use Rattle.wax_rule.proofs.Keeping.{push_keeps}
 use Rattle.wax_set.specs.Patterns.{SpellEach}
 use Rattle.wax_set.proofs.Patterns.{one_more, one_taken, refused_next}
 use Rattle.wax_set.proofs.pattern.tokens_of.Goals as goal
@@ -16,17 +14,15 @@ loop-pattern-preserved g c =
     let rest = into_iter_items c.next.new.self in
     let taken : left ≡ pattern ∷ rest = search rules in
     let grown : c.push.new.items.items ≡ had ++ c.in-Ok.checked ∷ [] = search rules in
-    let kept : KeepsRules c.in-Ok.checked = search rules in
     record {
       each = subst (λ z. SpellEach spells (before ++ pattern ∷ []) z) (sym grown)
           (one_more spells before had pattern c.in-Ok.checked c.loop-pattern.invariant.each c.in-Ok.ensures);
       joined = one_taken before pattern rest left c.args.patterns.items taken c.loop-pattern.invariant.joined;
-      rules = push_keeps had c.push.new.items.items c.in-Ok.checked grown c.loop-pattern.invariant.rules kept;
       count = search rules;
     }
 
-pub returns-in-Err-clause-each : goal.returns-in-Err-clause-each
-returns-in-Err-clause-each g c =
+pub returns-in-Err : goal.returns-in-Err
+returns-in-Err g c =
     let left = into_iter_items c.loop-pattern.pattern-iterator in
     let rest = into_iter_items c.next.new.self in
     let taken : left ≡ c.in-Some.pattern ∷ rest = search rules in

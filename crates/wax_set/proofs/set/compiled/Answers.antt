@@ -1,10 +1,14 @@
-use Rattle.wax_set.proofs.Sets.{is_compiled_any}
+use Rattle.std.proofs.Common.{◌∙◌, ap, false, subst}
+use Rattle.wax_capture.specs.Pieces.{ArePieces}
+use Rattle.wax_compiled.specs.Compiled.{IsCompiled}
+use Rattle.wax_token.specs.Words.{members}
 use Rattle.wax_set.proofs.set.compiled.Goals as goal
 
 pub invariant_of-result : goal.invariant_of-result
-invariant_of-result c =
-    let token = c.args.token in
-    let program = c.in_ok-program.program in
-    let compiled = c.in_ok-program.ensures in
-    is_compiled_any token _ program _ _ c.concatenation-tokens.ensures compiled.means compiled.length.0 compiled.length.1
-    c.in_ok-prefilter.ensures c.in_ok-pieces.ensures c.requires.alternates c.requires.rules
+invariant_of-result c = record {
+  compiled = subst (λ t. IsCompiled t c.in_ok-compiled.compiled) c.as_ref.ensures.same c.in_ok-compiled.ensures.compiled;
+  split =
+      let same = c.concatenation.ensures ∙ ap members c.as_ref-2.ensures.same in
+      subst (λ ts. ArePieces ts false false c.in_ok-pieces.pieces) same c.in_ok-pieces.ensures;
+  alternates = c.requires;
+}

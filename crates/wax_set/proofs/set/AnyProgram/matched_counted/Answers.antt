@@ -9,7 +9,10 @@ use Rattle.wax_set.proofs.set.AnyProgram.matched_counted.Goals as goal
 
 pub returns-then-not-may_match-clause-matched : goal.returns-then-not-may_match-clause-matched
 returns-then-not-may_match-clause-matched c meant =
-    let passes : IsTrue c.may_match.result = c.may_match.ensures (subst (MeansText c.args.self.now) (sym c.as_str-text.ensures) meant) in
+    let text = chars c.as_str-text.result.now in
+    let same : MeansText c.args.self.now text = subst (MeansText c.args.self.now) (sym c.as_str-text.ensures) meant in
+    let here : MeansText c.self.inside.token text = subst (λ t. MeansText t text) (sym c.self.view_is) same in
+    let passes : IsTrue c.may_match.result = c.may_match.ensures ((c.self.invariant.compiled.accepts text).1 here) in
     absurd (search (rules, passes))
 
 -- the alternation captures the whole text

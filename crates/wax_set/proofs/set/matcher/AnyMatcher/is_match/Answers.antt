@@ -3,32 +3,18 @@ use Rattle.wax_program.proofs.LastNames.{same_answer}
 use Rattle.wax_token.specs.Decided.{means_tested}
 use Rattle.wax_set.specs.Sets.{MeansText}
 use Rattle.wax_set.specs.Sets.{AcceptsText}
-use Rattle.wax_set.proofs.Matchers.{decided_alike, same_truth}
+use Rattle.wax_set.proofs.Matchers.{decided_alike}
 use Rattle.wax_set.proofs.set.matcher.AnyMatcher.is_match.Goals as goal
-
-pub returns-then-not-may_match_at_once-clause-means : goal.returns-then-not-may_match_at_once-clause-means
-returns-then-not-may_match_at_once-clause-means c = (
-  λ no. absurd (search rules),
-  λ meant.
-      let here : MeansText c.self.inside.any.now (chars c.as_str-text.result.now) =
-      subst (λ t. MeansText t (chars c.as_str-text.result.now)) (sym c.self.view_is) (subst (MeansText c.args.self.now) (sym c.as_str-text.ensures) meant) in
-      let passes : IsTrue c.may_match_at_once.result = c.may_match_at_once.ensures here in
-      absurd (search (rules, passes)),
-)
-
-pub returns-then-not-may_match_at_once-clause-decides : goal.returns-then-not-may_match_at_once-clause-decides
-returns-then-not-may_match_at_once-clause-decides c =
-    same_truth false _ (returns-then-not-may_match_at_once-clause-means c) (means_tested c.args.self.now false false c.args.path.now)
 
 pub invariant_of-self : goal.invariant_of-self
 invariant_of-self c = subst (λ code. AcceptsText code c.self.inside.any.now) (sym c.is_match.ensures.same) c.self.invariant
 
 pub returns-clause-means : goal.returns-clause-means
 returns-clause-means c =
-    let text = chars c.as_str-text.result.now in
+    let text = chars c.as_str.result.now in
     let here = same_answer c.is_match.result _ _ (c.self.invariant text) c.is_match.ensures.decides in
     let there = subst (λ t. IfOk c.is_match.result (λ b. IsTrue b ↔ MeansText t text)) c.self.view_is here in
-    subst (λ z. IfOk c.is_match.result (λ b. IsTrue b ↔ MeansText c.args.self.now z)) c.as_str-text.ensures there
+    subst (λ z. IfOk c.is_match.result (λ b. IsTrue b ↔ MeansText c.args.self.now z)) c.as_str.ensures there
 
 pub returns-clause-decides : goal.returns-clause-decides
 returns-clause-decides c =
