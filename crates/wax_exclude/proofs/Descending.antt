@@ -12,11 +12,12 @@ use Rattle.wax_token.specs.Spelled.{LiteralsHaveNoSlash, AllHaveNoSlash}
 use Rattle.wax_token.specs.Syntax.{literal, class, separator, one, zero_or_more, tree, Tree, leaf}
 use Rattle.wax_token.specs.Syntax.{alternation, concatenation, repetition, Trees, none, more}
 use Rattle.wax_token.specs.Words.{members, trees, listed}
+use Rattle.wax_walk.specs.Candidates.{Candidate}
 use Rattle.wax_walk.specs.Given.{with_tree}
 use Rattle.wax_exclude.proofs.LeadingComponents.{lead, sep_leads}
 use Rattle.wax_exclude.proofs.Components.{RowsLead, leading_rows, rows_lead}
 use Rattle.wax_exclude.proofs.Tests.{lead_tested, covers_tested}
-use Rattle.wax_exclude.specs.Candidates.{slashed, joined_names, base, text_at, AreNames, Candidate}
+use Rattle.wax_exclude.specs.Candidates.{slashed, joined_names, base, text_at, AreNames}
 use Rattle.wax_exclude.specs.Candidates.{candidate_at}
 use Rattle.wax_exclude.specs.Covers.{is_everything, ends_wild, Covers, CoversSome, covers_test}
 use Rattle.wax_exclude.specs.Leading.{leading, leading_of, begins_with_separator, Lead, lead_test}

@@ -1,5 +1,5 @@
 -- What programs of alternatives say of entries.
-use Rattle.std.proofs.Common.{◌≡◌, ◌↔◌, ◌∙◌, ◌&&◌, ◌||◌, ◌++◌, append-nil, ℕ, Bool, true, false, List, [], ◌∷◌, inl, inr, refl, sym, subst, ap, cond, chars}
+use Rattle.std.proofs.Common.{◌≡◌, ◌↔◌, ◌∙◌, ◌&&◌, ◌||◌, ◌++◌, append-nil, ℕ, Bool, true, false, List, [], ◌∷◌, inl, inr, refl, sym, subst, ap, cond}
 use Rattle.std.specs.Prelude.{IsTrue, nat_lt}
 use Rattle.std.specs.List.{AllZip}
 use Rattle.std.proofs.lemmas.Bool.{and_from, and_parts, and_right, false≢true, or_cases, or_left, or_right}
@@ -13,10 +13,10 @@ use Rattle.wax_token.specs.Meaning.{Means, MeansEach, MeansSome}
 use Rattle.wax_token.specs.Reads.{Span}
 use Rattle.wax_token.specs.Syntax.{Tree, Trees, leaf, alternation, concatenation, repetition}
 use Rattle.wax_token.specs.Words.{members, trees}
-use Rattle.wax_walk.specs.Given.{Facts, kept, alone, with_tree}
-use Rattle.wax_exclude.specs.Candidates.{candidate_of}
+use Rattle.wax_walk.specs.Candidates.{Candidate}
+use Rattle.wax_walk.specs.Given.{kept, alone, with_tree}
 use Rattle.wax_exclude.specs.Covers.{covers_test, ends_wild, some_everything, wild_test}
-use Rattle.wax_exclude.specs.Marks.{covered_mark, not_mark, of_candidate}
+use Rattle.wax_exclude.specs.Marks.{covered_mark, not_mark}
 use Rattle.wax_exclude.specs.Compiled.{AcceptsTree, CoverAll, Instructions, IsExclusion, SomeAccepts, wild}
 use Rattle.wax_exclude.specs.Excluded.{excluded_mark, some_test}
 
@@ -42,8 +42,8 @@ some_is_pattern t one s = same_truth (some_test (alternatives t) s) (means_test 
   (λ h. (holds_truly (some_decided (trees (alternatives t)) false false s)).1 ((one false false s).0 ((means_tested t false false s).0 h))),
 )
 
-pub says_pattern : {A : Type 0} (t : Tree A) → MeansOneOf t (alternatives t) → excluded_mark (alternatives t) ≡ of_candidate (not_mark t)
-says_pattern t one = λ i f. covered_mark (covers_test (alternatives t) (candidate_of f)) (some_is_pattern t one (chars f.candidate) i)
+pub says_pattern : {A : Type 0} (t : Tree A) → MeansOneOf t (alternatives t) → excluded_mark (alternatives t) ≡ not_mark t
+says_pattern t one = λ i c. covered_mark (covers_test (alternatives t) c) (some_is_pattern t one c.text i)
 
 -- ---- what covers
 
@@ -124,29 +124,29 @@ module _ (ts : List (Tree Span)) (code : List Instruction) (prefilter : Prefilte
       let d = holds_truly (some_decided (trees ts) false false s) in
       same_truth b (some_test ts s) ((λ e. d.1 ((x.whole s).0 (h.0 e))), (λ e. h.1 ((x.whole s).1 (d.0 e))))
 
-  module _ (f : Facts) where
+  module _ (c : Candidate) where
     abbrev text : List ℕ
-    text = chars f.candidate
+    text = c.text
 
-    said : (everything below meant : Bool) → some_everything ts ≡ everything → (nat_lt 0 f.depth && wild_test ts text) ≡ below → some_test ts text ≡ meant → covered_mark (everything || below) meant ≡ excluded_mark ts f
+    said : (everything below meant : Bool) → some_everything ts ≡ everything → (nat_lt 0 c.depth && wild_test ts text) ≡ below → some_test ts text ≡ meant → covered_mark (everything || below) meant ≡ excluded_mark ts c
     said everything below meant p q r = λ i. covered_mark (sym p i || sym q i) (sym r i)
 
     uncovered : some_test ts text ≡ false → wild_test ts text ≡ false
     uncovered n = not_truly (wild_test ts text) (λ e. false≢true (sym n ∙ (holds_truly (some_decided (trees ts) false false text)).1 (wild_means ts text e)))
 
-    pub says_kept : covers_all ≡ false → some_test ts text ≡ false → kept ≡ excluded_mark ts f
-    says_kept e n = said false false false (sym x.all ∙ e) (and_right (nat_lt 0 f.depth) (wild_test ts text) (uncovered n)) n
+    pub says_kept : covers_all ≡ false → some_test ts text ≡ false → kept ≡ excluded_mark ts c
+    says_kept e n = said false false false (sym x.all ∙ e) (and_right (nat_lt 0 c.depth) (wild_test ts text) (uncovered n)) n
 
-    pub says_tree : covers_all ≡ false → nat_lt 0 f.depth ≡ true → SomeAccepts covering text → with_tree ≡ excluded_mark ts f
+    pub says_tree : covers_all ≡ false → nat_lt 0 c.depth ≡ true → SomeAccepts covering text → with_tree ≡ excluded_mark ts c
     says_tree e d a =
-        let w : (nat_lt 0 f.depth && wild_test ts text) ≡ true = and_from (nat_lt 0 f.depth) (wild_test ts text) d ((wild_accepts text ts covering x.covers).0 a) in
+        let w : (nat_lt 0 c.depth && wild_test ts text) ≡ true = and_from (nat_lt 0 c.depth) (wild_test ts text) d ((wild_accepts text ts covering x.covers).0 a) in
         said false true (some_test ts text) (sym x.all ∙ e) w refl
 
-    pub says_alone : covers_all ≡ false → some_test ts text ≡ true → (nat_lt 0 f.depth ≡ true → SomeAccepts covering text → ⊥) → alone ≡ excluded_mark ts f
+    pub says_alone : covers_all ≡ false → some_test ts text ≡ true → (nat_lt 0 c.depth ≡ true → SomeAccepts covering text → ⊥) → alone ≡ excluded_mark ts c
     says_alone e a n =
         said false false true (sym x.all ∙ e)
-        (not_truly (nat_lt 0 f.depth && wild_test ts text) (λ q. (
-        let p = and_parts (nat_lt 0 f.depth) (wild_test ts text) q in n p.0 ((wild_accepts text ts covering x.covers).1 p.1))))
+        (not_truly (nat_lt 0 c.depth && wild_test ts text) (λ q. (
+        let p = and_parts (nat_lt 0 c.depth) (wild_test ts text) q in n p.0 ((wild_accepts text ts covering x.covers).1 p.1))))
         a
 
 pub accepts_tree : (t : Tree Span) (ts : Trees Span) (program : Instructions) → ts ≡ members t → ((s : List ℕ) → Accepts program.0 0 s ↔ MeansEach ts false false s) → AcceptsTree program t

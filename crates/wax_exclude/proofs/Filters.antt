@@ -2,11 +2,11 @@
 use Rattle.std.proofs.Common.{◌≡◌, Bool, false, ◌&&◌, not, List, [], ◌∷◌, refl, ap, ◌∙◌, chars}
 use Rattle.wax_alternatives.specs.Alternatives.{alternatives}
 use Rattle.wax_token.specs.Decided.{means_test}
+use Rattle.wax_walk.specs.Candidates.{Candidate, candidate_of}
 use Rattle.wax_walk.specs.Given.{Facts, with_tree}
 use Rattle.wax_exclude.proofs.Descending.{not_descends, not_keeps}
 use Rattle.wax_exclude.proofs.Ignored.{below_tested, ignore_descends, ignore_keeps}
 use Rattle.wax_exclude.proofs.Tests.{covers_tested}
-use Rattle.wax_exclude.specs.Candidates.{Candidate, candidate_of}
 use Rattle.wax_exclude.specs.Ignored.{is_ignored}
 use Rattle.wax_exclude.specs.inner.Descents.{Descends}
 use Rattle.wax_exclude.specs.inner.Stacks.{keeps, all_keep}

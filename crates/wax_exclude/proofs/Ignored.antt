@@ -5,9 +5,10 @@ use Rattle.std.proofs.lemmas.Bool.{and_from}
 use Rattle.wax_alternatives.proofs.Means.{means_one_of}
 use Rattle.wax_alternatives.specs.Alternatives.{alternatives}
 use Rattle.wax_token.specs.Decided.{means_test, means_tested}
+use Rattle.wax_walk.specs.Candidates.{Candidate}
 use Rattle.wax_exclude.proofs.Descending.{covers_some_below, covered, covers_some_meant, keeps_uncovered}
 use Rattle.wax_exclude.proofs.Tests.{and_true, or_true, or_left, or_right, covers_tested}
-use Rattle.wax_exclude.specs.Candidates.{Candidate, candidate_at}
+use Rattle.wax_exclude.specs.Candidates.{candidate_at}
 use Rattle.wax_exclude.specs.Covers.{covers_test}
 use Rattle.wax_exclude.specs.Ignored.{Line, ignored_after, is_ignored, all_ignore, IgnoresBelow, below_test}
 use Rattle.wax_exclude.specs.Ignored.{ignore_mark}

@@ -6,6 +6,7 @@ use Rattle.wax_tree.specs.Begins.{scope_in}
 use Rattle.wax_tree.specs.declared.steps.DepthRange.{DepthRange}
 use Rattle.wax_tree.specs.Plain.{WalkScope, Location, start_location, plain, plain_at}
 use Rattle.wax_tree.specs.Whole.{is_in, whole}
+use Rattle.wax_walk.specs.Candidates.{candidate_of}
 use Rattle.wax_walk.specs.Forest.{nothing, preorder}
 use Rattle.wax_walk.specs.Given.{Facts}
 use Rattle.wax_exclude.proofs.Ignored.{ignore_descends, ignore_keeps}
@@ -13,7 +14,6 @@ use Rattle.wax_exclude.proofs.Passing.{passes_at}
 use Rattle.wax_exclude.proofs.Stacking.{stacked_entries}
 use Rattle.wax_exclude.proofs.Walked.{same_filter, agree_at}
 use Rattle.wax_exclude.proofs.Whole.{at_whole}
-use Rattle.wax_exclude.specs.Candidates.{candidate_of}
 use Rattle.wax_exclude.specs.Ignored.{Line, ignore_mark}
 use Rattle.wax_exclude.specs.inner.Descents.{At}
 use Rattle.wax_exclude.specs.inner.Stacks.{keeps, is_left}

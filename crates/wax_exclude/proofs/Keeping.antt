@@ -13,7 +13,6 @@ use Rattle.wax_walk.specs.View.{WalkView, IsSeenAs}
 use Rattle.wax_exclude.proofs.KeptItems.{cut_kept, kept_entries}
 use Rattle.wax_exclude.specs.Ignored.{ignore_mark}
 use Rattle.wax_exclude.specs.Unignored.{GivesUnignored, LosesIgnored}
-use Rattle.wax_exclude.specs.Marks.{of_candidate}
 use Rattle.wax_exclude.specs.Premises.{IsPlainShown}
 use Rattle.wax_exclude.specs.Wanted.{is_kept_entry}
 use Rattle.wax_exclude.proofs.ListingLines.{says_lines}
@@ -30,10 +29,10 @@ unignored_pending request s listed = pending nothing (unignored_walk request s) 
 
 module _ {D C : Type 0} (law : Law D C) (d : D) (request : PlainRequest) (rule : List IgnoreLine) (v u : WalkView D)
     (held : HasLines rule request.lines) (begins : Begins law d request.start request.range v)
-    (seen : IsSeenAs (ruled_view v (λ f. listed_mark rule f) false) u) where
+    (seen : IsSeenAs (ruled_view v (λ c. listed_mark rule c) false) u) where
   comes : (s : Shown) (listed : List (List ℕ)) → law.shows d request.start s → law.tells d listed → u.to_come (unignored_pending request s listed)
   comes s listed shows told =
-      let ignoring : IsSeenAs (ruled_view v (of_candidate (ignore_mark request.lines)) false) u = subst (λ r. IsSeenAs (ruled_view v r false) u) (says_lines rule request.lines held) seen in
+      let ignoring : IsSeenAs (ruled_view v (ignore_mark request.lines) false) u = subst (λ r. IsSeenAs (ruled_view v r false) u) (says_lines rule request.lines held) seen in
       ignoring.to_come (unignored_pending request s listed) (
         refl,
         (pending nothing (requested_plain request s) listed (count_shown s), begins.shown s listed shows told, refl),

@@ -8,14 +8,14 @@ use Rattle.wax_exclude.specs.Excluded.{excluded_mark, some_test}
 use Rattle.wax_token.specs.Decided.{holds_truly, means_test, some_decided}
 use Rattle.wax_token.specs.Reads.{Span}
 use Rattle.wax_token.specs.Words.{trees}
-use Rattle.wax_walk.specs.Given.{Facts, Mark, kept, alone, with_tree}
+use Rattle.wax_walk.specs.Candidates.{Candidate}
+use Rattle.wax_walk.specs.Given.{Mark, kept, alone, with_tree}
 use Rattle.wax_exclude.proofs.Descending.{covers_some_meant}
 use Rattle.wax_exclude.proofs.Tests.{covers_tested}
-use Rattle.wax_exclude.specs.Candidates.{Candidate, candidate_of}
 use Rattle.wax_exclude.specs.Covers.{covers_test}
 use Rattle.wax_exclude.specs.Ignored.{Line, all_ignore, below_test, ignored_after, ignore_mark, is_ignored}
 use Rattle.wax_exclude.specs.inner.Stacks.{keeps}
-use Rattle.wax_exclude.specs.Marks.{covered_mark, of_candidate}
+use Rattle.wax_exclude.specs.Marks.{covered_mark}
 use Rattle.wax_exclude.specs.Held.{HasLines, line_of}
 use Rattle.wax_exclude.specs.declared.rules.IgnoreLine.{IgnoreLine}
 use Rattle.wax_exclude.specs.inner.Listed.{below_by, ignored_by, listed_mark, mark_after, none_reincludes}
@@ -37,14 +37,13 @@ ignored_held (line ∷ lines) was s =
     let same : some_test (alternatives line.glob) s ≡ means_test line.glob false false s = some_is_pattern line.glob (means_one_of line.glob (alternatives line.glob) refl) s in
     ap (λ b. ignored_by (cond b line.ignores was) (map line_of lines) s) same ∙ ignored_held lines (cond (means_test line.glob false false s) line.ignores was) s
 
-held_mark : (lines : List (Line Span)) (f : Facts) → listed_mark (map line_of lines) f ≡ ignore_mark lines (candidate_of f)
-held_mark lines f =
-    let c = candidate_of f in
+held_mark : (lines : List (Line Span)) (c : Candidate) → listed_mark (map line_of lines) c ≡ ignore_mark lines c
+held_mark lines c =
     λ i. covered_mark (below_held lines c i) (ignored_held lines false c.text i)
 
 -- what the rule of these lines says
-pub says_lines : (held : List IgnoreLine) (lines : List (Line Span)) → HasLines held lines → (λ f. listed_mark held f) ≡ of_candidate (ignore_mark lines)
-says_lines held lines h = λ i f. (ap (λ ls. listed_mark ls f) h ∙ held_mark lines f) i
+pub says_lines : (held : List IgnoreLine) (lines : List (Line Span)) → HasLines held lines → (λ c. listed_mark held c) ≡ ignore_mark lines
+says_lines held lines h = λ i c. (ap (λ ls. listed_mark ls c) h ∙ held_mark lines c) i
 
 -- which texts they ignore
 pub ignores_lines : (held : List IgnoreLine) (lines : List (Line Span)) (s : List ℕ) → HasLines held lines → ignored_by false held s ≡ is_ignored lines s
@@ -62,15 +61,14 @@ is_below alone = false
 is_below with_tree = true
 
 -- the mark after the lines, if the mark before them is `before`
-abbrev pub mark_from : Mark → List IgnoreLine → Facts → Mark
-mark_from before lines f =
-    let c = candidate_of f in
+abbrev pub mark_from : Mark → List IgnoreLine → Candidate → Mark
+mark_from before lines c =
     covered_mark ((is_below before && none_reincludes lines) || below_by lines c) (ignored_by (is_out before) lines c.text)
 
-pub at_end : (before : Mark) (f : Facts) → mark_from before [] f ≡ before
-at_end kept f = refl
-at_end alone f = refl
-at_end with_tree f = refl
+pub at_end : (before : Mark) (c : Candidate) → mark_from before [] c ≡ before
+at_end kept c = refl
+at_end alone c = refl
+at_end with_tree c = refl
 
 -- what is covered is meant
 covered_meant : (line : IgnoreLine) (c : Candidate) → covers_test line.exclusion c ≡ true → some_test line.exclusion c.text ≡ true
@@ -114,8 +112,7 @@ module _ (k : Bool → Bool) where
   one_line false with_tree false true all below h = refl
   one_line false with_tree false false all below h = refl
 
-pub after_line : (before : Mark) (line : IgnoreLine) (lines : List IgnoreLine) (f : Facts) →
-    mark_from before (line ∷ lines) f ≡ mark_from (mark_after line.ignores before (excluded_mark line.exclusion f)) lines f
-after_line before line lines f =
-    let c = candidate_of f in
+pub after_line : (before : Mark) (line : IgnoreLine) (lines : List IgnoreLine) (c : Candidate) →
+    mark_from before (line ∷ lines) c ≡ mark_from (mark_after line.ignores before (excluded_mark line.exclusion c)) lines c
+after_line before line lines c =
     one_line (λ b. ignored_by b lines c.text) line.ignores before (covers_test line.exclusion c) (some_test line.exclusion c.text) (none_reincludes lines) (below_by lines c) (covered_meant line c)

@@ -14,6 +14,7 @@ use Rattle.wax_tree.specs.Begins.{scope_in}
 use Rattle.wax_tree.specs.declared.steps.DepthRange.{DepthRange}
 use Rattle.wax_tree.specs.Plain.{WalkScope, Location, start_location, one_deeper, plain_entry, items_forest, below_forest}
 use Rattle.wax_tree.specs.Plain.{plain, plain_at}
+use Rattle.wax_walk.specs.Candidates.{of_candidate}
 use Rattle.wax_walk.proofs.Collecting.{listings_append}
 use Rattle.wax_walk.proofs.Filtering.{filtered_append}
 use Rattle.wax_walk.specs.Forest.{Forest, nothing, item, lists, listings, followed_by, filtered}
@@ -27,7 +28,6 @@ use Rattle.wax_exclude.proofs.Stacking.{cut_left}
 use Rattle.wax_exclude.specs.Candidates.{candidate_at}
 use Rattle.wax_exclude.specs.Ignored.{Line, is_ignored, IgnoresBelow, below_test, ignore_mark}
 use Rattle.wax_exclude.specs.inner.Descents.{At, child_location}
-use Rattle.wax_exclude.specs.Marks.{of_candidate}
 use Rattle.wax_exclude.specs.Premises.{ArePlainItems, IsPlainShown}
 use Rattle.wax_exclude.specs.Unignored.{ignore_rules, IsIgnoredBelow}
 use Rattle.wax_exclude.specs.Wanted.{stacked}

@@ -14,7 +14,8 @@ use Rattle.wax_directory.specs.Shown.{is_open, join, IsPlain}
 use Rattle.wax_token.specs.Meaning.{HasNoSlash}
 use Rattle.wax_tree.specs.Plain.{Location}
 use Rattle.wax_tree.specs.Prefix.{ArePlain}
-use Rattle.wax_exclude.specs.Candidates.{slashed, joined_names, base, text_at, AreNames, Candidate}
+use Rattle.wax_walk.specs.Candidates.{Candidate}
+use Rattle.wax_exclude.specs.Candidates.{slashed, joined_names, base, text_at, AreNames}
 use Rattle.wax_exclude.specs.Candidates.{candidate_at}
 use Rattle.wax_exclude.specs.inner.Descents.{At, child_location}
 

@@ -1,5 +1,5 @@
 -- Lines that are passed over at once.
-use Rattle.std.proofs.Common.{◌≡◌, ◌∙◌, ◌↔◌, ◌⊎◌, ℕ, ◌+◌, ◌-◌, ◌≤◌, ◌<◌, Bool, true, false, ◌&&◌, ◌||◌, not, cond, List, [], ◌∷◌, ◌++◌, inl, inr, refl, sym, ap, subst, length, take, drop, get_or, chars, arith}
+use Rattle.std.proofs.Common.{◌≡◌, ◌∙◌, ◌↔◌, ◌⊎◌, ℕ, ◌+◌, ◌-◌, ◌≤◌, ◌<◌, Bool, true, false, ◌&&◌, ◌||◌, not, cond, List, [], ◌∷◌, ◌++◌, inl, inr, refl, sym, ap, subst, length, take, drop, get_or, arith}
 use Rattle.std.specs.Prelude.{IsTrue, nat_lt}
 use Rattle.std.proofs.lemmas.List.{drop-drop, drop_all, drop_more, take-append-drop}
 use Rattle.std.proofs.lemmas.List.Folds.{list_any-append}
@@ -8,15 +8,15 @@ use Rattle.wax_program.specs.Machine.{Accepts}
 use Rattle.wax_token.specs.Decided.{holds_truly, means_test, some_decided}
 use Rattle.wax_token.specs.Meaning.{Means, MeansEach, MeansSome}
 use Rattle.wax_token.specs.Reads.{Span}
-use Rattle.wax_token.specs.Syntax.{Tree, Trees, alternation}
+use Rattle.wax_token.specs.Syntax.{Tree, Trees}
 use Rattle.wax_token.specs.Words.{members, trees}
-use Rattle.wax_walk.specs.Given.{Facts, Mark, kept, alone, with_tree, combined_mark}
+use Rattle.wax_walk.specs.Candidates.{Candidate}
+use Rattle.wax_walk.specs.Given.{Mark, kept, alone, with_tree, combined_mark}
 use Rattle.wax_exclude.proofs.Descending.{covers_some_meant}
 use Rattle.wax_exclude.proofs.Excluding.{not_truly, same_truth}
 use Rattle.wax_alternatives.proofs.Joining.{as_members, of_members, some_append}
 use Rattle.wax_exclude.proofs.ListingLines.{after_line, at_end, mark_from}
 use Rattle.wax_exclude.proofs.Tests.{covers_tested, wild_tested}
-use Rattle.wax_exclude.specs.Candidates.{Candidate, candidate_of}
 use Rattle.wax_exclude.specs.Compiled.{Instructions, wild}
 use Rattle.wax_exclude.specs.Covers.{WildMeans, covers_test, ends_wild, is_everything, some_everything, wild_test}
 use Rattle.wax_exclude.specs.Excluded.{excluded_mark, some_test}
@@ -29,17 +29,17 @@ use Rattle.wax_exclude.specs.inner.Listed.{ignored_by, listed_mark, mark_after}
 
 -- ---- line after line
 
-pub marks_append : (before : Mark) (xs ys : List IgnoreLine) (f : Facts) → marks_after before (xs ++ ys) f ≡ marks_after (marks_after before xs f) ys f
-marks_append before [] ys f = refl
-marks_append before (x ∷ xs) ys f = marks_append (mark_after x.ignores before (excluded_mark x.exclusion f)) xs ys f
+pub marks_append : (before : Mark) (xs ys : List IgnoreLine) (c : Candidate) → marks_after before (xs ++ ys) c ≡ marks_after (marks_after before xs c) ys c
+marks_append before [] ys c = refl
+marks_append before (x ∷ xs) ys c = marks_append (mark_after x.ignores before (excluded_mark x.exclusion c)) xs ys c
 
-marks_from : (before : Mark) (lines : List IgnoreLine) (f : Facts) → marks_after before lines f ≡ mark_from before lines f
-marks_from before [] f = sym (at_end before f)
-marks_from before (line ∷ lines) f =
-    marks_from (mark_after line.ignores before (excluded_mark line.exclusion f)) lines f ∙ sym (after_line before line lines f)
+marks_from : (before : Mark) (lines : List IgnoreLine) (c : Candidate) → marks_after before lines c ≡ mark_from before lines c
+marks_from before [] c = sym (at_end before c)
+marks_from before (line ∷ lines) c =
+    marks_from (mark_after line.ignores before (excluded_mark line.exclusion c)) lines c ∙ sym (after_line before line lines c)
 
-pub marks_listed : (lines : List IgnoreLine) (f : Facts) → marks_after kept lines f ≡ listed_mark lines f
-marks_listed lines f = marks_from kept lines f
+pub marks_listed : (lines : List IgnoreLine) (c : Candidate) → marks_after kept lines c ≡ listed_mark lines c
+marks_listed lines c = marks_from kept lines c
 
 -- the lines from a place on are those to another place and those from there on
 pub split_at : {A : Type 0} (at start : ℕ) (xs : List A) → at ≤ start → drop at xs ≡ take (start - at) (drop at xs) ++ drop start xs
@@ -48,25 +48,25 @@ split_at at start xs h =
     sym (take-append-drop (start - at) (drop at xs)) ∙ ap (λ ys. take (start - at) (drop at xs) ++ ys) (drop-drop (start - at) at xs ∙ ap (λ k. drop k xs) there)
 
 -- the mark after all lines, from the mark after the lines up to `start`
-pub said_on : (lines : List IgnoreLine) (at start : ℕ) (before after : Mark) (f : Facts) → at ≤ start
-    → after ≡ marks_after before (lines_between at start lines) f → marks_after after (drop start lines) f ≡ marks_after before (drop at lines) f
-said_on lines at start before after f h e =
-    ap (λ m. marks_after m (drop start lines) f) e
-    ∙ sym (marks_append before (lines_between at start lines) (drop start lines) f)
-    ∙ ap (λ ls. marks_after before ls f) (sym (split_at at start lines h))
+pub said_on : (lines : List IgnoreLine) (at start : ℕ) (before after : Mark) (c : Candidate) → at ≤ start
+    → after ≡ marks_after before (lines_between at start lines) c → marks_after after (drop start lines) c ≡ marks_after before (drop at lines) c
+said_on lines at start before after c h e =
+    ap (λ m. marks_after m (drop start lines) c) e
+    ∙ sym (marks_append before (lines_between at start lines) (drop start lines) c)
+    ∙ ap (λ ls. marks_after before ls c) (sym (split_at at start lines h))
 
 -- one more line marked the entry
-pub next_said : (before after said whole : Mark) (lines : List IgnoreLine) (i : ℕ) (line : IgnoreLine) (f : Facts) → i < length lines → line ≡ get_or lines i line →
-    said ≡ excluded_mark line.exclusion f → after ≡ mark_after line.ignores before said →
-    marks_after before (drop i lines) f ≡ whole → marks_after after (drop (i + 1) lines) f ≡ whole
-next_said before after said whole lines i line f in' here s a h =
+pub next_said : (before after said whole : Mark) (lines : List IgnoreLine) (i : ℕ) (line : IgnoreLine) (c : Candidate) → i < length lines → line ≡ get_or lines i line →
+    said ≡ excluded_mark line.exclusion c → after ≡ mark_after line.ignores before said →
+    marks_after before (drop i lines) c ≡ whole → marks_after after (drop (i + 1) lines) c ≡ whole
+next_said before after said whole lines i line c in' here s a h =
     let split : drop i lines ≡ line ∷ drop (i + 1) lines = drop_more lines i line in' ∙ ap (λ l. l ∷ drop (i + 1) lines) (sym here) in
-    ap (λ m. marks_after m (drop (i + 1) lines) f) (a ∙ ap (mark_after line.ignores before) s) ∙ ap (λ ls. marks_after before ls f) (sym split) ∙ h
+    ap (λ m. marks_after m (drop (i + 1) lines) c) (a ∙ ap (mark_after line.ignores before) s) ∙ ap (λ ls. marks_after before ls c) (sym split) ∙ h
 
 -- all lines marked the entry
-pub all_said : (after whole : Mark) (lines : List IgnoreLine) (i : ℕ) (f : Facts) → length lines ≤ i →
-    marks_after after (drop i lines) f ≡ whole → after ≡ whole
-all_said after whole lines i f over h = ap (λ ls. marks_after after ls f) (sym (drop_all i lines over)) ∙ h
+pub all_said : (after whole : Mark) (lines : List IgnoreLine) (i : ℕ) (c : Candidate) → length lines ≤ i →
+    marks_after after (drop i lines) c ≡ whole → after ≡ whole
+all_said after whole lines i c over h = ap (λ ls. marks_after after ls c) (sym (drop_all i lines over)) ∙ h
 
 -- ---- whether a text is ignored
 
@@ -83,9 +83,8 @@ all_ignored now whole lines i s over h = ap (λ ls. ignored_by now ls s) (sym (d
 
 -- ---- lines none of which means the entry
 
-says_nothing : (line : IgnoreLine) (f : Facts) → (MeansSome (trees line.exclusion) false false (chars f.candidate) → ⊥) → excluded_mark line.exclusion f ≡ kept
-says_nothing line f none =
-    let c = candidate_of f in
+says_nothing : (line : IgnoreLine) (c : Candidate) → (MeansSome (trees line.exclusion) false false c.text → ⊥) → excluded_mark line.exclusion c ≡ kept
+says_nothing line c none =
     let unmeant : some_test line.exclusion c.text ≡ false =
     not_truly (some_test line.exclusion c.text) (λ e. none ((holds_truly (some_decided (trees line.exclusion) false false c.text)).0 e)) in
     let uncovered : covers_test line.exclusion c ≡ false =
@@ -106,13 +105,13 @@ one_passed false false kept = refl
 one_passed false false alone = refl
 one_passed false false with_tree = refl
 
-none_said : (lines : List IgnoreLine) (before : Mark) (f : Facts) → (SomeMeans lines (chars f.candidate) → ⊥)
-    → mark_passed (some_reincludes lines) before ≡ marks_after before lines f
-none_said [] before f none = refl
-none_said (line ∷ lines) before f none =
+none_said : (lines : List IgnoreLine) (before : Mark) (c : Candidate) → (SomeMeans lines c.text → ⊥)
+    → mark_passed (some_reincludes lines) before ≡ marks_after before lines c
+none_said [] before c none = refl
+none_said (line ∷ lines) before c none =
     sym (one_passed line.ignores (some_reincludes lines) before)
-    ∙ ap (λ m. mark_passed (some_reincludes lines) (mark_after line.ignores before m)) (sym (says_nothing line f (λ m. none (inl m))))
-    ∙ none_said lines (mark_after line.ignores before (excluded_mark line.exclusion f)) f (λ m. none (inr m))
+    ∙ ap (λ m. mark_passed (some_reincludes lines) (mark_after line.ignores before m)) (sym (says_nothing line c (λ m. none (inl m))))
+    ∙ none_said lines (mark_after line.ignores before (excluded_mark line.exclusion c)) c (λ m. none (inr m))
 
 pub some_among : (lines : List IgnoreLine) (s : List ℕ) → SomeMeans lines s → MeansSome (trees (alternatives_in lines)) false false s
 some_among [] s h = h
@@ -127,13 +126,13 @@ some_line (line ∷ lines) s h = elim ((some_append line.exclusion (alternatives
 ]
 
 -- the mark after all lines, if no line of a block matches the entry and the block is passed over
-pub said_past : (lines : List IgnoreLine) (block : Block) (before after : Mark) (f : Facts) (text : List ℕ) → IsBlockOf lines block → text ≡ chars f.candidate
-    → (Accepts block.whole 0 text → ⊥) → after ≡ mark_passed block.reincludes before → marks_after after (drop block.end lines) f ≡ marks_after before (drop block.start lines) f
-said_past lines block before after f text b same none e =
+pub said_past : (lines : List IgnoreLine) (block : Block) (before after : Mark) (c : Candidate) → IsBlockOf lines block
+    → (Accepts block.whole 0 c.text → ⊥) → after ≡ mark_passed block.reincludes before → marks_after after (drop block.end lines) c ≡ marks_after before (drop block.start lines) c
+said_past lines block before after c b none e =
     let held = lines_between block.start block.end lines in
-    said_on lines block.start block.end before after f b.forward
+    said_on lines block.start block.end before after c b.forward
     (e ∙ ap (λ t. mark_passed t before) b.knows.reincludes
-    ∙ none_said held before f (λ m. none ((b.knows.whole text).1 (some_among held text (subst (SomeMeans held) (sym same) m)))))
+    ∙ none_said held before c (λ m. none ((b.knows.whole c.text).1 (some_among held c.text m))))
 
 -- ---- all lines at once, by all of their alternatives
 
@@ -201,9 +200,8 @@ mark_either false false true true = refl
 mark_either false false true false = refl
 mark_either false false false m2 = refl
 
-excluded_append : (xs ys : List (Tree Span)) (f : Facts) → excluded_mark (xs ++ ys) f ≡ combined_mark (excluded_mark xs f) (excluded_mark ys f)
-excluded_append xs ys f =
-    let c = candidate_of f in
+excluded_append : (xs ys : List (Tree Span)) (c : Candidate) → excluded_mark (xs ++ ys) c ≡ combined_mark (excluded_mark xs c) (excluded_mark ys c)
+excluded_append xs ys c =
     (λ i. covered_mark (covers_append xs ys c i) (some_test_append xs ys c.text i))
     ∙ mark_either (covers_test xs c) (covers_test ys c) (some_test xs c.text) (some_test ys c.text)
 
@@ -221,12 +219,12 @@ combined_kept kept = refl
 combined_kept alone = refl
 combined_kept with_tree = refl
 
-nothing_excluded : (f : Facts) → excluded_mark (alternatives_in []) f ≡ kept
-nothing_excluded f =
-    let unmeant : some_test (alternatives_in []) (chars f.candidate) ≡ false =
-    not_truly (some_test (alternatives_in []) (chars f.candidate))
-    (λ e. (holds_truly (some_decided (trees (alternatives_in [])) false false (chars f.candidate))).0 e) in
-    λ i. covered_mark (and_right (nat_lt 0 f.depth) false refl i) (unmeant i)
+nothing_excluded : (c : Candidate) → excluded_mark (alternatives_in []) c ≡ kept
+nothing_excluded c =
+    let unmeant : some_test (alternatives_in []) c.text ≡ false =
+    not_truly (some_test (alternatives_in []) c.text)
+    (λ e. (holds_truly (some_decided (trees (alternatives_in [])) false false c.text)).0 e) in
+    λ i. covered_mark (and_right (nat_lt 0 c.depth) false refl i) (unmeant i)
 
 neither : (a b : Bool) → (a || b) ≡ false → (a ≡ false) × (b ≡ false)
 neither true b h = absurd (false≢true (sym h))
@@ -237,21 +235,21 @@ is_ignoring true rest h = (refl, h)
 is_ignoring false rest h = absurd (false≢true (sym h))
 
 -- lines that ignore exclude what one pattern of all of their alternatives does
-pub all_ignoring : (lines : List IgnoreLine) (before : Mark) (f : Facts) → some_reincludes lines ≡ false
-    → mark_after true before (excluded_mark (alternatives_in lines) f) ≡ marks_after before lines f
-all_ignoring [] before f h = ap (combined_mark before) (nothing_excluded f) ∙ combined_kept before
-all_ignoring (line ∷ lines) before f h =
-    let one = excluded_mark line.exclusion f in
-    let rest = excluded_mark (alternatives_in lines) f in
+pub all_ignoring : (lines : List IgnoreLine) (before : Mark) (c : Candidate) → some_reincludes lines ≡ false
+    → mark_after true before (excluded_mark (alternatives_in lines) c) ≡ marks_after before lines c
+all_ignoring [] before c h = ap (combined_mark before) (nothing_excluded c) ∙ combined_kept before
+all_ignoring (line ∷ lines) before c h =
+    let one = excluded_mark line.exclusion c in
+    let rest = excluded_mark (alternatives_in lines) c in
     let is = is_ignoring line.ignores (some_reincludes lines) h in
-    ap (combined_mark before) (excluded_append line.exclusion (alternatives_in lines) f)
+    ap (combined_mark before) (excluded_append line.exclusion (alternatives_in lines) c)
     ∙ sym (combined_assoc before one rest)
-    ∙ all_ignoring lines (combined_mark before one) f is.1
-    ∙ ap (λ b. marks_after (mark_after b before one) lines f) (sym is.0)
+    ∙ all_ignoring lines (combined_mark before one) c is.1
+    ∙ ap (λ b. marks_after (mark_after b before one) lines c) (sym is.0)
 
 -- a line re-includes what it matches
-taken_back : (ts : List (Tree Span)) (before : Mark) (f : Facts) → some_test ts (chars f.candidate) ≡ true → mark_after false before (excluded_mark ts f) ≡ kept
-taken_back ts before f e = ap (λ b. mark_after false before (covered_mark (covers_test ts (candidate_of f)) b)) e ∙ go before (covers_test ts (candidate_of f)) where
+taken_back : (ts : List (Tree Span)) (before : Mark) (c : Candidate) → some_test ts c.text ≡ true → mark_after false before (excluded_mark ts c) ≡ kept
+taken_back ts before c e = ap (λ b. mark_after false before (covered_mark (covers_test ts c) b)) e ∙ go before (covers_test ts c) where
   go : (m : Mark) (covers : Bool) → mark_after false m (covered_mark covers true) ≡ kept
   go kept covers = refl
   go alone true = refl
@@ -259,82 +257,82 @@ taken_back ts before f e = ap (λ b. mark_after false before (covered_mark (cove
   go with_tree true = refl
   go with_tree false = refl
 
-kept_stays : (lines : List IgnoreLine) (f : Facts) → some_ignores lines ≡ false → marks_after kept lines f ≡ kept
-kept_stays [] f h = refl
-kept_stays (line ∷ lines) f h =
+kept_stays : (lines : List IgnoreLine) (c : Candidate) → some_ignores lines ≡ false → marks_after kept lines c ≡ kept
+kept_stays [] c h = refl
+kept_stays (line ∷ lines) c h =
     let is = neither line.ignores (some_ignores lines) h in
-    ap (λ b. marks_after (mark_after b kept (excluded_mark line.exclusion f)) lines f) is.0 ∙ kept_stays lines f is.1
+    ap (λ b. marks_after (mark_after b kept (excluded_mark line.exclusion c)) lines c) is.0 ∙ kept_stays lines c is.1
 
 -- lines that re-include keep what one of them matches
-pub all_reincluding : (lines : List IgnoreLine) (before : Mark) (f : Facts) → some_ignores lines ≡ false → SomeMeans lines (chars f.candidate)
-    → marks_after before lines f ≡ kept
-all_reincluding [] before f h m = absurd m
-all_reincluding (line ∷ lines) before f h m =
+pub all_reincluding : (lines : List IgnoreLine) (before : Mark) (c : Candidate) → some_ignores lines ≡ false → SomeMeans lines c.text
+    → marks_after before lines c ≡ kept
+all_reincluding [] before c h m = absurd m
+all_reincluding (line ∷ lines) before c h m =
     let is = neither line.ignores (some_ignores lines) h in
-    let one = excluded_mark line.exclusion f in
-    ap (λ b. marks_after (mark_after b before one) lines f) is.0 ∙ elim m [
+    let one = excluded_mark line.exclusion c in
+    ap (λ b. marks_after (mark_after b before one) lines c) is.0 ∙ elim m [
       | inl k ↦ (
-          let e = (holds_truly (some_decided (trees line.exclusion) false false (chars f.candidate))).1 k in
-          ap (λ n. marks_after n lines f) (taken_back line.exclusion before f e) ∙ kept_stays lines f is.1)
-      | inr k ↦ all_reincluding lines (mark_after false before one) f is.1 k
+          let e = (holds_truly (some_decided (trees line.exclusion) false false c.text)).1 k in
+          ap (λ n. marks_after n lines c) (taken_back line.exclusion before c e) ∙ kept_stays lines c is.1)
+      | inr k ↦ all_reincluding lines (mark_after false before one) c is.1 k
     ]
 
 -- the mark after all lines, if the lines of a block all ignore or all re-include, and one of them matches the entry
-pub said_at_once : (lines : List IgnoreLine) (block : Block) (before after said : Mark) (f : Facts) → IsBlockOf lines block
+pub said_at_once : (lines : List IgnoreLine) (block : Block) (before after said : Mark) (c : Candidate) → IsBlockOf lines block
     → (let held = lines_between block.start block.end lines in
-    SomeMeans held (chars f.candidate) × (said ≡ excluded_mark (alternatives_in held) f))
+    SomeMeans held c.text × (said ≡ excluded_mark (alternatives_in held) c))
     → (block.ignores && block.reincludes) ≡ false → after ≡ mark_after block.ignores before said
-    → marks_after after (drop block.end lines) f ≡ marks_after before (drop block.start lines) f
-said_at_once lines block before after said f b h alike e =
+    → marks_after after (drop block.end lines) c ≡ marks_after before (drop block.start lines) c
+said_at_once lines block before after said c b h alike e =
     let held = lines_between block.start block.end lines in
-    let all : some_test (alternatives_in held) (chars f.candidate) ≡ true =
-    (holds_truly (some_decided (trees (alternatives_in held)) false false (chars f.candidate))).1 (some_among held (chars f.candidate) h.0) in
+    let all : some_test (alternatives_in held) c.text ≡ true =
+    (holds_truly (some_decided (trees (alternatives_in held)) false false c.text)).1 (some_among held c.text h.0) in
     let by : (ignores : Bool) → some_ignores held ≡ ignores → (ignores && some_reincludes held) ≡ false
-    → mark_after ignores before (excluded_mark (alternatives_in held) f) ≡ marks_after before held f =
+    → mark_after ignores before (excluded_mark (alternatives_in held) c) ≡ marks_after before held c =
     (λ ignores. elim ignores as (λ v. some_ignores held ≡ v → (v && some_reincludes held) ≡ false
-    → mark_after v before (excluded_mark (alternatives_in held) f) ≡ marks_after before held f) [
-      | true ↦ λ i n. all_ignoring held before f n
-      | false ↦ λ i n. taken_back (alternatives_in held) before f all ∙ sym (all_reincluding held before f i h.0)
+    → mark_after v before (excluded_mark (alternatives_in held) c) ≡ marks_after before held c) [
+      | true ↦ λ i n. all_ignoring held before c n
+      | false ↦ λ i n. taken_back (alternatives_in held) before c all ∙ sym (all_reincluding held before c i h.0)
     ]) in
-    said_on lines block.start block.end before after f b.forward
+    said_on lines block.start block.end before after c b.forward
     (e ∙ ap (mark_after block.ignores before) h.1
     ∙ by block.ignores (sym b.knows.ignores) (ap (λ v. block.ignores && v) (sym b.knows.reincludes) ∙ alike))
 
 -- what a block excludes of an entry that one of its lines matches
-module _ (block : Block) (lines : List IgnoreLine) (k : KnowsLines block lines) (f : Facts) (m : SomeMeans lines (chars f.candidate)) where
+module _ (block : Block) (lines : List IgnoreLine) (k : KnowsLines block lines) (c : Candidate) (m : SomeMeans lines c.text) where
   abbrev ts : List (Tree Span)
   ts = alternatives_in lines
 
-  meant : some_test ts (chars f.candidate) ≡ true
-  meant = (holds_truly (some_decided (trees ts) false false (chars f.candidate))).1 (some_among lines (chars f.candidate) m)
+  meant : some_test ts c.text ≡ true
+  meant = (holds_truly (some_decided (trees ts) false false c.text)).1 (some_among lines c.text m)
 
   abbrev covered : Bool
-  covered = covers_test ts (candidate_of f)
+  covered = covers_test ts c
 
-  with_all : covered ≡ true → with_tree ≡ excluded_mark ts f
-  with_all e = sym (ap (λ b. covered_mark b (some_test ts (chars f.candidate))) e)
+  with_all : covered ≡ true → with_tree ≡ excluded_mark ts c
+  with_all e = sym (ap (λ b. covered_mark b (some_test ts c.text)) e)
 
-  pub excludes_all : block.covers_all ≡ true → with_tree ≡ excluded_mark ts f
-  excludes_all e = with_all (or_left (some_everything ts) (nat_lt 0 f.depth && wild_test ts (chars f.candidate)) (sym k.covers_all ∙ e))
+  pub excludes_all : block.covers_all ≡ true → with_tree ≡ excluded_mark ts c
+  excludes_all e = with_all (or_left (some_everything ts) (nat_lt 0 c.depth && wild_test ts c.text) (sym k.covers_all ∙ e))
 
-  wild_accepted : Accepts block.covering 0 (chars f.candidate) ↔ IsTrue (wild_test ts (chars f.candidate))
+  wild_accepted : Accepts block.covering 0 c.text ↔ IsTrue (wild_test ts c.text)
   wild_accepted =
-      let w = wild_tested ts (chars f.candidate) in
-      let a = k.covering (chars f.candidate) in
-      let e = wild_meant ts (chars f.candidate) in
+      let w = wild_tested ts c.text in
+      let a = k.covering c.text in
+      let e = wild_meant ts c.text in
       ((λ h. w.1 (e.0 (a.0 h))), (λ h. a.1 (e.1 (w.0 h))))
 
-  pub excludes_tree : nat_lt 0 f.depth ≡ true → Accepts block.covering 0 (chars f.candidate) → with_tree ≡ excluded_mark ts f
+  pub excludes_tree : nat_lt 0 c.depth ≡ true → Accepts block.covering 0 c.text → with_tree ≡ excluded_mark ts c
   excludes_tree d h =
-      with_all (or_right (some_everything ts) (nat_lt 0 f.depth && wild_test ts (chars f.candidate))
-      (and_from (nat_lt 0 f.depth) (wild_test ts (chars f.candidate)) d (wild_accepted.0 h)))
+      with_all (or_right (some_everything ts) (nat_lt 0 c.depth && wild_test ts c.text)
+      (and_from (nat_lt 0 c.depth) (wild_test ts c.text) d (wild_accepted.0 h)))
 
-  pub excludes_alone : block.covers_all ≡ false → (nat_lt 0 f.depth ≡ true → Accepts block.covering 0 (chars f.candidate) → ⊥)
-      → alone ≡ excluded_mark ts f
+  pub excludes_alone : block.covers_all ≡ false → (nat_lt 0 c.depth ≡ true → Accepts block.covering 0 c.text → ⊥)
+      → alone ≡ excluded_mark ts c
   excludes_alone e n =
-      let below : (nat_lt 0 f.depth && wild_test ts (chars f.candidate)) ≡ false =
-      not_truly (nat_lt 0 f.depth && wild_test ts (chars f.candidate)) (λ q. (
-      let p = and_parts (nat_lt 0 f.depth) (wild_test ts (chars f.candidate)) q in n p.0 (wild_accepted.1 p.1))) in
+      let below : (nat_lt 0 c.depth && wild_test ts c.text) ≡ false =
+      not_truly (nat_lt 0 c.depth && wild_test ts c.text) (λ q. (
+      let p = and_parts (nat_lt 0 c.depth) (wild_test ts c.text) q in n p.0 (wild_accepted.1 p.1))) in
       let uncovered : covered ≡ false = (λ i. (sym k.covers_all ∙ e) i || below i) in
       λ i. covered_mark (sym uncovered i) (sym meant i)
 

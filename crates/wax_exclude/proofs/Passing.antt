@@ -7,13 +7,13 @@ use Rattle.wax_directory.specs.Shown.{Items, end, leaf, folder, sealed, misnamed
 use Rattle.wax_directory.specs.Shown.{a_leaf, a_folder, a_sealed, missing, failing, leaf_kind, IsPlain}
 use Rattle.wax_tree.specs.Plain.{WalkScope, Location, one_deeper, plain_entry, unlisted, items_forest, below_forest}
 use Rattle.wax_tree.specs.Plain.{plain_at}
+use Rattle.wax_walk.specs.Candidates.{Candidate, of_candidate}
 use Rattle.wax_walk.specs.Forest.{Forest, nothing, item, lists, followed_by}
 use Rattle.wax_walk.specs.Given.{Facts, Mark, with_tree, Given}
 use Rattle.wax_exclude.proofs.Names.{at_join, at_sees, names_chars, seen_at}
-use Rattle.wax_exclude.specs.Candidates.{AreNames, Candidate}
+use Rattle.wax_exclude.specs.Candidates.{AreNames}
 use Rattle.wax_exclude.specs.inner.Descents.{said_of, Descends, At, child_location}
 use Rattle.wax_exclude.specs.inner.Stacks.{LeavesOutWhole, LeavesOutAll, IsEntryLeftOut, PassesDown}
-use Rattle.wax_exclude.specs.Marks.{of_candidate}
 use Rattle.wax_exclude.specs.Premises.{ArePlainItems, IsPlainShown}
 
 map-append : (xs ys : List (List ℕ)) → map chars (xs ++ ys) ≡ map chars xs ++ map chars ys

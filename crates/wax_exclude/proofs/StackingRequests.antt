@@ -1,9 +1,9 @@
 -- Rules one after another.
-use Rattle.std.proofs.Common.{◌≡◌, cond, List, [], ◌∷◌, ◌++◌, refl, sym, ap, ◌∙◌}
+use Rattle.std.proofs.Common.{◌≡◌, cond, List, [], ◌∷◌, ◌++◌, map, refl, sym, ap, ◌∙◌}
+use Rattle.wax_walk.specs.Candidates.{Candidate, of_candidate}
 use Rattle.wax_walk.specs.Forest.{Forest, nothing, item, lists}
-use Rattle.wax_walk.specs.Given.{Facts, Mark, kept, alone, with_tree, Given, entry, fault, no_memory}
+use Rattle.wax_walk.specs.Given.{Facts, Mark, kept, alone, with_tree, combined_mark, Given, entry, fault, no_memory}
 use Rattle.wax_walk.specs.Given.{changed_by, cut_by}
-use Rattle.wax_exclude.specs.Marks.{of_candidate}
 use Rattle.wax_exclude.specs.Wanted.{Filter, filter_mark, filter_rules, stacked}
 use Rattle.wax_glob_walk.specs.Programs.{any_mark}
 use Rattle.wax_exclude.specs.GlobRequests.{AreRulesOf}
@@ -38,10 +38,19 @@ pub stacked_any : (rules : List (Facts → Mark)) (f : Forest Given) → stacked
 stacked_any [] f = sym (unruled f)
 stacked_any (rule ∷ rules) f = stacked_any rules (ruled rule f) ∙ filtered_twice rule (any_mark rules) f
 
-pub stacked_filters : {A : Type 0} (filters : List (Filter A)) (rules : List (Facts → Mark)) (f : Forest Given)
-    → AreRulesOf filters rules → stacked rules f ≡ stacked (filter_rules filters) f
+-- rules of candidates are rules of entries, one by one and all at once
+abbrev pub of_candidates : List (Candidate → Mark) → List (Facts → Mark)
+of_candidates rules = map of_candidate rules
+
+pub any_of_candidates : (rules : List (Candidate → Mark)) (f : Facts)
+    → of_candidate (any_mark rules) f ≡ any_mark (of_candidates rules) f
+any_of_candidates [] f = refl
+any_of_candidates (rule ∷ rules) f = ap (combined_mark (of_candidate rule f)) (any_of_candidates rules f)
+
+pub stacked_filters : {A : Type 0} (filters : List (Filter A)) (rules : List (Candidate → Mark)) (f : Forest Given)
+    → AreRulesOf filters rules → stacked (of_candidates rules) f ≡ stacked (filter_rules filters) f
 stacked_filters [] [] f h = refl
 stacked_filters [] (rule ∷ rules) f h = absurd h
 stacked_filters (x ∷ filters) [] f h = absurd h
 stacked_filters (x ∷ filters) (rule ∷ rules) f h =
-    (λ i. stacked rules (ruled (λ v. h.0 v i) f)) ∙ stacked_filters filters rules _ h.1
+    (λ i. stacked (of_candidates rules) (ruled (of_candidate (λ c. h.0 c i)) f)) ∙ stacked_filters filters rules _ h.1

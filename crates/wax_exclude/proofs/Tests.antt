@@ -6,7 +6,7 @@ use Rattle.std.proofs.lemmas.Bool.{and_from, ltb-true, lt-ltb}
 use Rattle.wax_token.specs.Decided.{holds_truly, each_decided, means_test, means_tested}
 use Rattle.wax_token.specs.Syntax.{Tree}
 use Rattle.wax_token.specs.Words.{members, trees}
-use Rattle.wax_exclude.specs.Candidates.{Candidate}
+use Rattle.wax_walk.specs.Candidates.{Candidate}
 use Rattle.wax_exclude.specs.Covers.{is_everything, ends_wild, CoversSome, some_everything, WildMeans}
 use Rattle.wax_exclude.specs.Covers.{wild_test}
 use Rattle.wax_exclude.specs.Covers.{covers_test}

@@ -9,13 +9,13 @@ use Rattle.wax_tree.specs.Begins.{Begins, scope_in}
 use Rattle.wax_tree.specs.declared.steps.DepthRange.{DepthRange}
 use Rattle.wax_tree.specs.Plain.{count_shown, plain}
 use Rattle.wax_tree.specs.Whole.{is_in, whole}
+use Rattle.wax_walk.specs.Candidates.{candidate_of, of_candidate}
 use Rattle.wax_walk.specs.Forest.{Forest, nothing, pending}
 use Rattle.wax_walk.specs.Given.{Facts, kept, alone, with_tree, Given, entry, fault, no_memory}
 use Rattle.wax_walk.specs.View.{WalkView}
 use Rattle.wax_glob_walk.proofs.Combining.{ruled}
 use Rattle.wax_exclude.proofs.StackingRequests.{unruled}
-use Rattle.wax_exclude.specs.Candidates.{candidate_of}
-use Rattle.wax_exclude.specs.Marks.{glob_mark, led_mark, of_candidate}
+use Rattle.wax_exclude.specs.Marks.{glob_mark, led_mark}
 use Rattle.wax_exclude.specs.TreeRequests.{WantsUnfiltered, is_unfiltered, tree_request, tree_alone}
 use Rattle.wax_exclude.specs.GlobRequests.{ComesWanted, CanBegin, GlobRequest, goes, is_beyond, request_excluding}
 use Rattle.wax_exclude.specs.Walked.{glob_walk}

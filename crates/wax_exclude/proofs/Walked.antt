@@ -13,6 +13,7 @@ use Rattle.wax_token.specs.Spelled.{LiteralsHaveNoSlash}
 use Rattle.wax_token.specs.Syntax.{Tree}
 use Rattle.wax_tree.specs.Plain.{WalkScope, Location, one_deeper, plain_entry, unlisted, items_forest, below_forest}
 use Rattle.wax_tree.specs.Plain.{plain_at}
+use Rattle.wax_walk.specs.Candidates.{Candidate}
 use Rattle.wax_walk.specs.declared.error.FaultKind.{FaultKind}
 use Rattle.wax_walk.specs.Forest.{Forest, nothing, item, lists, preorder, followed_by}
 use Rattle.wax_walk.specs.Given.{Facts, Given, fault}
@@ -21,7 +22,6 @@ use Rattle.wax_exclude.proofs.Filters.{filter_descends, filters_keep}
 use Rattle.wax_exclude.proofs.Names.{at_join, at_sees, names_chars, seen_at}
 use Rattle.wax_exclude.proofs.Passing.{passes_at}
 use Rattle.wax_exclude.proofs.Stacking.{stacked_entries}
-use Rattle.wax_exclude.specs.Candidates.{Candidate}
 use Rattle.wax_exclude.specs.inner.Descents.{At, child_location}
 use Rattle.wax_exclude.specs.inner.Stacks.{keeps, all_keep, is_left, AllPassDown}
 use Rattle.wax_exclude.specs.Marks.{glob_mark}

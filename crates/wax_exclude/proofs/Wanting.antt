@@ -8,16 +8,17 @@ use Rattle.wax_directory.specs.Law.{Law}
 use Rattle.wax_directory.specs.Shown.{Shown}
 use Rattle.wax_token.specs.Reads.{Span}
 use Rattle.wax_tree.specs.Plain.{count_shown}
+use Rattle.wax_walk.specs.Candidates.{Candidate, of_candidate}
 use Rattle.wax_walk.specs.Collected.{GaveAll, whole, lacks_memory, over_budget, Took, count_to_open}
 use Rattle.wax_walk.specs.Collected.{AreOfFolders, HasFolder, all_fault_counts}
 use Rattle.wax_walk.specs.declared.error.FaultKind.TheVariants.{Budget}
 use Rattle.wax_walk.specs.Forest.{Pending, Forest, nothing, pending, preorder, listings}
-use Rattle.wax_walk.specs.Given.{Facts, Mark, Given, fault, no_memory, is_kept}
+use Rattle.wax_walk.specs.Given.{Mark, Given, fault, no_memory, is_kept}
 use Rattle.wax_walk.specs.Ruled.{ruled_view}
 use Rattle.wax_walk.specs.View.{WalkView, CountsFaults, IsSeenAs, MayFail}
 use Rattle.wax_exclude.proofs.KeptItems.{cut_kept, kept_entries}
 use Rattle.wax_exclude.specs.Law.{GivesWanted, ListsFew, WantsNothing}
-use Rattle.wax_exclude.specs.Marks.{glob_mark, of_candidate}
+use Rattle.wax_exclude.specs.Marks.{glob_mark}
 use Rattle.wax_exclude.specs.Premises.{IsWellNamed}
 use Rattle.wax_exclude.specs.Walked.{glob_walk, wanted_entries, origin_walk, MayList}
 use Rattle.wax_exclude.specs.Wanted.{Filter, filter_rules, is_kept_entry, stacked, rules_of}
@@ -26,7 +27,8 @@ use Rattle.wax_exclude.specs.GlobRequests as T
 use Rattle.wax_exclude.specs.GlobRequests.{AreRulesOf, ComesExcluding, IsRuleOf, GlobRequest, request_excluding, is_beyond}
 use Rattle.wax_exclude.specs.GlobRequests.{CanBegin, goes, unmeant, request_walk, request_items, request_pending, ComesWanted, KeepsWanted}
 use Rattle.wax_glob_walk.proofs.Combining.{ruled}
-use Rattle.wax_exclude.proofs.StackingRequests.{stacked_more, filter_rules_more, stacked_any, stacked_filters}
+use Rattle.wax_exclude.proofs.StackingRequests.{any_of_candidates, filter_rules_more, of_candidates, stacked_any, stacked_filters}
+use Rattle.wax_exclude.proofs.StackingRequests.{stacked_more}
 
 -- ---- whatever comes
 
@@ -67,7 +69,7 @@ module _ {D C : Type 0} (law : Law D C) where
   }
 
   -- what a walk gave that these rules filter
-  pub took_less : (rules : List (Facts → Mark)) (rule : Facts → Mark) (v u : WalkView D) (new : D)
+  pub took_less : (rules : List (Candidate → Mark)) (rule : Candidate → Mark) (v u : WalkView D) (new : D)
       (xs : List Given) → rule ≡ any_mark rules → IsSeenAs (ruled_view v rule false) u → Took law u new xs
       → Took law (ruled_view v (any_mark rules) false) new xs
   took_less rules rule v u new xs says seen took =
@@ -78,8 +80,8 @@ module _ {D C : Type 0} (law : Law D C) where
 
 module _ {D C : Type 0} (law : Law D C) (d : D) where
   -- a rule that does what filters do turns the walk of a request into that of the request with these filters
-  comes_ruled : (request : GlobRequest) (filters : List (Filter Span)) (rule : Facts → Mark) (v u : WalkView D)
-      → ((f : Forest Given) → ruled rule f ≡ stacked (filter_rules filters) f)
+  comes_ruled : (request : GlobRequest) (filters : List (Filter Span)) (rule : Candidate → Mark) (v u : WalkView D)
+      → ((f : Forest Given) → ruled (of_candidate rule) f ≡ stacked (filter_rules filters) f)
       → ComesWanted law d request v → IsSeenAs (ruled_view v rule false) u
       → ComesWanted law d (request_excluding request filters) u
   comes_ruled request filters rule v u same h seen = record {
@@ -96,7 +98,7 @@ module _ {D C : Type 0} (law : Law D C) (d : D) where
     listings = seen.listings_left ∙ h.listings;
   } where
     walks : (s : Shown) (b : Bool)
-        → ruled rule (if b then nothing else glob_walk request.wanted request.walked request.origin s)
+        → ruled (of_candidate rule) (if b then nothing else glob_walk request.wanted request.walked request.origin s)
         ≡ (if b then nothing else glob_walk (request_excluding request filters).wanted request.walked request.origin s)
     walks s true = refl
     walks s false =
@@ -107,13 +109,17 @@ module _ {D C : Type 0} (law : Law D C) (d : D) where
         (sym (filter_rules_more request.wanted.filters filters)))
 
   -- the rules of filters do so together
-  pub filters_come : (request : GlobRequest) (filters : List (Filter Span)) (rules : List (Facts → Mark))
-      (rule : Facts → Mark) (v u : WalkView D) → AreRulesOf filters rules → rule ≡ any_mark rules
+  pub filters_come : (request : GlobRequest) (filters : List (Filter Span)) (rules : List (Candidate → Mark))
+      (rule : Candidate → Mark) (v u : WalkView D) → AreRulesOf filters rules → rule ≡ any_mark rules
       → ComesWanted law d request v → IsSeenAs (ruled_view v rule false) u
       → ComesWanted law d (request_excluding request filters) u
   filters_come request filters rules rule v u are says h seen = comes_ruled request filters rule v u same h seen where
-    same : (f : Forest Given) → ruled rule f ≡ stacked (filter_rules filters) f
-    same f = ap (λ r. ruled r f) says ∙ (sym (stacked_any rules f) ∙ stacked_filters filters rules f are)
+    all : of_candidate (any_mark rules) ≡ any_mark (of_candidates rules)
+    all = λ i facts. any_of_candidates rules facts i
+
+    same : (f : Forest Given) → ruled (of_candidate rule) f ≡ stacked (filter_rules filters) f
+    same f = ap (λ r. ruled (of_candidate r) f) says ∙ (ap (λ r. ruled r f) all
+        ∙ (sym (stacked_any (of_candidates rules) f) ∙ stacked_filters filters rules f are))
 
   -- what a walk gave to its end is what was to come at first
   pub all_gave : (request : GlobRequest) (view : WalkView D) (tells : List (List ℕ) → Type 0) (s : Shown)
@@ -126,10 +132,10 @@ module _ {D C : Type 0} (law : Law D C) (d : D) where
       (all (request_pending request s listed) (h.comes s listed shows told))
 
 -- the rule of one filter does so
-pub comes_excluding : {D C : Type 0} (law : Law D C) (x : Filter Span) (rule : Facts → Mark) (v u : WalkView D)
+pub comes_excluding : {D C : Type 0} (law : Law D C) (x : Filter Span) (rule : Candidate → Mark) (v u : WalkView D)
     → IsRuleOf x rule → IsSeenAs (ruled_view v rule false) u → ComesExcluding law x v u
 comes_excluding law x rule v u says seen = λ d request h.
-    comes_ruled law d request (x ∷ []) rule v u (λ f i. ruled (λ facts. says facts i) f) h seen
+    comes_ruled law d request (x ∷ []) rule v u (λ f i. ruled (of_candidate (λ c. says c i)) f) h seen
 
 -- ---- what is kept
 

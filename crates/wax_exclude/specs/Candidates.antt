@@ -1,8 +1,7 @@
--- Candidates: what patterns see of an entry.
-use Rattle.std.specs.Prelude.{◌≡◌, ℕ, Bool, true, false, ⊤, List, [], ◌∷◌, ◌++◌, length, map, chars}
+-- Candidates of walks, by their names.
+use Rattle.std.specs.Prelude.{◌≡◌, ℕ, Bool, true, false, ⊤, List, [], ◌∷◌, ◌++◌, length}
 use Rattle.wax_token.specs.Meaning.{HasNoSlash}
-use Rattle.wax_directory.specs.Names.{names_in_path}
-use Rattle.wax_walk.specs.Given.{Facts}
+use Rattle.wax_walk.specs.Candidates.{Candidate}
 
 -- names, each after a `/`
 abbrev pub slashed : List (List ℕ) → List ℕ
@@ -27,19 +26,6 @@ base false = []
 -- the candidate of these names, in a walk from the root or not
 abbrev pub text_at : Bool → List (List ℕ) → List ℕ
 text_at rooted names = base rooted ++ joined_names names
-
--- an entry as patterns see it, in characters: its names from the start, its text, and its depth
-pub record Candidate : Type 0 where
-  pub names : List (List ℕ)
-  pub text : List ℕ
-  pub depth : ℕ
-
-abbrev pub candidate_of : Facts → Candidate
-candidate_of f = record {
-  names = map chars (names_in_path f.candidate);
-  text = chars f.candidate;
-  depth = f.depth;
-}
 
 -- the candidate of an entry with these names
 abbrev pub candidate_at : Bool → List (List ℕ) → Candidate

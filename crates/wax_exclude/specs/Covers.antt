@@ -6,7 +6,7 @@ use Rattle.wax_token.specs.Kinds.{is_tree_wildcard}
 use Rattle.wax_token.specs.Meaning.{Means}
 use Rattle.wax_token.specs.Syntax.{Tree, leaf, tree, Trees, none, more}
 use Rattle.wax_token.specs.Words.{members}
-use Rattle.wax_exclude.specs.Candidates.{Candidate}
+use Rattle.wax_walk.specs.Candidates.{Candidate}
 
 -- a `**` that isn't rooted
 abbrev pub is_unrooted : {A : Type 0} → Tree A → Bool

@@ -7,24 +7,24 @@ use Rattle.wax_token.specs.Reads.{Span}
 use Rattle.wax_tree.specs.Begins.{Origin}
 use Rattle.wax_tree.specs.declared.steps.DepthRange.{DepthRange}
 use Rattle.wax_tree.specs.Plain.{count_shown}
+use Rattle.wax_walk.specs.Candidates.{Candidate}
 use Rattle.wax_walk.specs.Collected.{IsCutShort}
 use Rattle.wax_walk.specs.declared.error.FaultKind.TheVariants.{Budget}
 use Rattle.wax_walk.specs.Forest.{Forest, nothing, Pending, pending, preorder, listings}
-use Rattle.wax_walk.specs.Given.{Facts, Mark, Given, fault, no_memory, is_kept}
+use Rattle.wax_walk.specs.Given.{Mark, Given, fault, no_memory, is_kept}
 use Rattle.wax_walk.specs.View.{WalkView}
 use Rattle.wax_exclude.specs.Candidates.{base}
-use Rattle.wax_exclude.specs.Marks.{of_candidate}
 use Rattle.wax_exclude.specs.Premises.{CanWalk, IsUnmeant}
 use Rattle.wax_exclude.specs.Walked.{glob_walk, wanted_entries, MayList}
 use Rattle.wax_exclude.specs.Wanted.{Filter, Wanted, filter_mark, is_kept_entry}
 
 -- ---- rules of filters
 
--- the rule marks each entry as the filter does
-abbrev pub IsRuleOf : {A : Type 0} → Filter A → (Facts → Mark) → Type 0
-IsRuleOf x rule = (f : Facts) → rule f ≡ of_candidate (filter_mark x) f
+-- the rule marks each candidate as the filter does
+abbrev pub IsRuleOf : {A : Type 0} → Filter A → (Candidate → Mark) → Type 0
+IsRuleOf x rule = (c : Candidate) → rule c ≡ filter_mark x c
 
-abbrev pub AreRulesOf : {A : Type 0} → List (Filter A) → List (Facts → Mark) → Type 0
+abbrev pub AreRulesOf : {A : Type 0} → List (Filter A) → List (Candidate → Mark) → Type 0
 AreRulesOf [] [] = ⊤
 AreRulesOf [] (rule ∷ rules) = ⊥
 AreRulesOf (x ∷ filters) [] = ⊥

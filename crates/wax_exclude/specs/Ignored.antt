@@ -3,8 +3,8 @@ use Rattle.std.specs.Prelude.{◌≡◌, ℕ, Bool, true, false, ◌&&◌, ◌||
 use Rattle.wax_alternatives.specs.Alternatives.{alternatives}
 use Rattle.wax_token.specs.Decided.{means_test}
 use Rattle.wax_token.specs.Syntax.{Tree}
+use Rattle.wax_walk.specs.Candidates.{Candidate}
 use Rattle.wax_walk.specs.Given.{Mark}
-use Rattle.wax_exclude.specs.Candidates.{Candidate}
 use Rattle.wax_exclude.specs.Covers.{CoversSome, covers_test}
 use Rattle.wax_exclude.specs.Marks.{covered_mark}
 

@@ -3,8 +3,8 @@ use Rattle.std.specs.Prelude.{Bool, false, if◌then◌else◌}
 use Rattle.wax_alternatives.specs.Alternatives.{alternatives}
 use Rattle.wax_token.specs.Decided.{means_test}
 use Rattle.wax_token.specs.Syntax.{Tree}
-use Rattle.wax_walk.specs.Given.{Facts, Mark, kept, alone, with_tree}
-use Rattle.wax_exclude.specs.Candidates.{Candidate, candidate_of}
+use Rattle.wax_walk.specs.Candidates.{Candidate}
+use Rattle.wax_walk.specs.Given.{Mark, kept, alone, with_tree}
 use Rattle.wax_exclude.specs.Covers.{covers_test}
 use Rattle.wax_exclude.specs.Leading.{leading_of, lead_test}
 
@@ -24,7 +24,3 @@ glob_mark rooted t c = led_mark (lead_test (leading_of rooted t) c.names) (means
 -- the mark by an excluded pattern
 abbrev pub not_mark : {A : Type 0} → Tree A → Candidate → Mark
 not_mark t c = covered_mark (covers_test (alternatives t) c) (means_test t false false c.text)
-
--- the mark of an entry, if only its candidate matters
-abbrev pub of_candidate : (Candidate → Mark) → Facts → Mark
-of_candidate mark f = mark (candidate_of f)

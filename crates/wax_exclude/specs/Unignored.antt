@@ -9,11 +9,11 @@ use Rattle.wax_tree.specs.declared.steps.DepthRange.{DepthRange}
 use Rattle.wax_tree.specs.Plain.{plain}
 use Rattle.wax_tree.specs.Prefix.{ArePlain, path_from}
 use Rattle.wax_tree.specs.Whole.{is_in, whole}
+use Rattle.wax_walk.specs.Candidates.{of_candidate}
 use Rattle.wax_walk.specs.Forest.{preorder, listings}
 use Rattle.wax_walk.specs.Given.{Facts, Mark, kept, alone, with_tree, Given, entry, fault, no_memory}
 use Rattle.wax_exclude.specs.Candidates.{candidate_at}
 use Rattle.wax_exclude.specs.Ignored.{Line, is_ignored, IgnoresBelow, ignore_mark}
-use Rattle.wax_exclude.specs.Marks.{of_candidate}
 use Rattle.wax_exclude.specs.Premises.{IsPlainShown}
 use Rattle.wax_exclude.specs.Wanted.{is_kept_entry, stacked}
 

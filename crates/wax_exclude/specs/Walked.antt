@@ -8,9 +8,10 @@ use Rattle.wax_tree.specs.declared.steps.DepthRange.{DepthRange}
 use Rattle.wax_tree.specs.Plain.{Location, plain_at}
 use Rattle.wax_tree.specs.Prefix.{ArePlain, path_from, walk_from}
 use Rattle.wax_tree.specs.Whole.{is_in, whole_at}
+use Rattle.wax_walk.specs.Candidates.{Candidate}
 use Rattle.wax_walk.specs.Forest.{Forest, nothing}
 use Rattle.wax_walk.specs.Given.{Given}
-use Rattle.wax_exclude.specs.Candidates.{Candidate, candidate_at}
+use Rattle.wax_exclude.specs.Candidates.{candidate_at}
 use Rattle.wax_exclude.specs.Covers.{CoversSome}
 use Rattle.wax_exclude.specs.Ignored.{IgnoresBelow}
 use Rattle.wax_exclude.specs.Leading.{leading_of, Lead}

@@ -2,12 +2,12 @@
 use Rattle.std.specs.Prelude.{ℕ, Bool, true, false, ◌&&◌, not, List, [], ◌∷◌, chars}
 use Rattle.wax_token.specs.Decided.{means_test}
 use Rattle.wax_token.specs.Syntax.{Tree}
+use Rattle.wax_walk.specs.Candidates.{Candidate, of_candidate}
 use Rattle.wax_walk.specs.Forest.{Forest, filtered}
 use Rattle.wax_walk.specs.Given.{Facts, Mark, kept, alone, with_tree, Given, entry, fault, no_memory}
 use Rattle.wax_walk.specs.Given.{changed_by, cut_by}
-use Rattle.wax_exclude.specs.Candidates.{Candidate}
 use Rattle.wax_exclude.specs.Ignored.{Line, is_ignored, ignore_mark}
-use Rattle.wax_exclude.specs.Marks.{glob_mark, not_mark, of_candidate}
+use Rattle.wax_exclude.specs.Marks.{glob_mark, not_mark}
 
 -- a filter of a walk: it excludes what a pattern matches, or what a list of lines ignores
 pub data Filter (A : Type 0) : Type 0 where

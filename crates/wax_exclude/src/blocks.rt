@@ -1,5 +1,5 @@
 //! Blocks of lines of an ignore list, which automata over all of their alternatives mostly decide.
-ghost use Rattle.std.specs.Prelude.{◌++◌, ◌&&◌, ◌<◌, ◌≡◌, ◌≤◌, ◌∷◌, [], IfOk, IfSome, List, Some, chars};
+ghost use Rattle.std.specs.Prelude.{◌++◌, ◌&&◌, ◌<◌, ◌≡◌, ◌≤◌, ◌∷◌, [], IfOk, IfSome, List, Some};
 ghost use Rattle.std.specs.Prelude.{drop, length};
 ghost use Rattle.std.specs.List.{All};
 ghost use Rattle.wax_exclude.specs.Compiled.{wild};
@@ -8,6 +8,7 @@ ghost use Rattle.wax_exclude.specs.declared.rules.IgnoreLine.{IgnoreLine};
 ghost use Rattle.wax_exclude.specs.inner.Blocks.{AcceptsSome, IsBlockOf, KnowsLines, SomeMeans};
 ghost use Rattle.wax_exclude.specs.inner.Blocks.{alternatives_in, left_to_say, marks_after, some_ignores};
 ghost use Rattle.wax_exclude.specs.inner.Blocks.{some_reincludes};
+ghost use Rattle.wax_walk.specs.Candidates.{in_characters};
 ghost use Rattle.wax_walk.specs.Said.{mark_of};
 
 use crate::exclusions::{ends_wild, some_everything};
@@ -19,7 +20,7 @@ use wax_match::encode;
 use wax_match::encode::CompiledProgram;
 use wax_query::diagnostics::{NoMemory, Refusal};
 use wax_token::token::{ExpressionMetadata, Token};
-use wax_walk::{Entry, EntryResidue};
+use wax_walk::{Candidate, EntryResidue};
 
 /// The greatest number of lines in a small block.
 const FEW: usize = 16;
@@ -64,19 +65,19 @@ impl Block {
     /// # Errors
     ///
     /// Returns `NoMemory` if allocation fails.
-    pub fn decide<E: Entry>(
+    pub fn decide(
         &mut self,
-        entry: &E,
+        candidate: Candidate<'_>,
         residue: Option<EntryResidue>,
     ) -> Result<Said, NoMemory>
         ensures same { self.new ≡ self.old }
         ensures within { (lines : List IgnoreLine) → IsBlockOf lines self.old
             → IfOk result (λ next. next.at ≤ length lines) }
-        ensures left { (lines : List IgnoreLine) → IsBlockOf lines self.old → IfOk result (λ next.
-            left_to_say lines next (E.facts entry.now)
-            ≡ marks_after (mark_of residue) (drop self.old.start lines) (E.facts entry.now)) }
+        ensures left { let c = in_characters candidate.entry in
+            (lines : List IgnoreLine) → IsBlockOf lines self.old → IfOk result (λ next.
+            left_to_say lines next c
+            ≡ marks_after (mark_of residue) (drop self.old.start lines) c) }
     {
-        let (_, candidate) = entry.root_relative_paths();
         let is_mixed = self.is_mixed();
         if is_mixed && self.whole.has_given_up() {
             return Ok(Said {
@@ -84,7 +85,7 @@ impl Block {
                 residue,
             });
         }
-        if !self.whole.is_match(candidate)? {
+        if !self.whole.is_match(candidate.path)? {
             return Ok(Said {
                 at: self.end,
                 residue: passed(self.reincludes, residue),
@@ -96,7 +97,7 @@ impl Block {
                 residue,
             });
         }
-        let said = Some(self.excluded(entry)?);
+        let said = Some(self.excluded(candidate)?);
         Ok(Said {
             at: self.end,
             residue: residue_after(self.ignores, residue, said),
@@ -111,17 +112,16 @@ impl Block {
     }
 
     // Returns what to exclude of an entry that one of the alternatives matches.
-    fn excluded<E: Entry>(&mut self, entry: &E) -> Result<EntryResidue, NoMemory>
+    fn excluded(&mut self, candidate: Candidate<'_>) -> Result<EntryResidue, NoMemory>
         ensures same { self.new ≡ self.old }
-        ensures excluded { (lines : List IgnoreLine) → KnowsLines self.old lines
-            → SomeMeans lines (chars (E.facts entry.now).candidate) → IfOk result
-            (λ r. mark_of (Some r) ≡ excluded_mark (alternatives_in lines) (E.facts entry.now)) }
+        ensures excluded { let c = in_characters candidate.entry in
+            (lines : List IgnoreLine) → KnowsLines self.old lines → SomeMeans lines c.text
+            → IfOk result (λ r. mark_of (Some r) ≡ excluded_mark (alternatives_in lines) c) }
     {
         if self.covers_all {
             return Ok(EntryResidue::Tree);
         }
-        let (_, candidate) = entry.root_relative_paths();
-        if entry.depth() > 0 && self.covering.is_match(candidate)? {
+        if candidate.depth > 0 && self.covering.is_match(candidate.path)? {
             return Ok(EntryResidue::Tree);
         }
         Ok(EntryResidue::File)

@@ -8,6 +8,7 @@ ghost use Rattle.wax_token.specs.Meaning.{Means};
 ghost use Rattle.wax_token.specs.Words.{members};
 ghost use Rattle.wax_exclude.specs.Covers.{ends_wild, is_everything, is_unrooted, some_everything};
 ghost use Rattle.wax_exclude.specs.Compiled.{CoverAll, SomeAccepts};
+ghost use Rattle.wax_walk.specs.Candidates.{in_characters};
 ghost use Rattle.wax_walk.specs.Said.{mark_of};
 
 use crate::programs::{accepts, program_of};
@@ -20,7 +21,7 @@ use wax_match::encode::{CompileError, CompiledProgram};
 use wax_prefilter::Prefilter;
 use wax_query::diagnostics::{NoMemory, Refusal};
 use wax_token::token::{ExpressionMetadata, LeafKind, Token, Wildcard};
-use wax_walk::{Entry, EntryResidue, Exclude};
+use wax_walk::{Candidate, EntryResidue, Exclude};
 
 /// How many bytes may be kept of earlier texts.
 const MOST_BYTES: usize = 2_097_152;
@@ -71,7 +72,7 @@ impl Model for Exclusion {
 }
 
 impl Exclusion {
-    ghost use Rattle.wax_exclude.specs.Marks.{not_mark, of_candidate};
+    ghost use Rattle.wax_exclude.specs.Marks.{not_mark};
 
     /// Builds the rule from a pattern's token. It takes time and memory in proportion to the tokens
     /// and their cost.
@@ -85,8 +86,7 @@ impl Exclusion {
         pattern: Token<'static, ExpressionMetadata>,
     ) -> Result<Exclusion, Refusal<CompileError>>
         ensures alternatives { IfOk result (λ e. e ≡ alternatives pattern.entry) }
-        ensures says { IfOk result (λ e.
-            ⟦<Exclusion as Exclude>⟧.rule e ≡ of_candidate (not_mark pattern.entry)) }
+        ensures says { IfOk result (λ e. ⟦<Exclusion as Exclude>⟧.rule e ≡ not_mark pattern.entry) }
         ensures fits { MatchBuild result (λ _. program_length pattern.entry ≤ 1048576)
             (λ _. 1048576 < program_length pattern.entry) }
     {
@@ -150,14 +150,15 @@ impl Exclusion {
 
     /// Returns what to exclude of an entry, once it is known whether an alternative matches its
     /// candidate.
-    fn excluded<E: Entry>(
+    fn excluded(
         &self,
         alloc: Global,
-        entry: &E,
+        candidate: Candidate<'_>,
         is_matched: bool,
     ) -> Result<Option<EntryResidue>, NoMemory>
-        requires { is_matched ≡ some_test self.now (chars (E.facts entry.now).candidate) }
-        ensures { IfOk result (λ r. mark_of r ≡ excluded_mark self.now (E.facts entry.now)) }
+        requires { is_matched ≡ some_test self.now (chars candidate.path.now) }
+        ensures { IfOk result
+            (λ r. mark_of r ≡ excluded_mark self.now (in_characters candidate.entry)) }
     {
         if self.covers_all {
             return Ok(Some(EntryResidue::Tree));
@@ -165,8 +166,7 @@ impl Exclusion {
         if !is_matched {
             return Ok(None);
         }
-        let (_, candidate) = entry.root_relative_paths();
-        if entry.depth() > 0 && some_accepts(alloc, self.covering.as_slice(), candidate)? {
+        if candidate.depth > 0 && some_accepts(alloc, self.covering.as_slice(), candidate.path)? {
             return Ok(Some(EntryResidue::Tree));
         }
         Ok(Some(EntryResidue::File))
@@ -178,32 +178,31 @@ impl Exclusion {
     /// # Errors
     ///
     /// Returns `NoMemory` if allocation fails.
-    pub(crate) fn residue_once<E: Entry>(
+    pub(crate) fn residue_once(
         &self,
         alloc: Global,
-        entry: &E,
+        candidate: Candidate<'_>,
     ) -> Result<Option<EntryResidue>, NoMemory>
-        ensures { IfOk result (λ r. mark_of r ≡ excluded_mark self.now (E.facts entry.now)) }
+        ensures { IfOk result
+            (λ r. mark_of r ≡ excluded_mark self.now (in_characters candidate.entry)) }
     {
-        let (_, candidate) = entry.root_relative_paths();
-        let is_matched = self.is_match(alloc, candidate)?;
-        self.excluded(alloc, entry, is_matched)
+        let is_matched = self.is_match(alloc, candidate.path)?;
+        self.excluded(alloc, candidate, is_matched)
     }
 }
 
 impl Exclude for Exclusion {
     ghost use Rattle.wax_exclude.specs.Excluded.{excluded_mark};
 
-    ghost rule = { λ e f. excluded_mark e f };
+    ghost rule = { λ e c. excluded_mark e c };
 
-    fn residue<E: Entry>(
+    fn residue(
         &mut self,
         alloc: Global,
-        entry: &E,
+        candidate: Candidate<'_>,
     ) -> Result<Option<EntryResidue>, NoMemory> {
-        let (_, candidate) = entry.root_relative_paths();
-        let is_matched = self.is_match_cached(candidate)?;
-        self.excluded(alloc, entry, is_matched)
+        let is_matched = self.is_match_cached(candidate.path)?;
+        self.excluded(alloc, candidate, is_matched)
     }
 }
 

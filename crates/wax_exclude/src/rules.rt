@@ -4,9 +4,9 @@ ghost use Rattle.std.specs.List.{All};
 ghost use Rattle.wax_query.specs.Outcome.{MatchBuild};
 ghost use Rattle.wax_token.specs.Cost.{program_length};
 ghost use Rattle.wax_token.specs.Reads.{Span};
+ghost use Rattle.wax_walk.specs.Candidates.{in_characters};
 ghost use Rattle.wax_walk.specs.Said.{mark_of};
 ghost use Rattle.wax_exclude.specs.Ignored.{Line, ignore_mark, is_ignored};
-ghost use Rattle.wax_exclude.specs.Marks.{of_candidate};
 ghost use Rattle.wax_exclude.specs.Held.{HasLines, line_of};
 ghost use Rattle.wax_exclude.specs.inner.Blocks.{IsBlockOf, left_to_say, mark_passed, marks_after};
 ghost use Rattle.wax_exclude.specs.inner.Listed.{ignored_by, listed_mark, mark_after};
@@ -19,7 +19,7 @@ use wax_candidate::CandidatePath;
 use wax_match::encode::CompileError;
 use wax_query::diagnostics::{NoMemory, Refusal};
 use wax_token::token::{ExpressionMetadata, Token};
-use wax_walk::{Entry, EntryResidue, Exclude};
+use wax_walk::{Candidate, EntryResidue, Exclude};
 
 /// A line of an ignore list: a glob, and whether it ignores what the glob matches or stops ignoring
 /// it.
@@ -94,7 +94,7 @@ impl IgnoreRule {
     pub fn new(alloc: Global, lines: Vec<IgnoreLine>) -> Result<IgnoreRule, NoMemory>
         ensures lines { IfOk result (λ rule. rule ≡ lines.items) }
         ensures says { IfOk result (λ rule. (ls : List (Line Span)) → HasLines rule ls
-            → ⟦<IgnoreRule as Exclude>⟧.rule rule ≡ of_candidate (ignore_mark ls)) }
+            → ⟦<IgnoreRule as Exclude>⟧.rule rule ≡ ignore_mark ls) }
     {
         let blocks = blocks_of(alloc, lines.as_slice())?;
         Ok(IgnoreRule { lines, blocks })
@@ -116,14 +116,14 @@ impl IgnoreRule {
 impl Exclude for IgnoreRule {
     ghost use Rattle.wax_exclude.specs.inner.Listed.{listed_mark};
 
-    ghost rule = { λ rule f. listed_mark rule f };
+    ghost rule = { λ rule c. listed_mark rule c };
 
-    fn residue<E: Entry>(
+    fn residue(
         &mut self,
         alloc: Global,
-        entry: &E,
+        candidate: Candidate<'_>,
     ) -> Result<Option<EntryResidue>, NoMemory> {
-        residue_by(alloc, self.lines.as_slice(), &mut self.blocks, entry)
+        residue_by(alloc, self.lines.as_slice(), &mut self.blocks, candidate)
     }
 }
 
@@ -140,14 +140,15 @@ fn is_ignored_by(alloc: Global, lines: &[IgnoreLine], text: &str) -> Result<bool
 }
 
 // Applies the lines in order, and skips the blocks of which none matches.
-fn residue_by<E: Entry>(
+fn residue_by(
     alloc: Global,
     lines: &[IgnoreLine],
     blocks: &mut Vec<Block>,
-    entry: &E,
+    candidate: Candidate<'_>,
 ) -> Result<Option<EntryResidue>, NoMemory>
     requires { All (IsBlockOf lines.now) blocks.old.items }
-    ensures says { IfOk result (λ r. mark_of r ≡ listed_mark lines.now (E.facts entry.now)) }
+    ensures says { IfOk result
+        (λ r. mark_of r ≡ listed_mark lines.now (in_characters candidate.entry)) }
     ensures same { blocks.new.items ≡ blocks.old.items }
 {
     let mut said = Said {
@@ -155,9 +156,9 @@ fn residue_by<E: Entry>(
         residue: None,
     };
     for at in 0..blocks.len() {
-        said = after_block(alloc, lines, &mut blocks[at], entry, said)?;
+        said = after_block(alloc, lines, &mut blocks[at], candidate, said)?;
     }
-    after_lines(alloc, &lines[said.at..], entry, said.residue)
+    after_lines(alloc, &lines[said.at..], candidate, said.residue)
 }
 
 // What the lines before the index `at` decide for an entry.
@@ -170,25 +171,25 @@ pub struct Said {
 // Goes on to the end of the block if none of its lines matches the entry, and otherwise to its
 // beginning, from where a smaller block or the lines themselves go on. A block that begins before
 // `said.at` lies within one that was skipped, and is skipped.
-fn after_block<E: Entry>(
+fn after_block(
     alloc: Global,
     lines: &[IgnoreLine],
     block: &mut Block,
-    entry: &E,
+    candidate: Candidate<'_>,
     said: Said,
 ) -> Result<Said, NoMemory>
     requires block { IsBlockOf lines.now block.old }
     requires within { said.at ≤ length lines.now }
     ensures same { block.new ≡ block.old }
     ensures within { IfOk result (λ next. next.at ≤ length lines.now) }
-    ensures left { IfOk result (λ next. left_to_say lines.now next (E.facts entry.now)
-        ≡ left_to_say lines.now said (E.facts entry.now)) }
+    ensures left { let c = in_characters candidate.entry in
+        IfOk result (λ next. left_to_say lines.now next c ≡ left_to_say lines.now said c) }
 {
     if block.start < said.at {
         return Ok(said);
     }
-    let residue = after_lines(alloc, &lines[said.at..block.start], entry, said.residue)?;
-    block.decide(entry, residue)
+    let residue = after_lines(alloc, &lines[said.at..block.start], candidate, said.residue)?;
+    block.decide(candidate, residue)
 }
 
 // Returns the decision after lines none of which matches the entry. If one of them begins with `!`,
@@ -203,18 +204,18 @@ pub fn passed(reincludes: bool, residue: Option<EntryResidue>) -> Option<EntryRe
 }
 
 // Applies the lines one by one.
-fn after_lines<E: Entry>(
+fn after_lines(
     alloc: Global,
     lines: &[IgnoreLine],
-    entry: &E,
+    candidate: Candidate<'_>,
     before: Option<EntryResidue>,
 ) -> Result<Option<EntryResidue>, NoMemory>
     ensures { IfOk result
-        (λ r. mark_of r ≡ marks_after (mark_of before) lines.now (E.facts entry.now)) }
+        (λ r. mark_of r ≡ marks_after (mark_of before) lines.now (in_characters candidate.entry)) }
 {
     let mut residue = before;
     for line in lines {
-        let said = line.exclusion.residue_once(alloc, entry)?;
+        let said = line.exclusion.residue_once(alloc, candidate)?;
         residue = residue_after(line.ignores, residue, said);
     }
     Ok(residue)

@@ -2,7 +2,7 @@
 use Rattle.std.proofs.Common.{◌≡◌, ℕ, ◌+◌, ◌<◌, suc, Bool, true, false, List, ◌∷◌, length, get_or, drop}
 use Rattle.std.proofs.Common.{drop-cons, map, refl, sym, ap, ◌∙◌, arith, Result, Ok, Err, IfOk, IsErrAnd}
 use Rattle.std.specs.Prelude.{if◌then◌else◌}
-use Rattle.wax_walk.specs.Given.{Facts, Mark, kept, alone, with_tree, combined_mark}
+use Rattle.wax_walk.specs.Given.{Mark, kept, alone, with_tree, combined_mark}
 use Rattle.wax_glob_walk.specs.Programs.{any_mark}
 use Rattle.wax_glob_walk.proofs.Combining.{combined_thrice}
 
@@ -17,7 +17,7 @@ left_at xs i x l is =
 abbrev pub so_far : Bool → Mark
 so_far b = if b then alone else kept
 
-module _ {R : Type 0} (rule : R → Facts → Mark) (f : Facts) (xs : List R) (i : ℕ) (x : R) (total : Mark)
+module _ {C R : Type 0} (rule : R → C → Mark) (f : C) (xs : List R) (i : ℕ) (x : R) (total : Mark)
     (l : i < length xs) (is : x ≡ get_or xs i x) where
   abbrev others : Mark
   others = any_mark (map rule (drop (i + 1) xs)) f

@@ -5,7 +5,7 @@ ghost use Rattle.wax_glob_walk.specs.Programs.{any_mark};
 
 use std::alloc::Global;
 use wax_query::diagnostics::NoMemory;
-use wax_walk::{Entry, EntryResidue, Exclude};
+use wax_walk::{Candidate, EntryResidue, Exclude};
 
 /// A rule that excludes what at least one of several rules excludes: an entry with everything below
 /// it if one of them does so, and otherwise the entry by itself.
@@ -26,14 +26,14 @@ impl<R: Exclude> FilterAny<R> {
 impl<R: Exclude> Exclude for FilterAny<R> {
     ghost rule = { λ s. any_mark (map R.rule s.rules.items) };
 
-    fn residue<E: Entry>(
+    fn residue(
         &mut self,
         alloc: Global,
-        entry: &E,
+        candidate: Candidate<'_>,
     ) -> Result<Option<EntryResidue>, NoMemory> {
         let mut is_excluded = false;
         for at in 0..self.rules.len() {
-            match self.rules[at].residue(alloc, entry)? {
+            match self.rules[at].residue(alloc, candidate)? {
                 None => {}
                 Some(EntryResidue::File) => is_excluded = true,
                 Some(EntryResidue::Tree) => return Ok(Some(EntryResidue::Tree)),

@@ -6,6 +6,7 @@ ghost use Rattle.wax_candidate.specs.Matched.{IsMatchOf};
 ghost use Rattle.wax_filter.specs.Feeding.{NextFiltrate};
 ghost use Rattle.wax_glob_walk.specs.Matches.{IsMatchedEntry, glob_facts, shown_entry};
 ghost use Rattle.wax_glob_walk.specs.Programs.{leading_mark};
+ghost use Rattle.wax_walk.specs.Candidates.{of_candidate};
 ghost use Rattle.wax_walk.specs.Entries.{given_of, facts_of};
 ghost use Rattle.wax_walk.specs.Given as G;
 ghost use Rattle.wax_walk.specs.Known.{KnownItem, StaysKnown};
@@ -78,15 +79,15 @@ where
     P: Program,
     C: NameTest,
     ensures gives { IfOk result (λ r. given_of glob_facts facts_of r.0
-        ≡ G.changed_by (leading_mark C.decides leading.now P.decides program.now)
+        ≡ G.changed_by (of_candidate (leading_mark C.decides leading.now P.decides program.now))
         (G.entry G.kept (facts_of entry))) }
     ensures cuts { IfOk result (λ r. r.1
-        ≡ G.cut_by (leading_mark C.decides leading.now P.decides program.now)
+        ≡ G.cut_by (of_candidate (leading_mark C.decides leading.now P.decides program.now))
         (G.entry G.kept (facts_of entry))) }
     ensures matches { IfOk result
         (λ r. KnownItem (IsMatchedEntry (P.means program.now) (P.captured program.now)) r.0) }
 {
-    if !lead(alloc, leading, &entry)? {
+    if !lead(alloc, leading, entry.candidate())? {
         let unled = TreeResidue::Tree(entry);
         return Ok((Separation::Residue(Product::new(unled)), true));
     }
@@ -115,10 +116,10 @@ where
     C: NameTest,
     F: Feed<Filtrate = Result<TreeEntry, WalkError>, Residue = TreeResidue<TreeEntry>>,
     ensures gives { IfOk result (λ r. given_of glob_facts facts_of r.0
-        ≡ G.changed_by (leading_mark C.decides leading.now P.decides program.now)
+        ≡ G.changed_by (of_candidate (leading_mark C.decides leading.now P.decides program.now))
         (given_of facts_of facts_of separation)) }
     ensures cuts { IfOk result (λ r. r.1
-        ≡ G.cut_by (leading_mark C.decides leading.now P.decides program.now)
+        ≡ G.cut_by (of_candidate (leading_mark C.decides leading.now P.decides program.now))
         (given_of facts_of facts_of separation)) }
     ensures matches { IfOk result
         (λ r. KnownItem (IsMatchedEntry (P.means program.now) (P.captured program.now)) r.0) }
@@ -130,7 +131,7 @@ where
         },
         Separation::Residue(residue) => match residue.into_inner() {
             TreeResidue::Node(entry) => {
-                if lead(alloc, leading, &entry)? {
+                if lead(alloc, leading, entry.candidate())? {
                     let excluded = TreeResidue::Node(entry);
                     Ok((Separation::Residue(Product::new(excluded)), false))
                 } else {

@@ -1,12 +1,13 @@
 //! The leading components of a glob, which the first names of each entry have to match.
 
-ghost use Rattle.std.specs.Prelude.{◌≡◌, ◌∷◌, [], ℕ, Bool, List, IfOk, MatchOption, chars, map};
+ghost use Rattle.std.specs.Prelude.{◌≡◌, ◌∷◌, [], ℕ, Bool, List, IfOk, MatchOption, chars};
 ghost use Rattle.wax_directory.specs.Names.{names_in_path};
-ghost use Rattle.wax_glob_walk.specs.Programs.{lead_to, leads};
+ghost use Rattle.wax_glob_walk.specs.Programs.{leads};
+ghost use Rattle.wax_walk.specs.Candidates.{in_characters};
 
 use std::alloc::Global;
 use wax_query::diagnostics::NoMemory;
-use wax_walk::Entry;
+use wax_walk::Candidate;
 
 /// A leading component: a set of names.
 pub trait NameTest: Drop {
@@ -41,13 +42,17 @@ fn first_name(path: &str) -> Option<(&str, &str)>
     }
 }
 
-// Returns whether each name of the path is matched by the component at the same place. Names after
-// the last component are free.
-fn are_led<C: NameTest>(alloc: Global, leading: &[C], path: &str) -> Result<bool, NoMemory>
+// Returns whether each name of the candidate is matched by the leading component at the same place.
+// Names after the last component are free.
+pub(crate) fn lead<C: NameTest>(
+    alloc: Global,
+    leading: &[C],
+    candidate: Candidate<'_>,
+) -> Result<bool, NoMemory>
     ensures { IfOk result
-        (λ led. led ≡ leads C.decides leading.now (map chars (names_in_path path.now))) }
+        (λ led. led ≡ leads C.decides leading.now (in_characters candidate.entry).names) }
 {
-    let mut rest = path;
+    let mut rest = candidate.path;
     for component in leading {
         let Some((name, after)) = first_name(rest) else {
             return Ok(true);
@@ -58,16 +63,4 @@ fn are_led<C: NameTest>(alloc: Global, leading: &[C], path: &str) -> Result<bool
         rest = after;
     }
     Ok(true)
-}
-
-// Returns whether the names of an entry's candidate are matched by the leading components.
-pub(crate) fn lead<C: NameTest, E: Entry>(
-    alloc: Global,
-    leading: &[C],
-    entry: &E,
-) -> Result<bool, NoMemory>
-    ensures { IfOk result (λ led. led ≡ lead_to C.decides leading.now (E.facts entry.now)) }
-{
-    let (_, candidate) = entry.root_relative_paths();
-    are_led(alloc, leading, candidate)
 }

@@ -10,7 +10,7 @@ use std::alloc::Global;
 use wax_candidate::{BuildMatcher, CandidatePath, PathMatcher};
 use wax_filter::filter::SeparatingFilter;
 use wax_query::diagnostics::NoMemory;
-use wax_walk::{Entry, EntryResidue, Exclude, Excluding, FileIterator, TreeEntry};
+use wax_walk::{Candidate, EntryResidue, Exclude, Excluding, FileIterator, TreeEntry};
 
 /// A rule that excludes what the walk of a glob excludes: an entry with everything below it if one
 /// of its names isn't matched by the leading component at the same place, and by itself any other
@@ -24,16 +24,15 @@ pub struct Unmatched<M, C> {
 impl<M: PathMatcher, C: NameTest> Exclude for Unmatched<M, C> {
     ghost rule = { λ s. leading_mark C.decides s.leading.items M.decides s.matcher };
 
-    fn residue<E: Entry>(
+    fn residue(
         &mut self,
         alloc: Global,
-        entry: &E,
+        candidate: Candidate<'_>,
     ) -> Result<Option<EntryResidue>, NoMemory> {
-        if !lead(alloc, &self.leading, entry)? {
+        if !lead(alloc, &self.leading, candidate)? {
             return Ok(Some(EntryResidue::Tree));
         }
-        let (_, candidate) = entry.root_relative_paths();
-        if self.matcher.is_match(&CandidatePath::from(candidate))? {
+        if self.matcher.is_match(&CandidatePath::from(candidate.path))? {
             Ok(None)
         } else {
             Ok(Some(EntryResidue::File))

@@ -7,6 +7,7 @@ use Rattle.wax_filter.specs.declared.filter.separation.Separation.TheVariants.{F
 use Rattle.wax_walk.specs.declared.entry.TreeEntry.{TreeEntry}
 use Rattle.wax_walk.specs.declared.error.WalkError.{WalkError}
 use Rattle.wax_walk.specs.declared.iterator.EntryResidue.{EntryResidue}
+use Rattle.wax_walk.specs.Candidates.{Candidate, of_candidate}
 use Rattle.wax_walk.specs.Forest.{Pending, cancelled}
 use Rattle.wax_walk.specs.Given.{Given, Facts, Mark, ToComeFiltered}
 use Rattle.wax_walk.specs.Known.{KnownOutcome, KnownAnswer, KeepsKnown}
@@ -25,22 +26,22 @@ filtered_telling : (rule : Facts → Mark) (inner : Pending Given → Type 0) (t
 filtered_telling rule inner tells q a h = subst tells (sym (ap (λ (v : Pending Given). v.listed) h.2))
     (a h.0 h.1)
 
-pub ruled_telling : {D : Type 0} (v : WalkView D) (rule : Facts → Mark) (tells : List (List ℕ) → Type 0)
+pub ruled_telling : {D : Type 0} (v : WalkView D) (rule : Candidate → Mark) (tells : List (List ℕ) → Type 0)
     → ((p : Pending Given) → v.to_come p → tells p.listed)
-    → (q : Pending Given) → ToComeFiltered v.to_come rule q → tells q.listed
-ruled_telling v rule tells a q h = filtered_telling rule v.to_come tells q a h
+    → (q : Pending Given) → ToComeFiltered v.to_come (of_candidate rule) q → tells q.listed
+ruled_telling v rule tells a q h = filtered_telling (of_candidate rule) v.to_come tells q a h
 
 ended_either : (b c : Bool) (before after : Type 0) → c ≡ b → (before → after) → (b ≡ true) ⊎ before
     → (c ≡ true) ⊎ after
 ended_either b c before after e f h = elim h [ inl a ↦ inl (e ∙ a) | inr i ↦ inr (f i) ]
 
-pub ruled_cancelling : {D P : Type 0} (v w : WalkView D) (rules : P → Facts → Mark) (p q : P) (b c : Bool)
+pub ruled_cancelling : {D P : Type 0} (v w : WalkView D) (rules : P → Candidate → Mark) (p q : P) (b c : Bool)
     → CancelStep v w → q ≡ p → c ≡ b → CancelStep (ruled_view v (rules p) b) (ruled_view w (rules q) c)
 ruled_cancelling v w rules p q b c h e f = record {
   leaves_out = λ o i. (
     f ∙ i.0,
-    subst (λ r. ToComeFiltered w.to_come (rules r) (cancelled o)) (sym e)
-        (filtered_cancelling (rules p) v.to_come w.to_come o h.leaves_out i.1),
+    subst (λ r. ToComeFiltered w.to_come (of_candidate (rules r)) (cancelled o)) (sym e)
+        (filtered_cancelling (of_candidate (rules p)) v.to_come w.to_come o h.leaves_out i.1),
   );
   directory = h.directory;
   listings_left = h.listings_left;

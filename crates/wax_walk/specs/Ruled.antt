@@ -1,12 +1,13 @@
 -- The view of a walk that is filtered by a rule.
 use Rattle.std.specs.Prelude.{◌≡◌, ◌⊎◌, Bool, true, false, cond}
-use Rattle.wax_walk.specs.Given.{Facts, Mark, ToComeFiltered}
+use Rattle.wax_walk.specs.Candidates.{Candidate, of_candidate}
+use Rattle.wax_walk.specs.Given.{Mark, ToComeFiltered}
 use Rattle.wax_walk.specs.View.{WalkView}
 
 -- the view of the filtered walk; `lacked` says that an allocation for the rule failed, which ends the walk
-abbrev pub ruled_view : {D : Type 0} → WalkView D → (Facts → Mark) → Bool → WalkView D
+abbrev pub ruled_view : {D : Type 0} → WalkView D → (Candidate → Mark) → Bool → WalkView D
 ruled_view inner rule lacked = record inner {
-  to_come = λ q. (lacked ≡ false) × ToComeFiltered inner.to_come rule q;
+  to_come = λ q. (lacked ≡ false) × ToComeFiltered inner.to_come (of_candidate rule) q;
   listings_open = cond lacked 0 inner.listings_open;
   to_open = cond lacked 0 inner.to_open;
   may_fail_below = λ path depth. (lacked ≡ false) × inner.may_fail_below path depth;

@@ -4,7 +4,8 @@ use Rattle.wax_filter.specs.declared.filter.tree_residue.TreeResidue.TheVariants
 use Rattle.wax_query.specs.declared.diagnostics.NoMemory.{NoMemory}
 use Rattle.wax_walk.specs.declared.iterator.EntryResidue.{EntryResidue}
 use Rattle.wax_walk.specs.declared.iterator.EntryResidue.TheVariants.{File, Tree}
-use Rattle.wax_walk.specs.Given.{Facts, Mark, kept, alone, with_tree}
+use Rattle.wax_walk.specs.Candidates.{Candidate}
+use Rattle.wax_walk.specs.Given.{Mark, kept, alone, with_tree}
 
 abbrev pub mark_of : Option EntryResidue → Mark
 mark_of None = kept
@@ -16,9 +17,9 @@ abbrev pub tree_residue : EntryResidue → TreeResidue ⊤
 tree_residue File = residue.Node tt
 tree_residue Tree = residue.Tree tt
 
--- A rule was called for an entry with these facts: it returns what it decides about the entry, unless
--- allocation fails, and it decides the same about every entry as before.
-pub record RuleStep {A : Type 0} (rule : A → Facts → Mark) (old new : A) (facts : Facts)
+-- A rule was called for a candidate: it returns what it decides about the candidate, unless allocation
+-- fails, and it decides about every candidate as before.
+pub record RuleStep {A : Type 0} (rule : A → Candidate → Mark) (old new : A) (candidate : Candidate)
     (outcome : Result (Option EntryResidue) NoMemory) : Type 0 where
-  pub says : IfOk outcome (λ r. mark_of r ≡ rule old facts)
+  pub says : IfOk outcome (λ r. mark_of r ≡ rule old candidate)
   pub same : rule new ≡ rule old

@@ -5,6 +5,7 @@ ghost use Rattle.wax_directory.specs.Shown.{join};
 ghost use Rattle.wax_walk.specs.Given.{Facts};
 ghost use Rattle.wax_walk.specs.Entries.{facts_of};
 
+use crate::candidate::Candidate;
 use crate::walked_path::{ListedFolder, WalkedPath};
 use std::alloc::{AllocError, Global};
 use std::fmt;
@@ -127,6 +128,18 @@ pub trait Entry: Drop {
     /// Returns the number of names that lead here from the start; 0 for the start.
     fn depth(&self) -> usize
         ensures { result ≡ (facts self.now).depth };
+
+    /// Returns what rules see of the entry: its candidate and its depth.
+    final fn candidate(&self) -> Candidate<'_>
+        ensures path { result.path.now ≡ (facts self.now).candidate }
+        ensures depth { result.depth ≡ (facts self.now).depth }
+    {
+        let (_, path) = self.root_relative_paths();
+        Candidate {
+            path,
+            depth: self.depth(),
+        }
+    }
 }
 
 impl Entry for TreeEntry {

@@ -5,10 +5,12 @@ ghost use Rattle.std.specs.Iterator.{IsFinite};
 ghost use Rattle.wax_filter.specs.Feeding.{NextFiltrate};
 ghost use Rattle.wax_filter.specs.Separating.{AtFiltrate};
 ghost use Rattle.wax_walk.specs.Entries.{given_of, given_outcome};
-ghost use Rattle.wax_walk.specs.Given.{Facts, Mark, mark_by, is_cut, with_mark};
+ghost use Rattle.wax_walk.specs.Candidates.{Candidate, in_characters, of_candidate};
+ghost use Rattle.wax_walk.specs.Given.{Mark, mark_by, is_cut, with_mark};
 ghost use Rattle.wax_walk.specs.Known.{KeepsKnown, KeepsOnly};
 ghost use Rattle.wax_walk.specs.Said.{RuleStep, mark_of};
 
+use crate::candidate::Candidate;
 use crate::entry::Entry;
 use crate::error::WalkError;
 use crate::iterator::{EntryResidue, FileIterator};
@@ -18,23 +20,23 @@ use wax_filter::filter::{
 };
 use wax_query::diagnostics::NoMemory;
 
-/// A filter that decides each entry from the entry and nothing else.
+/// A filter that decides each entry from its candidate and its depth, and nothing else.
 pub trait Exclude: Drop {
-    /// The decision for an entry with these facts.
-    ghost rule: { Self → Facts → Mark };
+    /// The decision for an entry with this candidate.
+    ghost rule: { Self → Candidate → Mark };
 
-    /// Returns what to exclude of an entry; `None` keeps it. The decisions for all entries are the
-    /// same after a call, even after one that fails.
+    /// Returns what to exclude of the entry with this candidate; `None` keeps it. A call changes no
+    /// decision, even if it fails.
     ///
     /// # Errors
     ///
     /// Returns `NoMemory` if allocation fails.
-    fn residue<E: Entry>(
+    fn residue(
         &mut self,
         alloc: Global,
-        entry: &E,
+        candidate: Candidate<'_>,
     ) -> Result<Option<EntryResidue>, NoMemory>
-        ensures { RuleStep rule self.old self.new (E.facts entry.now) result };
+        ensures { RuleStep rule self.old self.new (in_characters candidate.entry) result };
 }
 
 // Calls the rule for the entry of an item, kept or excluded, and never for an error.
@@ -49,17 +51,17 @@ where
     P: Exclude,
     F: Feed<Filtrate = Result<T, WalkError>, Residue = TreeResidue<R>>,
     ensures says { IfOk result
-        (λ r. mark_of r ≡ mark_by (P.rule rule.old) (given_of T.facts R.facts separation.now)) }
+        (λ r. mark_of r ≡ mark_by (of_candidate (P.rule rule.old)) (given_of T.facts R.facts separation.now)) }
     ensures same { P.rule rule.new ≡ P.rule rule.old }
 {
     match separation {
         Separation::Filtrate(filtrate) => match filtrate.get() {
-            Ok(entry) => rule.residue(alloc, entry),
+            Ok(entry) => rule.residue(alloc, entry.candidate()),
             Err(_) => Ok(None),
         },
         Separation::Residue(residue) => match residue.get() {
-            TreeResidue::Node(entry) => rule.residue(alloc, entry),
-            TreeResidue::Tree(entry) => rule.residue(alloc, entry),
+            TreeResidue::Node(entry) => rule.residue(alloc, entry.candidate()),
+            TreeResidue::Tree(entry) => rule.residue(alloc, entry.candidate()),
         },
     }
 }

@@ -1,6 +1,7 @@
 //! Walks: the items that they will still yield, filters of them, and lists of what they yield.
 #![tactic(auto)]
 
+mod candidate;
 mod entry;
 mod error;
 mod excluding;
@@ -9,6 +10,7 @@ mod gather;
 mod iterator;
 mod walked_path;
 
+pub use candidate::Candidate;
 pub use entry::{Entry, TreeEntry};
 pub use error::{FaultKind, WalkError, WalkErrorKind};
 pub use excluding::{Exclude, Excluding};

@@ -8,7 +8,8 @@ use Rattle.wax_token.specs.Meaning.{MeansSome}
 use Rattle.wax_token.specs.Reads.{Span}
 use Rattle.wax_token.specs.Syntax.{Tree}
 use Rattle.wax_token.specs.Words.{trees}
-use Rattle.wax_walk.specs.Given.{Facts, Mark, kept, alone, with_tree}
+use Rattle.wax_walk.specs.Candidates.{Candidate}
+use Rattle.wax_walk.specs.Given.{Mark, kept, alone, with_tree}
 use Rattle.wax_walk.specs.Said.{mark_of}
 use Rattle.wax_exclude.specs.Compiled.{wild}
 use Rattle.wax_exclude.specs.Covers.{some_everything}
@@ -62,10 +63,10 @@ pub record IsBlockOf (lines : List IgnoreLine) (block : Block) : Type 0 where
 -- ---- how lines mark entries
 
 -- the mark after all of the lines, if the mark before them is `before`
-abbrev pub marks_after : Mark → List IgnoreLine → Facts → Mark
-marks_after before [] f = before
-marks_after before (line ∷ lines) f =
-    marks_after (mark_after line.ignores before (excluded_mark line.exclusion f)) lines f
+abbrev pub marks_after : Mark → List IgnoreLine → Candidate → Mark
+marks_after before [] c = before
+marks_after before (line ∷ lines) c =
+    marks_after (mark_after line.ignores before (excluded_mark line.exclusion c)) lines c
 
 -- the mark after lines none of which matches the entry: one that begins with `!` might match something below
 -- it, so the entry is then excluded by itself at most
@@ -76,5 +77,5 @@ mark_passed true with_tree = alone
 mark_passed false before = before
 
 -- the mark after the lines that are left
-abbrev pub left_to_say : List IgnoreLine → Said → Facts → Mark
-left_to_say lines said f = marks_after (mark_of said.residue) (drop said.at lines) f
+abbrev pub left_to_say : List IgnoreLine → Said → Candidate → Mark
+left_to_say lines said c = marks_after (mark_of said.residue) (drop said.at lines) c

@@ -1,10 +1,10 @@
 -- How lines mark entries, if they are stored by their alternatives.
 use Rattle.std.specs.Prelude.{ℕ, Bool, true, false, ◌&&◌, ◌||◌, if◌then◌else◌, List, [], ◌∷◌}
 use Rattle.wax_exclude.specs.Excluded.{some_test}
-use Rattle.wax_walk.specs.Given.{Facts, Mark, kept, alone, combined_mark}
-use Rattle.wax_exclude.specs.Candidates.{Candidate}
+use Rattle.wax_walk.specs.Candidates.{Candidate}
+use Rattle.wax_walk.specs.Given.{Mark, kept, alone, combined_mark}
 use Rattle.wax_exclude.specs.Covers.{covers_test}
-use Rattle.wax_exclude.specs.Marks.{covered_mark, of_candidate}
+use Rattle.wax_exclude.specs.Marks.{covered_mark}
 use Rattle.wax_exclude.specs.declared.rules.IgnoreLine.{IgnoreLine}
 
 -- the last line that matches the text decides; if there is none, the result is `was`
@@ -25,8 +25,8 @@ below_by (line ∷ lines) c =
     (line.ignores && (none_reincludes lines && covers_test line.exclusion c)) || below_by lines c
 
 -- the mark by the lines
-abbrev pub listed_mark : List IgnoreLine → Facts → Mark
-listed_mark lines = of_candidate (λ c. covered_mark (below_by lines c) (ignored_by false lines c.text))
+abbrev pub listed_mark : List IgnoreLine → Candidate → Mark
+listed_mark lines c = covered_mark (below_by lines c) (ignored_by false lines c.text)
 
 -- the mark after one more line, from whether it ignores, the mark before it, and the mark by its glob as an
 -- excluded pattern

@@ -7,7 +7,7 @@ use Rattle.wax_token.specs.Cost.{cost}
 use Rattle.wax_token.specs.Meaning.{MeansEach, MeansSome}
 use Rattle.wax_token.specs.Words.{members, trees}
 use Rattle.wax_exclude.specs.Covers.{some_everything}
-use Rattle.wax_exclude.specs.Marks.{not_mark, of_candidate}
+use Rattle.wax_exclude.specs.Marks.{not_mark}
 use Rattle.wax_exclude.specs.Compiled.{CoverAll}
 use Rattle.wax_exclude.specs.Excluded.{excluded_mark}
 use Rattle.wax_exclude.proofs.Costs.{alternatives_fit, pattern_fits}
@@ -41,4 +41,4 @@ pub returns-clause-says : goal.returns-clause-says
 returns-clause-says c =
     let t = c.args.pattern in
     let all = c.in_ok-alternatives.ensures.all in
-    subst (λ z. excluded_mark z ≡ of_candidate (not_mark t)) (sym all) (says_pattern t (subst (MeansOneOf t) all c.in_ok-alternatives.ensures.means))
+    subst (λ z. excluded_mark z ≡ not_mark t) (sym all) (says_pattern t (subst (MeansOneOf t) all c.in_ok-alternatives.ensures.means))
