@@ -6,5 +6,4 @@ pub mod IgnoreLines
 pub mod Kept
 pub mod Lemmas
 pub mod Parts
-pub mod Whole
 pub mod Excluding

@@ -1,16 +1,11 @@
 -- What contracts see of a glob.
-use Rattle.std.specs.Prelude.{◌≡◌, ◌⊎◌, ◌↔◌, ◌≤◌, ℕ, Bool, IsTrue, false, List, [], refl}
+use Rattle.std.specs.Prelude.{◌≡◌, ◌⊎◌, ℕ, false, List, [], refl}
 use Rattle.std.specs.Coded.{Coded, code_by, coded×, coded_list, coded_ℕ}
 use Rattle.wax_capture.specs.Captures.{Captured}
 use Rattle.wax_capture.specs.Pieces.{ArePieces}
 use Rattle.wax_capture.specs.declared.piece.Piece.{Piece}
+use Rattle.wax_compiled.specs.Compiled.{Instructions, IsCompiled}
 use Rattle.wax_facts.specs.Orderly.{Orderly}
-use Rattle.wax_prefilter.specs.Facts.{PrefilterView, PassesFacts}
-use Rattle.wax_program.specs.Last.{ReadsLast}
-use Rattle.wax_program.specs.Machine.{Accepts}
-use Rattle.wax_program.specs.declared.instruction.Instruction.{Instruction}
-use Rattle.wax_rule.specs.Keeping.{KeepsRules}
-use Rattle.wax_token.specs.Cost.{program_length}
 use Rattle.wax_token.specs.Meaning.{Means}
 use Rattle.wax_token.specs.Reads.{Span}
 use Rattle.wax_token.specs.Syntax.{Tree, leaf, literal}
@@ -35,20 +30,12 @@ empty_tree = leaf (0, 0) (literal false [])
 abbrev pub IsKept : Tree Span → Type 0
 IsKept t = Orderly t ⊎ (t ≡ empty_tree)
 
--- What is stored for a tree: a program that accepts exactly the texts that the tree matches, of the length
--- `program_length`, which is within the limit; if the flag is set, the program reads only the last component;
--- every text that matches passes the prefilter; the pieces are those of the tree's tokens; and the tree keeps
--- the rules.
-pub record IsCompiled (t : Tree Span) (program : List Instruction × ℕ) (reads_last : Bool)
-    (prefilter : PrefilterView) (pieces : List Piece) : Type 0 where
-  pub accepts : (text : List ℕ) → Accepts program.0 0 text ↔ Means t false false text
-  pub len : program.1 ≡ program_length t
-  pub fits : program_length t ≤ 1048576
-  pub last : IsTrue reads_last → ReadsLast program.0
-  pub passes : (text : List ℕ) → Means t false false text → PassesFacts prefilter text
+-- What a glob is compiled to: its tree, which is as the parser and the rules leave it, with its program and its
+-- pieces.
+pub record IsCompiledGlob (t : Tree Span) (program : Instructions) (pieces : List Piece) : Type 0 where
+  pub compiled : IsCompiled t program
   pub split : ArePieces (members t) false false pieces
   pub kept : IsKept t
-  pub rules : KeepsRules t
 
 -- the glob means the text, with nothing around it
 abbrev pub IsMeant : GlobView → List ℕ → Type 0

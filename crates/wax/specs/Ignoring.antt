@@ -8,7 +8,7 @@ use Rattle.wax_walk.specs.Ruled.{ruled_view}
 use Rattle.wax_walk.specs.View.{IsSeenAs, WalkView}
 use Rattle.wax_exclude.specs.Marks.{of_candidate}
 use Rattle.wax.specs.Exclusions.{FitsAlone, NoExclusion}
-use Rattle.wax_set.specs.Patterns.{Refuses, Spells}
+use Rattle.wax_error.specs.Expressions.{Refuses, Spells}
 use Rattle.wax_error.specs.declared.build_error.BuildError.{BuildError}
 use Rattle.wax_error.specs.declared.build_error.BuildError.TheVariants as build
 use Rattle.wax.specs.declared.ignoring.IgnoreError.{IgnoreError}

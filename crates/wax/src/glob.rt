@@ -1,4 +1,4 @@
-//! Globs: an expression with its tokens, its program and the pieces by which it captures.
+//! Globs: an expression with its tokens, what they are compiled to, and the pieces by which it captures.
 ghost use Rattle.std.specs.Prelude.{◌≡◌, ◌<◌, ◌≤◌, ◌↔◌, ◌+◌, ◌*◌, ◌++◌, ◌∷◌, [], ℕ, List, IsTrue, IfOk};
 ghost use Rattle.std.specs.Prelude.{IfSome, MatchOption, Some, chars, encode_utf8_all, length, false};
 ghost use Rattle.wax_candidate.specs.Parts.{NoLineEndsBefore};
@@ -18,7 +18,6 @@ ghost use Rattle.wax_partition.specs.Partition.{spelled_rest};
 ghost use Rattle.wax_query.specs.Outcome.{MatchBuild};
 ghost use Rattle.wax.specs.GlobView.{HasCaptures, IsKept, IsMeant};
 ghost use Rattle.wax.specs.Partition.{as_glob};
-ghost use Rattle.wax_rule.specs.Keeping.{KeepsRules};
 
 mod matcher;
 mod parts;
@@ -34,17 +33,15 @@ use std::marker::Model;
 pub use walking::GlobWalk;
 use wax_candidate::{CandidatePath, MatchedText, Program};
 use wax_capture::Pieces;
+use wax_compiled::CompiledTokens;
 use wax_components::{Warning, captures, depth, diagnose, has_semantic_literals};
-use wax_error::{BuildError, rule_refused};
+use wax_error::{BuildError, parse_and_check};
 use wax_facts::{has_root, is_exhaustive, text};
-use wax_match::encode;
-use wax_match::encode::{CompileError, Meter};
-use wax_parse::parse::parse;
-use wax_prefilter::Prefilter;
+use wax_match::encode::CompileError;
 use wax_query::diagnostics::{NoMemory, Refusal};
 use wax_query::query::{CapturingToken, DepthVariance, TextVariance, Variance, When};
-use wax_rule::rule::check;
-use wax_token::token::{ExpressionMetadata, LeafKind, Tokenized};
+use wax_rule::rule::Checked;
+use wax_token::token::{ExpressionMetadata, LeafKind, Token, Tokenized};
 
 /// A glob, built from an expression by `Glob::new`. It implements `Program`, which has the calls
 /// that match. Contracts see the characters of its expression and its tree.
@@ -58,10 +55,8 @@ use wax_token::token::{ExpressionMetadata, LeafKind, Tokenized};
 /// }
 /// ```
 pub struct Glob<'t> {
-    tokenized: Tokenized<'t, ExpressionMetadata>,
-    program: encode::CompiledProgram,
-    reads_last: bool,
-    prefilter: Prefilter,
+    checked: Checked<Tokenized<'t, ExpressionMetadata>>,
+    compiled: CompiledTokens,
     pieces: Pieces,
 }
 
@@ -69,10 +64,8 @@ pub struct Glob<'t> {
 impl Drop for Glob<'_> {
     fn drop(self) {
         let Glob {
-            tokenized: _,
-            program: _,
-            reads_last: _,
-            prefilter: _,
+            checked: _,
+            compiled: _,
             pieces: _,
         } = self;
     }
@@ -81,18 +74,18 @@ impl Drop for Glob<'_> {
 impl<'t> Model for Glob<'t> {
     ghost use Rattle.std.specs.Str.{chars};
     ghost use Rattle.std.specs.Cow.{cow_str_bytes};
-    ghost use Rattle.wax.specs.GlobView.{GlobView, glob_code, IsCompiled};
+    ghost use Rattle.wax.specs.GlobView.{GlobView, glob_code, IsCompiledGlob};
 
     ghost Value = { GlobView };
 
     ghost coded = { glob_code };
 
     ghost view = { λ g. record {
-      expression = chars (cow_str_bytes g.tokenized.expression);
-      tree = g.tokenized.token;
+      expression = chars (cow_str_bytes g.checked.expression);
+      tree = g.checked.token;
     } };
 
-    ghost invariant = { λ g. IsCompiled g.tokenized.token g.program g.reads_last g.prefilter g.pieces };
+    ghost invariant = { λ g. IsCompiledGlob g.checked.token g.compiled g.pieces };
 }
 
 impl<'t> Glob<'t> {
@@ -120,12 +113,11 @@ impl<'t> Glob<'t> {
         ensures build { MatchGlob (chars expression.now) result }
         ensures spans { IfOk result (λ glob. LiesBetween 0 (length expression.now) glob.tree) }
     {
-        let tokenized = parse(alloc, expression)?;
-        let tokenized = match check(alloc, tokenized) {
-            Ok(checked) => checked.release(),
-            Err(refusal) => return Err(rule_refused(alloc, refusal)),
+        let checked = match parse_and_check(alloc, expression) {
+            Ok(checked) => checked,
+            Err(error) => return Err(error),
         };
-        Ok(compiled(alloc, tokenized)?)
+        Ok(compiled(alloc, checked)?)
     }
 
     /// Builds a glob from an expression, and returns it with its warnings.
@@ -141,7 +133,7 @@ impl<'t> Glob<'t> {
         ensures warnings { IfOk result (λ r. r.1.items ≡ warnings (chars expression.now) r.0.tree) }
     {
         let glob = Glob::new(alloc, expression)?;
-        let warnings = diagnose(alloc, expression, &glob.tokenized.token)?;
+        let warnings = diagnose(alloc, expression, glob.token())?;
         Ok((glob, warnings))
     }
 
@@ -177,7 +169,7 @@ impl<'t> Glob<'t> {
     pub fn expression(&self) -> &str
         ensures { chars result.now ≡ self.now.expression }
     {
-        self.tokenized.expression.as_str()
+        self.checked.as_ref().expression.as_str()
     }
 
     /// Returns whether this is the glob of the empty expression, which matches only the empty text.
@@ -186,7 +178,7 @@ impl<'t> Glob<'t> {
         ensures tree { IsTrue result ↔ (self.now.tree ≡ empty_tree) }
         ensures means { IsTrue result → (s : List ℕ) → IsMeant self.now s ↔ (s ≡ []) }
     {
-        match self.tokenized.token.as_leaf() {
+        match self.token().as_leaf() {
             Some(LeafKind::Literal(literal)) => literal.text().is_empty(),
             _ => false,
         }
@@ -201,7 +193,7 @@ impl<'t> Glob<'t> {
     pub fn captures(&self, alloc: Global) -> Result<Vec<CapturingToken>, NoMemory>
         ensures { IfOk result (λ tokens. tokens.items ≡ captures self.now.tree) }
     {
-        captures(alloc, &self.tokenized.token)
+        captures(alloc, self.token())
     }
 
     /// Returns the warnings: one for each component whose text is `.` or `..`, of the glob and then
@@ -213,7 +205,7 @@ impl<'t> Glob<'t> {
     pub fn diagnose(&self, alloc: Global) -> Result<Vec<Warning<'_>>, NoMemory>
         ensures { IfOk result (λ ws. ws.items ≡ warnings self.now.expression self.now.tree) }
     {
-        diagnose(alloc, self.expression(), &self.tokenized.token)
+        diagnose(alloc, self.expression(), self.token())
     }
 
     /// Returns whether the text of a component is `.` or `..`.
@@ -224,29 +216,16 @@ impl<'t> Glob<'t> {
     pub fn has_semantic_literals(&self, alloc: Global) -> Result<bool, NoMemory>
         ensures { IfOk result (λ answer. answer ≡ has_semantic_literals self.now.tree) }
     {
-        has_semantic_literals(alloc, &self.tokenized.token)
+        has_semantic_literals(alloc, self.token())
     }
 }
 
-impl Glob<'_> {
-    /// Returns whether the glob may match the text, by a quick test. If it returns false, the glob
-    /// doesn't. If only the last name matters, texts that are sought in any case are sought in that
-    /// name only.
-    fn may_match(&self, text: &str) -> bool
-        ensures { IsMeant self.now (chars text.now) → IsTrue result }
+impl<'t> Glob<'t> {
+    /// Returns the token of the glob.
+    fn token(&self) -> &Token<'t, ExpressionMetadata>
+        ensures { result.now ≡ self.now.tree }
     {
-        if !self.reads_last {
-            return self.prefilter.may_match(text);
-        }
-        self.prefilter.may_match_at_once(text) && self.prefilter.may_match(encode::last_name(text))
-    }
-
-    /// Returns whether the glob may match the text, by tests that take less time than a matcher. If
-    /// it returns false, the glob doesn't.
-    fn may_match_at_once(&self, text: &str) -> bool
-        ensures { IsMeant self.now (chars text.now) → IsTrue result }
-    {
-        self.prefilter.may_match_at_once(text)
+        &self.checked.as_ref().token
     }
 
     /// Returns how many bytes at the beginning of a text can be passed over in a search for lines
@@ -254,31 +233,26 @@ impl Glob<'_> {
     fn earliest_end(&self, text: &str) -> usize
         ensures { NoLineEndsBefore (means_test self.now.tree false false) text.now result }
     {
-        self.prefilter.earliest_end(text)
+        self.compiled.earliest_end(text)
     }
 }
 
-// Compiles the tokens of an expression that keeps the rules, without reading or checking it again.
+// Compiles an expression that was read and checked.
 fn compiled<'t>(
     alloc: Global,
-    tokenized: Tokenized<'t, ExpressionMetadata>,
+    checked: Checked<Tokenized<'t, ExpressionMetadata>>,
 ) -> Result<Glob<'t>, Refusal<CompileError>>
-    requires kept { IsKept tokenized.token }
-    requires rules { KeepsRules tokenized.token }
-    ensures glob { IfOk result (λ g. Some g ≡ as_glob (spelled_rest (Some tokenized.entry))) }
+    requires { IsKept checked.token }
+    ensures glob { IfOk result (λ g. Some g ≡ as_glob (spelled_rest (Some checked.entry))) }
     ensures fits { MatchBuild result (λ g. program_length g.tree ≤ 1048576)
-        (λ _. 1048576 < program_length tokenized.entry.token) }
+        (λ _. 1048576 < program_length checked.entry.token) }
 {
-    let tokens = tokenized.token.concatenation();
-    let program = encode::compile(alloc, tokens, false, false)?;
-    let reads_last = encode::reads_last(&program);
-    let prefilter = Prefilter::new(alloc, tokens)?;
-    let pieces = Pieces::new(alloc, tokens)?;
+    let token = &checked.as_ref().token;
+    let compiled = CompiledTokens::of_token(alloc, token)?;
+    let pieces = Pieces::new(alloc, token.concatenation())?;
     Ok(Glob {
-        tokenized,
-        program,
-        reads_last,
-        prefilter,
+        checked,
+        compiled,
         pieces,
     })
 }
@@ -307,13 +281,7 @@ impl Program for Glob<'_> {
         alloc: Global,
         path: &CandidatePath<'_>,
     ) -> Result<(bool, u128), NoMemory> {
-        let text = path.as_str();
-        if !self.may_match(text) {
-            return Ok((false, 0));
-        }
-        let mut meter = Meter::new();
-        let answer = encode::run_known(alloc, &self.program, self.reads_last, text, &mut meter)?;
-        Ok((answer, meter.ticks()))
+        self.compiled.is_match_counted(alloc, path.as_str())
     }
 
     fn matched_counted<'p>(
@@ -322,7 +290,7 @@ impl Program for Glob<'_> {
         path: &'p CandidatePath<'_>,
     ) -> Result<(Option<MatchedText<'p>>, u128), NoMemory> {
         let text = path.as_str();
-        if !self.prefilter.may_match(text) {
+        if !self.compiled.may_match(text) {
             return Ok((None, 0));
         }
         self.pieces.matched_counted(alloc, text)
@@ -336,7 +304,7 @@ impl Program for Glob<'_> {
         ensures least { (s : List ℕ) → IsMeant self.now s → Bare s → (bounds result).0 ≤ component_total s }
         ensures greatest { (s : List ℕ) → IsMeant self.now s → AtMost (component_total s) (bounds result).1 }
     {
-        depth(&self.tokenized.token)
+        depth(self.token())
     }
 
     /// Returns the only text that can match, if the expression is written as one text.
@@ -350,7 +318,7 @@ impl Program for Glob<'_> {
         ensures only { IfOk result (λ text. IfSome (text_of text) (λ t. (s : List ℕ)
             → IsMeant self.now s → s ≡ chars t)) }
     {
-        Ok(match text(alloc, &self.tokenized.token)? {
+        Ok(match text(alloc, self.token())? {
             Some(text) => Variance::Invariant(CowStr::Owned(text)),
             None => Variance::Variant(()),
         })
@@ -361,7 +329,7 @@ impl Program for Glob<'_> {
         ensures root { result ≡ root self.now.tree }
         ensures always { result ≡ Always → (s : List ℕ) → IsMeant self.now s → BeginsWithSlash s }
     {
-        has_root(&self.tokenized.token)
+        has_root(self.token())
     }
 
     /// Returns whether everything below a match matches too, from the last token.
@@ -370,6 +338,6 @@ impl Program for Glob<'_> {
         ensures always { result ≡ Always → (s r : List ℕ)
             → IsMeant self.now s → IsMeant self.now (s ++ 47 ∷ r) }
     {
-        is_exhaustive(&self.tokenized.token)
+        is_exhaustive(self.token())
     }
 }

@@ -5,7 +5,6 @@ use Rattle.std.specs.List.{AllZip}
 use Rattle.std.proofs.lemmas.Bool.{and_from, and_parts, and_right, false≢true, or_cases, or_left, or_right}
 use Rattle.std.proofs.lemmas.List.Elements.{filter-append}
 use Rattle.wax_alternatives.specs.Alternatives.{alternatives, MeansOneOf}
-use Rattle.wax_prefilter.specs.Facts.{PassesFacts, PrefilterView}
 use Rattle.wax_program.specs.Machine.{Accepts}
 use Rattle.wax_program.specs.declared.instruction.Instruction.{Instruction}
 use Rattle.wax_token.specs.Decided.{holds_truly, means_test, means_tested, some_decided}
@@ -17,7 +16,8 @@ use Rattle.wax_walk.specs.Candidates.{Candidate}
 use Rattle.wax_walk.specs.Given.{kept, alone, with_tree}
 use Rattle.wax_exclude.specs.Covers.{covers_test, ends_wild, some_everything, wild_test}
 use Rattle.wax_exclude.specs.Marks.{covered_mark, not_mark}
-use Rattle.wax_exclude.specs.Compiled.{AcceptsTree, CoverAll, Instructions, IsExclusion, SomeAccepts, wild}
+use Rattle.wax_compiled.specs.Compiled.{Instructions}
+use Rattle.wax_exclude.specs.Compiled.{AcceptsTree, CoverAll, IsExclusion, SomeAccepts, wild}
 use Rattle.wax_exclude.specs.Excluded.{excluded_mark, some_test}
 
 -- ---- truth values
@@ -106,18 +106,14 @@ pub not_truly : (b : Bool) → (b ≡ true → ⊥) → b ≡ false
 not_truly true n = absurd (n refl)
 not_truly false n = refl
 
-pub whole_of : (t : Tree Span) (ts : List (Tree Span)) (program : Instructions) → MeansOneOf t ts → ((s : List ℕ) → Accepts program.0 0 s ↔ MeansEach (members t) false false s) → (s : List ℕ) → Accepts program.0 0 s ↔ MeansSome (trees ts) false false s
+pub whole_of : (t : Tree Span) (ts : List (Tree Span)) (program : Instructions) → MeansOneOf t ts → ((s : List ℕ) → Accepts program.0 0 s ↔ Means t false false s) → (s : List ℕ) → Accepts program.0 0 s ↔ MeansSome (trees ts) false false s
 whole_of t ts program one means s = (
-  (λ a. (one false false s).0 ((members_mean t s).0 ((means s).0 a))),
-  (λ m. (means s).1 ((members_mean t s).1 ((one false false s).1 m))),
+  (λ a. (one false false s).0 ((means s).0 a)),
+  (λ m. (means s).1 ((one false false s).1 m)),
 )
 
-module _ (ts : List (Tree Span)) (code : List Instruction) (prefilter : PrefilterView) (covering : List Instructions)
-    (covers_all : Bool) (x : IsExclusion ts code prefilter covering covers_all) where
-  -- what is matched passes the prefilter
-  pub some_passes : (s : List ℕ) → IsTrue (some_test ts s) → PassesFacts prefilter s
-  some_passes s e = x.passes s ((x.whole s).1 ((holds_truly (some_decided (trees ts) false false s)).0 e))
-
+module _ (ts : List (Tree Span)) (code : List Instruction) (covering : List Instructions) (covers_all : Bool)
+    (x : IsExclusion ts code covering covers_all) where
   -- what the program decides
   pub decides_some : (b : Bool) (s : List ℕ) → (IsTrue b ↔ Accepts code 0 s) → b ≡ some_test ts s
   decides_some b s h =

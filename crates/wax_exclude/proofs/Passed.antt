@@ -17,7 +17,8 @@ use Rattle.wax_exclude.proofs.Excluding.{not_truly, same_truth}
 use Rattle.wax_alternatives.proofs.Joining.{as_members, of_members, some_append}
 use Rattle.wax_exclude.proofs.ListingLines.{after_line, at_end, mark_from}
 use Rattle.wax_exclude.proofs.Tests.{covers_tested, wild_tested}
-use Rattle.wax_exclude.specs.Compiled.{Instructions, wild}
+use Rattle.wax_compiled.specs.Compiled.{Instructions}
+use Rattle.wax_exclude.specs.Compiled.{wild}
 use Rattle.wax_exclude.specs.Covers.{WildMeans, covers_test, ends_wild, is_everything, some_everything, wild_test}
 use Rattle.wax_exclude.specs.Excluded.{excluded_mark, some_test}
 use Rattle.wax_exclude.specs.Marks.{covered_mark}

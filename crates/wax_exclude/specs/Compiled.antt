@@ -2,7 +2,7 @@
 use Rattle.std.specs.Prelude.{◌≡◌, ◌↔◌, ◌⊎◌, ℕ, Bool, false, List, [], ◌∷◌, filter}
 use Rattle.std.specs.Coded.{Coded, coded×, coded_list, coded_ℕ}
 use Rattle.std.specs.List.{AllZip}
-use Rattle.wax_prefilter.specs.Facts.{PassesFacts, PrefilterView}
+use Rattle.wax_compiled.specs.Compiled.{Instructions}
 use Rattle.wax_program.specs.Machine.{Accepts}
 use Rattle.wax_program.specs.declared.instruction.Instruction.{Instruction}
 use Rattle.wax_token.specs.Meaning.{Means, MeansEach, MeansSome}
@@ -15,10 +15,6 @@ use Rattle.wax_exclude.specs.Covers.{ends_wild, some_everything}
 -- how a row of tokens is stored
 abbrev pub row_code : Coded (List (Tree Span))
 row_code = coded_list (tree_code (coded× coded_ℕ coded_ℕ))
-
--- instructions, and how many
-abbrev pub Instructions : Type 0
-Instructions = List Instruction × ℕ
 
 -- the program accepts exactly what the tokens match one after another, with nothing around them
 abbrev pub AcceptsEach : Instructions → List (Tree Span) → Type 0
@@ -41,11 +37,10 @@ wild ts = filter (λ t. ends_wild (members t)) ts
 abbrev pub CoverAll : List Instructions → List (Tree Span) → Type 0
 CoverAll programs ts = AllZip AcceptsTree programs (wild ts)
 
--- `code` accepts exactly what the alternatives match, which passes the prefilter. `covering` has a program
--- for each alternative that ends with a tree wildcard, and the flag says whether one covers everything.
-pub record IsExclusion (ts : List (Tree Span)) (code : List Instruction) (prefilter : PrefilterView)
-    (covering : List Instructions) (covers_all : Bool) : Type 0 where
+-- `code` accepts exactly what the alternatives match. `covering` has a program for each alternative that ends
+-- with a tree wildcard, and the flag says whether one covers everything.
+pub record IsExclusion (ts : List (Tree Span)) (code : List Instruction) (covering : List Instructions)
+    (covers_all : Bool) : Type 0 where
   pub whole : (s : List ℕ) → Accepts code 0 s ↔ MeansSome (trees ts) false false s
-  pub passes : (s : List ℕ) → Accepts code 0 s → PassesFacts prefilter s
   pub covers : CoverAll covering ts
   pub all : covers_all ≡ some_everything ts

@@ -15,7 +15,7 @@ use crate::exclusions::{ends_wild, some_everything};
 use crate::rules::{IgnoreLine, Said, passed, residue_after};
 use std::alloc::Global;
 use wax_alternatives::{join_alternatives, one_of};
-use wax_lazy::OwnedMatcher;
+use wax_lazy::Matcher;
 use wax_match::encode;
 use wax_match::encode::CompiledProgram;
 use wax_query::diagnostics::{NoMemory, Refusal};
@@ -49,9 +49,9 @@ pub struct Block {
     /// True if one of the lines begins with `!`.
     reincludes: bool,
     /// Accepts what at least one alternative matches.
-    whole: OwnedMatcher,
+    whole: Matcher<CompiledProgram>,
     /// Accepts what at least one alternative that ends with `**` matches.
-    covering: OwnedMatcher,
+    covering: Matcher<CompiledProgram>,
     /// True if an alternative is only an unrooted `**`.
     covers_all: bool,
 }
@@ -222,8 +222,8 @@ fn add_block(
         end,
         ignores: some_ignores(held),
         reincludes: some_reincludes(held),
-        whole: OwnedMatcher::new(alloc, whole, most_bytes),
-        covering: OwnedMatcher::new(alloc, covering, most_bytes),
+        whole: Matcher::with_most(alloc, whole, most_bytes),
+        covering: Matcher::with_most(alloc, covering, most_bytes),
         covers_all: some_everything(&alternatives),
     };
     let is_mixed = block.is_mixed();

@@ -11,14 +11,13 @@ ghost use Rattle.wax_exclude.specs.Compiled.{CoverAll, SomeAccepts};
 ghost use Rattle.wax_walk.specs.Candidates.{in_characters};
 ghost use Rattle.wax_walk.specs.Said.{mark_of};
 
-use crate::programs::{accepts, program_of};
+use crate::fitting::compile_fitting;
 use std::alloc::Global;
 use std::marker::Model;
 use wax_alternatives::into_alternatives;
-use wax_lazy::OwnedMatcher;
-use wax_match::encode;
-use wax_match::encode::{CompileError, CompiledProgram};
-use wax_prefilter::Prefilter;
+use wax_compiled::CompiledTokens;
+use wax_lazy::Matcher;
+use wax_match::encode::CompileError;
 use wax_query::diagnostics::{NoMemory, Refusal};
 use wax_token::token::{ExpressionMetadata, LeafKind, Token, Wildcard};
 use wax_walk::{Candidate, EntryResidue, Exclude};
@@ -33,11 +32,9 @@ const MOST_BYTES: usize = 2_097_152;
 pub struct Exclusion {
     alternatives: Vec<Token<'static, ExpressionMetadata>>,
     /// Accepts what at least one alternative matches.
-    whole: OwnedMatcher,
-    /// Rejects most texts that no alternative matches.
-    prefilter: Prefilter,
-    /// One program for each alternative that ends with `**`.
-    covering: Vec<CompiledProgram>,
+    whole: Matcher<CompiledTokens>,
+    /// What each alternative that ends with `**` is compiled to.
+    covering: Vec<CompiledTokens>,
     /// True if an alternative is only an unrooted `**`.
     covers_all: bool,
 }
@@ -48,7 +45,6 @@ impl Drop for Exclusion {
         let Exclusion {
             alternatives: _,
             whole: _,
-            prefilter: _,
             covering: _,
             covers_all: _,
         } = self;
@@ -67,8 +63,7 @@ impl Model for Exclusion {
 
     ghost view = { λ e. e.alternatives.items };
 
-    ghost invariant = { λ e. IsExclusion e.alternatives.items e.whole e.prefilter e.covering.items
-        e.covers_all };
+    ghost invariant = { λ e. IsExclusion e.alternatives.items e.whole e.covering.items e.covers_all };
 }
 
 impl Exclusion {
@@ -90,16 +85,13 @@ impl Exclusion {
         ensures fits { MatchBuild result (λ _. program_length pattern.entry ≤ 1048576)
             (λ _. 1048576 < program_length pattern.entry) }
     {
-        let tokens = pattern.concatenation();
-        let program = encode::compile(alloc, tokens, false, false)?;
-        let prefilter = Prefilter::new(alloc, tokens)?;
+        let compiled = CompiledTokens::of_token(alloc, &pattern)?;
         let alternatives = into_alternatives(alloc, pattern)?;
-        let covering = covering_programs(alloc, alternatives.as_slice())?;
+        let covering = covering_of(alloc, alternatives.as_slice())?;
         let covers_all = some_everything(alternatives.as_slice());
         Ok(Exclusion {
             alternatives,
-            whole: OwnedMatcher::new(alloc, program, MOST_BYTES),
-            prefilter,
+            whole: Matcher::with_most(alloc, compiled, MOST_BYTES),
             covering,
             covers_all,
         })
@@ -116,13 +108,6 @@ impl Exclusion {
         self.alternatives.as_slice()
     }
 
-    /// Returns `false` only if no alternative matches the text. Doesn't allocate.
-    fn may_match(&self, text: &str) -> bool
-        ensures { IsTrue (some_test self.now (chars text.now)) → IsTrue result }
-    {
-        self.prefilter.may_match(text)
-    }
-
     /// Returns whether an alternative matches the text.
     ///
     /// # Errors
@@ -131,10 +116,7 @@ impl Exclusion {
     pub(crate) fn is_match(&self, alloc: Global, text: &str) -> Result<bool, NoMemory>
         ensures { IfOk result (λ answer. answer ≡ some_test self.now (chars text.now)) }
     {
-        if !self.may_match(text) {
-            return Ok(false);
-        }
-        accepts(alloc, self.whole.program(), text)
+        self.whole.holder().is_match(alloc, text)
     }
 
     /// Returns what `is_match` does, with the help of what is kept of earlier texts.
@@ -142,9 +124,6 @@ impl Exclusion {
         ensures decides { IfOk result (λ answer. answer ≡ some_test self.old (chars text.now)) }
         ensures same { self.new ≡ self.old }
     {
-        if !self.may_match(text) {
-            return Ok(false);
-        }
         self.whole.is_match(text)
     }
 
@@ -207,17 +186,17 @@ impl Exclude for Exclusion {
 }
 
 // Compiles the alternatives that end with `**`, each by itself.
-fn covering_programs<'t>(
+fn covering_of<'t>(
     alloc: Global,
     alternatives: &[Token<'t, ExpressionMetadata>],
-) -> Result<Vec<CompiledProgram>, NoMemory>
+) -> Result<Vec<CompiledTokens>, NoMemory>
     requires { All (λ t. cost t < 1048576) alternatives.now }
     ensures { IfOk result (λ programs. CoverAll programs.items alternatives.now) }
 {
     let mut programs = Vec::new(alloc);
     for token in alternatives {
         if ends_wild(token) {
-            let program = program_of(alloc, token.concatenation())?;
+            let program = compile_fitting(alloc, token.concatenation())?;
             if programs.push(program).is_err() {
                 return Err(NoMemory);
             }
@@ -226,11 +205,11 @@ fn covering_programs<'t>(
     Ok(programs)
 }
 
-fn some_accepts(alloc: Global, programs: &[CompiledProgram], text: &str) -> Result<bool, NoMemory>
+fn some_accepts(alloc: Global, programs: &[CompiledTokens], text: &str) -> Result<bool, NoMemory>
     ensures { IfOk result (λ answer. IsTrue answer ↔ SomeAccepts programs.now (chars text.now)) }
 {
     for program in programs {
-        if accepts(alloc, program, text)? {
+        if program.is_match(alloc, text)? {
             return Ok(true);
         }
     }

@@ -2,21 +2,21 @@
 #![tactic(auto)]
 
 mod blocks;
+mod component;
 mod exclusions;
+mod fitting;
 mod kept;
 mod law;
 mod lines;
-mod parts;
 mod prefixes;
-mod programs;
 mod rules;
 mod wanted;
 
+pub use component::{LeadingComponent, leading};
 pub use exclusions::{Exclusion, is_everything};
 pub use kept::collect_unignored;
 pub use law::{law_of_feeds, law_of_ignoring, law_of_plain_walks, law_of_walks};
 pub use lines::{WrittenLine, written_lines};
-pub use parts::{LeadingComponent, leading};
 pub use prefixes::{PrefixNames, prefix_names_of};
 pub use rules::{IgnoreLine, IgnoreRule};
 pub use wanted::{collect, collect_excluding, collect_feed};

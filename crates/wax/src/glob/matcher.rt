@@ -8,6 +8,7 @@ use crate::glob::Glob;
 use std::alloc::Global;
 use std::marker::Model;
 use wax_candidate::{BuildMatcher, CandidatePath, PathMatcher};
+use wax_compiled::CompiledTokens;
 use wax_exclude::is_everything;
 use wax_lazy::Matcher;
 use wax_prefilter::{folder_of, is_within};
@@ -17,7 +18,7 @@ use wax_query::diagnostics::NoMemory;
 /// Contracts see the view of its glob.
 pub struct GlobMatcher<'g, 't> {
     glob: &'g Glob<'t>,
-    matcher: Matcher<'g>,
+    matcher: Matcher<&'g CompiledTokens>,
     /// True if the glob is `**`, which matches a text without a look at it.
     matches_all: bool,
     /// The folder, if the glob matches exactly a folder and everything below it, as `usr/**` does.
@@ -71,12 +72,12 @@ impl<'t> Glob<'t> {
     pub fn matcher<'g>(&'g self, alloc: Global) -> Result<GlobMatcher<'g, 't>, NoMemory>
         ensures { IfOk result (λ m. m ≡ self.now) }
     {
-        let matcher = Matcher::new(alloc, &self.program)?;
+        let matcher = Matcher::new(alloc, &self.compiled)?;
         Ok(GlobMatcher {
             glob: self,
             matcher,
-            matches_all: is_everything(&self.tokenized.token),
-            folder: folder_of(self.tokenized.token.concatenation()),
+            matches_all: is_everything(self.token()),
+            folder: folder_of(self.token().concatenation()),
         })
     }
 }
@@ -102,20 +103,6 @@ impl GlobMatcher<'_, '_> {
         if let Some(folder) = self.folder {
             return Ok(is_within(text, folder));
         }
-        let glob = self.glob;
-        if !glob.may_match_at_once(text) {
-            return Ok(false);
-        }
-        self.follow(text)
-    }
-
-    /// Matches the text without the quick test. It is a function of its own, never inlined, so that
-    /// a text that the test rejects costs little more than the test.
-    #[inline(never)]
-    fn follow(&mut self, text: &str) -> Result<bool, NoMemory>
-        ensures means { IfOk result (λ answer. IsTrue answer ↔ IsMeant self.old (chars text.now)) }
-        ensures same { self.new ≡ self.old }
-    {
         self.matcher.is_match(text)
     }
 

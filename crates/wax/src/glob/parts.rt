@@ -5,7 +5,7 @@ ghost use Rattle.wax.specs.Partition.{HasParts, HasPartsOr};
 
 use crate::glob::{Glob, compiled};
 use std::alloc::Global;
-use wax_partition::partition;
+use wax_partition::Partitioned;
 use wax_query::diagnostics::{NoMemory, Refusal};
 
 impl<'t> Glob<'t> {
@@ -28,17 +28,15 @@ impl<'t> Glob<'t> {
         ensures { IfOk result (λ r. HasParts self.entry (chars (string_bytes r.0)) r.1) }
     {
         let Glob {
-            tokenized,
-            program: _,
-            reads_last: _,
-            prefilter: _,
+            checked,
+            compiled: _,
             pieces: _,
         } = self;
-        let (prefix, rest) = partition(alloc, tokenized)?;
-        let Some(tokenized) = rest else {
+        let (prefix, rest) = checked.partition(alloc)?;
+        let Some(checked) = rest else {
             return Ok((prefix, None));
         };
-        match compiled(alloc, tokenized) {
+        match compiled(alloc, checked) {
             Ok(glob) => Ok((prefix, Some(glob))),
             Err(Refusal::Memory) => Err(NoMemory),
             // The rest costs no more than the whole glob, which is within the bound.

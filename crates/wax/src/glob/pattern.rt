@@ -5,7 +5,7 @@ ghost use Rattle.wax_set.specs.Patterns.{LacksMemory};
 use crate::glob::Glob;
 use std::alloc::Global;
 use wax_error::BuildError;
-use wax_rule::rule::{Checked, already_checked};
+use wax_rule::rule::Checked;
 use wax_set::Pattern;
 use wax_token::token::{ExpressionMetadata, Token};
 
@@ -19,13 +19,11 @@ impl<'t> Pattern for Glob<'t> {
         alloc: Global,
     ) -> Result<Checked<Token<'static, ExpressionMetadata>>, BuildError> {
         let Glob {
-            tokenized,
-            program: _,
-            reads_last: _,
-            prefilter: _,
+            checked,
+            compiled: _,
             pieces: _,
         } = self;
-        let checked = already_checked(tokenized.into_token());
+        let checked = checked.into_token();
         Ok(checked.into_owned(alloc)?)
     }
 }

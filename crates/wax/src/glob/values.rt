@@ -18,17 +18,13 @@ impl<'t> Glob<'t> {
         ensures { IfOk result (λ glob. glob ≡ self.entry) }
     {
         let Glob {
-            tokenized,
-            program,
-            reads_last,
-            prefilter,
+            checked,
+            compiled,
             pieces,
         } = self;
         Ok(Glob {
-            tokenized: tokenized.into_owned(alloc)?,
-            program,
-            reads_last,
-            prefilter,
+            checked: checked.into_owned(alloc)?,
+            compiled,
             pieces,
         })
     }
@@ -42,8 +38,8 @@ impl<'t> Glob<'t> {
     pub fn to_owned(&self, alloc: Global) -> Result<Glob<'static>, NoMemory>
         ensures { IfOk result (λ copy. copy ≡ self.now) }
     {
-        let tokenized = self.tokenized.to_owned(alloc)?;
-        match compiled(alloc, tokenized) {
+        let checked = self.checked.to_owned(alloc)?;
+        match compiled(alloc, checked) {
             Ok(glob) => Ok(glob),
             Err(Refusal::Memory) => Err(NoMemory),
             // The copy costs as much as this glob, which is within the bound.

@@ -86,6 +86,25 @@ impl<'t> Checked<Tokenized<'t, ExpressionMetadata>> {
             inner: self.inner.into_owned(alloc)?,
         })
     }
+
+    /// Copies the value to one that owns the expression and all texts of the token. Takes time and
+    /// memory linear in the expression, the tokens and their texts.
+    ///
+    /// # Errors
+    ///
+    /// Returns `NoMemory` if allocation fails.
+    pub fn to_owned(
+        &self,
+        alloc: Global,
+    ) -> Result<Checked<Tokenized<'static, ExpressionMetadata>>, NoMemory>
+        ensures expression { IfOk result (λ u.
+            cow_str_bytes u.expression ≡ cow_str_bytes self.now.expression) }
+        ensures token { IfOk result (λ u. u.token ≡ self.now.token) }
+    {
+        Ok(Checked {
+            inner: self.inner.to_owned(alloc)?,
+        })
+    }
 }
 
 impl<'t> Checked<Token<'t, ExpressionMetadata>> {

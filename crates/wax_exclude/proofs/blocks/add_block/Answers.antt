@@ -19,17 +19,17 @@ returns c =
       end = end;
       ignores = c.some_ignores.result;
       reincludes = c.some_reincludes.result;
-      whole = c.new.result;
-      covering = c.new-2.result;
+      whole = c.with_most.result;
+      covering = c.with_most-2.result;
       covers_all = c.some_everything.result;
     } in
     let knows : KnowsLines block held = record {
       ignores = c.some_ignores.ensures;
       reincludes = c.some_reincludes.ensures;
-      whole = subst (λ us. AcceptsSome c.new.result us) (c.deref.ensures.value ∙ are)
-          (subst (λ code. AcceptsSome code c.deref.result.now) (sym c.new.ensures) (rw c.in-Some.is at c.in_ok-whole.ensures));
-      covering = subst (λ us. AcceptsSome c.new-2.result us) (c.deref-3.ensures.value ∙ c.in_ok-wild.ensures ∙ ap wild (c.deref-2.ensures.value ∙ are))
-          (subst (λ code. AcceptsSome code c.deref-3.result.now) (sym c.new-2.ensures) (rw c.in-Some-2.is at c.in_ok-covering.ensures));
+      whole = subst (λ us. AcceptsSome c.with_most.result us) (c.deref.ensures.value ∙ are)
+          (subst (λ code. AcceptsSome code c.deref.result.now) (sym c.with_most.ensures) (rw c.in-Some.is at c.in_ok-whole.ensures));
+      covering = subst (λ us. AcceptsSome c.with_most-2.result us) (c.deref-3.ensures.value ∙ c.in_ok-wild.ensures ∙ ap wild (c.deref-2.ensures.value ∙ are))
+          (subst (λ code. AcceptsSome code c.deref-3.result.now) (sym c.with_most-2.ensures) (rw c.in-Some-2.is at c.in_ok-covering.ensures));
       covers_all = c.some_everything.ensures ∙ ap some_everything (c.deref-4.ensures.value ∙ are);
     } in
     let is : IsBlockOf lines block = record {

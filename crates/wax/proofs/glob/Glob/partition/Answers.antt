@@ -3,12 +3,12 @@ use Rattle.std.specs.Cow.{cow_str_bytes}
 use Rattle.wax_token.specs.Cost.{program_length}
 use Rattle.wax_partition.specs.Partition.{IsPartition, spelled_rest}
 use Rattle.wax.specs.Partition.{HasParts}
-use Rattle.wax.proofs.Parts.{has_parts, rest_fits, rest_kept, rest_rules}
+use Rattle.wax.proofs.Parts.{has_parts, rest_fits, rest_kept}
 use Rattle.wax.proofs.glob.Glob.partition.Goals as goal
 
 pub returns-in_default : goal.returns-in_default
 returns-in_default c =
-    let whole = c.self.inside.tokenized in
+    let whole = c.self.inside.checked in
     let e = chars (cow_str_bytes whole.expression) in
     let p = chars (string_bytes c.in_ok-prefix.prefix) in
     let k : IsPartition e whole.token p (spelled_rest None) = search rules in
@@ -16,37 +16,29 @@ returns-in_default c =
 
 pub returns-in-Ok : goal.returns-in-Ok
 returns-in-Ok c =
-    let whole = c.self.inside.tokenized in
+    let whole = c.self.inside.checked in
     let e = chars (cow_str_bytes whole.expression) in
     let p = chars (string_bytes c.in_ok-prefix.prefix) in
-    let o = Some c.in-Some.tokenized in
+    let o = Some c.in-Some.checked in
     let k : IsPartition e whole.token p (spelled_rest o) = search rules in
     subst (λ g. HasParts g p (Some c.in-Ok.glob)) c.self.view_is
     (subst (HasParts _ p) (sym c.in-Ok.ensures.glob) (has_parts e whole.token p c.self.invariant.kept o k))
 
 -- the rest is kept, and costs no more than the whole
-pub compiled-requires-clause-kept : goal.compiled-requires-clause-kept
-compiled-requires-clause-kept c =
-    let whole = c.self.inside.tokenized in
+pub compiled-requires : goal.compiled-requires
+compiled-requires c =
+    let whole = c.self.inside.checked in
     let e = chars (cow_str_bytes whole.expression) in
     let p = chars (string_bytes c.in_ok-prefix.prefix) in
-    let k : IsPartition e whole.token p (spelled_rest (Some c.in-Some.tokenized)) = search rules in
-    rest_kept e whole.token p c.self.invariant.kept c.in-Some.tokenized k
-
-pub compiled-requires-clause-rules : goal.compiled-requires-clause-rules
-compiled-requires-clause-rules c =
-    let whole = c.self.inside.tokenized in
-    let e = chars (cow_str_bytes whole.expression) in
-    let p = chars (string_bytes c.in_ok-prefix.prefix) in
-    let k : IsPartition e whole.token p (spelled_rest (Some c.in-Some.tokenized)) = search rules in
-    rest_rules e whole.token p c.self.invariant.kept c.in-Some.tokenized k c.self.invariant.rules
+    let k : IsPartition e whole.token p (spelled_rest (Some c.in-Some.checked)) = search rules in
+    rest_kept e whole.token p c.self.invariant.kept c.in-Some.checked k
 
 pub unreachable-requires : goal.unreachable-requires
 unreachable-requires c =
-    let whole = c.self.inside.tokenized in
+    let whole = c.self.inside.checked in
     let e = chars (cow_str_bytes whole.expression) in
     let p = chars (string_bytes c.in_ok-prefix.prefix) in
-    let u = c.in-Some.tokenized in
+    let u = c.in-Some.checked in
     let k : IsPartition e whole.token p (spelled_rest (Some u)) = search rules in
     let larger : 1048576 < program_length u.token = search rules in
-    omega (arith, larger, rest_fits e whole.token p c.self.invariant.kept u k, c.self.invariant.fits)
+    omega (arith, larger, rest_fits e whole.token p c.self.invariant.kept u k, c.self.invariant.compiled.fits)

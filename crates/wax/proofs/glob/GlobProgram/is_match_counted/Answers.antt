@@ -1,19 +1,21 @@
-use Rattle.std.proofs.Common.{chars, IsTrue, length, sym, ap, subst, arith, rules}
+use Rattle.std.proofs.Common.{◌↔◌, ◌≤◌, ◌*◌, ◌+◌, IfOk, IsTrue, ap, chars, length, subst}
+use Rattle.wax_compiled.specs.Compiled.{IsCompiled}
+use Rattle.wax_compiled.proofs.Deciding.{decides_tree, visits_tree}
+use Rattle.wax_token.specs.Cost.{program_length}
 use Rattle.wax.specs.GlobView.{IsMeant}
-use Rattle.wax_prefilter.proofs.Lengths.{chars_short}
 use Rattle.wax.proofs.glob.GlobProgram.is_match_counted.Goals as goal
 
-pub returns-clause-below : goal.returns-clause-below
-returns-clause-below c is_matched =
-    let text = c.as_str-text.result.now in
-    omega (arith, c.in_ok-answer.ensures.below is_matched, chars_short text c.as_str-text.utf8, c.as_str-text.type_inv.0, ap length c.as_str-text.ensures, c.ticks.ensures, c.new-meter.ensures)
+abbrev compiled_of : (c : goal.After-is_match_counted) → IsCompiled c.args.self.now.tree c.self.inside.compiled
+compiled_of c = subst (λ t. IsCompiled t c.self.inside.compiled) (ap (λ g. g.tree) c.self.view_is) c.self.invariant.compiled
 
-pub returns-then-not-may_match-clause-decides : goal.returns-then-not-may_match-clause-decides
-returns-then-not-may_match-clause-decides c = (
-  λ no. absurd (search rules),
-  λ meant.
-      let same : IsMeant c.args.self.now (chars c.as_str-text.result.now) =
-      subst (IsMeant c.args.self.now) (sym c.as_str-text.ensures) meant in
-      let passes : IsTrue c.may_match.result = c.may_match.ensures same in
-      absurd (search (rules, passes)),
-)
+pub returns-clause-decides : goal.returns-clause-decides
+returns-clause-decides c =
+    let r = c.is_match_counted.result in
+    let here = decides_tree c.args.self.now.tree _ (compiled_of c) r (chars c.as_str.result.now) c.is_match_counted.ensures.decides in
+    subst (λ s. IfOk r (λ answer. IsTrue answer.0 ↔ IsMeant c.args.self.now s)) c.as_str.ensures here
+
+pub returns-clause-above : goal.returns-clause-above
+returns-clause-above c =
+    let r = c.is_match_counted.result in
+    let here = visits_tree c.args.self.now.tree _ (compiled_of c) r (chars c.as_str.result.now) c.is_match_counted.ensures.above in
+    subst (λ s. IfOk r (λ answer. answer.1 ≤ program_length c.args.self.now.tree * (length s + 1))) c.as_str.ensures here

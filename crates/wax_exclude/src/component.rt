@@ -8,20 +8,20 @@ ghost use Rattle.wax_token.specs.Words.{trees};
 ghost use Rattle.wax_components.specs.TopLevel.{tokens_of};
 ghost use Rattle.wax_exclude.specs.Leading.{begins_with_separator, component_test, leading_of};
 
-use crate::programs::{accepts, program_of};
+use crate::fitting::compile_fitting;
 use std::alloc::Global;
 use std::marker::Model;
+use wax_compiled::CompiledTokens;
 use wax_components::components;
 use wax_glob_walk::NameTest;
-use wax_match::encode::CompiledProgram;
 use wax_query::diagnostics::NoMemory;
 use wax_token::token::{ExpressionMetadata, Token};
 
-/// A component of a glob with a program of its own. Contracts see its tokens.
+/// A component of a glob, compiled by itself. Contracts see its tokens.
 #[derive(Drop)]
 pub struct LeadingComponent<'g, 't> {
     tokens: &'g [Token<'t, ExpressionMetadata>],
-    program: CompiledProgram,
+    compiled: CompiledTokens,
 }
 
 impl<'g, 't> Model for LeadingComponent<'g, 't> {
@@ -36,7 +36,7 @@ impl<'g, 't> Model for LeadingComponent<'g, 't> {
 
     ghost view = { λ c. c.tokens.now };
 
-    ghost invariant = { λ c. AcceptsEach c.program c.tokens.now };
+    ghost invariant = { λ c. AcceptsEach c.compiled c.tokens.now };
 }
 
 impl<'g, 't> NameTest for LeadingComponent<'g, 't> {
@@ -54,19 +54,19 @@ impl<'g, 't> NameTest for LeadingComponent<'g, 't> {
         ensures means { IfOk result (λ answer.
             IsTrue answer ↔ MeansEach (trees self.now) false false (chars name.now)) }
     {
-        accepts(alloc, &self.program, name)
+        self.compiled.is_match(alloc, name)
     }
 }
 
-fn compiled<'g, 't>(
+fn compiled_component<'g, 't>(
     alloc: Global,
     tokens: &'g [Token<'t, ExpressionMetadata>],
 ) -> Result<LeadingComponent<'g, 't>, NoMemory>
     requires { costs (trees tokens.now) < 1048576 }
     ensures { IfOk result (λ c. c ≡ tokens.now) }
 {
-    let program = program_of(alloc, tokens)?;
-    Ok(LeadingComponent { tokens, program })
+    let compiled = compile_fitting(alloc, tokens)?;
+    Ok(LeadingComponent { tokens, compiled })
 }
 
 fn hold_boundary<'t>(tokens: &[Token<'t, ExpressionMetadata>]) -> bool
@@ -84,7 +84,7 @@ fn begins_with_separator<'t>(token: &Token<'t, ExpressionMetadata>) -> bool
     }
 }
 
-/// Compiles the leading components of a glob, each as a program: those before the first that
+/// Compiles the leading components of a glob, each by itself: those before the first that
 /// contains a boundary anywhere. If the walk begins at the root and the glob's first token isn't
 /// `/`, there are none. It takes time and memory in proportion to the tokens and their cost.
 ///
@@ -109,7 +109,7 @@ pub fn leading<'g, 't>(
         if hold_boundary(tokens) {
             break;
         }
-        let component = compiled(alloc, tokens)?;
+        let component = compiled_component(alloc, tokens)?;
         if leading.push(component).is_err() {
             return Err(NoMemory);
         }

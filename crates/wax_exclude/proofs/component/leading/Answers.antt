@@ -9,10 +9,10 @@ use Rattle.wax_token.specs.Words.{trees}
 use Rattle.wax_exclude.specs.Leading.{leading}
 use Rattle.wax_exclude.proofs.Costs.{part_fits}
 use Rattle.wax_exclude.proofs.Steps.{kept_next}
-use Rattle.wax_exclude.proofs.parts.leading.Goals as goal
+use Rattle.wax_exclude.proofs.component.leading.Goals as goal
 
-pub compiled-requires : goal.compiled-requires
-compiled-requires c =
+pub compiled_component-requires : goal.compiled_component-requires
+compiled_component-requires c =
     let t = c.args.token.now in
     let parts = c.deref-component-items.result.now in
     let part = c.component-item.result in

@@ -2,8 +2,8 @@ use Rattle.std.proofs.Common.{◌≡◌, ◌∙◌, ◌∷◌, [], ◌++◌, ◌
 use Rattle.std.proofs.lemmas.List.{take_more}
 use Rattle.wax_exclude.specs.Compiled.{AcceptsTree, CoverAll}
 use Rattle.wax_exclude.proofs.Excluding.{accepts_tree, cover_past, cover_push}
-use Rattle.wax_exclude.proofs.exclusions.covering_programs.Goals as goal
-use Rattle.wax_exclude.proofs.exclusions.covering_programs.Goals.{then-ends_wild+in_ok-program+else-is_err, else-ends_wild}
+use Rattle.wax_exclude.proofs.exclusions.covering_of.Goals as goal
+use Rattle.wax_exclude.proofs.exclusions.covering_of.Goals.{then-ends_wild+in_ok-program+else-is_err, else-ends_wild}
 
 pub loop-token-preserved : goal.loop-token-preserved
 loop-token-preserved c =
