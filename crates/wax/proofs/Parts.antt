@@ -61,7 +61,6 @@ module _ (e : List ℕ) (t : Tree Span) (p : List ℕ) (kept : IsKept t) where
   pub rest_kept : (u : Tokenized Span) → IsPartition e t p (spelled_rest (Some u)) → IsKept u.token
   rest_kept u k = inl (parts_orderly e t p (Some u) k (orderly u k))
 
-
   pub rest_fits : (u : Tokenized Span) → IsPartition e t p (spelled_rest (Some u)) → program_length u.token ≤ program_length t
   rest_fits u k = parts_fits e t p (Some u) k (flat t kept)
 
