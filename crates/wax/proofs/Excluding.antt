@@ -5,30 +5,31 @@ use Rattle.wax_exclude.proofs.ListingLines.{says_lines}
 use Rattle.wax_exclude.proofs.Wanting.{comes_excluding}
 use Rattle.wax_exclude.specs.Held.{HasLines}
 use Rattle.wax_exclude.specs.Ignored.{Line}
-use Rattle.wax_exclude.specs.Marks.{not_mark, of_candidate}
+use Rattle.wax_exclude.specs.Marks.{not_mark}
 use Rattle.wax_exclude.specs.GlobRequests.{ComesExcluding}
 use Rattle.wax_exclude.specs.Wanted.{not_ignored, not_meant}
 use Rattle.wax_exclude.specs.declared.rules.IgnoreLine.{IgnoreLine}
 use Rattle.wax_exclude.specs.inner.Listed.{listed_mark}
 use Rattle.wax_token.specs.Reads.{Span}
 use Rattle.wax_token.specs.Syntax.{Tree}
-use Rattle.wax_walk.specs.Given.{Facts, Mark}
+use Rattle.wax_walk.specs.Candidates.{Candidate}
+use Rattle.wax_walk.specs.Given.{Mark}
 use Rattle.wax_walk.specs.Ruled.{ruled_view}
 use Rattle.wax_walk.specs.View.{IsSeenAs, WalkView}
 use Rattle.wax.specs.Exclusions.{IsExclusionOf}
 
 module _ {D C : Type 0} (law : Law D C) (inner outer : WalkView D) where
   -- the tree that is spelled is the only one
-  pub comes_excluding_pattern : (SpellsTree : Tree Span → Type 0) (rule : Facts → Mark) → IsExclusionOf SpellsTree rule
+  pub comes_excluding_pattern : (SpellsTree : Tree Span → Type 0) (rule : Candidate → Mark) → IsExclusionOf SpellsTree rule
       → IsSeenAs (ruled_view inner rule false) outer
       → (t : Tree Span) → SpellsTree t → ComesExcluding law (not_meant t) inner outer
   comes_excluding_pattern SpellsTree rule left seen t spells =
       let same : t ≡ left.0 = left.1.only.1 t spells in
       comes_excluding law (not_meant t) rule inner outer
-      (λ f. ap (λ r. r f) (left.2 ∙ ap (λ x. of_candidate (not_mark x)) (sym same))) seen
+      (λ c. ap (λ r. r c) (left.2 ∙ ap not_mark (sym same))) seen
 
-  pub comes_ignoring : (held : List IgnoreLine) → IsSeenAs (ruled_view inner (λ f. listed_mark held f) false) outer
+  pub comes_ignoring : (held : List IgnoreLine) → IsSeenAs (ruled_view inner (λ c. listed_mark held c) false) outer
       → (lines : List (Line Span)) → HasLines held lines → ComesExcluding law (not_ignored lines) inner outer
   comes_ignoring held seen lines has =
-      comes_excluding law (not_ignored lines) (λ f. listed_mark held f) inner outer
-      (λ f. ap (λ rule. rule f) (says_lines held lines has)) seen
+      comes_excluding law (not_ignored lines) (λ c. listed_mark held c) inner outer
+      (λ c. ap (λ rule. rule c) (says_lines held lines has)) seen

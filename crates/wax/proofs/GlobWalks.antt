@@ -24,10 +24,11 @@ use Rattle.wax_exclude.specs.Walked.{glob_walk, origin_walk}
 use Rattle.wax_token.specs.Decided.{means_test}
 use Rattle.wax_token.specs.Reads.{Span}
 use Rattle.wax_token.specs.Syntax.{Tree}
+use Rattle.wax_walk.specs.Candidates.{Candidate, candidate_of, of_candidate}
 use Rattle.wax_walk.specs.Forest.{Forest, nothing, item, lists, filtered, filtered_pending, pending}
 use Rattle.wax_walk.specs.Given.{Facts, Given, Mark, alone, changed_by, combined_mark, cut_by, entry, fault, is_cut, kept, no_memory, with_tree}
 use Rattle.wax_exclude.specs.Leading.{component_test, lead_test, leading_of}
-use Rattle.wax_exclude.specs.Marks.{glob_mark, led_mark, of_candidate}
+use Rattle.wax_exclude.specs.Marks.{glob_mark, led_mark}
 use Rattle.wax.specs.GlobView.{GlobView}
 use Rattle.wax.proofs.GoingAlong.{names_are}
 use Rattle.wax.specs.GlobWalks.{Beginning, BeginsGlob, IsPlan, LeadsNowhere, has_empty_name, is_too_deep, request_of, wants, origin_from, within}
@@ -39,13 +40,13 @@ leads_so [] names = refl
 leads_so (c ∷ cs) [] = refl
 leads_so (c ∷ cs) (n ∷ names) = ap (λ b. component_test c n && b) (leads_so cs names)
 
-abbrev decides : GlobView → List ℕ → Bool
+abbrev pub decides : GlobView → List ℕ → Bool
 decides g s = means_test g.tree false false s
 
-pub says_glob : (g : GlobView) (rooted : Bool) (cs : List (List (Tree Span))) → cs ≡ leading_of rooted g.tree → leading_mark component_test cs decides g ≡ of_candidate (glob_mark rooted g.tree)
-says_glob g rooted cs e = λ i f.
-    if (ap (λ l. leads component_test l (map chars (names_in_path f.candidate))) e ∙ leads_so (leading_of rooted g.tree) (map chars (names_in_path f.candidate))) i
-    then means_mark decides g f else with_tree
+pub says_glob : (g : GlobView) (rooted : Bool) (cs : List (List (Tree Span))) → cs ≡ leading_of rooted g.tree → leading_mark component_test cs decides g ≡ glob_mark rooted g.tree
+says_glob g rooted cs e = λ i c.
+    if (ap (λ l. leads component_test l c.names) e ∙ leads_so (leading_of rooted g.tree) c.names) i
+    then means_mark decides g c else with_tree
 
 -- ---- what a glob's walk leaves isn't changed where what isn't meant is left out again
 
@@ -54,7 +55,7 @@ module _ (g : GlobView) (rooted : Bool) where
   first_rule = of_candidate (glob_mark rooted g.tree)
 
   abbrev again : Facts → Mark
-  again = leading_mark (component_test {A = Span}) [] decides g
+  again = of_candidate (leading_mark (component_test {A = Span}) [] decides g)
 
   combined_again : (m : Mark) (is_led is_matched : Bool) →
       combined_mark (combined_mark m (led_mark is_led is_matched)) (if is_matched then kept else alone) ≡ combined_mark m (led_mark is_led is_matched)
@@ -77,10 +78,10 @@ module _ (g : GlobView) (rooted : Bool) where
   none_cut with_tree f false = refl
 
   abbrev meant : Facts → Bool
-  meant f = means_test g.tree false false (chars f.candidate)
+  meant f = means_test g.tree false false (candidate_of f).text
 
   abbrev led : Facts → Bool
-  led f = lead_test (leading_of rooted g.tree) (map chars (names_in_path f.candidate))
+  led f = lead_test (leading_of rooted g.tree) (candidate_of f).names
 
   same_given : (x : Given) → changed_by again (changed_by first_rule x) ≡ changed_by first_rule x
   same_given (entry m f) = ap (λ n. entry n f) (combined_again m (led f) (meant f))
@@ -151,7 +152,7 @@ module _ {D C : Type 0} {t : Tree Span} (law : Law D C) (d : D) (start : List �
 
 -- ---- where errors come
 
-module _ {D : Type 0} (inner : WalkView D) (rule : Facts → Mark) (least : ℕ) (start : List ℕ) (way : List (List ℕ)) where
+module _ {D : Type 0} (inner : WalkView D) (rule : Candidate → Mark) (least : ℕ) (start : List ℕ) (way : List (List ℕ)) where
   fails_seen : {view : WalkView D} → FailsFrom least start way inner → IsSeenAs (ruled_view inner rule false) view → FailsFrom least start way view
   fails_seen h seen = record {
     at = λ path depth i. h.at path depth (seen.may_fail path depth i);
@@ -189,8 +190,8 @@ module _ {D C : Type 0} (g : GlobView) (law : Law D C) (d : D) (start : List ℕ
         subst (λ r. BeginsAt law d (origin_from start a.rooted a.names) r inner) same_range
         (subst (λ r. BeginsAt law d (origin_from start r a.names) range inner) same.0 (subst (λ n. BeginsAt law d (origin_from start rooted n) range inner) same.1 b))
 
-    same_rule : (a : Beginning g.tree) → of_candidate (glob_mark a.rooted g.tree) ≡ leading_mark (component_test {A = Span}) cs decides g
-    same_rule a = sym (says_glob g rooted cs (planned a).1 ∙ ap (λ r. of_candidate (glob_mark r g.tree)) (same_beginning a).0)
+    same_rule : (a : Beginning g.tree) → glob_mark a.rooted g.tree ≡ leading_mark (component_test {A = Span}) cs decides g
+    same_rule a = sym (says_glob g rooted cs (planned a).1 ∙ ap (λ r. glob_mark r g.tree) (same_beginning a).0)
 
     same_names : (a : Beginning g.tree) → a.names ≡ (origin_from start a.rooted a.names).names
     same_names a = names_are start a.rooted a.names
@@ -204,7 +205,7 @@ module _ {D C : Type 0} (g : GlobView) (law : Law D C) (d : D) (start : List ℕ
           (
             pending nothing f listed (count_shown s),
             (begins_so a).shown s listed h told (subst ArePlain (same_names a) plain) (subst (λ ns. length ns ≤ walked.max) (same_names a) fits),
-            (λ i. pending nothing (filtered (changed_by (rule i)) (cut_by (rule i)) f) listed (count_shown s)),
+            (λ i. pending nothing (filtered (changed_by (of_candidate (rule i))) (cut_by (of_candidate (rule i))) f) listed (count_shown s)),
           ),
         )
 
@@ -246,7 +247,7 @@ module _ {D C : Type 0} (g : GlobView) (law : Law D C) (d : D) (start : List ℕ
       directory = seen.directory ∙ b.directory;
     }
 
-  pub begins_ended : (inner : WalkView D) (range : DepthRange) (rule : Facts → Mark) → ((taken : ℕ) (prefix : List ℕ) → Prefix g.tree taken prefix → HasEmptyName prefix) →
+  pub begins_ended : (inner : WalkView D) (range : DepthRange) (rule : Candidate → Mark) → ((taken : ℕ) (prefix : List ℕ) → Prefix g.tree taken prefix → HasEmptyName prefix) →
       range ≡ within asked depth → HasEnded law d range inner → IsSeenAs (ruled_view inner rule false) view → BeginsGlob g.tree law d start asked view
   begins_ended inner range rule known same b seen = record {
     depth = depth;
@@ -299,7 +300,7 @@ module _ {D C : Type 0} (g : GlobView) (law : Law D C) (d : D) (start : List ℕ
             pending nothing f listed (count_shown s),
             b.comes (pending nothing f listed (count_shown s)) told,
             (λ i. pending nothing (sym (same_forest g a.rooted (origin_walk walked origin s)) i) listed (count_shown s))
-                ∙ ap (λ l. filtered_pending (changed_by (leading_mark (component_test {A = Span}) l decides g)) (cut_by (leading_mark (component_test {A = Span}) l decides g)) (pending nothing f listed (count_shown s))) (sym none),
+                ∙ ap (λ l. filtered_pending (changed_by (of_candidate (leading_mark (component_test {A = Span}) l decides g))) (cut_by (of_candidate (leading_mark (component_test {A = Span}) l decides g))) (pending nothing f listed (count_shown s))) (sym none),
           ),
         )
 

@@ -85,7 +85,7 @@ all_read text all i held held' whole over same read =
 
 -- a walk that the rule of these lines filters
 pub seen_ignoring : {D : Type 0} (inner outer : WalkView D) (held : List IgnoreLine) (lines : List (Line Span)) → HasLines held lines →
-    IsSeenAs (ruled_view inner (λ f. listed_mark held f) false) outer → IsWalkIgnoring lines inner outer
+    IsSeenAs (ruled_view inner (λ c. listed_mark held c) false) outer → IsWalkIgnoring lines inner outer
 seen_ignoring inner outer held lines has seen = subst (λ r. IsSeenAs (ruled_view inner r false) outer) (says_lines held lines has) seen
 
 pub begins_so : {D C : Type 0} (law : Law D C) (d : D) (start : List ℕ) (b behavior : WalkBehavior) (view : WalkView D) → b ≡ behavior →

@@ -4,7 +4,8 @@ use Rattle.wax_directory.specs.Counting.{grown}
 use Rattle.wax_directory.specs.Law.{Law}
 use Rattle.wax_walk.specs.Collected.{GaveAll, whole, lacks_memory, over_budget, Took, all_fault_counts, count_to_open}
 use Rattle.wax_walk.specs.Forest.{nothing, pending}
-use Rattle.wax_walk.specs.Given.{Facts, Mark, Given, is_kept, no_memory}
+use Rattle.wax_walk.specs.Candidates.{Candidate}
+use Rattle.wax_walk.specs.Given.{Mark, Given, is_kept, no_memory}
 use Rattle.wax_walk.specs.Ruled.{ruled_view}
 use Rattle.wax_walk.specs.View.{CountsFaults, WalkView}
 use Rattle.wax_token.specs.Reads.{Span}
@@ -14,7 +15,7 @@ use Rattle.wax_tree.proofs.Reaching.{errors_passed}
 use Rattle.wax.specs.GlobWalks.{BeginsGlob, FailsAtFolders, GaveWithin, KeepsNothing, none_kept, memory_alone}
 
 pub gave_within : {D C : Type 0} (t : Tree Span) (law : Law D C) (d : D) (start : List ℕ) (asked : DepthRange)
-    (v : WalkView D) (rule : Facts → Mark) (new : D) (xs : List Given) → BeginsGlob t law d start asked v
+    (v : WalkView D) (rule : Candidate → Mark) (new : D) (xs : List Given) → BeginsGlob t law d start asked v
     → length xs ≤ 2 * asked.budget + 3 → Took law (ruled_view v rule false) new xs
     → GaveWithin t law d asked new xs
 gave_within t law d start asked v rule new xs begins few took = let over = begins.directory in record {
@@ -40,7 +41,7 @@ gave_within t law d start asked v rule new xs begins few took = let over = begin
 }
 
 pub fails_at_folders : {D C : Type 0} (t : Tree Span) (law : Law D C) (d : D) (start : List ℕ)
-    (asked : DepthRange) (v : WalkView D) (rule : Facts → Mark) (new : D) (xs : List Given)
+    (asked : DepthRange) (v : WalkView D) (rule : Candidate → Mark) (new : D) (xs : List Given)
     → BeginsGlob t law d start asked v → Took law (ruled_view v rule false) new xs
     → FailsAtFolders t start asked xs
 fails_at_folders t law d start asked v rule new xs begins took b = (

@@ -4,10 +4,11 @@ use Rattle.wax_exclude.specs.GlobRequests.{IsRuleOf}
 use Rattle.wax_token.specs.Cost.{program_length}
 use Rattle.wax_token.specs.Reads.{Span}
 use Rattle.wax_token.specs.Syntax.{Tree}
-use Rattle.wax_walk.specs.Given.{Facts, Mark}
+use Rattle.wax_walk.specs.Candidates.{Candidate}
+use Rattle.wax_walk.specs.Given.{Mark}
 use Rattle.wax_walk.specs.Ruled.{ruled_view}
 use Rattle.wax_walk.specs.View.{IsSeenAs, WalkView}
-use Rattle.wax_exclude.specs.Marks.{not_mark, of_candidate}
+use Rattle.wax_exclude.specs.Marks.{not_mark}
 use Rattle.wax_exclude.specs.Wanted.{not_meant}
 use Rattle.wax_set.specs.Patterns.{IsOnly}
 use Rattle.wax_error.specs.declared.build_error.BuildError.{BuildError}
@@ -23,8 +24,8 @@ pub record FitsAlone (SpellsTree : Tree Span → Type 0) (t : Tree Span) : Type 
 
 -- the rule leaves out what the tree that is spelled means, with what lies below where an alternative covers
 -- it
-abbrev pub IsExclusionOf : (Tree Span → Type 0) → (Facts → Mark) → Type 0
-IsExclusionOf SpellsTree rule = (t : Tree Span) × FitsAlone SpellsTree t × (rule ≡ of_candidate (not_mark t))
+abbrev pub IsExclusionOf : (Tree Span → Type 0) → (Candidate → Mark) → Type 0
+IsExclusionOf SpellsTree rule = (t : Tree Span) × FitsAlone SpellsTree t × (rule ≡ not_mark t)
 
 -- why nothing is left out; nothing is said where memory was refused
 abbrev pub NoExclusion : (Tree Span → Type 0) → (BuildError → Type 0) → BuildError → Type 0
@@ -37,16 +38,16 @@ NoExclusion SpellsTree RefusesAs Memory = ⊤
 -- one walk is seen as the other less what the tree that is spelled means
 abbrev pub IsWalkExcluding : {D : Type 0} → (Tree Span → Type 0) → WalkView D → WalkView D → Type 0
 IsWalkExcluding SpellsTree inner outer = (t : Tree Span) × FitsAlone SpellsTree t
-    × IsSeenAs (ruled_view inner (of_candidate (not_mark t)) false) outer
+    × IsSeenAs (ruled_view inner (not_mark t) false) outer
 
 -- ---- filters
 
 -- the rule is that of the tree that is spelled, which fits
-abbrev pub IsNotRule : (Tree Span → Type 0) → (Facts → Mark) → Type 0
+abbrev pub IsNotRule : (Tree Span → Type 0) → (Candidate → Mark) → Type 0
 IsNotRule SpellsTree rule = (t : Tree Span) × FitsAlone SpellsTree t × IsRuleOf (not_meant t) rule
 
 -- what a filter says, by what its pattern or its list says
-abbrev pub rule_by : (List (Tree Span) → Facts → Mark) → (IgnoreList → Facts → Mark) → WalkFilter → Facts
-    → Mark
+abbrev pub rule_by : (List (Tree Span) → Candidate → Mark) → (IgnoreList → Candidate → Mark) → WalkFilter
+    → Candidate → Mark
 rule_by not_rule ignore_rule (Not alternatives) = not_rule alternatives
 rule_by not_rule ignore_rule (Ignore list) = ignore_rule list

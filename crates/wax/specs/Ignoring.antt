@@ -6,7 +6,6 @@ use Rattle.wax_exclude.specs.declared.rules.IgnoreLine.{IgnoreLine}
 use Rattle.wax_token.specs.Reads.{Span}
 use Rattle.wax_walk.specs.Ruled.{ruled_view}
 use Rattle.wax_walk.specs.View.{IsSeenAs, WalkView}
-use Rattle.wax_exclude.specs.Marks.{of_candidate}
 use Rattle.wax.specs.Exclusions.{FitsAlone, NoExclusion}
 use Rattle.wax_error.specs.Expressions.{Refuses, Spells}
 use Rattle.wax_error.specs.declared.build_error.BuildError.{BuildError}
@@ -73,4 +72,4 @@ refused_at number error = BadLine number error
 
 -- one walk is seen as the other less what these lines ignore
 abbrev pub IsWalkIgnoring : {D : Type 0} → List (Line Span) → WalkView D → WalkView D → Type 0
-IsWalkIgnoring lines inner outer = IsSeenAs (ruled_view inner (of_candidate (ignore_mark lines)) false) outer
+IsWalkIgnoring lines inner outer = IsSeenAs (ruled_view inner (ignore_mark lines) false) outer

@@ -18,13 +18,12 @@ pub use Rattle.wax_directory.specs.Trees.{shown_in, tree_law}
 pub use Rattle.wax_directory.specs.Turns.{failing_inside, fails_after, starves_after, starving_inside}
 pub use Rattle.wax_directory.specs.declared.directory.FileType.{FileType}
 pub use Rattle.wax_directory.specs.declared.directory.FileType.TheVariants.{File, Folder, Link}
-pub use Rattle.wax_exclude.specs.Candidates.{candidate_of}
 pub use Rattle.wax_exclude.specs.Covers.{covers_test}
 pub use Rattle.wax_exclude.specs.Excluded.{excluded_mark}
 pub use Rattle.wax_exclude.specs.Feeds.{FeedsByRequest, FeedsByRules, FeedsWanted, feed_of, request_feed}
 pub use Rattle.wax_exclude.specs.Law.{GivesWanted, ListsFew, WantsNothing}
 pub use Rattle.wax_exclude.specs.Leading.{leading_of}
-pub use Rattle.wax_exclude.specs.Marks.{covered_mark, glob_mark, not_mark, of_candidate}
+pub use Rattle.wax_exclude.specs.Marks.{covered_mark, glob_mark, not_mark}
 pub use Rattle.wax_exclude.specs.TreeRequests.{WantsUnfiltered, is_unfiltered, tree_request}
 pub use Rattle.wax_exclude.specs.Prefix.{HasEmptyName, PrefixSplitsInto}
 pub use Rattle.wax_exclude.specs.Premises.{BeginsWith, IsUnmeant}
@@ -59,6 +58,7 @@ pub use Rattle.wax_tree.specs.Whole.{EntriesAre, plain_pending, whole, whole_alo
 pub use Rattle.wax_tree.specs.declared.behavior.DepthBehavior.TheVariants.{MinMax, Unbounded}
 pub use Rattle.wax_tree.specs.declared.behavior.WalkBehavior.{WalkBehavior}
 pub use Rattle.wax_tree.specs.declared.steps.DepthRange.{DepthRange}
+pub use Rattle.wax_walk.specs.Candidates.{Candidate, candidate_of, candidate_with, in_characters, of_candidate}
 pub use Rattle.wax_walk.specs.Collected.{AreOfFolders, GaveAll, HasFolder, IsCutShort, NoneLast, Took}
 pub use Rattle.wax_walk.specs.Collected.{count_to_open}
 pub use Rattle.wax_walk.specs.Entries.{answer_of, error_depth, error_kind, error_path, facts_of, given_of}

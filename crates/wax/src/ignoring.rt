@@ -20,7 +20,7 @@ use wax_exclude::{IgnoreLine, IgnoreRule, WrittenLine, collect_unignored, writte
 use wax_query::diagnostics::NoMemory;
 use wax_set::Pattern;
 use wax_tree::{PathExt, WalkBehavior};
-use wax_walk::{Entry, EntryResidue, Exclude, TreeEntry, WalkError};
+use wax_walk::{Candidate, Entry, EntryResidue, Exclude, TreeEntry, WalkError};
 
 /// Why a text isn't an ignore list.
 #[derive(Debug, Drop, Error)]
@@ -139,12 +139,12 @@ impl IgnoreList {
 impl Exclude for IgnoreList {
     ghost rule = { λ list. ⟦<IgnoreRule as Exclude>⟧.rule list.rule };
 
-    fn residue<E: Entry>(
+    fn residue(
         &mut self,
         alloc: Global,
-        entry: &E,
+        candidate: Candidate<'_>,
     ) -> Result<Option<EntryResidue>, NoMemory> {
-        self.rule.residue(alloc, entry)
+        self.rule.residue(alloc, candidate)
     }
 }
 

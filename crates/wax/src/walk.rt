@@ -21,6 +21,6 @@ pub use wax_tree::{
     WalkBehavior, WalkTree, entries,
 };
 pub use wax_walk::{
-    Entry, EntryResidue, Exclude, Excluding, FaultKind, FileIterator, FilterEntry, TreeEntry,
-    WalkError, WalkErrorKind,
+    Candidate, Entry, EntryResidue, Exclude, Excluding, FaultKind, FileIterator, FilterEntry,
+    TreeEntry, WalkError, WalkErrorKind,
 };

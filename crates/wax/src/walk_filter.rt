@@ -14,7 +14,7 @@ use wax_error::BuildError;
 use wax_exclude::Exclusion;
 use wax_query::diagnostics::NoMemory;
 use wax_set::Pattern;
-use wax_walk::{Entry, EntryResidue, Exclude};
+use wax_walk::{Candidate, EntryResidue, Exclude};
 
 /// A filter of a walk: it excludes what a pattern matches, or what an ignore list ignores.
 #[derive(Drop)]
@@ -52,14 +52,14 @@ impl Exclude for WalkFilter {
 
     ghost rule = { rule_by ⟦<Exclusion as Exclude>⟧.rule ⟦<IgnoreList as Exclude>⟧.rule };
 
-    fn residue<E: Entry>(
+    fn residue(
         &mut self,
         alloc: Global,
-        entry: &E,
+        candidate: Candidate<'_>,
     ) -> Result<Option<EntryResidue>, NoMemory> {
         match self {
-            WalkFilter::Not(exclusion) => exclusion.residue(alloc, entry),
-            WalkFilter::Ignore(list) => list.residue(alloc, entry),
+            WalkFilter::Not(exclusion) => exclusion.residue(alloc, candidate),
+            WalkFilter::Ignore(list) => list.residue(alloc, candidate),
         }
     }
 }

@@ -3,11 +3,12 @@ use Rattle.std.proofs.Common.{ℕ, Bool, List, ◌∙◌}
 use Rattle.std.specs.Prelude.{Option}
 use Rattle.wax_directory.specs.Law.{Law}
 use Rattle.wax_exclude.specs.GlobRequests.{ComesWanted, GlobRequest}
-use Rattle.wax_walk.specs.Given.{Facts, Mark}
+use Rattle.wax_walk.specs.Candidates.{Candidate}
+use Rattle.wax_walk.specs.Given.{Mark}
 use Rattle.wax_walk.specs.View.{WalkView, IsSeenAs}
 use Rattle.wax_command_line.specs.Wanted.{WroteFirst, WroteWanted}
 
-module _ {D C : Type 0} (law : Law D C) (v u : WalkView D) (seen : IsSeenAs v u) (rules : List (Facts → Mark)) where
+module _ {D C : Type 0} (law : Law D C) (v u : WalkView D) (seen : IsSeenAs v u) (rules : List (Candidate → Mark)) where
   comes_seen : (d : D) (request : GlobRequest) → ComesWanted law d request v → ComesWanted law d request u
   comes_seen d request h = record {
     comes = λ s listed shows told. seen.to_come _ (h.comes s listed shows told);

@@ -8,12 +8,13 @@ use Rattle.wax_directory.specs.Law.{Law}
 use Rattle.wax_directory.specs.Shown.{Shown}
 use Rattle.wax_token.specs.Reads.{Span}
 use Rattle.wax_walk.specs.Forest.{preorder}
-use Rattle.wax_walk.specs.Given.{Facts, Given, Mark}
+use Rattle.wax_walk.specs.Candidates.{Candidate}
+use Rattle.wax_walk.specs.Given.{Given, Mark}
 use Rattle.wax_walk.specs.View.{WalkView}
 use Rattle.wax_exclude.specs.Wanted.{Filter}
 use Rattle.wax_command_line.specs.Candidates.{candidate_lines, is_error}
 
-module _ {D C : Type 0} (law : Law D C) (walk : WalkView D) (rules : List (Facts → Mark)) where
+module _ {D C : Type 0} (law : Law D C) (walk : WalkView D) (rules : List (Candidate → Mark)) where
   -- P holds of each request whose walk `walk` may be, with the filters of these rules added
   abbrev pub OnRequests : (GlobRequest → Shown → List (List ℕ) → Type 0) → Type 0
   OnRequests P = (d : D) (request : GlobRequest) (filters : List (Filter Span)) (s : Shown)

@@ -7,7 +7,8 @@ use Rattle.wax.specs.Patterns.{Spells}
 use Rattle.wax_exclude.specs.GlobRequests.{AreRulesOf, IsRuleOf}
 use Rattle.wax_token.specs.Reads.{Span}
 use Rattle.wax_token.specs.Syntax.{Tree}
-use Rattle.wax_walk.specs.Given.{Facts, Mark}
+use Rattle.wax_walk.specs.Candidates.{Candidate}
+use Rattle.wax_walk.specs.Given.{Mark}
 use Rattle.wax_exclude.specs.Ignored.{Line}
 use Rattle.wax_exclude.specs.Wanted.{Filter, not_ignored, not_meant}
 use Rattle.wax_command_line.specs.Commands.{WalkOption, excluding, ignoring, at_least, at_most, IsOption}
@@ -21,24 +22,24 @@ map_on_ok f (Err e) h = tt
 
 -- ---- one more
 
-module _ {X A E : Type 0} (rule : X → Facts → Mark) (old new : List X) (x : X) (r : Result A E) where
+module _ {X A E : Type 0} (rule : X → Candidate → Mark) (old new : List X) (x : X) (r : Result A E) where
   rule_added : new ≡ old ++ x ∷ [] → map rule new ≡ map rule old ++ rule x ∷ []
   rule_added e = ap (map rule) e ∙ map-append rule old (x ∷ [])
 
   pub pattern_added : (word : List ℕ) → IsNotRule (Spells (chars word)) (rule x) → OnOk r (new ≡ old ++ x ∷ [])
-      → OnOk r ((t : Tree Span) × (rules : List (Facts → Mark)) × IsNotOf word t × AreRulesOf (not_meant t ∷ []) rules × (map rule new ≡ map rule old ++ rules))
+      → OnOk r ((t : Tree Span) × (rules : List (Candidate → Mark)) × IsNotOf word t × AreRulesOf (not_meant t ∷ []) rules × (map rule new ≡ map rule old ++ rules))
   pattern_added word left pushed = map_on_ok (λ e. (left.0, rule x ∷ [], left.1, (left.2, tt), rule_added e)) r pushed
 
   pub list_added : {Z : Type 0} (answers : FileAnswers Z) (file : List ℕ) (lines : List (Line Span)) → IsListIn answers file lines → IsRuleOf (not_ignored lines) (rule x)
       → OnOk r (new ≡ old ++ x ∷ [])
-      → OnOk r ((lines : List (Line Span)) × (rules : List (Facts → Mark)) × IsListIn answers file lines × AreRulesOf (not_ignored lines ∷ []) rules × (map rule new ≡ map rule old ++ rules))
+      → OnOk r ((lines : List (Line Span)) × (rules : List (Candidate → Mark)) × IsListIn answers file lines × AreRulesOf (not_ignored lines ∷ []) rules × (map rule new ≡ map rule old ++ rules))
   list_added answers file lines read is pushed = map_on_ok (λ e. (lines, rule x ∷ [], read, (is, tt), rule_added e)) r pushed
 
 -- ---- what was asked for
 
-module _ {Z : Type 0} (answers : FileAnswers Z) (name word : List ℕ) (P : List (Facts → Mark) → Type 0) where
+module _ {Z : Type 0} (answers : FileAnswers Z) (name word : List ℕ) (P : List (Candidate → Mark) → Type 0) where
   abbrev Adds : WalkOption → Type 0
-  Adds o = (xs : List (Filter Span)) × (rules : List (Facts → Mark)) × AreAskedBy answers o xs × AreRulesOf xs rules × P rules
+  Adds o = (xs : List (Filter Span)) × (rules : List (Candidate → Mark)) × AreAskedBy answers o xs × AreRulesOf xs rules × P rules
 
   pub none_asked : (name ≡ codes "not" → ⊥) → (name ≡ codes "ignore" → ⊥) → P [] → (o : WalkOption) → IsOption name word o → Adds o
   none_asked n i p (excluding e) s = absurd (n s.0)
@@ -47,12 +48,12 @@ module _ {Z : Type 0} (answers : FileAnswers Z) (name word : List ℕ) (P : List
   none_asked n i p (at_most m) s = ([], [], tt, tt, p)
 
   module _ {A E : Type 0} (r : Result A E) where
-    pub pattern_asked : name ≡ codes "not" → OnOk r ((t : Tree Span) × (rules : List (Facts → Mark)) × IsNotOf word t × AreRulesOf (not_meant t ∷ []) rules × P rules)
+    pub pattern_asked : name ≡ codes "not" → OnOk r ((t : Tree Span) × (rules : List (Candidate → Mark)) × IsNotOf word t × AreRulesOf (not_meant t ∷ []) rules × P rules)
         → OnOk r ((o : WalkOption) → IsOption name word o → Adds o)
     pattern_asked e added = map_on_ok (λ h o s.
         subst Adds (sym (same_option name word o (excluding word) s (e, refl))) (not_meant h.0 ∷ [], h.1, h.2, h.3, h.4)) r added
 
-    pub list_asked : name ≡ codes "ignore" → OnOk r ((lines : List (Line Span)) × (rules : List (Facts → Mark)) × IsListIn answers word lines × AreRulesOf (not_ignored lines ∷ []) rules × P rules)
+    pub list_asked : name ≡ codes "ignore" → OnOk r ((lines : List (Line Span)) × (rules : List (Candidate → Mark)) × IsListIn answers word lines × AreRulesOf (not_ignored lines ∷ []) rules × P rules)
         → OnOk r ((o : WalkOption) → IsOption name word o → Adds o)
     list_asked e added = map_on_ok (λ h o s.
         subst Adds (sym (same_option name word o (ignoring word) s (e, refl))) (not_ignored h.0 ∷ [], h.1, h.2, h.3, h.4)) r added

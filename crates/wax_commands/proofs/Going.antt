@@ -10,7 +10,8 @@ use Rattle.wax_token.specs.Reads.{Span}
 use Rattle.wax_tree.specs.Begins.{or_greatest, behavior_range}
 use Rattle.wax_tree.specs.Depths.{behavior_at}
 use Rattle.wax_tree.specs.declared.behavior.WalkBehavior.{WalkBehavior}
-use Rattle.wax_walk.specs.Given.{Facts, Mark}
+use Rattle.wax_walk.specs.Candidates.{Candidate}
+use Rattle.wax_walk.specs.Given.{Mark}
 use Rattle.wax_walk.specs.View.{WalkView}
 use Rattle.wax_exclude.specs.Wanted.{Filter}
 use Rattle.wax.specs.GlobWalks.{BeginsGlob, request_of}
@@ -27,7 +28,7 @@ use Rattle.wax_command_line.specs.WalkWords.{IsRead}
 
 module _ {D C : Type 0} (law : Law D C) (d : D) (asked : WalkRequest) (globs : WalkGlobs) (view : WalkView D) where
   -- what holds of all requests that the walk may be of holds of the walk
-  pub on_walk : (rules : List (Facts → Mark)) (P : GlobRequest → Shown → List (List ℕ) → Type 0)
+  pub on_walk : (rules : List (Candidate → Mark)) (P : GlobRequest → Shown → List (List ℕ) → Type 0)
       → BeginsGlob globs.glob.tree law d asked.start (range_in asked.options) view → AreRulesOf globs.filters rules
       → OnRequests law view rules P → OnWalk law d asked globs P
   on_walk rules P h are on = (
@@ -55,7 +56,7 @@ environment law d answers = record { law = law; directory = d; answers = answers
 
 module _ {D C Z : Type 0} (over : Environment D C Z) (walk : WalkWords) (asked : WalkRequest) (read : IsRead walk asked) where
   -- the rules are those of the filters that the options request
-  abbrev pub AreLeftOut : List (Facts → Mark) → Type 0
+  abbrev pub AreLeftOut : List (Candidate → Mark) → Type 0
   AreLeftOut rules = (os : List WalkOption) → SayEach walk.options.now os
       → (xs : List (Filter Span)) × AreAskedByAll over.answers os xs × AreRulesOf xs rules
 
@@ -70,7 +71,7 @@ module _ {D C Z : Type 0} (over : Environment D C Z) (walk : WalkWords) (asked :
     pub ends_no_filter : (held : Option (List ℕ)) → ((os : List WalkOption) → SayEach walk.options.now os → HasRefused over.answers os) → WalkEnds over asked held held 1
     ends_no_filter held h = refused (no_filter g glob_asked (h asked.options read.options)) refl refl
 
-    module _ (rules : List (Facts → Mark)) (left : AreLeftOut rules) (b : WalkBehavior) (is : b ≡ behavior_at walk.depth) (view : WalkView D)
+    module _ (rules : List (Candidate → Mark)) (left : AreLeftOut rules) (b : WalkBehavior) (is : b ≡ behavior_at walk.depth) (view : WalkView D)
         (begins : BeginsGlob g.tree over.law over.directory walk.start.now (behavior_range b) view) (held held' : Option (List ℕ)) where
       abbrev built : (xs : List (Filter Span)) × AreAskedByAll over.answers asked.options xs × AreRulesOf xs rules
       built = left asked.options read.options

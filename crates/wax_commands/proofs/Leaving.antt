@@ -4,7 +4,8 @@ use Rattle.std.specs.Prelude.{Option, Some, None, String}
 use Rattle.std.proofs.lemmas.List.{append-nil}
 use Rattle.wax_exclude.specs.GlobRequests.{AreRulesOf}
 use Rattle.wax_token.specs.Reads.{Span}
-use Rattle.wax_walk.specs.Given.{Facts, Mark}
+use Rattle.wax_walk.specs.Candidates.{Candidate}
+use Rattle.wax_walk.specs.Given.{Mark}
 use Rattle.wax_exclude.specs.Wanted.{Filter}
 use Rattle.wax_command_line.specs.Commands.{WalkOption, IsOption, SayEach}
 use Rattle.wax_commands.specs.Files.{FileAnswers}
@@ -12,7 +13,7 @@ use Rattle.wax_commands.specs.Walked.{AreAskedBy, AreAskedByAll, HasRefused, IsR
 use Rattle.wax_command_line.specs.WalkWords.{HasNoNext, IsNext}
 use Rattle.wax_command_line.proofs.OptionWords.{next_says}
 
-rules_more : (xs ys : List (Filter Span)) (rules others : List (Facts → Mark)) → AreRulesOf xs rules → AreRulesOf ys others → AreRulesOf (xs ++ ys) (rules ++ others)
+rules_more : (xs ys : List (Filter Span)) (rules others : List (Candidate → Mark)) → AreRulesOf xs rules → AreRulesOf ys others → AreRulesOf (xs ++ ys) (rules ++ others)
 rules_more [] ys [] others h k = k
 rules_more [] ys (rule ∷ rules) others h k = absurd h
 rules_more (x ∷ xs) ys [] others h k = absurd h
@@ -35,7 +36,7 @@ module _ {Z : Type 0} (answers : FileAnswers Z) where
 
   -- the first of these options were taken and their filters were built; the rest of the arguments spells the
   -- others
-  pub record SoFar {A : Type 0} (rest : List (Option (String A))) (asked : List WalkOption) (rules : List (Facts → Mark)) : Type 0 where
+  pub record SoFar {A : Type 0} (rest : List (Option (String A))) (asked : List WalkOption) (rules : List (Candidate → Mark)) : Type 0 where
     pub front : List WalkOption
     pub left : List WalkOption
     pub all : asked ≡ front ++ left
@@ -55,13 +56,13 @@ module _ {Z : Type 0} (answers : FileAnswers Z) where
     are = tt;
   }
 
-  module _ {A : Type 0} (now : List (Option (String A))) (name word : List ℕ) (rest : List (Option (String A))) (asked : List WalkOption) (rules : List (Facts → Mark))
+  module _ {A : Type 0} (now : List (Option (String A))) (name word : List ℕ) (rest : List (Option (String A))) (asked : List WalkOption) (rules : List (Candidate → Mark))
       (h : SoFar now asked rules) (n : IsNext now name word rest) where
     abbrev taken : (o : WalkOption) × (vs : List WalkOption) × IsOption name word o × SayEach rest vs × (h.left ≡ o ∷ vs)
     taken = next_says now name word rest h.left n h.says
 
     -- what one more option asks for
-    pub so_far_more : (more : List (Facts → Mark)) → ((o : WalkOption) → IsOption name word o → (xs : List (Filter Span)) × (others : List (Facts → Mark))
+    pub so_far_more : (more : List (Candidate → Mark)) → ((o : WalkOption) → IsOption name word o → (xs : List (Filter Span)) × (others : List (Candidate → Mark))
         × AreAskedBy answers o xs × AreRulesOf xs others × (more ≡ rules ++ others)) → SoFar rest asked more
     so_far_more more adds =
         let added = adds taken.0 taken.2 in
@@ -88,7 +89,7 @@ module _ {Z : Type 0} (answers : FileAnswers Z) where
     }
 
   -- the end
-  pub so_far_all : {A : Type 0} (rest : List (Option (String A))) (asked : List WalkOption) (rules : List (Facts → Mark)) → SoFar rest asked rules → HasNoNext rest
+  pub so_far_all : {A : Type 0} (rest : List (Option (String A))) (asked : List WalkOption) (rules : List (Candidate → Mark)) → SoFar rest asked rules → HasNoNext rest
       → (xs : List (Filter Span)) × AreAskedByAll answers asked xs × AreRulesOf xs rules
   so_far_all rest asked rules h e =
       let all : asked ≡ h.front = h.all ∙ (ap (λ v. h.front ++ v) (none_left rest h.left h.says e) ∙ append-nil h.front) in

@@ -8,7 +8,8 @@ ghost use Rattle.wax.specs.Patterns.{Refuses, Spells};
 ghost use Rattle.wax_exclude.specs.GlobRequests.{AreRulesOf};
 ghost use Rattle.wax_token.specs.Reads.{Span};
 ghost use Rattle.wax_token.specs.Syntax.{Tree};
-ghost use Rattle.wax_walk.specs.Given.{Facts, Mark};
+ghost use Rattle.wax_walk.specs.Candidates.{Candidate};
+ghost use Rattle.wax_walk.specs.Given.{Mark};
 ghost use Rattle.wax_exclude.specs.Ignored.{Line};
 ghost use Rattle.wax_exclude.specs.Wanted.{Filter, not_ignored, not_meant};
 ghost use Rattle.wax_command_line.specs.Commands.{SayEach, IsOption, WalkOption};
@@ -129,7 +130,7 @@ where
     B: Fn(&str) -> Result<Vec<u8>, FileFault>,
     requires { B.IsAlwaysCallable read.now }
     ensures ok { OnOk result ((o : WalkOption) → IsOption name.now word.now o
-        → (xs : List (Filter Span)) × (rules : List (Facts → Mark))
+        → (xs : List (Filter Span)) × (rules : List (Candidate → Mark))
         × AreAskedBy (FnReturnsAt B.Fn read.now) o xs × AreRulesOf xs rules
         × (map ⟦<WalkFilter as Exclude>⟧.rule filters.new.items
         ≡ map ⟦<WalkFilter as Exclude>⟧.rule filters.old.items ++ rules)) }
@@ -150,7 +151,7 @@ fn add_pattern<'w>(
     expression: &'w str,
     filters: &mut Vec<WalkFilter>,
 ) -> Result<(), FilterFault<'w>>
-    ensures ok { OnOk result ((t : Tree Span) × (rules : List (Facts → Mark)) × IsNotOf expression.now t
+    ensures ok { OnOk result ((t : Tree Span) × (rules : List (Candidate → Mark)) × IsNotOf expression.now t
         × AreRulesOf (not_meant t ∷ []) rules
         × (map ⟦<WalkFilter as Exclude>⟧.rule filters.new.items
         ≡ map ⟦<WalkFilter as Exclude>⟧.rule filters.old.items ++ rules)) }
@@ -172,7 +173,7 @@ fn add_list<'w, B>(
 where
     B: Fn(&str) -> Result<Vec<u8>, FileFault>,
     requires { B.IsAlwaysCallable read.now }
-    ensures ok { OnOk result ((lines : List (Line Span)) × (rules : List (Facts → Mark))
+    ensures ok { OnOk result ((lines : List (Line Span)) × (rules : List (Candidate → Mark))
         × IsListIn (FnReturnsAt B.Fn read.now) file.now lines × AreRulesOf (not_ignored lines ∷ []) rules
         × (map ⟦<WalkFilter as Exclude>⟧.rule filters.new.items
         ≡ map ⟦<WalkFilter as Exclude>⟧.rule filters.old.items ++ rules)) }

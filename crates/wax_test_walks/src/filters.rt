@@ -2,7 +2,7 @@
 
 use crate::row::{Row, Unanswered, list_of, number, residue_of, words};
 use std::alloc::Global;
-use wax::walk::{Entry, EntryResidue, Exclude, Exclusion, IgnoreList, exclusion_of};
+use wax::walk::{Candidate, EntryResidue, Exclude, Exclusion, IgnoreList, exclusion_of};
 use wax::{Any, NoMemory, any};
 
 /// One rule of a row.
@@ -20,17 +20,17 @@ impl Exclude for Filter {
 
     ghost rule = { rule_of ⟦<Exclusion as Exclude>⟧.rule ⟦<IgnoreList as Exclude>⟧.rule };
 
-    fn residue<E: Entry>(
+    fn residue(
         &mut self,
         alloc: Global,
-        entry: &E,
+        candidate: Candidate<'_>,
     ) -> Result<Option<EntryResidue>, NoMemory> {
         match self {
             Filter::Nothing => Ok(None),
-            Filter::Not(exclusion) => exclusion.residue(alloc, entry),
-            Filter::Ignore(list) => list.residue(alloc, entry),
+            Filter::Not(exclusion) => exclusion.residue(alloc, candidate),
+            Filter::Ignore(list) => list.residue(alloc, candidate),
             Filter::From(depth, residue) => {
-                if entry.depth() < *depth {
+                if candidate.depth < *depth {
                     return Ok(None);
                 }
                 Ok(Some(*residue))

@@ -11,7 +11,8 @@ use Rattle.wax_uses.specs.Excluding.{AreEntriesExcluding, IsCutOff, IsKnownFrom,
 use Rattle.wax_uses.specs.Excluding as cut
 use Rattle.wax.specs.Language.{alternatives, Means, means_test, means_tested, Span, Tree}
 use Rattle.wax.specs.Queries.{Bounds, Depth}
-use Rattle.wax.specs.Walks.{alone, ArePlain, AreRulesOf, behavior_at, behavior_range, Budget, candidate_of}
+use Rattle.wax.specs.Walks.{alone, ArePlain, AreRulesOf, behavior_at, behavior_range, Budget, Candidate}
+use Rattle.wax.specs.Walks.{candidate_of}
 use Rattle.wax.specs.Walks.{changed_by, combined_mark, covered_mark, covers_test, cut_by, entry, Facts, fault}
 use Rattle.wax.specs.Walks.{Filter, filter_mark, filtered, Forest, Given, given_outcome, gives, glob_facts}
 use Rattle.wax.specs.Walks.{glob_mark, glob_walk, GlobEntry, is_beyond, is_kept, is_kept_entry, IsCutShort}
@@ -155,13 +156,13 @@ module _ (other : GlobView) (of_residue : TreeEntry → Facts) where
 -- ---- what is collected
 
 module _ {D C : Type 0} (g : GlobView) (law : Law D C) (d : D) (start : List ℕ) (other : GlobView)
-    (rule : Facts → Mark) (says : IsNotRule (λ t. t ≡ other.tree) rule) (tells : List (List ℕ) → Type 0)
+    (rule : Candidate → Mark) (says : IsNotRule (λ t. t ≡ other.tree) rule) (tells : List (List ℕ) → Type 0)
     (of_residue : TreeEntry → Facts) (items : List (Result GlobEntry WalkError)) where
   abbrev pub all_items : List Given
   all_items = map (given_outcome glob_facts of_residue) items
 
   -- what is collected of the glob's walk less what these rules leave out
-  abbrev pub AreItemsExcluding : List (Facts → Mark) → DepthRange → Type 0
+  abbrev pub AreItemsExcluding : List (Candidate → Mark) → DepthRange → Type 0
   AreItemsExcluding rules asked = (depth : Bounds) × Depth g.tree depth × ((b : Beginning g.tree)
       (filters : List (Filter Span)) (s : Shown) (listed : List (List ℕ)) → AreRulesOf filters rules
       → ArePlain b.names → law.shows d (origin_from start b.rooted b.names).path s → law.tells d listed
@@ -170,7 +171,7 @@ module _ {D C : Type 0} (g : GlobView) (law : Law D C) (d : D) (start : List ℕ
   says_other : IsRuleOf (not_meant other.tree) rule
   says_other = subst (λ t. IsRuleOf (not_meant t) rule) says.1.only.0 says.2
 
-  module _ (rules : List (Facts → Mark)) (asked : DepthRange) (h : AreItemsExcluding rules asked)
+  module _ (rules : List (Candidate → Mark)) (asked : DepthRange) (h : AreItemsExcluding rules asked)
       (e : rules ≡ rule ∷ []) (known : IsKnownFrom g law d start) where
     abbrev pub other_request : GlobRequest
     other_request = request_of start asked h.0 known.beginning (not_meant other.tree ∷ [])

@@ -11,7 +11,7 @@ abbrev pub invariant-loop-name : goal.invariant-loop-name
 invariant-loop-name g l =
     (asked : List WalkOption) → SayEach l.options asked
     → SoFar (FnReturnsAt g.B.Fn l.read) l.rest asked
-    (map (rule_by (λ e f. excluded_mark e f) (λ list f. listed_mark list.rule f)) l.filters.items)
+    (map (rule_by (λ e c. excluded_mark e c) (λ list c. listed_mark list.rule c)) l.filters.items)
 
 abbrev pub decreases-loop-name : goal.decreases-loop-name
 decreases-loop-name g l = length l.rest

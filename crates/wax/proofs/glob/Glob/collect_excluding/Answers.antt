@@ -1,5 +1,6 @@
-use Rattle.std.proofs.Common.{[], refl, subst, ◌∙◌, inr, arith}
+use Rattle.std.proofs.Common.{[], map, refl, subst, ◌∙◌, inr, arith}
 use Rattle.wax_exclude.specs.GlobRequests.{goes}
+use Rattle.wax_glob_walk.specs.Programs.{any_mark}
 use Rattle.wax_tree.specs.Begins.{behavior_range}
 use Rattle.wax_walk.proofs.Collecting.{map_ok}
 use Rattle.wax_walk.proofs.Knowing.{all_before}
@@ -12,13 +13,14 @@ use Rattle.wax.proofs.glob.Glob.collect_excluding.Goals as goal
 pub returns-clause-took : goal.returns-clause-took
 returns-clause-took g c =
     let h = c.walk_in-walk.ensures.begins in
+    let rule = any_mark (map g.R.Exclude.rule c.args.rules.items) in
     let ends = c.walk_in-walk.ensures.gives in
     map_ok (λ r k. (
       k.0,
       gave_within c.args.self.now.tree g.D.Directory.law c.args.directory c.args.start.now
-          (behavior_range c.args.behavior) _ _ r.1 k.0 h (omega (arith, k.2, ends.gives)) k.1,
+          (behavior_range c.args.behavior) _ rule r.1 k.0 h (omega (arith, k.2, ends.gives)) k.1,
       fails_at_folders c.args.self.now.tree g.D.Directory.law c.args.directory c.args.start.now
-          (behavior_range c.args.behavior) _ _ r.1 k.0 h k.1,
+          (behavior_range c.args.behavior) _ rule r.1 k.0 h k.1,
       k.3,
     ))
     c.collect_excluding.result c.collect_excluding.ensures.took

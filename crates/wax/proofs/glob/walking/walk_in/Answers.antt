@@ -1,9 +1,12 @@
 use Rattle.std.proofs.Common.{◌≡◌, ◌∙◌, MatchOption, ap, subst}
 use Rattle.wax_tree.specs.Begins.{behavior_range}
 use Rattle.wax_tree.specs.Prefix.{from_last}
+use Rattle.wax_exclude.specs.Leading.{component_test}
 use Rattle.wax_exclude.specs.Prefix.{HasEmptyName}
+use Rattle.wax_glob_walk.specs.Programs.{leading_mark}
+use Rattle.wax_token.specs.Reads.{Span}
 use Rattle.wax.specs.GlobWalks.{IsPlan, within}
-use Rattle.wax.proofs.GlobWalks.{begins_along, begins_ended, begins_refused}
+use Rattle.wax.proofs.GlobWalks.{begins_along, begins_ended, begins_refused, decides}
 use Rattle.wax.proofs.GoingAlong.{can_walk, none_match}
 use Rattle.wax.proofs.glob.walking.walk_in.Goals as goal
 
@@ -30,7 +33,7 @@ returns-in-Ok-None-clause-begins g c =
     let same : c.within-range.result ≡ within asked w.0 = w.3 ∙ ap (λ r. within r w.0) c.range.ensures in
     begins_ended glob g.D.Directory.law c.args.directory start asked w.0 w.1 (λ b filters plain. can_walk glob.tree c.keeps_rules.ensures w.0 w.2 start asked b filters plain)
     (none_match glob.tree c.keeps_rules.ensures) _
-    _ c.within-range.result _
+    _ c.within-range.result (leading_mark (component_test {A = Span}) c.new.result.items decides glob)
     (λ taken prefix p. subst (λ o. MatchOption o (HasEmptyName prefix) (λ r. IsPlan glob.tree prefix r.0.is_rooted (from_last r.0.names.items) r.1.items)) c.in-Ok-None.field-0-is (c.in-Ok-None.ensures taken prefix p))
     same c.ended-walk.ensures.ended c.walk_of-in-Ok-None.ensures.view
 
