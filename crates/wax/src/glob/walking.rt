@@ -106,7 +106,7 @@ impl<'t> Glob<'t> {
     fn keeps_rules(&self)
         ensures { IsKept self.now.tree }
     {
-        let _tokenized = &self.tokenized;
+        let _compiled = &self.compiled;
     }
 
     // Lowers the greatest depth of `range` to that of the glob.
@@ -135,7 +135,7 @@ fn needs<'g, 't>(
         → MatchOption plan (HasEmptyName prefix) (λ r.
         IsPlan glob.now.tree prefix r.0.is_rooted (from_last r.0.names.items) r.1.items)) }
 {
-    let token = glob.tokenized.as_token();
+    let token = glob.token();
     match prefix_names_of(alloc, token)? {
         Some(prefix_names) => {
             let leading = leading(alloc, token, prefix_names.is_rooted)?;
