@@ -105,9 +105,7 @@ impl<'t> Checked<Token<'t, ExpressionMetadata>> {
             inner: self.inner.into_owned(alloc)?,
         })
     }
-}
 
-impl<'t> Checked<Token<'t, ExpressionMetadata>> {
     /// Combines tokens into one alternation, which matches what at least one of them matches.
     /// Without tokens it matches nothing.
     ///
