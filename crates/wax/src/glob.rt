@@ -44,7 +44,7 @@ use wax_prefilter::Prefilter;
 use wax_query::diagnostics::{NoMemory, Refusal};
 use wax_query::query::{CapturingToken, DepthVariance, TextVariance, Variance, When};
 use wax_rule::rule::check;
-use wax_token::token::{ExpressionMetadata, LeafKind, Tokenized};
+use wax_token::token::{ExpressionMetadata, LeafKind, Sides, Tokenized};
 
 /// A glob, built from an expression by `Glob::new`. It implements `Program`, which has the calls
 /// that match. Contracts see the characters of its expression and its tree.
@@ -270,7 +270,7 @@ fn compiled<'t>(
         (λ _. 1048576 < program_length tokenized.entry.token) }
 {
     let tokens = tokenized.token.concatenation();
-    let program = encode::compile(alloc, tokens, false, false)?;
+    let program = encode::compile(alloc, tokens, Sides::NONE)?;
     let reads_last = encode::reads_last(&program);
     let prefilter = Prefilter::new(alloc, tokens)?;
     let pieces = Pieces::new(alloc, tokens)?;

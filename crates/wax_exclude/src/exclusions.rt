@@ -19,7 +19,7 @@ use wax_match::encode;
 use wax_match::encode::{CompileError, CompiledProgram};
 use wax_prefilter::Prefilter;
 use wax_query::diagnostics::{NoMemory, Refusal};
-use wax_token::token::{ExpressionMetadata, LeafKind, Token, Wildcard};
+use wax_token::token::{ExpressionMetadata, LeafKind, Sides, Token, Wildcard};
 use wax_walk::{Entry, EntryResidue, Exclude};
 
 /// How many bytes may be kept of earlier texts.
@@ -91,7 +91,7 @@ impl Exclusion {
             (λ _. 1048576 < program_length pattern.entry) }
     {
         let tokens = pattern.concatenation();
-        let program = encode::compile(alloc, tokens, false, false)?;
+        let program = encode::compile(alloc, tokens, Sides::NONE)?;
         let prefilter = Prefilter::new(alloc, tokens)?;
         let alternatives = into_alternatives(alloc, pattern)?;
         let covering = covering_programs(alloc, alternatives.as_slice())?;

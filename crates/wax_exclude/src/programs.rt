@@ -9,7 +9,7 @@ use std::alloc::Global;
 use wax_match::encode;
 use wax_match::encode::{CompiledProgram, Meter};
 use wax_query::diagnostics::{NoMemory, Refusal};
-use wax_token::token::{ExpressionMetadata, Token};
+use wax_token::token::{ExpressionMetadata, Sides, Token};
 
 /// Compiles tokens that are known to fit, with nothing around them.
 ///
@@ -24,7 +24,7 @@ pub fn program_of<'t>(
     ensures { IfOk result (λ p. (s : List ℕ)
         → Accepts p.0 0 s ↔ MeansEach (trees tokens.now) false false s) }
 {
-    match encode::compile(alloc, tokens, false, false) {
+    match encode::compile(alloc, tokens, Sides::NONE) {
         Ok(program) => Ok(program),
         Err(Refusal::Memory) => Err(NoMemory),
         Err(Refusal::Refused(_)) => unreachable!(),

@@ -36,7 +36,7 @@ use wax_prefilter::Prefilter;
 use wax_query::diagnostics::{NoMemory, Refusal};
 use wax_query::query::{DepthVariance, TextVariance, Variance, When};
 use wax_rule::rule::{Checked, already_checked};
-use wax_token::token::{ExpressionMetadata, Token};
+use wax_token::token::{ExpressionMetadata, Sides, Token};
 
 /// A set of patterns, which matches a path if one of its patterns does. `any` builds it. Contracts
 /// see the alternation of their trees.
@@ -90,7 +90,7 @@ pub(crate) fn compiled<'t>(
         (λ _. 1048576 < program_length token.entry) }
 {
     let tokens = token.concatenation();
-    let program = encode::compile(alloc, tokens, false, false)?;
+    let program = encode::compile(alloc, tokens, Sides::NONE)?;
     let prefilter = Prefilter::new(alloc, tokens)?;
     let pieces = Pieces::new(alloc, tokens)?;
     Ok(Any {

@@ -11,10 +11,9 @@ ghost use Rattle.wax_rule.specs.Keeping.{KeepsRules};
 use crate::rule::{Checked, Ruled};
 use std::alloc::{AllocError, Global};
 use wax_alternatives::into_alternatives;
+use wax_fold::TokenTree;
 use wax_query::diagnostics::NoMemory;
-use wax_token::token::{
-    Alternation, BranchKind, ExpressionMetadata, Token, TokenTree, Tokenized, new_branch,
-};
+use wax_token::token::{Alternation, BranchKind, ExpressionMetadata, Token, Tokenized, new_branch};
 
 /// A type that contains a token, which keeps the rules if the value does.
 pub trait RuledTree<'t>: TokenTree<'t, Annotation = ExpressionMetadata> + Ruled {
