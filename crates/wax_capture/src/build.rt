@@ -29,7 +29,7 @@ fn piece_of<'t, A>(
     Ok(Piece {
         ways,
         is_lazy: is_lazy(token),
-        capture: capture_of(token, sides.before),
+        capture: capture_of(token, sides),
     })
 }
 

@@ -4,8 +4,7 @@ use Rattle.std.proofs.lemmas.List.{drop_more}
 use Rattle.std.specs.Option.{option_or}
 use Rattle.std.specs.List.{flat_map}
 use Rattle.wax_break.specs.declared.Break.{Break}
-use Rattle.wax_rule.specs.declared.rule.Rule.{Rule}
-use Rattle.wax_rule.specs.FirstBreak.{head_of, shape_breaks, breaks_of, oversized_among, oversized_in, oversized_inside}
+use Rattle.wax_rule.specs.FirstBreak.{head_of, shape_breaks, breaks_of, oversized_among}
 use Rattle.wax_rule.specs.declared.rule.Rule.TheVariants.{Boundary, Bounds, Branch}
 use Rattle.wax_break.specs.declared.Sort.TheVariants.{Alternation}
 use Rattle.wax_break.specs.declared.Side.{Side}
@@ -19,12 +18,12 @@ pub head_of_append : {A : Type 0} (xs ys : List A) → head_of (xs ++ ys) ≡ op
 head_of_append [] ys = refl
 head_of_append (x ∷ xs) ys = refl
 
-pub rule_step : (rule : Rule) (row : List Situated) (i : ℕ) (s : Situated) → i < length row → s ≡ get_or row i s →
-    head_of (flat_map (breaks_of rule) (drop i row)) ≡ option_or (head_of (breaks_of rule s)) (head_of (flat_map (breaks_of rule) (drop (i + 1) row)))
-rule_step rule row i s h e =
-    ap (λ z. head_of (flat_map (breaks_of rule) z)) (drop_more row i s h)
-    ∙ head_of_append (breaks_of rule (get_or row i s)) (flat_map (breaks_of rule) (drop (i + 1) row))
-    ∙ ap (λ z. option_or (head_of (breaks_of rule z)) (head_of (flat_map (breaks_of rule) (drop (i + 1) row)))) (sym e)
+pub first_step : (f : Situated → List Break) (row : List Situated) (i : ℕ) (s : Situated) → i < length row → s ≡ get_or row i s →
+    head_of (flat_map f (drop i row)) ≡ option_or (head_of (f s)) (head_of (flat_map f (drop (i + 1) row)))
+first_step f row i s h e =
+    ap (λ z. head_of (flat_map f z)) (drop_more row i s h)
+    ∙ head_of_append (f (get_or row i s)) (flat_map f (drop (i + 1) row))
+    ∙ ap (λ z. option_or (head_of (f z)) (head_of (flat_map f (drop (i + 1) row)))) (sym e)
 
 -- ---- all rules
 pub first_shape_break : (row : List Situated) (a b c o p : Option Break) →
@@ -44,13 +43,6 @@ oversized_among_step ts i t h e =
     ap (λ z. head_of (oversized_among (trees z))) (drop_more ts i t h)
     ∙ head_of_append (size_breaks (get_or ts i t)) (oversized_among (trees (drop (i + 1) ts)))
     ∙ ap (λ z. option_or (head_of (size_breaks z)) (head_of (oversized_among (trees (drop (i + 1) ts))))) (sym e)
-
-pub oversized_inside_step : (row : List Situated) (i : ℕ) (s : Situated) → i < length row → s ≡ get_or row i s →
-    head_of (oversized_inside (drop i row)) ≡ option_or (head_of (oversized_in s.token)) (head_of (oversized_inside (drop (i + 1) row)))
-oversized_inside_step row i s h e =
-    ap (λ z. head_of (oversized_inside z)) (drop_more row i s h)
-    ∙ head_of_append (oversized_in (get_or row i s).token) (oversized_inside (drop (i + 1) row))
-    ∙ ap (λ (z : Situated). option_or (head_of (oversized_in z.token)) (head_of (oversized_inside (drop (i + 1) row)))) (sym e)
 
 -- ---- the branches of an alternation
 pub alternatives_step : (s : Span) (left right : Option Side) (ts : List (Tree Span)) (i : ℕ) (t : Tree Span) → i < length ts → t ≡ get_or ts i t →
