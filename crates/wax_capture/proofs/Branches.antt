@@ -1,5 +1,5 @@
 -- The forms of branches.
-use Rattle.std.proofs.Common.{◌≡◌, ℕ, zero, suc, ◌+◌, ◌<◌, ◌≤◌, ◌↔◌, Bool, List, [], ◌∷◌, ◌++◌, length, get_or, take, Some, slice_get, refl, sym, ◌∙◌, ap, subst, inl, inr, arith}
+use Rattle.std.proofs.Common.{◌≡◌, ℕ, zero, suc, ◌+◌, ◌<◌, ◌≤◌, ◌↔◌, Bool, List, [], ◌∷◌, ◌++◌, length, get_or, take, Some, slice_get, sym, ◌∙◌, ap, subst, inl, inr, arith}
 use Rattle.std.proofs.lemmas.Bool.{cases_lt}
 use Rattle.std.proofs.lemmas.Option.{slice_get_within}
 use Rattle.wax_token.specs.Cost.{cost, branches_cost}
@@ -13,30 +13,28 @@ use Rattle.wax_lengths.specs.declared.form.Form.{Form}
 use Rattle.wax_lengths.proofs.Lists.{slice_left, slice_seam, some_same}
 
 -- ---- one token of a row
-pub record Stands {A : Type 0} (ts : List (Tree A)) (i : ℕ) : Type 0 where
-  pub token : Tree A
-  pub is : token ≡ get_or ts i token
-  pub to : (before after : Bool) (x : List ℕ) → MeansBranch (trees ts) i before after x → Means token before after x
-  pub from : (before after : Bool) (x : List ℕ) → Means token before after x → MeansBranch (trees ts) i before after x
-  pub cheap : branches_cost (trees (take (i + 1) ts)) ≡ branches_cost (trees (take i ts)) + (cost token + 2)
-  pub part : cost token ≤ branches_cost (trees ts)
+pub record Stands {A : Type 0} (ts : List (Tree A)) (i : ℕ) (t : Tree A) : Type 0 where
+  pub to : (before after : Bool) (x : List ℕ) → MeansBranch (trees ts) i before after x → Means t before after x
+  pub from : (before after : Bool) (x : List ℕ) → Means t before after x → MeansBranch (trees ts) i before after x
+  pub cheap : branches_cost (trees (take (i + 1) ts)) ≡ branches_cost (trees (take i ts)) + (cost t + 2)
+  pub part : cost t ≤ branches_cost (trees ts)
 
-pub stands : {A : Type 0} (ts : List (Tree A)) (i : ℕ) → i < length ts → Stands ts i
-stands [] i lt = absurd (omega (arith, lt))
-stands (t ∷ ts) zero lt = record { token = t; is = refl; to = λ b a x h. h; from = λ b a x h. h; cheap = omega arith; part = omega arith }
-stands (t ∷ ts) (suc i) lt =
-    let r : Stands ts i = stands ts i (omega (arith, lt)) in
+pub stands : {A : Type 0} (ts : List (Tree A)) (i : ℕ) (t : Tree A) → i < length ts → t ≡ get_or ts i t → Stands ts i t
+stands [] i t lt is = absurd (omega (arith, lt))
+stands (u ∷ ts) zero t lt is = subst (λ z. Stands (u ∷ ts) zero z) (sym is) (record { to = λ b a x h. h; from = λ b a x h. h; cheap = omega arith; part = omega arith })
+stands (u ∷ ts) (suc i) t lt is =
+    let r : Stands ts i t = stands ts i t (omega (arith, lt)) is in
     let n : suc i + 1 ≡ suc (i + 1) = omega arith in
-    let cheap : branches_cost (trees (take (suc (i + 1)) (t ∷ ts))) ≡ branches_cost (trees (take (suc i) (t ∷ ts))) + (cost r.token + 2) = omega (arith, r.cheap) in
-    record { token = r.token; is = r.is; to = λ b a x h. r.to b a x h; from = λ b a x h. r.from b a x h; cheap = rw n cheap; part = omega (arith, r.part) }
+    let cheap : branches_cost (trees (take (suc (i + 1)) (u ∷ ts))) ≡ branches_cost (trees (take (suc i) (u ∷ ts))) + (cost t + 2) = omega (arith, r.cheap) in
+    record { to = λ b a x h. r.to b a x h; from = λ b a x h. r.from b a x h; cheap = rw n cheap; part = omega (arith, r.part) }
 
 -- ---- the branches, one after another
 abbrev pub WaysTo : {A : Type 0} → List (Tree A) → Bool → Bool → List Form → ℕ → Type 0
 WaysTo ts before after forms n = (k : ℕ) (x : List ℕ) → k < n → MeansBranch (trees ts) k before after x ↔ WayIn forms k x
 
-pub ways_push : {A : Type 0} (ts : List (Tree A)) (before after : Bool) (forms : List Form) (n : ℕ) (form : Form) → length forms ≡ n → (s : Stands ts n) →
-    ((x : List ℕ) → TakenBy form x ↔ Means s.token before after x) → WaysTo ts before after forms n → WaysTo ts before after (forms ++ form ∷ []) (n + 1)
-ways_push ts before after forms n form count s means to k x lt = elim (cases_lt k n) [
+pub ways_push : {A : Type 0} (ts : List (Tree A)) (before after : Bool) (forms : List Form) (n : ℕ) (form : Form) → length forms ≡ n → (t : Tree A) (s : Stands ts n t) →
+    ((x : List ℕ) → TakenBy form x ↔ Means t before after x) → WaysTo ts before after forms n → WaysTo ts before after (forms ++ form ∷ []) (n + 1)
+ways_push ts before after forms n form count t s means to k x lt = elim (cases_lt k n) [
   | inl less ↦ (let e : slice_get (forms ++ form ∷ []) k ≡ slice_get forms k = slice_left forms (form ∷ []) k (omega (arith, less, count)) in (
     (λ h. let w : WayIn forms k x = (to k x less).0 h in (w.0, e ∙ w.1, w.2)),
     (λ h. (to k x less).1 (h.0, sym e ∙ h.1, h.2)),

@@ -4,7 +4,6 @@ pub mod ByteParts
 pub mod Choosing
 pub mod Counting
 pub mod Linking
-pub mod NothingCaptured
 pub mod Parts
 pub mod Rows
 pub mod Runs

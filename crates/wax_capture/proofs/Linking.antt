@@ -39,7 +39,7 @@ begins_so (form.Text letters folded) l x e h = spelled folded letters.items x e 
     spelled f (k ∷ ls) (d ∷ x) e h = (d, x, refl, sym (some_same e) ∙ is_letter f k d h.0)
 begins_so form.Name l x e h = absurd (cc)
 begins_so form.SlashOrNothing l x e h = absurd (cc)
-begins_so (form.Tree before after rooted) l x e h = absurd (cc)
+begins_so (form.Tree sides rooted) l x e h = absurd (cc)
 begins_so (form.Run test low high) l x e h = absurd (cc)
 begins_so (form.Coded program) l x e h = absurd (cc)
 

@@ -1,16 +1,13 @@
 -- The forms of the ways of one token.
-use Rattle.std.proofs.Common.{◌≡◌, ℕ, zero, suc, ◌+◌, ◌-◌, ◌<◌, ◌↔◌, Bool, true, false, List, [], ◌∷◌, length, get_or, take, drop, map, Err, refl, sym, ◌∙◌, ap, subst, arith, true≢false}
+use Rattle.std.proofs.Common.{◌≡◌, ℕ, zero, suc, ◌<◌, ◌↔◌, Bool, true, false, List, [], ◌∷◌, map, Err, refl, sym, subst, arith, true≢false}
 use Rattle.std.proofs.lemmas.Option.{slice_get_within}
 use Rattle.unicode.specs.CaseFolding.{simple_fold}
-use Rattle.wax_program.specs.declared.instruction.Instruction.{Instruction}
-use Rattle.wax_program.specs.Machine.{Accepts}
 use Rattle.wax_query.specs.Outcome.{MatchBuild}
 use Rattle.wax_query.specs.declared.diagnostics.Refusal.{Refusal}
 use Rattle.wax_query.specs.declared.diagnostics.Refusal.TheVariants.{Refused, Memory}
-use Rattle.wax_token.specs.Cost.{cost, costs}
-use Rattle.wax_token.specs.Meaning.{Means, MeansEach, SameFold, SameText, TreeMeans}
-use Rattle.wax_token.specs.Syntax.{literal, class, separator, one, zero_or_more, tree, Tree, leaf, alternation, concatenation, repetition, none, more}
-use Rattle.wax_token.specs.Words.{trees}
+use Rattle.wax_token.specs.Cost.{cost}
+use Rattle.wax_token.specs.Meaning.{Means, SameFold, SameText, TreeMeans}
+use Rattle.wax_token.specs.Syntax.{literal, class, separator, one, zero_or_more, tree, Tree, leaf, alternation, concatenation, repetition}
 use Rattle.wax_capture.specs.Captures.{First, LeafWay, MeansByWay, tree_capture}
 use Rattle.wax_capture.specs.inner.Ways.{IsTreeToken, is_single}
 use Rattle.wax_capture.specs.Pieces.{WayIn}
@@ -39,22 +36,6 @@ spelled_folded (c ∷ t) [] = ((λ h. h), (λ h. h))
 spelled_folded (c ∷ t) (d ∷ x) =
     let r : SpelledBy true (map simple_fold t) x ↔ SameText true t x = spelled_folded t x in
     ((λ h. (h.0, r.0 h.1)), (λ h. (h.0, r.1 h.1)))
-
--- ---- a token's own program
-one_part : {A : Type 0} (ts : List (Tree A)) (i : ℕ) (t : Tree A) → i < length ts → t ≡ get_or ts i t → trees (take 1 (drop i ts)) ≡ more t none
-one_part [] i t lt e = absurd (omega (arith, lt))
-one_part (u ∷ ts) zero t lt e = ap (λ z. more z none) (sym e)
-one_part (u ∷ ts) (suc i) t lt e = one_part ts i t (omega (arith, lt)) e
-
-pub at_token : {A : Type 0} (ts : List (Tree A)) (i : ℕ) (t : Tree A) → i < length ts → t ≡ get_or ts i t → trees (take (i + 1 - i) (drop i ts)) ≡ more t none
-at_token ts i t lt e = let n : i + 1 - i ≡ 1 = omega arith in ap (λ k. trees (take k (drop i ts))) n ∙ one_part ts i t lt e
-
-pub token_program : {A : Type 0} (ts : List (Tree A)) (i : ℕ) (t : Tree A) → i < length ts → t ≡ get_or ts i t → (before after : Bool) (program : List Instruction × ℕ) →
-    ((x : List ℕ) → Accepts program.0 0 x ↔ MeansEach (trees (take (i + 1 - i) (drop i ts))) before after x) → (x : List ℕ) → Accepts program.0 0 x ↔ Means t before after x
-token_program ts i t lt e before after program h x = subst (λ z. Accepts program.0 0 x ↔ MeansEach z before after x) (at_token ts i t lt e) (h x)
-
-pub token_cost : {A : Type 0} (ts : List (Tree A)) (i : ℕ) (t : Tree A) → i < length ts → t ≡ get_or ts i t → costs (trees (take (i + 1 - i) (drop i ts))) ≡ cost t
-token_cost ts i t lt e = let f : costs (trees (take (i + 1 - i) (drop i ts))) ≡ cost t + 0 = ap costs (at_token ts i t lt e) in omega (arith, f)
 
 -- ---- ways
 pub first_way : (form : Form) (M : List ℕ → Type 0) → ((x : List ℕ) → TakenBy form x ↔ M x) → (k : ℕ) (x : List ℕ) → First (M x) k ↔ WayIn (form ∷ []) k x
@@ -115,3 +96,6 @@ tree_cost (leaf a (zero_or_more e)) rooted is = absurd is
 tree_cost (alternation a ts) rooted is = absurd is
 tree_cost (concatenation a ts) rooted is = absurd is
 tree_cost (repetition a t low high) rooted is = absurd is
+
+pub both_ways : {P Q R : Type 0} → (P ↔ Q) → (Q ↔ R) → P ↔ R
+both_ways f g = ((λ h. g.0 (f.0 h)), (λ h. f.1 (g.1 h)))

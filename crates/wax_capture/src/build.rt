@@ -2,10 +2,8 @@
 ghost use Rattle.std.specs.Prelude.{◌≡◌, ◌+◌, ◌<◌, ◌∷◌, [], ◌++◌, List, OnOk, false, length};
 ghost use Rattle.wax_query.specs.Outcome.{MatchBuild};
 ghost use Rattle.wax_token.specs.Cost.{cost, costs};
-ghost use Rattle.wax_token.specs.Syntax.{Tree};
 ghost use Rattle.wax_token.specs.Words.{trees};
 ghost use Rattle.wax_capture.specs.Pieces.{ArePieces, IsPiece};
-ghost use Rattle.wax_capture.specs.inner.Ways.{IsAt};
 
 use crate::piece::Piece;
 use crate::tokens::{capture_of, is_lazy};
@@ -13,30 +11,25 @@ use crate::ways::ways_of;
 use std::alloc::{AllocError, Global};
 use wax_match::encode::CompileError;
 use wax_query::diagnostics::Refusal;
-use wax_token::token::Token;
+use wax_token::token::{Sides, Token};
 
-/// Builds the piece of the token at the index.
+/// Builds the piece of a token.
 fn piece_of<'t, A>(
     alloc: Global,
-    tokens: &[Token<'t, A>],
-    index: usize,
-    before: bool,
-    after: bool,
+    token: &Token<'t, A>,
+    sides: Sides,
 ) -> Result<Piece, Refusal<CompileError>>
-    requires { index < length tokens.now }
-    ensures { MatchBuild result
-        (λ p. (t : Tree A) → IsAt tokens.now index t → IsPiece t before after p)
-        (λ _. (t : Tree A) → IsAt tokens.now index t → 1048576 < cost t + 1) }
+    ensures { MatchBuild result (IsPiece token.now sides.before sides.after)
+        (λ _. 1048576 < cost token.now + 1) }
 {
-    let ways = match ways_of(alloc, tokens, index, before, after) {
+    let ways = match ways_of(alloc, token, sides) {
         Ok(ways) => ways,
         Err(refusal) => return Err(refusal),
     };
-    let token = &tokens[index];
     Ok(Piece {
         ways,
         is_lazy: is_lazy(token),
-        capture: capture_of(token, before),
+        capture: capture_of(token, sides),
     })
 }
 
@@ -65,7 +58,11 @@ pub fn pieces_of<'t, A>(
     while index > 0 {
         let has_next = index < tokens.len();
         index -= 1;
-        let piece = match piece_of(alloc, tokens, index, index > 0, has_next) {
+        let sides = Sides {
+            before: index > 0,
+            after: has_next,
+        };
+        let piece = match piece_of(alloc, &tokens[index], sides) {
             Ok(piece) => piece,
             Err(refusal) => return Err(refusal),
         };

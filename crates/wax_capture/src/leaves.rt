@@ -12,7 +12,7 @@ use std::alloc::{AllocError, Global};
 use unicode::case::simple_fold;
 use wax_lengths::Form;
 use wax_program::instruction::{BoxedClass, Test};
-use wax_token::token::{BranchKind, Class, LeafKind, Literal, Token, Topology, Wildcard};
+use wax_token::token::{BranchKind, Class, LeafKind, Literal, Sides, Token, Topology, Wildcard};
 
 /// Returns the characters of a text as a list.
 fn characters(alloc: Global, text: &str) -> Result<Vec<char>, AllocError>
@@ -45,16 +45,16 @@ fn form_of_literal(alloc: Global, literal: &Literal<'_>) -> Result<Form, AllocEr
     Ok(Form::Text(letters, false))
 }
 
-fn form_of_wildcard(wildcard: &Wildcard, before: bool, after: bool) -> Form
-    ensures means { (x : List ℕ) → TakenBy result x ↔ LeafMeans (wildcard_leaf wildcard.now) before after x }
+fn form_of_wildcard(wildcard: &Wildcard, sides: Sides) -> Form
+    ensures means { (x : List ℕ)
+        → TakenBy result x ↔ LeafMeans (wildcard_leaf wildcard.now) sides.before sides.after x }
     ensures few { form_size result ≤ leaf_cost (wildcard_leaf wildcard.now) }
 {
     match wildcard {
         Wildcard::One => Form::One(Test::NotSlash),
         Wildcard::ZeroOrMore(_) => Form::Name,
         Wildcard::Tree { has_root } => Form::Tree {
-            before,
-            after,
+            sides,
             has_root: *has_root,
         },
     }
@@ -84,27 +84,21 @@ pub fn test_of_leaf(alloc: Global, leaf: &LeafKind<'_>) -> Result<Option<Test>, 
     })
 }
 
-/// Builds the form of a leaf. `before` and `after` say whether something is written before and
-/// after it.
+/// Builds the form of a leaf, by what is around it.
 ///
 /// # Errors
 ///
 /// Returns `AllocError` if allocation fails.
-pub fn form_of_leaf(
-    alloc: Global,
-    leaf: &LeafKind<'_>,
-    before: bool,
-    after: bool,
-) -> Result<Form, AllocError>
+pub fn form_of_leaf(alloc: Global, leaf: &LeafKind<'_>, sides: Sides) -> Result<Form, AllocError>
     ensures means { IfOk result (λ form. (x : List ℕ)
-        → TakenBy form x ↔ LeafMeans (leaf_of leaf.now) before after x) }
+        → TakenBy form x ↔ LeafMeans (leaf_of leaf.now) sides.before sides.after x) }
     ensures few { IfOk result (λ form. form_size form ≤ leaf_cost (leaf_of leaf.now)) }
 {
     Ok(match leaf {
         LeafKind::Class(class) => Form::One(test_of_class(alloc, class)?),
         LeafKind::Literal(literal) => form_of_literal(alloc, literal)?,
         LeafKind::Separator(_) => Form::One(Test::Char('/')),
-        LeafKind::Wildcard(wildcard) => form_of_wildcard(wildcard, before, after),
+        LeafKind::Wildcard(wildcard) => form_of_wildcard(wildcard, sides),
     })
 }
 

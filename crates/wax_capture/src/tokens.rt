@@ -8,12 +8,11 @@ ghost use Rattle.wax_capture.specs.Pieces.{captured_by};
 ghost use Rattle.wax_capture.specs.inner.Ways.{IsTreeToken, is_single};
 
 use crate::piece::Capture;
-use wax_token::token::{BranchKind, Evaluation, LeafKind, Token, Topology, Wildcard};
+use wax_token::token::{BranchKind, Evaluation, LeafKind, Sides, Token, Topology, Wildcard};
 
-/// Returns what a token captures of its piece. `before` says whether something is written before
-/// it.
-pub fn capture_of<'t, A>(token: &Token<'t, A>, before: bool) -> Capture
-    ensures { (x : List ℕ) → captured_by result x ≡ token_captures token.now before x }
+/// Returns what a token captures of its piece, by what is around it.
+pub fn capture_of<'t, A>(token: &Token<'t, A>, sides: Sides) -> Capture
+    ensures { (x : List ℕ) → captured_by result x ≡ token_captures token.now sides.before x }
 {
     match token.topology() {
         Topology::Branch(branch) => match branch {
@@ -21,35 +20,36 @@ pub fn capture_of<'t, A>(token: &Token<'t, A>, before: bool) -> Capture
             BranchKind::Concatenation(_) => Capture::Nothing,
             BranchKind::Repetition(_) => Capture::Piece,
         },
-        Topology::Leaf(leaf) => capture_of_leaf(leaf, before),
+        Topology::Leaf(leaf) => capture_of_leaf(leaf, sides),
     }
 }
 
-fn capture_of_leaf(leaf: &LeafKind<'_>, before: bool) -> Capture
-    ensures { (x : List ℕ) → captured_by result x ≡ leaf_captures (leaf_of leaf.now) before x }
+fn capture_of_leaf(leaf: &LeafKind<'_>, sides: Sides) -> Capture
+    ensures { (x : List ℕ) → captured_by result x ≡ leaf_captures (leaf_of leaf.now) sides.before x }
 {
     match leaf {
         LeafKind::Class(_) => Capture::Piece,
         LeafKind::Literal(_) => Capture::Nothing,
         LeafKind::Separator(_) => Capture::Nothing,
-        LeafKind::Wildcard(wildcard) => capture_of_wildcard(wildcard, before),
+        LeafKind::Wildcard(wildcard) => capture_of_wildcard(wildcard, sides),
     }
 }
 
-fn capture_of_wildcard(wildcard: &Wildcard, before: bool) -> Capture
-    ensures { (x : List ℕ) → captured_by result x ≡ leaf_captures (wildcard_leaf wildcard.now) before x }
+fn capture_of_wildcard(wildcard: &Wildcard, sides: Sides) -> Capture
+    ensures { (x : List ℕ)
+        → captured_by result x ≡ leaf_captures (wildcard_leaf wildcard.now) sides.before x }
 {
     match wildcard {
         Wildcard::One => Capture::Piece,
         Wildcard::ZeroOrMore(_) => Capture::Piece,
-        Wildcard::Tree { has_root } => capture_of_tree(before, *has_root),
+        Wildcard::Tree { has_root } => capture_of_tree(sides, *has_root),
     }
 }
 
-fn capture_of_tree(before: bool, has_root: bool) -> Capture
-    ensures { (x : List ℕ) → captured_by result x ≡ tree_capture before has_root x ∷ [] }
+fn capture_of_tree(sides: Sides, has_root: bool) -> Capture
+    ensures { (x : List ℕ) → captured_by result x ≡ tree_capture sides.before has_root x ∷ [] }
 {
-    if before {
+    if sides.before {
         return Capture::AfterFirst;
     }
     if has_root {

@@ -6,15 +6,16 @@ ghost use Rattle.wax_lengths.specs.Forms.{TakenBy, form_size};
 
 use wax_lengths::Form;
 use wax_program::instruction::Test;
+use wax_token::token::Sides;
 
 /// Returns a form that takes exactly the pieces of a `**` whose capture is empty.
-pub fn nothing_captured(before: bool, after: bool, has_root: bool) -> Form
+pub fn nothing_captured(sides: Sides, has_root: bool) -> Form
     ensures means { (x : List ℕ) → TakenBy result x
-        ↔ (TreeMeans before after has_root x × (tree_capture before has_root x ≡ [])) }
+        ↔ (TreeMeans sides.before sides.after has_root x × (tree_capture sides.before has_root x ≡ [])) }
     ensures few { form_size result ≤ 1 }
 {
-    if before {
-        if after {
+    if sides.before {
+        if sides.after {
             return Form::One(Test::Char('/'));
         }
         return Form::SlashOrNothing;

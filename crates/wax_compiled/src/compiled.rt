@@ -17,7 +17,7 @@ use wax_match::encode;
 use wax_match::encode::{CompileError, CompiledProgram, Meter};
 use wax_prefilter::Prefilter;
 use wax_query::diagnostics::{NoMemory, Refusal};
-use wax_token::token::{ExpressionMetadata, Token};
+use wax_token::token::{ExpressionMetadata, Sides, Token};
 
 /// What tokens are compiled to: a program that accepts exactly the texts that they match, and facts
 /// about these texts, by which most others are rejected before the program is run. It keeps no
@@ -70,7 +70,7 @@ impl CompiledTokens {
             (λ c. (c.1 ≡ costs (trees tokens.now) + 1) × (c.1 ≤ 1048576))
             (λ _. 1048576 < costs (trees tokens.now) + 1) }
     {
-        let program = encode::compile(alloc, tokens, false, false)?;
+        let program = encode::compile(alloc, tokens, Sides::NONE)?;
         let prefilter = Prefilter::new(alloc, tokens)?;
         Ok(CompiledTokens { program, prefilter })
     }

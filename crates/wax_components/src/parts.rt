@@ -12,8 +12,9 @@ ghost use Rattle.wax_token.specs.Words.{trees};
 use crate::kinds;
 use std::alloc::{AllocError, Global};
 use std::marker::Model;
+use wax_fold::ConcatenationTree;
 use wax_query::diagnostics::{NoMemory, Span, SpanExt};
-use wax_token::token::{Annotation, ConcatenationTree, ExpressionMetadata, Token};
+use wax_token::token::{Annotation, ExpressionMetadata, Token};
 
 /// A component of a glob: the tokens between two boundaries, or a single `**`. Contracts see the
 /// tokens.

@@ -19,7 +19,7 @@ use wax_lazy::Matcher;
 use wax_match::encode;
 use wax_match::encode::CompiledProgram;
 use wax_query::diagnostics::{NoMemory, Refusal};
-use wax_token::token::{ExpressionMetadata, Token};
+use wax_token::token::{ExpressionMetadata, Sides, Token};
 use wax_walk::{Candidate, EntryResidue};
 
 /// The greatest number of lines in a small block.
@@ -251,7 +251,7 @@ fn program_of_some(
     ensures { IfOk result (λ made. IfSome made (λ p. AcceptsSome p.0 alternatives.now)) }
 {
     let token = one_of(join_alternatives(alloc, alternatives)?);
-    match encode::compile(alloc, token.concatenation(), false, false) {
+    match encode::compile(alloc, token.concatenation(), Sides::NONE) {
         Ok(program) => Ok(Some(program)),
         Err(Refusal::Refused(_)) => Ok(None),
         Err(Refusal::Memory) => Err(NoMemory),

@@ -10,7 +10,7 @@ first_letter (form.One test) = None
 first_letter (form.Text letters folded) = slice_get letters.items 0
 first_letter form.Name = None
 first_letter form.SlashOrNothing = None
-first_letter (form.Tree before after rooted) = None
+first_letter (form.Tree sides rooted) = None
 first_letter (form.Run test low high) = None
 first_letter (form.Coded program) = None
 
@@ -20,7 +20,7 @@ is_folded (form.One test) = false
 is_folded (form.Text letters folded) = folded
 is_folded form.Name = false
 is_folded form.SlashOrNothing = false
-is_folded (form.Tree before after rooted) = false
+is_folded (form.Tree sides rooted) = false
 is_folded (form.Run test low high) = false
 is_folded (form.Coded program) = false
 

@@ -36,7 +36,7 @@ TakenBy (form.One test) x = (c : ℕ) × (x ≡ c ∷ []) × PassesTest test c
 TakenBy (form.Text letters folded) x = SpelledBy folded letters.items x
 TakenBy form.Name x = HasNoSlash x
 TakenBy form.SlashOrNothing x = (x ≡ []) ⊎ (x ≡ 47 ∷ [])
-TakenBy (form.Tree before after rooted) x = TreeMeans before after rooted x
+TakenBy (form.Tree sides rooted) x = TreeMeans sides.before sides.after rooted x
 TakenBy (form.Run test low high) x = IsRunOf test.value low high x
 TakenBy (form.Coded program) x = Accepts program.0 0 x
 
@@ -50,6 +50,6 @@ form_size (form.One test) = 1
 form_size (form.Text letters folded) = length letters.items
 form_size form.Name = 1
 form_size form.SlashOrNothing = 1
-form_size (form.Tree before after rooted) = 2
+form_size (form.Tree sides rooted) = 2
 form_size (form.Run test low high) = 1
 form_size (form.Coded program) = program_size program

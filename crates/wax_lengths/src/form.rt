@@ -4,6 +4,7 @@ ghost use Rattle.wax_lengths.specs.Forms.{form_size};
 
 use wax_program::CompiledProgram;
 use wax_program::instruction::Test;
+use wax_token::token::Sides;
 
 /// A set of texts that a token can take. The sets that globs have most often need no program.
 #[derive(Drop)]
@@ -17,10 +18,9 @@ pub enum Form {
     Name,
     /// The empty text, or `/`.
     SlashOrNothing,
-    /// What a `**` matches, by what is written before and after it.
+    /// What a `**` matches, by what is around it.
     Tree {
-        before: bool,
-        after: bool,
+        sides: Sides,
         has_root: bool,
     },
     /// So many characters, each of which passes the test: at least `low`, and at most `high` unless

@@ -17,6 +17,7 @@ use crate::visits::Visits;
 use std::alloc::{AllocError, Global};
 use wax_program::CompiledProgram;
 use wax_program::instruction::{Test, folds_to};
+use wax_token::token::Sides;
 
 /// Returns the lengths for one character that passes the test.
 fn lengths_of_char(test: &Test, text: &Text<'_>, at: usize, visits: &mut Visits) -> LengthSpan
@@ -107,11 +108,9 @@ pub fn may_take(form: &Form, text: &Text<'_>, at: usize) -> bool
     match form {
         Form::One(test) => may_pass(test, text, at),
         Form::Text(letters, is_folded) => may_begin(letters.as_slice(), *is_folded, text, at),
-        Form::Tree {
-            before,
-            after,
-            has_root,
-        } => tree_low(*before, *after, *has_root) == 0 || begins_with_slash(text, at),
+        Form::Tree { sides, has_root } => {
+            tree_low(*sides, *has_root) == 0 || begins_with_slash(text, at)
+        }
         Form::Run { test, low, .. } => *low == 0 || may_pass(test, text, at),
         _ => true,
     }
@@ -221,11 +220,11 @@ fn lengths_of_slash_or_nothing(text: &Text<'_>, at: usize, visits: &mut Visits) 
 }
 
 /// Returns the least length of what a `**` matches.
-fn tree_low(before: bool, after: bool, has_root: bool) -> usize
-    ensures { result ≡ tree_low before after has_root }
+fn tree_low(sides: Sides, has_root: bool) -> usize
+    ensures { result ≡ tree_low sides.before sides.after has_root }
 {
-    if before {
-        after as usize
+    if sides.before {
+        sides.after as usize
     } else {
         has_root as usize
     }
@@ -249,23 +248,22 @@ fn tree_marks(after: bool) -> Marks
 }
 
 /// Returns whether what a `**` matches has to begin with a `/`.
-fn is_bound(before: bool, has_root: bool) -> bool
-    ensures { result ≡ (before || has_root) }
+fn is_bound(sides: Sides, has_root: bool) -> bool
+    ensures { result ≡ (sides.before || has_root) }
 {
-    before || has_root
+    sides.before || has_root
 }
 
 /// Returns the lengths for a `**`.
 fn lengths_of_tree(
-    before: bool,
-    after: bool,
+    sides: Sides,
     has_root: bool,
     text: &Text<'_>,
     at: usize,
     visits: &mut Visits,
 ) -> LengthSpan
     requires { at ≤ length text.now }
-    ensures lengths { AreLengths (TreeMeans before after has_root) (drop at text.now) result }
+    ensures lengths { AreLengths (TreeMeans sides.before sides.after has_root) (drop at text.now) result }
     ensures end { at + result.end ≤ length text.now + 1 }
     ensures looked { visits.new + looks result ≤ visits.old + 2 * (length text.now + 1) }
     ensures steady { visits.old ≤ visits.new }
@@ -273,9 +271,9 @@ fn lengths_of_tree(
     visits.add(1);
     let begins = begins_with_slash(text, at);
     LengthSpan {
-        low: tree_low(before, after, has_root),
-        end: tree_end(is_bound(before, has_root), begins, text.len() - at),
-        marks: tree_marks(after),
+        low: tree_low(sides, has_root),
+        end: tree_end(is_bound(sides, has_root), begins, text.len() - at),
+        marks: tree_marks(sides.after),
     }
 }
 
@@ -377,11 +375,9 @@ pub fn lengths_of(
         }
         Form::Name => Ok(lengths_of_name(text, at, visits)),
         Form::SlashOrNothing => Ok(lengths_of_slash_or_nothing(text, at, visits)),
-        Form::Tree {
-            before,
-            after,
-            has_root,
-        } => Ok(lengths_of_tree(*before, *after, *has_root, text, at, visits)),
+        Form::Tree { sides, has_root } => {
+            Ok(lengths_of_tree(*sides, *has_root, text, at, visits))
+        }
         Form::Run { test, low, high } => Ok(lengths_of_run(test, *low, *high, text, at, visits)),
         Form::Coded(program) => lengths_of_program(alloc, program, text, at, visits),
     }

@@ -1,24 +1,23 @@
 //! Compiling tokens to programs of instructions.
-ghost use Rattle.std.specs.Prelude.{◌≡◌, ◌+◌, ◌*◌, ◌<◌, ◌≤◌, ◌↔◌, ℕ, List, IsTrue, IfOk, chars, length, min};
+ghost use Rattle.std.specs.Prelude.{◌≡◌, ◌+◌, ◌*◌, ◌<◌, ◌≤◌, ◌↔◌, ℕ, [], List, IsTrue, IfOk, chars, length};
+ghost use Rattle.std.specs.Prelude.{min};
 ghost use Rattle.wax_query.specs.Outcome.{MatchBuild};
-ghost use Rattle.wax_token.specs.Cost.{costs};
-ghost use Rattle.wax_token.specs.Meaning.{MeansEach};
+ghost use Rattle.wax_token.specs.Cost.{cost, costs};
+ghost use Rattle.wax_token.specs.Meaning.{Means, MeansEach};
 ghost use Rattle.wax_token.specs.Words.{trees};
 ghost use Rattle.wax_program.specs.Machine.{Accepts};
 
-use cost::{LONGEST, weigh_all};
-use sides::Sides;
+use cost::{LONGEST, weigh, weigh_all};
 use std::alloc::Global;
 use tail::Tail;
 use thiserror::Error;
 use wax_query::diagnostics::Refusal;
-use wax_token::token::Token;
+use wax_token::token::{Sides, Token};
 
 mod cost;
 mod emission;
 mod folding;
 mod leaves;
-mod sides;
 mod tail;
 
 pub use folding::case_folded_eq;
@@ -33,8 +32,8 @@ pub struct CompileError;
 const FIRST_ROOM: usize = 16;
 
 /// Compiles tokens, matched one after another, to a program that accepts exactly the texts that
-/// they match. `before` and `after` say whether something is written before and after them, on
-/// which `**` depends.
+/// they match. `sides` says whether something is written before and after them, on which `**`
+/// depends.
 ///
 /// Takes time and memory linear in the tokens and their cost. The program's length is this cost
 /// plus 1.
@@ -46,20 +45,49 @@ const FIRST_ROOM: usize = 16;
 pub fn compile<'t, A>(
     alloc: Global,
     tokens: &[Token<'t, A>],
-    before: bool,
-    after: bool,
+    sides: Sides,
 ) -> Result<CompiledProgram, Refusal<CompileError>>
-    ensures means { IfOk result
-        (λ p. (s : List ℕ) → Accepts p.0 0 s ↔ MeansEach (trees tokens.now) before after s) }
+    ensures means { IfOk result (λ p. (s : List ℕ)
+        → Accepts p.0 0 s ↔ MeansEach (trees tokens.now) sides.before sides.after s) }
     ensures length { MatchBuild result
         (λ p. (p.1 ≡ costs (trees tokens.now) + 1) × (p.1 ≤ 1048576))
         (λ _. 1048576 < costs (trees tokens.now) + 1) }
 {
     let cost = weigh_all(tokens).cost;
+    let mut tail = tail_for(alloc, cost)?;
+    tail.put_sequence(tokens, sides)?;
+    Ok(CompiledProgram::new(tail.into_instructions(), cost + 1))
+}
+
+/// Compiles one token as `compile` does tokens.
+///
+/// # Errors
+///
+/// Returns `Refusal::Refused` if the cost plus 1 exceeds 1,048,576 (error 9), and `Refusal::Memory`
+/// if allocation fails.
+pub fn compile_token<'t, A>(
+    alloc: Global,
+    token: &Token<'t, A>,
+    sides: Sides,
+) -> Result<CompiledProgram, Refusal<CompileError>>
+    ensures means { IfOk result (λ p. (s : List ℕ)
+        → Accepts p.0 0 s ↔ Means token.now sides.before sides.after s) }
+    ensures length { MatchBuild result
+        (λ p. (p.1 ≡ cost token.now + 1) × (p.1 ≤ 1048576))
+        (λ _. 1048576 < cost token.now + 1) }
+{
+    let cost = weigh(token).cost;
+    let mut tail = tail_for(alloc, cost)?;
+    tail.put_token(token, sides)?;
+    Ok(CompiledProgram::new(tail.into_instructions(), cost + 1))
+}
+
+/// Creates an empty program with room for some instructions, if a program may cost so much.
+fn tail_for(alloc: Global, cost: usize) -> Result<Tail, Refusal<CompileError>>
+    ensures { MatchBuild result (λ tail. (tail ≡ []) × (cost < 1048576)) (λ _. 1048576 ≤ cost) }
+{
     if cost >= LONGEST {
         return Err(Refusal::Refused(CompileError));
     }
-    let mut tail = Tail::with_room(alloc, cost.min(FIRST_ROOM))?;
-    tail.put_sequence(tokens, Sides { before, after })?;
-    Ok(CompiledProgram::new(tail.into_instructions(), cost + 1))
+    Ok(Tail::with_room(alloc, cost.min(FIRST_ROOM))?)
 }

@@ -1,14 +1,13 @@
 -- The error that answers a list of breaks.
-use Rattle.std.specs.Prelude.{◌≡◌, ℕ, ◌+◌, Bool, List, [], ◌∷◌, ◌++◌, Option, Some, None, slice_get}
+use Rattle.std.specs.Prelude.{◌≡◌, ℕ, List, [], ◌∷◌, ◌++◌, Option, Some, None}
 use Rattle.wax_query.specs.Labels.{Composite}
 use Rattle.wax_break.specs.declared.Break.{Break}
 use Rattle.wax_break.specs.declared.RuleErrorKind.{RuleErrorKind}
 use Rattle.std.specs.List.{flat_map}
-use Rattle.std.specs.Option.{is_some}
 use Rattle.wax_rule.specs.declared.rule.Rule.{Rule}
 use Rattle.wax_rule.specs.declared.rule.Rule.TheVariants.{Boundary, Bounds, Branch}
 use Rattle.wax_break.specs.Situated.{Situated}
-use Rattle.wax_break.specs.Rules.{adjacent_span, boundary_breaks, bounds_breaks, branch_breaks, size_breaks}
+use Rattle.wax_break.specs.Rules.{boundary_breaks, bounds_breaks, branch_breaks, size_breaks}
 use Rattle.wax_token.specs.Reads.{Span}
 use Rattle.wax_token.specs.Syntax.{Tree, leaf, alternation, concatenation, repetition, Trees, none, more}
 
@@ -27,40 +26,10 @@ abbrev pub head_of : {A : Type 0} → List A → Option A
 head_of [] = None
 head_of (x ∷ xs) = Some x
 
-abbrev pub adjacent_to : Tree Span → Option (Tree Span) → Option Span
-adjacent_to t None = None
-adjacent_to t (Some u) = adjacent_span t u
-
-abbrev pub adjacent_after : Option (Tree Span) → Option (Tree Span) → Option Span
-adjacent_after None o = None
-adjacent_after (Some t) o = adjacent_to t o
-
--- the span of the token at the index and the next one
-abbrev pub adjacent_at : List (Tree Span) → ℕ → Option Span
-adjacent_at ts i = adjacent_after (slice_get ts i) (slice_get ts (i + 1))
-
-abbrev pub first_some : {A : Type 0} → Option A → Option A → Option A
-first_some None o = o
-first_some (Some s) o = Some s
-
--- the span of the first neighbours that are both boundaries
-abbrev pub first_adjacent : Trees Span → Option Span
-first_adjacent none = None
-first_adjacent (more t none) = None
-first_adjacent (more t (more u us)) = first_some (adjacent_span t u) (first_adjacent (more u us))
-
 abbrev pub breaks_of : Rule → Situated → List Break
 breaks_of Boundary s = boundary_breaks s.token
 breaks_of Bounds s = bounds_breaks s.token
 breaks_of Branch s = branch_breaks s.left s.right s.token
-
-abbrev pub first_in : Rule → Option Situated → Option Break
-first_in rule None = None
-first_in rule (Some s) = head_of (breaks_of rule s)
-
--- the token at the index breaks the rule
-abbrev pub is_broken_at : Rule → List Situated → ℕ → Bool
-is_broken_at rule row i = is_some (first_in rule (slice_get row i))
 
 -- the breaks of all but sizes
 abbrev pub shape_breaks : List Situated → List Break

@@ -1,17 +1,14 @@
 //! The rules that reject expressions which would match other paths than their authors expect.
 ghost use Rattle.std.specs.Prelude.{◌≡◌, ◌∷◌, ◌++◌, ◌<◌, [], ℕ, Bool, IfOk, None, chars, codes};
-ghost use Rattle.std.specs.Prelude.{encode_utf8_all, length, map, slice_get};
 ghost use Rattle.std.specs.Cow.{cow_str_bytes};
-ghost use Rattle.std.specs.List.{flat_map, range_with_len};
+ghost use Rattle.std.specs.List.{flat_map};
 ghost use Rattle.std.specs.Option.{option_or};
 ghost use Rattle.wax_token.specs.Words.{trees};
-ghost use Rattle.itertools.specs.Consumer.{find_at};
 ghost use Rattle.wax_query.specs.Outcome.{MatchBuild};
 ghost use Rattle.wax_break.specs.Situated.{breadth_first};
 ghost use Rattle.wax_break.specs.Rules.{broken, break_here, size_breaks};
 ghost use Rattle.wax_rule.specs.FirstBreak.{TellsFirst, head_of, breaks_of, shape_breaks};
 ghost use Rattle.wax_rule.specs.FirstBreak.{oversized_among, oversized_in, oversized_inside};
-ghost use Rattle.wax_rule.specs.FirstBreak.{first_in, is_broken_at};
 ghost use Rattle.wax_rule.specs.Keeping.{KeepsRules};
 
 mod boundary;
@@ -28,7 +25,6 @@ use crate::rule::branch::branch_break;
 use crate::rule::situated::{Situated, breadth_first};
 use crate::rule::size::is_oversized;
 pub use checked_tokens::{RuledTree, already_checked};
-use itertools::Itertools;
 use std::alloc::{AllocError, Global};
 use std::borrow::CowStr;
 use std::fmt::{self, Display, Formatter};
@@ -200,38 +196,16 @@ fn first_break(rule: Rule, token: &Situated<'_, '_>) -> Option<Break>
     }
 }
 
-/// Returns the first break of a rule at the token with this index, or `None` past the end.
-fn first_break_at(rule: Rule, row: &[Situated<'_, '_>], index: usize) -> Option<Break>
-    ensures { result ≡ first_in rule (slice_get row.now index) }
-{
-    match row.get(index) {
-        Some(token) => first_break(rule, token),
-        None => None,
-    }
-}
-
-/// Returns whether the token at the index breaks the rule.
-fn is_broken_at(rule: Rule, row: &[Situated<'_, '_>], index: usize) -> bool
-    ensures { result ≡ is_broken_at rule row.now index }
-{
-    first_break_at(rule, row, index).is_some()
-}
-
-/// Finds the first token that breaks the rule. `find_position` returns its position with the item,
-/// and here both are its index.
-fn find_broken_index(rule: Rule, row: &[Situated<'_, '_>]) -> Option<(usize, usize)>
-    ensures { result ≡ find_at (is_broken_at rule row.now) 0 (range_with_len 0 (length row.now)) }
-{
-    (0..row.len()).find_position(|index| is_broken_at(rule, row, *index))
-}
-
-/// Finds the first break of the rule. The token that was found is checked once more, since finding
-/// it keeps no break.
+/// Finds the first break of the rule.
 fn find_rule_break(rule: Rule, row: &[Situated<'_, '_>]) -> Option<Break>
     ensures { result ≡ head_of (flat_map (breaks_of rule) row.now) }
 {
-    let (_, index) = find_broken_index(rule, row)?;
-    first_break_at(rule, row, index)
+    for token in row {
+        if let Some(found) = first_break(rule, token) {
+            return Some(found);
+        }
+    }
+    None
 }
 
 /// Finds the first break of any rule but that of sizes, in the order of the rules.
@@ -317,23 +291,8 @@ fn find_size_break<'t>(
     }
 }
 
-/// Finds the first break of any rule in a glob. `row` lists all tokens that contain tokens: leaves
-/// can only be too large. Sizes are computed only if no other rule is broken.
-fn find_break_in_row<'t>(
-    alloc: Global,
-    whole: &Token<'t, ExpressionMetadata>,
-    row: &[Situated<'_, '_>],
-) -> Result<Option<Break>, AllocError>
-    ensures { IfOk result (λ found. found ≡ option_or (head_of (shape_breaks row.now))
-        (option_or (head_of (size_breaks whole.now)) (head_of (oversized_inside row.now)))) }
-{
-    match find_shape_break(row) {
-        Some(found) => Ok(Some(found)),
-        None => find_size_break(alloc, whole, row),
-    }
-}
-
-/// Finds the first break of any rule in a token, at any depth.
+/// Finds the first break of any rule in a token, at any depth. Leaves can only be too large. Sizes
+/// are computed only if no other rule is broken.
 fn find_break_in_tree<'t>(
     alloc: Global,
     token: &Token<'t, ExpressionMetadata>,
@@ -341,7 +300,10 @@ fn find_break_in_tree<'t>(
     ensures { IfOk result (λ found. found ≡ head_of (broken token.now)) }
 {
     let row = breadth_first(alloc, token)?;
-    find_break_in_row(alloc, token, row.as_slice())
+    match find_shape_break(row.as_slice()) {
+        Some(found) => Ok(Some(found)),
+        None => find_size_break(alloc, token, row.as_slice()),
+    }
 }
 
 /// Checks the rules, and returns the tokens unchanged if they break none.

@@ -21,12 +21,12 @@ mod made;
 mod members;
 mod owned;
 mod same;
-mod token_tree;
+mod sides;
 
 pub use boundary::Boundary;
 pub use composition::{Composition, TokenComposition};
 pub use made::{new_branch, new_leaf};
-pub use token_tree::{ConcatenationTree, TokenTree};
+pub use sides::Sides;
 
 /// The root `/`, as an expression writes it.
 pub const ROOT_SEPARATOR_EXPRESSION: &str = "/";
@@ -360,10 +360,7 @@ impl<'t, A> Tokenized<'t, A> {
     pub fn into_token(self) -> Token<'t, A>
         ensures { result ≡ self.entry.token }
     {
-        let Tokenized {
-            expression: _,
-            token,
-        } = self;
+        let (_, token) = self.into_parts();
         token
     }
 }

@@ -8,7 +8,7 @@ use crate::row::Row;
 use std::alloc::Global;
 use wax::encode::compile;
 use wax::query::When;
-use wax::token::{ExpressionMetadata, TokenExt, Tokenized, parse};
+use wax::token::{ExpressionMetadata, Sides, TokenExt, Tokenized, parse};
 use wax::walk::DepthMinMax;
 use wax::{
     CandidatePath, Glob, MatchedText, NoMemory, Program, encode, is_contextual_meta_character,
@@ -34,7 +34,7 @@ pub fn add_facts(
     let Ok(tokenized) = parse(alloc, row.input(0)) else {
         return Err(NoMemory);
     };
-    let Ok(program) = compile(alloc, tokenized.concatenation(), false, false) else {
+    let Ok(program) = compile(alloc, tokenized.concatenation(), Sides::NONE) else {
         return Err(NoMemory);
     };
     made.add("prepared");

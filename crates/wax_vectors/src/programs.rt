@@ -7,7 +7,7 @@ use crate::kinds::ProgramFact;
 use crate::row::Row;
 use std::alloc::Global;
 use wax::encode::{CompileError, CompiledProgram, Meter, compile, run};
-use wax::token::parse;
+use wax::token::{Sides, parse};
 use wax::{NoMemory, Refusal};
 
 /// Adds a fact of the program of an expression.
@@ -39,7 +39,7 @@ pub fn answer(
 /// expression can't be parsed.
 pub fn compiled(alloc: Global, expression: &str) -> Result<CompiledProgram, Refusal<CompileError>> {
     match parse(alloc, expression) {
-        Ok(tokens) => compile(alloc, tokens.concatenation(), false, false),
+        Ok(tokens) => compile(alloc, tokens.concatenation(), Sides::NONE),
         Err(_) => Err(Refusal::Memory),
     }
 }

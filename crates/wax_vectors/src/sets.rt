@@ -9,7 +9,7 @@ use crate::row::Row;
 use std::alloc::{AllocError, Global};
 use wax::encode::compile;
 use wax::rule::Checked;
-use wax::token::{ExpressionMetadata, Token};
+use wax::token::{ExpressionMetadata, Sides, Token};
 use wax::{Any, BuildError, Glob, NoMemory, Pattern, any};
 
 type Set = Any<'static>;
@@ -167,7 +167,7 @@ fn add_program(
     token: &Token<'_, ExpressionMetadata>,
     made: &mut Answer,
 ) -> Result<(), NoMemory> {
-    match compile(alloc, token.concatenation(), false, false) {
+    match compile(alloc, token.concatenation(), Sides::NONE) {
         Ok(program) => {
             made.show(&program.len());
             Ok(())

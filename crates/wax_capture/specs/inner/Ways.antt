@@ -1,5 +1,5 @@
--- Which tokens have one way, which are tree wildcards, and which token stands at an index.
-use Rattle.std.specs.Prelude.{◌≡◌, ℕ, Bool, true, false, List, [], ◌∷◌, slice_index_or}
+-- Which tokens have one way, and which are tree wildcards.
+use Rattle.std.specs.Prelude.{◌≡◌, ℕ, Bool, true, false, List, [], ◌∷◌}
 use Rattle.wax_program.specs.Machine.{PassesTest}
 use Rattle.wax_program.specs.declared.instruction.Test.{Test}
 use Rattle.wax_token.specs.Syntax.{literal, class, separator, one, zero_or_more, tree}
@@ -32,7 +32,3 @@ IsTreeToken (repetition a t low high) rooted = ⊥
 -- one character, which passes the test
 abbrev pub PassesOne : Test → List ℕ → Type 0
 PassesOne test x = (c : ℕ) × (x ≡ c ∷ []) × PassesTest test c
-
--- the token stands at the index, where there is one
-abbrev pub IsAt : {A : Type 0} → List (Tree A) → ℕ → Tree A → Type 0
-IsAt ts i t = t ≡ slice_index_or ts i t

@@ -7,11 +7,10 @@ ghost use Rattle.wax_match.specs.inner.Code.{up_to_code};
 ghost use Rattle.wax_token.specs.Words.{trees};
 
 use crate::encode::cost::weigh;
-use crate::encode::sides::Sides;
 use crate::encode::tail::Tail;
 use std::alloc::AllocError;
 use wax_program::instruction::{Instruction, Test};
-use wax_token::token::{BranchKind, Token, Topology};
+use wax_token::token::{BranchKind, Sides, Token, Topology};
 
 impl Tail {
     /// Writes tokens one after another.
@@ -42,8 +41,13 @@ impl Tail {
         Ok(())
     }
 
+    /// Writes a token.
+    ///
+    /// # Errors
+    ///
+    /// Returns `AllocError` if allocation fails.
     #[cycle(put)]
-    fn put_token<'t, A>(&mut self, token: &Token<'t, A>, sides: Sides) -> Result<(), AllocError>
+    pub fn put_token<'t, A>(&mut self, token: &Token<'t, A>, sides: Sides) -> Result<(), AllocError>
         ensures { OnOk result
             (self.new ≡ instructions_of token.now sides.before sides.after ++ self.old) }
     {

@@ -4,12 +4,11 @@ ghost use Rattle.wax_match.specs.inner.Code.{leaf_instructions, literal_code, sk
 ghost use Rattle.wax_match.specs.inner.Code.{wildcard_code};
 ghost use Rattle.wax_token.specs.View.{leaf_of};
 
-use crate::encode::sides::Sides;
 use crate::encode::tail::Tail;
 use std::alloc::{AllocError, Global};
 use unicode::case::simple_fold;
 use wax_program::instruction::{BoxedClass, Instruction, Test};
-use wax_token::token::{LeafKind, Literal, Wildcard};
+use wax_token::token::{LeafKind, Literal, Sides, Wildcard};
 
 impl Tail {
     /// Writes a leaf, by what is before and after it.

@@ -1,16 +1,21 @@
 -- How the tokens are put into a row. No part of the rules' definition.
-use Rattle.std.specs.Prelude.{ℕ, take, drop, List, [], ◌∷◌, Option, Some, None, Bool, refl}
+use Rattle.std.specs.Prelude.{◌≡◌, ℕ, ◌-◌, take, drop, length, slice_get, List, [], ◌∷◌, Option, Some, None}
+use Rattle.std.specs.Prelude.{Bool, refl}
 use Rattle.std.specs.List.{flat_map}
 use Rattle.std.specs.Coded.{Coded, code_by, coded_ℕ, coded_bool, coded_option, coded×}
 use Rattle.wax_token.specs.TreeCode.{tree_code}
 use Rattle.wax_token.specs.Reads.{Span}
-use Rattle.wax_token.specs.Syntax.{Tree, leaf, alternation, concatenation, repetition, Trees, none, more}
+use Rattle.wax_token.specs.Syntax.{Leaf, Tree, leaf, alternation, concatenation, repetition, Trees, none}
+use Rattle.wax_token.specs.Syntax.{more}
 use Rattle.wax_break.specs.declared.Side.{Side}
 use Rattle.wax_token.specs.Words.{annotation_of}
 use Rattle.wax_rule.specs.declared.rule.situated.Edge.{Edge}
+use Rattle.wax_rule.specs.declared.rule.situated.End.{End}
+use Rattle.wax_rule.specs.declared.rule.situated.End.TheVariants.{Start, Finish}
 use Rattle.wax_rule.specs.declared.rule.situated.Neighbour.{Neighbour}
 use Rattle.wax_alternatives.specs.Alternatives.{beside}
-use Rattle.wax_break.specs.Situated.{Situated, end_side, right_of, situated_levels}
+use Rattle.wax_break.specs.Situated.{Situated, starts_with_leaf, some_starts_in, ends_in, some_ends_in}
+use Rattle.wax_break.specs.Situated.{start_side, end_side, right_of, situated_levels}
 
 abbrev pub branches : Option Side → Option Side → Trees Span → List Situated
 branches left right none = []
@@ -39,6 +44,25 @@ all_levels (s ∷ ss) = beside (situated_levels s.left s.right s.token) (all_lev
 -- the tokens that the one at the index holds
 abbrev pub queue_children : List Situated → ℕ → List Situated
 queue_children ss i = flat_map children (take 1 (drop i ss))
+
+-- such a leaf is reached at this end of the tree
+abbrev pub is_found_at : End → (Leaf → Bool) → Tree Span → Bool
+is_found_at Start such t = starts_with_leaf such t
+is_found_at Finish such t = ends_in such t
+
+abbrev pub is_found_at_some : End → (Leaf → Bool) → Trees Span → Bool
+is_found_at_some Start such ts = some_starts_in such ts
+is_found_at_some Finish such ts = some_ends_in such ts
+
+-- the token at this end of a sequence
+abbrev pub IsOutermost : End → List (Tree Span) → Tree Span → Type 0
+IsOutermost Start ts t = slice_get ts 0 ≡ Some t
+IsOutermost Finish ts t = slice_get ts (length ts - 1) ≡ Some t
+
+-- what a token shows to the one that this end of it faces
+abbrev pub side_of : End → Tree Span → Side
+side_of Start t = start_side t
+side_of Finish t = end_side t
 
 -- the side of a token at which this was found, if it is a neighbour
 abbrev pub side_at : Tree Span → Option Edge → Option Side

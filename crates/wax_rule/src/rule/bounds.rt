@@ -5,7 +5,7 @@ ghost use Rattle.wax_break.specs.Rules.{are_incompatible, bounds_breaks};
 ghost use Rattle.wax_rule.specs.FirstBreak.{head_of};
 
 use super::{Break, RuleErrorKind, break_here};
-use wax_token::token::{BranchKind, ExpressionMetadata, Token, Topology};
+use wax_token::token::{BranchKind, ExpressionMetadata, Token};
 
 fn are_incompatible(lower: usize, upper: Option<usize>) -> bool
     ensures { result ≡ are_incompatible lower upper }
@@ -20,17 +20,11 @@ fn are_incompatible(lower: usize, upper: Option<usize>) -> bool
 pub(super) fn bounds_break<'t>(token: &Token<'t, ExpressionMetadata>) -> Option<Break>
     ensures { result ≡ head_of (bounds_breaks token.now) }
 {
-    match token.topology() {
-        Topology::Branch(branch) => match branch {
-            BranchKind::Repetition(r) => {
-                if are_incompatible(r.lower, r.upper) {
-                    let span = token.annotation().span();
-                    return Some(break_here(RuleErrorKind::IncompatibleBounds, span));
-                }
-                None
-            }
-            _ => None,
-        },
-        Topology::Leaf(_) => None,
+    match token.as_branch()? {
+        BranchKind::Repetition(r) if are_incompatible(r.lower, r.upper) => {
+            let span = token.annotation().span();
+            Some(break_here(RuleErrorKind::IncompatibleBounds, span))
+        }
+        _ => None,
     }
 }

@@ -270,17 +270,14 @@ fn alternative_break<'t>(
 pub(super) fn branch_break(token: &Situated<'_, '_>) -> Option<Break>
     ensures { result ≡ head_of (branch_breaks token.now.left token.now.right token.now.token) }
 {
-    let (left, right) = (token.left(), token.right());
+    let (left, right) = (token.left.side(), token.right.side());
     let token = token.token();
     let span = token.annotation().span();
-    match token.topology() {
-        Topology::Branch(branch) => match branch {
-            BranchKind::Alternation(a) => alternative_break(span, left, right, a.tokens.as_slice()),
-            BranchKind::Repetition(r) => {
-                sub_glob_break(Sort::Repetition(r.lower), span, left, right, &r.token)
-            }
-            BranchKind::Concatenation(_) => None,
-        },
-        Topology::Leaf(_) => None,
+    match token.as_branch()? {
+        BranchKind::Alternation(a) => alternative_break(span, left, right, a.tokens.as_slice()),
+        BranchKind::Repetition(r) => {
+            sub_glob_break(Sort::Repetition(r.lower), span, left, right, &r.token)
+        }
+        BranchKind::Concatenation(_) => None,
     }
 }

@@ -11,10 +11,9 @@ ghost use Rattle.wax_rule.specs.Keeping.{KeepsRules};
 use crate::rule::{Checked, Ruled};
 use std::alloc::{AllocError, Global};
 use wax_alternatives::into_alternatives;
+use wax_fold::TokenTree;
 use wax_query::diagnostics::NoMemory;
-use wax_token::token::{
-    Alternation, BranchKind, ExpressionMetadata, Token, TokenTree, Tokenized, new_branch,
-};
+use wax_token::token::{Alternation, BranchKind, ExpressionMetadata, Token, Tokenized, new_branch};
 
 /// A type that contains a token, which keeps the rules if the value does.
 pub trait RuledTree<'t>: TokenTree<'t, Annotation = ExpressionMetadata> + Ruled {
@@ -124,9 +123,7 @@ impl<'t> Checked<Token<'t, ExpressionMetadata>> {
             inner: self.inner.into_owned(alloc)?,
         })
     }
-}
 
-impl<'t> Checked<Token<'t, ExpressionMetadata>> {
     /// Combines tokens into one alternation, which matches what at least one of them matches.
     /// Without tokens it matches nothing.
     ///

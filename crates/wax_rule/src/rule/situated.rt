@@ -1,14 +1,14 @@
 //! The tokens of a glob that contain tokens in one list, breadth first, each with its neighbours.
 ghost use Rattle.std.specs.Prelude.{◌≡◌, ◌++◌, ◌∷◌, [], Bool, IfOk, OnOk, Option, Some, None, drop, ◌<◌, ◌≤◌};
-ghost use Rattle.std.specs.Prelude.{◌||◌, length};
+ghost use Rattle.std.specs.Prelude.{◌||◌, length, IfSome, IsNone};
 ghost use Rattle.std.specs.List.{flat_map};
 ghost use Rattle.wax_token.specs.View.{leaf_of};
-ghost use Rattle.wax_token.specs.Words.{trees, annotation_of};
-ghost use Rattle.wax_break.specs.Situated.{starts_with_leaf, some_starts_in, ends_in, some_ends_in, end_side};
-ghost use Rattle.wax_break.specs.Situated.{start_side, right_of, breadth_first};
+ghost use Rattle.wax_token.specs.Words.{trees};
+ghost use Rattle.wax_break.specs.Situated.{right_of, breadth_first};
 ghost use Rattle.wax_token.specs.Kinds.{is_boundary_leaf, is_zero_or_more_leaf};
 ghost use Rattle.wax_rule.specs.inner.Queue.{branches, siblings, children, only_branches, queue_children};
-ghost use Rattle.wax_rule.specs.inner.Queue.{neighbour_side, side_at};
+ghost use Rattle.wax_rule.specs.inner.Queue.{neighbour_side, side_of, is_found_at, is_found_at_some};
+ghost use Rattle.wax_rule.specs.inner.Queue.{IsOutermost};
 
 use std::alloc::{AllocError, Global};
 use std::marker::Model;
@@ -16,20 +16,17 @@ use wax_break::Side;
 use wax_query::diagnostics::Span;
 use wax_token::token::{BranchKind, ExpressionMetadata, LeafKind, Token, Topology};
 
-/// A token, and the sides of its neighbours that it touches. Keeps the neighbours as references,
-/// which take less room than their sides.
+/// A token, and its neighbours.
 #[derive(Drop)]
 pub(super) struct Situated<'i, 't> {
     token: &'i Token<'t, ExpressionMetadata>,
-    left: &'i Token<'t, ExpressionMetadata>,
-    right: &'i Token<'t, ExpressionMetadata>,
-    left_edge: Option<Edge>,
-    right_edge: Option<Edge>,
+    pub(super) left: Neighbour<'i, 't>,
+    pub(super) right: Neighbour<'i, 't>,
 }
 
 impl<'i, 't> Model for Situated<'i, 't> {
     ghost use Rattle.wax_break.specs.Situated.{Situated as ASituated};
-    ghost use Rattle.wax_rule.specs.inner.Queue.{side_at, situated_code};
+    ghost use Rattle.wax_rule.specs.inner.Queue.{neighbour_side, situated_code};
 
     ghost Value = { ASituated };
 
@@ -37,77 +34,73 @@ impl<'i, 't> Model for Situated<'i, 't> {
 
     ghost view = { λ s. record {
       token = s.token.now;
-      left = side_at s.left.now s.left_edge;
-      right = side_at s.right.now s.right_edge;
+      left = neighbour_side s.left;
+      right = neighbour_side s.right;
     } };
 }
 
 impl<'i, 't> Situated<'i, 't> {
-    fn new(
-        token: &'i Token<'t, ExpressionMetadata>,
-        left: Neighbour<'i, 't>,
-        right: Neighbour<'i, 't>,
-    ) -> Self
-        ensures { result ≡ record {
-          token = token.now;
-          left = neighbour_side left.entry;
-          right = neighbour_side right.entry;
-        } }
-    {
-        Situated {
-            token,
-            left: left.token,
-            right: right.token,
-            left_edge: left.edge,
-            right_edge: right.edge,
-        }
-    }
-
     pub fn token(&self) -> &'i Token<'t, ExpressionMetadata>
         ensures { result.now ≡ self.now.token }
     {
         self.token
     }
-
-    /// Returns the side of the left neighbour, or `None` if there is none.
-    pub fn left(&self) -> Option<Side>
-        ensures { result ≡ self.now.left }
-    {
-        side_at(self.left, self.left_edge)
-    }
-
-    /// Returns the side of the right neighbour, or `None` if there is none.
-    pub fn right(&self) -> Option<Side>
-        ensures { result ≡ self.now.right }
-    {
-        side_at(self.right, self.right_edge)
-    }
-
-    fn left_neighbour(&self) -> Neighbour<'i, 't>
-        ensures { neighbour_side result ≡ self.now.left }
-    {
-        Neighbour {
-            token: self.left,
-            edge: self.left_edge,
-        }
-    }
-
-    fn right_neighbour(&self) -> Neighbour<'i, 't>
-        ensures { neighbour_side result ≡ self.now.right }
-    {
-        Neighbour {
-            token: self.right,
-            edge: self.right_edge,
-        }
-    }
 }
 
 /// A neighbour of a token, and what was found at its side that faces the token. Without an edge,
-/// there is no neighbour, and the token doesn't matter.
+/// there is no neighbour, and the token doesn't matter. Keeps a reference to the neighbour, which
+/// takes less room than its side.
 #[derive(Clone, Copy)]
-struct Neighbour<'i, 't> {
+pub(super) struct Neighbour<'i, 't> {
     token: &'i Token<'t, ExpressionMetadata>,
     edge: Option<Edge>,
+}
+
+impl<'i, 't> Neighbour<'i, 't> {
+    /// Returns the token as a neighbour of the one that this end of it faces.
+    fn at(end: End, token: &'i Token<'t, ExpressionMetadata>) -> Self
+        ensures { neighbour_side result ≡ Some (side_of end token.now) }
+    {
+        Neighbour {
+            token,
+            edge: Some(found_at(end, token)),
+        }
+    }
+
+    /// Returns the side that faces the token, or `None` if there is no neighbour.
+    pub(super) fn side(&self) -> Option<Side>
+        ensures { result ≡ neighbour_side self.now }
+    {
+        let edge = self.edge?;
+        Some(Side {
+            span: self.token.annotation().span(),
+            has_boundary: edge.boundary,
+            has_zero_or_more: edge.zero_or_more,
+        })
+    }
+}
+
+/// An end of a token.
+#[derive(Clone, Copy)]
+enum End {
+    Start,
+    Finish,
+}
+
+impl End {
+    /// Returns the token at this end of a sequence.
+    fn of<'i, 't>(
+        self,
+        tokens: &'i [Token<'t, ExpressionMetadata>],
+    ) -> Option<&'i Token<'t, ExpressionMetadata>>
+        ensures some { IfSome result (λ t. IsOutermost self tokens.now t.now) }
+        ensures none { IsNone result → tokens.now ≡ [] }
+    {
+        match self {
+            End::Start => tokens.first(),
+            End::Finish => tokens.last(),
+        }
+    }
 }
 
 /// What was found at one side of a token: a boundary, a `*` or `$`, both (in different branches) or
@@ -146,111 +139,38 @@ fn found_in_leaf(leaf: &LeafKind<'_>) -> Edge
     }
 }
 
-/// Returns what first tokens, bodies and branches lead to.
-#[cycle(found_at_start)]
-fn found_at_start<'t>(token: &Token<'t, ExpressionMetadata>) -> Edge
-    ensures boundary { result.boundary ≡ starts_with_leaf is_boundary_leaf token.now }
-    ensures zero_or_more { result.zero_or_more ≡ starts_with_leaf is_zero_or_more_leaf token.now }
+/// Returns what the tokens at this end, bodies and branches lead to.
+#[cycle(found_at)]
+fn found_at<'t>(end: End, token: &Token<'t, ExpressionMetadata>) -> Edge
+    ensures boundary { result.boundary ≡ is_found_at end is_boundary_leaf token.now }
+    ensures zero_or_more { result.zero_or_more ≡ is_found_at end is_zero_or_more_leaf token.now }
 {
     match token.topology() {
         Topology::Branch(branch) => match branch {
-            BranchKind::Alternation(a) => found_at_starts(a.tokens.as_slice()),
-            BranchKind::Concatenation(c) => match c.tokens.first() {
-                Some(first) => found_at_start(first),
+            BranchKind::Alternation(a) => found_at_any(end, a.tokens.as_slice()),
+            BranchKind::Concatenation(c) => match end.of(c.tokens.as_slice()) {
+                Some(outermost) => found_at(end, outermost),
                 None => Edge::NOTHING,
             },
-            BranchKind::Repetition(r) => found_at_start(&r.token),
+            BranchKind::Repetition(r) => found_at(end, &r.token),
         },
         Topology::Leaf(leaf) => found_in_leaf(leaf),
     }
 }
 
-/// Returns what is found at the start of any of the tokens.
-#[cycle(found_at_start)]
+/// Returns what is found at this end of any of the tokens.
+#[cycle(found_at)]
 #[tactic(auto, using(wax_token::proofs::Sizes::element_size))]
-fn found_at_starts<'t>(tokens: &[Token<'t, ExpressionMetadata>]) -> Edge
-    ensures boundary { result.boundary ≡ some_starts_in is_boundary_leaf (trees tokens.now) }
-    ensures zero_or_more { result.zero_or_more ≡ some_starts_in is_zero_or_more_leaf (trees tokens.now) }
+fn found_at_any<'t>(end: End, tokens: &[Token<'t, ExpressionMetadata>]) -> Edge
+    ensures boundary { result.boundary ≡ is_found_at_some end is_boundary_leaf (trees tokens.now) }
+    ensures zero_or_more { result.zero_or_more
+        ≡ is_found_at_some end is_zero_or_more_leaf (trees tokens.now) }
 {
     let mut found = Edge::NOTHING;
     for token in tokens {
-        found = found.or(found_at_start(token));
+        found = found.or(found_at(end, token));
     }
     found
-}
-
-/// Returns what last tokens, bodies and branches lead to.
-#[cycle(found_at_end)]
-fn found_at_end<'t>(token: &Token<'t, ExpressionMetadata>) -> Edge
-    ensures boundary { result.boundary ≡ ends_in is_boundary_leaf token.now }
-    ensures zero_or_more { result.zero_or_more ≡ ends_in is_zero_or_more_leaf token.now }
-{
-    match token.topology() {
-        Topology::Branch(branch) => match branch {
-            BranchKind::Alternation(a) => found_at_ends(a.tokens.as_slice()),
-            BranchKind::Concatenation(c) => match c.tokens.last() {
-                Some(last) => found_at_end(last),
-                None => Edge::NOTHING,
-            },
-            BranchKind::Repetition(r) => found_at_end(&r.token),
-        },
-        Topology::Leaf(leaf) => found_in_leaf(leaf),
-    }
-}
-
-/// Returns what is found at the end of any of the tokens.
-#[cycle(found_at_end)]
-#[tactic(auto, using(wax_token::proofs::Sizes::element_size))]
-fn found_at_ends<'t>(tokens: &[Token<'t, ExpressionMetadata>]) -> Edge
-    ensures boundary { result.boundary ≡ some_ends_in is_boundary_leaf (trees tokens.now) }
-    ensures zero_or_more { result.zero_or_more ≡ some_ends_in is_zero_or_more_leaf (trees tokens.now) }
-{
-    let mut found = Edge::NOTHING;
-    for token in tokens {
-        found = found.or(found_at_end(token));
-    }
-    found
-}
-
-fn side_of<'t>(token: &Token<'t, ExpressionMetadata>, found: Edge) -> Side
-    ensures { result ≡ record {
-      span = annotation_of token.now;
-      has_boundary = found.boundary;
-      has_zero_or_more = found.zero_or_more;
-    } }
-{
-    Side {
-        span: token.annotation().span(),
-        has_boundary: found.boundary,
-        has_zero_or_more: found.zero_or_more,
-    }
-}
-
-/// Returns the side of the token with this edge, or `None` without an edge.
-fn side_at<'t>(token: &Token<'t, ExpressionMetadata>, edge: Option<Edge>) -> Option<Side>
-    ensures { result ≡ side_at token.now edge }
-{
-    Some(side_of(token, edge?))
-}
-
-/// Returns the token as the neighbour of the one before it.
-fn start_of<'i, 't>(token: &'i Token<'t, ExpressionMetadata>) -> Neighbour<'i, 't>
-    ensures { neighbour_side result ≡ Some (start_side token.now) }
-{
-    Neighbour {
-        token,
-        edge: Some(found_at_start(token)),
-    }
-}
-
-/// Returns the token as the neighbour of the one after it.
-fn end_of<'i, 't>(token: &'i Token<'t, ExpressionMetadata>) -> Neighbour<'i, 't>
-    ensures { neighbour_side result ≡ Some (end_side token.now) }
-{
-    Neighbour {
-        token,
-        edge: Some(found_at_end(token)),
-    }
 }
 
 /// Returns the neighbour to the right of the token before `index`: the token at `index`, or at the
@@ -264,7 +184,7 @@ fn right_of<'i, 't>(
         ≡ right_of (trees (drop index tokens.now)) (neighbour_side outer.entry) }
 {
     match tokens.get(index) {
-        Some(token) => start_of(token),
+        Some(token) => Neighbour::at(End::Start, token),
         None => outer,
     }
 }
@@ -298,8 +218,15 @@ fn push_siblings<'i, 't>(
     for index in 0..tokens.len() {
         let token = &tokens[index];
         let after = right_of(tokens, index + 1, right);
-        push_branch(row, Situated::new(token, before, after))?;
-        before = end_of(token);
+        push_branch(
+            row,
+            Situated {
+                token,
+                left: before,
+                right: after,
+            },
+        )?;
+        before = Neighbour::at(End::Finish, token);
     }
     Ok(())
 }
@@ -317,7 +244,7 @@ fn push_alternatives<'i, 't>(
         (branches (neighbour_side left.entry) (neighbour_side right.entry) (trees tokens.now))) }
 {
     for token in tokens {
-        push_branch(row, Situated::new(token, left, right))?;
+        push_branch(row, Situated { token, left, right })?;
     }
     Ok(())
 }
@@ -329,12 +256,19 @@ fn push_children<'i, 't>(row: &mut Vec<Situated<'i, 't>>, index: usize) -> Resul
         (row.new.items ≡ row.old.items ++ only_branches (queue_children row.old.items index)) }
 {
     let here = &row[index];
-    let (token, left, right) = (here.token(), here.left_neighbour(), here.right_neighbour());
+    let (token, left, right) = (here.token, here.left, here.right);
     match token.topology() {
         Topology::Branch(branch) => match branch {
             BranchKind::Alternation(a) => push_alternatives(row, a.tokens.as_slice(), left, right),
             BranchKind::Concatenation(c) => push_siblings(row, c.tokens.as_slice(), left, right),
-            BranchKind::Repetition(r) => push_branch(row, Situated::new(&r.token, left, right)),
+            BranchKind::Repetition(r) => push_branch(
+                row,
+                Situated {
+                    token: &r.token,
+                    left,
+                    right,
+                },
+            ),
         },
         Topology::Leaf(_) => Ok(()),
     }
@@ -365,7 +299,14 @@ pub(super) fn breadth_first<'i, 't>(
         token: whole,
         edge: None,
     };
-    push_branch(&mut row, Situated::new(whole, nothing, nothing))?;
+    push_branch(
+        &mut row,
+        Situated {
+            token: whole,
+            left: nothing,
+            right: nothing,
+        },
+    )?;
     let mut from = 0;
     while from < row.len() {
         let to = row.len();

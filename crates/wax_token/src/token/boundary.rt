@@ -23,10 +23,7 @@ impl<'t> LeafKind<'t> {
     {
         match self {
             LeafKind::Separator(_) => Some(Boundary::Separator),
-            LeafKind::Wildcard(wildcard) => match wildcard {
-                Wildcard::Tree { has_root: _ } => Some(Boundary::Component),
-                _ => None,
-            },
+            LeafKind::Wildcard(Wildcard::Tree { has_root: _ }) => Some(Boundary::Component),
             _ => None,
         }
     }
@@ -44,10 +41,7 @@ impl<'t, A> Token<'t, A> {
     pub fn is_boundary(&self) -> bool
         ensures { result ≡ is_boundary self.now }
     {
-        match &self.topology {
-            Topology::Branch(_) => false,
-            Topology::Leaf(leaf) => leaf.is_separator() || leaf.is_tree_wildcard(),
-        }
+        self.is_separator() || self.is_tree_wildcard()
     }
 
     /// Returns whether the token is `/` or `**`, or contains one at any depth. Takes time linear in

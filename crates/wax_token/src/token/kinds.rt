@@ -123,30 +123,21 @@ impl<'t, A> Token<'t, A> {
     pub fn is_literal(&self) -> bool
         ensures { result ≡ is_literal self.now }
     {
-        match &self.topology {
-            Topology::Branch(_) => false,
-            Topology::Leaf(leaf) => leaf.is_literal(),
-        }
+        self.as_literal().is_some()
     }
 
     /// Returns whether the token is `/`.
     pub fn is_separator(&self) -> bool
         ensures { result ≡ is_separator self.now }
     {
-        match &self.topology {
-            Topology::Branch(_) => false,
-            Topology::Leaf(leaf) => leaf.is_separator(),
-        }
+        self.as_separator().is_some()
     }
 
     /// Returns whether the token is `**`.
     pub fn is_tree_wildcard(&self) -> bool
         ensures { result ≡ is_tree_wildcard self.now }
     {
-        match &self.topology {
-            Topology::Branch(_) => false,
-            Topology::Leaf(leaf) => leaf.is_tree_wildcard(),
-        }
+        matches!(self.as_wildcard(), Some(Wildcard::Tree { has_root: _ }))
     }
 
     /// Returns whether the token is that of the empty expression: a case-sensitive literal without

@@ -25,20 +25,14 @@ impl<'t> LeafKind<'t> {
     pub fn is_zero_or_more(&self) -> bool
         ensures { result ≡ is_zero_or_more_leaf (leaf_of self.now) }
     {
-        match self {
-            LeafKind::Wildcard(wildcard) => matches!(wildcard, Wildcard::ZeroOrMore(_)),
-            _ => false,
-        }
+        matches!(self, LeafKind::Wildcard(Wildcard::ZeroOrMore(_)))
     }
 
     /// Returns whether the leaf is `**`.
     pub fn is_tree_wildcard(&self) -> bool
         ensures { result ≡ is_tree_leaf (leaf_of self.now) }
     {
-        match self {
-            LeafKind::Wildcard(wildcard) => matches!(wildcard, Wildcard::Tree { has_root: _ }),
-            _ => false,
-        }
+        matches!(self, LeafKind::Wildcard(Wildcard::Tree { has_root: _ }))
     }
 
     /// Returns whether the leaf is `/` or `**`.
@@ -55,10 +49,7 @@ impl<'t> LeafKind<'t> {
     {
         match self {
             LeafKind::Separator(_) => true,
-            LeafKind::Wildcard(wildcard) => match wildcard {
-                Wildcard::Tree { has_root } => *has_root,
-                _ => false,
-            },
+            LeafKind::Wildcard(Wildcard::Tree { has_root }) => *has_root,
             _ => false,
         }
     }

@@ -21,7 +21,8 @@ impl<'t> Literal<'t> {
     pub fn into_owned(self, alloc: Global) -> Result<Literal<'static>, NoMemory>
         ensures { IfOk result (λ l. l ≡ self.entry) }
     {
-        Ok(owned_literal(alloc, self)?)
+        let text = self.text.into_owned(alloc)?;
+        Ok(Literal::new(CowStr::Owned(text), self.is_case_insensitive))
     }
 }
 
@@ -34,7 +35,12 @@ impl<'t> LeafKind<'t> {
     pub fn into_owned(self, alloc: Global) -> Result<LeafKind<'static>, NoMemory>
         ensures { IfOk result (λ l. leaf_of l ≡ leaf_of self.entry) }
     {
-        Ok(owned_leaf(alloc, self)?)
+        match self {
+            LeafKind::Class(class) => Ok(LeafKind::Class(class)),
+            LeafKind::Literal(literal) => Ok(LeafKind::Literal(literal.into_owned(alloc)?)),
+            LeafKind::Separator(separator) => Ok(LeafKind::Separator(separator)),
+            LeafKind::Wildcard(wildcard) => Ok(LeafKind::Wildcard(wildcard)),
+        }
     }
 }
 
@@ -48,7 +54,7 @@ impl<'t, A: Drop> Token<'t, A> {
     pub fn into_owned(self, alloc: Global) -> Result<Token<'static, A>, NoMemory>
         ensures { IfOk result (λ t. t ≡ self.entry) }
     {
-        Ok(owned(alloc, self)?)
+        owned(alloc, self)
     }
 }
 
@@ -71,26 +77,8 @@ impl<'t, A: Drop> Tokenized<'t, A> {
     }
 }
 
-fn owned_literal<'t>(alloc: Global, literal: Literal<'t>) -> Result<Literal<'static>, AllocError>
-    ensures { IfOk result (λ l. l ≡ literal.entry) }
-{
-    let text = literal.text.into_owned(alloc)?;
-    Ok(Literal::new(CowStr::Owned(text), literal.is_case_insensitive))
-}
-
-fn owned_leaf<'t>(alloc: Global, leaf: LeafKind<'t>) -> Result<LeafKind<'static>, AllocError>
-    ensures { IfOk result (λ l. leaf_of l ≡ leaf_of leaf.entry) }
-{
-    match leaf {
-        LeafKind::Class(class) => Ok(LeafKind::Class(class)),
-        LeafKind::Literal(literal) => Ok(LeafKind::Literal(owned_literal(alloc, literal)?)),
-        LeafKind::Separator(separator) => Ok(LeafKind::Separator(separator)),
-        LeafKind::Wildcard(wildcard) => Ok(LeafKind::Wildcard(wildcard)),
-    }
-}
-
 #[cycle(owned)]
-fn owned<'t, A: Drop>(alloc: Global, token: Token<'t, A>) -> Result<Token<'static, A>, AllocError>
+fn owned<'t, A: Drop>(alloc: Global, token: Token<'t, A>) -> Result<Token<'static, A>, NoMemory>
     ensures { IfOk result (λ t. t ≡ token.entry) }
 {
     let (topology, annotation) = token.into_parts();
@@ -109,14 +97,14 @@ fn owned<'t, A: Drop>(alloc: Global, token: Token<'t, A>) -> Result<Token<'stati
             BranchKind::Repetition(r) => {
                 let token = owned(alloc, Box::into_inner(r.token))?;
                 let branch = BranchKind::Repetition(Repetition {
-                    token: Box::new(alloc, token)?,
+                    token: Box::new(alloc, token).map_err(AllocError::from)?,
                     lower: r.lower,
                     upper: r.upper,
                 });
                 Ok(new_branch(branch, annotation))
             }
         },
-        Topology::Leaf(leaf) => Ok(new_leaf(owned_leaf(alloc, leaf)?, annotation)),
+        Topology::Leaf(leaf) => Ok(new_leaf(leaf.into_owned(alloc)?, annotation)),
     }
 }
 
@@ -125,12 +113,12 @@ fn owned<'t, A: Drop>(alloc: Global, token: Token<'t, A>) -> Result<Token<'stati
 fn owned_each<'t, A: Drop>(
     alloc: Global,
     tokens: Vec<Token<'t, A>>,
-) -> Result<Vec<Token<'static, A>>, AllocError>
+) -> Result<Vec<Token<'static, A>>, NoMemory>
     ensures { IfOk result (λ r. trees r.items ≡ trees tokens.entry.items) }
 {
     let mut done = Vec::with_capacity(alloc, tokens.len())?;
     for token in tokens {
-        done.push(owned(alloc, token)?)?;
+        done.push(owned(alloc, token)?).map_err(AllocError::from)?;
     }
     Ok(done)
 }

@@ -5,9 +5,9 @@ use Rattle.wax_capture.specs.Pieces.{size_of}
 use Rattle.wax_capture.proofs.Branches.{WaysTo}
 use Rattle.wax_capture.proofs.ways.branch_ways.Given as goal
 
-abbrev pub invariant-loop-index : goal.invariant-loop-index
-invariant-loop-index g l = record {
-  count : length l.forms.items ≡ l.index;
-  ways : WaysTo l.branches l.before l.after l.forms.items l.index;
-  few : size_of l.forms.items ≤ branches_cost (trees (take l.index l.branches));
+abbrev pub invariant-loop-branch : goal.invariant-loop-branch
+invariant-loop-branch g l = record {
+  count : length l.forms.items ≡ l.branch-index;
+  ways : WaysTo l.branches l.sides.before l.sides.after l.forms.items l.branch-index;
+  few : size_of l.forms.items ≤ branches_cost (trees (take l.branch-index l.branches));
 }

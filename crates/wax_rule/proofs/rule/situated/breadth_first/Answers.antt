@@ -12,8 +12,7 @@ loop-from-init c =
     let whole : Situated = record { token = c.args.whole.now; left = None; right = None } in
     let e : c.push_branch.new.row.items ≡ only_branches (whole ∷ []) =
     c.in_ok-push_branch.ensures
-    ∙ ap (λ z. z ++ only_branches (c.new.result ∷ [])) c.new-row.ensures.items
-    ∙ ap (λ (s : Situated). only_branches (s ∷ [])) c.new.ensures in
+    ∙ ap (λ z. z ++ only_branches (whole ∷ [])) c.new-row.ensures.items in
     record {
       within = omega arith;
       branches = ap only_branches e ∙ branches_of_branches (whole ∷ []) ∙ sym e;

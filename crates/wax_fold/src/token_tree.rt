@@ -3,7 +3,7 @@ ghost use Rattle.std.specs.Prelude.{◌≡◌};
 ghost use Rattle.wax_token.specs.Syntax.{Tree, Trees};
 ghost use Rattle.wax_token.specs.Words.{members, trees};
 
-use super::{Annotation, Token, Tokenized};
+use wax_token::token::{Annotation, Token, Tokenized};
 
 /// A type that contains a token.
 pub trait TokenTree<'t>: Sized {
@@ -53,10 +53,7 @@ impl<'t, A> TokenTree<'t> for Tokenized<'t, A> {
     ghost token = { λ t. t.token };
 
     fn into_token(self) -> Token<'t, A> {
-        let Tokenized {
-            expression: _,
-            token,
-        } = self;
+        let (_, token) = self.into_parts();
         token
     }
 
