@@ -223,7 +223,9 @@ impl<'t> Glob<'t> {
 impl<'t> Glob<'t> {
     /// Returns the token of the glob.
     fn token(&self) -> &Token<'t, ExpressionMetadata>
-        ensures { result.now ≡ self.now.tree }
+        ensures same { result.now ≡ self.now.tree }
+        ensures kept { IsKept result.now }
+        ensures fits { program_length result.now ≤ 1048576 }
     {
         &self.checked.as_ref().token
     }

@@ -3,7 +3,7 @@ use Rattle.std.proofs.Common.{◌≡◌, ℕ, ◌+◌, ◌≤◌, Bool, true, fa
 use Rattle.std.specs.Prelude.{◌↔◌, IfNone, String, string_bytes, codes, slice_get}
 use Rattle.wax_command_line.specs.Commands.{WalkOption, excluding, ignoring, at_least, at_most, IsOption, SayEach, leasts_in, greatests_in, count_lists}
 use Rattle.wax_command_line.specs.Commands.{AreBounds, SaysWalk, AsksWalk, WalkRequest}
-use Rattle.wax_command_line.specs.WalkWords.{IsNext}
+use Rattle.wax_command_line.specs.WalkWords.{HasNoNext, IsNext}
 use Rattle.wax_command_line.specs.inner.OptionWords.{AreDoubled, AreMore, AreSaidBy, all_in, one_if, IsFirstWord, IsDoubled}
 use Rattle.wax_command_line.specs.declared.walk_words.OptionWords.{OptionWords}
 
@@ -29,9 +29,6 @@ same_option name word (at_most m) (excluding f) h k = let d : 109 ≡ 110 = lett
 same_option name word (at_most m) (ignoring f) h k = let d : 109 ≡ 105 = letter 0 (sym h.0 ∙ k.0) in absurd (omega (arith, d))
 same_option name word (at_most m) (at_least n) h k = let d : 97 ≡ 105 = letter 1 (sym h.0 ∙ k.0) in absurd (omega (arith, d))
 same_option name word (at_most m) (at_most n) h k = ap at_most (h.1.1 ∙ sym k.1.1)
-
-said_so : (a b c d : List ℕ) (o : WalkOption) → a ≡ b → c ≡ d → IsOption a c o → IsOption b d o
-said_so a b c d o e f h = subst (λ v. IsOption v d o) e (subst (λ v. IsOption a v o) f h)
 
 pub same_options : {A : Type 0} (words : List (Option (String A))) (os us : List WalkOption) → SayEach words os → SayEach words us → os ≡ us
 same_options [] [] [] h k = refl
@@ -93,45 +90,49 @@ pub record Begins {A : Type 0} (words rest : List (Option (String A))) (done : L
 pub begins_none : {A : Type 0} (words : List (Option (String A))) → Begins words words []
 begins_none words = record { whole = λ os h. h; parts = λ os h. (os, h, refl) }
 
-begins_parts : {A : Type 0} (words : List (Option (String A))) (name word : List ℕ) (rest : List (Option (String A))) (done us : List WalkOption) (o : WalkOption)
-    → IsNext words name word rest → IsOption name word o → SayEach words us
+-- the next two arguments spell the first option that is left
+pub next_says : {A : Type 0} (words rest : List (Option (String A))) (us : List WalkOption) (o : WalkOption)
+    → IsNext words o rest → SayEach words us → (vs : List WalkOption) × SayEach rest vs × (us ≡ o ∷ vs)
+next_says [] rest us o n k = absurd n
+next_says (None ∷ words) rest us o n k = absurd n
+next_says (Some x ∷ []) rest us o n k = absurd n
+next_says (Some x ∷ None ∷ words) rest us o n k = absurd n
+next_says (Some x ∷ Some y ∷ words) rest [] o n k = absurd k
+next_says (Some x ∷ Some y ∷ words) rest (u ∷ us) o n k =
+    let same = same_option (string_bytes x) (string_bytes y) u o k.0 n.0 in
+    (us, subst (λ ws. SayEach ws us) (sym n.1) k.1, ap (λ v. v ∷ us) same)
+
+begins_parts : {A : Type 0} (words rest : List (Option (String A))) (done us : List WalkOption) (o : WalkOption) → IsNext words o rest → SayEach words us
     → (vs : List WalkOption) × SayEach rest vs × (done ++ us ≡ (done ++ o ∷ []) ++ vs)
-begins_parts [] name word rest done us o n h k = absurd n
-begins_parts (None ∷ words) name word rest done us o n h k = absurd n
-begins_parts (Some x ∷ []) name word rest done us o n h k = absurd n
-begins_parts (Some x ∷ None ∷ words) name word rest done us o n h k = absurd n
-begins_parts (Some x ∷ Some y ∷ words) name word rest done [] o n h k = absurd k
-begins_parts (Some x ∷ Some y ∷ words) name word rest done (u ∷ us) o n h k =
-    let same = same_option name word u o (said_so _ _ _ _ u n.0 n.1 k.0) h in
-    (us, subst (λ ws. SayEach ws us) (sym n.2) k.1, ap (λ v. done ++ v ∷ us) same ∙ sym (append_assoc done (o ∷ []) us))
+begins_parts words rest done us o n k =
+    let next = next_says words rest us o n k in
+    (next.0, next.1, ap (λ v. done ++ v) next.2 ∙ sym (append_assoc done (o ∷ []) next.0))
 
-next_whole : {A : Type 0} (words : List (Option (String A))) (name word : List ℕ) (rest : List (Option (String A))) (os : List WalkOption) (o : WalkOption)
-    → IsNext words name word rest → IsOption name word o → SayEach rest os → SayEach words (o ∷ os)
-next_whole [] name word rest os o n h k = absurd n
-next_whole (None ∷ words) name word rest os o n h k = absurd n
-next_whole (Some x ∷ []) name word rest os o n h k = absurd n
-next_whole (Some x ∷ None ∷ words) name word rest os o n h k = absurd n
-next_whole (Some x ∷ Some y ∷ words) name word rest os o n h k = (said_so _ _ _ _ o (sym n.0) (sym n.1) h, subst (λ ws. SayEach ws os) n.2 k)
+next_whole : {A : Type 0} (words rest : List (Option (String A))) (os : List WalkOption) (o : WalkOption) → IsNext words o rest → SayEach rest os → SayEach words (o ∷ os)
+next_whole [] rest os o n k = absurd n
+next_whole (None ∷ words) rest os o n k = absurd n
+next_whole (Some x ∷ []) rest os o n k = absurd n
+next_whole (Some x ∷ None ∷ words) rest os o n k = absurd n
+next_whole (Some x ∷ Some y ∷ words) rest os o n k = (n.0, subst (λ ws. SayEach ws os) n.1 k)
 
-pub begins_more : {A : Type 0} (words : List (Option (String A))) (name word : List ℕ) (now rest : List (Option (String A))) (done : List WalkOption) (o : WalkOption)
-    → Begins words now done → IsNext now name word rest → IsOption name word o → Begins words rest (done ++ o ∷ [])
-begins_more words name word now rest done o h n k = record {
-  whole = λ os l. subst (SayEach words) (sym (append_assoc done (o ∷ []) os)) (h.whole (o ∷ os) (next_whole now name word rest os o n k l));
+pub begins_more : {A : Type 0} (words now rest : List (Option (String A))) (done : List WalkOption) (o : WalkOption)
+    → Begins words now done → IsNext now o rest → Begins words rest (done ++ o ∷ [])
+begins_more words now rest done o h n = record {
+  whole = λ os l. subst (SayEach words) (sym (append_assoc done (o ∷ []) os)) (h.whole (o ∷ os) (next_whole now rest os o n l));
   parts = λ os l.
       let p = h.parts os l in
-      let q = begins_parts now name word rest done p.0 o n k p.1 in
+      let q = begins_parts now rest done p.0 o n p.1 in
       (q.0, q.1, p.2 ∙ q.2);
 }
 
--- the next two words say the first option that is left
-pub next_says : {A : Type 0} (words : List (Option (String A))) (name word : List ℕ) (rest : List (Option (String A))) (us : List WalkOption)
-    → IsNext words name word rest → SayEach words us → (o : WalkOption) × (vs : List WalkOption) × IsOption name word o × SayEach rest vs × (us ≡ o ∷ vs)
-next_says [] name word rest us n k = absurd n
-next_says (None ∷ words) name word rest us n k = absurd n
-next_says (Some x ∷ []) name word rest us n k = absurd n
-next_says (Some x ∷ None ∷ words) name word rest us n k = absurd n
-next_says (Some x ∷ Some y ∷ words) name word rest [] n k = absurd k
-next_says (Some x ∷ Some y ∷ words) name word rest (u ∷ us) n k = (u, us, said_so _ _ _ _ u n.0 n.1 k.0, subst (λ ws. SayEach ws us) (sym n.2) k.1, refl)
+-- arguments that begin with no option spell options only if there are none
+pub says_none : {A : Type 0} (words : List (Option (String A))) (us : List WalkOption) → HasNoNext words → SayEach words us → words ≡ []
+says_none [] us n k = refl
+says_none (None ∷ words) us n k = absurd k
+says_none (Some x ∷ []) us n k = absurd k
+says_none (Some x ∷ None ∷ words) us n k = absurd k
+says_none (Some x ∷ Some y ∷ words) [] n k = absurd k
+says_none (Some x ∷ Some y ∷ words) (u ∷ us) n k = absurd (n u words (k.0, refl))
 
 -- ---- the words of a walk
 
@@ -217,20 +218,19 @@ said_more bounds more front o h m = record {
 }
 
 -- an option that can't be added occurs twice
-pub doubled_by : {A : Type 0} (words now : List (Option (String A))) (name word : List ℕ) (rest : List (Option (String A))) (bounds : OptionWords) (front : List WalkOption)
-    → Begins words now front → AreSaidBy bounds front → IsNext now name word rest
-    → ((o : WalkOption) → IsOption name word o → IsDoubled (all_in bounds.lower ++ leasts_in (o ∷ [])) (all_in bounds.upper ++ greatests_in (o ∷ [])) (one_if bounds.has_list + count_lists (o ∷ [])))
+pub doubled_by : {A : Type 0} (words now rest : List (Option (String A))) (bounds : OptionWords) (front : List WalkOption) (o : WalkOption)
+    → Begins words now front → AreSaidBy bounds front → IsNext now o rest
+    → IsDoubled (all_in bounds.lower ++ leasts_in (o ∷ [])) (all_in bounds.upper ++ greatests_in (o ∷ [])) (one_if bounds.has_list + count_lists (o ∷ []))
     → (options : List WalkOption) → SayEach words options → AreDoubled options
-doubled_by words now name word rest bounds front b s n twice options h =
+doubled_by words now rest bounds front o b s n twice options h =
     let parts = b.parts options h in
-    let next = next_says now name word rest parts.0 n parts.1 in
-    let o = next.0 in
-    let e : front ++ o ∷ next.1 ≡ options = ap (λ v. front ++ v) (sym next.4) ∙ sym parts.2 in
+    let next = next_says now rest parts.0 o n parts.1 in
+    let e : front ++ o ∷ next.0 ≡ options = ap (λ v. front ++ v) (sym next.2) ∙ sym parts.2 in
     subst AreDoubled e
-    (doubled_so_far front o next.1
+    (doubled_so_far front o next.0
     (subst (λ v. IsDoubled (leasts_in front ++ leasts_in (o ∷ [])) (greatests_in front ++ greatests_in (o ∷ [])) (v + count_lists (o ∷ []))) (sym s.lists)
     (subst (λ v. IsDoubled v (greatests_in front ++ greatests_in (o ∷ [])) (one_if bounds.has_list + count_lists (o ∷ []))) (ap (λ v. v ++ leasts_in (o ∷ [])) (sym s.least))
-    (subst (λ v. IsDoubled (all_in bounds.lower ++ leasts_in (o ∷ [])) v (one_if bounds.has_list + count_lists (o ∷ []))) (ap (λ v. v ++ greatests_in (o ∷ [])) (sym s.greatest)) (twice o next.2)))))
+    (subst (λ v. IsDoubled (all_in bounds.lower ++ leasts_in (o ∷ [])) v (one_if bounds.has_list + count_lists (o ∷ []))) (ap (λ v. v ++ greatests_in (o ∷ [])) (sym s.greatest)) twice))))
 
 pub first_in : (n : Option ℕ) → slice_get (all_in n) 0 ≡ n
 first_in None = refl

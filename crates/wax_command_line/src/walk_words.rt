@@ -1,16 +1,29 @@
 //! The arguments of a walk.
 ghost use Rattle.std.specs.Prelude.{◌≡◌, ◌≤◌, ◌+◌, ◌++◌, ◌∷◌, [], ℕ, List, length, unwrap_or};
-ghost use Rattle.std.specs.Prelude.{IfSome, IfNone, MatchOption};
+ghost use Rattle.std.specs.Prelude.{IfSome, IfNone, MatchOption, false, true};
 ghost use Rattle.wax_command_line.specs.Commands.{AreBounds, AsksWalk, IsNumber, IsOption, SayEach};
-ghost use Rattle.wax_command_line.specs.Commands.{WalkOption, WalkRequest};
+ghost use Rattle.wax_command_line.specs.Commands.{WalkOption as AskedOption, WalkRequest};
 ghost use Rattle.wax_command_line.specs.Commands.{count_lists, greatests_in, leasts_in};
 ghost use Rattle.wax_tree.specs.Depths.{greatest, least};
 ghost use Rattle.wax_command_line.specs.inner.OptionWords.{AreDoubled, AreMore, AreSaidBy, HasNoFirst};
-ghost use Rattle.wax_command_line.specs.WalkWords.{HasNoNext, IsNext, IsRead};
+ghost use Rattle.wax_command_line.specs.WalkWords.{HasNoNext, IsNext, IsRead, asked_by};
 ghost use Rattle.wax_command_line.specs.inner.OptionWords.{IsDoubled, IsFirstWord};
 ghost use Rattle.wax_command_line.specs.inner.OptionWords.{all_in, one_if};
 
 use wax_tree::{DepthBehavior, DepthMax, DepthMin, DepthMinMax};
+
+/// An option of a walk.
+#[derive(Clone, Copy)]
+pub enum WalkOption<'w> {
+    /// Excludes what this expression matches.
+    Not(&'w str),
+    /// Excludes what the ignore list in this file ignores.
+    Ignore(&'w str),
+    /// Sets the least depth.
+    Min(usize),
+    /// Sets the greatest depth.
+    Max(usize),
+}
 
 /// What the arguments of a walk ask for.
 #[derive(Clone, Copy)]
@@ -71,9 +84,9 @@ fn depths_of(bounds: OptionWords) -> Option<DepthBehavior>
 
 // Reads all options. Returns `None` if one is malformed, or sets a depth or a list a second time.
 fn read_options(words: &[Option<String>]) -> Option<OptionWords>
-    ensures some { IfSome result (λ bounds. (options : List WalkOption) × SayEach words.now options
+    ensures some { IfSome result (λ bounds. (options : List AskedOption) × SayEach words.now options
         × AreSaidBy bounds options) }
-    ensures none { IfNone result ((options : List WalkOption) → SayEach words.now options
+    ensures none { IfNone result ((options : List AskedOption) → SayEach words.now options
         → AreDoubled options) }
 {
     let mut bounds = OptionWords {
@@ -82,23 +95,45 @@ fn read_options(words: &[Option<String>]) -> Option<OptionWords>
         has_list: false,
     };
     let mut rest = words;
-    while let Some((name, word, after)) = next_option(rest) {
-        bounds = with_option(bounds, name, word)?;
+    while let Some((option, after)) = next_option(rest) {
+        bounds = with_option(bounds, option)?;
         rest = after;
     }
     if rest.is_empty() { Some(bounds) } else { None }
 }
 
-/// Splits off the next option: its name, its value, and the arguments after it.
+/// Splits off the next option, and the arguments after it. Returns `None` if there is none, or it is
+/// malformed.
 pub fn next_option<'w>(
     words: &'w [Option<String>],
-) -> Option<(&'w str, &'w str, &'w [Option<String>])>
-    ensures some { IfSome result (λ r. IsNext words.now r.0.now r.1.now r.2.now) }
+) -> Option<(WalkOption<'w>, &'w [Option<String>])>
+    ensures some { IfSome result (λ r. IsNext words.now (asked_by r.0) r.1.now) }
     ensures none { IfNone result (HasNoNext words.now) }
 {
     let (name, after) = first_word(words)?;
     let (word, rest) = first_word(after)?;
-    Some((name, word, rest))
+    let option = option_of(name, word)?;
+    Some((option, rest))
+}
+
+// Reads an option from its name and its value.
+fn option_of<'w>(name: &str, word: &'w str) -> Option<WalkOption<'w>>
+    ensures some { IfSome result (λ option. IsOption name.now word.now (asked_by option)) }
+    ensures none { IfNone result ((o : AskedOption) → IsOption name.now word.now o → ⊥) }
+{
+    if name == "not" {
+        return Some(WalkOption::Not(word));
+    }
+    if name == "ignore" {
+        return Some(WalkOption::Ignore(word));
+    }
+    if name == "min" {
+        return Some(WalkOption::Min(number_of(word)?));
+    }
+    if name == "max" {
+        return Some(WalkOption::Max(number_of(word)?));
+    }
+    None
 }
 
 // Splits off the first argument, if it is UTF-8.
@@ -113,46 +148,48 @@ fn first_word<'w>(words: &'w [Option<String>]) -> Option<(&'w str, &'w [Option<S
     }
 }
 
-// Adds one option. Returns `None` if it is malformed, or sets a depth or a list a second time.
-fn with_option(bounds: OptionWords, name: &str, word: &str) -> Option<OptionWords>
-    ensures some { IfSome result (λ more. (o : WalkOption) × IsOption name.now word.now o
-        × AreMore bounds o more) }
-    ensures none { IfNone result ((o : WalkOption) → IsOption name.now word.now o → IsDoubled
+// Adds one option. Returns `None` if it sets a depth or a list a second time.
+fn with_option(bounds: OptionWords, option: WalkOption<'_>) -> Option<OptionWords>
+    ensures some { IfSome result (AreMore bounds (asked_by option)) }
+    ensures none { let o = asked_by option in IfNone result (IsDoubled
         (all_in bounds.lower ++ leasts_in (o ∷ [])) (all_in bounds.upper ++ greatests_in (o ∷ []))
         (one_if bounds.has_list + count_lists (o ∷ []))) }
 {
-    if name == "not" {
-        return Some(bounds);
-    }
-    if name == "ignore" {
-        if bounds.has_list {
-            return None;
+    match option {
+        WalkOption::Not(_) => Some(bounds),
+        WalkOption::Ignore(_) => with_list(bounds),
+        WalkOption::Min(depth) => {
+            let lower = said_once(bounds.lower, depth)?;
+            Some(OptionWords { lower, ..bounds })
         }
-        return Some(OptionWords {
-            has_list: true,
-            ..bounds
-        });
+        WalkOption::Max(depth) => {
+            let upper = said_once(bounds.upper, depth)?;
+            Some(OptionWords { upper, ..bounds })
+        }
     }
-    if name == "min" {
-        let lower = said_once(bounds.lower, word)?;
-        return Some(OptionWords { lower, ..bounds });
-    }
-    if name == "max" {
-        let upper = said_once(bounds.upper, word)?;
-        return Some(OptionWords { upper, ..bounds });
-    }
-    None
 }
 
-// Reads a depth, unless it was set before.
-fn said_once(before: Option<usize>, word: &str) -> Option<Option<usize>>
-    ensures some { IfSome result (λ said. (n : ℕ) × IsNumber word.now n
-        × (all_in said ≡ all_in before ++ n ∷ [])) }
-    ensures none { IfNone result ((n : ℕ) → IsNumber word.now n → 2 ≤ length (all_in before ++ n ∷ [])) }
+// Adds an ignore list, unless there is one.
+fn with_list(bounds: OptionWords) -> Option<OptionWords>
+    ensures { MatchOption result (bounds.has_list ≡ true) (λ more. (bounds.has_list ≡ false)
+        × (more ≡ record bounds { has_list = true })) }
 {
-    let number = number_of(word)?;
+    if bounds.has_list {
+        return None;
+    }
+    Some(OptionWords {
+        has_list: true,
+        ..bounds
+    })
+}
+
+// Returns the depth, unless one was set before.
+fn said_once(before: Option<usize>, depth: usize) -> Option<Option<usize>>
+    ensures some { IfSome result (λ said. all_in said ≡ all_in before ++ depth ∷ []) }
+    ensures none { IfNone result (2 ≤ length (all_in before ++ depth ∷ [])) }
+{
     match before {
-        None => Some(Some(number)),
+        None => Some(Some(depth)),
         Some(_) => None,
     }
 }

@@ -1,6 +1,6 @@
 -- What an option adds to the filters.
 use Rattle.std.proofs.Common.{◌≡◌, ℕ, List, [], ◌∷◌, ◌++◌, map, refl, sym, ap, subst, ◌∙◌}
-use Rattle.std.specs.Prelude.{Result, Ok, Err, OnOk, chars, codes}
+use Rattle.std.specs.Prelude.{Result, Ok, Err, OnOk, chars}
 use Rattle.std.proofs.lemmas.List.{map-append}
 use Rattle.wax.specs.Exclusions.{IsNotRule}
 use Rattle.wax.specs.Patterns.{Spells}
@@ -11,10 +11,9 @@ use Rattle.wax_walk.specs.Candidates.{Candidate}
 use Rattle.wax_walk.specs.Given.{Mark}
 use Rattle.wax_exclude.specs.Ignored.{Line}
 use Rattle.wax_exclude.specs.Wanted.{Filter, not_ignored, not_meant}
-use Rattle.wax_command_line.specs.Commands.{WalkOption, excluding, ignoring, at_least, at_most, IsOption}
+use Rattle.wax_command_line.specs.Commands.{WalkOption, excluding, ignoring}
 use Rattle.wax_commands.specs.Files.{FileAnswers, IsListIn}
 use Rattle.wax_commands.specs.Walked.{AreAskedBy, IsNotOf}
-use Rattle.wax_command_line.proofs.OptionWords.{same_option}
 
 map_on_ok : {A E P Q : Type 0} → (P → Q) → (r : Result A E) → OnOk r P → OnOk r Q
 map_on_ok f (Ok a) h = f h
@@ -37,23 +36,14 @@ module _ {X A E : Type 0} (rule : X → Candidate → Mark) (old new : List X) (
 
 -- ---- what was asked for
 
-module _ {Z : Type 0} (answers : FileAnswers Z) (name word : List ℕ) (P : List (Candidate → Mark) → Type 0) where
+module _ {Z A E : Type 0} (answers : FileAnswers Z) (word : List ℕ) (P : List (Candidate → Mark) → Type 0) (r : Result A E) where
   abbrev Adds : WalkOption → Type 0
   Adds o = (xs : List (Filter Span)) × (rules : List (Candidate → Mark)) × AreAskedBy answers o xs × AreRulesOf xs rules × P rules
 
-  pub none_asked : (name ≡ codes "not" → ⊥) → (name ≡ codes "ignore" → ⊥) → P [] → (o : WalkOption) → IsOption name word o → Adds o
-  none_asked n i p (excluding e) s = absurd (n s.0)
-  none_asked n i p (ignoring file) s = absurd (i s.0)
-  none_asked n i p (at_least m) s = ([], [], tt, tt, p)
-  none_asked n i p (at_most m) s = ([], [], tt, tt, p)
+  pub pattern_asked : OnOk r ((t : Tree Span) × (rules : List (Candidate → Mark)) × IsNotOf word t × AreRulesOf (not_meant t ∷ []) rules × P rules)
+      → OnOk r (Adds (excluding word))
+  pattern_asked added = map_on_ok (λ h. (not_meant h.0 ∷ [], h.1, h.2, h.3, h.4)) r added
 
-  module _ {A E : Type 0} (r : Result A E) where
-    pub pattern_asked : name ≡ codes "not" → OnOk r ((t : Tree Span) × (rules : List (Candidate → Mark)) × IsNotOf word t × AreRulesOf (not_meant t ∷ []) rules × P rules)
-        → OnOk r ((o : WalkOption) → IsOption name word o → Adds o)
-    pattern_asked e added = map_on_ok (λ h o s.
-        subst Adds (sym (same_option name word o (excluding word) s (e, refl))) (not_meant h.0 ∷ [], h.1, h.2, h.3, h.4)) r added
-
-    pub list_asked : name ≡ codes "ignore" → OnOk r ((lines : List (Line Span)) × (rules : List (Candidate → Mark)) × IsListIn answers word lines × AreRulesOf (not_ignored lines ∷ []) rules × P rules)
-        → OnOk r ((o : WalkOption) → IsOption name word o → Adds o)
-    list_asked e added = map_on_ok (λ h o s.
-        subst Adds (sym (same_option name word o (ignoring word) s (e, refl))) (not_ignored h.0 ∷ [], h.1, h.2, h.3, h.4)) r added
+  pub list_asked : OnOk r ((lines : List (Line Span)) × (rules : List (Candidate → Mark)) × IsListIn answers word lines × AreRulesOf (not_ignored lines ∷ []) rules × P rules)
+      → OnOk r (Adds (ignoring word))
+  list_asked added = map_on_ok (λ h. (not_ignored h.0 ∷ [], h.1, h.2, h.3, h.4)) r added

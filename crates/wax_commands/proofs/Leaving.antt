@@ -7,11 +7,11 @@ use Rattle.wax_token.specs.Reads.{Span}
 use Rattle.wax_walk.specs.Candidates.{Candidate}
 use Rattle.wax_walk.specs.Given.{Mark}
 use Rattle.wax_exclude.specs.Wanted.{Filter}
-use Rattle.wax_command_line.specs.Commands.{WalkOption, IsOption, SayEach}
+use Rattle.wax_command_line.specs.Commands.{WalkOption, SayEach}
 use Rattle.wax_commands.specs.Files.{FileAnswers}
 use Rattle.wax_commands.specs.Walked.{AreAskedBy, AreAskedByAll, HasRefused, IsRefusedOption}
 use Rattle.wax_command_line.specs.WalkWords.{HasNoNext, IsNext}
-use Rattle.wax_command_line.proofs.OptionWords.{next_says}
+use Rattle.wax_command_line.proofs.OptionWords.{next_says, says_none}
 
 rules_more : (xs ys : List (Filter Span)) (rules others : List (Candidate → Mark)) → AreRulesOf xs rules → AreRulesOf ys others → AreRulesOf (xs ++ ys) (rules ++ others)
 rules_more [] ys [] others h k = k
@@ -20,12 +20,8 @@ rules_more (x ∷ xs) ys [] others h k = absurd h
 rules_more (x ∷ xs) ys (rule ∷ rules) others h k = (h.0, rules_more xs ys rules others h.1 k)
 
 none_left : {A : Type 0} (rest : List (Option (String A))) (left : List WalkOption) → SayEach rest left → HasNoNext rest → left ≡ []
-none_left [] [] s e = refl
-none_left [] (o ∷ left) s e = absurd s
-none_left (None ∷ rest) left s e = absurd s
-none_left (Some x ∷ []) left s e = absurd s
-none_left (Some x ∷ None ∷ rest) left s e = absurd s
-none_left (Some x ∷ Some y ∷ rest) left s e = absurd e
+none_left rest [] s e = refl
+none_left rest (o ∷ left) s e = let none : rest ≡ [] = says_none rest (o ∷ left) e s in absurd (subst (λ ws. SayEach ws (o ∷ left)) none s)
 
 module _ {Z : Type 0} (answers : FileAnswers Z) where
   asked_more : (os : List WalkOption) (o : WalkOption) (xs ys : List (Filter Span)) → AreAskedByAll answers os xs → AreAskedBy answers o ys
@@ -56,36 +52,34 @@ module _ {Z : Type 0} (answers : FileAnswers Z) where
     are = tt;
   }
 
-  module _ {A : Type 0} (now : List (Option (String A))) (name word : List ℕ) (rest : List (Option (String A))) (asked : List WalkOption) (rules : List (Candidate → Mark))
-      (h : SoFar now asked rules) (n : IsNext now name word rest) where
-    abbrev taken : (o : WalkOption) × (vs : List WalkOption) × IsOption name word o × SayEach rest vs × (h.left ≡ o ∷ vs)
-    taken = next_says now name word rest h.left n h.says
+  module _ {A : Type 0} (now rest : List (Option (String A))) (o : WalkOption) (asked : List WalkOption) (rules : List (Candidate → Mark))
+      (h : SoFar now asked rules) (n : IsNext now o rest) where
+    abbrev taken : (vs : List WalkOption) × SayEach rest vs × (h.left ≡ o ∷ vs)
+    taken = next_says now rest h.left o n h.says
 
     -- what one more option asks for
-    pub so_far_more : (more : List (Candidate → Mark)) → ((o : WalkOption) → IsOption name word o → (xs : List (Filter Span)) × (others : List (Candidate → Mark))
-        × AreAskedBy answers o xs × AreRulesOf xs others × (more ≡ rules ++ others)) → SoFar rest asked more
-    so_far_more more adds =
-        let added = adds taken.0 taken.2 in
-        record {
-          front = h.front ++ taken.0 ∷ [];
-          left = taken.1;
-          all = h.all ∙ (ap (λ v. h.front ++ v) taken.4 ∙ sym (append_assoc h.front (taken.0 ∷ []) taken.1));
-          says = taken.3;
-          filters = h.filters ++ added.0;
-          built = asked_more h.front taken.0 h.filters added.0 h.built added.2;
-          are = subst (AreRulesOf (h.filters ++ added.0)) (sym added.4) (rules_more h.filters added.0 rules added.1 h.are added.3);
-        }
+    pub so_far_more : (more : List (Candidate → Mark)) → (xs : List (Filter Span)) × (others : List (Candidate → Mark))
+        × AreAskedBy answers o xs × AreRulesOf xs others × (more ≡ rules ++ others) → SoFar rest asked more
+    so_far_more more added = record {
+      front = h.front ++ o ∷ [];
+      left = taken.0;
+      all = h.all ∙ (ap (λ v. h.front ++ v) taken.2 ∙ sym (append_assoc h.front (o ∷ []) taken.0));
+      says = taken.1;
+      filters = h.filters ++ added.0;
+      built = asked_more h.front o h.filters added.0 h.built added.2;
+      are = subst (AreRulesOf (h.filters ++ added.0)) (sym added.4) (rules_more h.filters added.0 rules added.1 h.are added.3);
+    }
 
     -- the first option whose filter can't be built
-    pub so_far_refused : ((o : WalkOption) → IsOption name word o → IsRefusedOption answers o) → HasRefused answers asked
+    pub so_far_refused : IsRefusedOption answers o → HasRefused answers asked
     so_far_refused refused = record {
       before = h.front;
       filters = h.filters;
       built = h.built;
-      option = taken.0;
-      refused = refused taken.0 taken.2;
-      after = taken.1;
-      all = h.all ∙ ap (λ v. h.front ++ v) taken.4;
+      option = o;
+      refused = refused;
+      after = taken.0;
+      all = h.all ∙ ap (λ v. h.front ++ v) taken.2;
     }
 
   -- the end

@@ -12,7 +12,8 @@ ghost use Rattle.wax_walk.specs.Candidates.{Candidate};
 ghost use Rattle.wax_walk.specs.Given.{Mark};
 ghost use Rattle.wax_exclude.specs.Ignored.{Line};
 ghost use Rattle.wax_exclude.specs.Wanted.{Filter, not_ignored, not_meant};
-ghost use Rattle.wax_command_line.specs.Commands.{SayEach, IsOption, WalkOption};
+ghost use Rattle.wax_command_line.specs.Commands.{SayEach, WalkOption as AskedOption};
+ghost use Rattle.wax_command_line.specs.WalkWords.{asked_by};
 ghost use Rattle.wax_commands.specs.Files.{IsListIn, IsUnlisted};
 ghost use Rattle.wax_commands.specs.Refused.{IsRefused};
 ghost use Rattle.wax_commands.specs.Walked.{AreAskedBy, AreAskedByAll, HasRefused, IsNotOf};
@@ -24,7 +25,7 @@ use std::io::Write;
 use thiserror::Error;
 use wax::walk::WalkFilter;
 use wax::{BuildError, Glob};
-use wax_command_line::next_option;
+use wax_command_line::{WalkOption, next_option};
 use wax_walk::Exclude;
 
 /// Why a filter of a walk wasn't built.
@@ -78,10 +79,10 @@ where
     B: Fn(&str) -> Result<Vec<u8>, FileFault>,
     F: Write,
     requires { B.IsAlwaysCallable read.now }
-    ensures some { IfSome result (λ filters. (asked : List WalkOption) → SayEach options.now asked
+    ensures some { IfSome result (λ filters. (asked : List AskedOption) → SayEach options.now asked
         → (xs : List (Filter Span)) × AreAskedByAll (FnReturnsAt B.Fn read.now) asked xs
         × AreRulesOf xs (map ⟦<WalkFilter as Exclude>⟧.rule filters.items)) }
-    ensures none { IfNone result ((asked : List WalkOption) → SayEach options.now asked
+    ensures none { IfNone result ((asked : List AskedOption) → SayEach options.now asked
         → HasRefused (FnReturnsAt B.Fn read.now) asked) }
     ensures quiet { IsSome result → faults.new ≡ faults.old }
 {
@@ -103,16 +104,16 @@ fn filters_of<'w, B>(
 where
     B: Fn(&str) -> Result<Vec<u8>, FileFault>,
     requires { B.IsAlwaysCallable read.now }
-    ensures ok { IfOk result (λ filters. (asked : List WalkOption) → SayEach options.now asked
+    ensures ok { IfOk result (λ filters. (asked : List AskedOption) → SayEach options.now asked
         → (xs : List (Filter Span)) × AreAskedByAll (FnReturnsAt B.Fn read.now) asked xs
         × AreRulesOf xs (map ⟦<WalkFilter as Exclude>⟧.rule filters.items)) }
-    ensures err { OnErr result ((asked : List WalkOption) → SayEach options.now asked
+    ensures err { OnErr result ((asked : List AskedOption) → SayEach options.now asked
         → HasRefused (FnReturnsAt B.Fn read.now) asked) }
 {
     let mut filters = Vec::new(alloc);
     let mut rest = options;
-    while let Some((name, word, after)) = next_option(rest) {
-        add_filter(alloc, name, word, read, &mut filters)?;
+    while let Some((option, after)) = next_option(rest) {
+        add_filter(alloc, option, read, &mut filters)?;
         rest = after;
     }
     Ok(filters)
@@ -121,29 +122,25 @@ where
 // Adds the filter of an option. The options that set depths have none.
 fn add_filter<'w, B>(
     alloc: Global,
-    name: &str,
-    word: &'w str,
+    option: WalkOption<'w>,
     read: &B,
     filters: &mut Vec<WalkFilter>,
 ) -> Result<(), FilterFault<'w>>
 where
     B: Fn(&str) -> Result<Vec<u8>, FileFault>,
     requires { B.IsAlwaysCallable read.now }
-    ensures ok { OnOk result ((o : WalkOption) → IsOption name.now word.now o
-        → (xs : List (Filter Span)) × (rules : List (Candidate → Mark))
-        × AreAskedBy (FnReturnsAt B.Fn read.now) o xs × AreRulesOf xs rules
+    ensures ok { OnOk result ((xs : List (Filter Span)) × (rules : List (Candidate → Mark))
+        × AreAskedBy (FnReturnsAt B.Fn read.now) (asked_by option) xs × AreRulesOf xs rules
         × (map ⟦<WalkFilter as Exclude>⟧.rule filters.new.items
         ≡ map ⟦<WalkFilter as Exclude>⟧.rule filters.old.items ++ rules)) }
-    ensures err { OnErr result ((o : WalkOption) → IsOption name.now word.now o
-        → IsRefusedOption (FnReturnsAt B.Fn read.now) o) }
+    ensures err { OnErr result (IsRefusedOption (FnReturnsAt B.Fn read.now) (asked_by option)) }
 {
-    if name == "not" {
-        return add_pattern(alloc, word, filters);
+    match option {
+        WalkOption::Not(expression) => add_pattern(alloc, expression, filters),
+        WalkOption::Ignore(file) => add_list(alloc, file, read, filters),
+        WalkOption::Min(_) => Ok(()),
+        WalkOption::Max(_) => Ok(()),
     }
-    if name == "ignore" {
-        return add_list(alloc, word, read, filters);
-    }
-    Ok(())
 }
 
 fn add_pattern<'w>(
@@ -159,7 +156,7 @@ fn add_pattern<'w>(
         × NoExclusion (Spells (chars expression.now)) (Refuses (chars expression.now)) error) }
 {
     match WalkFilter::not(alloc, expression) {
-        Ok(filter) => push(filters, filter),
+        Ok(filter) => filters.push(filter),
         Err(error) => Err(FilterFault::Pattern(error)),
     }
 }
@@ -180,14 +177,5 @@ where
     ensures err { OnErr result (IsUnlisted (FnReturnsAt B.Fn read.now) file.now) }
 {
     let list = list_in(alloc, file, read)?;
-    push(filters, WalkFilter::ignore(list))
-}
-
-fn push<'w, T: Drop>(items: &mut Vec<T>, item: T) -> Result<(), FilterFault<'w>>
-    ensures { OnOk result (items.new.items ≡ items.old.items ++ item ∷ []) }
-{
-    match items.push(item) {
-        Ok(()) => Ok(()),
-        Err(_) => Err(FilterFault::Memory),
-    }
+    filters.push(WalkFilter::ignore(list))
 }

@@ -7,11 +7,11 @@ use Rattle.wax_command_line.specs.Commands.{SayEach, WalkOption}
 use Rattle.wax_commands.proofs.Leaving.{SoFar}
 use Rattle.wax_commands.proofs.building.filters_of.Given as goal
 
-abbrev pub invariant-loop-name : goal.invariant-loop-name
-invariant-loop-name g l =
+abbrev pub invariant-loop-option : goal.invariant-loop-option
+invariant-loop-option g l =
     (asked : List WalkOption) → SayEach l.options asked
     → SoFar (FnReturnsAt g.B.Fn l.read) l.rest asked
     (map (rule_by (λ e c. excluded_mark e c) (λ list c. listed_mark list.rule c)) l.filters.items)
 
-abbrev pub decreases-loop-name : goal.decreases-loop-name
-decreases-loop-name g l = length l.rest
+abbrev pub decreases-loop-option : goal.decreases-loop-option
+decreases-loop-option g l = length l.rest

@@ -1,7 +1,7 @@
-use Rattle.std.proofs.Common.{◌≡◌, ◌∙◌, ap, rules, subst, sym}
+use Rattle.std.proofs.Common.{◌≡◌, ◌∙◌, rules, subst}
 use Rattle.wax_token.specs.Syntax.{leaf, literal}
 use Rattle.wax_token.specs.Words.{annotation_of}
-use Rattle.wax.specs.GlobView.{IsKept, empty_tree}
+use Rattle.wax.specs.GlobView.{empty_tree}
 use Rattle.wax.proofs.Globs.{empty_leaf, leaf_empty, means_nothing, no_bytes, no_text}
 use Rattle.wax.proofs.glob.Glob.is_empty.Goals as goal
 
@@ -9,10 +9,9 @@ pub returns-in-Some-Literal-clause-tree : goal.returns-in-Some-Literal-clause-tr
 returns-in-Some-Literal-clause-tree c =
     let t = c.token.result.now in
     let l = c.in-Some-Literal.literal in
-    let same : t ≡ c.args.self.now.tree = c.token.ensures in
-    let kept : IsKept t = subst IsKept (ap (λ g. g.tree) c.self.view_is ∙ sym same) c.self.invariant.kept in
+    let same : t ≡ c.args.self.now.tree = c.token.ensures.same in
     let here : t ≡ leaf (annotation_of t) (literal l.0 l.1) = search rules in (
-      λ h. subst (λ z. z ≡ empty_tree) same (leaf_empty t kept (annotation_of t) l.0 l.1 here
+      λ h. subst (λ z. z ≡ empty_tree) same (leaf_empty t c.token.ensures.kept (annotation_of t) l.0 l.1 here
           (no_bytes c.text.result.now l.1 c.text.ensures (search rules))),
       λ e. (let n = no_text c.text.result.now l.1 c.text.utf8 c.text.ensures
           (empty_leaf t (annotation_of t) l.0 l.1 here (same ∙ e)) in search rules),

@@ -1,8 +1,19 @@
-use Rattle.std.proofs.Common.{◌↔◌, List, ℕ, IfSome, IsTrue, ap, chars, subst, sym}
+use Rattle.std.proofs.Common.{◌↔◌, List, ℕ, IfSome, IsTrue, ap, chars, false, subst, sym}
+use Rattle.wax_compiled.specs.Compiled.{IsCompiled}
+use Rattle.wax_token.specs.Meaning.{Means}
 use Rattle.wax.specs.GlobView.{IsMeant}
+use Rattle.wax.specs.Matching.{AcceptsMeant}
 use Rattle.wax_prefilter.specs.Within.{IsInFolder}
 use Rattle.wax.proofs.Folders.{folder_meant}
 use Rattle.wax.proofs.glob.Glob.matcher.Goals as goal
 
 pub invariant_of-result : goal.invariant_of-result
-invariant_of-result c = ?
+invariant_of-result c =
+    let compiled = c.self.inside.compiled in
+    let is : IsCompiled c.args.self.now.tree compiled =
+    subst (λ t. IsCompiled t compiled) (ap (λ g. g.tree) c.self.view_is) c.self.invariant.compiled in (
+      subst (λ code. AcceptsMeant code c.args.self.now) (sym c.in_ok-matcher.ensures) is.accepts,
+      λ known text. subst (λ t. Means t false false text) c.token.ensures.same (c.is_everything.ensures.all known text),
+      subst (λ t. IfSome c.folder_of.result (λ folder. (text : List ℕ) → Means t false false text ↔ IsInFolder (chars folder.now) text)) c.token-2.ensures.same
+          (folder_meant c.token-2.result.now _ c.folder_of.result c.concatenation.ensures c.folder_of.ensures),
+    )

@@ -1,13 +1,10 @@
-use Rattle.std.proofs.Common.{◌≤◌, ◌∙◌, arith, ap, subst, sym}
+use Rattle.std.proofs.Common.{◌≤◌, arith, subst}
 use Rattle.wax_components.specs.Depth.{Depth}
 use Rattle.wax_query.specs.Ranges.{bounds}
-use Rattle.wax_token.specs.Cost.{cost, program_length}
+use Rattle.wax_token.specs.Cost.{cost}
 use Rattle.wax.proofs.glob.GlobProgram.depth.Goals as goal
 
 pub returns-clause-depth : goal.returns-clause-depth
 returns-clause-depth c =
-    let t = c.token.result.now in
-    let whole : program_length t ≤ 1048576 =
-    subst (λ u. program_length u ≤ 1048576) (ap (λ g. g.tree) c.self.view_is ∙ sym c.token.ensures) c.self.invariant.compiled.fits in
-    let fits : cost t ≤ 1048575 = omega (arith, whole) in
-    subst (λ u. Depth u (bounds c.depth.result)) c.token.ensures (c.depth.ensures.depth fits)
+    let fits : cost c.token.result.now ≤ 1048575 = omega (arith, c.token.ensures.fits) in
+    subst (λ u. Depth u (bounds c.depth.result)) c.token.ensures.same (c.depth.ensures.depth fits)
