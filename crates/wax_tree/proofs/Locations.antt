@@ -2,9 +2,9 @@
 use Rattle.std.proofs.Common.{◌≡◌, ap, string_bytes}
 use Rattle.wax_tree.specs.declared.location.Location as code
 use Rattle.wax_tree.specs.Plain.{Location}
-use Rattle.wax_tree.specs.Walking.{location_of}
+use Rattle.wax_tree.specs.Walking.{located}
 
-module _ (at : code.Location) (that : Location) (is : location_of at ≡ that) where
+module _ (at : code.Location) (that : Location) (is : located at ≡ that) where
   pub path_is : string_bytes at.path ≡ that.path
   path_is = ap (λ (v : Location). v.path) is
 

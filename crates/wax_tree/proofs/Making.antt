@@ -16,7 +16,7 @@ use Rattle.wax_tree.specs.Begins.{Begins, BeginsAt, FailsFrom, FailsNowhere, Has
 use Rattle.wax_tree.specs.Lacking.{MayCome, lacks, goes, tree_view}
 use Rattle.wax_tree.specs.Plain.{Location, count_shown}
 use Rattle.wax_tree.specs.Prefix.{ArePlain, from_last, walk_from}
-use Rattle.wax_tree.specs.Walking.{PlainToCome, scope_of, steps_view, location_of}
+use Rattle.wax_tree.specs.Walking.{PlainToCome, scope_of, steps_view, located}
 
 module _ {D C : Type 0} (law : Law D C) where
   made_comes : (w : Steps D C) (place : StartPoint) (s : Shown) (listed : List (List ℕ)) → w.first ≡ Some place
@@ -25,7 +25,7 @@ module _ {D C : Type 0} (law : Law D C) where
       → place.at.depth + length place.names.items ≤ 2 ^ 64 - 1 → law.tells w.directory listed
       → law.holds w.directory [] []
       → PlainToCome law w (pending nothing
-      (walk_from (scope_of w) (location_of place.at) s (from_last place.names.items) nothing) listed
+      (walk_from (scope_of w) (located place.at) s (from_last place.names.items) nothing) listed
       (count_shown s))
   made_comes w place s listed e n l f h p d told held = record {
     has = [];

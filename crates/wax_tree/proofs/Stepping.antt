@@ -32,7 +32,7 @@ use Rattle.wax_tree.specs.Plain.{Location, count, count_shown, below_forest, ent
 use Rattle.wax_tree.specs.Plain.{items_forest}
 use Rattle.wax_tree.specs.Prefix.{ArePlain, from_last, walk_from}
 use Rattle.wax_tree.specs.Walking.{HasKind, IsAlone, IsFolder, tree_given, entered_forest}
-use Rattle.wax_tree.specs.Walking.{location_of, scope_of, cursors_of, allowance}
+use Rattle.wax_tree.specs.Walking.{located, scope_of, cursors_of, allowance}
 use Rattle.wax_tree.specs.Walking.{Rest, FirstShows, EnteredShows, LevelsShow, AtRest}
 use Rattle.wax_tree.specs.Walking.{PlainToCome, WereListed, steps_view, MovesOn}
 use Rattle.wax_tree.specs.Stepping.{StepIs, IsPopped}
@@ -106,14 +106,14 @@ module _ {D C : Type 0} (law : Law D C) where
       (record rest { listed = rest.listed ++ string_bytes lv.folder.path ∷ [] }))
       → v.levels.items ≡ w.levels.items ++ lv ∷ [] → count_shown s + rest.count ≤ items
       → StepIs law w (pending nothing
-      (followed_by (entered_forest (scope_of w) (location_of lv.folder) s) rest.forest) rest.listed items)
+      (followed_by (entered_forest (scope_of w) (located lv.folder) s) rest.forest) rest.listed items)
       GoesOn (record w { directory = d; levels = v.levels })
   enters w v d lv (a_folder l) rest items i o h inner r e few =
       let path = string_bytes lv.folder.path in
       let pushed = rest_pushed law (record w { directory = d }) v lv l
       (record rest { listed = rest.listed ++ path ∷ [] }) (r l o) o (inner l h)
       (Contains-append_right rest.listed (path ∷ []) path (Contains-push [] path)) e in (
-        pending nothing (followed_by (items_forest (scope_of w) (location_of lv.folder) l) rest.forest)
+        pending nothing (followed_by (items_forest (scope_of w) (located lv.folder) l) rest.forest)
             (rest.listed ++ path ∷ []) items,
         comes_rest law (record w { directory = d; levels = v.levels }) items _ pushed (omega (arith, few)),
         inr (path, refl, refl),
@@ -170,7 +170,7 @@ module _ {D C : Type 0} (law : Law D C) where
       → string_bytes next.at.candidate ≡ join (string_bytes place.at.candidate) (string_bytes x)
       → next.at.depth ≡ place.at.depth + 1
       → StepIs law w (pending nothing
-      (walk_from (scope_of w) (location_of place.at) s (from_last place.names.items) rest.forest) rest.listed
+      (walk_from (scope_of w) (located place.at) s (from_last place.names.items) rest.forest) rest.listed
       items) GoesOn (record w { first = Some next })
   follows w place next x s rest items r h k p d none few child e path candidate depth =
       let names : from_last place.names.items ≡ string_bytes x ∷ from_last next.names.items =
@@ -183,7 +183,7 @@ module _ {D C : Type 0} (law : Law D C) where
       subst (λ v. law.shows w.directory v below) (sym path)
       (child (string_bytes place.at.path) (string_bytes x) s h plain.0) in
       let fewer : count_shown below ≤ count_shown s = child_counts (string_bytes x) s in (
-        pending nothing (walk_from (scope_of w) (location_of next.at) below (from_last next.names.items)
+        pending nothing (walk_from (scope_of w) (located next.at) below (from_last next.names.items)
             rest.forest) rest.listed items,
         record {
           has = rest.has;
@@ -203,8 +203,8 @@ module _ {D C : Type 0} (law : Law D C) where
           ended = λ t. absurd (let b : true ≡ false = sym t ∙ r.running in (cc));
         },
         inl (
-          (ap (λ v. walk_from (scope_of w) (location_of place.at) s v rest.forest) names
-              ∙ follows_folder (scope_of w) (location_of place.at) s (string_bytes x) (from_last next.names.items)
+          (ap (λ v. walk_from (scope_of w) (located place.at) s v rest.forest) names
+              ∙ follows_folder (scope_of w) (located place.at) s (string_bytes x) (from_last next.names.items)
               rest.forest k)
               ∙ (λ i. walk_from (scope_of w)
               (record { path = sym path i; candidate = sym candidate i; depth = sym depth i }) below
@@ -222,7 +222,7 @@ module _ {D C : Type 0} (law : Law D C) where
       w.directory (string_bytes place.at.path) s × ArePlain (from_last place.names.items) ×
       (place.at.depth + length place.names.items ≤ 2 ^ 64 - 1) × (w.levels.items ≡ [])
       × (count_shown s + rest.count ≤ p.items) × (p ≡ pending p.below p.after rest.listed p.items) ×
-      (all_pending p ≡ walk_from (scope_of w) (location_of place.at) s (from_last place.names.items)
+      (all_pending p ≡ walk_from (scope_of w) (located place.at) s (from_last place.names.items)
       rest.forest)
   steps_begin w place a b p h e i j running =
       let f = subst (λ v. FirstShows (law.shows w.directory) (scope_of w) v p.after h.back h.of_first) e
@@ -255,7 +255,7 @@ module _ {D C : Type 0} (law : Law D C) where
       → (s : Shown) × (rest : Rest) × AtRest law (record w { first = a; entered = b }) rest × law.shows
       w.directory (string_bytes e.path) s × IsFolder s
       × (count_shown s + rest.count ≤ p.items) × (p ≡ pending p.below p.after rest.listed p.items) ×
-      (all_pending p ≡ followed_by (entered_forest (scope_of w) (location_of e) s) rest.forest)
+      (all_pending p ≡ followed_by (entered_forest (scope_of w) (located e) s) rest.forest)
   steps_enter w e a b p h first is i j running =
       let f = subst (λ v. FirstShows (law.shows w.directory) (scope_of w) v p.after h.back h.of_first) first
       h.first in
@@ -277,7 +277,7 @@ module _ {D C : Type 0} (law : Law D C) where
         omega (arith, h.few, below.4),
         refl,
         ap (λ v. followed_by v p.after) below.3 ∙ ap
-            (followed_by (entered_forest (scope_of w) (location_of e) below.0)) f.0,
+            (followed_by (entered_forest (scope_of w) (located e) below.0)) f.0,
       )
 
   pub steps_list : (w v : Steps D C) (lv : OpenFolder C) (a : Option StartPoint) (b : Option code.Location) (p : Pending Given)
@@ -287,7 +287,7 @@ module _ {D C : Type 0} (law : Law D C) where
       → law.holds w.directory cs ls)
       → (l : Items) × (rest : Rest) × IsPopped law (record w { first = a; entered = b; levels = v.levels }) lv l
       rest × (rest.count + count l ≤ p.items) × (p ≡ pending p.below p.after rest.listed p.items)
-      × (all_pending p ≡ followed_by (items_forest (scope_of w) (location_of lv.folder) l) rest.forest)
+      × (all_pending p ≡ followed_by (items_forest (scope_of w) (located lv.folder) l) rest.forest)
   steps_list w v lv a b p h first is i j running e drop =
       let f = subst (λ v. FirstShows (law.shows w.directory) (scope_of w) v p.after h.back h.of_first) first
       h.first in

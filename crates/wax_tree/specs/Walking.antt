@@ -40,9 +40,9 @@ abbrev pub tree_answer : Option (Result TreeEntry WalkError) → Option Given
 tree_answer None = None
 tree_answer (Some x) = Some (tree_given x)
 
--- a location of the walk, in bytes
-abbrev pub location_of : code.Location → Location
-location_of at = record {
+-- a location as contracts see it, in bytes
+abbrev pub located : code.Location → Location
+located at = record {
   path = string_bytes at.path;
   candidate = string_bytes at.candidate;
   depth = at.depth;
@@ -98,14 +98,14 @@ module _ (shows : List ℕ → Shown → Type 0) (scope : WalkScope) where
   FirstShows None f after n = (f ≡ after) × (n ≡ 0)
   FirstShows (Some place) f after n = (s : Shown) × shows (string_bytes place.at.path) s × ArePlain
       (from_last place.names.items) × (place.at.depth + length place.names.items ≤ 2 ^ 64 - 1)
-      × (count_shown s ≤ n) × (f ≡ walk_from scope (location_of place.at) s
+      × (count_shown s ≤ n) × (f ≡ walk_from scope (located place.at) s
       (from_last place.names.items) after)
 
   -- f is what comes of the last yielded folder, if it is to be entered; n items are listed for it
   abbrev pub EnteredShows : Option code.Location → Forest Given → ℕ → Type 0
   EnteredShows None f n = (f ≡ nothing) × (n ≡ 0)
   EnteredShows (Some e) f n = (s : Shown) × shows (string_bytes e.path) s × IsFolder s ×
-      (f ≡ entered_forest scope (location_of e) s) × (n ≡ count_shown s)
+      (f ≡ entered_forest scope (located e) s) × (n ≡ count_shown s)
 
   -- f is what comes of the open folders, outermost first, if their cursors have these items; n items are
   -- listed for it
@@ -115,7 +115,7 @@ module _ (shows : List ℕ → Shown → Type 0) (scope : WalkScope) where
   LevelsShow (level ∷ inner) [] f n = ⊥
   LevelsShow (level ∷ inner) (l ∷ has) f n = (g : Forest Given) × (m : ℕ) × ShowsIn shows
       (string_bytes level.folder.path) l × LevelsShow inner has g m
-      × (f ≡ followed_by g (items_forest scope (location_of level.folder) l)) × (n ≡ m + count l)
+      × (f ≡ followed_by g (items_forest scope (located level.folder) l)) × (n ≡ m + count l)
 
 abbrev pub scope_of : {D C : Type 0} → Steps D C → WalkScope
 scope_of w = record { min = w.min; max = w.max; root = string_bytes w.root }

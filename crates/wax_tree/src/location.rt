@@ -2,7 +2,7 @@
 
 ghost use Rattle.std.specs.Prelude.{◌≡◌, ◌+◌, ◌-◌, ◌^◌, IfOk, min, string_bytes};
 ghost use Rattle.wax_directory.specs.Shown.{join as join_path};
-ghost use Rattle.wax_tree.specs.Walking.{location_of};
+ghost use Rattle.wax_tree.specs.Walking.{located};
 
 use std::alloc::{AllocError, Global};
 use wax_directory::path::join;
@@ -24,7 +24,7 @@ impl Location {
         candidate: &str,
         depth: usize,
     ) -> Result<Location, AllocError>
-        ensures { IfOk result (λ at. location_of at ≡ record {
+        ensures { IfOk result (λ at. located at ≡ record {
           path = path.now;
           candidate = candidate.now;
           depth = depth;
@@ -41,7 +41,7 @@ impl Location {
 
     /// Returns the location of a name in the folder here, one level deeper.
     pub(crate) fn below(&self, alloc: Global, name: &str) -> Result<Location, AllocError>
-        ensures { let at = location_of self.now in IfOk result (λ next. location_of next ≡ record {
+        ensures { let at = located self.now in IfOk result (λ next. located next ≡ record {
           path = join_path at.path name.now;
           candidate = join_path at.candidate name.now;
           depth = min (at.depth + 1) (2 ^ 64 - 1);

@@ -22,7 +22,7 @@ ghost use Rattle.wax_tree.specs.Stepping.{KeepsLists, Remembers, StepPlaces};
 ghost use Rattle.wax_tree.specs.Stepping.{WeaklyDecreases, Decreases, StepIs, Continues, IsPopped};
 ghost use Rattle.wax_tree.specs.Stepping.{listing_pending, StepAnswers, IsStep, items_left};
 ghost use Rattle.wax_tree.specs.Walking.{HasKind, IsFolder, EnteredShows, PlainToCome, entered_forest};
-ghost use Rattle.wax_tree.specs.Walking.{entry_location, location_of, scope_of, steps_view};
+ghost use Rattle.wax_tree.specs.Walking.{entry_location, located, scope_of, steps_view};
 ghost use Rattle.wax_tree.specs.Walking.{names_left, step_given, tree_answer, Rest, open_lists, if_some};
 
 use crate::location::Location;
@@ -92,7 +92,7 @@ fn entry_in(
     name: String,
     kind: FileType,
 ) -> Result<FoundItem, AllocError>
-    ensures { IfOk result (IsEntry (location_of folder.now) root.now (string_bytes name) kind) }
+    ensures { IfOk result (IsEntry (located folder.now) root.now (string_bytes name) kind) }
 {
     let listed = ListedFolder {
         root,
@@ -104,7 +104,7 @@ fn entry_in(
 }
 
 fn fault_in(folder: &Location, kind: FaultKind) -> Result<FoundItem, AllocError>
-    ensures { IfOk result (IsFault (location_of folder.now) kind) }
+    ensures { IfOk result (IsFault (located folder.now) kind) }
 {
     let path = folder.path.clone()?;
     Ok(FoundItem::Fault(kind, path))
@@ -117,7 +117,7 @@ fn found_in(
     folder: &Location,
     item: ListItem,
 ) -> Result<FoundItem, AllocError>
-    ensures { IfOk result (IsFound (location_of folder.now) root.now item) }
+    ensures { IfOk result (IsFound (located folder.now) root.now item) }
 {
     match item {
         ListItem::Name(name, kind) => {
@@ -255,13 +255,10 @@ impl<D: Directory> Steps<D> {
         ensures remembers { Remembers self.old result self.new }
         ensures places { (self.old.entered ≡ None) → StepPlaces (ReachesFrom self.old (OnWay place))
             (ReachesFrom self.old (OnWay place)) self.old.max result self.new }
-        ensures continues { (s : Shown) → D.law.shows self.old.directory (string_bytes place.at.path) s
-            → HasKind s kind
-            → let names = from_last place.names.items in
-            ArePlain names → place.at.depth + length place.names.items ≤ 2 ^ 64 - 1
-            → (self.old.levels.items ≡ [])
-            → Continues D.law self.old (walk_from (scope_of self.old) (location_of place.at) s names)
-            (count_shown s)
+        ensures continues { let at = located place.at in let names = from_last place.names.items in
+            (s : Shown) → D.law.shows self.old.directory at.path s → HasKind s kind → ArePlain names
+            → at.depth + length place.names.items ≤ 2 ^ 64 - 1 → (self.old.levels.items ≡ [])
+            → Continues D.law self.old (walk_from (scope_of self.old) at s names) (count_shown s)
             result self.new }
         ensures measure { (self.old.entered ≡ None)
             → IncreasesByNames (length place.names.items) self.old result self.new }
@@ -292,12 +289,10 @@ impl<D: Directory> Steps<D> {
         ensures remembers { Remembers self.old result self.new }
         ensures places { (self.old.entered ≡ None) → StepPlaces (ReachesFrom self.old (OnWay place))
             (ReachesFrom self.old (OnWay place)) self.old.max result self.new }
-        ensures continues { (s : Shown) → D.law.shows self.old.directory (string_bytes place.at.path) s
-            → let names = from_last place.names.items in
-            ArePlain names → place.at.depth + length place.names.items ≤ 2 ^ 64 - 1
-            → (self.old.levels.items ≡ [])
-            → Continues D.law self.old (walk_from (scope_of self.old) (location_of place.at) s names)
-            (count_shown s)
+        ensures continues { let at = located place.at in let names = from_last place.names.items in
+            (s : Shown) → D.law.shows self.old.directory at.path s → ArePlain names
+            → at.depth + length place.names.items ≤ 2 ^ 64 - 1 → (self.old.levels.items ≡ [])
+            → Continues D.law self.old (walk_from (scope_of self.old) at s names) (count_shown s)
             result self.new }
         ensures measure { (self.old.entered ≡ None)
             → IncreasesByNames (length place.names.items) self.old result self.new }
@@ -326,7 +321,7 @@ impl<D: Directory> Steps<D> {
             (ReachesFrom self.old (IsOf folder)) self.old.max result self.new }
         ensures continues { (s : Shown) → D.law.shows self.old.directory (string_bytes folder.path) s
             → IsFolder s
-            → let entered = entered_forest (scope_of self.old) (location_of folder) s in
+            → let entered = entered_forest (scope_of self.old) (located folder) s in
             Continues D.law self.old (followed_by entered) (count_shown s) result self.new }
         ensures measure { IncreasesBy 0 1 self.old result self.new }
     {
@@ -384,7 +379,7 @@ impl<D: Directory> Steps<D> {
             → IsPopped D.law self.old (record { folder = folder; cursor = cursor }) (rest_of l) rest
             → ShowsIn (D.law.shows self.old.directory) (string_bytes folder.path) l
             → rest.count + count l ≤ items
-            → let p = listing_pending (scope_of self.old) (location_of folder) l rest items in
+            → let p = listing_pending (scope_of self.old) (located folder) l rest items in
             StepIs D.law self.old p result self.new }
         ensures measure { (self.old.entered ≡ None) → (self.old.has_ended ≡ false)
             → WeaklyDecreases self.old result self.new }
@@ -416,7 +411,7 @@ impl<D: Directory> Steps<D> {
             (ReachesFrom self.old (IsOf level.folder)) self.old.max result self.new }
         ensures lists { (l : Items) (rest : Rest) (items : ℕ) → IsPopped D.law self.old level l rest
             → rest.count + count l ≤ items
-            → let p = listing_pending (scope_of self.old) (location_of level.folder) l rest items in
+            → let p = listing_pending (scope_of self.old) (located level.folder) l rest items in
             StepIs D.law self.old p result self.new }
         ensures measure { (self.old.entered ≡ None) → (self.old.has_ended ≡ false)
             → WeaklyDecreases self.old result self.new }

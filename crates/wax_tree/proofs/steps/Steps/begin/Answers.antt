@@ -7,7 +7,7 @@ use Rattle.wax_walk.specs.declared.error.WalkError.TheVariants.{Fault}
 use Rattle.wax_walk.specs.Given.{fault}
 use Rattle.wax_walk.specs.View.{IsLast}
 use Rattle.wax_tree.specs.Prefix.{from_last}
-use Rattle.wax_tree.specs.Walking.{scope_of, location_of, cursors_of, names_left, open_lists}
+use Rattle.wax_tree.specs.Walking.{scope_of, located, cursors_of, names_left, open_lists}
 use Rattle.wax_tree.proofs.Showing.{has_kind, begins_missing, begins_failing}
 use Rattle.wax_tree.proofs.Resting.{rest_moved, comes_rest}
 use Rattle.wax_tree.proofs.UsingAnswers.{counted_same, answer_used, failed_uses_answer, gives_uses_answer}
@@ -51,7 +51,7 @@ returns-in-Ok-None-clause-continues g c s h p d none rest items r e =
     let w = c.args.self.now in
     let v = record w { directory = c.kind.new.self } in
     let o = rw (c.as_str.ensures.value, c.in-Ok-None.field-0-is) at c.in-Ok-None.ensures in
-    let is = begins_missing (scope_of w) (location_of c.args.place.at) s (from_last c.args.place.names.items)
+    let is = begins_missing (scope_of w) (located c.args.place.at) s (from_last c.args.place.names.items)
     rest.forest (o.kind s h) in
     let moved = rest_moved law w c.kind.new.self rest.listed rest r o.shown
     (o.held (cursors_of w.levels.items) rest.has r.held) (o.told rest.listed r.told) r.opened in
@@ -81,7 +81,7 @@ returns-in-Err-Failed-clause-continues g c s h p d none rest items r e =
     let w = c.args.self.now in
     let v = record w { directory = c.kind.new.self } in
     let o = rw (c.as_str.ensures.value, c.in-Err-Failed.field-0-is) at c.in-Err-Failed.ensures in
-    let is = begins_failing (scope_of w) (location_of c.args.place.at) s (from_last c.args.place.names.items)
+    let is = begins_failing (scope_of w) (located c.args.place.at) s (from_last c.args.place.names.items)
     rest.forest (o.kind s h) in
     let moved = rest_moved law w c.kind.new.self rest.listed rest r o.shown
     (o.held (cursors_of w.levels.items) rest.has r.held) (o.told rest.listed r.told) r.opened in

@@ -8,7 +8,7 @@ use Rattle.wax_walk.specs.Given.{Facts, fault}
 use Rattle.wax_tree.specs.Prefix.{from_last, walk_from}
 use Rattle.wax_tree.specs.Stepping.{Continues, StepIs, StepPlaces}
 use Rattle.wax_tree.specs.Plain.{count_shown, entry_forest}
-use Rattle.wax_tree.specs.Walking.{HasKind, entry_location, scope_of, location_of}
+use Rattle.wax_tree.specs.Walking.{HasKind, entry_location, scope_of, located}
 use Rattle.wax_tree.proofs.Showing.{none_left, plain_is, from_last_end, follows_leaf}
 use Rattle.wax_tree.proofs.Locations.{candidate_is, depth_is, path_is}
 use Rattle.wax_tree.proofs.UsingAnswers.{leaf_counted, stopped_uses_answer, stops_with}
@@ -25,8 +25,8 @@ returns-in_default-clause-continues g c s h k p d empty rest items r e =
     let none : c.args.place.names.items ≡ [] = none_left c.args.place.names.items
     (λ i. let bad : false ≡ true = c.in_default.ensures.variant.1
     (omega (arith, i, c.args.place.names.ok.0)) in (cc)) in
-    let is = ap (λ v. walk_from (scope_of w) (location_of c.args.place.at) s (from_last v) rest.forest) none ∙
-    plain_is (scope_of w) (location_of c.args.place.at) s c.args.kind rest.forest k in
+    let is = ap (λ v. walk_from (scope_of w) (located c.args.place.at) s (from_last v) rest.forest) none ∙
+    plain_is (scope_of w) (located c.args.place.at) s c.args.kind rest.forest k in
     let root : string_bytes c.in-Ok.root ≡ string_bytes w.root = c.in-Ok.ensures.cases in
     let given = subst (λ (f : Facts). (f.root ≡ string_bytes w.root) → g.D.Directory.law.shows w.directory f.path s
     → HasKind s f.kind → Continues g.D.Directory.law w (entry_forest (scope_of w) (entry_location f) f.kind s)
@@ -51,8 +51,8 @@ returns-then-ne-clause-continues g c s h k p d empty rest items r e =
     let names : from_last c.args.place.names.items ≡ string_bytes c.in-Some.name ∷ from_last
     c.pop.new.self.items = ap from_last c.in-Some.ensures.items ∙ from_last_end c.pop.new.self.items
     c.in-Some.name in
-    let is = ap (λ v. walk_from (scope_of w) (location_of c.args.place.at) s v rest.forest) names ∙ follows_leaf
-    (scope_of w) (location_of c.args.place.at) s c.args.kind (string_bytes c.in-Some.name)
+    let is = ap (λ v. walk_from (scope_of w) (located c.args.place.at) s v rest.forest) names ∙ follows_leaf
+    (scope_of w) (located c.args.place.at) s c.args.kind (string_bytes c.in-Some.name)
     (from_last c.pop.new.self.items) rest.forest k no_folder in
     stops_with g.D.Directory.law w c.stop.new.self _ rest items
     (fault NotAFolder (string_bytes c.args.place.at.path) c.args.place.at.depth) c.stop.result
