@@ -58,7 +58,8 @@ pub use Rattle.wax_tree.specs.Whole.{EntriesAre, plain_pending, whole, whole_alo
 pub use Rattle.wax_tree.specs.declared.behavior.DepthBehavior.TheVariants.{MinMax, Unbounded}
 pub use Rattle.wax_tree.specs.declared.behavior.WalkBehavior.{WalkBehavior}
 pub use Rattle.wax_tree.specs.declared.steps.DepthRange.{DepthRange}
-pub use Rattle.wax_walk.specs.Candidates.{Candidate, candidate_of, candidate_with, in_characters, of_candidate}
+pub use Rattle.wax_walk.specs.Candidates.{Candidate, candidate_of, candidate_with, in_characters}
+pub use Rattle.wax_walk.specs.Candidates.{of_candidate}
 pub use Rattle.wax_walk.specs.Collected.{AreOfFolders, GaveAll, HasFolder, IsCutShort, NoneLast, Took}
 pub use Rattle.wax_walk.specs.Collected.{count_to_open}
 pub use Rattle.wax_walk.specs.Entries.{answer_of, error_depth, error_kind, error_path, facts_of, given_of}

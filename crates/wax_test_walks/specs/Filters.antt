@@ -7,7 +7,8 @@ use Rattle.wax.specs.Language.{Span, Tree}
 use Rattle.wax.specs.Walks.{Candidate, kept, Mark, mark_of}
 
 -- what a filter says of an entry, by what patterns and lists say
-abbrev pub rule_of : (List (Tree Span) → Candidate → Mark) → (IgnoreList → Candidate → Mark) → Filter → Candidate → Mark
+abbrev pub rule_of : (List (Tree Span) → Candidate → Mark) → (IgnoreList → Candidate → Mark) → Filter
+    → Candidate → Mark
 rule_of not_rule ignore_rule Nothing = λ c. kept
 rule_of not_rule ignore_rule (Not alternatives) = not_rule alternatives
 rule_of not_rule ignore_rule (Ignore list) = ignore_rule list

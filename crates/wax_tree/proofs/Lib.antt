@@ -1,4 +1,5 @@
 pub mod Lead
+pub mod Locations
 pub mod Showing
 pub mod Resting
 pub mod Stepping

@@ -16,16 +16,16 @@ use Rattle.wax_tree.specs.Begins.{Begins, BeginsAt, FailsFrom, FailsNowhere, Has
 use Rattle.wax_tree.specs.Lacking.{MayCome, lacks, goes, tree_view}
 use Rattle.wax_tree.specs.Plain.{Location, count_shown}
 use Rattle.wax_tree.specs.Prefix.{ArePlain, from_last, walk_from}
-use Rattle.wax_tree.specs.Walking.{PlainToCome, scope_of, steps_view, start_point_location}
+use Rattle.wax_tree.specs.Walking.{PlainToCome, scope_of, steps_view, located}
 
 module _ {D C : Type 0} (law : Law D C) where
   made_comes : (w : Steps D C) (place : StartPoint) (s : Shown) (listed : List (List ℕ)) → w.first ≡ Some place
       → w.entered ≡ None → w.levels.items ≡ [] → w.has_ended ≡ false
-      → law.shows w.directory (string_bytes place.path) s → ArePlain (from_last place.names.items)
-      → place.depth + length place.names.items ≤ 2 ^ 64 - 1 → law.tells w.directory listed
+      → law.shows w.directory (string_bytes place.at.path) s → ArePlain (from_last place.names.items)
+      → place.at.depth + length place.names.items ≤ 2 ^ 64 - 1 → law.tells w.directory listed
       → law.holds w.directory [] []
       → PlainToCome law w (pending nothing
-      (walk_from (scope_of w) (start_point_location place) s (from_last place.names.items) nothing) listed
+      (walk_from (scope_of w) (located place.at) s (from_last place.names.items) nothing) listed
       (count_shown s))
   made_comes w place s listed e n l f h p d told held = record {
     has = [];
@@ -47,8 +47,8 @@ module _ {D C : Type 0} (law : Law D C) where
   pub made_at : (w : Steps D C) (root : List ℕ) (place : StartPoint) (at : Location) (names : List (String Global))
       (s : Shown) (listed : List (List ℕ)) → w.first ≡ Some place → w.entered ≡ None → w.levels.items ≡ []
       → w.has_ended ≡ false
-      → string_bytes w.root ≡ root → string_bytes place.path ≡ at.path
-      → string_bytes place.candidate ≡ at.candidate → place.depth ≡ at.depth → place.names.items ≡ names
+      → string_bytes w.root ≡ root → string_bytes place.at.path ≡ at.path
+      → string_bytes place.at.candidate ≡ at.candidate → place.at.depth ≡ at.depth → place.names.items ≡ names
       → law.shows w.directory at.path s → ArePlain (from_last names) → at.depth + length names ≤ 2 ^ 64 - 1
       → law.tells w.directory listed → law.holds w.directory [] []
       → PlainToCome law w (pending nothing

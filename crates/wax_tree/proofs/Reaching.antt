@@ -12,7 +12,7 @@ use Rattle.wax_walk.specs.declared.error.WalkError.TheVariants.{Memory, Fault}
 use Rattle.wax_walk.specs.Collected.{AreOfFolders, HasFolder}
 use Rattle.wax_walk.specs.Given.{Given, fault}
 use Rattle.wax_walk.specs.View.{IsErrorAt, IsFolderAt, WalkView, Places, MayFail}
-use Rattle.wax_tree.specs.declared.steps.Folder.{Folder}
+use Rattle.wax_tree.specs.declared.location.Location as code
 use Rattle.wax_tree.specs.declared.steps.OpenFolder.{OpenFolder}
 use Rattle.wax_tree.specs.declared.steps.StartPoint.{StartPoint}
 use Rattle.wax_tree.specs.declared.steps.Steps.{Steps}
@@ -155,13 +155,13 @@ levels_popped (outer ∷ levels) level path n h = elim h [
 
 -- ---- the way
 
-pub way_here : (place : StartPoint) (path : List ℕ) (n : ℕ) → OneFolder (string_bytes place.path) (place.depth + 1) path n
+pub way_here : (place : StartPoint) (path : List ℕ) (n : ℕ) → OneFolder (string_bytes place.at.path) (place.at.depth + 1) path n
     → OnWay place path n
 way_here place path n h = ([], from_last place.names.items, refl, h.0, λ fits. omega (arith, h.1))
 
 way_next : (place next : StartPoint) (x : String Global) → place.names.items ≡ next.names.items ++ x ∷ []
-    → string_bytes next.path ≡ join (string_bytes place.path) (string_bytes x)
-    → next.depth ≡ min (place.depth + 1) (2 ^ 64 - 1)
+    → string_bytes next.at.path ≡ join (string_bytes place.at.path) (string_bytes x)
+    → next.at.depth ≡ min (place.at.depth + 1) (2 ^ 64 - 1)
     → (path : List ℕ) (n : ℕ) → OnWay next path n → OnWay place path n
 way_next place next x e q d path n h =
     let names : from_last place.names.items ≡ string_bytes x ∷ from_last next.names.items =
@@ -174,7 +174,7 @@ way_next place next x e q d path n h =
     )
 
 way_passed : (least : ℕ) (place : StartPoint) (start : List ℕ) (names : List (List ℕ))
-    → string_bytes place.path ≡ start → place.depth ≡ 0 → from_last place.names.items ≡ names
+    → string_bytes place.at.path ≡ start → place.at.depth ≡ 0 → from_last place.names.items ≡ names
     → length names < 2 ^ 64
     → (top : List ℕ) (above : ℕ) → OnWay place top above → (path : List ℕ) (n : ℕ) (more : List (List ℕ))
     → ArePlain more → path ≡ path_from top more → n ≡ above + length more → (more ≡ []) ⊎ (n ≤ least)
@@ -320,7 +320,7 @@ module _ {D C : Type 0} where
       ]) path n h)
 
   -- the folder that is to be entered was taken
-  pub entered_reaches : (w mid : Steps D C) (folder : Folder) → mid.min ≡ w.min → mid.first ≡ None
+  pub entered_reaches : (w mid : Steps D C) (folder : code.Location) → mid.min ≡ w.min → mid.first ≡ None
       → w.entered ≡ Some folder → mid.levels.items ≡ w.levels.items
       → (path : List ℕ) (n : ℕ) → ReachesFrom mid (IsOf folder) path n
       → ReachesFrom w no_folders path n ⊎ LeadsUnseen w.min (OfEntered w.entered) path n
@@ -340,8 +340,8 @@ module _ {D C : Type 0} where
   -- the next name was followed
   pub next_reaches : (w : Steps D C) (place next : StartPoint) (x : String Global)
       → place.names.items ≡ next.names.items ++ x ∷ []
-      → string_bytes next.path ≡ join (string_bytes place.path) (string_bytes x)
-      → next.depth ≡ min (place.depth + 1) (2 ^ 64 - 1)
+      → string_bytes next.at.path ≡ join (string_bytes place.at.path) (string_bytes x)
+      → next.at.depth ≡ min (place.at.depth + 1) (2 ^ 64 - 1)
       → (path : List ℕ) (n : ℕ) → ReachesFrom (record w { first = Some next }) no_folders path n
       → ReachesFrom w (OnWay place) path n
   next_reaches w place next x e q d path n h =
@@ -470,7 +470,7 @@ module _ {D C : Type 0} where
 
   -- of a walk that begins, errors can come only of what it passes
   pub begins_passed : (w : Steps D C) (place : StartPoint) (start : List ℕ) (names : List (List ℕ))
-      → w.first ≡ Some place → w.levels.items ≡ [] → string_bytes place.path ≡ start → place.depth ≡ 0
+      → w.first ≡ Some place → w.levels.items ≡ [] → string_bytes place.at.path ≡ start → place.at.depth ≡ 0
       → from_last place.names.items ≡ names → length names < 2 ^ 64
       → (path : List ℕ) (depth : ℕ) → MayFailAt w path depth → IsPassed w.min start names path depth
   begins_passed w place start names first levels q d e fits path depth h =

@@ -11,11 +11,11 @@ use Rattle.wax_directory.specs.Law.{Law, ShowsSame, HoldsLast}
 use Rattle.wax_directory.specs.Shown.{Items, Shown, a_leaf, a_folder, a_sealed, missing, failing, ShowsIn}
 use Rattle.wax_walk.specs.Forest.{Forest, nothing, lists, followed_by, pending}
 use Rattle.wax_walk.specs.Given.{Given}
-use Rattle.wax_tree.specs.declared.steps.Folder.{Folder}
+use Rattle.wax_tree.specs.declared.location.Location as code
 use Rattle.wax_tree.specs.declared.steps.OpenFolder.{OpenFolder}
 use Rattle.wax_tree.specs.declared.steps.Steps.{Steps}
 use Rattle.wax_tree.specs.Plain.{WalkScope, Location, count, count_shown, below_forest, items_forest, unlisted}
-use Rattle.wax_tree.specs.Walking.{HasKind, IsAlone, folder_location, scope_of}
+use Rattle.wax_tree.specs.Walking.{HasKind, IsAlone, located, scope_of}
 use Rattle.wax_tree.specs.Walking.{cursors_of, Rest, FirstShows, EnteredShows, LevelsShow, AtRest}
 use Rattle.wax_tree.specs.Walking.{PlainToCome, WereListed}
 use Rattle.wax_tree.proofs.Showing.{followed_nothing, followed_assoc, shows_in_moved}
@@ -41,26 +41,26 @@ module _ {C : Type 0} (shows : List ℕ → Shown → Type 0) (scope : WalkScope
   pub levels_pushed : (ls : List (OpenFolder C)) (has : List Items) (lv : OpenFolder C) (l : Items) (f : Forest Given)
       (n : ℕ) → LevelsShow shows scope ls has f n → ShowsIn shows (string_bytes lv.folder.path) l
       → LevelsShow shows scope (ls ++ lv ∷ []) (has ++ l ∷ [])
-      (followed_by (items_forest scope (folder_location lv.folder) l) f) (n + count l)
+      (followed_by (items_forest scope (located lv.folder) l) f) (n + count l)
   levels_pushed [] [] lv l f n h i = (
     nothing,
     0,
     i,
     (refl, refl),
-    ap (followed_by (items_forest scope (folder_location lv.folder) l)) h.0 ∙
-        followed_nothing (items_forest scope (folder_location lv.folder) l),
+    ap (followed_by (items_forest scope (located lv.folder) l)) h.0 ∙
+        followed_nothing (items_forest scope (located lv.folder) l),
     omega (arith, h.1),
   )
   levels_pushed [] (m ∷ has) lv l f n h i = absurd h
   levels_pushed (lw ∷ inner) [] lv l f n h i = absurd h
   levels_pushed (lw ∷ inner) (m ∷ has) lv l f n h i = (
-    followed_by (items_forest scope (folder_location lv.folder) l) h.0,
+    followed_by (items_forest scope (located lv.folder) l) h.0,
     h.1 + count l,
     h.2,
     levels_pushed inner has lv l h.0 h.1 h.3 i,
-    ap (followed_by (items_forest scope (folder_location lv.folder) l)) h.4 ∙ sym
-        (followed_assoc (items_forest scope (folder_location lv.folder) l) h.0
-        (items_forest scope (folder_location lw.folder) m)),
+    ap (followed_by (items_forest scope (located lv.folder) l)) h.4 ∙ sym
+        (followed_assoc (items_forest scope (located lv.folder) l) h.0
+        (items_forest scope (located lw.folder) m)),
     omega (arith, h.5),
   )
 
@@ -69,7 +69,7 @@ module _ {C : Type 0} (shows : List ℕ → Shown → Type 0) (scope : WalkScope
   Popped ls lv has f n = (outer : List Items) × (l : Items) × (g : Forest Given) × (m : ℕ) ×
       (has ≡ outer ++ l ∷ []) × ShowsIn shows (string_bytes lv.folder.path) l × LevelsShow shows scope ls
       outer g m
-      × (f ≡ followed_by (items_forest scope (folder_location lv.folder) l) g) × (n ≡ m + count l)
+      × (f ≡ followed_by (items_forest scope (located lv.folder) l) g) × (n ≡ m + count l)
 
   pub levels_popped : (ls : List (OpenFolder C)) (lv : OpenFolder C) (has : List Items) (f : Forest Given) (n : ℕ)
       → LevelsShow shows scope (ls ++ lv ∷ []) has f n → Popped ls lv has f n
@@ -82,15 +82,15 @@ module _ {C : Type 0} (shows : List ℕ → Shown → Type 0) (scope : WalkScope
     refl,
     h.2,
     (refl, refl),
-    h.4 ∙ (ap (λ v. followed_by v (items_forest scope (folder_location lv.folder) l)) h.3.0 ∙ sym
-        (followed_nothing (items_forest scope (folder_location lv.folder) l))),
+    h.4 ∙ (ap (λ v. followed_by v (items_forest scope (located lv.folder) l)) h.3.0 ∙ sym
+        (followed_nothing (items_forest scope (located lv.folder) l))),
     omega (arith, h.5, h.3.1),
   )
   levels_popped [] lv (l ∷ m ∷ has) f n h = absurd h.3
   levels_popped (lw ∷ inner) lv [] f n h = absurd h
   levels_popped (lw ∷ inner) lv (l ∷ has) f n h =
       let p = levels_popped inner lv has h.0 h.1 h.3 in
-      let back = items_forest scope (folder_location lw.folder) l in (
+      let back = items_forest scope (located lw.folder) l in (
         l ∷ p.0,
         p.1,
         followed_by p.2 back,
@@ -99,7 +99,7 @@ module _ {C : Type 0} (shows : List ℕ → Shown → Type 0) (scope : WalkScope
         p.5,
         (p.2, p.3, h.2, p.6, refl, refl),
         h.4 ∙ (ap (λ v. followed_by v back) p.7 ∙ followed_assoc
-            (items_forest scope (folder_location lv.folder) p.1) p.2 back),
+            (items_forest scope (located lv.folder) p.1) p.2 back),
         omega (arith, h.5, p.8),
       )
 
@@ -110,7 +110,7 @@ module _ {C : Type 0} (shows : List ℕ → Shown → Type 0) (scope : WalkScope
   levels_none (lv ∷ inner) has f n h e = cc
 
 -- a folder that will be entered
-pub enters_later : (shows : List ℕ → Shown → Type 0) (scope : WalkScope) (e : Folder) (at : Location) (s : Shown)
+pub enters_later : (shows : List ℕ → Shown → Type 0) (scope : WalkScope) (e : code.Location) (at : Location) (s : Shown)
     → shows at.path s → HasKind s F.Folder → at.depth < scope.max → string_bytes e.path ≡ at.path
     → string_bytes e.candidate ≡ at.candidate → e.depth ≡ at.depth + 1
     → (n : ℕ) × (n ≤ count_shown s) × EnteredShows shows scope (Some e) (below_forest scope at s) n
@@ -171,7 +171,7 @@ module _ {C : Type 0} where
       (Contains-append_left listed more _ h.0, listed_more levels listed more h.1)
 
 module _ {D C : Type 0} (law : Law D C) where
-  pub comes_after : (w : Steps D C) (e : Option Folder) (below : Forest Given) (k items : ℕ) (rest : Rest)
+  pub comes_after : (w : Steps D C) (e : Option code.Location) (below : Forest Given) (k items : ℕ) (rest : Rest)
       → AtRest law w rest → EnteredShows (law.shows w.directory) (scope_of w) e below k
       → k + rest.count ≤ items
       → PlainToCome law (record w { entered = e }) (pending below rest.forest rest.listed items)
@@ -267,14 +267,14 @@ module _ {D C : Type 0} (law : Law D C) where
       (record {
         has = rest.has ++ l ∷ [];
         forest =
-            followed_by (items_forest (scope_of w) (folder_location lv.folder) l) rest.forest;
+            followed_by (items_forest (scope_of w) (located lv.folder) l) rest.forest;
         count =
             rest.count + count l;
         listed = rest.listed;
       })
   rest_pushed w v lv l rest r held shown opened e = record {
     levels = subst (λ ls. LevelsShow (law.shows w.directory) (scope_of w) ls (rest.has ++ l ∷ [])
-        (followed_by (items_forest (scope_of w) (folder_location lv.folder) l) rest.forest)
+        (followed_by (items_forest (scope_of w) (located lv.folder) l) rest.forest)
         (rest.count + count l)) (sym e)
         (levels_pushed (law.shows w.directory) (scope_of w) w.levels.items rest.has lv l rest.forest
         rest.count r.levels shown);

@@ -21,7 +21,7 @@ use Rattle.wax_walk.specs.Forest.{Forest, nothing, item, lists, followed_by, Pen
 use Rattle.wax_walk.specs.Forest.{FirstIs, IsListed, listed_next}
 use Rattle.wax_walk.specs.Given.{Given, fault}
 use Rattle.wax_walk.specs.View.{GivesOrStops, lacks_memory, over_budget, gives, IsLast}
-use Rattle.wax_tree.specs.declared.steps.Folder.{Folder}
+use Rattle.wax_tree.specs.declared.location.Location as code
 use Rattle.wax_tree.specs.declared.steps.OpenFolder.{OpenFolder}
 use Rattle.wax_tree.specs.declared.steps.StartPoint.{StartPoint}
 use Rattle.wax_tree.specs.declared.steps.Steps.{Steps}
@@ -32,7 +32,7 @@ use Rattle.wax_tree.specs.Plain.{Location, count, count_shown, below_forest, ent
 use Rattle.wax_tree.specs.Plain.{items_forest}
 use Rattle.wax_tree.specs.Prefix.{ArePlain, from_last, walk_from}
 use Rattle.wax_tree.specs.Walking.{HasKind, IsAlone, IsFolder, tree_given, entered_forest}
-use Rattle.wax_tree.specs.Walking.{folder_location, start_point_location, scope_of, cursors_of, allowance}
+use Rattle.wax_tree.specs.Walking.{located, scope_of, cursors_of, allowance}
 use Rattle.wax_tree.specs.Walking.{Rest, FirstShows, EnteredShows, LevelsShow, AtRest}
 use Rattle.wax_tree.specs.Walking.{PlainToCome, WereListed, steps_view, MovesOn}
 use Rattle.wax_tree.specs.Stepping.{StepIs, IsPopped}
@@ -43,7 +43,7 @@ use Rattle.wax_tree.proofs.Resting.{levels_popped, levels_none, cursors_pushed, 
 
 module _ {D C : Type 0} (law : Law D C) where
   -- an entry below the least depth isn't given
-  pub goes_silently : (w new : Steps D C) (e : Option Folder) (at : Location) (kind : FileType) (s : Shown)
+  pub goes_silently : (w new : Steps D C) (e : Option code.Location) (at : Location) (kind : FileType) (s : Shown)
       (k items : ℕ) (rest : Rest) → new ≡ record w { entered = e } → at.depth < new.min
       → AtRest law w rest → EnteredShows (law.shows w.directory) (scope_of w) e
       (below_forest (scope_of w) at s) k → k ≤ count_shown s → count_shown s + rest.count ≤ items
@@ -63,7 +63,7 @@ module _ {D C : Type 0} (law : Law D C) where
         omega (arith, a),
       )
 
-  pub gives_entry : (w new : Steps D C) (e : Option Folder) (at : Location) (kind : FileType) (s : Shown)
+  pub gives_entry : (w new : Steps D C) (e : Option code.Location) (at : Location) (kind : FileType) (s : Shown)
       (k items : ℕ) (rest : Rest) (x : Result TreeEntry WalkError) → new ≡ record w { entered = e }
       → new.min ≤ at.depth → tree_given x ≡ plain_entry (scope_of w) at kind
       → AtRest law w rest → EnteredShows (law.shows w.directory) (scope_of w) e
@@ -106,14 +106,14 @@ module _ {D C : Type 0} (law : Law D C) where
       (record rest { listed = rest.listed ++ string_bytes lv.folder.path ∷ [] }))
       → v.levels.items ≡ w.levels.items ++ lv ∷ [] → count_shown s + rest.count ≤ items
       → StepIs law w (pending nothing
-      (followed_by (entered_forest (scope_of w) (folder_location lv.folder) s) rest.forest) rest.listed items)
+      (followed_by (entered_forest (scope_of w) (located lv.folder) s) rest.forest) rest.listed items)
       GoesOn (record w { directory = d; levels = v.levels })
   enters w v d lv (a_folder l) rest items i o h inner r e few =
       let path = string_bytes lv.folder.path in
       let pushed = rest_pushed law (record w { directory = d }) v lv l
       (record rest { listed = rest.listed ++ path ∷ [] }) (r l o) o (inner l h)
       (Contains-append_right rest.listed (path ∷ []) path (Contains-push [] path)) e in (
-        pending nothing (followed_by (items_forest (scope_of w) (folder_location lv.folder) l) rest.forest)
+        pending nothing (followed_by (items_forest (scope_of w) (located lv.folder) l) rest.forest)
             (rest.listed ++ path ∷ []) items,
         comes_rest law (record w { directory = d; levels = v.levels }) items _ pushed (omega (arith, few)),
         inr (path, refl, refl),
@@ -160,17 +160,17 @@ module _ {D C : Type 0} (law : Law D C) where
 
   -- a name follows a folder
   pub follows : (w : Steps D C) (place next : StartPoint) (x : String Global) (s : Shown) (rest : Rest) (items : ℕ)
-      → AtRest law w rest → law.shows w.directory (string_bytes place.path) s → HasKind s F.Folder
-      → ArePlain (from_last place.names.items) → place.depth + length place.names.items ≤ 2 ^ 64 - 1
+      → AtRest law w rest → law.shows w.directory (string_bytes place.at.path) s → HasKind s F.Folder
+      → ArePlain (from_last place.names.items) → place.at.depth + length place.names.items ≤ 2 ^ 64 - 1
       → w.levels.items ≡ [] → count_shown s + rest.count ≤ items
       → ((path : List ℕ) (y : List ℕ) (s : Shown) → law.shows w.directory path s → IsPlain y
       → law.shows w.directory (join path y) (child_shown y s))
       → place.names.items ≡ next.names.items ++ x ∷ []
-      → string_bytes next.path ≡ join (string_bytes place.path) (string_bytes x)
-      → string_bytes next.candidate ≡ join (string_bytes place.candidate) (string_bytes x)
-      → next.depth ≡ place.depth + 1
+      → string_bytes next.at.path ≡ join (string_bytes place.at.path) (string_bytes x)
+      → string_bytes next.at.candidate ≡ join (string_bytes place.at.candidate) (string_bytes x)
+      → next.at.depth ≡ place.at.depth + 1
       → StepIs law w (pending nothing
-      (walk_from (scope_of w) (start_point_location place) s (from_last place.names.items) rest.forest) rest.listed
+      (walk_from (scope_of w) (located place.at) s (from_last place.names.items) rest.forest) rest.listed
       items) GoesOn (record w { first = Some next })
   follows w place next x s rest items r h k p d none few child e path candidate depth =
       let names : from_last place.names.items ≡ string_bytes x ∷ from_last next.names.items =
@@ -179,11 +179,11 @@ module _ {D C : Type 0} (law : Law D C) where
       let below = child_shown (string_bytes x) s in
       let long : length place.names.items ≡ length next.names.items + 1 =
       ap length e ∙ length-append next.names.items (x ∷ []) in
-      let at : law.shows w.directory (string_bytes next.path) below =
+      let at : law.shows w.directory (string_bytes next.at.path) below =
       subst (λ v. law.shows w.directory v below) (sym path)
-      (child (string_bytes place.path) (string_bytes x) s h plain.0) in
+      (child (string_bytes place.at.path) (string_bytes x) s h plain.0) in
       let fewer : count_shown below ≤ count_shown s = child_counts (string_bytes x) s in (
-        pending nothing (walk_from (scope_of w) (start_point_location next) below (from_last next.names.items)
+        pending nothing (walk_from (scope_of w) (located next.at) below (from_last next.names.items)
             rest.forest) rest.listed items,
         record {
           has = rest.has;
@@ -203,8 +203,8 @@ module _ {D C : Type 0} (law : Law D C) where
           ended = λ t. absurd (let b : true ≡ false = sym t ∙ r.running in (cc));
         },
         inl (
-          (ap (λ v. walk_from (scope_of w) (start_point_location place) s v rest.forest) names
-              ∙ follows_folder (scope_of w) (start_point_location place) s (string_bytes x) (from_last next.names.items)
+          (ap (λ v. walk_from (scope_of w) (located place.at) s v rest.forest) names
+              ∙ follows_folder (scope_of w) (located place.at) s (string_bytes x) (from_last next.names.items)
               rest.forest k)
               ∙ (λ i. walk_from (scope_of w)
               (record { path = sym path i; candidate = sym candidate i; depth = sym depth i }) below
@@ -216,13 +216,13 @@ module _ {D C : Type 0} (law : Law D C) where
 
   -- ---- what the parts of a state have to give
 
-  pub steps_begin : (w : Steps D C) (place : StartPoint) (a : Option StartPoint) (b : Option Folder) (p : Pending Given)
+  pub steps_begin : (w : Steps D C) (place : StartPoint) (a : Option StartPoint) (b : Option code.Location) (p : Pending Given)
       → PlainToCome law w p → w.first ≡ Some place → a ≡ None → b ≡ None → w.has_ended ≡ false
       → (s : Shown) × (rest : Rest) × AtRest law (record w { first = a; entered = b }) rest × law.shows
-      w.directory (string_bytes place.path) s × ArePlain (from_last place.names.items) ×
-      (place.depth + length place.names.items ≤ 2 ^ 64 - 1) × (w.levels.items ≡ [])
+      w.directory (string_bytes place.at.path) s × ArePlain (from_last place.names.items) ×
+      (place.at.depth + length place.names.items ≤ 2 ^ 64 - 1) × (w.levels.items ≡ [])
       × (count_shown s + rest.count ≤ p.items) × (p ≡ pending p.below p.after rest.listed p.items) ×
-      (all_pending p ≡ walk_from (scope_of w) (start_point_location place) s (from_last place.names.items)
+      (all_pending p ≡ walk_from (scope_of w) (located place.at) s (from_last place.names.items)
       rest.forest)
   steps_begin w place a b p h e i j running =
       let f = subst (λ v. FirstShows (law.shows w.directory) (scope_of w) v p.after h.back h.of_first) e
@@ -250,12 +250,12 @@ module _ {D C : Type 0} (law : Law D C) where
         ap (λ v. followed_by v p.after) below.0 ∙ f.5,
       )
 
-  pub steps_enter : (w : Steps D C) (e : Folder) (a : Option StartPoint) (b : Option Folder) (p : Pending Given)
+  pub steps_enter : (w : Steps D C) (e : code.Location) (a : Option StartPoint) (b : Option code.Location) (p : Pending Given)
       → PlainToCome law w p → w.first ≡ None → w.entered ≡ Some e → a ≡ None → b ≡ None → w.has_ended ≡ false
       → (s : Shown) × (rest : Rest) × AtRest law (record w { first = a; entered = b }) rest × law.shows
       w.directory (string_bytes e.path) s × IsFolder s
       × (count_shown s + rest.count ≤ p.items) × (p ≡ pending p.below p.after rest.listed p.items) ×
-      (all_pending p ≡ followed_by (entered_forest (scope_of w) (folder_location e) s) rest.forest)
+      (all_pending p ≡ followed_by (entered_forest (scope_of w) (located e) s) rest.forest)
   steps_enter w e a b p h first is i j running =
       let f = subst (λ v. FirstShows (law.shows w.directory) (scope_of w) v p.after h.back h.of_first) first
       h.first in
@@ -277,17 +277,17 @@ module _ {D C : Type 0} (law : Law D C) where
         omega (arith, h.few, below.4),
         refl,
         ap (λ v. followed_by v p.after) below.3 ∙ ap
-            (followed_by (entered_forest (scope_of w) (folder_location e) below.0)) f.0,
+            (followed_by (entered_forest (scope_of w) (located e) below.0)) f.0,
       )
 
-  pub steps_list : (w v : Steps D C) (lv : OpenFolder C) (a : Option StartPoint) (b : Option Folder) (p : Pending Given)
+  pub steps_list : (w v : Steps D C) (lv : OpenFolder C) (a : Option StartPoint) (b : Option code.Location) (p : Pending Given)
       → PlainToCome law w p → w.first ≡ None → w.entered ≡ None → a ≡ None → b ≡ None → w.has_ended ≡ false
       → w.levels.items ≡ v.levels.items ++ lv ∷ []
       → ((cs : List C) (ls : List Items) (c : C) (l : Items) → HoldsLast law w.directory cs ls c l
       → law.holds w.directory cs ls)
       → (l : Items) × (rest : Rest) × IsPopped law (record w { first = a; entered = b; levels = v.levels }) lv l
       rest × (rest.count + count l ≤ p.items) × (p ≡ pending p.below p.after rest.listed p.items)
-      × (all_pending p ≡ followed_by (items_forest (scope_of w) (folder_location lv.folder) l) rest.forest)
+      × (all_pending p ≡ followed_by (items_forest (scope_of w) (located lv.folder) l) rest.forest)
   steps_list w v lv a b p h first is i j running e drop =
       let f = subst (λ v. FirstShows (law.shows w.directory) (scope_of w) v p.after h.back h.of_first) first
       h.first in
@@ -335,7 +335,7 @@ module _ {D C : Type 0} (law : Law D C) where
       (refl, subst (PlainToCome law w) whole h))
 
   -- nothing is left
-  pub steps_none : (w v : Steps D C) (a : Option StartPoint) (b : Option Folder) (p : Pending Given)
+  pub steps_none : (w v : Steps D C) (a : Option StartPoint) (b : Option code.Location) (p : Pending Given)
       → PlainToCome law w p → w.first ≡ None → w.entered ≡ None → w.levels.items ≡ [] → v.levels.items ≡ []
       → a ≡ None → b ≡ None
       → StepIs law w p Ends (record w { first = a; entered = b; levels = v.levels })

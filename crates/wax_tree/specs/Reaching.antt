@@ -1,7 +1,7 @@
 -- The folders of which a walk may yield an error, by its state.
 use Rattle.std.specs.Prelude.{◌≡◌, ◌<◌, ◌≤◌, ◌⊎◌, ℕ, ◌+◌, ◌-◌, ◌^◌, false, length, List, [], ◌∷◌, ◌++◌}
 use Rattle.std.specs.Prelude.{Option, Some, None, string_bytes}
-use Rattle.wax_tree.specs.declared.steps.Folder.{Folder}
+use Rattle.wax_tree.specs.declared.location.Location as code
 use Rattle.wax_tree.specs.declared.steps.OpenFolder.{OpenFolder}
 use Rattle.wax_tree.specs.declared.steps.StartPoint.{StartPoint}
 use Rattle.wax_tree.specs.declared.steps.Steps.{Steps}
@@ -32,17 +32,17 @@ pub record LeadsUnseen (least : ℕ) (from : FolderSet) (path : List ℕ) (insid
 -- a place on the way from a start point along its names; nothing is said of a depth that is no `usize`
 abbrev pub OnWay : StartPoint → FolderSet
 OnWay place path inside = (front rest : List (List ℕ)) × (from_last place.names.items ≡ front ++ rest)
-    × (path ≡ path_from (string_bytes place.path) front)
-    × (place.depth + length front < 2 ^ 64 → inside ≡ place.depth + length front + 1)
+    × (path ≡ path_from (string_bytes place.at.path) front)
+    × (place.at.depth + length front < 2 ^ 64 → inside ≡ place.at.depth + length front + 1)
 
-abbrev pub IsOf : Folder → FolderSet
+abbrev pub IsOf : code.Location → FolderSet
 IsOf folder path inside = (path ≡ string_bytes folder.path) × (inside ≡ folder.depth)
 
 abbrev pub OfFirst : Option StartPoint → FolderSet
 OfFirst None path inside = ⊥
 OfFirst (Some place) path inside = OnWay place path inside
 
-abbrev pub OfEntered : Option Folder → FolderSet
+abbrev pub OfEntered : Option code.Location → FolderSet
 OfEntered None path inside = ⊥
 OfEntered (Some folder) path inside = IsOf folder path inside
 

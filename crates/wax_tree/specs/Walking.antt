@@ -12,7 +12,7 @@ use Rattle.wax_walk.specs.Entries.{facts_of, given_outcome}
 use Rattle.wax_walk.specs.Forest.{Forest, nothing, lists, followed_by, Pending, all_pending}
 use Rattle.wax_walk.specs.Given.{Facts, Given}
 use Rattle.wax_walk.specs.View.{WalkView}
-use Rattle.wax_tree.specs.declared.steps.Folder.{Folder}
+use Rattle.wax_tree.specs.declared.location.Location as code
 use Rattle.wax_tree.specs.declared.steps.OpenFolder.{OpenFolder}
 use Rattle.wax_tree.specs.declared.steps.StartPoint.{StartPoint}
 use Rattle.wax_tree.specs.declared.steps.Step.{Step}
@@ -40,19 +40,12 @@ abbrev pub tree_answer : Option (Result TreeEntry WalkError) → Option Given
 tree_answer None = None
 tree_answer (Some x) = Some (tree_given x)
 
-abbrev pub start_point_location : StartPoint → Location
-start_point_location place = record {
-  path = string_bytes place.path;
-  candidate = string_bytes place.candidate;
-  depth =
-      place.depth;
-}
-
-abbrev pub folder_location : Folder → Location
-folder_location folder = record {
-  path = string_bytes folder.path;
-  candidate = string_bytes folder.candidate;
-  depth = folder.depth;
+-- a location as contracts see it, in bytes
+abbrev pub located : code.Location → Location
+located at = record {
+  path = string_bytes at.path;
+  candidate = string_bytes at.candidate;
+  depth = at.depth;
 }
 
 -- where an entry is
@@ -65,7 +58,7 @@ entered_forest scope at (a_folder l) = lists at.path (items_forest scope at l)
 entered_forest scope at s = unlisted scope at.path (at.depth - 1)
 
 -- if the walk is at its start point, no folder was entered and none is open
-abbrev pub IsAlone : {C : Type 0} → Option StartPoint → Option Folder → List (OpenFolder C) → Type 0
+abbrev pub IsAlone : {C : Type 0} → Option StartPoint → Option code.Location → List (OpenFolder C) → Type 0
 IsAlone None e levels = ⊤
 IsAlone (Some place) e levels = (e ≡ None) × (levels ≡ [])
 
@@ -103,16 +96,16 @@ module _ (shows : List ℕ → Shown → Type 0) (scope : WalkScope) where
   -- f is what comes of the start point, if there is one, and then `after`; at most n items are listed for it
   abbrev pub FirstShows : Option StartPoint → Forest Given → Forest Given → ℕ → Type 0
   FirstShows None f after n = (f ≡ after) × (n ≡ 0)
-  FirstShows (Some place) f after n = (s : Shown) × shows (string_bytes place.path) s × ArePlain
-      (from_last place.names.items) × (place.depth + length place.names.items ≤ 2 ^ 64 - 1)
-      × (count_shown s ≤ n) × (f ≡ walk_from scope (start_point_location place) s
+  FirstShows (Some place) f after n = (s : Shown) × shows (string_bytes place.at.path) s × ArePlain
+      (from_last place.names.items) × (place.at.depth + length place.names.items ≤ 2 ^ 64 - 1)
+      × (count_shown s ≤ n) × (f ≡ walk_from scope (located place.at) s
       (from_last place.names.items) after)
 
   -- f is what comes of the last yielded folder, if it is to be entered; n items are listed for it
-  abbrev pub EnteredShows : Option Folder → Forest Given → ℕ → Type 0
+  abbrev pub EnteredShows : Option code.Location → Forest Given → ℕ → Type 0
   EnteredShows None f n = (f ≡ nothing) × (n ≡ 0)
   EnteredShows (Some e) f n = (s : Shown) × shows (string_bytes e.path) s × IsFolder s ×
-      (f ≡ entered_forest scope (folder_location e) s) × (n ≡ count_shown s)
+      (f ≡ entered_forest scope (located e) s) × (n ≡ count_shown s)
 
   -- f is what comes of the open folders, outermost first, if their cursors have these items; n items are
   -- listed for it
@@ -122,7 +115,7 @@ module _ (shows : List ℕ → Shown → Type 0) (scope : WalkScope) where
   LevelsShow (level ∷ inner) [] f n = ⊥
   LevelsShow (level ∷ inner) (l ∷ has) f n = (g : Forest Given) × (m : ℕ) × ShowsIn shows
       (string_bytes level.folder.path) l × LevelsShow inner has g m
-      × (f ≡ followed_by g (items_forest scope (folder_location level.folder) l)) × (n ≡ m + count l)
+      × (f ≡ followed_by g (items_forest scope (located level.folder) l)) × (n ≡ m + count l)
 
 abbrev pub scope_of : {D C : Type 0} → Steps D C → WalkScope
 scope_of w = record { min = w.min; max = w.max; root = string_bytes w.root }
@@ -148,7 +141,7 @@ abbrev pub open_lists : {D C : Type 0} → Steps D C → ℕ
 open_lists w = cond w.has_ended 0 (length w.levels.items)
 
 -- 1 if the last yielded folder is to be opened, else 0
-abbrev pub entering_after : Option StartPoint → Option Folder → ℕ
+abbrev pub entering_after : Option StartPoint → Option code.Location → ℕ
 entering_after None e = if_some e 1
 entering_after (Some place) e = 0
 

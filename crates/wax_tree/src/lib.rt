@@ -2,6 +2,7 @@
 #![tactic(auto)]
 
 mod behavior;
+mod location;
 mod path_ext;
 mod plain;
 mod steps;

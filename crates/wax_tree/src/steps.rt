@@ -13,7 +13,7 @@ ghost use Rattle.wax_walk.specs.Given.{Given, fault};
 ghost use Rattle.wax_walk.specs.View.{Accounts, FeedStep};
 ghost use Rattle.wax_tree.specs.inner.Finding.{IsEntry, IsFault, IsFound};
 ghost use Rattle.wax_tree.specs.inner.Heads.{first_item_forest, own_count};
-ghost use Rattle.wax_tree.specs.Plain.{Location, entry_forest, below_forest, count, count_shown};
+ghost use Rattle.wax_tree.specs.Plain.{Location as Place, entry_forest, below_forest, count, count_shown};
 ghost use Rattle.wax_tree.specs.Prefix.{ArePlain, from_last, walk_from};
 ghost use Rattle.wax_tree.specs.Stepping.{UsesAnswer, nothing_asked, IncreasesBy, IncreasesByNames};
 ghost use Rattle.wax_tree.specs.Reaching.{IsOf, LeadsUnseen, MayReach, OfEntered, OnWay, OneFolder};
@@ -22,37 +22,27 @@ ghost use Rattle.wax_tree.specs.Stepping.{KeepsLists, Remembers, StepPlaces};
 ghost use Rattle.wax_tree.specs.Stepping.{WeaklyDecreases, Decreases, StepIs, Continues, IsPopped};
 ghost use Rattle.wax_tree.specs.Stepping.{listing_pending, StepAnswers, IsStep, items_left};
 ghost use Rattle.wax_tree.specs.Walking.{HasKind, IsFolder, EnteredShows, PlainToCome, entered_forest};
-ghost use Rattle.wax_tree.specs.Walking.{start_point_location, folder_location, scope_of, steps_view};
-ghost use Rattle.wax_tree.specs.Walking.{entry_location};
+ghost use Rattle.wax_tree.specs.Walking.{entry_location, located, scope_of, steps_view};
 ghost use Rattle.wax_tree.specs.Walking.{names_left, step_given, tree_answer, Rest, open_lists, if_some};
 
+use crate::location::Location;
 use std::alloc::{AllocError, Global};
 use wax_directory::directory::{Directory, DirectoryFault, FileType, ListItem};
-use wax_directory::path::{is_plain, join};
+use wax_directory::path::is_plain;
 use wax_walk::{Entry, FaultKind, ListedFolder, TreeEntry, WalkError};
 
-/// A folder. `depth` is that of what is in it.
-#[derive(Drop)]
-pub(crate) struct Folder {
-    path: String,
-    candidate: String,
-    depth: usize,
-}
-
-/// The place where a walk begins, or that it has reached on its way through the given names.
+/// The location where a walk begins, or that it has reached on its way through the given names.
 /// `names` are those that follow, the first of them last, so that they can be popped.
 #[derive(Drop)]
 pub(crate) struct StartPoint {
-    pub(crate) path: String,
-    pub(crate) candidate: String,
-    pub(crate) depth: usize,
+    pub(crate) at: Location,
     pub(crate) names: Vec<String>,
 }
 
 /// A folder that is being listed.
 #[derive(Drop)]
 struct OpenFolder<C> {
-    folder: Folder,
+    folder: Location,
     cursor: C,
 }
 
@@ -81,7 +71,7 @@ pub(crate) struct Steps<D: Directory> {
     max: usize,
     root: String,
     first: Option<StartPoint>,
-    pub(crate) entered: Option<Folder>,
+    pub(crate) entered: Option<Location>,
     levels: Vec<OpenFolder<D::Cursor>>,
     budget: u32,
     pub(crate) has_ended: bool,
@@ -98,11 +88,11 @@ pub struct DepthRange {
 fn entry_in(
     alloc: Global,
     root: &str,
-    folder: &Folder,
+    folder: &Location,
     name: String,
     kind: FileType,
 ) -> Result<FoundItem, AllocError>
-    ensures { IfOk result (IsEntry (folder_location folder.now) root.now (string_bytes name) kind) }
+    ensures { IfOk result (IsEntry (located folder.now) root.now (string_bytes name) kind) }
 {
     let listed = ListedFolder {
         root,
@@ -113,8 +103,8 @@ fn entry_in(
     Ok(FoundItem::Entry(entry))
 }
 
-fn fault_in(folder: &Folder, kind: FaultKind) -> Result<FoundItem, AllocError>
-    ensures { IfOk result (IsFault (folder_location folder.now) kind) }
+fn fault_in(folder: &Location, kind: FaultKind) -> Result<FoundItem, AllocError>
+    ensures { IfOk result (IsFault (located folder.now) kind) }
 {
     let path = folder.path.clone()?;
     Ok(FoundItem::Fault(kind, path))
@@ -124,10 +114,10 @@ fn fault_in(folder: &Folder, kind: FaultKind) -> Result<FoundItem, AllocError>
 fn found_in(
     alloc: Global,
     root: &str,
-    folder: &Folder,
+    folder: &Location,
     item: ListItem,
 ) -> Result<FoundItem, AllocError>
-    ensures { IfOk result (IsFound (folder_location folder.now) root.now item) }
+    ensures { IfOk result (IsFound (located folder.now) root.now item) }
 {
     match item {
         ListItem::Name(name, kind) => {
@@ -222,13 +212,8 @@ impl<D: Directory> Steps<D> {
         let depth = entry.depth();
         if entry.file_type() == FileType::Folder && depth < self.max {
             let (_, candidate) = entry.root_relative_paths();
-            let path = String::from_str(self.alloc, entry.path())?;
-            let candidate = String::from_str(self.alloc, candidate)?;
-            self.entered = Some(Folder {
-                path,
-                candidate,
-                depth: depth + 1,
-            });
+            let folder = Location::new(self.alloc, entry.path(), candidate, depth + 1)?;
+            self.entered = Some(folder);
         }
         Ok(())
     }
@@ -270,44 +255,28 @@ impl<D: Directory> Steps<D> {
         ensures remembers { Remembers self.old result self.new }
         ensures places { (self.old.entered ≡ None) → StepPlaces (ReachesFrom self.old (OnWay place))
             (ReachesFrom self.old (OnWay place)) self.old.max result self.new }
-        ensures continues { (s : Shown) → D.law.shows self.old.directory (string_bytes place.path) s
-            → HasKind s kind
-            → let names = from_last place.names.items in
-            ArePlain names → place.depth + length place.names.items ≤ 2 ^ 64 - 1
-            → (self.old.levels.items ≡ [])
-            → Continues D.law self.old (walk_from (scope_of self.old) (start_point_location place) s names)
-            (count_shown s)
+        ensures continues { let at = located place.at in let names = from_last place.names.items in
+            (s : Shown) → D.law.shows self.old.directory at.path s → HasKind s kind → ArePlain names
+            → at.depth + length place.names.items ≤ 2 ^ 64 - 1 → (self.old.levels.items ≡ [])
+            → Continues D.law self.old (walk_from (scope_of self.old) at s names) (count_shown s)
             result self.new }
         ensures measure { (self.old.entered ≡ None)
             → IncreasesByNames (length place.names.items) self.old result self.new }
     {
-        let StartPoint {
-            path,
-            candidate,
-            depth,
-            mut names,
-        } = place;
+        let StartPoint { at, mut names } = place;
         let Some(name) = names.pop() else {
             let Ok(root) = self.root.clone() else {
                 return self.fail();
             };
-            return self.give(TreeEntry::new(path, root, candidate, depth, kind));
+            return self.give(TreeEntry::new(at.path, root, at.candidate, at.depth, kind));
         };
         if kind != FileType::Folder {
-            return self.stop(FaultKind::NotAFolder, path, depth);
+            return self.stop(FaultKind::NotAFolder, at.path, at.depth);
         }
-        let Ok(path) = join(self.alloc, path.as_str(), name.as_str()) else {
+        let Ok(at) = at.below(self.alloc, name.as_str()) else {
             return self.fail();
         };
-        let Ok(candidate) = join(self.alloc, candidate.as_str(), name.as_str()) else {
-            return self.fail();
-        };
-        self.first = Some(StartPoint {
-            path,
-            candidate,
-            depth: depth.saturating_add(1),
-            names,
-        });
+        self.first = Some(StartPoint { at, names });
         Step::GoesOn
     }
 
@@ -320,25 +289,23 @@ impl<D: Directory> Steps<D> {
         ensures remembers { Remembers self.old result self.new }
         ensures places { (self.old.entered ≡ None) → StepPlaces (ReachesFrom self.old (OnWay place))
             (ReachesFrom self.old (OnWay place)) self.old.max result self.new }
-        ensures continues { (s : Shown) → D.law.shows self.old.directory (string_bytes place.path) s
-            → let names = from_last place.names.items in
-            ArePlain names → place.depth + length place.names.items ≤ 2 ^ 64 - 1
-            → (self.old.levels.items ≡ [])
-            → Continues D.law self.old (walk_from (scope_of self.old) (start_point_location place) s names)
-            (count_shown s)
+        ensures continues { let at = located place.at in let names = from_last place.names.items in
+            (s : Shown) → D.law.shows self.old.directory at.path s → ArePlain names
+            → at.depth + length place.names.items ≤ 2 ^ 64 - 1 → (self.old.levels.items ≡ [])
+            → Continues D.law self.old (walk_from (scope_of self.old) at s names) (count_shown s)
             result self.new }
         ensures measure { (self.old.entered ≡ None)
             → IncreasesByNames (length place.names.items) self.old result self.new }
     {
-        match self.directory.kind(self.alloc, place.path.as_str()) {
+        match self.directory.kind(self.alloc, place.at.path.as_str()) {
             Ok(Some(kind)) => self.follow(place, kind),
             Ok(None) => {
-                let depth = place.depth;
-                self.stop(FaultKind::NotFound, place.path, depth)
+                let depth = place.at.depth;
+                self.stop(FaultKind::NotFound, place.at.path, depth)
             }
             Err(DirectoryFault::Failed) => {
-                let depth = place.depth;
-                Step::Gives(Err(WalkError::Fault(FaultKind::Listing, place.path, depth)))
+                let depth = place.at.depth;
+                Step::Gives(Err(WalkError::Fault(FaultKind::Listing, place.at.path, depth)))
             }
             Err(DirectoryFault::Memory) => self.fail(),
         }
@@ -346,7 +313,7 @@ impl<D: Directory> Steps<D> {
 
     // Opens a folder. `folder.depth` is that of what is in it, so an error of the folder itself is
     // at one less.
-    fn enter(&mut self, folder: Folder) -> Step
+    fn enter(&mut self, folder: Location) -> Step
         ensures answers { (self.old.has_ended ≡ false)
             → StepAnswers D.law (record (steps_view D.law self.old) { to_open = 1 }) result self.new }
         ensures remembers { Remembers self.old result self.new }
@@ -354,7 +321,7 @@ impl<D: Directory> Steps<D> {
             (ReachesFrom self.old (IsOf folder)) self.old.max result self.new }
         ensures continues { (s : Shown) → D.law.shows self.old.directory (string_bytes folder.path) s
             → IsFolder s
-            → let entered = entered_forest (scope_of self.old) (folder_location folder) s in
+            → let entered = entered_forest (scope_of self.old) (located folder) s in
             Continues D.law self.old (followed_by entered) (count_shown s) result self.new }
         ensures measure { IncreasesBy 0 1 self.old result self.new }
     {
@@ -373,16 +340,16 @@ impl<D: Directory> Steps<D> {
 
     // Yields what was found in a folder. `depth` is that of the folder's items.
     fn give_found(&mut self, found: FoundItem, depth: usize) -> Step
-        ensures uses_answer { (at : Location) (x : ListItem) → IsFound at (string_bytes self.old.root) x found
+        ensures uses_answer { (at : Place) (x : ListItem) → IsFound at (string_bytes self.old.root) x found
             → UsesAnswer (record { counts = item_counts x; taken = 0; names = names_left self.old })
             self.old result self.new }
         ensures lists { KeepsLists (open_lists self.old) result self.new }
         ensures remembers { Remembers self.old result self.new }
-        ensures places { (self.old.entered ≡ None) → (at : Location) (x : ListItem)
+        ensures places { (self.old.entered ≡ None) → (at : Place) (x : ListItem)
             → IsFound at (string_bytes self.old.root) x found → at.depth ≡ depth
             → let from = ReachesFrom self.old (OneFolder at.path depth) in
             StepPlaces from from self.old.max result self.new }
-        ensures continues { (at : Location) (x : ListItem) (l : Items)
+        ensures continues { (at : Place) (x : ListItem) (l : Items)
             → IsFound at (string_bytes self.old.root) x found → at.depth ≡ depth
             → Some (listed_of x) ≡ first_item l → ShowsIn (D.law.shows self.old.directory) at.path l
             → Continues D.law self.old (first_item_forest (scope_of self.old) at l) (own_count l) result
@@ -399,7 +366,7 @@ impl<D: Directory> Steps<D> {
 
     // Takes an item of a folder, unless the budget is used up, and puts the folder back on the
     // stack: the cursor has its rest.
-    fn take_from(&mut self, folder: Folder, cursor: D::Cursor, item: ListItem) -> Step
+    fn take_from(&mut self, folder: Location, cursor: D::Cursor, item: ListItem) -> Step
         ensures uses_answer { (self.old.has_ended ≡ false)
             → UsesAnswer (record { counts = item_counts item; taken = 1; names = names_left self.old })
             self.old result self.new }
@@ -412,7 +379,7 @@ impl<D: Directory> Steps<D> {
             → IsPopped D.law self.old (record { folder = folder; cursor = cursor }) (rest_of l) rest
             → ShowsIn (D.law.shows self.old.directory) (string_bytes folder.path) l
             → rest.count + count l ≤ items
-            → let p = listing_pending (scope_of self.old) (folder_location folder) l rest items in
+            → let p = listing_pending (scope_of self.old) (located folder) l rest items in
             StepIs D.law self.old p result self.new }
         ensures measure { (self.old.entered ≡ None) → (self.old.has_ended ≡ false)
             → WeaklyDecreases self.old result self.new }
@@ -444,7 +411,7 @@ impl<D: Directory> Steps<D> {
             (ReachesFrom self.old (IsOf level.folder)) self.old.max result self.new }
         ensures lists { (l : Items) (rest : Rest) (items : ℕ) → IsPopped D.law self.old level l rest
             → rest.count + count l ≤ items
-            → let p = listing_pending (scope_of self.old) (folder_location level.folder) l rest items in
+            → let p = listing_pending (scope_of self.old) (located level.folder) l rest items in
             StepIs D.law self.old p result self.new }
         ensures measure { (self.old.entered ≡ None) → (self.old.has_ended ≡ false)
             → WeaklyDecreases self.old result self.new }

@@ -1,6 +1,6 @@
 //! The plain walk.
 
-ghost use Rattle.std.specs.Prelude.{◌≡◌, ◌+◌, ◌*◌, string_bytes, IfOk, ⊤};
+ghost use Rattle.std.specs.Prelude.{◌≡◌, ◌+◌, ◌*◌, ⊤};
 ghost use Rattle.std.specs.Iterator.{at_most};
 ghost use Rattle.wax_filter.specs.Feeding.{NextFiltrate};
 ghost use Rattle.wax_tree.specs.Begins.{EndsWithin, Begins, BeginsAt, HasEnded, LacksMemory};
@@ -9,8 +9,9 @@ ghost use Rattle.wax_tree.specs.Prefix.{from_last};
 ghost use Rattle.wax_walk.specs.Entries.{entry_in, facts_of, answer_of};
 ghost use Rattle.wax_walk.specs.View.{FeedStep};
 
+use crate::location::Location;
 use crate::steps::{DepthRange, StartPoint, Steps};
-use std::alloc::{AllocError, Global};
+use std::alloc::Global;
 use wax_directory::directory::Directory;
 use wax_filter::filter::{
     CancelWalk, Feed, Isomeric, Product, SeparatingFilter, Separation, TreeResidue, filtrate,
@@ -48,27 +49,6 @@ impl Isomeric for TreeFeed {
 pub struct WalkTree<D: Directory> {
     steps: Steps<D>,
     lacks_memory: bool,
-}
-
-// Copies the texts of the place where a walk begins.
-fn place_at(
-    alloc: Global,
-    path: &str,
-    candidate: &str,
-    names: Vec<String>,
-) -> Result<StartPoint, AllocError>
-    ensures texts { IfOk result
-        (λ r. (string_bytes r.path ≡ path.now) × (string_bytes r.candidate ≡ candidate.now)) }
-    ensures rest { IfOk result (λ r. (r.depth ≡ 0) × (r.names ≡ names)) }
-{
-    let path = String::from_str(alloc, path)?;
-    let candidate = String::from_str(alloc, candidate)?;
-    Ok(StartPoint {
-        path,
-        candidate,
-        depth: 0,
-        names,
-    })
 }
 
 impl<D: Directory> WalkTree<D> {
@@ -118,9 +98,15 @@ impl<D: Directory> WalkTree<D> {
         let Ok(root) = String::from_str(alloc, root) else {
             return WalkTree::refused(alloc, directory, range);
         };
-        match place_at(alloc, start, candidate, names) {
-            Ok(place) => WalkTree {
-                steps: Steps::new(alloc, directory, Some(place), root, range),
+        match Location::new(alloc, start, candidate, 0) {
+            Ok(at) => WalkTree {
+                steps: Steps::new(
+                    alloc,
+                    directory,
+                    Some(StartPoint { at, names }),
+                    root,
+                    range,
+                ),
                 lacks_memory: false,
             },
             Err(_) => WalkTree::refused(alloc, directory, range),

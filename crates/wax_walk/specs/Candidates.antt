@@ -12,7 +12,11 @@ pub record Candidate : Type 0 where
 
 -- the candidate with this text, in bytes, at this depth
 abbrev pub candidate_with : List ℕ → ℕ → Candidate
-candidate_with text depth = record { names = map chars (names_in_path text); text = chars text; depth = depth }
+candidate_with text depth = record {
+  names = map chars (names_in_path text);
+  text = chars text;
+  depth = depth;
+}
 
 abbrev pub candidate_of : Facts → Candidate
 candidate_of f = candidate_with f.candidate f.depth

@@ -50,8 +50,8 @@ where
     R: Entry,
     P: Exclude,
     F: Feed<Filtrate = Result<T, WalkError>, Residue = TreeResidue<R>>,
-    ensures says { IfOk result
-        (λ r. mark_of r ≡ mark_by (of_candidate (P.rule rule.old)) (given_of T.facts R.facts separation.now)) }
+    ensures says { let given = given_of T.facts R.facts separation.now in
+        IfOk result (λ r. mark_of r ≡ mark_by (of_candidate (P.rule rule.old)) given) }
     ensures same { P.rule rule.new ≡ P.rule rule.old }
 {
     match separation {

@@ -7,7 +7,7 @@ use Rattle.wax_walk.specs.declared.error.WalkError.TheVariants.{Fault}
 use Rattle.wax_walk.specs.Given.{fault}
 use Rattle.wax_walk.specs.View.{IsLast}
 use Rattle.wax_tree.specs.Prefix.{from_last}
-use Rattle.wax_tree.specs.Walking.{scope_of, start_point_location, cursors_of, names_left, open_lists}
+use Rattle.wax_tree.specs.Walking.{scope_of, located, cursors_of, names_left, open_lists}
 use Rattle.wax_tree.proofs.Showing.{has_kind, begins_missing, begins_failing}
 use Rattle.wax_tree.proofs.Resting.{rest_moved, comes_rest}
 use Rattle.wax_tree.proofs.UsingAnswers.{counted_same, answer_used, failed_uses_answer, gives_uses_answer}
@@ -26,7 +26,7 @@ returns-in-Ok-Some-clause-continues g c s h p d none rest items r e =
     (o.held (cursors_of w.levels.items) rest.has r.held) (o.told rest.listed r.told) r.opened in
     step_from law w (record w { directory = c.kind.new.self }) c.follow.new.self _ _ c.follow.result refl refl
     refl
-    (c.follow.ensures.continues s (o.shown (string_bytes c.args.place.path) s h)
+    (c.follow.ensures.continues s (o.shown (string_bytes c.args.place.at.path) s h)
     (has_kind s c.in-Ok-Some.kind (o.kind s h)) p d none rest items moved e)
 
 pub returns-in-Ok-None-clause-answers : goal.returns-in-Ok-None-clause-answers
@@ -42,7 +42,7 @@ returns-in-Ok-None-clause-answers g c =
     }) w (open_lists w) 0 c.kind.new.self c.stop.result c.stop.new.self
     o.counted refl (λ n. omega arith) (λ n. absurd (n (subst IsLast (sym c.stop.ensures.gives) tt)))
     (stopped_uses_answer _ (record w { directory = c.kind.new.self }) c.stop.new.self c.stop.result
-    (fault NotFound (string_bytes c.args.place.path) c.args.place.depth) c.stop.ensures.gives
+    (fault NotFound (string_bytes c.args.place.at.path) c.args.place.at.depth) c.stop.ensures.gives
     c.stop.ensures.ended (counted_same _) (omega arith) (λ i. absurd i) (omega arith))
 
 pub returns-in-Ok-None-clause-continues : goal.returns-in-Ok-None-clause-continues
@@ -51,13 +51,13 @@ returns-in-Ok-None-clause-continues g c s h p d none rest items r e =
     let w = c.args.self.now in
     let v = record w { directory = c.kind.new.self } in
     let o = rw (c.as_str.ensures.value, c.in-Ok-None.field-0-is) at c.in-Ok-None.ensures in
-    let is = begins_missing (scope_of w) (start_point_location c.args.place) s (from_last c.args.place.names.items)
+    let is = begins_missing (scope_of w) (located c.args.place.at) s (from_last c.args.place.names.items)
     rest.forest (o.kind s h) in
     let moved = rest_moved law w c.kind.new.self rest.listed rest r o.shown
     (o.held (cursors_of w.levels.items) rest.has r.held) (o.told rest.listed r.told) r.opened in
     step_from law w v c.stop.new.self _ _ c.stop.result refl refl refl
     (stops_with law v c.stop.new.self _ rest items
-    (fault NotFound (string_bytes c.args.place.path) c.args.place.depth) c.stop.result
+    (fault NotFound (string_bytes c.args.place.at.path) c.args.place.at.depth) c.stop.result
     c.stop.ensures.gives tt c.stop.ensures.ended is moved none (omega (arith, e)))
 
 pub returns-in-Err-Failed-clause-answers : goal.returns-in-Err-Failed-clause-answers
@@ -72,7 +72,7 @@ returns-in-Err-Failed-clause-answers g c =
           names_left w + length c.args.place.names.items;
     }) w (open_lists w) 0 c.kind.new.self _ _ o.counted refl (λ n. omega arith) (λ n. omega arith)
     (gives_uses_answer _ (record w { directory = c.kind.new.self })
-    (Err (Fault Listing c.args.place.path c.args.place.depth)) (counted_same _) (omega arith) (λ i. i)
+    (Err (Fault Listing c.args.place.at.path c.args.place.at.depth)) (counted_same _) (omega arith) (λ i. i)
     (λ i. i) (omega arith))
 
 pub returns-in-Err-Failed-clause-continues : goal.returns-in-Err-Failed-clause-continues
@@ -81,13 +81,13 @@ returns-in-Err-Failed-clause-continues g c s h p d none rest items r e =
     let w = c.args.self.now in
     let v = record w { directory = c.kind.new.self } in
     let o = rw (c.as_str.ensures.value, c.in-Err-Failed.field-0-is) at c.in-Err-Failed.ensures in
-    let is = begins_failing (scope_of w) (start_point_location c.args.place) s (from_last c.args.place.names.items)
+    let is = begins_failing (scope_of w) (located c.args.place.at) s (from_last c.args.place.names.items)
     rest.forest (o.kind s h) in
     let moved = rest_moved law w c.kind.new.self rest.listed rest r o.shown
     (o.held (cursors_of w.levels.items) rest.has r.held) (o.told rest.listed r.told) r.opened in
     gives_fault law w v _ rest.forest rest.listed items
-    (fault Listing (string_bytes c.args.place.path) c.args.place.depth)
-    (Err (Fault Listing c.args.place.path c.args.place.depth)) is refl (λ n. refl)
+    (fault Listing (string_bytes c.args.place.at.path) c.args.place.at.depth)
+    (Err (Fault Listing c.args.place.at.path c.args.place.at.depth)) is refl (λ n. refl)
     (comes_rest law v items rest moved (omega (arith, e)))
 
 pub returns-in-Err-Memory-clause-answers : goal.returns-in-Err-Memory-clause-answers
@@ -109,8 +109,8 @@ returns-in-Ok-None-clause-places g c none =
     let w = record c.args.self.now { directory = c.kind.new.self } in
     let place = c.args.place in
     let of = ReachesFrom w (OnWay place) in
-    stopped_places of of w.max w c.stop.new.self c.stop.result NotFound (string_bytes place.path) place.depth
-    (place.depth + 1) c.stop.ensures.gives c.stop.ensures.ended (omega arith)
+    stopped_places of of w.max w c.stop.new.self c.stop.result NotFound (string_bytes place.at.path) place.at.depth
+    (place.at.depth + 1) c.stop.ensures.gives c.stop.ensures.ended (omega arith)
     (leads_here w.min (OfAny w (OnWay place)) _ _ (inl (way_here place _ _ (refl, refl))))
 
 pub returns-in-Err-Failed-clause-places : goal.returns-in-Err-Failed-clause-places
@@ -118,6 +118,6 @@ returns-in-Err-Failed-clause-places g c none =
     let w = record c.args.self.now { directory = c.kind.new.self } in
     let place = c.args.place in
     let of = ReachesFrom w (OnWay place) in
-    fault_places of of w.max w Listing place.path place.depth (place.depth + 1) (omega arith)
+    fault_places of of w.max w Listing place.at.path place.at.depth (place.at.depth + 1) (omega arith)
     (leads_here w.min (OfAny w (OnWay place)) _ _ (inl (way_here place _ _ (refl, refl)))) none
     (reaches_more w no_folders (OnWay place) (λ p n i. absurd i))

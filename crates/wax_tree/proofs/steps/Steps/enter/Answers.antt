@@ -3,7 +3,7 @@ use Rattle.wax_walk.specs.declared.error.FaultKind.TheVariants.{Listing}
 use Rattle.wax_walk.specs.declared.error.WalkError.TheVariants.{Fault}
 use Rattle.wax_walk.specs.Given.{fault}
 use Rattle.wax_walk.specs.View.{lacks_memory}
-use Rattle.wax_tree.specs.Walking.{cursors_of, folder_location}
+use Rattle.wax_tree.specs.Walking.{cursors_of, located}
 use Rattle.wax_tree.proofs.Resting.{rest_moved, listed_more}
 use Rattle.wax_tree.proofs.Stepping.{enters, enters_sealed}
 use Rattle.wax_tree.specs.Reaching.{IsOf, OfAny, ReachesFrom, no_folders}
@@ -39,7 +39,7 @@ returns-in-Err-Failed-clause-continues g c s h i rest items r e =
     let o = rw (c.as_str.ensures.value, c.in-Err-Failed.field-0-is) at c.in-Err-Failed.ensures in
     let told : law.tells c.open.new.self (rest.listed ++ path ∷ []) = rw (sym c.as_str.ensures.value)
     (o.told rest.listed r.told) in
-    enters_sealed law w c.open.new.self (folder_location c.args.folder) s rest items
+    enters_sealed law w c.open.new.self (located c.args.folder) s rest items
     (Err (Fault Listing c.args.folder.path c.saturating_sub-depth.result)) i
     (o.opens (cursors_of w.levels.items) rest.has s r.held h)
     (ap (fault Listing path) c.saturating_sub-depth.ensures)

@@ -2,15 +2,15 @@ use Rattle.std.proofs.Common.{rules, true, false, ◌≡◌, ◌+◌, ◌<◌, �
 use Rattle.std.proofs.Common.{subst, ◌∙◌, string_bytes, length-append, inl, refl}
 use Rattle.std.specs.Prelude.{Some}
 use Rattle.wax_directory.specs.declared.directory.FileType.TheVariants.{Folder}
-use Rattle.wax_directory.specs.Shown.{join}
 use Rattle.wax_walk.specs.declared.error.FaultKind.TheVariants.{NotAFolder}
 use Rattle.wax_walk.specs.Forest.{pending, nothing}
 use Rattle.wax_walk.specs.Given.{Facts, fault}
 use Rattle.wax_tree.specs.Prefix.{from_last, walk_from}
 use Rattle.wax_tree.specs.Stepping.{Continues, StepIs, StepPlaces}
 use Rattle.wax_tree.specs.Plain.{count_shown, entry_forest}
-use Rattle.wax_tree.specs.Walking.{HasKind, entry_location, scope_of, start_point_location}
+use Rattle.wax_tree.specs.Walking.{HasKind, entry_location, scope_of, located}
 use Rattle.wax_tree.proofs.Showing.{none_left, plain_is, from_last_end, follows_leaf}
+use Rattle.wax_tree.proofs.Locations.{candidate_is, depth_is, path_is}
 use Rattle.wax_tree.proofs.UsingAnswers.{leaf_counted, stopped_uses_answer, stops_with}
 use Rattle.wax_tree.proofs.Stepping.{follows}
 use Rattle.wax_tree.specs.declared.steps.StartPoint.{StartPoint}
@@ -25,8 +25,8 @@ returns-in_default-clause-continues g c s h k p d empty rest items r e =
     let none : c.args.place.names.items ≡ [] = none_left c.args.place.names.items
     (λ i. let bad : false ≡ true = c.in_default.ensures.variant.1
     (omega (arith, i, c.args.place.names.ok.0)) in (cc)) in
-    let is = ap (λ v. walk_from (scope_of w) (start_point_location c.args.place) s (from_last v) rest.forest) none ∙
-    plain_is (scope_of w) (start_point_location c.args.place) s c.args.kind rest.forest k in
+    let is = ap (λ v. walk_from (scope_of w) (located c.args.place.at) s (from_last v) rest.forest) none ∙
+    plain_is (scope_of w) (located c.args.place.at) s c.args.kind rest.forest k in
     let root : string_bytes c.in-Ok.root ≡ string_bytes w.root = c.in-Ok.ensures.cases in
     let given = subst (λ (f : Facts). (f.root ≡ string_bytes w.root) → g.D.Directory.law.shows w.directory f.path s
     → HasKind s f.kind → Continues g.D.Directory.law w (entry_forest (scope_of w) (entry_location f) f.kind s)
@@ -40,7 +40,7 @@ returns-then-ne-clause-uses_answer g c =
     let long : length c.args.place.names.items ≡ length c.pop.new.self.items + 1 =
     ap length c.in-Some.ensures.items ∙ length-append c.pop.new.self.items (c.in-Some.name ∷ []) in
     stopped_uses_answer _ c.args.self.now c.stop.new.self c.stop.result
-    (fault NotAFolder (string_bytes c.args.place.path) c.args.place.depth) c.stop.ensures.gives
+    (fault NotAFolder (string_bytes c.args.place.at.path) c.args.place.at.depth) c.stop.ensures.gives
     c.stop.ensures.ended (leaf_counted c.args.kind no_folder) (omega arith) (λ i. omega (arith, long))
     (omega arith)
 
@@ -51,36 +51,26 @@ returns-then-ne-clause-continues g c s h k p d empty rest items r e =
     let names : from_last c.args.place.names.items ≡ string_bytes c.in-Some.name ∷ from_last
     c.pop.new.self.items = ap from_last c.in-Some.ensures.items ∙ from_last_end c.pop.new.self.items
     c.in-Some.name in
-    let is = ap (λ v. walk_from (scope_of w) (start_point_location c.args.place) s v rest.forest) names ∙ follows_leaf
-    (scope_of w) (start_point_location c.args.place) s c.args.kind (string_bytes c.in-Some.name)
+    let is = ap (λ v. walk_from (scope_of w) (located c.args.place.at) s v rest.forest) names ∙ follows_leaf
+    (scope_of w) (located c.args.place.at) s c.args.kind (string_bytes c.in-Some.name)
     (from_last c.pop.new.self.items) rest.forest k no_folder in
     stops_with g.D.Directory.law w c.stop.new.self _ rest items
-    (fault NotAFolder (string_bytes c.args.place.path) c.args.place.depth) c.stop.result
+    (fault NotAFolder (string_bytes c.args.place.at.path) c.args.place.at.depth) c.stop.result
     c.stop.ensures.gives tt c.stop.ensures.ended is r empty (omega (arith, e))
 
 pub returns-clause-continues : goal.returns-clause-continues
 returns-clause-continues g c s h k p d empty rest items r e =
     let w = c.args.self.now in
     let folder : c.args.kind ≡ Folder = search rules in
-    let path : string_bytes c.in-Ok-join.path ≡ join (string_bytes c.args.place.path)
-    (string_bytes c.in-Some.name) = rw (c.as_str.ensures.value, c.as_str-2.ensures.value) at
-    c.in-Ok-join.ensures in
-    let candidate : string_bytes c.in-Ok-join-2.candidate ≡ join (string_bytes c.args.place.candidate)
-    (string_bytes c.in-Some.name) = rw (c.as_str-3.ensures.value, c.as_str-4.ensures.value) at
-    c.in-Ok-join-2.ensures in
+    let below = rw c.as_str.ensures.value at c.in-Ok-below.ensures in
     let long : length c.args.place.names.items ≡ length c.pop.new.self.items + 1 =
     ap length c.in-Some.ensures.items ∙ length-append c.pop.new.self.items (c.in-Some.name ∷ []) in
-    let depth : c.saturating_add.result ≡ c.args.place.depth + 1 =
-    omega (arith, d, long, c.saturating_add.ensures) in
+    let deep = depth_is c.in-Ok-below.at _ below in
+    let depth : c.in-Ok-below.at.depth ≡ c.args.place.at.depth + 1 = omega (arith, d, long, deep) in
     follows g.D.Directory.law w c.args.place
-    (record {
-      path = c.in-Ok-join.path;
-      candidate = c.in-Ok-join-2.candidate;
-      depth = c.saturating_add.result;
-      names = c.pop.new.self;
-    }) c.in-Some.name s rest items r h
+    (record { at = c.in-Ok-below.at; names = c.pop.new.self }) c.in-Some.name s rest items r h
     (subst (λ v. HasKind s v) folder k) p d empty e (λ at y t. g.met.D.Directory.child w.directory at y t)
-    c.in-Some.ensures.items path candidate depth
+    c.in-Some.ensures.items (path_is c.in-Ok-below.at _ below) (candidate_is c.in-Ok-below.at _ below) depth
 
 pub returns-in_default-clause-places : goal.returns-in_default-clause-places
 returns-in_default-clause-places g c none =
@@ -89,7 +79,7 @@ returns-in_default-clause-places g c none =
     let of = ReachesFrom w (OnWay place) in
     places_more _ of _ of w.max c.give.result c.give.new.self
     (reaches_more w no_folders (OnWay place) (λ p n i. absurd i))
-    (λ p n i. leads_more w.min (OneFolder (string_bytes place.path) (place.depth + 1)) (OfAny w (OnWay place))
+    (λ p n i. leads_more w.min (OneFolder (string_bytes place.at.path) (place.at.depth + 1)) (OfAny w (OnWay place))
     (λ q k j. inl (way_here place q k j)) p n i.1)
     (subst (λ (f : Facts). StepPlaces (ReachesFrom w no_folders)
     (λ p n. (f.depth < w.min) × LeadsUnseen w.min (OneFolder f.path (f.depth + 1)) p n) w.max c.give.result
@@ -100,8 +90,8 @@ returns-then-ne-clause-places g c none =
     let w = c.args.self.now in
     let place = c.args.place in
     let of = ReachesFrom w (OnWay place) in
-    stopped_places of of w.max w c.stop.new.self c.stop.result NotAFolder (string_bytes place.path) place.depth
-    (place.depth + 1) c.stop.ensures.gives c.stop.ensures.ended (omega arith)
+    stopped_places of of w.max w c.stop.new.self c.stop.result NotAFolder (string_bytes place.at.path) place.at.depth
+    (place.at.depth + 1) c.stop.ensures.gives c.stop.ensures.ended (omega arith)
     (leads_here w.min (OfAny w (OnWay place)) _ _ (inl (way_here place _ _ (refl, refl))))
 
 pub returns-clause-places : goal.returns-clause-places
@@ -109,13 +99,7 @@ returns-clause-places g c none =
     let w = c.args.self.now in
     let place = c.args.place in
     let of = ReachesFrom w (OnWay place) in
-    let next : StartPoint = record {
-      path = c.in-Ok-join.path;
-      candidate = c.in-Ok-join-2.candidate;
-      depth = c.saturating_add.result;
-      names = c.pop.new.self;
-    } in
-    let path : string_bytes c.in-Ok-join.path ≡ join (string_bytes place.path) (string_bytes c.in-Some.name) =
-    rw (c.as_str.ensures.value, c.as_str-2.ensures.value) at c.in-Ok-join.ensures in
+    let next : StartPoint = record { at = c.in-Ok-below.at; names = c.pop.new.self } in
+    let below = rw c.as_str.ensures.value at c.in-Ok-below.ensures in
     silent_places of of w.max (record w { first = Some next }) _ refl none
-    (next_reaches w place next c.in-Some.name c.in-Some.ensures.items path c.saturating_add.ensures)
+    (next_reaches w place next c.in-Some.name c.in-Some.ensures.items (path_is next.at _ below) (depth_is next.at _ below))

@@ -1,6 +1,6 @@
 use Rattle.std.proofs.Common.{arith, string_bytes, refl}
 use Rattle.wax_directory.specs.Shown.{rest_of}
-use Rattle.wax_tree.specs.Walking.{cursors_of, folder_location}
+use Rattle.wax_tree.specs.Walking.{cursors_of, located}
 use Rattle.wax_tree.proofs.Resting.{rest_moved}
 use Rattle.wax_tree.proofs.UsingAnswers.{step_from}
 use Rattle.wax_tree.proofs.Showing.{shows_in_moved, shows_rest}
@@ -15,7 +15,7 @@ returns-in-Ok-None-clause-lists g c l rest items b e =
     let k = o.nexts (cursors_of w.levels.items) rest.has l b.held in
     let held = g.met.D.Directory.dropped c.next.new.self (cursors_of w.levels.items) rest.has
     c.next.new.cursor (rest_of l) k.1 in
-    goes_up law w (record w { directory = c.next.new.self }) (folder_location c.args.level.folder) l rest rest
+    goes_up law w (record w { directory = c.next.new.self }) (located c.args.level.folder) l rest rest
     items k.0 refl refl
     (rest_moved law w c.next.new.self rest.listed rest b.rests o.shown held (o.told rest.listed b.rests.told)
     b.rests.opened)

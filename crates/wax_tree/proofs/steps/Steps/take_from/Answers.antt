@@ -5,7 +5,7 @@ use Rattle.wax_directory.specs.Counting.{item_counts}
 use Rattle.wax_directory.specs.Shown.{rest_of}
 use Rattle.wax_tree.specs.inner.Heads.{own_count}
 use Rattle.wax_tree.specs.Plain.{count}
-use Rattle.wax_tree.specs.Walking.{scope_of, folder_location, allowance, names_left}
+use Rattle.wax_tree.specs.Walking.{scope_of, located, allowance, names_left}
 use Rattle.wax_tree.proofs.Finding.{taken_uses_answer}
 use Rattle.wax_tree.proofs.Resting.{rest_pushed, rest_spent}
 use Rattle.wax_tree.proofs.UsingAnswers.{stops_over, step_from}
@@ -34,7 +34,7 @@ returns-clause-uses_answer g c running =
     let allowed_then : allowance mid ≡ w.budget - 1 + 1 = ap (λ v. cond v 0 (w.budget - 1 + 1)) running in
     taken_uses_answer (item_counts c.args.item) (names_left w) w mid c.give_found.new.self c.give_found.result
     refl (omega (arith, none, allowed, allowed_then))
-    (c.give_found.ensures.uses_answer (folder_location c.args.folder) c.args.item
+    (c.give_found.ensures.uses_answer (located c.args.folder) c.args.item
     (rw c.as_str.ensures.value at c.in-Ok.ensures))
 
 pub returns-clause-lists : goal.returns-clause-lists
@@ -52,11 +52,11 @@ returns-clause-lists g c l rest items h b i e =
     (rest_pushed law w pushed (record { folder = c.args.folder; cursor = c.args.cursor }) (rest_of l) rest
     b.rests b.held b.shown b.opened c.in-Ok-push.ensures.items) in
     let few : own_count l + (rest.count + count (rest_of l)) ≤ items - 1 = omega (arith, one, e) in
-    let st = c.give_found.ensures.continues (folder_location c.args.folder) c.args.item l
+    let st = c.give_found.ensures.continues (located c.args.folder) c.args.item l
     (rw c.as_str.ensures.value at c.in-Ok.ensures) refl h i
     _ (items - 1) at_rest few in
     step_from law w mid c.give_found.new.self _ _ c.give_found.result
-    (headed_is (scope_of w) (folder_location c.args.folder) (listed_of c.args.item) l rest.forest h) refl
+    (headed_is (scope_of w) (located c.args.folder) (listed_of c.args.item) l rest.forest h) refl
     (omega (arith, none, allowed, allowed_then, one, e)) st
 
 pub returns-clause-measure : goal.returns-clause-measure
@@ -85,5 +85,5 @@ returns-clause-places g c none =
     let one = OneFolder (string_bytes folder.path) folder.depth in
     let pushed = pushed_reaches w mid (record { folder = folder; cursor = c.args.cursor }) one refl refl c.in-Ok-push.ensures.items (λ p n i. i) in
     places_more (ReachesFrom mid one) of (ReachesFrom mid one) of w.max c.give_found.result c.give_found.new.self pushed
-    pushed (c.give_found.ensures.places none (folder_location folder) c.args.item
+    pushed (c.give_found.ensures.places none (located folder) c.args.item
     (rw c.as_str.ensures.value at c.in-Ok.ensures) refl)

@@ -1,9 +1,11 @@
 use Rattle.std.proofs.Common.{◌≡◌, ◌≤◌, ◌+◌, ◌-◌, ◌^◌, length, refl, arith, ap, string_bytes, false}
 use Rattle.std.specs.Prelude.{Some, None}
+use Rattle.wax_tree.specs.declared.steps.StartPoint.{StartPoint}
 use Rattle.wax_tree.specs.declared.steps.Steps.{Steps}
 use Rattle.wax_tree.specs.Lacking.{goes}
 use Rattle.wax_tree.specs.Prefix.{from_last}
 use Rattle.wax_tree.proofs.Making.{ended_at, lacking_at, made_at, from_last_length}
+use Rattle.wax_tree.proofs.Locations.{candidate_is, depth_is, path_is}
 use Rattle.wax_tree.proofs.Reaching.{begins_passed, none_entered}
 use Rattle.wax_tree.proofs.walk_tree.WalkTree.to_place.Goals as goal
 
@@ -21,8 +23,8 @@ returns-in_default-clause-begins g c =
     lacking_at g.D.Directory.law _ _ _ _ c.refused.ensures.lacks
     (omega (arith, c.if-range-len.false, c.len.ensures, c.args.names.ok.0, long))
 
-pub returns-in-Ok-place_at-clause-begins : goal.returns-in-Ok-place_at-clause-begins
-returns-in-Ok-place_at-clause-begins g c =
+pub returns-in-Ok-new-clause-begins : goal.returns-in-Ok-new-clause-begins
+returns-in-Ok-new-clause-begins g c =
     let law = g.D.Directory.law in
     let long : length (from_last c.args.names.items) ≡ length c.args.names.items =
     from_last_length c.args.names.items in
@@ -30,9 +32,9 @@ returns-in-Ok-place_at-clause-begins g c =
     omega (arith, c.if-range-len.false, c.len.ensures, c.args.names.ok.0) in
     let fits : 0 + length c.args.names.items ≤ 2 ^ 64 - 1 =
     omega (arith, c.args.names.small, c.args.names.ok.0) in
-    let texts = c.in-Ok-place_at.ensures.texts in
-    let rest = c.in-Ok-place_at.ensures.rest in
-    let names : c.in-Ok-place_at.place.names.items ≡ c.args.names.items = ap (λ v. v.items) rest.1 in
+    let at = c.in-Ok-new.at in
+    let is = c.in-Ok-new.ensures in
+    let place : StartPoint = record { at = at; names = c.args.names } in
     let root : string_bytes c.in-Ok.root ≡ c.args.root.now = c.in-Ok.ensures.ok in
     let made : Steps _ _ = record {
       alloc = c.args.alloc;
@@ -40,30 +42,30 @@ returns-in-Ok-place_at-clause-begins g c =
       min = c.args.range.min;
       max = c.args.range.max;
       root = c.in-Ok.root;
-      first = Some c.in-Ok-place_at.place;
+      first = Some place;
       entered = None;
-      levels = c.new.result.levels;
+      levels = c.new-in-Ok-new.result.levels;
       budget = c.args.range.budget;
       has_ended = false;
     } in
-    rw c.new.ensures.fields (record {
+    rw c.new-in-Ok-new.ensures.fields (record {
       shown = λ s listed h told p d. goes refl (made_at law
           made
-          c.args.root.now c.in-Ok-place_at.place
+          c.args.root.now place
           (record { path = c.args.start.now; candidate = c.args.candidate.now; depth = 0 })
-          c.args.names.items s listed refl refl c.new.ensures.levels refl root texts.0
-          texts.1 rest.0 names h p fits told
+          c.args.names.items s listed refl refl c.new-in-Ok-new.ensures.levels refl root
+          (path_is at _ is) (candidate_is at _ is) (depth_is at _ is) refl h p fits told
           (g.met.D.Directory.none_open c.args.directory c.args.start.now s h));
       beyond = λ s listed h told d. absurd (omega (arith, d, less, long));
       above = λ d. absurd (omega (arith, d, less, long));
       idle = λ d. absurd (omega (arith, d, less, long));
       listings = refl;
-      names = omega (arith, ap length names, long);
-      none_listed = ap length c.new.ensures.levels;
+      names = omega (arith, long);
+      none_listed = ap length c.new-in-Ok-new.ensures.levels;
       opens_above = refl;
       fails = record {
-        at = begins_passed made c.in-Ok-place_at.place c.args.start.now (from_last c.args.names.items) refl
-            c.new.ensures.levels texts.0 rest.0 (ap from_last names)
+        at = begins_passed made place c.args.start.now (from_last c.args.names.items) refl
+            c.new-in-Ok-new.ensures.levels (path_is at _ is) (depth_is at _ is) refl
             (omega (arith, long, c.args.names.small, c.args.names.ok.0));
         below = none_entered made refl;
       };
