@@ -11,7 +11,7 @@ ghost use Rattle.wax_exclude.specs.Ignored.{Line, is_ignored};
 ghost use Rattle.wax.specs.Ignoring.{HoldsLines, IsListOf, IsNoList, IsReadAs, IsUnread};
 ghost use Rattle.wax.specs.Ignoring.{refusal_number, refused_at};
 
-use std::alloc::Global;
+use std::alloc::{AllocFailed, Global};
 use thiserror::Error;
 use wax_candidate::CandidatePath;
 use wax_directory::directory::Directory;
@@ -56,6 +56,17 @@ impl From<NoMemory> for IgnoreError {
     }
 }
 
+impl<T: Drop> From<AllocFailed<T>> for IgnoreError {
+    ghost use Rattle.std.specs.Prelude.{◌≡◌};
+    ghost use Rattle.wax.specs.declared.ignoring.IgnoreError.TheVariants.{Memory};
+
+    ghost from_gives = { λ _ error. error ≡ Memory };
+
+    fn from(_: AllocFailed<T>) -> Self {
+        IgnoreError::Memory
+    }
+}
+
 /// An ignore list: lines of globs, each of which ignores what it matches or stops ignoring it. The
 /// last line that matches a path decides.
 #[derive(Drop)]
@@ -89,7 +100,7 @@ impl IgnoreList {
         let mut lines = Vec::new(alloc);
         for line in &written {
             match read(alloc, line) {
-                Ok(line) => push(&mut lines, line)?,
+                Ok(line) => lines.push(line)?,
                 Err(error) => return Err(refused(line.number, error)),
             }
         }
@@ -164,14 +175,5 @@ fn refused(line: usize, error: BuildError) -> IgnoreError
     match error {
         BuildError::Memory => IgnoreError::Memory,
         error => IgnoreError::BadLine { line, error },
-    }
-}
-
-fn push<T: Drop>(items: &mut Vec<T>, item: T) -> Result<(), NoMemory>
-    ensures { IfOk result (λ _. items.new.items ≡ items.old.items ++ item ∷ []) }
-{
-    match items.push(item) {
-        Ok(()) => Ok(()),
-        Err(_) => Err(NoMemory),
     }
 }

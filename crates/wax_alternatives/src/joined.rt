@@ -90,8 +90,8 @@ fn part_by_lead(
     let mut others = Vec::new(alloc);
     for token in alternatives {
         match after_lead(token, lead) {
-            Some(rest) => push(&mut rests, concatenation_of(alloc, rest)?)?,
-            None => push(&mut others, token.to_owned(alloc)?)?,
+            Some(rest) => rests.push(concatenation_of(alloc, rest)?)?,
+            None => others.push(token.to_owned(alloc)?)?,
         }
     }
     Ok(Parted { rests, others })
@@ -109,8 +109,8 @@ fn part_by_end(
     let mut others = Vec::new(alloc);
     for token in alternatives {
         match before_end(token, end) {
-            Some(rest) => push(&mut rests, concatenation_of(alloc, rest)?)?,
-            None => push(&mut others, token.to_owned(alloc)?)?,
+            Some(rest) => rests.push(concatenation_of(alloc, rest)?)?,
+            None => others.push(token.to_owned(alloc)?)?,
         }
     }
     Ok(Parted { rests, others })
@@ -177,9 +177,10 @@ pub fn add_led(
         return Ok(());
     }
     let mut tokens = Vec::new(alloc);
-    push(&mut tokens, new_leaf(lead, unwritten()))?;
-    push(&mut tokens, one_of(after))?;
-    push(joined, concatenation(tokens))
+    tokens.push(new_leaf(lead, unwritten()))?;
+    tokens.push(one_of(after))?;
+    joined.push(concatenation(tokens))?;
+    Ok(())
 }
 
 // Adds an alternative: the alternatives `before`, and then the wildcard. Adds nothing if there are
@@ -198,9 +199,10 @@ fn add_ended(
         return Ok(());
     }
     let mut tokens = Vec::new(alloc);
-    push(&mut tokens, one_of(before))?;
-    push(&mut tokens, new_leaf(LeafKind::Wildcard(end), unwritten()))?;
-    push(joined, concatenation(tokens))
+    tokens.push(one_of(before))?;
+    tokens.push(new_leaf(LeafKind::Wildcard(end), unwritten()))?;
+    joined.push(concatenation(tokens))?;
+    Ok(())
 }
 
 fn concatenation_of(
@@ -220,7 +222,7 @@ fn copies_of(
 {
     let mut copies = Vec::new(alloc);
     for token in tokens {
-        push(&mut copies, token.to_owned(alloc)?)?;
+        copies.push(token.to_owned(alloc)?)?;
     }
     Ok(copies)
 }
@@ -258,13 +260,4 @@ pub fn unwritten() -> ExpressionMetadata
     ensures { result ≡ (0, 0) }
 {
     ExpressionMetadata::new((0, 0))
-}
-
-pub fn push<T: Drop>(items: &mut Vec<T>, item: T) -> Result<(), NoMemory>
-    ensures { IfOk result (λ _. items.new.items ≡ items.old.items ++ item ∷ []) }
-{
-    match items.push(item) {
-        Ok(()) => Ok(()),
-        Err(_) => Err(NoMemory),
-    }
 }

@@ -7,7 +7,7 @@ ghost use Rattle.wax_token.specs.Syntax.{concatenation, leaf, literal};
 ghost use Rattle.wax_token.specs.View.{leaf_of};
 ghost use Rattle.wax_token.specs.Words.{trees};
 
-use crate::joined::{add_led, concatenation, push, unwritten};
+use crate::joined::{add_led, concatenation, unwritten};
 use std::alloc::Global;
 use std::borrow::CowStr;
 use wax_query::diagnostics::NoMemory;
@@ -45,7 +45,7 @@ pub fn join_letters(
             Some(letter) => {
                 left = join_letter(alloc, &mut joined, left, token, letter, most - 1)?;
             }
-            None => push(&mut joined, token)?,
+            None => joined.push(token)?,
         }
     }
     Ok(joined)
@@ -90,13 +90,13 @@ fn add_rest(
         ⊎ (MeansLed (letter_leaf letter) rests.entry.items b a s ⊎ Means token.entry b a s))) }
 {
     if rests.is_empty() {
-        push(joined, token)?;
+        joined.push(token)?;
         return Ok(rests);
     }
     let mut more = rests;
     match after_letter(alloc, &token, letter)? {
-        Some(rest) => push(&mut more, rest)?,
-        None => push(joined, token)?,
+        Some(rest) => more.push(rest)?,
+        None => joined.push(token)?,
     }
     Ok(more)
 }
@@ -122,8 +122,8 @@ fn part_by_letter(
     let mut others = Vec::new(alloc);
     for token in alternatives {
         match after_letter(alloc, &token, letter)? {
-            Some(rest) => push(&mut rests, rest)?,
-            None => push(&mut others, token)?,
+            Some(rest) => rests.push(rest)?,
+            None => others.push(token)?,
         }
     }
     Ok(Parted { rests, others })
@@ -171,12 +171,9 @@ fn literal_then(
     let text = String::from_str(alloc, text)?;
     let literal = Literal::new(CowStr::Owned(text), is_case_insensitive);
     let mut tokens = Vec::new(alloc);
-    push(
-        &mut tokens,
-        new_leaf(LeafKind::Literal(literal), unwritten()),
-    )?;
+    tokens.push(new_leaf(LeafKind::Literal(literal), unwritten()))?;
     for token in after {
-        push(&mut tokens, token.to_owned(alloc)?)?;
+        tokens.push(token.to_owned(alloc)?)?;
     }
     Ok(concatenation(tokens))
 }

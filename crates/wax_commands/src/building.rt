@@ -20,7 +20,7 @@ ghost use Rattle.wax_commands.specs.Walked.{AreAskedBy, AreAskedByAll, HasRefuse
 ghost use Rattle.wax_commands.specs.Walked.{IsRefusedOption};
 
 use crate::files::{FileFault, list_in};
-use std::alloc::Global;
+use std::alloc::{AllocFailed, Global};
 use std::io::Write;
 use thiserror::Error;
 use wax::walk::WalkFilter;
@@ -50,6 +50,12 @@ pub enum FilterFault<'w> {
     /// Allocation failed (10).
     #[error("no memory")]
     Memory,
+}
+
+impl<T: Drop> From<AllocFailed<T>> for FilterFault<'_> {
+    fn from(_: AllocFailed<T>) -> Self {
+        FilterFault::Memory
+    }
 }
 
 /// Builds a glob. If it can't be built, writes the error to `faults` and returns `None`.
@@ -156,7 +162,10 @@ fn add_pattern<'w>(
         × NoExclusion (Spells (chars expression.now)) (Refuses (chars expression.now)) error) }
 {
     match WalkFilter::not(alloc, expression) {
-        Ok(filter) => filters.push(filter),
+        Ok(filter) => {
+            filters.push(filter)?;
+            Ok(())
+        }
         Err(error) => Err(FilterFault::Pattern(error)),
     }
 }
@@ -177,5 +186,6 @@ where
     ensures err { OnErr result (IsUnlisted (FnReturnsAt B.Fn read.now) file.now) }
 {
     let list = list_in(alloc, file, read)?;
-    filters.push(WalkFilter::ignore(list))
+    filters.push(WalkFilter::ignore(list))?;
+    Ok(())
 }

@@ -7,7 +7,7 @@ ghost use Rattle.wax_error.specs.Drawn.{picture as picture_of};
 ghost use Rattle.wax_query.specs.Labels.{AreLabels};
 
 use crate::drawing::picture;
-use std::alloc::Global;
+use std::alloc::{AllocFailed, Global};
 use thiserror::Error;
 use wax_break::RuleErrorKind;
 use wax_match::encode::CompileError;
@@ -130,6 +130,17 @@ impl From<NoMemory> for BuildError {
     ghost from_gives = { λ _ error. error ≡ Memory };
 
     fn from(_: NoMemory) -> Self {
+        BuildError::Memory
+    }
+}
+
+impl<T: Drop> From<AllocFailed<T>> for BuildError {
+    ghost use Rattle.std.specs.Prelude.{◌≡◌};
+    ghost use Rattle.wax_error.specs.declared.build_error.BuildError.TheVariants.{Memory};
+
+    ghost from_gives = { λ _ error. error ≡ Memory };
+
+    fn from(_: AllocFailed<T>) -> Self {
         BuildError::Memory
     }
 }

@@ -227,7 +227,7 @@ fn add_block(
         covers_all: some_everything(&alternatives),
     };
     let is_mixed = block.is_mixed();
-    push(blocks, block)?;
+    blocks.push(block)?;
     Ok(if is_mixed { start } else { end })
 }
 
@@ -279,7 +279,7 @@ fn add_copies(
     ensures { IfOk result (λ _. copies.new.items ≡ copies.old.items ++ tokens.now) }
 {
     for token in tokens {
-        push(copies, token.to_owned(alloc)?)?;
+        copies.push(token.to_owned(alloc)?)?;
     }
     Ok(())
 }
@@ -294,17 +294,8 @@ fn wild_of(
     let mut wild = Vec::new(alloc);
     for token in alternatives {
         if ends_wild(token) {
-            push(&mut wild, token.to_owned(alloc)?)?;
+            wild.push(token.to_owned(alloc)?)?;
         }
     }
     Ok(wild)
-}
-
-fn push<T: Drop>(items: &mut Vec<T>, item: T) -> Result<(), NoMemory>
-    ensures { IfOk result (λ _. items.new.items ≡ items.old.items ++ item ∷ []) }
-{
-    match items.push(item) {
-        Ok(()) => Ok(()),
-        Err(_) => Err(NoMemory),
-    }
 }

@@ -110,9 +110,7 @@ pub fn leading<'g, 't>(
             break;
         }
         let component = compiled_component(alloc, tokens)?;
-        if leading.push(component).is_err() {
-            return Err(NoMemory);
-        }
+        leading.push(component)?;
     }
     Ok(leading)
 }

@@ -197,9 +197,7 @@ fn covering_of<'t>(
     for token in alternatives {
         if ends_wild(token) {
             let program = compile_fitting(alloc, token.concatenation())?;
-            if programs.push(program).is_err() {
-                return Err(NoMemory);
-            }
+            programs.push(program)?;
         }
     }
     Ok(programs)

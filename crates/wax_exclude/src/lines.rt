@@ -32,7 +32,7 @@ pub fn written_lines<'t>(alloc: Global, text: &'t str) -> Result<Vec<WrittenLine
     let mut lines = Vec::new(alloc);
     for (index, part) in parts.iter().enumerate() {
         if let Some(line) = line_in(index + 1, part) {
-            push(&mut lines, line)?;
+            lines.push(line)?;
         }
     }
     Ok(lines)
@@ -78,14 +78,5 @@ fn without_return(text: &str) -> &str
     match text.strip_suffix('\r') {
         Some(front) => front,
         None => text,
-    }
-}
-
-fn push<T: Drop>(items: &mut Vec<T>, item: T) -> Result<(), NoMemory>
-    ensures { IfOk result (λ _. items.new.items ≡ items.old.items ++ item ∷ []) }
-{
-    match items.push(item) {
-        Ok(()) => Ok(()),
-        Err(_) => Err(NoMemory),
     }
 }

@@ -144,16 +144,7 @@ fn tokens_of<P: Pattern + Drop>(
             Ok(checked) => checked,
             Err(error) => return Err(error),
         };
-        push(&mut tokens, checked)?;
+        tokens.push(checked)?;
     }
     Ok(tokens)
-}
-
-fn push<T: Drop>(items: &mut Vec<T>, item: T) -> Result<(), NoMemory>
-    ensures { OnOk result (items.new.items ≡ items.old.items ++ item ∷ []) }
-{
-    match items.push(item) {
-        Ok(()) => Ok(()),
-        Err(_) => Err(NoMemory),
-    }
 }

@@ -8,7 +8,7 @@ use super::{
     Alternation, BranchKind, Concatenation, LeafKind, Literal, Repetition, Token, Tokenized,
     Topology, new_branch, new_leaf,
 };
-use std::alloc::{AllocError, Global};
+use std::alloc::Global;
 use std::borrow::CowStr;
 use wax_query::diagnostics::NoMemory;
 
@@ -97,7 +97,7 @@ fn owned<'t, A: Drop>(alloc: Global, token: Token<'t, A>) -> Result<Token<'stati
             BranchKind::Repetition(r) => {
                 let token = owned(alloc, Box::into_inner(r.token))?;
                 let branch = BranchKind::Repetition(Repetition {
-                    token: Box::new(alloc, token).map_err(AllocError::from)?,
+                    token: Box::new(alloc, token)?,
                     lower: r.lower,
                     upper: r.upper,
                 });
@@ -118,7 +118,7 @@ fn owned_each<'t, A: Drop>(
 {
     let mut done = Vec::with_capacity(alloc, tokens.len())?;
     for token in tokens {
-        done.push(owned(alloc, token)?).map_err(AllocError::from)?;
+        done.push(owned(alloc, token)?)?;
     }
     Ok(done)
 }

@@ -2,7 +2,6 @@ use Rattle.std.proofs.Common.{◌≡◌, ◌↔◌, ◌⊎◌, ◌∷◌, [], �
 use Rattle.wax_token.specs.Meaning.{MeansSome}
 use Rattle.wax_token.specs.View.{wildcard_leaf}
 use Rattle.wax_token.specs.Words.{trees}
-use Rattle.std.proofs.lemmas.Result.{IfOk-weaker}
 use Rattle.wax_alternatives.specs.Joined.{MeansEnded}
 use Rattle.wax_alternatives.proofs.Joining.{added_ended, ended_token}
 use Rattle.wax_alternatives.proofs.joined.add_ended.Goals as goal
@@ -14,5 +13,5 @@ returns c =
     let ts = c.args.before.items in
     let one = c.one_of.result in
     let token : c.concatenation.result ≡ ended_token leaf one = search rules in
-    IfOk-weaker c.push-3.result _ _ (λ r h. subst (λ us. (b a : Bool) (s : List ℕ) → MeansSome (trees us) b a s ↔ (MeansEnded leaf ts b a s ⊎ MeansSome (trees old) b a s))
-    (sym (h ∙ ap (λ t. old ++ t ∷ []) token)) (added_ended leaf one old ts c.one_of.ensures)) c.push-3.ensures
+    subst (λ us. (b a : Bool) (s : List ℕ) → MeansSome (trees us) b a s ↔ (MeansEnded leaf ts b a s ⊎ MeansSome (trees old) b a s))
+    (sym (c.in_ok-push-3.ensures.items ∙ ap (λ t. old ++ t ∷ []) token)) (added_ended leaf one old ts c.one_of.ensures)

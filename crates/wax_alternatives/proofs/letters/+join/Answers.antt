@@ -27,6 +27,6 @@ join_letters-loop-token-preserved t c = λ b a s.
     let whole : popped ++ c.in-Some.token ∷ [] ≡ l.left.items = sym c.in-Some.ensures.items in
     let one = one_joined l.joined.items c.in-Some.token (MeansSome (trees popped)) b a s in
     then (l.invariant b a s)
-    (rw c.in_ok-push-in-None.ensures
+    (rw c.in_ok-push-in-None.ensures.items
     (subst (λ z. (MeansSome (trees l.joined.items) b a s ⊎ MeansSome (trees z) b a s) ↔ (MeansSome (trees (l.joined.items ++ c.in-Some.token ∷ [])) b a s ⊎ MeansSome (trees popped) b a s)) whole
     (last_joined l.joined.items (l.joined.items ++ c.in-Some.token ∷ []) popped popped c.in-Some.token b a s one)))

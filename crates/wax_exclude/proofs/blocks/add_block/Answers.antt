@@ -37,4 +37,4 @@ returns c =
       within = omega (arith, c.min.ensures, c.requires.start);
       knows = knows;
     } in
-    subst (All (IsBlockOf lines)) (sym c.in_ok-push.ensures) (All-push (IsBlockOf lines) c.args.blocks.now.items block c.requires.blocks is)
+    subst (All (IsBlockOf lines)) (sym c.in_ok-push.ensures.items) (All-push (IsBlockOf lines) c.args.blocks.now.items block c.requires.blocks is)

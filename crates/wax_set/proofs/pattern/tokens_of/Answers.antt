@@ -13,7 +13,7 @@ loop-pattern-preserved g c =
     let left = into_iter_items c.loop-pattern.pattern-iterator in
     let rest = into_iter_items c.next.new.self in
     let taken : left ≡ pattern ∷ rest = search rules in
-    let grown : c.push.new.items.items ≡ had ++ c.in-Ok.checked ∷ [] = search rules in
+    let grown : c.push.new.self.items ≡ had ++ c.in-Ok.checked ∷ [] = search rules in
     record {
       each = subst (λ z. SpellEach spells (before ++ pattern ∷ []) z) (sym grown)
           (one_more spells before had pattern c.in-Ok.checked c.loop-pattern.invariant.each c.in-Ok.ensures);

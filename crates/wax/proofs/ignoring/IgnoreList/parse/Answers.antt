@@ -9,8 +9,8 @@ loop-line-init c = none_read c.new-lines.result.items c.new-lines.ensures.items
 
 pub loop-line-preserved : goal.loop-line-preserved
 loop-line-preserved c =
-    next_read c.deref-line-items.result.now c.loop-line.line-index _ c.loop-line-test.true c.loop-line.lines.items c.push.new.items.items c.in-Ok.line
-    c.in_ok-push-in-Ok.ensures c.loop-line.invariant c.in-Ok.ensures
+    next_read c.deref-line-items.result.now c.loop-line.line-index _ c.loop-line-test.true c.loop-line.lines.items c.push.new.self.items c.in-Ok.line
+    c.in_ok-push-in-Ok.ensures.items c.loop-line.invariant c.in-Ok.ensures
 
 pub returns-in-Err : goal.returns-in-Err
 returns-in-Err c =
