@@ -30,8 +30,8 @@ empty_tree = leaf (0, 0) (literal false [])
 abbrev pub IsKept : Tree Span → Type 0
 IsKept t = Orderly t ⊎ (t ≡ empty_tree)
 
--- What a glob is compiled to: its tree, which is as the parser and the rules leave it, with its program and its
--- pieces.
+-- What a glob is compiled to: its tree, which is as the parser and the rules leave it, with its program and
+-- its pieces.
 pub record IsCompiledGlob (t : Tree Span) (program : Instructions) (pieces : List Piece) : Type 0 where
   pub compiled : IsCompiled t program
   pub split : ArePieces (members t) false false pieces

@@ -136,7 +136,7 @@ fn differing(
     draws: &mut Draws,
 ) -> Result<u64, NoMemory> {
     let most_bytes = draws.below(60_000) as usize;
-    let mut matcher = Matcher::with_most(alloc, program, most_bytes)?;
+    let mut matcher = Matcher::with_most(alloc, program, most_bytes);
     let mut count: u64 = 0;
     for _ in 0..number_at(row, 2) {
         let text = draws.text(alloc, number_at(row, 3))?;
