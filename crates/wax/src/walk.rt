@@ -8,13 +8,13 @@ pub use crate::ignoring::{IgnoreError, IgnoreList};
 pub use crate::walk_filter::WalkFilter;
 pub use wax_directory::directory::{Directory, DirectoryFault, FileType, ListItem};
 pub use wax_directory::failing::Failing;
-pub use wax_directory::folders::Folders;
 pub use wax_directory::starving::Starving;
 pub use wax_directory::tally::Tally;
 pub use wax_directory::tree::{DuplicateName, Node, Tree, TreeItem};
 pub use wax_exclude::{
     Exclusion, LeadingComponent, collect, collect_feed, law_of_feeds, law_of_plain_walks,
 };
+pub use wax_folders::Folders;
 pub use wax_glob_walk::{FilterAny, GlobEntry, GlobFeed, Matching, Uncaptured, Unmatched};
 pub use wax_tree::{
     DepthBehavior, DepthMax, DepthMin, DepthMinMax, DepthRange, LinkBehavior, PathExt, TreeFeed,

@@ -4,7 +4,6 @@
 mod copies;
 pub mod directory;
 pub mod failing;
-pub mod folders;
 pub mod path;
 mod paths;
 pub mod starving;

@@ -3,13 +3,13 @@
 ghost use Rattle.std.specs.Prelude.{◌≡◌};
 ghost use Rattle.wax_directory.specs.Counting.{no_counts};
 
-use crate::directory::{Directory, DirectoryFault, FileType, ListItem};
-use crate::path::is_open;
-use crate::tally::Tally;
 use std::alloc::{AllocError, Global};
 use std::fs::Files;
 use std::io::{ErrorKind, Read};
 use std::{fs, io};
+use wax_directory::directory::{Directory, DirectoryFault, FileType, ListItem};
+use wax_directory::path::is_open;
+use wax_directory::tally::Tally;
 use wax_query::diagnostics::NoMemory;
 
 /// How many bytes of a folder's entries are read at once.
