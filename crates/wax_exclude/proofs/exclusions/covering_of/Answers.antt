@@ -3,7 +3,7 @@ use Rattle.std.proofs.lemmas.List.{take_more}
 use Rattle.wax_exclude.specs.Compiled.{AcceptsTree, CoverAll}
 use Rattle.wax_exclude.proofs.Excluding.{accepts_tree, cover_past, cover_push}
 use Rattle.wax_exclude.proofs.exclusions.covering_of.Goals as goal
-use Rattle.wax_exclude.proofs.exclusions.covering_of.Goals.{then-ends_wild+in_ok-program+else-is_err, else-ends_wild}
+use Rattle.wax_exclude.proofs.exclusions.covering_of.Goals.{then-ends_wild+in_ok-program+in_ok-push, else-ends_wild}
 
 pub loop-token-preserved : goal.loop-token-preserved
 loop-token-preserved c =
@@ -13,7 +13,7 @@ loop-token-preserved c =
     let old = c.loop-token.programs.items in
     let more : take i all ++ t ∷ [] ≡ take (i + 1) all = sym (take_more all i t c.loop-token-test.true ∙ ap (λ z. take i all ++ z ∷ []) (sym c.token-item.is)) in
     elim c.if-ends_wild.branch [
-      | then-ends_wild+in_ok-program+else-is_err w ↦ (
+      | then-ends_wild+in_ok-program+in_ok-push w ↦ (
           let grown : old ++ w.in_ok-program.program ∷ [] ≡ c.if-ends_wild.programs.items = search rules in
           let accepts : AcceptsTree w.in_ok-program.program t = accepts_tree t _ w.in_ok-program.program w.concatenation.ensures w.in_ok-program.ensures in
           subst (λ z. CoverAll z (take (i + 1) all)) grown (subst (CoverAll (old ++ w.in_ok-program.program ∷ [])) more
