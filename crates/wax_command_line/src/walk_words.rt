@@ -150,8 +150,8 @@ fn first_word<'w>(words: &'w [Option<String>]) -> Option<(&'w str, &'w [Option<S
 
 // Adds one option. Returns `None` if it sets a depth or a list a second time.
 fn with_option(bounds: OptionWords, option: WalkOption<'_>) -> Option<OptionWords>
-    ensures some { IfSome result (AreMore bounds (asked_by option)) }
-    ensures none { let o = asked_by option in IfNone result (IsDoubled
+    ensures some { IfSome result (AreMore bounds (asked_by option.entry)) }
+    ensures none { let o = asked_by option.entry in IfNone result (IsDoubled
         (all_in bounds.lower ++ leasts_in (o ∷ [])) (all_in bounds.upper ++ greatests_in (o ∷ []))
         (one_if bounds.has_list + count_lists (o ∷ []))) }
 {

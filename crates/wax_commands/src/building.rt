@@ -136,10 +136,10 @@ where
     B: Fn(&str) -> Result<Vec<u8>, FileFault>,
     requires { B.IsAlwaysCallable read.now }
     ensures ok { OnOk result ((xs : List (Filter Span)) × (rules : List (Candidate → Mark))
-        × AreAskedBy (FnReturnsAt B.Fn read.now) (asked_by option) xs × AreRulesOf xs rules
+        × AreAskedBy (FnReturnsAt B.Fn read.now) (asked_by option.entry) xs × AreRulesOf xs rules
         × (map ⟦<WalkFilter as Exclude>⟧.rule filters.new.items
         ≡ map ⟦<WalkFilter as Exclude>⟧.rule filters.old.items ++ rules)) }
-    ensures err { OnErr result (IsRefusedOption (FnReturnsAt B.Fn read.now) (asked_by option)) }
+    ensures err { OnErr result (IsRefusedOption (FnReturnsAt B.Fn read.now) (asked_by option.entry)) }
 {
     match option {
         WalkOption::Not(expression) => add_pattern(alloc, expression, filters),

@@ -29,3 +29,9 @@ returns-then-is_empty-clause-some c =
       subst (SayEach c.args.words.now) (append-nil so_far.0) (so_far.1.whole [] (subst (λ ws. SayEach ws []) (sym empty) tt)),
       so_far.2,
     )
+
+pub returns-else-is_empty-clause-none : goal.returns-else-is_empty-clause-none
+returns-else-is_empty-clause-none c = λ options h.
+    let parts = c.loop-option.invariant.1.parts options h in
+    let none : c.loop-option.rest.now ≡ [] = says_none c.loop-option.rest.now parts.0 c.in_default.ensures.none parts.1 in
+    absurd (search (rules, none))
