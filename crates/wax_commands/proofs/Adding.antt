@@ -21,18 +21,17 @@ map_on_ok f (Err e) h = tt
 
 -- ---- one more
 
-module _ {X A E : Type 0} (rule : X → Candidate → Mark) (old new : List X) (x : X) (r : Result A E) where
-  rule_added : new ≡ old ++ x ∷ [] → map rule new ≡ map rule old ++ rule x ∷ []
-  rule_added e = ap (map rule) e ∙ map-append rule old (x ∷ [])
+module _ {X : Type 0} (rule : X → Candidate → Mark) (old new : List X) (x : X) (e : new ≡ old ++ x ∷ []) where
+  rule_added : map rule new ≡ map rule old ++ rule x ∷ []
+  rule_added = ap (map rule) e ∙ map-append rule old (x ∷ [])
 
-  pub pattern_added : (word : List ℕ) → IsNotRule (Spells (chars word)) (rule x) → OnOk r (new ≡ old ++ x ∷ [])
-      → OnOk r ((t : Tree Span) × (rules : List (Candidate → Mark)) × IsNotOf word t × AreRulesOf (not_meant t ∷ []) rules × (map rule new ≡ map rule old ++ rules))
-  pattern_added word left pushed = map_on_ok (λ e. (left.0, rule x ∷ [], left.1, (left.2, tt), rule_added e)) r pushed
+  pub pattern_added : (word : List ℕ) → IsNotRule (Spells (chars word)) (rule x)
+      → (t : Tree Span) × (rules : List (Candidate → Mark)) × IsNotOf word t × AreRulesOf (not_meant t ∷ []) rules × (map rule new ≡ map rule old ++ rules)
+  pattern_added word left = (left.0, rule x ∷ [], left.1, (left.2, tt), rule_added)
 
   pub list_added : {Z : Type 0} (answers : FileAnswers Z) (file : List ℕ) (lines : List (Line Span)) → IsListIn answers file lines → IsRuleOf (not_ignored lines) (rule x)
-      → OnOk r (new ≡ old ++ x ∷ [])
-      → OnOk r ((lines : List (Line Span)) × (rules : List (Candidate → Mark)) × IsListIn answers file lines × AreRulesOf (not_ignored lines ∷ []) rules × (map rule new ≡ map rule old ++ rules))
-  list_added answers file lines read is pushed = map_on_ok (λ e. (lines, rule x ∷ [], read, (is, tt), rule_added e)) r pushed
+      → (lines : List (Line Span)) × (rules : List (Candidate → Mark)) × IsListIn answers file lines × AreRulesOf (not_ignored lines ∷ []) rules × (map rule new ≡ map rule old ++ rules)
+  list_added answers file lines read is = (lines, rule x ∷ [], read, (is, tt), rule_added)
 
 -- ---- what was asked for
 
