@@ -1,5 +1,5 @@
 -- Patterns that are left out of walks.
-use Rattle.std.specs.Prelude.{◌≡◌, ◌<◌, ◌≤◌, ◌⊎◌, false, List, ⊤}
+use Rattle.std.specs.Prelude.{◌≡◌, ◌<◌, ◌≤◌, ◌⊎◌, false, List, map, ⊤}
 use Rattle.wax_exclude.specs.GlobRequests.{IsRuleOf}
 use Rattle.wax_token.specs.Cost.{program_length}
 use Rattle.wax_token.specs.Reads.{Span}
@@ -10,7 +10,8 @@ use Rattle.wax_walk.specs.Ruled.{ruled_view}
 use Rattle.wax_walk.specs.View.{IsSeenAs, WalkView}
 use Rattle.wax_exclude.specs.Marks.{not_mark}
 use Rattle.wax_exclude.specs.Wanted.{not_meant}
-use Rattle.wax_set.specs.Patterns.{IsOnly}
+use Rattle.wax_glob_walk.specs.Programs.{any_mark}
+use Rattle.wax_set.specs.Patterns.{IsFirstRefused, IsOnly, SpellEach}
 use Rattle.wax_error.specs.declared.build_error.BuildError.{BuildError}
 use Rattle.wax_error.specs.declared.build_error.BuildError.TheVariants.{Parse, Rule, Compile, Memory}
 use Rattle.wax.specs.declared.ignoring.IgnoreList.{IgnoreList}
@@ -34,6 +35,21 @@ NoExclusion SpellsTree RefusesAs (Rule error) = RefusesAs (Rule error)
 NoExclusion SpellsTree RefusesAs (Compile error) = RefusesAs (Compile error)
     ⊎ ((t : Tree Span) × IsOnly SpellsTree t × (1048576 < program_length t))
 NoExclusion SpellsTree RefusesAs Memory = ⊤
+
+-- ---- several patterns as one
+
+-- the rule leaves out what one of the patterns does
+abbrev pub IsAnyExclusionOf : {P : Type 0} → (P → Tree Span → Type 0) → List P → (Candidate → Mark) → Type 0
+IsAnyExclusionOf SpellsTree patterns rule = (ts : List (Tree Span))
+    × SpellEach (λ p. FitsAlone (SpellsTree p)) patterns ts × (rule ≡ any_mark (map not_mark ts))
+
+-- why nothing is left out: the reason of the first pattern that has one, or want of memory
+abbrev pub NoAnyExclusion : {P : Type 0} → (P → Tree Span → Type 0) → (P → BuildError → Type 0) → List P
+    → BuildError → Type 0
+NoAnyExclusion SpellsTree RefusesAs patterns error = (error ≡ Memory) ⊎ IsFirstRefused
+    (λ p. FitsAlone (SpellsTree p)) (λ p. NoExclusion (SpellsTree p) (RefusesAs p)) patterns error
+
+-- ---- walks
 
 -- one walk is seen as the other less what the tree that is spelled means
 abbrev pub IsWalkExcluding : {D : Type 0} → (Tree Span → Type 0) → WalkView D → WalkView D → Type 0

@@ -8,7 +8,8 @@ ghost use Rattle.wax_walk.specs.View.{IsSeenAs};
 ghost use Rattle.wax_exclude.specs.Ignored.{Line};
 ghost use Rattle.wax_exclude.specs.GlobRequests.{ComesExcluding};
 ghost use Rattle.wax_exclude.specs.Wanted.{not_ignored, not_meant};
-ghost use Rattle.wax.specs.Exclusions.{IsExclusionOf, IsWalkExcluding, NoExclusion};
+ghost use Rattle.wax.specs.Exclusions.{IsAnyExclusionOf, IsExclusionOf, IsWalkExcluding, NoAnyExclusion};
+ghost use Rattle.wax.specs.Exclusions.{NoExclusion};
 ghost use Rattle.wax.specs.Ignoring.{HoldsLines, IsWalkIgnoring};
 
 use crate::ignoring::IgnoreList;
@@ -16,6 +17,7 @@ use std::alloc::Global;
 use wax_error::BuildError;
 use wax_exclude::Exclusion;
 use wax_filter::filter::SeparatingFilter;
+use wax_glob_walk::FilterAny;
 use wax_query::diagnostics::Refusal;
 use wax_set::Pattern;
 use wax_walk::{Exclude, Excluding, FileIterator};
@@ -44,6 +46,42 @@ pub fn exclusion_of<P: Pattern>(alloc: Global, pattern: P) -> Result<Exclusion, 
         Ok(exclusion) => Ok(exclusion),
         Err(Refusal::Refused(error)) => Err(BuildError::Compile(error)),
         Err(Refusal::Memory) => Err(BuildError::Memory),
+    }
+}
+
+/// Rules that are built from several patterns.
+pub trait FilterAnyExt: Exclude + Sized {
+    /// Builds the rule that excludes what at least one of the patterns matches. An entry is excluded
+    /// with everything below it if an alternative of one of them covers it.
+    ///
+    /// ```
+    /// use wax::walk::{FilterAny, Tree, collect};
+    ///
+    /// let tree = Tree::from_paths(alloc, &["src/lib.rs", "src/lib.o", "target/lib.rs"])?;
+    /// let filter = FilterAny::any(alloc, vec![in alloc; "**/*.o", "target/**"]?)?;
+    /// let (items, _) = collect(alloc, "".walk(alloc, tree).excluding(alloc, filter))?;
+    /// println!(rt; "{}", items.len())?; // 3
+    /// ```
+    ///
+    /// # Errors
+    ///
+    /// Returns the errors of `exclusion_of` for the first pattern that has one.
+    fn any<P: Pattern + Drop>(alloc: Global, patterns: Vec<P>) -> Result<Self, BuildError>
+        ensures { MatchResult result (λ any. IsAnyExclusionOf P.spells patterns.items (Self.rule any))
+            (NoAnyExclusion P.spells P.refuses patterns.items) };
+}
+
+impl FilterAnyExt for FilterAny<Exclusion> {
+    fn any<P: Pattern + Drop>(alloc: Global, patterns: Vec<P>) -> Result<Self, BuildError> {
+        let mut exclusions = Vec::new(alloc);
+        for pattern in patterns {
+            let exclusion = match exclusion_of(alloc, pattern) {
+                Ok(exclusion) => exclusion,
+                Err(error) => return Err(error),
+            };
+            exclusions.push(exclusion)?;
+        }
+        Ok(FilterAny::new(exclusions))
     }
 }
 

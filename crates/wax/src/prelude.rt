@@ -3,5 +3,5 @@
 pub use crate::diagnostics::LocatedError;
 pub use crate::filter::HierarchicalIterator;
 pub use crate::token::{LiteralExt, Partitioned, TokenExt};
-pub use crate::walk::{Entry, FileIterator, FileIteratorExt, IgnoreList, PathExt};
+pub use crate::walk::{Entry, FileIterator, FileIteratorExt, FilterAnyExt, IgnoreList, PathExt};
 pub use crate::{CandidatePath, Glob, Program};

@@ -4,7 +4,7 @@ pub mod walk;
 
 pub use wax_components::{Component, LiteralSequence, capture_count, captures};
 pub use wax_fold::walk::{fold, fold_map};
-pub use wax_fold::{ConcatenationTree, TokenTree};
+pub use wax_fold::{ConcatenationTree, TokenTree, any};
 pub use wax_parse::parse::{ErrorEntry, ParseError, parse};
 pub use wax_partition::{LiteralExt, Partitioned, TokenExt, partition};
 pub use wax_token::token::{

@@ -1,7 +1,7 @@
 //! Directories, walks through them, and filters of walks.
 
 pub use crate::exclusions::{
-    FileIteratorExt, Ignore, Not, excluding_ignored, excluding_pattern, exclusion_of,
+    FileIteratorExt, FilterAnyExt, Ignore, Not, excluding_ignored, excluding_pattern, exclusion_of,
 };
 pub use crate::glob::GlobWalk;
 pub use crate::ignoring::{IgnoreError, IgnoreList};

@@ -2,6 +2,7 @@ pub mod Picking
 pub mod Opens
 pub mod Folds
 pub mod Maps
+pub mod Bares
 pub mod Levels
 pub mod Walks
 pub mod Whole

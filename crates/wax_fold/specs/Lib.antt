@@ -1,3 +1,4 @@
+pub mod Bare
 pub mod Branches
 pub mod Folded
 pub mod Mapped

@@ -1,7 +1,9 @@
 //! Folds of token trees, and walks through their tokens.
 #![tactic(auto)]
 
+mod combined;
 mod token_tree;
 pub mod walk;
 
+pub use combined::any;
 pub use token_tree::{ConcatenationTree, TokenTree};

@@ -1,6 +1,6 @@
 //! Lists of what walks yield.
 
-ghost use Rattle.std.specs.Prelude.{◌≡◌, ◌≤◌, ◌++◌, ◌∷◌, [], All, List, IfOk, length, map, filter};
+ghost use Rattle.std.specs.Prelude.{◌≡◌, ◌≤◌, ◌++◌, All, List, IfOk, length, map, filter};
 ghost use Rattle.std.specs.Iterator.{IsFinite, size};
 ghost use Rattle.wax_walk.specs.Collected.{Took};
 ghost use Rattle.wax_walk.specs.Entries.{given_of, given_outcome};
@@ -14,15 +14,6 @@ use std::alloc::Global;
 use wax_filter::filter::{Feed, Separation, TreeResidue};
 use wax_query::diagnostics::NoMemory;
 
-fn push<T: Drop>(items: &mut Vec<T>, item: T) -> Result<(), NoMemory>
-    ensures { IfOk result (λ _. items.new.items ≡ items.old.items ++ item ∷ []) }
-{
-    match items.push(item) {
-        Ok(()) => Ok(()),
-        Err(_) => Err(NoMemory),
-    }
-}
-
 fn keep<T, R, F>(
     items: &mut Vec<Result<T, WalkError>>,
     separation: Separation<F>,
@@ -34,7 +25,7 @@ where
     ensures { IfOk result (λ _. items.new.items ≡ items.old.items ++ kept_of separation) }
 {
     match separation {
-        Separation::Filtrate(filtrate) => push(items, filtrate.into_inner()),
+        Separation::Filtrate(filtrate) => Ok(items.push(filtrate.into_inner())?),
         Separation::Residue(_) => Ok(()),
     }
 }
@@ -61,7 +52,7 @@ where
 {
     let mut items = Vec::new(alloc);
     while let Some(item) = walk.feed() {
-        push(&mut items, item)?;
+        items.push(item)?;
     }
     Ok((items, walk.into_directory()))
 }

@@ -78,3 +78,49 @@ pub trait Fold<'t, A>: Drop {
         ensures answer { IfOk result (λ r. r ≡ (answers self.old).term (leaf_of leaf.now)) }
         ensures same { answers self.new ≡ answers self.old };
 }
+
+impl<'f, 't, A, F: Fold<'t, A>> Fold<'t, A> for &'f mut F {
+    type Sequencer = F::Sequencer;
+
+    type Term = F::Term;
+
+    ghost answers = { λ f. F.answers f.now };
+
+    fn sequencer() -> F::Sequencer {
+        F::sequencer()
+    }
+
+    fn initialize(
+        &mut self,
+        alloc: Global,
+        branch: &BranchKind<'t, A>,
+    ) -> Result<Option<F::Term>, NoMemory> {
+        F::initialize(self, alloc, branch)
+    }
+
+    fn fold(
+        &mut self,
+        alloc: Global,
+        branch: &BranchKind<'t, A>,
+        terms: Vec<F::Term>,
+    ) -> Result<Option<F::Term>, NoMemory>
+        ensures answer { IfOk result (λ r.
+            r ≡ (F.answers self.old.now).fold (branch_of branch.now) terms.items) }
+        ensures same { F.answers self.new.now ≡ F.answers self.old.now }
+    {
+        F::fold(self, alloc, branch, terms)
+    }
+
+    fn finalize(
+        &mut self,
+        alloc: Global,
+        branch: &BranchKind<'t, A>,
+        term: F::Term,
+    ) -> Result<F::Term, NoMemory> {
+        F::finalize(self, alloc, branch, term)
+    }
+
+    fn term(&mut self, alloc: Global, leaf: &LeafKind<'t>) -> Result<F::Term, NoMemory> {
+        F::term(self, alloc, leaf)
+    }
+}

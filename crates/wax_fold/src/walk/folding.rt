@@ -1,5 +1,5 @@
 //! Folding a token tree. A list of open branches replaces recursion.
-ghost use Rattle.std.specs.Prelude.{◌≡◌, ◌++◌, ◌∷◌, [], IfOk, OnOk, Some, None, Option};
+ghost use Rattle.std.specs.Prelude.{◌≡◌, ◌++◌, ◌∷◌, [], IfOk, Some, None, Option};
 ghost use Rattle.wax_fold.specs.Branches.{branch_of, picked, tokens_in};
 ghost use Rattle.wax_fold.specs.Folded.{folded};
 ghost use Rattle.wax_fold.specs.inner.BranchFolded.{branch_folded};
@@ -66,10 +66,10 @@ fn fold_branch<'t, A, F: Fold<'t, A>>(
             Some(token) => match token.topology() {
                 Topology::Branch(branch) => {
                     let inner = open(alloc, branch, &mut sequencer)?;
-                    push(&mut outer, current)?;
+                    outer.push(current)?;
                     current = inner;
                 }
-                Topology::Leaf(leaf) => push(&mut current.terms, folder.term(alloc, leaf)?)?,
+                Topology::Leaf(leaf) => current.terms.push(folder.term(alloc, leaf)?)?,
             },
             None => {
                 let term = close(alloc, current, folder)?;
@@ -121,7 +121,7 @@ fn with_term<'i, 't, A, T: Drop>(
     ensures { IfOk result (λ o. open_branch o ≡ with_term (open_branch of.entry) term) }
 {
     if let Some(term) = term {
-        push(&mut of.terms, term)?;
+        of.terms.push(term)?;
     }
     Ok(of)
 }
@@ -142,19 +142,10 @@ fn close<'t, A, F: Fold<'t, A>>(
         ..
     } = of;
     if let Some(term) = folder.initialize(alloc, branch)? {
-        push(&mut terms, term)?;
+        terms.push(term)?;
     }
     match folder.fold(alloc, branch, terms)? {
         Some(term) => Ok(Some(folder.finalize(alloc, branch, term)?)),
         None => Ok(None),
-    }
-}
-
-fn push<T: Drop>(items: &mut Vec<T>, item: T) -> Result<(), NoMemory>
-    ensures { OnOk result (items.new.items ≡ items.old.items ++ item ∷ []) }
-{
-    match items.push(item) {
-        Ok(()) => Ok(()),
-        Err(_) => Err(NoMemory),
     }
 }

@@ -11,6 +11,7 @@ ghost use Rattle.wax_fold.specs.inner.WalkSteps.{StepsToEnd, GivesEntry, TakesFi
 ghost use Rattle.wax_fold.specs.Walking.{Nexts, walk_begun, below, cancelled, walk_entry, items_left};
 ghost use Rattle.wax_fold.specs.Walking.{to_come, walking};
 
+use crate::token_tree::TokenTree;
 use crate::walk::entry::{Depth, Position, TokenEntry, WalkEntry};
 use crate::walk::sequence::{ChildToken, Parent, Sequencer};
 use crate::walk::sequencers::{Ending, Forward, Starting};
@@ -176,16 +177,17 @@ fn push_conjuncts<'i, 't, A>(
 /// Walks through the tokens that a sequencer chooses, breadth first. The root of the tree comes
 /// first. Doesn't allocate before the second call of `next`.
 #[tactic(auto, using(crate::proofs::Levels::no_deeper))]
-pub fn with_sequence<'i, 't, A, S: Sequencer>(
+pub fn with_sequence<'i, 't, T: TokenTree<'t>, S: Sequencer>(
     alloc: Global,
-    tree: &'i Token<'t, A>,
+    tree: &'i T,
     sequencer: S,
-) -> Walk<'i, 't, A, S>
-    ensures all { to_come (S.chosen A) (walking result) ≡ tree_order (S.chosen A) tree.now }
-    ensures start { walking result ≡ walk_begun tree.now }
+) -> Walk<'i, 't, T::Annotation, S>
+    ensures all { to_come (S.chosen T.Annotation) (walking result)
+        ≡ tree_order (S.chosen T.Annotation) (T.token tree.now) }
+    ensures start { walking result ≡ walk_begun (T.token tree.now) }
     // no level is missing
-    ensures deepest { (n : ℕ) → tree_size tree.now < n
-        → level (S.chosen A) n (root_entry tree.now ∷ []) ≡ [] }
+    ensures deepest { (n : ℕ) → tree_size (T.token tree.now) < n
+        → level (S.chosen T.Annotation) n (root_entry (T.token tree.now) ∷ []) ≡ [] }
 {
     Walk {
         alloc,
@@ -198,7 +200,7 @@ pub fn with_sequence<'i, 't, A, S: Sequencer>(
                 },
                 branch: 0,
             },
-            token: tree,
+            token: tree.as_token(),
         }),
         queue: VecDeque::new(alloc),
         current: None,
@@ -207,11 +209,14 @@ pub fn with_sequence<'i, 't, A, S: Sequencer>(
 
 /// Walks through all tokens of the tree, each once, breadth first.
 #[tactic(auto, using(crate::proofs::Whole::each_once))]
-pub fn forward<'i, 't, A>(alloc: Global, tree: &'i Token<'t, A>) -> Walk<'i, 't, A, Forward>
-    ensures all { to_come forward_chosen (walking result) ≡ tree_order forward_chosen tree.now }
-    ensures start { walking result ≡ walk_begun tree.now }
-    ensures each_once { IsPermutation (subtrees tree.now)
-        (map (λ e. e.token) (tree_order forward_chosen tree.now)) }
+pub fn forward<'i, 't, T: TokenTree<'t>>(
+    alloc: Global,
+    tree: &'i T,
+) -> Walk<'i, 't, T::Annotation, Forward>
+    ensures all { to_come forward_chosen (walking result) ≡ tree_order forward_chosen (T.token tree.now) }
+    ensures start { walking result ≡ walk_begun (T.token tree.now) }
+    ensures each_once { IsPermutation (subtrees (T.token tree.now))
+        (map (λ e. e.token) (tree_order forward_chosen (T.token tree.now))) }
 {
     with_sequence(alloc, tree, Forward)
 }
@@ -219,9 +224,12 @@ pub fn forward<'i, 't, A>(alloc: Global, tree: &'i Token<'t, A>) -> Walk<'i, 't,
 /// Walks through the tokens with which matches can begin, breadth first: the root of the tree, and
 /// of each token that is yielded the first token of a concatenation, all branches of an
 /// alternation, or the body of a repetition.
-pub fn starting<'i, 't, A>(alloc: Global, tree: &'i Token<'t, A>) -> Walk<'i, 't, A, Starting>
-    ensures all { to_come starting_chosen (walking result) ≡ tree_order starting_chosen tree.now }
-    ensures start { walking result ≡ walk_begun tree.now }
+pub fn starting<'i, 't, T: TokenTree<'t>>(
+    alloc: Global,
+    tree: &'i T,
+) -> Walk<'i, 't, T::Annotation, Starting>
+    ensures all { to_come starting_chosen (walking result) ≡ tree_order starting_chosen (T.token tree.now) }
+    ensures start { walking result ≡ walk_begun (T.token tree.now) }
 {
     with_sequence(alloc, tree, Starting)
 }
@@ -229,9 +237,12 @@ pub fn starting<'i, 't, A>(alloc: Global, tree: &'i Token<'t, A>) -> Walk<'i, 't
 /// Walks through the tokens with which matches can end, breadth first: the root of the tree, and of
 /// each token that is yielded the last token of a concatenation, all branches of an alternation, or
 /// the body of a repetition.
-pub fn ending<'i, 't, A>(alloc: Global, tree: &'i Token<'t, A>) -> Walk<'i, 't, A, Ending>
-    ensures all { to_come ending_chosen (walking result) ≡ tree_order ending_chosen tree.now }
-    ensures start { walking result ≡ walk_begun tree.now }
+pub fn ending<'i, 't, T: TokenTree<'t>>(
+    alloc: Global,
+    tree: &'i T,
+) -> Walk<'i, 't, T::Annotation, Ending>
+    ensures all { to_come ending_chosen (walking result) ≡ tree_order ending_chosen (T.token tree.now) }
+    ensures start { walking result ≡ walk_begun (T.token tree.now) }
 {
     with_sequence(alloc, tree, Ending)
 }

@@ -1,5 +1,5 @@
 //! Mapping a token tree to a new one. A list of open branches replaces recursion.
-ghost use Rattle.std.specs.Prelude.{◌≡◌, ◌++◌, ◌∷◌, [], IfOk, OnOk, Option, Some, None};
+ghost use Rattle.std.specs.Prelude.{◌≡◌, ◌++◌, ◌∷◌, [], IfOk, Option, Some, None};
 ghost use Rattle.wax_token.specs.View.{branch_tree};
 ghost use Rattle.wax_fold.specs.Branches.{branch_of, tokens_in};
 ghost use Rattle.wax_fold.specs.Mapped.{mapped};
@@ -68,11 +68,11 @@ fn map_branch<'t, A: Drop, F: FoldMap<'t, A>>(
                 match topology {
                     Topology::Branch(branch) => {
                         let inner = open(alloc, annotation, branch)?;
-                        push(&mut outer, current)?;
+                        outer.push(current)?;
                         current = inner;
                     }
                     Topology::Leaf(leaf) => {
-                        push(&mut current.done, folder.map(alloc, annotation, leaf)?)?
+                        current.done.push(folder.map(alloc, annotation, leaf)?)?
                     }
                 }
             }
@@ -126,7 +126,7 @@ fn with_token<'t, A: Drop, X: Drop>(
     ensures { IfOk result (λ o. open_token o ≡ with_token (open_token of.entry) token) }
 {
     if let Some(token) = token {
-        push(&mut of.done, token)?;
+        of.done.push(token)?;
     }
     Ok(of)
 }
@@ -148,13 +148,4 @@ fn close<'t, A: Drop, F: FoldMap<'t, A>>(
         ..
     } = of;
     folder.fold(alloc, annotation, branch, done)
-}
-
-fn push<T: Drop>(items: &mut Vec<T>, item: T) -> Result<(), NoMemory>
-    ensures { OnOk result (items.new.items ≡ items.old.items ++ item ∷ []) }
-{
-    match items.push(item) {
-        Ok(()) => Ok(()),
-        Err(_) => Err(NoMemory),
-    }
 }

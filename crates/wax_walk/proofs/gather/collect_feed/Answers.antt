@@ -25,12 +25,12 @@ loop-item-preserved g c =
     record {
       can = search rules;
       ends = search rules;
-      taking = rw (c.in_ok-push.ensures, map-append)
+      taking = rw (c.in_ok-push.ensures.items, map-append)
           (taking_more g.I.Directory.Directory.law _ _ _ _ _ _ _
           (given_of g.I.Entry.Entry.facts g.I.Residue.Entry.facts c.in-Some.item)
           c.loop-item.invariant.taking (g.met.I.FileIterator.feeding s t (Some c.in-Some.item) fed) goes.2);
       known = all_fed _ _ _ c.in-Some.item known.1 (g.met.I.FileIterator.keeping s t (Some c.in-Some.item) fed)
-          _ _ c.in_ok-push.ensures known.0;
+          _ _ c.in_ok-push.ensures.items known.0;
     }
 
 pub returns-clause-took : goal.returns-clause-took

@@ -25,11 +25,11 @@ loop-token-smaller-in-Branch g c =
     let token = c.in-Some.token.now in
     fewer_deeper chosen f
     (map (λ o. folding f (open_branch o)) c.loop-token.outer.items)
-    (map (λ o. folding f (open_branch o)) c.push.new.items.items)
+    (map (λ o. folding f (open_branch o)) c.push.new.self.items)
     (open_branch c.loop-token.current) (open_branch c.next_child.new.of)
     (open_branch c.in_ok-inner-in-Branch.inner) token (branch_of c.in-Branch.branch)
-    (mapped_last (λ o. folding f (open_branch o)) c.push.new.items.items c.loop-token.outer.items
-    c.next_child.new.of c.in_ok-push-in-Branch.ensures)
+    (mapped_last (λ o. folding f (open_branch o)) c.push.new.self.items c.loop-token.outer.items
+    c.next_child.new.of c.in_ok-push-in-Branch.ensures.items)
     c.in-Some.ensures.0 c.in_ok-inner-in-Branch.ensures
     (folded_token chosen counting c.topology.result.now c.in-Branch.branch token (annotation_of token)
     c.in-Branch.is c.topology.ensures)
@@ -42,11 +42,11 @@ loop-token-preserved-in-Branch g c =
     record {
       term = deeper chosen f (branch_folded chosen f (branch_of c.args.branch.now))
           (map (λ o. folding f (open_branch o)) c.loop-token.outer.items)
-          (map (λ o. folding f (open_branch o)) c.push.new.items.items)
+          (map (λ o. folding f (open_branch o)) c.push.new.self.items)
           (open_branch c.loop-token.current) (open_branch c.next_child.new.of)
           (open_branch c.in_ok-inner-in-Branch.inner) token (branch_of c.in-Branch.branch)
-          (mapped_last (λ o. folding f (open_branch o)) c.push.new.items.items c.loop-token.outer.items
-          c.next_child.new.of c.in_ok-push-in-Branch.ensures)
+          (mapped_last (λ o. folding f (open_branch o)) c.push.new.self.items c.loop-token.outer.items
+          c.next_child.new.of c.in_ok-push-in-Branch.ensures.items)
           c.in-Some.ensures c.in_ok-inner-in-Branch.ensures
           (folded_token chosen f c.topology.result.now c.in-Branch.branch token (annotation_of token)
           c.in-Branch.is c.topology.ensures)

@@ -21,11 +21,11 @@ loop-token-smaller-in-Branch g c =
     let f = g.F.FoldMap.answers c.args.folder.now in
     fewer_deeper f
     (map (λ o. mapping f (open_token o)) c.loop-token.outer.items)
-    (map (λ o. mapping f (open_token o)) c.push.new.items.items)
+    (map (λ o. mapping f (open_token o)) c.push.new.self.items)
     (open_token c.loop-token.current) (open_token c.next_token.new.of) (open_token c.in_ok-inner-in-Branch.inner)
     c.into_parts-topology.result.0 c.in-Branch.branch c.in-Some.token c.into_parts-topology.result.1
-    (mapped_last (λ o. mapping f (open_token o)) c.push.new.items.items c.loop-token.outer.items
-    c.next_token.new.of c.in_ok-push-in-Branch.ensures)
+    (mapped_last (λ o. mapping f (open_token o)) c.push.new.self.items c.loop-token.outer.items
+    c.next_token.new.of c.in_ok-push-in-Branch.ensures.items)
     c.in-Some.ensures.0 c.in_ok-inner-in-Branch.ensures c.in-Branch.is c.into_parts-topology.ensures
 
 pub loop-token-preserved-in-Branch : goal.loop-token-preserved-in-Branch
@@ -34,11 +34,11 @@ loop-token-preserved-in-Branch g c =
     record {
       token = deeper f (mapped f (branch_tree c.args.branch c.args.annotation))
           (map (λ o. mapping f (open_token o)) c.loop-token.outer.items)
-          (map (λ o. mapping f (open_token o)) c.push.new.items.items)
+          (map (λ o. mapping f (open_token o)) c.push.new.self.items)
           (open_token c.loop-token.current) (open_token c.next_token.new.of)
           (open_token c.in_ok-inner-in-Branch.inner) c.in-Some.token c.in-Branch.branch c.into_parts-topology.result.1
-          (mapped_last (λ o. mapping f (open_token o)) c.push.new.items.items c.loop-token.outer.items
-          c.next_token.new.of c.in_ok-push-in-Branch.ensures)
+          (mapped_last (λ o. mapping f (open_token o)) c.push.new.self.items c.loop-token.outer.items
+          c.next_token.new.of c.in_ok-push-in-Branch.ensures.items)
           c.in-Some.ensures c.in_ok-inner-in-Branch.ensures
           (mapped_parts f c.into_parts-topology.result.0 c.in-Branch.branch c.in-Some.token
           c.into_parts-topology.result.1 c.in-Branch.is c.into_parts-topology.ensures)

@@ -1,0 +1,67 @@
+-- Several patterns as one filter.
+use Rattle.std.proofs.Common.{◌≡◌, ◌⊎◌, ◌++◌, ◌∷◌, List, [], inr, map, refl, sym, ap, ap2, ◌∙◌}
+use Rattle.std.specs.List.{AllZip}
+use Rattle.wax_token.specs.Reads.{Span}
+use Rattle.wax_token.specs.Syntax.{Tree}
+use Rattle.wax_exclude.specs.Marks.{not_mark}
+use Rattle.wax_glob_walk.specs.Programs.{any_mark}
+use Rattle.wax_walk.specs.Candidates.{Candidate}
+use Rattle.wax_walk.specs.Given.{Mark}
+use Rattle.wax_set.specs.Patterns.{IsFirstRefused, SpellEach}
+use Rattle.wax_error.specs.declared.build_error.BuildError.{BuildError}
+use Rattle.wax.specs.Exclusions.{FitsAlone, IsAnyExclusionOf, IsExclusionOf, NoAnyExclusion, NoExclusion}
+
+-- the first of those that are left is taken
+pushed : {P : Type 0} (before : List P) (p : P) (rest : List P) → (before ++ p ∷ []) ++ rest ≡ before ++ p ∷ rest
+pushed [] p rest = refl
+pushed (q ∷ before) p rest = ap (λ z. q ∷ z) (pushed before p rest)
+
+pub pattern_taken : {P : Type 0} (before : List P) (p : P) (rest left all : List P) → left ≡ p ∷ rest →
+    before ++ left ≡ all → (before ++ p ∷ []) ++ rest ≡ all
+pattern_taken before p rest left all taken joined =
+    pushed before p rest ∙ ap (λ z. before ++ z) (sym taken) ∙ joined
+
+module _ {P E : Type 0} (S : P → Tree Span → Type 0) (rule : E → Candidate → Mark) where
+  -- each pattern has its exclusion
+  abbrev pub Excluded : List P → List E → Type 0
+  Excluded ps es = AllZip (λ p e. IsExclusionOf (S p) (rule e)) ps es
+
+  pub one_more_excluded : (ps : List P) (es : List E) (p : P) (e : E) → Excluded ps es → IsExclusionOf (S p) (rule e) →
+      Excluded (ps ++ p ∷ []) (es ++ e ∷ [])
+  one_more_excluded [] [] p e h k = (k, tt)
+  one_more_excluded [] (f ∷ es) p e h k = absurd h
+  one_more_excluded (q ∷ ps) [] p e h k = absurd h
+  one_more_excluded (q ∷ ps) (f ∷ es) p e h k = (h.0, one_more_excluded ps es p e h.1 k)
+
+  -- the trees of their patterns
+  Trees : List P → List E → Type 0
+  Trees ps es = (ts : List (Tree Span)) × SpellEach (λ p. FitsAlone (S p)) ps ts × (map rule es ≡ map not_mark ts)
+
+  trees_of : (ps : List P) (es : List E) → Excluded ps es → Trees ps es
+  trees_of [] [] h = ([], tt, refl)
+  trees_of [] (e ∷ es) h = absurd h
+  trees_of (p ∷ ps) [] h = absurd h
+  trees_of (p ∷ ps) (e ∷ es) h =
+      let rest = trees_of ps es h.1 in
+      let (t, fits, same) = h.0 in
+      (t ∷ rest.0, ((fits, λ u k. fits.only.1 u k.only.0), rest.1), ap2 (λ x xs. x ∷ xs) same rest.2)
+
+  pub any_excluded : (ps : List P) (es : List E) (any : Candidate → Mark) → Excluded ps es → any ≡ any_mark (map rule es) →
+      IsAnyExclusionOf S ps any
+  any_excluded ps es any h same =
+      let found = trees_of ps es h in (found.0, found.1, same ∙ ap any_mark found.2)
+
+  pub first_refused : (R : P → BuildError → Type 0) (all before : List P) (es : List E) (p : P) (left after : List P)
+      (e : BuildError) → Excluded before es → before ++ left ≡ all → left ≡ p ∷ after → NoExclusion (S p) (R p) e →
+      NoAnyExclusion S R all e
+  first_refused R all before es p left after e h joined taken refused =
+      let found = trees_of before es h in
+      inr (record {
+        before = before;
+        branches = found.0;
+        each = found.1;
+        pattern = p;
+        refused = refused;
+        after = after;
+        all = sym joined ∙ ap (λ z. before ++ z) taken;
+      })
