@@ -1,7 +1,7 @@
 -- Lengths of the parts of a text that a form takes.
 use Rattle.std.specs.Prelude.{◌≡◌, ◌↔◌, ◌⊎◌, ℕ, zero, suc, ◌-◌, ◌<◌, ◌≤◌, Bool, List, ⊤, length, take}
 use Rattle.std.specs.Prelude.{slice_index_or}
-use Rattle.wax_program.specs.Threads.{HoldsPlace}
+use Rattle.wax_bits.specs.Places.{HoldsPlace}
 use Rattle.wax_lengths.specs.Prefers.{Prefers}
 use Rattle.wax_lengths.specs.Forms.{TakenBy}
 use Rattle.wax_lengths.specs.declared.form.Form.{Form}

@@ -1,6 +1,6 @@
 //! Finding in one pass which parts of a text that begin at a place a program accepts.
 ghost use Rattle.std.specs.Prelude.{◌≡◌, ◌+◌, ◌*◌, ◌<◌, ◌≤◌, OnOk, drop, length};
-ghost use Rattle.wax_program.specs.Threads.{IsEmpty};
+ghost use Rattle.wax_bits.specs.Places.{IsEmpty};
 ghost use Rattle.wax_lengths.specs.Ends.{MarksBeginnings};
 
 use crate::text::Text;

@@ -9,7 +9,7 @@ use Rattle.wax_program.specs.declared.instruction.Instruction.TheVariants.{Jump,
 use Rattle.wax_program.specs.declared.steady.Steady.{Steady}
 use Rattle.wax_program.specs.declared.steady.Watched.{Watched}
 use Rattle.wax_program.specs.declared.steady.Watched.TheVariants.{Nothing, CheckAt, Unknown}
-use Rattle.wax_program.specs.Bits.{places_of}
+use Rattle.wax_bits.specs.Bits.{places_of}
 use Rattle.wax_program.specs.Machine.{PassesTest}
 use Rattle.wax_program.specs.Threads.{Advances}
 

@@ -1,28 +1,11 @@
 -- Sets of places in a program, as flags.
-use Rattle.std.specs.Prelude.{◌≡◌, ℕ, ◌+◌, ◌-◌, ◌<◌, ◌≤◌, ◌*◌, Bool, true, false, ◌⊎◌, ◌↔◌, List, [], ◌∷◌}
-use Rattle.std.specs.Prelude.{length, Contains, Some, slice_get, slice_index_or}
+use Rattle.std.specs.Prelude.{◌≡◌, ℕ, ◌+◌, ◌-◌, ◌<◌, ◌≤◌, ◌*◌, Bool, ◌⊎◌, ◌↔◌, List, [], ◌∷◌}
+use Rattle.std.specs.Prelude.{length, Contains, Some, slice_get}
+use Rattle.wax_bits.specs.Places.{HoldsPlace, Within, member_count}
 use Rattle.wax_program.specs.declared.instruction.Instruction.{Instruction}
 use Rattle.wax_program.specs.declared.instruction.Instruction.TheVariants.{Check, Repeat, Components, Fork}
 use Rattle.wax_program.specs.declared.instruction.Instruction.TheVariants.{Jump, Back}
 use Rattle.wax_program.specs.Machine.{PassesTest, Accepts}
-
--- the place is in the set
-abbrev pub HoldsPlace : List Bool → ℕ → Type 0
-HoldsPlace set k = slice_index_or set k false ≡ true
-
--- no place is in the set
-abbrev pub IsEmpty : List Bool → Type 0
-IsEmpty set = (k : ℕ) → HoldsPlace set k → ⊥
-
--- each place of the set is below the number
-abbrev pub Within : ℕ → List Bool → Type 0
-Within n set = (k : ℕ) → HoldsPlace set k → k < n
-
--- how many places are in the set
-abbrev pub member_count : List Bool → ℕ
-member_count [] = 0
-member_count (true ∷ flags) = member_count flags + 1
-member_count (false ∷ flags) = member_count flags
 
 -- the sets at a position of the text, for a program of `size` instructions: the places that are still to
 -- be read here, those that were read here, and those of the next position. The place `size` is that of the

@@ -1,12 +1,12 @@
 //! The sets of places of a run, for programs of any length.
 ghost use Rattle.std.specs.Prelude.{◌≡◌, IfOk};
-ghost use Rattle.wax_program.specs.Threads.{IsEmpty};
+ghost use Rattle.wax_bits.specs.Places.{IsEmpty};
 
-use crate::set::Set;
 use crate::sets::Sets;
 use std::alloc::{AllocError, Global};
 use std::marker::Model;
 use std::mem;
+use wax_bits::Set;
 
 /// Three sets, each a list of words. They are allocated once for each run.
 #[derive(Drop)]

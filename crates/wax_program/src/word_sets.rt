@@ -1,11 +1,11 @@
 //! The sets of places of a run, for programs of fewer than 64 instructions.
 ghost use Rattle.std.specs.Prelude.{◌≡◌, ◌<◌};
-ghost use Rattle.wax_program.specs.Threads.{IsEmpty};
+ghost use Rattle.wax_bits.specs.Places.{IsEmpty};
 
 use crate::sets::Sets;
-use crate::word::Word;
 use std::marker::Model;
 use std::mem;
+use wax_bits::Word;
 
 /// Three sets of one word each. They don't allocate.
 #[derive(Drop)]

@@ -8,9 +8,10 @@ use Rattle.std.proofs.lemmas.Option.{get_or_from_slice_get, slice_get-get_or, sl
 use Rattle.wax_stepper.specs.inner.Listed.{AreHeld, AreRead, HasLost, Inserts, IsJoined, IsLoaded, IsListing, Listing, Lists, Waits, unread}
 use Rattle.wax_stepper.specs.Reached.{AreReached}
 use Rattle.wax_program.specs.declared.instruction.Instruction.{Instruction}
-use Rattle.wax_program.specs.Threads.{Advances, AnyAmong, AnyOf, HoldsPlace, Inserted, InsertedNext, IsDone, IsEmpty, Position, Taken, Within, member_count}
+use Rattle.wax_bits.specs.Places.{HoldsPlace, IsEmpty, Within, member_count}
+use Rattle.wax_program.specs.Threads.{Advances, AnyAmong, AnyOf, Inserted, InsertedNext, IsDone, Position, Taken}
 use Rattle.wax_program.proofs.Advancing.{in_range}
-use Rattle.wax_program.proofs.Members.{added_keeps, added_only, has_added, members_none, members_set, members_within, removed_fewer}
+use Rattle.wax_bits.proofs.Members.{added_keeps, added_only, has_added, members_none, members_set, members_within, removed_fewer}
 
 -- ---- lists
 slice_get_append : {X : Type 0} (xs ys : List X) (t : ℕ) → t < length xs → slice_get (xs ++ ys) t ≡ slice_get xs t

@@ -1,11 +1,11 @@
 //! Sets of places that are also listed, so that emptying one takes no longer than filling it.
 ghost use Rattle.std.specs.Prelude.{◌≡◌, ◌<◌, ℕ, [], Contains, IfOk, false, length, slice_index_or};
 ghost use Rattle.wax_stepper.specs.inner.Listed.{HasLost, Inserts, Lists};
-ghost use Rattle.wax_program.specs.Threads.{IsEmpty};
+ghost use Rattle.wax_bits.specs.Places.{IsEmpty};
 
 use std::alloc::{AllocError, Global};
 use std::marker::Model;
-use wax_program::Set;
+use wax_bits::Set;
 
 /// A set of places below a limit, and a list of them in the order in which they were inserted.
 #[derive(Drop)]

@@ -2,13 +2,14 @@
 //! not to the length of the program.
 ghost use Rattle.std.specs.Prelude.{◌≡◌, ◌<◌, ℕ, [], IfOk, IsTrue, MatchOption, length};
 ghost use Rattle.wax_stepper.specs.inner.Listed.{AreRead, IsNextUnread, IsJoined, IsLoaded, Lists};
-ghost use Rattle.wax_program.specs.Threads.{HoldsPlace, IsEmpty};
+ghost use Rattle.wax_bits.specs.Places.{HoldsPlace, IsEmpty};
 
 use crate::listed::{ListedSet, remove_all};
 use std::alloc::{AllocError, Global};
 use std::marker::Model;
 use std::mem;
-use wax_program::{CompiledProgram, Set, Sets};
+use wax_bits::Set;
+use wax_program::{CompiledProgram, Sets};
 
 /// Three sets of places, two of which are listed. They are allocated once for each stepper.
 #[derive(Drop)]

@@ -1,7 +1,8 @@
 -- Sets of places that are also listed.
 use Rattle.std.specs.Prelude.{◌≡◌, ◌↔◌, ◌⊎◌, ℕ, ◌+◌, ◌<◌, ◌≤◌, Bool, not, ◌&&◌, List, [], ◌∷◌}
 use Rattle.std.specs.Prelude.{Contains, Some, length, slice_get}
-use Rattle.wax_program.specs.Threads.{HoldsPlace, IsEmpty, Position, Within, member_count}
+use Rattle.wax_bits.specs.Places.{HoldsPlace, IsEmpty, Within, member_count}
+use Rattle.wax_program.specs.Threads.{Position}
 
 -- a set of places below `limit`: its flags, and its places in the order in which they were inserted
 pub record Listing : Type 0 where

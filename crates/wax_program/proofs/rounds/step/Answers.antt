@@ -1,5 +1,6 @@
 use Rattle.std.proofs.Common.{◌<◌, ℕ, subst, sym, arith}
-use Rattle.wax_program.specs.Threads.{Advances, HoldsPlace}
+use Rattle.wax_bits.specs.Places.{HoldsPlace}
+use Rattle.wax_program.specs.Threads.{Advances}
 use Rattle.wax_program.proofs.rounds.step.Goals as goal
 
 pub returns-clause-advances : goal.returns-clause-advances

@@ -1,5 +1,5 @@
 use Rattle.std.proofs.Common.{◌<◌, arith}
-use Rattle.wax_program.proofs.Members.{reads_few, takes_few, takes}
+use Rattle.wax_program.proofs.Taking.{reads_few, takes_few, takes}
 use Rattle.wax_program.proofs.heap_sets.HeapSetsSets.take.Goals as goal
 
 pub returns-in_err-at-clause-few : goal.returns-in_err-at-clause-few

@@ -1,5 +1,5 @@
 use Rattle.std.proofs.Common.{Contains, subst, sym, arith}
-use Rattle.wax_program.specs.Threads.{IsEmpty}
+use Rattle.wax_bits.specs.Places.{IsEmpty}
 use Rattle.wax_stepper.proofs.Listings.{all_lost, listing_none}
 use Rattle.wax_stepper.proofs.listed.ListedSet.clear.Goals as goal
 

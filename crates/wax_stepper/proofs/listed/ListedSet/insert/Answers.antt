@@ -1,5 +1,5 @@
 use Rattle.std.proofs.Common.{◌<◌, ◌∙◌, true≢false, sym, ap, arith}
-use Rattle.wax_program.specs.Threads.{HoldsPlace}
+use Rattle.wax_bits.specs.Places.{HoldsPlace}
 use Rattle.wax_stepper.proofs.Listings.{inserts_none, inserts_one, listing_one, room_left}
 use Rattle.wax_stepper.proofs.listed.ListedSet.insert.Goals as goal
 

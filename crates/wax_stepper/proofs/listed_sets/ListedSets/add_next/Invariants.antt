@@ -1,5 +1,5 @@
 use Rattle.std.proofs.Common.{◌≡◌, ◌≤◌, ◌<◌, ◌⊎◌, ℕ, get_or}
-use Rattle.wax_program.specs.Threads.{HoldsPlace}
+use Rattle.wax_bits.specs.Places.{HoldsPlace}
 use Rattle.wax_stepper.proofs.listed_sets.ListedSets.add_next.Given as goal
 
 abbrev pub invariant-loop-place : goal.invariant-loop-place

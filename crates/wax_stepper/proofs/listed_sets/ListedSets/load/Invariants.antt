@@ -1,5 +1,5 @@
 use Rattle.std.proofs.Common.{◌≡◌, ◌≤◌, ◌<◌, ℕ, get_or}
-use Rattle.wax_program.specs.Threads.{HoldsPlace, IsEmpty}
+use Rattle.wax_bits.specs.Places.{HoldsPlace, IsEmpty}
 use Rattle.wax_stepper.proofs.listed_sets.ListedSets.load.Given as goal
 
 abbrev pub invariant-loop-place : goal.invariant-loop-place

@@ -1,6 +1,6 @@
 use Rattle.std.proofs.Common.{refl, sym, subst, length}
 use Rattle.wax_stepper.specs.inner.Listed.{AreRead, IsNextUnread, Lists}
-use Rattle.wax_program.proofs.Members.{members_within}
+use Rattle.wax_bits.proofs.Members.{members_within}
 use Rattle.wax_stepper.proofs.Listings.{all_read, listed_taken, takes_few, takes_listed}
 use Rattle.wax_stepper.proofs.listed_sets.ListedSetsSets.take.Goals as goal
 

@@ -1,0 +1,8 @@
+//! Sets of small numbers, called places, with one bit for each.
+#![tactic(auto)]
+
+mod set;
+mod word;
+
+pub use set::Set;
+pub use word::Word;
