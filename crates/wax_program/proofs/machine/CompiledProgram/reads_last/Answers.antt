@@ -1,4 +1,4 @@
-use Rattle.std.proofs.Common.{IsTrue, subst, ap}
+use Rattle.std.proofs.Common.{subst, ap}
 use Rattle.wax_program.specs.Last.{ReadsLast}
 use Rattle.wax_program.proofs.machine.CompiledProgram.reads_last.Goals as goal
 
