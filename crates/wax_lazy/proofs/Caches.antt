@@ -2,10 +2,11 @@
 use Rattle.std.proofs.Common.{◌≡◌, ◌≤◌, ◌<◌, ◌↔◌, ℕ, Bool, IsTrue, ◌+◌, ◌*◌, ◌/◌, slice_get, set, List, [], ◌∷◌, ◌++◌, ◌⊎◌, inl, inr, Option, Some, None, IfSome, Result, Ok, Err, IfOk, OnErr, length, refl, sym, ◌∙◌, ap, subst, arith, length-append, replicate}
 use Rattle.std.proofs.lemmas.List.{length-replicate}
 use Rattle.wax_lazy.specs.declared.cache.Cache.{Cache}
-use Rattle.wax_lazy.specs.declared.table.State.{State}
+use Rattle.wax_states.specs.declared.table.State.{State}
 use Rattle.std.specs.Global.{Vec}
 use Rattle.wax_lazy.specs.inner.Cached.{AreParted, GrowsBy, IsAdded, IsCacheOf, IsCleared, IsRestarted, IsSameMaker}
-use Rattle.wax_lazy.specs.inner.Table.{BeginsTexts, IsSettled, IsRestState, IsState, IsStatePlace, IsTable, IsTransition, IsWrittenWide, AreEmpty, AreWideCells, KeepsStates, places_at, places_in}
+use Rattle.wax_lazy.specs.inner.Table.{BeginsTexts, IsRestState, IsState, IsTable, AreWideCells, KeepsStates}
+use Rattle.wax_states.specs.States.{IsSettled, IsStatePlace, IsTransition, IsWrittenWide, AreEmpty, places_at, places_in}
 use Rattle.wax_lazy.proofs.Tables.{begins_keeps, keeps_append, settled_keeps, slice_get_end, table_empty, table_filled, table_push, table_settled, wide_empty, wide_keeps, wide_written}
 use Rattle.wax_program.specs.declared.instruction.Instruction.{Instruction}
 use Rattle.wax_program.specs.Threads.{AnyAmong}

@@ -4,11 +4,12 @@ use Rattle.std.proofs.lemmas.List.Elements.{Contains-append_left, Contains-push,
 use Rattle.std.proofs.lemmas.List.Sorted.{Contains-permutation, IsPermutation-sym}
 use Rattle.std.proofs.lemmas.Option.{slice_get_within}
 use Rattle.wax_lazy.specs.declared.cache.Lone.{Lone}
-use Rattle.wax_lazy.specs.declared.table.Next.{Next}
-use Rattle.wax_lazy.specs.declared.table.Next.TheVariants.{To, Nothing, Everything}
-use Rattle.wax_lazy.specs.declared.table.State.{State}
+use Rattle.wax_states.specs.declared.table.Next.{Next}
+use Rattle.wax_states.specs.declared.table.Next.TheVariants.{To, Nothing, Everything}
+use Rattle.wax_states.specs.declared.table.State.{State}
 use Rattle.wax_lazy.specs.inner.Cached.{DecidesLeft, IsLone}
-use Rattle.wax_lazy.specs.inner.Table.{IsRestState, IsStatePlace, IsTable, IsJoinOf, LeadsNext, TakesAll, led_of, own_at, places_at, places_in, places_led}
+use Rattle.wax_lazy.specs.inner.Table.{IsRestState, IsTable, IsJoinOf, own_at}
+use Rattle.wax_states.specs.States.{IsStatePlace, LeadsNext, TakesAll, led_of, places_at, places_in, places_led}
 use Rattle.wax_lazy.proofs.Tables.{one_place, rest_at}
 use Rattle.wax_program.specs.Checks.{IsCheckAt}
 use Rattle.wax_program.specs.declared.instruction.Instruction.{Instruction}

@@ -3,11 +3,12 @@ use Rattle.std.proofs.Common.{◌≡◌, ℕ, zero, suc, ◌+◌, ◌-◌, ◌*�
 use Rattle.std.proofs.lemmas.Bool.{cases_eq, cases_lt}
 use Rattle.std.proofs.lemmas.List.{get_or_append_left, get_or-append_right, get_or-replicate, length-replicate}
 use Rattle.std.proofs.lemmas.Option.{slice_get_cases, slice_get_within}
-use Rattle.wax_lazy.specs.declared.table.State.{State}
-use Rattle.wax_lazy.specs.declared.table.WideCell.{WideCell}
-use Rattle.wax_lazy.specs.declared.table.Next.{Next}
-use Rattle.wax_lazy.specs.declared.table.Next.TheVariants.{To, Nothing, Everything}
-use Rattle.wax_lazy.specs.inner.Table.{AreEmpty, AreWideCells, HasWide, IsWrittenWide, cell_of_next, BeginsTexts, IsDead, IsRestState, IsSettled, IsState, IsStatePlace, IsTable, IsTransition, IsJoinOf, KeepsStates, LeadOn, Leads, LeadsNext, LeadsTo, TakesAll, led_of, own_at, own_in, places_at, places_in, places_led}
+use Rattle.wax_states.specs.declared.table.State.{State}
+use Rattle.wax_states.specs.declared.table.WideCell.{WideCell}
+use Rattle.wax_states.specs.declared.table.Next.{Next}
+use Rattle.wax_states.specs.declared.table.Next.TheVariants.{To, Nothing, Everything}
+use Rattle.wax_lazy.specs.inner.Table.{AreWideCells, BeginsTexts, IsRestState, IsState, IsTable, IsJoinOf, KeepsStates, Leads, own_at, own_in}
+use Rattle.wax_states.specs.States.{AreEmpty, HasWide, IsWrittenWide, cell_of_next, IsDead, IsSettled, IsStatePlace, IsTransition, LeadOn, LeadsNext, LeadsTo, TakesAll, led_of, places_at, places_in, places_led}
 use Rattle.wax_program.specs.declared.instruction.Instruction.{Instruction}
 use Rattle.wax_program.specs.Machine.{Accepts}
 use Rattle.wax_stepper.specs.Reached.{AreReached, taken_if}
@@ -223,31 +224,6 @@ pub says_at : (code : List Instruction) (states : List State) (cells : List ℕ)
 says_at code states cells at c table p low =
     subst (λ i. IsTransition code states (places_at states (at / 128)) c (get_or cells i 0)) (sym (place_is states at c p)) (table.says (at / 128) c p.kept low)
 
-pub leads_on : (code : List Instruction) (states : List State) (place : List ℕ) (c cell : ℕ) → IsTransition code states place c cell
-    → 3 ≤ cell → LeadsTo code states place c ((cell - 3) * 128)
-leads_on code states place c cell (inl e) h = absurd (omega (arith, e, h))
-leads_on code states place c cell (inr (inl d)) h = absurd (let e : cell ≡ 1 = d.0 in omega (arith, e, h))
-leads_on code states place c cell (inr (inr (inl t))) h = absurd (let e : cell ≡ 2 = t.0 in omega (arith, e, h))
-leads_on code states place c cell (inr (inr (inr l))) h =
-    let e : cell ≡ l.0 / 128 + 3 = l.1 in
-    let whole : l.0 % 128 ≡ 0 = l.2.placed.whole in
-    let same : l.0 ≡ (cell - 3) * 128 = omega (arith, e, whole) in
-    subst (LeadsTo code states place c) same l.2
-
-pub leads_nowhere : (code : List Instruction) (states : List State) (place : List ℕ) (c cell : ℕ) → IsTransition code states place c cell
-    → cell ≡ 1 → IsDead code place c
-leads_nowhere code states place c cell (inl e) h = absurd (omega (arith, e, h))
-leads_nowhere code states place c cell (inr (inl d)) h = d.1
-leads_nowhere code states place c cell (inr (inr (inl t))) h = absurd (let e : cell ≡ 2 = t.0 in omega (arith, e, h))
-leads_nowhere code states place c cell (inr (inr (inr l))) h = absurd (let e : cell ≡ l.0 / 128 + 3 = l.1 in omega (arith, e, h))
-
-pub leads_everywhere : (code : List Instruction) (states : List State) (place : List ℕ) (c cell : ℕ) → IsTransition code states place c cell
-    → cell ≡ 2 → TakesAll code place c
-leads_everywhere code states place c cell (inl e) h = absurd (omega (arith, e, h))
-leads_everywhere code states place c cell (inr (inl d)) h = absurd (let e : cell ≡ 1 = d.0 in omega (arith, e, h))
-leads_everywhere code states place c cell (inr (inr (inl t))) h = t.1
-leads_everywhere code states place c cell (inr (inr (inr l))) h = absurd (let e : cell ≡ l.0 / 128 + 3 = l.1 in omega (arith, e, h))
-
 pub leads_known : (code : List Instruction) (states : List State) (place : List ℕ) (c : ℕ) (next : Next) → LeadsNext code states place c next
     → (next ≡ Everything → ⊥) → Leads code states place c (led_of next)
 leads_known code states place c (To at) l h = l
@@ -402,19 +378,8 @@ led code states from places others c t same lt e a = record {
 }
 
 -- ---- cells of characters past ASCII
-some_cell : {w v : WideCell} → Some w ≡ Some v → w ≡ v
-some_cell e = cc
-
-no_cell : {w : WideCell} → None ≡ Some w → ⊥
-no_cell e = cc
-
 pub wide_empty : (code : List Instruction) (states : List State) (ws : List WideCell) → AreEmpty ws → AreWideCells code states ws
 wide_empty code states ws empty i w is = inl (empty i w is)
-
-pub empty_replicate : (n : ℕ) (w : WideCell) → w.cell ≡ 0 → AreEmpty (replicate n w)
-empty_replicate zero w e i v is = absurd (no_cell is)
-empty_replicate (suc n) w e zero v is = sym (ap (λ z. z.cell) (some_cell is)) ∙ e
-empty_replicate (suc n) w e (suc i) v is = empty_replicate n w e i v is
 
 pub wide_keeps : (code : List Instruction) (old new : List State) (ws : List WideCell) → KeepsStates old new → AreWideCells code old ws → AreWideCells code new ws
 wide_keeps code old new ws keeps held i w is = elim (held i w is) [

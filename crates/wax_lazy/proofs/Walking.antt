@@ -1,6 +1,6 @@
 -- A text that is followed from state to state.
 use Rattle.std.proofs.Common.{◌≡◌, ℕ, suc, ◌+◌, ◌<◌, ◌↔◌, Bool, true, false, IsTrue, List, [], ◌∷◌, length, get_or, drop, refl, sym, ◌∙◌, ap, subst, true≢false, arith, drop-cons}
-use Rattle.wax_lazy.specs.inner.Table.{IsDead, LeadOn, TakesAll}
+use Rattle.wax_states.specs.States.{IsDead, LeadOn, TakesAll}
 use Rattle.wax_program.specs.declared.instruction.Instruction.{Instruction}
 use Rattle.wax_program.specs.Machine.{Accepts}
 use Rattle.wax_program.specs.Threads.{AnyAmong}

@@ -3,20 +3,20 @@ ghost use Rattle.std.specs.Prelude.{◌≡◌, ◌+◌, ◌*◌, ◌/◌, ◌^�
 ghost use Rattle.std.specs.Prelude.{IfOk, IfSome, IsFalse, IsTrue, OnErr, Some, drop, length, slice_get};
 ghost use Rattle.std.specs.Prelude.{slice_index};
 ghost use Rattle.std.specs.Str.{IsAscii};
-ghost use Rattle.wax_lazy.specs.declared.table.State.{State};
 ghost use Rattle.wax_lazy.specs.inner.Cached.{AreNext, AreParted, AreSameLists, AreStepped, GrowsBy, IsAdded};
 ghost use Rattle.wax_lazy.specs.inner.Cached.{DecidesLeft, IsCacheOf, IsCleared, IsInterned, IsLone};
 ghost use Rattle.wax_lazy.specs.inner.Cached.{IsRestarted};
-ghost use Rattle.wax_lazy.specs.inner.Table.{BeginsTexts, IsDead, IsStatePlace, IsJoinOf, LeadsNext, own_at};
-ghost use Rattle.wax_lazy.specs.inner.Table.{places_at, places_led};
+ghost use Rattle.wax_lazy.specs.inner.Table.{BeginsTexts, IsJoinOf, own_at};
 ghost use Rattle.wax_program.specs.Checks.{IsCheckAt};
 ghost use Rattle.wax_program.specs.declared.instruction.Instruction.{Instruction};
 ghost use Rattle.wax_program.specs.Threads.{AnyAmong};
+ghost use Rattle.wax_states.specs.declared.table.State.{State};
+ghost use Rattle.wax_states.specs.States.{IsDead, IsStatePlace, LeadsNext, places_at, places_led};
 
-use crate::table::{ALL, COLUMNS, DEAD, FIRST, Next, State, Table, cell_of, next_of};
 use std::alloc::{AllocError, Global};
 use std::mem;
 use wax_program::{CompiledProgram, check_at, has_loop, part_loops, place_of_all};
+use wax_states::{ALL, COLUMNS, DEAD, FIRST, Next, State, Table, cell_of, next_of};
 use wax_stepper::Stepper;
 
 /// The size of a state in bytes, without its places: that of its cells, and about fifty more.

@@ -5,7 +5,6 @@
 mod cache;
 mod known;
 mod matcher;
-mod table;
 mod walk;
 
 pub use matcher::{HasProgram, Matcher};

@@ -2,13 +2,13 @@
 ghost use Rattle.std.specs.Prelude.{◌≡◌, ◌↔◌, ◌/◌, ◌<◌, ◌≤◌, IfOk, IsTrue, chars, drop, length};
 ghost use Rattle.std.specs.Str.{IsAscii};
 ghost use Rattle.wax_lazy.specs.inner.Cached.{DecidesLeft, IsCacheOf};
-ghost use Rattle.wax_lazy.specs.inner.Table.{IsStatePlace, places_at};
 ghost use Rattle.wax_program.specs.Machine.{Accepts};
+ghost use Rattle.wax_states.specs.States.{IsStatePlace, places_at};
 
 use crate::cache::Cache;
-use crate::table::Next;
 use std::alloc::AllocError;
 use wax_program::CompiledProgram;
+use wax_states::Next;
 
 /// Returns whether the program, begun at the cache's place, accepts the text.
 ///

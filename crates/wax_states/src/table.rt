@@ -1,9 +1,9 @@
 //! The table of states, with the next state for each ASCII character.
 ghost use Rattle.std.specs.Prelude.{◌≡◌, ◌+◌, ◌*◌, ◌/◌, ◌<◌, ◌≤◌, ◌++◌, ◌∷◌, ◌⊎◌, ℕ, [], List, IfOk, IfSome};
 ghost use Rattle.std.specs.Prelude.{IsTrue, Some, length, replicate, slice_get, slice_index, slice_set};
-ghost use Rattle.wax_lazy.specs.declared.table.State.{State};
-ghost use Rattle.wax_lazy.specs.inner.Table.{AreEmpty, HasWide, IsSettled, IsTransition, IsWrittenWide};
-ghost use Rattle.wax_lazy.specs.inner.Table.{LeadsNext, cell_of_next, led_of, places_at, places_led};
+ghost use Rattle.wax_states.specs.declared.table.State.{State};
+ghost use Rattle.wax_states.specs.States.{AreEmpty, HasWide, IsSettled, IsTransition, IsWrittenWide};
+ghost use Rattle.wax_states.specs.States.{LeadsNext, cell_of_next, led_of, places_at, places_led};
 ghost use Rattle.wax_program.specs.declared.instruction.Instruction.{Instruction};
 
 use std::alloc::{AllocError, Global};
@@ -12,7 +12,7 @@ use std::alloc::{AllocError, Global};
 pub const COLUMNS: usize = 128;
 
 /// A cell that is still empty.
-pub const UNKNOWN: u16 = 0;
+const UNKNOWN: u16 = 0;
 
 /// The cell of a character after which no text is accepted.
 pub const DEAD: u16 = 1;

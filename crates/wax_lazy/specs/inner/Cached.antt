@@ -3,15 +3,16 @@ use Rattle.std.specs.Prelude.{◌≡◌, ℕ, ◌+◌, ◌*◌, ◌/◌, ◌<◌
 use Rattle.std.specs.Prelude.{IfSome, IsFalse, IsTrue, Option, length, replicate}
 use Rattle.wax_lazy.specs.declared.cache.Cache.{Cache}
 use Rattle.wax_lazy.specs.declared.cache.Lone.{Lone}
-use Rattle.wax_lazy.specs.declared.table.Next.{Next}
-use Rattle.wax_lazy.specs.declared.table.Next.TheVariants.{To, Nothing, Everything}
 use Rattle.wax_lazy.specs.declared.known.Known.{Known}
-use Rattle.wax_lazy.specs.declared.table.State.{State}
-use Rattle.wax_lazy.specs.inner.Table.{AreEmpty, AreWideCells, BeginsTexts, IsRestState, IsStatePlace}
-use Rattle.wax_lazy.specs.inner.Table.{IsJoinOf, IsTable, KeepsStates, LeadOn, own_at, places_at, places_led}
+use Rattle.wax_lazy.specs.inner.Table.{AreWideCells, BeginsTexts, IsRestState}
+use Rattle.wax_lazy.specs.inner.Table.{IsJoinOf, IsTable, KeepsStates, own_at}
 use Rattle.wax_program.specs.declared.instruction.Instruction.{Instruction}
 use Rattle.wax_program.specs.Last.{ReadsLast}
 use Rattle.wax_program.specs.Threads.{AnyAmong}
+use Rattle.wax_states.specs.declared.table.Next.{Next}
+use Rattle.wax_states.specs.declared.table.Next.TheVariants.{To, Nothing, Everything}
+use Rattle.wax_states.specs.declared.table.State.{State}
+use Rattle.wax_states.specs.States.{AreEmpty, IsStatePlace, LeadOn, places_at, places_led}
 
 -- the cache was made for a program of these instructions, and all that it says holds of it
 pub record IsCacheOf (code : List Instruction) (c : Cache) : Type 0 where

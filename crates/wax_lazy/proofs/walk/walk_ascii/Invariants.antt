@@ -1,6 +1,6 @@
 use Rattle.std.proofs.Common.{◌≡◌, ◌↔◌, ◌/◌, ◌-◌, ◌≤◌, drop, length}
 use Rattle.wax_lazy.specs.inner.Cached.{IsCacheOf}
-use Rattle.wax_lazy.specs.inner.Table.{IsStatePlace, places_at}
+use Rattle.wax_states.specs.States.{IsStatePlace, places_at}
 use Rattle.wax_program.specs.Machine.{Accepts}
 use Rattle.wax_program.specs.Threads.{AnyAmong}
 use Rattle.wax_lazy.proofs.walk.walk_ascii.Given as goal

@@ -2,7 +2,7 @@ use Rattle.std.proofs.Common.{◌≡◌, ◌↔◌, ◌/◌, IsUtf8}
 use Rattle.std.specs.Str.{chars}
 use Rattle.std.specs.Str.Iter.{chars_rest}
 use Rattle.wax_lazy.specs.inner.Cached.{IsCacheOf}
-use Rattle.wax_lazy.specs.inner.Table.{IsStatePlace, places_at}
+use Rattle.wax_states.specs.States.{IsStatePlace, places_at}
 use Rattle.wax_program.specs.Machine.{Accepts}
 use Rattle.wax_program.specs.Threads.{AnyAmong}
 use Rattle.wax_lazy.proofs.walk.walk_chars.Given as goal

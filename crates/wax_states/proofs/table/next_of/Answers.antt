@@ -1,5 +1,5 @@
-use Rattle.wax_lazy.proofs.Tables.{leads_everywhere, leads_nowhere, leads_on}
-use Rattle.wax_lazy.proofs.table.next_of.Goals as goal
+use Rattle.wax_states.proofs.Cells.{leads_everywhere, leads_nowhere, leads_on}
+use Rattle.wax_states.proofs.table.next_of.Goals as goal
 
 pub returns-then-cell-ge-FIRST : goal.returns-then-cell-ge-FIRST
 returns-then-cell-ge-FIRST c = λ code states places k says.

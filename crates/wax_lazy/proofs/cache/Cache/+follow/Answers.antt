@@ -1,6 +1,7 @@
 use Rattle.std.proofs.Common.{◌/◌, ◌≤◌, ℕ, ap, length, refl, sym, ◌∙◌, subst, arith, inl, inr}
 use Rattle.wax_lazy.specs.inner.Cached.{AreStepped}
-use Rattle.wax_lazy.specs.inner.Table.{IsDead, IsTransition, KeepsStates, Leads, LeadOn, LeadsNext, TakesAll, cell_of_next, places_at, places_led, own_at}
+use Rattle.wax_lazy.specs.inner.Table.{KeepsStates, Leads, own_at}
+use Rattle.wax_states.specs.States.{IsDead, IsTransition, LeadOn, LeadsNext, TakesAll, cell_of_next, places_at, places_led}
 use Rattle.wax_lazy.proofs.Caches.{cache_filled}
 use Rattle.wax_lazy.proofs.Tables.{cell_says, leads_as_part, leads_known, leads_later, led_leads, led_parted, next_within, part_takes_all, parts_lead, placed_keeps, rest_at, rest_later}
 use Rattle.wax_lazy.proofs.cache.Cache.+follow.Goals as goal

@@ -1,5 +1,5 @@
 use Rattle.std.proofs.Common.{◌/◌, ◌↔◌, [], IfSome, IsTrue, sym, ◌∙◌, ap, subst}
-use Rattle.wax_lazy.specs.inner.Table.{IsSettled, places_in}
+use Rattle.wax_states.specs.States.{IsSettled, places_in}
 use Rattle.wax_lazy.proofs.Caches.{cache_settled}
 use Rattle.wax_program.specs.Threads.{AnyAmong}
 use Rattle.wax_lazy.proofs.cache.Cache.accepts.Goals as goal

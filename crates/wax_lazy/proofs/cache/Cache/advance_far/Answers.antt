@@ -1,5 +1,5 @@
 use Rattle.std.proofs.Common.{◌≡◌, ◌+◌, ◌/◌, ◌∷◌, ℕ, List, drop, sym, ◌∙◌, ap}
-use Rattle.wax_lazy.specs.inner.Table.{places_at}
+use Rattle.wax_states.specs.States.{places_at}
 use Rattle.wax_lazy.proofs.Lone.{next_decides}
 use Rattle.wax_lazy.proofs.Walking.{next_of}
 use Rattle.wax_lazy.proofs.cache.Cache.advance_far.Goals as goal

@@ -1,5 +1,6 @@
 use Rattle.std.proofs.Common.{IsPermutation, ◌≡◌, ◌∷◌, ◌++◌, [], sym, ◌∙◌, ap, subst}
-use Rattle.wax_lazy.specs.inner.Table.{IsJoinOf, places_led}
+use Rattle.wax_lazy.specs.inner.Table.{IsJoinOf}
+use Rattle.wax_states.specs.States.{places_led}
 use Rattle.wax_lazy.proofs.Lone.{joined_place, parted_lone}
 use Rattle.wax_lazy.proofs.Tables.{at_number}
 use Rattle.wax_lazy.proofs.cache.Cache.arrive.Goals as goal

@@ -1,5 +1,5 @@
 use Rattle.std.proofs.Common.{◌/◌, [], refl, sym, ◌∙◌, subst}
-use Rattle.wax_lazy.specs.inner.Table.{IsStatePlace, places_at}
+use Rattle.wax_states.specs.States.{IsStatePlace, places_at}
 use Rattle.wax_lazy.proofs.Lone.{own_ends, rest_ends, said_ends}
 use Rattle.wax_lazy.proofs.Tables.{rest_at}
 use Rattle.wax_lazy.proofs.Walking.{decides_by}

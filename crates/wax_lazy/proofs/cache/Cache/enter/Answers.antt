@@ -1,6 +1,6 @@
 use Rattle.std.proofs.Common.{◌≡◌, ◌+◌, ◌*◌, ◌/◌, [], refl, sym, ◌∙◌, inl, inr, arith, eqb-true}
 use Rattle.std.proofs.lemmas.List.{nil_from_length}
-use Rattle.wax_lazy.specs.inner.Table.{IsTransition, places_at}
+use Rattle.wax_states.specs.States.{IsTransition, places_at}
 use Rattle.wax_lazy.proofs.Caches.{cache_filled}
 use Rattle.wax_lazy.proofs.Tables.{dead_of_none, led, placed_keeps, places_keep, takes_all}
 use Rattle.wax_lazy.proofs.cache.Cache.enter.Goals as goal

@@ -1,5 +1,5 @@
 use Rattle.std.proofs.Common.{◌/◌, IfOk, ◌∙◌, subst, arith}
-use Rattle.wax_lazy.specs.inner.Table.{LeadsNext}
+use Rattle.wax_states.specs.States.{LeadsNext}
 use Rattle.wax_lazy.proofs.Caches.{cache_restarted, restarted_one, restarted_place, restarted_places}
 use Rattle.wax_lazy.proofs.Tables.{state_at}
 use Rattle.wax_lazy.proofs.cache.Cache.fill.Goals as goal

@@ -1,5 +1,5 @@
 use Rattle.std.proofs.Common.{sym, subst}
-use Rattle.wax_lazy.specs.inner.Table.{LeadOn}
+use Rattle.wax_states.specs.States.{LeadOn}
 use Rattle.wax_lazy.proofs.Tables.{all_leads}
 use Rattle.wax_lazy.proofs.cache.Cache.follow_all.Goals as goal
 

@@ -1,5 +1,5 @@
 use Rattle.std.proofs.Common.{IfOk, sym, subst}
-use Rattle.wax_lazy.specs.inner.Table.{LeadsNext, places_led}
+use Rattle.wax_states.specs.States.{LeadsNext, places_led}
 use Rattle.wax_lazy.proofs.cache.Cache.follow_rest.Goals as goal
 
 pub returns-in-Some-clause-leads : goal.returns-in-Some-clause-leads

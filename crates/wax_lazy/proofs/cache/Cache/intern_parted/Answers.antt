@@ -1,5 +1,6 @@
 use Rattle.std.proofs.Common.{◌∙◌, ◌*◌, ◌/◌, ℕ, ap, sym, subst}
-use Rattle.wax_lazy.specs.inner.Table.{IsJoinOf, places_at}
+use Rattle.wax_lazy.specs.inner.Table.{IsJoinOf}
+use Rattle.wax_states.specs.States.{places_at}
 use Rattle.wax_lazy.proofs.Tables.{at_number, placed_number, union_of_parts}
 use Rattle.wax_program.specs.Threads.{AreParts}
 use Rattle.wax_lazy.proofs.cache.Cache.intern_parted.Goals as goal

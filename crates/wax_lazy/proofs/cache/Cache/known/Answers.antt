@@ -1,6 +1,6 @@
 use Rattle.std.proofs.Common.{◌≡◌, ◌+◌, ◌<◌, ◌/◌, length, get_or, sym, subst}
 use Rattle.std.proofs.lemmas.List.{get_or_read}
-use Rattle.wax_lazy.specs.inner.Table.{IsTransition, places_at}
+use Rattle.wax_states.specs.States.{IsTransition, places_at}
 use Rattle.wax_lazy.proofs.Tables.{place_inside, says_at}
 use Rattle.wax_lazy.proofs.cache.Cache.known.Goals as goal
 

@@ -1,5 +1,5 @@
 use Rattle.std.proofs.Common.{◌/◌}
-use Rattle.wax_lazy.specs.inner.Table.{places_at}
+use Rattle.wax_states.specs.States.{places_at}
 use Rattle.wax_lazy.proofs.Tables.{wide_says}
 use Rattle.wax_lazy.proofs.cache.Cache.known_char.Goals as goal
 

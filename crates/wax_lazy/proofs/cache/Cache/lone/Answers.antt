@@ -1,5 +1,6 @@
 use Rattle.std.proofs.Common.{◌≡◌, ◌∙◌, ◌/◌, ap, sym, subst, length, arith}
-use Rattle.wax_lazy.specs.inner.Table.{IsJoinOf, own_in, places_at}
+use Rattle.wax_lazy.specs.inner.Table.{IsJoinOf, own_in}
+use Rattle.wax_states.specs.States.{places_at}
 use Rattle.wax_lazy.proofs.Tables.{only_item, rest_at}
 use Rattle.wax_lazy.proofs.cache.Cache.lone.Goals as goal
 

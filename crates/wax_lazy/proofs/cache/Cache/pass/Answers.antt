@@ -1,6 +1,6 @@
 use Rattle.std.proofs.Common.{◌≡◌, ◌+◌, ◌/◌, ◌↔◌, ◌⊎◌, ◌∷◌, ◌<◌, ℕ, List, IfSome, true, drop, length, refl, sym, ◌∙◌, ap, subst, arith}
 use Rattle.wax_lazy.specs.inner.Cached.{DecidesLeft}
-use Rattle.wax_lazy.specs.inner.Table.{IsStatePlace, places_at, places_led}
+use Rattle.wax_states.specs.States.{IsStatePlace, places_at, places_led}
 use Rattle.wax_lazy.proofs.Lone.{all_on, both_on, check_within, lone_begins, lone_ends, next_placed, rest_on}
 use Rattle.wax_lazy.proofs.Walking.{next_of}
 use Rattle.wax_program.specs.Checks.{IsCheckAt}

@@ -1,6 +1,6 @@
 use Rattle.std.proofs.Common.{◌≡◌, ◌↔◌, ◌⊎◌, ◌<◌, ◌≤◌, ◌-◌, ℕ, List, IfSome, drop, get_or, length, true}
 use Rattle.wax_lazy.specs.inner.Cached.{IsCacheOf, IsLone}
-use Rattle.wax_lazy.specs.inner.Table.{IsStatePlace, places_led}
+use Rattle.wax_states.specs.States.{IsStatePlace, places_led}
 use Rattle.wax_program.specs.Checks.{IsCheckAt}
 use Rattle.wax_program.specs.Machine.{Accepts}
 use Rattle.wax_program.specs.Threads.{AnyAmong}

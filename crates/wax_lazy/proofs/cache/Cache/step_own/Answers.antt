@@ -1,6 +1,7 @@
 use Rattle.std.proofs.Common.{◌∙◌, [], true, ap, sym, subst}
 use Rattle.wax_stepper.specs.Reached.{AreReached, taken_if}
-use Rattle.wax_lazy.specs.inner.Table.{IsDead, LeadOn, own_in, places_led}
+use Rattle.wax_lazy.specs.inner.Table.{own_in}
+use Rattle.wax_states.specs.States.{IsDead, LeadOn, places_led}
 use Rattle.wax_lazy.proofs.Tables.{all_leads, nowhere_dead}
 use Rattle.wax_lazy.proofs.cache.Cache.step_own.Goals as goal
 

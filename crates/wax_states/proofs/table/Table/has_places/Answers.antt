@@ -2,8 +2,8 @@ use Rattle.std.proofs.Common.{◌<◌, length, refl, sym, ◌∙◌, ap, arith}
 use Rattle.std.proofs.lemmas.Bool.Decides.{Decides-eqb}
 use Rattle.std.proofs.lemmas.Option.{slice_get_read}
 use Rattle.std.proofs.lemmas.Slice.Eq.{slice_eq-Decides}
-use Rattle.wax_lazy.specs.inner.Table.{places_in}
-use Rattle.wax_lazy.proofs.table.Table.has_places.Goals as goal
+use Rattle.wax_states.specs.States.{places_in}
+use Rattle.wax_states.proofs.table.Table.has_places.Goals as goal
 
 pub returns : goal.returns
 returns c = λ h.

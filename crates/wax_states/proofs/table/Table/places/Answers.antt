@@ -1,7 +1,7 @@
 use Rattle.std.proofs.Common.{length, refl, sym, ◌∙◌, ap}
 use Rattle.std.proofs.lemmas.Option.{slice_get_read}
-use Rattle.wax_lazy.specs.inner.Table.{places_in}
-use Rattle.wax_lazy.proofs.table.Table.places.Goals as goal
+use Rattle.wax_states.specs.States.{places_in}
+use Rattle.wax_states.proofs.table.Table.places.Goals as goal
 
 pub returns : goal.returns
 returns c =

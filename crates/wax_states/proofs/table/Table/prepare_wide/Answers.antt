@@ -1,7 +1,7 @@
 use Rattle.std.proofs.Common.{inr, refl, sym, subst}
-use Rattle.wax_lazy.specs.inner.Table.{AreEmpty}
-use Rattle.wax_lazy.proofs.Tables.{empty_replicate}
-use Rattle.wax_lazy.proofs.table.Table.prepare_wide.Goals as goal
+use Rattle.wax_states.specs.States.{AreEmpty}
+use Rattle.wax_states.proofs.Cells.{empty_replicate}
+use Rattle.wax_states.proofs.table.Table.prepare_wide.Goals as goal
 
 pub returns-in_ok-self-clause-wide : goal.returns-in_ok-self-clause-wide
 returns-in_ok-self-clause-wide c = inr (subst AreEmpty (sym (c.in_ok-self.ensures.items_if_clones_equal (λ y h. h))) (empty_replicate 4096 _ refl))

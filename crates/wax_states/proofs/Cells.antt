@@ -1,0 +1,44 @@
+-- What cells say.
+use Rattle.std.proofs.Common.{◌≡◌, ℕ, zero, suc, ◌+◌, ◌-◌, ◌*◌, ◌/◌, ◌%◌, ◌≤◌, inl, inr, List, Some, None, replicate, sym, ◌∙◌, ap, subst, arith}
+use Rattle.wax_states.specs.declared.table.State.{State}
+use Rattle.wax_states.specs.declared.table.WideCell.{WideCell}
+use Rattle.wax_states.specs.States.{AreEmpty, IsDead, IsTransition, LeadsTo, TakesAll}
+use Rattle.wax_program.specs.declared.instruction.Instruction.{Instruction}
+
+-- ---- where a cell leads
+pub leads_on : (code : List Instruction) (states : List State) (place : List ℕ) (c cell : ℕ) → IsTransition code states place c cell
+    → 3 ≤ cell → LeadsTo code states place c ((cell - 3) * 128)
+leads_on code states place c cell (inl e) h = absurd (omega (arith, e, h))
+leads_on code states place c cell (inr (inl d)) h = absurd (let e : cell ≡ 1 = d.0 in omega (arith, e, h))
+leads_on code states place c cell (inr (inr (inl t))) h = absurd (let e : cell ≡ 2 = t.0 in omega (arith, e, h))
+leads_on code states place c cell (inr (inr (inr l))) h =
+    let e : cell ≡ l.0 / 128 + 3 = l.1 in
+    let whole : l.0 % 128 ≡ 0 = l.2.placed.whole in
+    let same : l.0 ≡ (cell - 3) * 128 = omega (arith, e, whole) in
+    subst (LeadsTo code states place c) same l.2
+
+pub leads_nowhere : (code : List Instruction) (states : List State) (place : List ℕ) (c cell : ℕ) → IsTransition code states place c cell
+    → cell ≡ 1 → IsDead code place c
+leads_nowhere code states place c cell (inl e) h = absurd (omega (arith, e, h))
+leads_nowhere code states place c cell (inr (inl d)) h = d.1
+leads_nowhere code states place c cell (inr (inr (inl t))) h = absurd (let e : cell ≡ 2 = t.0 in omega (arith, e, h))
+leads_nowhere code states place c cell (inr (inr (inr l))) h = absurd (let e : cell ≡ l.0 / 128 + 3 = l.1 in omega (arith, e, h))
+
+pub leads_everywhere : (code : List Instruction) (states : List State) (place : List ℕ) (c cell : ℕ) → IsTransition code states place c cell
+    → cell ≡ 2 → TakesAll code place c
+leads_everywhere code states place c cell (inl e) h = absurd (omega (arith, e, h))
+leads_everywhere code states place c cell (inr (inl d)) h = absurd (let e : cell ≡ 1 = d.0 in omega (arith, e, h))
+leads_everywhere code states place c cell (inr (inr (inl t))) h = t.1
+leads_everywhere code states place c cell (inr (inr (inr l))) h = absurd (let e : cell ≡ l.0 / 128 + 3 = l.1 in omega (arith, e, h))
+
+-- ---- empty cells
+some_cell : {w v : WideCell} → Some w ≡ Some v → w ≡ v
+some_cell e = cc
+
+no_cell : {w : WideCell} → None ≡ Some w → ⊥
+no_cell e = cc
+
+pub empty_replicate : (n : ℕ) (w : WideCell) → w.cell ≡ 0 → AreEmpty (replicate n w)
+empty_replicate zero w e i v is = absurd (no_cell is)
+empty_replicate (suc n) w e zero v is = sym (ap (λ z. z.cell) (some_cell is)) ∙ e
+empty_replicate (suc n) w e (suc i) v is = empty_replicate n w e i v is

@@ -1,0 +1,94 @@
+-- States, which are places that were reached, and where characters lead from them.
+use Rattle.std.specs.Prelude.{◌≡◌, ℕ, ◌+◌, ◌/◌, ◌%◌, ◌<◌, ◌⊎◌, ◌↔◌, Bool, List, [], ◌∷◌, Option, Some}
+use Rattle.std.specs.Prelude.{None, length, slice_get, slice_set}
+use Rattle.wax_states.specs.declared.table.Next.{Next}
+use Rattle.wax_states.specs.declared.table.Next.TheVariants.{To, Nothing, Everything}
+use Rattle.wax_states.specs.declared.table.State.{State}
+use Rattle.wax_states.specs.declared.table.WideCell.{WideCell}
+use Rattle.wax_program.specs.declared.instruction.Instruction.{Instruction}
+use Rattle.wax_program.specs.Threads.{AnyAmong}
+
+-- the places of a state, or none
+abbrev pub places_in : Option State → List ℕ
+places_in (Some s) = s.places.items
+places_in None = []
+
+-- the places of the state with this number
+abbrev pub places_at : List State → ℕ → List ℕ
+places_at states t = places_in (slice_get states t)
+
+-- the places of the state whose cells begin at `at`, if there is one
+abbrev pub places_led : List State → Option ℕ → List ℕ
+places_led states (Some at) = places_at states (at / 128)
+places_led states None = []
+
+-- some of the places accept a text that begins with the character exactly where some of the others accept
+-- the rest
+abbrev pub LeadOn : List Instruction → ℕ → List ℕ → List ℕ → Type 0
+LeadOn code c places others = (s : List ℕ) → AnyAmong code places (c ∷ s) ↔ AnyAmong code others s
+
+-- the state with this number says now whether a text that ends there is accepted
+abbrev pub IsSettled : List State → List State → ℕ → Bool → Type 0
+IsSettled old new t b =
+    (s : State) × (slice_get old t ≡ Some s)
+    × (new ≡ slice_set old t (record { places = s.places; own = s.own; rest = s.rest; accepts = Some b }))
+
+-- a state's cells begin at the place
+pub record IsStatePlace (states : List State) (at : ℕ) : Type 0 where
+  pub whole : at % 128 ≡ 0
+  pub kept : at / 128 < length states
+
+-- from the places the character leads to the state whose cells begin at `at`
+pub record LeadsTo (code : List Instruction) (states : List State) (places : List ℕ) (c at : ℕ) : Type 0 where
+  pub placed : IsStatePlace states at
+  pub leads : LeadOn code c places (places_at states (at / 128))
+
+-- from the places no text is accepted that begins with the character
+abbrev pub IsDead : List Instruction → List ℕ → ℕ → Type 0
+IsDead code places c = (s : List ℕ) → AnyAmong code places (c ∷ s) → ⊥
+
+-- from the places every text is accepted that begins with the character
+abbrev pub TakesAll : List Instruction → List ℕ → ℕ → Type 0
+TakesAll code places c = (s : List ℕ) → AnyAmong code places (c ∷ s)
+
+-- where the cells of the next state begin, if there is one
+abbrev pub led_of : Next → Option ℕ
+led_of (To at) = Some at
+led_of Nothing = None
+led_of Everything = None
+
+-- the cell of a character that leads there
+abbrev pub cell_of_next : Next → ℕ
+cell_of_next (To at) = at / 128 + 3
+cell_of_next Nothing = 1
+cell_of_next Everything = 2
+
+-- where the character leads from the places, or that the rest of the text doesn't matter
+abbrev pub LeadsNext : List Instruction → List State → List ℕ → ℕ → Next → Type 0
+LeadsNext code states places c (To at) = LeadsTo code states places c at
+LeadsNext code states places c Nothing = IsDead code places c
+LeadsNext code states places c Everything = TakesAll code places c
+
+-- the cell is empty, or says where the character leads from the places
+abbrev pub IsTransition : List Instruction → List State → List ℕ → ℕ → ℕ → Type 0
+IsTransition code states places c cell =
+    (cell ≡ 0) ⊎ (((cell ≡ 1) × IsDead code places c) ⊎ (((cell ≡ 2) × TakesAll code places c)
+    ⊎ ((at : ℕ) × (cell ≡ at / 128 + 3) × LeadsTo code states places c at)))
+
+-- each cell of a character past ASCII is empty
+abbrev pub AreEmpty : List WideCell → Type 0
+AreEmpty ws = (i : ℕ) (w : WideCell) → slice_get ws i ≡ Some w → w.cell ≡ 0
+
+-- this is the cell of the character in the state whose cells begin at `at`
+abbrev pub IsWideOf : ℕ → ℕ → ℕ → WideCell → Type 0
+IsWideOf at c cell w = (w.at ≡ at) × (w.character ≡ c) × (w.cell ≡ cell)
+
+-- the cell of the character in the state whose cells begin at `at` is among them
+abbrev pub HasWide : List WideCell → ℕ → ℕ → ℕ → Type 0
+HasWide ws at c cell = (i : ℕ) × (w : WideCell) × (slice_get ws i ≡ Some w) × IsWideOf at c cell w
+
+-- the cells are as they were, but that one of them may be that of the character in the state whose cells
+-- begin at `at`
+abbrev pub IsWrittenWide : List WideCell → List WideCell → ℕ → ℕ → ℕ → Type 0
+IsWrittenWide old new at c cell = (i : ℕ) (w : WideCell) → slice_get new i ≡ Some w
+    → (slice_get old i ≡ Some w) ⊎ IsWideOf at c cell w
