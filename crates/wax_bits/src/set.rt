@@ -36,6 +36,7 @@ impl Set {
         Ok(Set { words })
     }
 
+    /// Returns whether the place is in the set.
     pub fn contains(&self, at: usize) -> bool
         requires { at < length self.now }
         ensures { result ≡ slice_index_or self.now at false }
@@ -43,6 +44,7 @@ impl Set {
         (self.words[at / 64] >> (at % 64)) & 1 == 1
     }
 
+    /// Inserts a place.
     pub fn insert(&mut self, at: usize)
         requires { at < length self.old }
         ensures { self.new ≡ slice_set self.old at true }
@@ -51,6 +53,7 @@ impl Set {
         self.words[at / 64] = word | 1u64 << (at % 64);
     }
 
+    /// Removes a place, if it is in the set.
     pub fn remove(&mut self, at: usize)
         requires { at < length self.old }
         ensures { self.new ≡ slice_set self.old at false }

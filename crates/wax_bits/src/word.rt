@@ -46,6 +46,7 @@ impl Word {
         self.bits == bits
     }
 
+    /// Returns whether the place is in the set.
     #[inline]
     pub fn contains(&self, at: usize) -> bool
         requires { at < length self.now }
@@ -54,6 +55,7 @@ impl Word {
         (self.bits >> (at % 64)) & 1 == 1
     }
 
+    /// Inserts a place.
     #[inline]
     pub fn insert(&mut self, at: usize)
         requires { at < length self.old }
@@ -62,6 +64,7 @@ impl Word {
         self.bits = self.bits | 1u64 << (at % 64);
     }
 
+    /// Removes a place, if it is in the set.
     #[inline]
     pub fn remove(&mut self, at: usize)
         requires { at < length self.old }
