@@ -1,7 +1,7 @@
 //! The components of a glob.
 ghost use Rattle.std.specs.Prelude.{◌≡◌, All, IfOk, MatchOption, if◌then◌else◌, false, true};
 ghost use Rattle.std.specs.Prelude.{chars, fold, string_bytes};
-ghost use Rattle.std.specs.List.{list_all, position_or_len};
+ghost use Rattle.std.specs.List.{flat_map, list_all, position_or_len};
 ghost use Rattle.wax_components.specs.Parts.{IsComponent, components, components_in, is_semantic, joint_span};
 ghost use Rattle.wax_components.specs.Parts.{literals_text};
 ghost use Rattle.wax_components.specs.inner.Dots.{dot_after, dots_of};
@@ -14,7 +14,7 @@ use std::alloc::{AllocError, Global};
 use std::marker::Model;
 use wax_fold::ConcatenationTree;
 use wax_query::diagnostics::{NoMemory, Span, SpanExt};
-use wax_token::token::{Annotation, ExpressionMetadata, Token};
+use wax_token::token::{Annotation, ExpressionMetadata, Literal, Token};
 
 /// A component of a glob: the tokens between two boundaries, or a single `**`. Contracts see the
 /// tokens.
@@ -108,6 +108,23 @@ impl<'i, 't, A> Model for LiteralSequence<'i, 't, A> {
 }
 
 impl<'i, 't, A> LiteralSequence<'i, 't, A> {
+    /// Returns the literals from left to right.
+    ///
+    /// # Errors
+    ///
+    /// Returns `NoMemory` if allocation fails.
+    pub fn literals(&self, alloc: Global) -> Result<Vec<&'i Literal<'t>>, NoMemory>
+        ensures { IfOk result (λ literals. flat_map (λ literal. literal.now.1) literals.items ≡ self.now) }
+    {
+        let mut literals = Vec::new(alloc);
+        for token in self.tokens {
+            if let Some(literal) = token.as_literal() {
+                literals.push(literal)?;
+            }
+        }
+        Ok(literals)
+    }
+
     /// Returns the joined texts of the literals.
     ///
     /// # Errors
