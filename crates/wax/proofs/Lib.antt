@@ -1,3 +1,4 @@
+pub mod Filters
 mod Folders
 pub mod GlobWalks
 pub mod Globs

@@ -11,7 +11,7 @@ ghost use Rattle.wax_tree.specs.Depths.{behavior_at};
 ghost use Rattle.wax_tree.specs.Prefix.{from_last};
 ghost use Rattle.wax_tree.specs.declared.behavior.DepthBehavior.TheVariants.{Unbounded};
 ghost use Rattle.wax_walk.specs.Known.{StaysKnown};
-ghost use Rattle.wax.specs.GlobView.{HasCaptures, IsKept, IsMeant};
+ghost use Rattle.wax.specs.GlobView.{HasCaptures, IsMeant};
 ghost use Rattle.wax.specs.GlobWalks.{BeginsGlob, IsPlan, origin_from, within};
 
 use crate::glob::Glob;
@@ -22,6 +22,7 @@ use wax_exclude::{LeadingComponent, PrefixNames, collect_excluding, leading, pre
 use wax_filter::filter::SeparatingFilter;
 use wax_glob_walk::{GlobEntry, walk_of};
 use wax_query::diagnostics::NoMemory;
+use wax_token::token::{ExpressionMetadata, Token};
 use wax_tree::{DepthRange, WalkBehavior, WalkTree};
 use wax_walk::{Entry, Exclude, FileIterator, TreeEntry, WalkError};
 
@@ -101,14 +102,6 @@ impl<'t> Glob<'t> {
         walk_in(alloc, self, directory, start, behavior.into())
     }
 
-    // Puts the glob's invariant into a contract: its tree keeps the rules, or is that of the empty
-    // expression.
-    fn keeps_rules(&self)
-        ensures { IsKept self.now.tree }
-    {
-        let _compiled = &self.compiled;
-    }
-
     // Lowers the greatest depth of `range` to that of the glob.
     fn within(&self, range: DepthRange) -> DepthRange
         ensures { (depth : Bounds) × Depth self.now.tree depth
@@ -125,17 +118,16 @@ impl<'t> Glob<'t> {
     }
 }
 
-// Computes what a walk needs of the glob: the names of its prefix, and its leading components.
+// Computes what a walk needs of the glob's token: the names of its prefix, and its leading components.
 // Returns `None` if two `/` are side by side in the prefix: no path of names matches then.
 fn needs<'g, 't>(
     alloc: Global,
-    glob: &'g Glob<'t>,
+    token: &'g Token<'t, ExpressionMetadata>,
 ) -> Result<Option<(PrefixNames, Vec<LeadingComponent<'g, 't>>)>, NoMemory>
-    ensures { IfOk result (λ plan. (taken : ℕ) (prefix : List ℕ) → Prefix glob.now.tree taken prefix
+    ensures { IfOk result (λ plan. (taken : ℕ) (prefix : List ℕ) → Prefix token.now taken prefix
         → MatchOption plan (HasEmptyName prefix) (λ r.
-        IsPlan glob.now.tree prefix r.0.is_rooted (from_last r.0.names.items) r.1.items)) }
+        IsPlan token.now prefix r.0.is_rooted (from_last r.0.names.items) r.1.items)) }
 {
-    let token = glob.token();
     match prefix_names_of(alloc, token)? {
         Some(prefix_names) => {
             let leading = leading(alloc, token, prefix_names.is_rooted)?;
@@ -181,9 +173,8 @@ fn walk_in<'g, 't, D: Directory>(
     ensures known { StaysKnown (IsMatchedEntry (IsMeant glob.now) (HasCaptures glob.now))
         (⟦<GlobWalk<'g, 't, D> as FileIterator>⟧.known result) }
 {
-    glob.keeps_rules();
     let range = glob.within(behavior.range());
-    match needs(alloc, glob) {
+    match needs(alloc, glob.token()) {
         Ok(Some((prefix_names, leading))) => {
             let walk = walk_along(alloc, directory, start, prefix_names, range);
             walk_of(alloc, walk, leading, glob)
