@@ -14,9 +14,10 @@ use Rattle.wax_token.specs.Syntax.{Tree}
 -- excluded and each error in its place. For a chain of calls, `ComesWanted` states what is to come, and
 -- `ComesExcluding` what a filter removes from it.
 pub use Rattle.wax_directory.specs.Law.{Law}
+pub use Rattle.wax_exclude.specs.Due.{KeepsDue}
 pub use Rattle.wax_exclude.specs.Feeds.{FeedsWanted}
 pub use Rattle.wax_exclude.specs.Ignored.{is_ignored}
-pub use Rattle.wax_exclude.specs.GlobRequests.{ComesExcluding, ComesWanted, KeepsWanted}
+pub use Rattle.wax_exclude.specs.GlobRequests.{ComesExcluding, ComesWanted, KeepsWanted, request_due}
 pub use Rattle.wax_exclude.specs.Walked.{MayList, wanted_entries}
 pub use Rattle.wax_exclude.specs.Wanted.{Wanted, is_wanted}
 pub use Rattle.wax_tree.specs.Whole.{is_in, whole_at}

@@ -19,6 +19,7 @@ pub use Rattle.wax_directory.specs.Turns.{failing_inside, fails_after, starves_a
 pub use Rattle.wax_directory.specs.declared.directory.FileType.{FileType}
 pub use Rattle.wax_directory.specs.declared.directory.FileType.TheVariants.{File, Folder, Link}
 pub use Rattle.wax_exclude.specs.Covers.{covers_test}
+pub use Rattle.wax_exclude.specs.Due.{Due, KeepsDue, gives, lacks_memory, over_budget}
 pub use Rattle.wax_exclude.specs.Excluded.{excluded_mark}
 pub use Rattle.wax_exclude.specs.Feeds.{FeedsByRequest, FeedsByRules, FeedsWanted, feed_of, request_feed}
 pub use Rattle.wax_exclude.specs.Law.{GivesWanted, ListsFew, WantsNothing}
@@ -28,8 +29,8 @@ pub use Rattle.wax_exclude.specs.TreeRequests.{WantsUnfiltered, is_unfiltered, t
 pub use Rattle.wax_exclude.specs.Prefix.{HasEmptyName, PrefixSplitsInto}
 pub use Rattle.wax_exclude.specs.Premises.{BeginsWith, IsUnmeant}
 pub use Rattle.wax_exclude.specs.GlobRequests.{AreRulesOf, ComesExcluding, ComesWanted, IsRuleOf, KeepsWanted}
-pub use Rattle.wax_exclude.specs.GlobRequests.{CanBegin, GlobRequest, gives, goes, is_beyond, lacks_memory}
-pub use Rattle.wax_exclude.specs.GlobRequests.{over_budget, request_excluding, request_pending, request_walk}
+pub use Rattle.wax_exclude.specs.GlobRequests.{CanBegin, GlobRequest, goes, is_beyond, request_due}
+pub use Rattle.wax_exclude.specs.GlobRequests.{request_excluding, request_pending, request_walk}
 pub use Rattle.wax_exclude.specs.Walked.{glob_walk, wanted_entries, origin_walk}
 pub use Rattle.wax_exclude.specs.Wanted.{Filter, filter_mark, is_kept_entry, not_ignored, not_meant}
 pub use Rattle.wax_filter.specs.Feeding.{AtMostCancels, ByEntry, ByItem, Feeds, NextFiltrate, OnlyCancels}

@@ -16,7 +16,7 @@ use Rattle.wax_directory.specs.Shown.{Items, Shown, a_folder}
 use Rattle.wax_directory.specs.Nodes.{with_entry, shown_of, items_shown, node_layer, entry_node, held_of}
 use Rattle.wax_directory.specs.Nodes.{child_of, and_below, node_at, name_before, names_of, Reached, to_node}
 use Rattle.wax_directory.specs.Nodes.{named_before, named_in, below_layer, onward, reached, shown_reached}
-use Rattle.wax_directory.specs.TreeLaw.{layer_shown, shown_layer, item_layer_shown, item_layer}
+use Rattle.wax_directory.specs.inner.Reaching.{layer_shown, shown_layer, item_layer_shown, item_layer}
 use Rattle.wax_directory.specs.Copies.{names_at, IsCopy}
 use Rattle.wax_directory.proofs.Finding.{out_entry, out_folder, folder_held}
 

@@ -14,7 +14,7 @@ use Rattle.wax_directory.specs.Shown.{Items, end, misnamed, Shown, Listed, named
 use Rattle.wax_directory.specs.Names.{is_plain}
 use Rattle.wax_directory.specs.Nodes.{kind_of, with_plain, with_entry, shown_of, item_shown, items_shown}
 use Rattle.wax_directory.specs.Nodes.{listed_layer, listed_item}
-use Rattle.wax_directory.specs.TreeLaw.{layer_shown, shown_layer, item_layer_shown, item_layer}
+use Rattle.wax_directory.specs.inner.Reaching.{layer_shown, shown_layer, item_layer_shown, item_layer}
 
 -- the first of some items, and those after it
 abbrev pub Begins : Items → Listed → Items → Type 0

@@ -22,7 +22,7 @@ use Rattle.wax_directory.specs.Nodes.{and_below, node_at, name_before, names_of,
 use Rattle.wax_directory.specs.Nodes.{HasDuplicateName, Reached, to_node, named_before, named_in, below_layer}
 use Rattle.wax_directory.specs.Nodes.{onward, reached}
 use Rattle.wax_directory.specs.inner.Places.{layer_has_name, has_name, to_reached}
-use Rattle.wax_directory.specs.TreeLaw.{node_at-append}
+use Rattle.wax_directory.specs.inner.Reaching.{node_at-append}
 use Rattle.std.proofs.lemmas.Slice.Eq.{bytes_eq-Decides}
 use Rattle.wax_directory.proofs.PathNames.{bytes_eq-swap, distinct_twice}
 

@@ -26,7 +26,7 @@ use Rattle.wax_directory.specs.Nodes.{entry_node, held_layer, name_before, names
 use Rattle.wax_directory.specs.Nodes.{to_node, to_nothing, named_before, named_in, below_layer, onward, reached}
 use Rattle.wax_directory.specs.Nodes.{shown_reached}
 use Rattle.wax_directory.specs.Trees.{shown_in, tree_shows}
-use Rattle.wax_directory.specs.TreeLaw.{layer_shown, shown_layer, item_layer_shown, item_layer}
+use Rattle.wax_directory.specs.inner.Reaching.{layer_shown, shown_layer, item_layer_shown, item_layer}
 use Rattle.wax_directory.specs.PathTails.{PathTail, tail, leads_on, first_name, rest_after, below_name, rests, holds_name}
 use Rattle.wax_directory.specs.PathTails.{added, with_new, names_by, kind_by, listing_by, HoldsBy, StandsBy}
 use Rattle.wax_directory.specs.PathTails.{tails_from, tails_to}

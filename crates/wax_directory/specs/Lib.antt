@@ -10,6 +10,7 @@ pub mod PathTails
 pub mod Copies
 pub mod Trees
 pub mod TreeCursors
+pub mod PlainNames
 pub mod TreeLaw
 pub mod Turns
 pub mod Starved

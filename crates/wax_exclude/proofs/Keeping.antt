@@ -17,7 +17,7 @@ use Rattle.wax_exclude.specs.Premises.{IsPlainShown}
 use Rattle.wax_exclude.specs.Wanted.{is_kept_entry}
 use Rattle.wax_exclude.proofs.ListingLines.{says_lines}
 use Rattle.wax_exclude.specs.Held.{HasLines}
-use Rattle.wax_exclude.specs.Kept as K
+use Rattle.wax_exclude.specs.Due as due
 use Rattle.wax_exclude.specs.Kept.{KeepsUnignored, PlainRequest, requested_plain, unignored_walk}
 use Rattle.wax_exclude.specs.declared.rules.IgnoreLine.{IgnoreLine}
 use Rattle.wax_exclude.specs.inner.Listed.{listed_mark}
@@ -50,11 +50,11 @@ module _ (gives_unignored : GivesUnignored) (loses_ignored : LosesIgnored) where
   pub keeps_unignored : (tells : List (List ℕ) → Type 0) (request : PlainRequest) (s : Shown) (listed : List (List ℕ)) (xs : List Given) → IsPlainShown s
       → GaveAll tells (request.range.budget + 1) (unignored_pending request s listed) xs → KeepsUnignored tells request s listed (filter is_kept xs)
   keeps_unignored tells request s listed xs plain (whole e t) =
-      K.gives (ap (filter is_kept) e)
+      due.gives (ap (filter is_kept) e)
       (kept_entries xs ∙ (ap (filter is_kept_entry) e ∙ gives_unignored request.lines request.range request.start s plain)) t
       (loses_ignored request.lines request.range request.start s plain)
   keeps_unignored tells request s listed xs plain (lacks_memory c) =
-      K.lacks_memory (cut_kept _ no_memory xs refl c)
+      due.lacks_memory (cut_kept _ no_memory xs refl c)
   keeps_unignored tells request s listed xs plain (over_budget path depth few contains c) =
       let l : request.range.budget + 1 ≤ count_shown s = few in
-      K.over_budget path depth (omega (arith, l)) (cut_kept _ (fault Budget path depth) xs refl c)
+      due.over_budget path depth (omega (arith, l)) (cut_kept _ (fault Budget path depth) xs refl c)

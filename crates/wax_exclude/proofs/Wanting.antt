@@ -23,7 +23,7 @@ use Rattle.wax_exclude.specs.Premises.{IsWellNamed}
 use Rattle.wax_exclude.specs.Walked.{glob_walk, wanted_entries, origin_walk, MayList}
 use Rattle.wax_exclude.specs.Wanted.{Filter, filter_rules, is_kept_entry, stacked, rules_of}
 use Rattle.wax_glob_walk.specs.Programs.{any_mark}
-use Rattle.wax_exclude.specs.GlobRequests as T
+use Rattle.wax_exclude.specs.Due as due
 use Rattle.wax_exclude.specs.GlobRequests.{AreRulesOf, ComesExcluding, IsRuleOf, GlobRequest, request_excluding, is_beyond}
 use Rattle.wax_exclude.specs.GlobRequests.{CanBegin, goes, unmeant, request_walk, request_items, request_pending, ComesWanted, KeepsWanted}
 use Rattle.wax_glob_walk.proofs.Combining.{ruled}
@@ -172,11 +172,11 @@ module _ (gives_wanted : GivesWanted) (lists_few : ListsFew) (wants_nothing : Wa
       → GaveAll tells (request.walked.budget + 1) (request_pending request s listed) xs
       → KeepsWanted tells request s listed (filter is_kept xs)
   keeps_wanted tells request s listed xs can named (whole e t) =
-      T.gives (ap (filter is_kept) e)
+      due.gives (ap (filter is_kept) e)
       (kept_entries xs ∙ (ap (filter is_kept_entry) e ∙ entries_wanted request s can named (is_beyond request) refl)) t
       (few_listed request s can named (is_beyond request) refl)
   keeps_wanted tells request s listed xs can named (lacks_memory c) =
-      T.lacks_memory (cut_kept _ no_memory xs refl c)
+      due.lacks_memory (cut_kept _ no_memory xs refl c)
   keeps_wanted tells request s listed xs can named (over_budget path depth few contains c) =
-      T.over_budget path depth (items_few request s (is_beyond request) few)
+      due.over_budget path depth (items_few request s (is_beyond request) few)
       (cut_kept _ (fault Budget path depth) xs refl c)

@@ -1,6 +1,6 @@
 -- What a walk of a glob, without what filters exclude, yields to its end.
 use Rattle.std.specs.Prelude.{◌≡◌, ℕ, ◌+◌, ◌<◌, Bool, if◌then◌else◌, nat_lt, ⊤, List, [], ◌∷◌, ◌++◌}
-use Rattle.std.specs.Prelude.{All, filter, length}
+use Rattle.std.specs.Prelude.{All, length}
 use Rattle.wax_directory.specs.Law.{Law}
 use Rattle.wax_directory.specs.Shown.{Shown}
 use Rattle.wax_token.specs.Reads.{Span}
@@ -8,15 +8,14 @@ use Rattle.wax_tree.specs.Begins.{Origin}
 use Rattle.wax_tree.specs.declared.steps.DepthRange.{DepthRange}
 use Rattle.wax_tree.specs.Plain.{count_shown}
 use Rattle.wax_walk.specs.Candidates.{Candidate}
-use Rattle.wax_walk.specs.Collected.{IsCutShort}
-use Rattle.wax_walk.specs.declared.error.FaultKind.TheVariants.{Budget}
-use Rattle.wax_walk.specs.Forest.{Forest, nothing, Pending, pending, preorder, listings}
-use Rattle.wax_walk.specs.Given.{Mark, Given, fault, no_memory, is_kept}
+use Rattle.wax_walk.specs.Forest.{Forest, nothing, Pending, pending, listings}
+use Rattle.wax_walk.specs.Given.{Mark, Given}
 use Rattle.wax_walk.specs.View.{WalkView}
 use Rattle.wax_exclude.specs.Candidates.{base}
+use Rattle.wax_exclude.specs.Due.{Due, KeepsDue}
 use Rattle.wax_exclude.specs.Premises.{CanWalk, IsUnmeant}
 use Rattle.wax_exclude.specs.Walked.{glob_walk, wanted_entries, MayList}
-use Rattle.wax_exclude.specs.Wanted.{Filter, Wanted, filter_mark, is_kept_entry}
+use Rattle.wax_exclude.specs.Wanted.{Filter, Wanted, filter_mark}
 
 -- ---- rules of filters
 
@@ -84,18 +83,17 @@ abbrev pub ComesExcluding : {D C : Type 0} → Law D C → Filter Span → WalkV
 ComesExcluding {D} law x inner outer = (d : D) (request : GlobRequest) → ComesWanted law d request inner
     → ComesWanted law d (request_excluding request (x ∷ [])) outer
 
--- A walk yielded these items: all that it keeps, whose entries are exactly the wanted ones, in order, and it
--- listed only folders that it may list; or a prefix of these and then one error, because allocation failed or
--- the budget was reached.
-pub data KeepsWanted (tells : List (List ℕ) → Type 0) (request : GlobRequest) (s : Shown)
-    (listed : List (List ℕ)) (ys : List Given) : Type 0 where
-  gives : ys ≡ filter is_kept (preorder (request_walk request s))
-      → filter is_kept_entry ys ≡ wanted_entries request.wanted request.asked request.origin s
-      → tells (listed ++ listings (request_walk request s))
-      → All (MayList request.wanted request.walked request.origin) (listings (request_walk request s))
-      → KeepsWanted tells request s listed ys
-  lacks_memory : IsCutShort (filter is_kept (preorder (request_walk request s))) no_memory ys
-      → KeepsWanted tells request s listed ys
-  over_budget : (path : List ℕ) (depth : ℕ) → request.walked.budget < count_shown s
-      → IsCutShort (filter is_kept (preorder (request_walk request s))) (fault Budget path depth) ys
-      → KeepsWanted tells request s listed ys
+-- what is due: the walk of the request, whose entries are exactly the wanted ones, in order; it lists only
+-- folders that it may list
+abbrev pub request_due : GlobRequest → Shown → Due
+request_due request s = record {
+  walk = request_walk request s;
+  entries = wanted_entries request.wanted request.asked request.origin s;
+  ListsRightly = All (MayList request.wanted request.walked request.origin) (listings (request_walk request s));
+  items = count_shown s;
+  budget = request.walked.budget;
+}
+
+-- a walk yielded these items: all that is due, or a prefix of these and then one error
+abbrev pub KeepsWanted : (List (List ℕ) → Type 0) → GlobRequest → Shown → List (List ℕ) → List Given → Type 0
+KeepsWanted tells request s listed ys = KeepsDue tells (request_due request s) listed ys

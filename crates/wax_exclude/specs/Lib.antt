@@ -12,6 +12,7 @@ pub mod Marks
 pub mod TreeRequests
 pub mod Prefix
 pub mod Premises
+pub mod Due
 pub mod GlobRequests
 pub mod Feeds
 pub mod Unignored

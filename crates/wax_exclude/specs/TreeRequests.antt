@@ -5,10 +5,10 @@ use Rattle.wax_token.specs.Reads.{Span}
 use Rattle.wax_token.specs.Syntax.{Tree, leaf, tree, concatenation, none, more}
 use Rattle.wax_tree.specs.declared.steps.DepthRange.{DepthRange}
 use Rattle.wax_tree.specs.Whole.{is_in, whole}
-use Rattle.wax_walk.specs.Given.{kept, alone, with_tree, Given, entry, fault, no_memory}
+use Rattle.wax_walk.specs.Given.{Given}
 use Rattle.wax_exclude.specs.GlobRequests.{GlobRequest, request_excluding}
 use Rattle.wax_exclude.specs.Walked.{wanted_entries}
-use Rattle.wax_exclude.specs.Wanted.{Filter, none_excludes}
+use Rattle.wax_exclude.specs.Wanted.{Filter, is_kept_where, none_excludes}
 
 -- `**`, which matches every text
 abbrev pub tree_alone : Tree Span
@@ -25,11 +25,7 @@ tree_request range start = record {
 
 -- an entry that is kept and that no filter excludes
 abbrev pub is_unfiltered : {A : Type 0} → List (Filter A) → Given → Bool
-is_unfiltered filters (entry kept f) = none_excludes filters (chars f.candidate)
-is_unfiltered filters (entry alone f) = false
-is_unfiltered filters (entry with_tree f) = false
-is_unfiltered filters (fault kind path depth) = false
-is_unfiltered filters no_memory = false
+is_unfiltered filters x = is_kept_where (λ f. none_excludes filters (chars f.candidate)) x
 
 -- of a plain walk with filters, the wanted entries are those of the whole walk that are in range and that no
 -- filter excludes, in order

@@ -11,19 +11,15 @@ use Rattle.wax_tree.specs.Prefix.{ArePlain, path_from}
 use Rattle.wax_tree.specs.Whole.{is_in, whole}
 use Rattle.wax_walk.specs.Candidates.{of_candidate}
 use Rattle.wax_walk.specs.Forest.{preorder, listings}
-use Rattle.wax_walk.specs.Given.{Facts, Mark, kept, alone, with_tree, Given, entry, fault, no_memory}
+use Rattle.wax_walk.specs.Given.{Facts, Mark, Given}
 use Rattle.wax_exclude.specs.Candidates.{candidate_at}
 use Rattle.wax_exclude.specs.Ignored.{Line, is_ignored, IgnoresBelow, ignore_mark}
 use Rattle.wax_exclude.specs.Premises.{IsPlainShown}
-use Rattle.wax_exclude.specs.Wanted.{is_kept_entry, stacked}
+use Rattle.wax_exclude.specs.Wanted.{is_kept_entry, is_kept_where, stacked}
 
 -- an entry that is kept and not ignored
 abbrev pub is_unignored : {A : Type 0} → List (Line A) → Given → Bool
-is_unignored lines (entry kept f) = not (is_ignored lines (chars f.candidate))
-is_unignored lines (entry alone f) = false
-is_unignored lines (entry with_tree f) = false
-is_unignored lines (fault kind path depth) = false
-is_unignored lines no_memory = false
+is_unignored lines x = is_kept_where (λ f. not (is_ignored lines (chars f.candidate))) x
 
 -- the filter of a list
 abbrev pub ignore_rules : {A : Type 0} → List (Line A) → List (Facts → Mark)

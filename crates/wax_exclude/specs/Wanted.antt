@@ -4,7 +4,7 @@ use Rattle.wax_token.specs.Decided.{means_test}
 use Rattle.wax_token.specs.Syntax.{Tree}
 use Rattle.wax_walk.specs.Candidates.{Candidate, of_candidate}
 use Rattle.wax_walk.specs.Forest.{Forest, filtered}
-use Rattle.wax_walk.specs.Given.{Facts, Mark, kept, alone, with_tree, Given, entry, fault, no_memory}
+use Rattle.wax_walk.specs.Given.{Facts, Mark, kept, Given, entry}
 use Rattle.wax_walk.specs.Given.{changed_by, cut_by}
 use Rattle.wax_exclude.specs.Ignored.{Line, is_ignored, ignore_mark}
 use Rattle.wax_exclude.specs.Marks.{glob_mark, not_mark}
@@ -29,21 +29,17 @@ abbrev pub none_excludes : {A : Type 0} → List (Filter A) → List ℕ → Boo
 none_excludes [] s = true
 none_excludes (x ∷ filters) s = not (excludes x s) && none_excludes filters s
 
-abbrev pub is_wanted : {A : Type 0} → Wanted A → Given → Bool
-is_wanted w (entry kept f) =
-    means_test w.glob false false (chars f.candidate) && none_excludes w.filters (chars f.candidate)
-is_wanted w (entry alone f) = false
-is_wanted w (entry with_tree f) = false
-is_wanted w (fault kind path depth) = false
-is_wanted w no_memory = false
+-- an entry that is kept, of which the test holds
+abbrev pub is_kept_where : (Facts → Bool) → Given → Bool
+is_kept_where test (entry kept f) = test f
+is_kept_where test x = false
 
--- an entry that is kept
 abbrev pub is_kept_entry : Given → Bool
-is_kept_entry (entry kept f) = true
-is_kept_entry (entry alone f) = false
-is_kept_entry (entry with_tree f) = false
-is_kept_entry (fault kind path depth) = false
-is_kept_entry no_memory = false
+is_kept_entry x = is_kept_where (λ f. true) x
+
+abbrev pub is_wanted : {A : Type 0} → Wanted A → Given → Bool
+is_wanted w x = is_kept_where (λ f. means_test w.glob false false (chars f.candidate)
+    && none_excludes w.filters (chars f.candidate)) x
 
 -- ---- filters one after another
 

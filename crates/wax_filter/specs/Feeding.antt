@@ -9,34 +9,33 @@ use Rattle.wax_filter.specs.declared.filter.separation.Separation.TheVariants.{F
 use Rattle.wax_filter.specs.declared.filter.tree_residue.TreeResidue.{TreeResidue}
 use Rattle.wax_filter.specs.Separating.{SeparatesBy, CancelsBy}
 
--- calls that yield these excluded items, one after another, lead from the state s to the state t
-abbrev pub PassesOver : {S G F R : Type 0} → (S → Option (Separation G F R) → S → Type 0) → S
-    → List (Product ResidueKind R) → S → Type 0
-PassesOver {S = S} feeds s [] t = s ≡ t
-PassesOver {S = S} feeds s (x ∷ xs) t = (u : S) × feeds s (Some (Residue x)) u × PassesOver feeds u xs t
-
 -- r is the item that is kept, or `None` at the end
 abbrev pub Keeps : {G F R : Type 0} → Option (Separation G F R) → Option F → Type 0
 Keeps None r = r ≡ None
 Keeps (Some (Filtrate x)) r = r ≡ Some x.inner
 Keeps (Some (Residue x)) r = ⊥
 
--- r is the first item that is kept, after any that are excluded, or `None` at the end
-abbrev pub NextFiltrate : {S G F R : Type 0} → (S → Option (Separation G F R) → S → Type 0) → S → Option F
-    → S → Type 0
-NextFiltrate {S = S} {G = G} {F = F} {R = R} feeds s r t = (xs : List (Product ResidueKind R)) × (u : S)
-    × (o : Option (Separation G F R)) × PassesOver feeds s xs u × feeds u o t × Keeps o r
+module _ {S G F R : Type 0} (feeds : S → Option (Separation G F R) → S → Type 0) where
+  -- calls that yield these excluded items, one after another, lead from the state s to the state t
+  abbrev pub PassesOver : S → List (Product ResidueKind R) → S → Type 0
+  PassesOver s [] t = s ≡ t
+  PassesOver s (x ∷ xs) t = (u : S) × feeds s (Some (Residue x)) u × PassesOver u xs t
 
--- the result of a layer for a result of the walk below it; a layer is a walk and a closure
-abbrev pub Turns : {L A B : Type 0} → (L → A → B → L → Type 0) → L → Option A → Option B → L → Type 0
-Turns turns s None r t = (r ≡ None) × (t ≡ s)
-Turns {B = B} turns s (Some x) r t = (y : B) × turns s x y t × (r ≡ Some y)
+  -- r is the first item that is kept, after any that are excluded, or `None` at the end
+  abbrev pub NextFiltrate : S → Option F → S → Type 0
+  NextFiltrate s r t = (xs : List (Product ResidueKind R)) × (u : S) × (o : Option (Separation G F R))
+      × PassesOver s xs u × feeds u o t × Keeps o r
 
--- a call of a layer: it calls the walk below it, and turns its result
-abbrev pub Feeds : {I F A B : Type 0} → (I → Option A → I → Type 0) → (I × F → A → B → I × F → Type 0)
-    → I × F → Option B → I × F → Type 0
-Feeds {I = I} {A = A} feeds turns s r t = (o : Option A) × (u : I)
-    × feeds s.0 o u × Turns turns (u, s.1) o r t
+module _ {L A B : Type 0} (turns : L → A → B → L → Type 0) where
+  -- the result of a layer for a result of the walk below it; a layer is a walk and a closure
+  abbrev pub Turns : L → Option A → Option B → L → Type 0
+  Turns s None r t = (r ≡ None) × (t ≡ s)
+  Turns s (Some x) r t = (y : B) × turns s x y t × (r ≡ Some y)
+
+module _ {I F A B : Type 0} (feeds : I → Option A → I → Type 0) (turns : I × F → A → B → I × F → Type 0) where
+  -- a call of a layer: it calls the walk below it, and turns its result
+  abbrev pub Feeds : I × F → Option B → I × F → Type 0
+  Feeds s r t = (o : Option A) × (u : I) × feeds s.0 o u × Turns turns (u, s.1) o r t
 
 -- what a closure returns for an entry, if there is one
 abbrev pub SaysAt : {F A B : Type 0} → (F → Bor A → Option B → F → Type 0) → F → Option A → Option B → F

@@ -11,7 +11,7 @@ use Rattle.wax_directory.specs.Answers.{listed_of}
 use Rattle.wax_directory.specs.Counting.{item_counts, no_counts}
 use Rattle.wax_directory.specs.Names.{is_plain}
 use Rattle.wax_directory.specs.Shown.{Items, Shown, ShowsIn, first_item}
-use Rattle.wax_directory.specs.TreeLaw.{not_plain, plain_of}
+use Rattle.wax_directory.specs.PlainNames.{not_plain, plain_of}
 use Rattle.wax_walk.specs.declared.entry.TreeEntry.{TreeEntry}
 use Rattle.wax_walk.specs.declared.error.FaultKind.{FaultKind}
 use Rattle.wax_walk.specs.declared.error.FaultKind.TheVariants as K

@@ -31,7 +31,7 @@ use Rattle.wax_tree.proofs.Showing.{from_last_end}
 use Rattle.wax_directory.specs.declared.directory.ListItem.{ListItem}
 use Rattle.wax_directory.specs.declared.directory.ListItem.TheVariants as I
 use Rattle.wax_directory.specs.Law.{Law}
-use Rattle.wax_directory.specs.TreeLaw.{plain_of}
+use Rattle.wax_directory.specs.PlainNames.{plain_of}
 
 -- ---- names
 

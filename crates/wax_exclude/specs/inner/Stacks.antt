@@ -2,6 +2,7 @@
 use Rattle.std.specs.Prelude.{◌≡◌, Bool, true, false, ◌&&◌, ⊤, List, [], ◌∷◌}
 use Rattle.wax_walk.specs.Forest.{Forest, nothing, item, lists}
 use Rattle.wax_walk.specs.Given.{Facts, Mark, kept, alone, with_tree, Given, entry, fault, no_memory}
+use Rattle.wax_exclude.specs.Wanted.{is_kept_where}
 
 abbrev pub keeps : Mark → Bool
 keeps kept = true
@@ -15,11 +16,7 @@ all_keep (rule ∷ rules) f = keeps (rule f) && all_keep rules f
 
 -- an entry that is kept, and that each filter keeps
 abbrev pub is_left : List (Facts → Mark) → Given → Bool
-is_left rules (entry kept f) = all_keep rules f
-is_left rules (entry alone f) = false
-is_left rules (entry with_tree f) = false
-is_left rules (fault kind path depth) = false
-is_left rules no_memory = false
+is_left rules x = is_kept_where (all_keep rules) x
 
 -- the rule excludes this entry with everything below it, or the item is an error
 abbrev pub LeavesOutWhole : (Facts → Mark) → Given → Type 0

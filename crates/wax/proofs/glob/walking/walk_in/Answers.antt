@@ -16,8 +16,8 @@ pub returns-in-Ok-Some-clause-begins : goal.returns-in-Ok-Some-clause-begins
 returns-in-Ok-Some-clause-begins g c =
     let glob = c.args.glob.now in
     let plans = subst (λ t. (taken : ℕ) (prefix : List ℕ) → Prefix t taken prefix →
-        MatchOption _ (HasEmptyName prefix) (λ r. IsPlan t prefix r.0.is_rooted (from_last r.0.names.items) r.1.items))
-        c.token.ensures.same c.in-Ok-Some.ensures in
+    MatchOption _ (HasEmptyName prefix) (λ r. IsPlan t prefix r.0.is_rooted (from_last r.0.names.items) r.1.items))
+    c.token.ensures.same c.in-Ok-Some.ensures in
     let start = c.args.start.now in
     let asked = behavior_range c.args.behavior in
     let w = c.within-range.ensures in
@@ -34,8 +34,8 @@ pub returns-in-Ok-None-clause-begins : goal.returns-in-Ok-None-clause-begins
 returns-in-Ok-None-clause-begins g c =
     let glob = c.args.glob.now in
     let plans = subst (λ t. (taken : ℕ) (prefix : List ℕ) → Prefix t taken prefix →
-        MatchOption _ (HasEmptyName prefix) (λ r. IsPlan t prefix r.0.is_rooted (from_last r.0.names.items) r.1.items))
-        c.token.ensures.same c.in-Ok-None.ensures in
+    MatchOption _ (HasEmptyName prefix) (λ r. IsPlan t prefix r.0.is_rooted (from_last r.0.names.items) r.1.items))
+    c.token.ensures.same c.in-Ok-None.ensures in
     let start = c.args.start.now in
     let asked = behavior_range c.args.behavior in
     let w = c.within-range.ensures in
