@@ -8,6 +8,7 @@ pub use Rattle.wax_error.specs.Numbers.{build_number}
 pub use Rattle.wax_error.specs.Refusals.{IsRuleRefusal}
 pub use Rattle.wax_error.specs.declared.build_error.BuildError.{BuildError}
 pub use Rattle.wax_error.specs.declared.build_error.BuildError.TheVariants.{Memory}
+pub use Rattle.wax_fold.specs.Bare.{bare}
 pub use Rattle.wax_fold.specs.Branches.{Branch, branch_of, composed, picked, tokens_in}
 pub use Rattle.wax_fold.specs.Folded.{Folding, folded, folded_each, listed_term}
 pub use Rattle.wax_fold.specs.Mapped.{Mapping, mapped}
@@ -29,7 +30,7 @@ pub use Rattle.wax_token.specs.Kinds.{is_capturing_leaf, is_concatenation, is_li
 pub use Rattle.wax_token.specs.Kinds.{is_rooting_leaf, is_separator, is_separator_leaf, is_tree_leaf}
 pub use Rattle.wax_token.specs.Kinds.{is_tree_wildcard, is_zero_or_more_leaf, leaf_boundary, literal_of}
 pub use Rattle.wax_token.specs.Kinds.{repetition_of, some_has_boundary, wildcard_of}
-pub use Rattle.wax_token.specs.Meaning.{HasNoSlash, Means, MeansEach, SameText, in_class}
+pub use Rattle.wax_token.specs.Meaning.{HasNoSlash, Means, MeansEach, MeansSome, SameText, in_class}
 pub use Rattle.wax_token.specs.Reads.{Around, Flags, NoWildcardFollows, Past, Place, Reads, ReadsBranches}
 pub use Rattle.wax_token.specs.Reads.{ReadsGlob, ReadsLeaf, ReadsToken, ReadsTokens, Span, all_spelled}
 pub use Rattle.wax_token.specs.Reads.{class_text, escapable, evaluation_text, group, in_alternation}

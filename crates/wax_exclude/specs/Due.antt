@@ -6,8 +6,8 @@ use Rattle.wax_walk.specs.Forest.{Forest, preorder, listings}
 use Rattle.wax_walk.specs.Given.{Given, fault, no_memory, is_kept}
 use Rattle.wax_exclude.specs.Wanted.{is_kept_entry}
 
--- what a walk is to yield, and the entries that it is to keep of these; what is claimed of the folders that it
--- lists; how many items the folders hold that it walks through, and how many it may take
+-- what a walk is to yield, and the entries that it is to keep of this; what is claimed of the folders that
+-- it lists; how many items there are in the folders that it walks through, and how many it may take
 pub record Due : Type 1 where
   pub walk : Forest Given
   pub entries : List Given
@@ -15,8 +15,9 @@ pub record Due : Type 1 where
   pub items : ℕ
   pub budget : ℕ
 
--- A walk yielded these items: all that it is to keep, with exactly these entries, and it listed the right
--- folders; or a prefix of these items and then one error, because allocation failed or the budget was reached.
+-- A walk yielded these items: all that is due, with exactly the entries that are, and it listed the right
+-- folders; or a prefix of what is due and then one error, because allocation failed or the budget was
+-- reached.
 pub data KeepsDue (tells : List (List ℕ) → Type 0) (due : Due) (listed : List (List ℕ)) (ys : List Given)
     : Type 0 where
   gives : ys ≡ filter is_kept (preorder due.walk) → filter is_kept_entry ys ≡ due.entries

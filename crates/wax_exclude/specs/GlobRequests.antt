@@ -89,7 +89,8 @@ abbrev pub request_due : GlobRequest → Shown → Due
 request_due request s = record {
   walk = request_walk request s;
   entries = wanted_entries request.wanted request.asked request.origin s;
-  ListsRightly = All (MayList request.wanted request.walked request.origin) (listings (request_walk request s));
+  ListsRightly = All (MayList request.wanted request.walked request.origin)
+      (listings (request_walk request s));
   items = count_shown s;
   budget = request.walked.budget;
 }

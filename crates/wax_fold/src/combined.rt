@@ -26,7 +26,8 @@ pub fn any<'t, T>(alloc: Global, all: Vec<T>) -> Result<Token<'t, ()>, NoMemory>
 where
     T: TokenTree<'t> + Drop,
     T::Annotation: Drop,
-    ensures token { IfOk result (λ any. any ≡ alternation tt (trees (map (λ t. bare (T.token t)) all.items))) }
+    ensures token { IfOk result (λ any.
+        any ≡ alternation tt (trees (map (λ t. bare (T.token t)) all.items))) }
     ensures means { IfOk result (λ any. (b a : Bool) (s : List ℕ)
         → Means any b a s ↔ MeansSome (trees (map T.token all.items)) b a s) }
 {

@@ -105,8 +105,8 @@ onward_same f g h e (to_node n) = e n
 onward_same f g h e to_nothing = refl
 onward_same f g h e to_sealed = refl
 
-pub reached-append : (names more : List (List ℕ)) (n : Node) → reached (names ++ more) n ≡ onward (reached more)
-    (reached names n)
+pub reached-append : (names more : List (List ℕ)) (n : Node)
+    → reached (names ++ more) n ≡ onward (reached more) (reached names n)
 reached-append [] more n = refl
 reached-append (x ∷ names) more n = onward_same (reached (names ++ more)) (reached more) (reached names)
     (reached-append names more) (below_layer x (out-Node n))
@@ -147,8 +147,8 @@ items_or d (a_folder l) = l
 items_or d s = d
 
 -- a node that shows a folder is a folder
-pub folder_layer : (n : Node) (l : Items) (k : Node-F Node TreeItem) → out-Node n ≡ k → layer_shown k ≡ a_folder l
-    → (items : List TreeItem) × (held n ≡ Some items) ×
+pub folder_layer : (n : Node) (l : Items) (k : Node-F Node TreeItem) → out-Node n ≡ k
+    → layer_shown k ≡ a_folder l → (items : List TreeItem) × (held n ≡ Some items) ×
     ((x : List ℕ) → below_layer x (out-Node n) ≡ named_in x items) × (items_shown items ≡ l)
 folder_layer n l (O.Folder items) is e =
     (items.items, ap held_layer is, (λ x. ap (below_layer x) is), ap (items_or end) e)
