@@ -1,9 +1,9 @@
 //! Copies of globs and of what they match.
 
-use crate::answer::Answer;
 use crate::globs::{add_is_match, add_texts};
 use std::alloc::Global;
 use wax::{CandidatePath, Glob, MatchedText, NoMemory, Program};
+use wax_test_kit::answer::Answer;
 
 /// Adds the texts of a match: those of a clone, those of an owned copy, and its own once it owns
 /// them.
@@ -65,11 +65,17 @@ pub fn add_globs(
     path: &str,
     made: &mut Answer,
 ) -> Result<(), NoMemory> {
-    let copy = glob.to_owned(alloc)?;
-    add_is_match(alloc, &copy, path, made)?;
+    match glob.to_owned(alloc) {
+        Ok(copy) => add_glob(alloc, &copy, path, made),
+        Err(error) => Err(error),
+    }
+}
+
+fn add_glob(alloc: Global, copy: &Glob<'_>, path: &str, made: &mut Answer) -> Result<(), NoMemory> {
+    add_is_match(alloc, copy, path, made)?;
     made.tab();
     made.add(copy.expression());
     made.tab();
-    made.debug(&copy);
+    made.debug(copy);
     Ok(())
 }

@@ -1,21 +1,24 @@
 //! Facts of globs, and of the paths that they match.
 
-use crate::answer::Answer;
-use crate::answers::add_within;
 use crate::kinds::GlobFact;
-use crate::row::Row;
-use crate::{copies, lines, matchers, memoryless, parts, refusals};
+use crate::{copies, lines, memoryless, parts, refusals};
 use std::alloc::Global;
 use wax::diagnostics::{LocatedError, Warning};
-use wax::query::{DepthVariance, When};
-use wax::{CandidatePath, Glob, MatchedText, NoMemory, Program};
+use wax::{BuildMatcher, CandidatePath, Glob, MatchedText, NoMemory, PathMatcher, Program};
+use wax_test_kit::answer::Answer;
+use wax_test_kit::rows::DataRow;
 
 /// Adds a fact of the expression's glob, or of the error why it can't be built.
 ///
 /// # Errors
 ///
 /// Returns `NoMemory` if allocation fails, and for some facts of a match if the glob doesn't match.
-pub fn answer(alloc: Global, fact: GlobFact, row: &Row, made: &mut Answer) -> Result<(), NoMemory> {
+pub fn answer(
+    alloc: Global,
+    fact: GlobFact,
+    row: &DataRow,
+    made: &mut Answer,
+) -> Result<(), NoMemory> {
     match Glob::new(alloc, row.input(0)) {
         Ok(glob) => match fact {
             GlobFact::Part(fact) => parts::answer(alloc, fact, row, glob, made),
@@ -28,14 +31,14 @@ pub fn answer(alloc: Global, fact: GlobFact, row: &Row, made: &mut Answer) -> Re
 fn of_glob(
     alloc: Global,
     fact: GlobFact,
-    row: &Row,
+    row: &DataRow,
     glob: &Glob<'_>,
     made: &mut Answer,
 ) -> Result<(), NoMemory> {
     match fact {
         GlobFact::Match => add_match(alloc, glob, row.input(1), made),
         GlobFact::IsMatch => add_is_match(alloc, glob, row.input(1), made),
-        GlobFact::Matcher => matchers::add_answers(alloc, glob, row.input(1), made),
+        GlobFact::Matcher => add_answers(alloc, glob, row.input(1), made),
         GlobFact::Visits => add_visits(alloc, glob, row, made),
         GlobFact::Captures => add_captures(alloc, glob, made),
         GlobFact::Semantic => add_semantic(alloc, glob, made),
@@ -55,7 +58,7 @@ fn of_glob(
 }
 
 /// Adds what doesn't allocate, or the outcomes of two calls of which each may fail to.
-fn add_built(alloc: Global, fact: GlobFact, row: &Row, glob: &Glob<'_>, made: &mut Answer) {
+fn add_built(alloc: Global, fact: GlobFact, row: &DataRow, glob: &Glob<'_>, made: &mut Answer) {
     match fact {
         GlobFact::IsMatchTwice => add_is_match_twice(alloc, glob, row.input(1), made),
         GlobFact::MatchTwice => add_match_twice(alloc, glob, row.input(1), made),
@@ -84,6 +87,25 @@ pub fn add_is_match<P: Program>(
     made: &mut Answer,
 ) -> Result<(), NoMemory> {
     made.digit(program.is_match(alloc, &CandidatePath::from(path))?);
+    Ok(())
+}
+
+/// Adds which of the paths one matcher of the glob or the set matches. The paths have spaces
+/// between them.
+///
+/// # Errors
+///
+/// Returns `NoMemory` if allocation fails.
+pub fn add_answers<'p, P: BuildMatcher<'p>>(
+    alloc: Global,
+    program: &'p P,
+    paths: &str,
+    made: &mut Answer,
+) -> Result<(), NoMemory> {
+    let mut matcher = program.build_matcher(alloc)?;
+    for path in paths.split(' ') {
+        made.digit(matcher.is_match(&CandidatePath::from(path))?);
+    }
     Ok(())
 }
 
@@ -143,14 +165,14 @@ pub fn add_texts(matched: &MatchedText<'_>, separator: &str, made: &mut Answer) 
 fn add_visits(
     alloc: Global,
     glob: &Glob<'_>,
-    row: &Row,
+    row: &DataRow,
     made: &mut Answer,
 ) -> Result<(), NoMemory> {
     let path = CandidatePath::from(row.input(1));
     let (is_match, visits) = glob.is_match_counted(alloc, &path)?;
     made.digit(is_match);
     made.tab();
-    add_within(made, visits, row.input(2));
+    made.within(visits, row.input(2));
     Ok(())
 }
 
@@ -217,35 +239,12 @@ pub fn add_facts<P: Program>(
     program: &P,
     made: &mut Answer,
 ) -> Result<(), NoMemory> {
-    add_depth(program.depth(), made);
+    made.depth(program.depth());
     made.tab();
     add_text(alloc, program, made)?;
     made.tab();
-    made.add(when(program.has_root()));
+    made.when(program.has_root());
     made.tab();
-    made.add(when(program.is_exhaustive()));
+    made.when(program.is_exhaustive());
     Ok(())
-}
-
-/// Adds a depth: `2`, `2..4` or `2..`.
-pub fn add_depth(depth: DepthVariance, made: &mut Answer) {
-    let lower = depth.lower();
-    made.show(&lower);
-    match depth.upper() {
-        None => made.add(".."),
-        Some(upper) if upper == lower => {}
-        Some(upper) => {
-            made.add("..");
-            made.show(&upper);
-        }
-    }
-}
-
-/// Returns `never`, `sometimes` or `always`.
-pub fn when(answer: When) -> &'static str {
-    match answer {
-        When::Never => "never",
-        When::Sometimes => "sometimes",
-        When::Always => "always",
-    }
 }

@@ -1,61 +1,22 @@
 //! Kinds of rows: which fact each shows, and how many inputs it has.
 
+use crate::kinds::GlobFact::{Lines, Memoryless, Part};
+use crate::{globs, lists, parts, sets};
+use wax::{Glob, NoMemory};
+use wax_test_kit::answer::Answer;
+use wax_test_kit::rows::{DataRow, RowKind, find_in};
+
 /// The fact that a row shows.
 #[derive(Clone, Copy)]
 pub enum Kind {
-    Tokens(TokensFact),
-    CheckedAny,
-    Program(ProgramFact),
+    Glob(GlobFact),
+    Empty,
+    Tree,
+    Diagnosed,
     Set(SetFact),
     Ignored,
     IgnoredTwice,
-    Path(PathFact),
-    Spans(SpansFact),
-    Diagnosed,
-    Matcher,
-    Glob(GlobFact),
     Unknown,
-}
-
-/// A fact of the root of an expression's tokens.
-#[derive(Clone, Copy)]
-pub enum TokenFact {
-    Depth,
-    Root,
-    Exhaustive,
-    Size,
-    Text,
-    Casing,
-    Tokens,
-    Components,
-    Literals,
-    Prefix,
-}
-
-/// A fact of tokens: of their root, or after they are split, copied or checked.
-#[derive(Clone, Copy)]
-pub enum TokensFact {
-    Root(TokenFact),
-    Alternatives,
-    Copies,
-    Owned,
-    Checked(CheckedFact),
-}
-
-/// A fact of tokens that were checked against the rules.
-#[derive(Clone, Copy)]
-pub enum CheckedFact {
-    Alternatives,
-    Parts,
-    Owned,
-}
-
-/// A fact of a program.
-#[derive(Clone, Copy)]
-pub enum ProgramFact {
-    Length,
-    Accepts,
-    Visits,
 }
 
 /// A fact of a set, and what the set is built from.
@@ -72,29 +33,6 @@ pub enum SetFact {
     Length,
     Empty,
     EmptyLength,
-}
-
-/// A fact of a text or a path.
-#[derive(Clone, Copy)]
-pub enum PathFact {
-    Escape,
-    Folded,
-    Meta,
-    Copies,
-    EmptyGlob,
-    TreeGlob,
-}
-
-/// A fact of spans, of labels, or of what errors print.
-#[derive(Clone, Copy)]
-pub enum SpansFact {
-    Union,
-    Piece,
-    BranchLabels,
-    PlaceLabels,
-    SpanLabels,
-    SplitLabels,
-    PrintedRefusals,
 }
 
 /// A fact of a glob, or of the error why it can't be built.
@@ -177,112 +115,18 @@ static KINDS: &[(&str, usize, Kind)] = &[
     ("printed", 1, Kind::Glob(GlobFact::Printed)),
     ("glob_copies", 2, Kind::Glob(GlobFact::Copies)),
     ("match_copies", 2, Kind::Glob(GlobFact::MatchCopies)),
-    (
-        "filter_lines",
-        3,
-        Kind::Glob(GlobFact::Lines(LinesCall::Filter)),
-    ),
-    (
-        "capture_lines",
-        3,
-        Kind::Glob(GlobFact::Lines(LinesCall::Capture)),
-    ),
-    (
-        "memoryless",
-        2,
-        Kind::Glob(GlobFact::Memoryless(Extent::Called)),
-    ),
-    (
-        "prepared",
-        2,
-        Kind::Glob(GlobFact::Memoryless(Extent::Prepared)),
-    ),
-    (
-        "partition",
-        1,
-        Kind::Glob(GlobFact::Part(PartFact::Partition)),
-    ),
-    ("prefix", 1, Kind::Glob(GlobFact::Part(PartFact::Prefix))),
-    (
-        "rest_or_empty",
-        1,
-        Kind::Glob(GlobFact::Part(PartFact::RestOrEmpty)),
-    ),
-    (
-        "rest_or_tree",
-        1,
-        Kind::Glob(GlobFact::Part(PartFact::RestOrTree)),
-    ),
-    ("rest", 2, Kind::Glob(GlobFact::Part(PartFact::Rest))),
-    ("again", 1, Kind::Glob(GlobFact::Part(PartFact::Again))),
-    ("owned_glob", 2, Kind::Glob(GlobFact::Part(PartFact::Owned))),
+    ("filter_lines", 3, Kind::Glob(Lines(LinesCall::Filter))),
+    ("capture_lines", 3, Kind::Glob(Lines(LinesCall::Capture))),
+    ("memoryless", 2, Kind::Glob(Memoryless(Extent::Called))),
+    ("prepared", 2, Kind::Glob(Memoryless(Extent::Prepared))),
+    ("partition", 1, Kind::Glob(Part(PartFact::Partition))),
+    ("prefix", 1, Kind::Glob(Part(PartFact::Prefix))),
+    ("rest_or_empty", 1, Kind::Glob(Part(PartFact::RestOrEmpty))),
+    ("rest_or_tree", 1, Kind::Glob(Part(PartFact::RestOrTree))),
+    ("rest", 2, Kind::Glob(Part(PartFact::Rest))),
+    ("again", 1, Kind::Glob(Part(PartFact::Again))),
+    ("owned_glob", 2, Kind::Glob(Part(PartFact::Owned))),
     ("diagnosed", 1, Kind::Diagnosed),
-    ("matcher_beside_run", 4, Kind::Matcher),
-    ("depth", 1, Kind::Tokens(TokensFact::Root(TokenFact::Depth))),
-    ("root", 1, Kind::Tokens(TokensFact::Root(TokenFact::Root))),
-    (
-        "exhaustive",
-        1,
-        Kind::Tokens(TokensFact::Root(TokenFact::Exhaustive)),
-    ),
-    ("size", 1, Kind::Tokens(TokensFact::Root(TokenFact::Size))),
-    ("text", 1, Kind::Tokens(TokensFact::Root(TokenFact::Text))),
-    (
-        "casing",
-        1,
-        Kind::Tokens(TokensFact::Root(TokenFact::Casing)),
-    ),
-    (
-        "tokens",
-        1,
-        Kind::Tokens(TokensFact::Root(TokenFact::Tokens)),
-    ),
-    (
-        "components",
-        1,
-        Kind::Tokens(TokensFact::Root(TokenFact::Components)),
-    ),
-    (
-        "literals",
-        1,
-        Kind::Tokens(TokensFact::Root(TokenFact::Literals)),
-    ),
-    (
-        "token_prefix",
-        1,
-        Kind::Tokens(TokensFact::Root(TokenFact::Prefix)),
-    ),
-    (
-        "token_alternatives",
-        1,
-        Kind::Tokens(TokensFact::Alternatives),
-    ),
-    ("token_copies", 2, Kind::Tokens(TokensFact::Copies)),
-    ("owned_tokens", 1, Kind::Tokens(TokensFact::Owned)),
-    (
-        "alternatives",
-        1,
-        Kind::Tokens(TokensFact::Checked(CheckedFact::Alternatives)),
-    ),
-    (
-        "checked_parts",
-        1,
-        Kind::Tokens(TokensFact::Checked(CheckedFact::Parts)),
-    ),
-    (
-        "owned_checked",
-        1,
-        Kind::Tokens(TokensFact::Checked(CheckedFact::Owned)),
-    ),
-    (
-        "owned_error",
-        1,
-        Kind::Tokens(TokensFact::Checked(CheckedFact::Owned)),
-    ),
-    ("checked_any", 1, Kind::CheckedAny),
-    ("length", 1, Kind::Program(ProgramFact::Length)),
-    ("program", 2, Kind::Program(ProgramFact::Accepts)),
-    ("program_visits", 3, Kind::Program(ProgramFact::Visits)),
     ("set", 1, Kind::Set(SetFact::Patterns)),
     ("sets", 1, Kind::Set(SetFact::Sets)),
     ("set_of_globs", 1, Kind::Set(SetFact::Globs)),
@@ -295,34 +139,32 @@ static KINDS: &[(&str, usize, Kind)] = &[
     ("nested_length", 1, Kind::Set(SetFact::Length)),
     ("empty_set", 1, Kind::Set(SetFact::Empty)),
     ("empty_length", 1, Kind::Set(SetFact::EmptyLength)),
-    ("escape", 1, Kind::Path(PathFact::Escape)),
-    ("folded", 2, Kind::Path(PathFact::Folded)),
-    ("meta", 1, Kind::Path(PathFact::Meta)),
-    ("path_copies", 2, Kind::Path(PathFact::Copies)),
-    ("empty_glob", 1, Kind::Path(PathFact::EmptyGlob)),
-    ("tree_glob", 1, Kind::Path(PathFact::TreeGlob)),
+    ("empty_glob", 1, Kind::Empty),
+    ("tree_glob", 1, Kind::Tree),
     ("ignored", 2, Kind::Ignored),
     ("ignored_twice", 2, Kind::IgnoredTwice),
     ("bad_line", 1, Kind::Ignored),
-    ("union", 2, Kind::Spans(SpansFact::Union)),
-    ("piece", 1, Kind::Spans(SpansFact::Piece)),
-    ("branch_labels", 3, Kind::Spans(SpansFact::BranchLabels)),
-    ("place_labels", 1, Kind::Spans(SpansFact::PlaceLabels)),
-    ("span_labels", 1, Kind::Spans(SpansFact::SpanLabels)),
-    ("split_labels", 2, Kind::Spans(SpansFact::SplitLabels)),
-    (
-        "printed_refusals",
-        1,
-        Kind::Spans(SpansFact::PrintedRefusals),
-    ),
 ];
 
-/// Returns how many inputs a row of the kind has, and the fact that it shows.
-pub fn find(name: &str) -> (usize, Kind) {
-    for (other, inputs, kind) in KINDS {
-        if *other == name {
-            return (*inputs, *kind);
+impl RowKind for Kind {
+    fn find(name: &str) -> (usize, Kind) {
+        find_in(KINDS, name, Kind::Unknown)
+    }
+
+    fn answer(self, rt: &HostRuntime, row: &DataRow, made: &mut Answer) -> Result<(), NoMemory> {
+        let (alloc, text) = (rt.alloc(), row.input(0));
+        match self {
+            Kind::Glob(fact) => globs::answer(alloc, fact, row, made),
+            Kind::Empty => parts::add_plain(alloc, Glob::empty(alloc), text, made),
+            Kind::Tree => parts::add_plain(alloc, Glob::tree(alloc), text, made),
+            Kind::Diagnosed => parts::add_diagnosed(alloc, row, made),
+            Kind::Set(fact) => sets::answer(alloc, fact, row, made),
+            Kind::Ignored => lists::answer(alloc, false, row, made),
+            Kind::IgnoredTwice => lists::answer(alloc, true, row, made),
+            Kind::Unknown => {
+                made.add("no such kind");
+                Ok(())
+            }
         }
     }
-    (1, Kind::Unknown)
 }

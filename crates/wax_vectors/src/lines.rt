@@ -1,13 +1,13 @@
 //! Calls of `filter_lines` and `capture_lines`, over a reader that yields one byte at a time.
 
-use crate::answer::Answer;
 use crate::kinds::LinesCall;
-use crate::row::Row;
 use std::alloc::{AllocError, Global};
 use std::io::{self, Cursor, Read};
 use wax::{
     CandidatePath, Counted, Glob, LinesError, NoMemory, Program, capture_lines, filter_lines,
 };
+use wax_test_kit::answer::Answer;
+use wax_test_kit::rows::DataRow;
 
 /// The greatest length, in bytes, of all lines that are written.
 const ROOM: usize = 1_024;
@@ -41,7 +41,7 @@ pub fn add_lines(
     alloc: Global,
     call: LinesCall,
     glob: &Glob<'_>,
-    row: &Row,
+    row: &DataRow,
     made: &mut Answer,
 ) -> Result<(), NoMemory> {
     let bytes = bytes_of(alloc, row.input(1))?;

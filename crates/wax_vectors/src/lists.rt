@@ -1,10 +1,10 @@
 //! Facts of ignore lists.
 
-use crate::answer::Answer;
-use crate::row::Row;
 use std::alloc::Global;
 use wax::walk::{IgnoreError, IgnoreList};
 use wax::{CandidatePath, NoMemory};
+use wax_test_kit::answer::Answer;
+use wax_test_kit::rows::DataRow;
 
 /// Adds whether the list ignores a path, once or twice. For a text that is no list, adds the number
 /// of the error, the line, and the message.
@@ -12,7 +12,12 @@ use wax::{CandidatePath, NoMemory};
 /// # Errors
 ///
 /// Returns `NoMemory` if allocation fails.
-pub fn answer(alloc: Global, is_twice: bool, row: &Row, made: &mut Answer) -> Result<(), NoMemory> {
+pub fn answer(
+    alloc: Global,
+    is_twice: bool,
+    row: &DataRow,
+    made: &mut Answer,
+) -> Result<(), NoMemory> {
     match IgnoreList::parse(alloc, row.input(0)) {
         Ok(list) if is_twice => {
             add_twice(alloc, &list, row.input(1), made);

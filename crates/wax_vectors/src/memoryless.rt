@@ -1,10 +1,7 @@
 //! Calls that don't allocate. All that they need is built before them, as is the room of the
 //! answer.
 
-use crate::answer::Answer;
-use crate::globs::when;
 use crate::kinds::Extent;
-use crate::row::Row;
 use std::alloc::Global;
 use wax::encode::compile;
 use wax::query::When;
@@ -14,6 +11,8 @@ use wax::{
     CandidatePath, Glob, MatchedText, NoMemory, Program, encode, is_contextual_meta_character,
     is_meta_character,
 };
+use wax_test_kit::answer::Answer;
+use wax_test_kit::rows::DataRow;
 
 /// Adds what these calls return for the glob, or only that all they need is built.
 ///
@@ -24,7 +23,7 @@ pub fn add_facts(
     alloc: Global,
     extent: Extent,
     glob: &Glob<'_>,
-    row: &Row,
+    row: &DataRow,
     made: &mut Answer,
 ) -> Result<(), NoMemory> {
     let path = CandidatePath::from(row.input(1));
@@ -55,9 +54,9 @@ fn add_glob(glob: &Glob<'_>, made: &mut Answer) {
     made.tab();
     made.debug(&glob.depth());
     made.tab();
-    made.add(when(glob.has_root()));
+    made.when(glob.has_root());
     made.tab();
-    made.add(when(glob.is_exhaustive()));
+    made.when(glob.is_exhaustive());
 }
 
 fn add_match(matched: &MatchedText<'_>, made: &mut Answer) {
@@ -79,7 +78,7 @@ fn add_tokens(
     made.tab();
     made.show(&program.len());
     made.tab();
-    made.add(when(tokenized.as_token().is_exhaustive()));
+    made.when(tokenized.as_token().is_exhaustive());
 }
 
 /// Adds what calls of characters, paths, `When` and depths return.
@@ -90,7 +89,7 @@ fn add_values(made: &mut Answer) {
     made.tab();
     made.show(&CandidatePath::from("a/b"));
     made.tab();
-    made.add(when(When::Always.and(When::Sometimes)));
+    made.when(When::Always.and(When::Sometimes));
     made.tab();
     made.debug(&DepthMinMax::from_depths_or_max(3, 1));
 }

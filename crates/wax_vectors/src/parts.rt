@@ -1,12 +1,12 @@
 //! Facts of globs that are partitioned or owned.
 
-use crate::answer::Answer;
 use crate::globs::add_is_match;
 use crate::kinds::{GlobFact, PartFact};
 use crate::refusals;
-use crate::row::Row;
 use std::alloc::Global;
 use wax::{Glob, NoMemory};
+use wax_test_kit::answer::Answer;
+use wax_test_kit::rows::DataRow;
 
 /// Adds a fact of a glob that is partitioned or owned.
 ///
@@ -16,7 +16,7 @@ use wax::{Glob, NoMemory};
 pub fn answer(
     alloc: Global,
     fact: PartFact,
-    row: &Row,
+    row: &DataRow,
     glob: Glob<'_>,
     made: &mut Answer,
 ) -> Result<(), NoMemory> {
@@ -72,7 +72,7 @@ fn parts_of<'t>(
 fn add_parts(
     alloc: Global,
     fact: PartFact,
-    row: &Row,
+    row: &DataRow,
     prefix: &str,
     rest: &Glob<'_>,
     made: &mut Answer,
@@ -87,7 +87,12 @@ fn add_parts(
 }
 
 /// Adds whether the glob matches the path once it owns its texts, and its expression.
-fn add_owned(alloc: Global, row: &Row, glob: Glob<'_>, made: &mut Answer) -> Result<(), NoMemory> {
+fn add_owned(
+    alloc: Global,
+    row: &DataRow,
+    glob: Glob<'_>,
+    made: &mut Answer,
+) -> Result<(), NoMemory> {
     match glob.into_owned(alloc) {
         Ok(owned) => {
             let added = add_is_match(alloc, &owned, row.input(1), made);
@@ -104,7 +109,7 @@ fn add_owned(alloc: Global, row: &Row, glob: Glob<'_>, made: &mut Answer) -> Res
 /// # Errors
 ///
 /// Returns `NoMemory` if allocation fails.
-pub fn add_diagnosed(alloc: Global, row: &Row, made: &mut Answer) -> Result<(), NoMemory> {
+pub fn add_diagnosed(alloc: Global, row: &DataRow, made: &mut Answer) -> Result<(), NoMemory> {
     match Glob::diagnosed(alloc, row.input(0)) {
         Ok((glob, warnings)) => {
             made.show(&glob);
@@ -114,4 +119,23 @@ pub fn add_diagnosed(alloc: Global, row: &Row, made: &mut Answer) -> Result<(), 
         }
         Err(error) => refusals::answer(alloc, GlobFact::Printed, row, &error, made),
     }
+}
+
+/// Adds whether a glob that no expression was given for is empty, and whether it matches the path.
+///
+/// # Errors
+///
+/// Returns `NoMemory` if allocation fails.
+pub fn add_plain(
+    alloc: Global,
+    glob: Result<Glob<'_>, NoMemory>,
+    path: &str,
+    made: &mut Answer,
+) -> Result<(), NoMemory> {
+    let Ok(glob) = glob else {
+        return Err(NoMemory);
+    };
+    made.digit(glob.is_empty());
+    made.tab();
+    add_is_match(alloc, &glob, path, made)
 }

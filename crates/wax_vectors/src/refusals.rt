@@ -1,11 +1,11 @@
 //! Facts of errors of a build.
 
-use crate::answer::Answer;
 use crate::kinds::GlobFact;
-use crate::row::Row;
 use std::alloc::Global;
-use wax::diagnostics::{LocatedError, Span};
+use wax::diagnostics::LocatedError;
 use wax::{BuildError, NoMemory};
+use wax_test_kit::answer::Answer;
+use wax_test_kit::rows::DataRow;
 
 /// Adds a fact of the error why an expression can't be built.
 ///
@@ -15,7 +15,7 @@ use wax::{BuildError, NoMemory};
 pub fn answer(
     alloc: Global,
     fact: GlobFact,
-    row: &Row,
+    row: &DataRow,
     error: &BuildError,
     made: &mut Answer,
 ) -> Result<(), NoMemory> {
@@ -28,7 +28,7 @@ pub fn answer(
         GlobFact::Labels => add_rule_labels(alloc, error, made)?,
         GlobFact::ErrorLabels => {
             made.show(&error.number());
-            add_labels(&error.labels(alloc)?, made);
+            made.labels(&error.labels(alloc)?);
         }
         GlobFact::Location => add_location(error, made),
         GlobFact::Error => made.show(error),
@@ -63,20 +63,10 @@ fn add_rule_labels(alloc: Global, error: &BuildError, made: &mut Answer) -> Resu
     made.show(&error.number());
     if let BuildError::Rule(broken) = error {
         for place in broken.locations() {
-            add_labels(&place.labels(alloc)?, made);
+            made.labels(&place.labels(alloc)?);
         }
     }
     Ok(())
-}
-
-/// Adds a field for each label, with its text, start and length.
-pub fn add_labels(labels: &[(&'static str, Span)], made: &mut Answer) {
-    for (label, span) in labels {
-        made.tab();
-        made.add(*label);
-        made.add(" ");
-        made.span(*span);
-    }
 }
 
 /// Adds what is wrong, and where.

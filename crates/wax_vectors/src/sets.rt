@@ -1,16 +1,14 @@
 //! Facts of sets of patterns. Patterns have spaces between them, and sets have semicolons.
 
-use crate::answer::Answer;
-use crate::answers::push;
-use crate::globs::{add_facts, add_is_match, add_match};
+use crate::globs::{add_answers, add_facts, add_is_match, add_match};
 use crate::kinds::SetFact;
-use crate::matchers::add_answers;
-use crate::row::Row;
 use std::alloc::{AllocError, Global};
 use wax::encode::compile;
 use wax::rule::Checked;
 use wax::token::{ExpressionMetadata, Sides, Token};
 use wax::{Any, BuildError, Glob, NoMemory, Pattern, any};
+use wax_test_kit::answer::Answer;
+use wax_test_kit::rows::{DataRow, push};
 
 type Set = Any<'static>;
 
@@ -21,7 +19,12 @@ type Part = Checked<Token<'static, ExpressionMetadata>>;
 /// # Errors
 ///
 /// Returns `NoMemory` if allocation fails, or if the program of the set is too long.
-pub fn answer(alloc: Global, fact: SetFact, row: &Row, made: &mut Answer) -> Result<(), NoMemory> {
+pub fn answer(
+    alloc: Global,
+    fact: SetFact,
+    row: &DataRow,
+    made: &mut Answer,
+) -> Result<(), NoMemory> {
     match built(alloc, fact, row.input(0)) {
         Ok(set) => match fact {
             SetFact::Length | SetFact::EmptyLength => add_length(alloc, set, made),
@@ -53,7 +56,7 @@ fn add_error(error: &BuildError, made: &mut Answer) -> Result<(), NoMemory> {
 fn of_set(
     alloc: Global,
     fact: SetFact,
-    row: &Row,
+    row: &DataRow,
     set: &Set,
     made: &mut Answer,
 ) -> Result<(), NoMemory> {

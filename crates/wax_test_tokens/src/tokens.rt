@@ -1,16 +1,15 @@
 //! Facts of the tokens of an expression, which need not keep the rules.
 
-use crate::answer::Answer;
 use crate::checked;
-use crate::globs::{add_depth, when};
 use crate::kinds::{TokenFact, TokensFact};
-use crate::row::Row;
 use std::alloc::Global;
 use std::fmt::Debug;
 use wax::token::{
     Component, ExpressionMetadata, LeafKind, Token, TokenExt, Tokenized, Topology, parse,
 };
 use wax::{NoMemory, Refusal};
+use wax_test_kit::answer::Answer;
+use wax_test_kit::rows::DataRow;
 
 type Tokens<'t> = Tokenized<'t, ExpressionMetadata>;
 
@@ -22,7 +21,7 @@ type Tokens<'t> = Tokenized<'t, ExpressionMetadata>;
 pub fn answer(
     alloc: Global,
     fact: TokensFact,
-    row: &Row,
+    row: &DataRow,
     made: &mut Answer,
 ) -> Result<(), NoMemory> {
     match parse(alloc, row.input(0)) {
@@ -38,7 +37,7 @@ pub fn answer(
 fn of_tokens(
     alloc: Global,
     fact: TokensFact,
-    row: &Row,
+    row: &DataRow,
     tokens: Tokens<'_>,
     made: &mut Answer,
 ) -> Result<(), NoMemory> {
@@ -60,9 +59,9 @@ fn of_token(
     made: &mut Answer,
 ) -> Result<(), NoMemory> {
     match fact {
-        TokenFact::Depth => add_depth(token.depth(), made),
-        TokenFact::Root => made.add(when(token.has_root())),
-        TokenFact::Exhaustive => made.add(when(token.is_exhaustive())),
+        TokenFact::Depth => made.depth(token.depth()),
+        TokenFact::Root => made.when(token.has_root()),
+        TokenFact::Exhaustive => made.when(token.is_exhaustive()),
         TokenFact::Casing => add_casing(token, made),
         TokenFact::Tokens => add_tokens(token, made),
         TokenFact::Size => match token.size(alloc)? {
@@ -208,7 +207,7 @@ fn add_alternatives(alloc: Global, tokens: Tokens<'_>, made: &mut Answer) -> Res
 fn of_owned(
     alloc: Global,
     fact: TokensFact,
-    row: &Row,
+    row: &DataRow,
     tokens: &Tokens<'static>,
     made: &mut Answer,
 ) -> Result<(), NoMemory> {

@@ -1,14 +1,13 @@
 //! Facts of spans and labelled places, and what errors print.
 
-use crate::answer::Answer;
 use crate::kinds::SpansFact;
-use crate::refusals::add_labels;
-use crate::row::Row;
 use std::alloc::Global;
 use wax::diagnostics::{
     CompositeSpan, CorrelatedSpan, LocatedError, Refusal, Span, SpanExt, Spanned,
 };
 use wax::{BuildError, NoMemory};
+use wax_test_kit::answer::Answer;
+use wax_test_kit::rows::DataRow;
 
 /// A type with a span.
 #[derive(Drop)]
@@ -39,7 +38,7 @@ impl Spanned for Piece {
 pub fn answer(
     alloc: Global,
     fact: SpansFact,
-    row: &Row,
+    row: &DataRow,
     made: &mut Answer,
 ) -> Result<(), NoMemory> {
     let span = span_of(row.input(0));
@@ -51,10 +50,10 @@ pub fn answer(
         SpansFact::Piece => add_piece(span, made),
         SpansFact::BranchLabels => add_branch(alloc, row, made)?,
         SpansFact::PlaceLabels => {
-            add_labels(&CompositeSpan::spanned("here", span).labels(alloc)?, made)
+            made.labels(&CompositeSpan::spanned("here", span).labels(alloc)?)
         }
-        SpansFact::SpanLabels => add_labels(&CorrelatedSpan::from(span).labels(alloc)?, made),
-        SpansFact::SplitLabels => add_labels(&split(row, 0).labels(alloc)?, made),
+        SpansFact::SpanLabels => made.labels(&CorrelatedSpan::from(span).labels(alloc)?),
+        SpansFact::SplitLabels => made.labels(&split(row, 0).labels(alloc)?),
         SpansFact::PrintedRefusals => add_printed(made),
     }
     Ok(())
@@ -71,7 +70,7 @@ fn number(written: &str) -> usize {
 }
 
 /// Returns the places of two inputs. The left one may be `-`, which is none.
-fn split(row: &Row, index: usize) -> CorrelatedSpan {
+fn split(row: &DataRow, index: usize) -> CorrelatedSpan {
     let right = span_of(row.input(index.saturating_add(1)));
     let left = match row.input(index) {
         "-" => None,
@@ -94,13 +93,13 @@ fn add_piece(span: Span, made: &mut Answer) {
 }
 
 /// Adds the span of a branch that two places explain, what it prints, and its labels.
-fn add_branch(alloc: Global, row: &Row, made: &mut Answer) -> Result<(), NoMemory> {
+fn add_branch(alloc: Global, row: &DataRow, made: &mut Answer) -> Result<(), NoMemory> {
     let span = span_of(row.input(0));
     let branch = CompositeSpan::correlated("in this alternation", span, split(row, 1));
     made.span(branch.span());
     made.tab();
     made.show(&branch);
-    add_labels(&branch.labels(alloc)?, made);
+    made.labels(&branch.labels(alloc)?);
     Ok(())
 }
 

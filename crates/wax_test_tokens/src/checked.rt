@@ -1,14 +1,13 @@
 //! Facts of expressions that were checked against the rules, but not compiled.
 
-use crate::answer::Answer;
-use crate::answers::push;
 use crate::kinds::CheckedFact;
-use crate::row::Row;
 use crate::tokens::{add_text, add_texts};
 use std::alloc::Global;
 use wax::rule::{Checked, check};
 use wax::token::{ExpressionMetadata, Partitioned, Token, Tokenized, parse};
 use wax::{NoMemory, Refusal};
+use wax_test_kit::answer::Answer;
+use wax_test_kit::rows::{DataRow, push};
 
 type CheckedToken<'t> = Checked<Token<'t, ExpressionMetadata>>;
 
@@ -110,7 +109,7 @@ fn add_token(alloc: Global, token: CheckedToken<'_>, made: &mut Answer) -> Resul
 /// # Errors
 ///
 /// Returns `NoMemory` if allocation fails or an expression has an error.
-pub fn add_any(alloc: Global, row: &Row, made: &mut Answer) -> Result<(), NoMemory> {
+pub fn add_any(alloc: Global, row: &DataRow, made: &mut Answer) -> Result<(), NoMemory> {
     let Ok(all) = checked_each(alloc, row.input(0)) else {
         return Err(NoMemory);
     };

@@ -1,27 +1,29 @@
-//! Escaped texts, paths as values, and globs without an expression.
+//! Escaped texts, and paths as values.
 
-use crate::answer::Answer;
-use crate::globs::add_is_match;
-use crate::kinds::PathFact;
-use crate::row::Row;
+use crate::kinds::TextFact;
 use std::alloc::Global;
 use wax::encode::case_folded_eq;
-use wax::{CandidatePath, Glob, NoMemory, escape, is_contextual_meta_character, is_meta_character};
+use wax::{CandidatePath, NoMemory, escape, is_contextual_meta_character, is_meta_character};
+use wax_test_kit::answer::Answer;
+use wax_test_kit::rows::DataRow;
 
 /// Adds a fact of a text or a path.
 ///
 /// # Errors
 ///
 /// Returns `NoMemory` if allocation fails.
-pub fn answer(alloc: Global, fact: PathFact, row: &Row, made: &mut Answer) -> Result<(), NoMemory> {
+pub fn answer(
+    alloc: Global,
+    fact: TextFact,
+    row: &DataRow,
+    made: &mut Answer,
+) -> Result<(), NoMemory> {
     let text = row.input(0);
     match fact {
-        PathFact::Escape => made.add(&escape(alloc, text)?),
-        PathFact::Folded => made.digit(case_folded_eq(alloc, text, row.input(1))?),
-        PathFact::Meta => add_meta(text, made),
-        PathFact::Copies => add_copies(alloc, row, made)?,
-        PathFact::EmptyGlob => add_glob(alloc, Glob::empty(alloc), text, made)?,
-        PathFact::TreeGlob => add_glob(alloc, Glob::tree(alloc), text, made)?,
+        TextFact::Escape => made.add(&escape(alloc, text)?),
+        TextFact::Folded => made.digit(case_folded_eq(alloc, text, row.input(1))?),
+        TextFact::Meta => add_meta(text, made),
+        TextFact::Copies => add_copies(alloc, row, made)?,
     }
     Ok(())
 }
@@ -37,7 +39,7 @@ fn add_meta(text: &str, made: &mut Answer) {
 
 /// Adds whether two copies of the path equal it, whether the row's other path does, and the path
 /// once it owns its text.
-fn add_copies(alloc: Global, row: &Row, made: &mut Answer) -> Result<(), NoMemory> {
+fn add_copies(alloc: Global, row: &DataRow, made: &mut Answer) -> Result<(), NoMemory> {
     let path = CandidatePath::from(row.input(0));
     if add_comparisons(alloc, &path, row.input(1), made).is_err() {
         return Err(NoMemory);
@@ -76,19 +78,4 @@ fn is_copy_equal(alloc: Global, path: &CandidatePath<'_>) -> Result<bool, NoMemo
         Ok(copy) => Ok(copy == *path),
         Err(_) => Err(NoMemory),
     }
-}
-
-/// Adds whether the glob is empty, and whether it matches the path.
-fn add_glob(
-    alloc: Global,
-    glob: Result<Glob<'_>, NoMemory>,
-    path: &str,
-    made: &mut Answer,
-) -> Result<(), NoMemory> {
-    let Ok(glob) = glob else {
-        return Err(NoMemory);
-    };
-    made.digit(glob.is_empty());
-    made.tab();
-    add_is_match(alloc, &glob, path, made)
 }

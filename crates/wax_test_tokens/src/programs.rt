@@ -1,14 +1,13 @@
 //! Programs of expressions that weren't checked: their lengths, what they accept, and in how many
 //! visits.
 
-use crate::answer::Answer;
-use crate::answers::add_within;
 use crate::kinds::ProgramFact;
-use crate::row::Row;
 use std::alloc::Global;
 use wax::encode::{CompileError, CompiledProgram, Meter, compile, run};
 use wax::token::{Sides, parse};
 use wax::{NoMemory, Refusal};
+use wax_test_kit::answer::Answer;
+use wax_test_kit::rows::DataRow;
 
 /// Adds a fact of the program of an expression.
 ///
@@ -18,7 +17,7 @@ use wax::{NoMemory, Refusal};
 pub fn answer(
     alloc: Global,
     fact: ProgramFact,
-    row: &Row,
+    row: &DataRow,
     made: &mut Answer,
 ) -> Result<(), NoMemory> {
     match compiled(alloc, row.input(0)) {
@@ -47,7 +46,7 @@ pub fn compiled(alloc: Global, expression: &str) -> Result<CompiledProgram, Refu
 fn of_program(
     alloc: Global,
     fact: ProgramFact,
-    row: &Row,
+    row: &DataRow,
     program: &CompiledProgram,
     made: &mut Answer,
 ) -> Result<(), NoMemory> {
@@ -59,7 +58,7 @@ fn of_program(
     made.digit(run(alloc, program, row.input(1), &mut meter)?);
     if let ProgramFact::Visits = fact {
         made.tab();
-        add_within(made, meter.ticks(), row.input(2));
+        made.within(meter.ticks(), row.input(2));
     }
     Ok(())
 }
