@@ -1,21 +1,15 @@
 //! Bounds of depths, built from numbers.
 
-use crate::row::{Unanswered, number, parted};
-use std::alloc::{AllocError, Global};
-use std::fmt::Debug;
+use crate::row::{number, parted};
 use wax::query::DepthVariance;
 use wax::walk::{DepthBehavior, DepthMax, DepthMin, DepthMinMax, WalkBehavior};
+use wax_test_kit::answer::Answer;
 
-/// Appends what a call returns. Its name comes first, and then its numbers; `-` is a missing one.
-///
-/// # Errors
-///
-/// Returns `Unanswered::Memory` if allocation fails, and `Unanswered::NotBuilt` if something in the
-/// row has an error.
-pub fn push(alloc: Global, call: &str, text: &mut String) -> Result<(), Unanswered> {
+/// Adds what a call returns. Its name comes first, and then its numbers; `-` is a missing one.
+pub fn add(call: &str, made: &mut Answer) {
     let (name, depths) = parted(call);
     let (first, second) = parted(depths);
-    Ok(push_call(alloc, name, depth_of(first), depth_of(second), text)?)
+    add_call(name, depth_of(first), depth_of(second), made)
 }
 
 fn depth_of(word: &str) -> Option<usize> {
@@ -25,40 +19,18 @@ fn depth_of(word: &str) -> Option<usize> {
     Some(usize::try_from(number(word, u64::MAX)).unwrap_or(usize::MAX))
 }
 
-fn push_call(
-    alloc: Global,
-    name: &str,
-    first: Option<usize>,
-    second: Option<usize>,
-    text: &mut String,
-) -> Result<(), AllocError> {
+fn add_call(name: &str, first: Option<usize>, second: Option<usize>, made: &mut Answer) {
     let (min, max) = (first.unwrap_or(0), second.unwrap_or(0));
     match name {
-        "bounded" => push_debug(alloc, text, DepthBehavior::bounded(first, second)),
-        "bounded_2_below" => push_debug(alloc, text, bounded_below(first, second)),
-        "from_depths_or_max" => {
-            push_debug(alloc, text, DepthMinMax::from_depths_or_max(min, max))
-        }
-        "greatest" => {
-            push_debug(
-                alloc,
-                text,
-                DepthMinMax::from_depths_or_max(min, max).greatest(),
-            )
-        }
-        "from_min_or_unbounded" => { push_debug(alloc, text, DepthMin::from_min_or_unbounded(min)) }
-        "try_from" => push_debug(alloc, text, DepthMin::try_from(min)),
-        "max" => push_debug(alloc, text, greatest(min, max)),
-        _ => push_debug(alloc, text, behavior(first)),
+        "bounded" => made.debug(&DepthBehavior::bounded(first, second)),
+        "bounded_2_below" => made.debug(&bounded_below(first, second)),
+        "from_depths_or_max" => made.debug(&DepthMinMax::from_depths_or_max(min, max)),
+        "greatest" => made.debug(&DepthMinMax::from_depths_or_max(min, max).greatest()),
+        "from_min_or_unbounded" => made.debug(&DepthMin::from_min_or_unbounded(min)),
+        "try_from" => made.debug(&DepthMin::try_from(min)),
+        "max" => made.debug(&greatest(min, max)),
+        _ => made.debug(&behavior(first)),
     }
-}
-
-fn push_debug<T: Debug + Drop>(
-    alloc: Global,
-    text: &mut String,
-    value: T,
-) -> Result<(), AllocError> {
-    text.push_str(format!(in alloc; "{value:?}")?.as_str())
 }
 
 fn bounded_below(min: Option<usize>, max: Option<usize>) -> Option<DepthBehavior> {

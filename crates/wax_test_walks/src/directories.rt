@@ -1,124 +1,115 @@
 //! Calls of directories.
 
 use crate::nowhere::Nowhere;
-use crate::row::{Row, Unanswered, number, parted, push_gap};
+use crate::row::{Unanswered, WalkRow, number, parted};
 use std::alloc::{AllocError, Global};
+use std::fmt::Debug;
 use std::{fs, io};
+use wax::Refusal;
 use wax::walk::{Directory, Folders, Node, Tally, Tree, TreeItem};
-use wax::{NoMemory, Refusal};
+use wax_test_kit::answer::Answer;
 
-/// Appends what the calls of a row return, one after another, and then the counts of the directory:
+/// Adds what the calls of a row return, one after another, and then the counts of the directory:
 /// failures, misses, items, and folders that were opened.
 ///
 /// # Errors
 ///
 /// Returns `Unanswered::Memory` if allocation fails, and `Unanswered::NotBuilt` if something in the
 /// row has an error.
-pub fn push(rt: &HostRuntime, row: Row<'_>, text: &mut String) -> Result<(), Unanswered> {
-    let (alloc, calls) = (rt.alloc(), row.field(2));
-    match row.field(1) {
+pub fn add(rt: &HostRuntime, row: WalkRow<'_>, made: &mut Answer) -> Result<(), Unanswered> {
+    let (alloc, calls) = (rt.alloc(), row.row.input(1));
+    match row.row.input(0) {
         "nowhere" => {
             let tally = Tally::none();
-            Ok(push_calls(alloc, &mut Nowhere { tally }, calls, text)?)
+            add_calls(alloc, &mut Nowhere { tally }, calls, made);
+            Ok(())
         }
-        "system" => match push_system(rt, calls, text) {
+        "system" => match add_system(rt, calls, made) {
             Ok(()) => Ok(()),
             Err(_) => Err(Unanswered::NotBuilt),
         },
-        _ => push_tree(alloc, row, text),
+        _ => add_tree(alloc, row, made),
     }
 }
 
-fn push_tree(alloc: Global, row: Row<'_>, text: &mut String) -> Result<(), Unanswered> {
+fn add_tree(alloc: Global, row: WalkRow<'_>, made: &mut Answer) -> Result<(), Unanswered> {
     let mut directory = row.directory(alloc)?;
-    push_calls(alloc, &mut directory, row.field(2), text)?;
-    let (failures, misses) = (directory.failures(), directory.misses());
+    add_calls(alloc, &mut directory, row.row.input(1), made);
+    made.tab();
+    made.show(&directory.failures());
+    made.tab();
+    made.show(&directory.misses());
     let tree = directory.into_tree();
-    let (items, opened) = (tree.asked(), tree.listed().len());
-    text.push_str(format!(in alloc; "\t{failures}\t{misses}\t{items}\t{opened}")?.as_str())?;
+    made.tab();
+    made.show(&tree.asked());
+    made.tab();
+    made.show(&tree.listed().len());
     Ok(())
 }
 
 /// Creates a folder with one file in the working folder, calls the real system, and removes both.
-fn push_system(rt: &HostRuntime, calls: &str, text: &mut String) -> io::Result<()> {
+fn add_system(rt: &HostRuntime, calls: &str, made: &mut Answer) -> io::Result<()> {
     fs::create_dir(rt, "listed")?;
     fs::write(rt, "listed/a", "")?;
-    push_calls(rt.alloc(), &mut Folders::new(*rt), calls, text)?;
+    add_calls(rt.alloc(), &mut Folders::new(*rt), calls, made);
     fs::remove_file(rt, "listed/a")?;
     fs::remove_dir(rt, "listed")
 }
 
-fn push_calls<D: Directory>(
-    alloc: Global,
-    directory: &mut D,
-    calls: &str,
-    text: &mut String,
-) -> Result<(), AllocError> {
-    for call in calls.split("; ") {
-        push_call(alloc, directory, call, text)?;
+fn add_calls<D: Directory>(alloc: Global, directory: &mut D, calls: &str, made: &mut Answer) {
+    for (index, call) in calls.split("; ").enumerate() {
+        if index > 0 {
+            made.add("; ");
+        }
+        add_call(alloc, directory, call, made);
     }
-    Ok(())
 }
 
-fn push_call<D: Directory>(
-    alloc: Global,
-    directory: &mut D,
-    call: &str,
-    text: &mut String,
-) -> Result<(), AllocError> {
-    if !text.is_empty() {
-        text.push_str("; ")?;
-    }
+fn add_call<D: Directory>(alloc: Global, directory: &mut D, call: &str, made: &mut Answer) {
     match parted(call) {
-        ("items", path) => push_items(alloc, directory, path, text),
-        ("list", path) => push_list(alloc, directory, path, text),
+        ("items", path) => add_items(alloc, directory, path, made),
+        ("list", path) => add_list(alloc, directory, path, made),
         ("open", path) => match directory.open(alloc, path) {
-            Ok(_) => text.push_str("opened"),
-            Err(fault) => text.push_str(format!(in alloc; "{fault:?}")?.as_str()),
+            Ok(_) => made.add("opened"),
+            Err(fault) => made.debug(&fault),
         },
         (_, path) => {
-            let kind = directory.kind(alloc, path);
-            let (misses, failures) = (directory.misses(), directory.failures());
-            text.push_str(format!(in alloc; "{kind:?} {misses} {failures}")?.as_str())
+            made.debug(&directory.kind(alloc, path));
+            made.add(" ");
+            made.show(&directory.misses());
+            made.add(" ");
+            made.show(&directory.failures());
         }
     }
 }
 
-/// Appends the first items of a folder, or why there are none. The number before its path says how
+/// Adds the first items of a folder, or why there are none. The number before its path says how
 /// many.
-fn push_list<D: Directory>(
-    alloc: Global,
-    directory: &mut D,
-    argument: &str,
-    text: &mut String,
-) -> Result<(), AllocError> {
+fn add_list<D: Directory>(alloc: Global, directory: &mut D, argument: &str, made: &mut Answer) {
     let (most, path) = parted(argument);
     match directory.list(alloc, path, number(most, 0)) {
-        Ok(items) => text.push_str(format!(in alloc; "{items:?}")?.as_str()),
-        Err(fault) => text.push_str(format!(in alloc; "{fault}")?.as_str()),
+        Ok(items) => made.debug(&items),
+        Err(fault) => made.show(&fault),
     }
 }
 
-/// Appends the items of a folder one by one, and goes on after `NoMemory`.
-fn push_items<D: Directory>(
-    alloc: Global,
-    directory: &mut D,
-    path: &str,
-    text: &mut String,
-) -> Result<(), AllocError> {
+/// Adds the items of a folder one by one, and goes on after `NoMemory`.
+fn add_items<D: Directory>(alloc: Global, directory: &mut D, path: &str, made: &mut Answer) {
     let Ok(mut cursor) = directory.open(alloc, path) else {
-        return text.push_str("closed");
+        return made.add("closed");
     };
     for _ in 0..100 {
-        let item = match directory.next(alloc, &mut cursor) {
-            Ok(Some(item)) => format!(in alloc; "{item:?}")?,
+        match directory.next(alloc, &mut cursor) {
+            Ok(Some(item)) => add_apart(&item, made),
             Ok(None) => break,
-            Err(NoMemory) => String::from_str(alloc, "NoMemory")?,
-        };
-        push_gap(text)?;
-        text.push_str(item.as_str())?;
+            Err(error) => add_apart(&error, made),
+        }
     }
-    Ok(())
+}
+
+fn add_apart<T: Debug>(value: &T, made: &mut Answer) {
+    made.gap();
+    made.debug(value);
 }
 
 /// Builds a folder with a folder in it that has a link twice, and an item whose name isn't text.
@@ -134,26 +125,28 @@ fn twice(alloc: Global) -> Result<Node, AllocError> {
     Ok(Node::Folder(outer))
 }
 
-/// Appends whether a copy of a folder equals it, whether it equals a file, and whether a tree with
-/// a name twice in one folder is an error.
+/// Adds whether a copy of a folder equals it, whether it equals a file, and whether a tree with a
+/// name twice in one folder is an error.
 ///
 /// # Errors
 ///
-/// Returns `Unanswered::Memory` if allocation fails, and `Unanswered::NotBuilt` if something in the
-/// row has an error.
-pub fn push_nodes(alloc: Global, text: &mut String) -> Result<(), Unanswered> {
+/// Returns `Unanswered::Memory` if allocation fails.
+pub fn add_nodes(alloc: Global, made: &mut Answer) -> Result<(), Unanswered> {
     match twice(alloc) {
-        Ok(node) => push_node(alloc, node, text),
+        Ok(node) => add_node(alloc, node, made),
         Err(error) => Err(Unanswered::from(error)),
     }
 }
 
-fn push_node(alloc: Global, node: Node, text: &mut String) -> Result<(), Unanswered> {
+fn add_node(alloc: Global, node: Node, made: &mut Answer) -> Result<(), Unanswered> {
     let (is_same, is_file) = match node.try_clone(alloc) {
         Ok(copy) => (copy == node, copy == Node::File),
         Err(error) => return Err(Unanswered::from(error)),
     };
-    let is_refused = matches!(Tree::new(alloc, node, Node::File), Err(Refusal::Refused(_)));
-    text.push_str(format!(in alloc; "{is_same} {is_file} {is_refused}")?.as_str())?;
+    made.show(&is_same);
+    made.add(" ");
+    made.show(&is_file);
+    made.add(" ");
+    made.show(&matches!(Tree::new(alloc, node, Node::File), Err(Refusal::Refused(_))));
     Ok(())
 }

@@ -1,6 +1,6 @@
 //! The rules and sets that exclude entries from walks.
 
-use crate::row::{Row, Unanswered, list_of, number, residue_of, words};
+use crate::row::{Unanswered, WalkRow, list_of, number, residue_of, words};
 use std::alloc::Global;
 use wax::walk::{Candidate, EntryResidue, Exclude, Exclusion, IgnoreList, exclusion_of};
 use wax::{Any, NoMemory, any};
@@ -48,7 +48,7 @@ pub const RULES: &str = "not ignore file_from tree_from";
 ///
 /// Returns `Unanswered::Memory` if allocation fails, and `Unanswered::NotBuilt` if something in the
 /// row has an error.
-pub fn filter_of(alloc: Global, row: Row<'_>, index: usize) -> Result<Filter, Unanswered> {
+pub fn filter_of(alloc: Global, row: WalkRow<'_>, index: usize) -> Result<Filter, Unanswered> {
     match row.nth_option(RULES, index) {
         None => Ok(Filter::Nothing),
         Some(("not", pattern)) => Ok(Filter::Not(exclusion(alloc, pattern)?)),

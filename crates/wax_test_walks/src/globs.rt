@@ -4,100 +4,99 @@ ghost use Rattle.std.specs.Iterator.{IsFinite};
 
 use crate::faults::Directories;
 use crate::kinds::Kind;
-use crate::row::{Row, Unanswered, behavior_of, push_gap};
+use crate::row::{Unanswered, WalkRow, behavior_of};
 use crate::stacked;
 use std::alloc::Global;
 use wax::walk::{FileIterator, GlobEntry, WalkError, collect};
 use wax::{CandidatePath, Glob, Program};
+use wax_test_kit::answer::Answer;
 
-/// Appends what the walk of a glob yields, and then whether the glob matches the path of the option
+/// Adds what the walk of a glob yields, and then whether the glob matches the path of the option
 /// `then`.
 ///
 /// # Errors
 ///
 /// Returns `Unanswered::Memory` if allocation fails, and `Unanswered::NotBuilt` if something in the
 /// row has an error.
-pub fn push(alloc: Global, row: Row<'_>, text: &mut String) -> Result<(), Unanswered> {
+pub fn add(alloc: Global, row: WalkRow<'_>, made: &mut Answer) -> Result<(), Unanswered> {
     let Ok(glob) = Glob::new(alloc, row.expression()) else {
         return Err(Unanswered::NotBuilt);
     };
-    push_glob(alloc, row, &glob, text)
+    add_glob(alloc, row, &glob, made)
 }
 
-fn push_glob(
+fn add_glob(
     alloc: Global,
-    row: Row<'_>,
+    row: WalkRow<'_>,
     glob: &Glob<'_>,
-    text: &mut String,
+    made: &mut Answer,
 ) -> Result<(), Unanswered> {
-    push_walk(alloc, row, glob, row.directory(alloc)?, text)?;
+    add_walk(alloc, row, glob, row.directory(alloc)?, made)?;
     let Some(path) = row.option("then") else {
         return Ok(());
     };
     let is_match = glob.is_match(alloc, &CandidatePath::from(path))?;
-    text.push_str(if is_match {
+    made.add(if is_match {
         "\tmatched"
     } else {
         "\tnot matched"
-    })?;
+    });
     Ok(())
 }
 
 /// Begins the walk of a glob. A function that names the type of such a walk takes long to prove, so
 /// no other does.
-fn push_walk(
+fn add_walk(
     alloc: Global,
-    row: Row<'_>,
+    row: WalkRow<'_>,
     glob: &Glob<'_>,
     directory: Directories,
-    text: &mut String,
+    made: &mut Answer,
 ) -> Result<(), Unanswered> {
     let walk = match behavior_of(row.range()) {
         None => glob.walk(alloc, directory, row.start()),
         Some(behavior) => glob.walk_with_behavior(alloc, directory, row.start(), behavior),
     };
     if row.option("without").is_none() {
-        return push_any(alloc, row, walk, text);
+        return add_any(alloc, row, walk, made);
     }
     match walk.uncaptured() {
-        Ok(walk) => stacked::push(alloc, row, walk, text),
+        Ok(walk) => stacked::add(alloc, row, walk, made),
         Err(_) => Err(Unanswered::Memory),
     }
 }
 
-fn push_any<I>(alloc: Global, row: Row<'_>, walk: I, text: &mut String) -> Result<(), Unanswered>
+fn add_any<I>(alloc: Global, row: WalkRow<'_>, walk: I, made: &mut Answer) -> Result<(), Unanswered>
 where
     I: FileIterator<Entry = GlobEntry, Directory = Directories>,
     requires can { I.can_feed walk }
     requires ends { IsFinite (I.left walk) }
 {
     let Kind::Captured = row.kind else {
-        return stacked::push(alloc, row, walk, text);
+        return stacked::add(alloc, row, walk, made);
     };
     match collect(alloc, walk) {
-        Ok((items, _)) => push_all_captured(text, items.as_slice()),
+        Ok((items, _)) => add_all_captured(items.as_slice(), made),
         Err(_) => Err(Unanswered::Memory),
     }
 }
 
-fn push_all_captured(
-    text: &mut String,
+fn add_all_captured(
     items: &[Result<GlobEntry, WalkError>],
+    made: &mut Answer,
 ) -> Result<(), Unanswered> {
     for item in items {
-        push_captured(text, item)?;
+        add_captured(item, made)?;
     }
     Ok(())
 }
 
-/// Appends what the first token captured of an entry's candidate.
-fn push_captured(text: &mut String, item: &Result<GlobEntry, WalkError>) -> Result<(), Unanswered> {
+/// Adds what the first token captured of an entry's candidate.
+fn add_captured(item: &Result<GlobEntry, WalkError>, made: &mut Answer) -> Result<(), Unanswered> {
     let Ok(entry) = item else {
         return Err(Unanswered::Memory);
     };
-    push_gap(text)?;
-    text.push('"')?;
-    text.push_str(entry.matched().get(1).unwrap_or("none"))?;
-    text.push('"')?;
+    made.gap();
+    made.quote(entry.matched().get(1).unwrap_or("none"));
     Ok(())
 }

@@ -1,12 +1,17 @@
 //! Kinds of rows.
 
+use crate::row::{Unanswered, WalkRow};
+use crate::{depths, directories, globs, lists, plain};
+use wax::NoMemory;
+use wax_test_kit::answer::Answer;
+use wax_test_kit::rows::{DataRow, RowKind, find_in};
+
 /// What a row shows.
 #[derive(Clone, Copy)]
 pub enum Kind {
     Depth,
     List,
     Ignores,
-    Random,
     Nodes,
     Ask,
     Entries,
@@ -18,6 +23,7 @@ pub enum Kind {
     Steps,
     Walk(Shown),
     Count,
+    Unknown,
 }
 
 /// What is shown of each entry of a walk.
@@ -48,16 +54,49 @@ static KINDS: &[(&str, usize, Kind)] = &[
     ("ignores", 2, Kind::Ignores),
     ("depth", 1, Kind::Depth),
     ("list", 1, Kind::List),
-    ("random", 1, Kind::Random),
     ("nodes", 1, Kind::Nodes),
 ];
 
-/// Returns how many inputs a row of the kind has, and what it shows.
-pub fn find(name: &str) -> (usize, Kind) {
-    for (other, inputs, kind) in KINDS {
-        if *other == name {
-            return (*inputs, *kind);
+impl RowKind for Kind {
+    fn find(name: &str) -> (usize, Kind) {
+        find_in(KINDS, name, Kind::Unknown)
+    }
+
+    /// Adds the answer of a row, or a beginning of it and why it ends there.
+    fn answer(self, rt: &HostRuntime, row: &DataRow, made: &mut Answer) -> Result<(), NoMemory> {
+        match add_answer(rt, WalkRow { row, kind: self }, made) {
+            Ok(()) => {}
+            Err(Unanswered::Memory) => made.add(" no memory"),
+            Err(Unanswered::NotBuilt) => made.add(" not built"),
+        }
+        Ok(())
+    }
+
+    /// Returns whether the expected answer is the one that was computed, or its first fields.
+    fn agrees(made: &str, wanted: &str) -> bool {
+        match made.strip_prefix(wanted) {
+            Some(rest) => !wanted.is_empty() && (rest.is_empty() || rest.starts_with('\t')),
+            None => false,
         }
     }
-    (4, Kind::Walk(Shown::Path))
+}
+
+fn add_answer(rt: &HostRuntime, row: WalkRow<'_>, made: &mut Answer) -> Result<(), Unanswered> {
+    let (alloc, first) = (rt.alloc(), row.row.input(0));
+    match row.kind {
+        Kind::Depth => {
+            depths::add(first, made);
+            Ok(())
+        }
+        Kind::List => {
+            lists::add_error(alloc, first, made);
+            Ok(())
+        }
+        Kind::Ignores => lists::add_ignored(alloc, first, row.row.input(1), made),
+        Kind::Nodes => directories::add_nodes(alloc, made),
+        Kind::Ask => directories::add(rt, row, made),
+        Kind::Unknown => Err(Unanswered::NotBuilt),
+        _ if row.is_plain() => plain::add(alloc, row, made),
+        _ => globs::add(alloc, row, made),
+    }
 }

@@ -1,7 +1,7 @@
-//! Rows and their fields.
+//! Rows of walks, and what their fields describe.
 
 use crate::faults::Directories;
-use crate::kinds::{Kind, find};
+use crate::kinds::Kind;
 use std::alloc::{AllocError, Global};
 use wax::NoMemory;
 use wax::walk::{
@@ -9,6 +9,7 @@ use wax::walk::{
     TreeItem, WalkBehavior,
 };
 use wax_test_kit::plans::{self, PROJECT, ROOT};
+use wax_test_kit::rows::DataRow;
 
 /// The reason why a row has no answer.
 #[derive(Clone, Copy)]
@@ -30,13 +31,11 @@ impl From<AllocError> for Unanswered {
     }
 }
 
-/// A line: a kind, its inputs, and its answer.
+/// A row with its kind. The inputs of a walk are a tree, a start, an expression and options.
 #[derive(Clone, Copy)]
-pub struct Row<'r> {
-    pub line: &'r str,
+pub struct WalkRow<'r> {
+    pub row: &'r DataRow,
     pub kind: Kind,
-    /// The number of fields between the kind and the answer.
-    inputs: usize,
 }
 
 /// Returns the first word of an option, and what follows it.
@@ -56,39 +55,13 @@ fn is_one_of(words: &str, word: &str) -> bool {
     false
 }
 
-impl<'r> Row<'r> {
-    /// Reads a row from a line, with or without its answer.
-    pub fn read(line: &'r str) -> Self {
-        let (inputs, kind) = find(line.split('\t').next().unwrap_or(""));
-        Row { line, kind, inputs }
-    }
-
-    /// Returns the field at the index, or an empty text.
-    pub fn field(self, index: usize) -> &'r str {
-        self.line.split('\t').nth(index).unwrap_or("")
-    }
-
-    /// Returns whether the row's answer is `made`, or the first fields of `made`.
-    pub fn has_answer(self, made: &str) -> bool {
-        let mut wanted = self.line;
-        for _ in 0..=self.inputs {
-            let Some((_, rest)) = wanted.split_once('\t') else {
-                return false;
-            };
-            wanted = rest;
-        }
-        match made.strip_prefix(wanted) {
-            Some(rest) => rest.is_empty() || rest.starts_with('\t'),
-            None => false,
-        }
-    }
-
+impl<'r> WalkRow<'r> {
     pub fn start(self) -> &'r str {
-        self.field(2)
+        self.row.input(1)
     }
 
     pub fn expression(self) -> &'r str {
-        self.field(3)
+        self.row.input(2)
     }
 
     /// Returns whether the row walks without a glob.
@@ -100,7 +73,7 @@ impl<'r> Row<'r> {
     /// spaces between them.
     pub fn nth_option(self, words: &str, index: usize) -> Option<(&'r str, &'r str)> {
         let mut left = index;
-        for option in self.field(self.inputs).split("; ") {
+        for option in self.row.last().split("; ") {
             let (word, argument) = parted(option);
             if is_one_of(words, word) {
                 if left == 0 {
@@ -142,7 +115,7 @@ impl<'r> Row<'r> {
     /// Returns `Unanswered::Memory` if allocation fails, and `Unanswered::NotBuilt` if something in
     /// the row has an error.
     pub fn directory(self, alloc: Global) -> Result<Directories, Unanswered> {
-        let tree = tree_of(alloc, self.field(1))?;
+        let tree = tree_of(alloc, self.row.input(0))?;
         let failing = self.number("failing", u64::MAX);
         Ok(Directories::new(tree, failing, self.number("starving", u64::MAX)))
     }
@@ -225,53 +198,15 @@ fn files(alloc: Global, count: u64) -> Result<Node, AllocError> {
     Ok(Node::Folder(items))
 }
 
-/// Returns the text of a field. In it, `␊`, `␍` and `␉` are a line feed, a carriage return and a
-/// tab, which a field can't contain.
-///
-/// # Errors
-///
-/// Returns `AllocError` if allocation fails.
-pub fn unescaped(alloc: Global, field: &str) -> Result<String, AllocError> {
-    let mut text = String::new(alloc);
-    for character in field.chars() {
-        text.push(match character {
-            '␊' => '\n',
-            '␍' => '\r',
-            '␉' => '\t',
-            other => other,
-        })?;
-    }
-    Ok(text)
-}
-
-/// Parses the ignore list of a field.
+/// Parses an ignore list.
 ///
 /// # Errors
 ///
 /// Returns `Unanswered::Memory` if allocation fails, and `Unanswered::NotBuilt` if something in the
 /// row has an error.
-pub fn list_of(alloc: Global, field: &str) -> Result<IgnoreList, Unanswered> {
-    let text = unescaped(alloc, field)?;
-    match IgnoreList::parse(alloc, text.as_str()) {
+pub fn list_of(alloc: Global, text: &str) -> Result<IgnoreList, Unanswered> {
+    match IgnoreList::parse(alloc, text) {
         Ok(list) => Ok(list),
         Err(_) => Err(Unanswered::NotBuilt),
     }
-}
-
-/// Appends a space, unless the text is empty or ends with a tab or a space.
-///
-/// # Errors
-///
-/// Returns `AllocError` if allocation fails.
-pub fn push_gap(text: &mut String) -> Result<(), AllocError> {
-    if text.is_empty() || text.ends_with('\t') || text.ends_with(' ') {
-        return Ok(());
-    }
-    text.push(' ')
-}
-
-pub fn push_quoted(text: &mut String, path: &str) -> Result<(), AllocError> {
-    text.push('"')?;
-    text.push_str(path)?;
-    text.push('"')
 }

@@ -4,46 +4,47 @@ ghost use Rattle.std.specs.Iterator.{IsFinite};
 
 use crate::faults::Directories;
 use crate::filters::{RULES, filter_of, set_of};
-use crate::row::{Row, Unanswered, list_of, parted, residue_of};
+use crate::row::{Unanswered, WalkRow, list_of, parted, residue_of};
 use crate::walked;
 use std::alloc::Global;
 use wax::walk::{
     Entry, EntryResidue, FileIterator, FileIteratorExt, TreeEntry, excluding_ignored,
     excluding_pattern,
 };
+use wax_test_kit::answer::Answer;
 
 /// The options that are closures.
 const CLOSURES: &str = "file tree";
 
-/// Appends what a walk yields without what the row excludes.
+/// Adds what a walk yields without what the row excludes.
 ///
 /// # Errors
 ///
 /// Returns `Unanswered::Memory` if allocation fails, and `Unanswered::NotBuilt` if something in the
 /// row has an error.
-pub fn push<I>(alloc: Global, row: Row<'_>, walk: I, text: &mut String) -> Result<(), Unanswered>
+pub fn add<I>(alloc: Global, row: WalkRow<'_>, walk: I, made: &mut Answer) -> Result<(), Unanswered>
 where
     I: FileIterator<Directory = Directories>,
     requires can { I.can_feed walk }
     requires ends { IsFinite (I.left walk) }
 {
     if let Some(call) = row.option("call") {
-        return push_called(alloc, row, walk, call, text);
+        return add_called(alloc, row, walk, call, made);
     }
     let has_closures = row.nth_option(CLOSURES, 0).is_some();
     if has_closures || row.nth_option(RULES, 0).is_some() {
-        push_filtered(alloc, row, walk, text)
+        add_filtered(alloc, row, walk, made)
     } else {
-        walked::push(alloc, row, walk, text)
+        walked::add(alloc, row, walk, made)
     }
 }
 
 /// Filters the walk by the first closure.
-fn push_filtered<I>(
+fn add_filtered<I>(
     alloc: Global,
-    row: Row<'_>,
+    row: WalkRow<'_>,
     walk: I,
-    text: &mut String,
+    made: &mut Answer,
 ) -> Result<(), Unanswered>
 where
     I: FileIterator<Directory = Directories>,
@@ -52,15 +53,15 @@ where
 {
     let (path, residue) = excluded(row, 0);
     let walk = walk.filter_entry(move |entry| residue_at(entry, path, residue));
-    push_filtered_again(alloc, row, walk, text)
+    add_filtered_again(alloc, row, walk, made)
 }
 
 /// Filters the walk by the second closure.
-fn push_filtered_again<I>(
+fn add_filtered_again<I>(
     alloc: Global,
-    row: Row<'_>,
+    row: WalkRow<'_>,
     walk: I,
-    text: &mut String,
+    made: &mut Answer,
 ) -> Result<(), Unanswered>
 where
     I: FileIterator<Directory = Directories>,
@@ -69,12 +70,12 @@ where
 {
     let (path, residue) = excluded(row, 1);
     let walk = walk.filter_entry(move |entry| residue_at(entry, path, residue));
-    push_ruled(alloc, row, walk, text)
+    add_ruled(alloc, row, walk, made)
 }
 
 /// Returns the path of the closure at the index, and what it excludes there. Without this option,
 /// it excludes nothing.
-fn excluded(row: Row<'_>, index: usize) -> (&str, Option<EntryResidue>) {
+fn excluded(row: WalkRow<'_>, index: usize) -> (&str, Option<EntryResidue>) {
     match row.nth_option(CLOSURES, index) {
         Some((word, path)) => (path, Some(residue_of(word))),
         None => ("", None),
@@ -90,24 +91,29 @@ fn residue_at(
 }
 
 /// Filters the walk by the first rule.
-fn push_ruled<I>(alloc: Global, row: Row<'_>, walk: I, text: &mut String) -> Result<(), Unanswered>
+fn add_ruled<I>(
+    alloc: Global,
+    row: WalkRow<'_>,
+    walk: I,
+    made: &mut Answer,
+) -> Result<(), Unanswered>
 where
     I: FileIterator<Directory = Directories>,
     requires can { I.can_feed walk }
     requires ends { IsFinite (I.left walk) }
 {
     match filter_of(alloc, row, 0) {
-        Ok(filter) => push_ruled_again(alloc, row, walk.excluding(alloc, filter), text),
+        Ok(filter) => add_ruled_again(alloc, row, walk.excluding(alloc, filter), made),
         Err(error) => Err(error),
     }
 }
 
 /// Filters the walk by the second rule.
-fn push_ruled_again<I>(
+fn add_ruled_again<I>(
     alloc: Global,
-    row: Row<'_>,
+    row: WalkRow<'_>,
     walk: I,
-    text: &mut String,
+    made: &mut Answer,
 ) -> Result<(), Unanswered>
 where
     I: FileIterator<Directory = Directories>,
@@ -115,17 +121,17 @@ where
     requires ends { IsFinite (I.left walk) }
 {
     match filter_of(alloc, row, 1) {
-        Ok(filter) => push_ruled_thrice(alloc, row, walk.excluding(alloc, filter), text),
+        Ok(filter) => add_ruled_thrice(alloc, row, walk.excluding(alloc, filter), made),
         Err(error) => Err(error),
     }
 }
 
 /// Filters the walk by the third rule.
-fn push_ruled_thrice<I>(
+fn add_ruled_thrice<I>(
     alloc: Global,
-    row: Row<'_>,
+    row: WalkRow<'_>,
     walk: I,
-    text: &mut String,
+    made: &mut Answer,
 ) -> Result<(), Unanswered>
 where
     I: FileIterator<Directory = Directories>,
@@ -133,18 +139,18 @@ where
     requires ends { IsFinite (I.left walk) }
 {
     match filter_of(alloc, row, 2) {
-        Ok(filter) => walked::push(alloc, row, walk.excluding(alloc, filter), text),
+        Ok(filter) => walked::add(alloc, row, walk.excluding(alloc, filter), made),
         Err(error) => Err(error),
     }
 }
 
 /// Filters the walk by one call, with a pattern, patterns or a list.
-fn push_called<I>(
+fn add_called<I>(
     alloc: Global,
-    row: Row<'_>,
+    row: WalkRow<'_>,
     walk: I,
     call: &str,
-    text: &mut String,
+    made: &mut Answer,
 ) -> Result<(), Unanswered>
 where
     I: FileIterator<Directory = Directories>,
@@ -159,22 +165,22 @@ where
             Ok(set) => walk.not(alloc, set),
             Err(error) => return Err(error),
         },
-        _ => return push_ignored(alloc, row, walk, name, argument, text),
+        _ => return add_ignored(alloc, row, walk, name, argument, made),
     };
     match built {
-        Ok(walk) => walked::push(alloc, row, walk, text),
+        Ok(walk) => walked::add(alloc, row, walk, made),
         Err(_) => Err(Unanswered::NotBuilt),
     }
 }
 
 /// Filters the walk by a call with a list.
-fn push_ignored<I>(
+fn add_ignored<I>(
     alloc: Global,
-    row: Row<'_>,
+    row: WalkRow<'_>,
     walk: I,
     call: &str,
     list: &str,
-    text: &mut String,
+    made: &mut Answer,
 ) -> Result<(), Unanswered>
 where
     I: FileIterator<Directory = Directories>,
@@ -186,8 +192,8 @@ where
         Err(error) => return Err(error),
     };
     match call {
-        "ignore" => walked::push(alloc, row, walk.ignore(alloc, list), text),
-        "excluding_ignored" => walked::push(alloc, row, excluding_ignored(alloc, walk, list), text),
+        "ignore" => walked::add(alloc, row, walk.ignore(alloc, list), made),
+        "excluding_ignored" => walked::add(alloc, row, excluding_ignored(alloc, walk, list), made),
         _ => Err(Unanswered::NotBuilt),
     }
 }

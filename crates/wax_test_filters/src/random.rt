@@ -1,14 +1,16 @@
 //! Random walks of globs, compared with the whole walk, filtered.
 
-use crate::draws::Draws;
-use crate::row::{Unanswered, behavior_of, number};
+use crate::draws::{draw_expression, draw_plan, draw_start};
 use std::alloc::{AllocError, Global};
 use wax::walk::{
-    DepthRange, Entry, GlobEntry, IgnoreList, Tree, TreeEntry, WalkBehavior, WalkError, WalkFilter,
-    entries,
+    DepthMin, DepthMinMax, Entry, GlobEntry, IgnoreList, Tree, TreeEntry, WalkBehavior, WalkError,
+    WalkFilter, entries,
 };
 use wax::{CandidatePath, Glob, NoMemory, Program};
+use wax_test_kit::answer::Answer;
+use wax_test_kit::draws::Draws;
 use wax_test_kit::plans;
+use wax_test_kit::rows::{DataRow, RowKind, push};
 
 /// A walk that was drawn.
 #[derive(Drop)]
@@ -20,7 +22,7 @@ struct Drawn {
     /// The text of an ignore list.
     list: String,
     start: &'static str,
-    range: DepthRange,
+    behavior: WalkBehavior,
 }
 
 /// How many walks differ, how many entries they yielded, and how many folders they didn't list.
@@ -49,28 +51,31 @@ enum Says {
     TakesBack,
 }
 
-/// Appends the counts of random walks without ignore lists, and then of others with them. The
-/// numbers say how many walks to draw.
-///
-/// # Errors
-///
-/// Returns `Unanswered::Memory` if allocation fails, and `Unanswered::NotBuilt` if something in the
-/// row has an error.
-pub fn push(alloc: Global, numbers: &str, text: &mut String) -> Result<(), Unanswered> {
-    let mut draws = Draws::new();
-    let (walks, listed) = numbers.split_once(' ').unwrap_or((numbers, ""));
-    push_counts(alloc, &mut draws, number(walks, 0), false, text)?;
-    text.push('\t')?;
-    push_counts(alloc, &mut draws, number(listed, 0), true, text)
+/// The only kind of row.
+#[derive(Clone, Copy)]
+pub struct Random;
+
+impl RowKind for Random {
+    fn find(_name: &str) -> (usize, Random) {
+        (2, Random)
+    }
+
+    fn answer(self, rt: &HostRuntime, row: &DataRow, made: &mut Answer) -> Result<(), NoMemory> {
+        let mut draws = Draws::new(2027);
+        add_counts(rt.alloc(), &mut draws, row.number(0, 0), false, made)?;
+        made.tab();
+        add_counts(rt.alloc(), &mut draws, row.number(1, 0), true, made)
+    }
 }
 
-fn push_counts(
+/// Draws so many walks, with an ignore list or without, and adds their counts.
+fn add_counts(
     alloc: Global,
     draws: &mut Draws,
     walks: u64,
     has_lists: bool,
-    text: &mut String,
-) -> Result<(), Unanswered> {
+    made: &mut Answer,
+) -> Result<(), NoMemory> {
     let mut counts = Counts {
         different: 0,
         entries: 0,
@@ -78,45 +83,48 @@ fn push_counts(
     };
     for _ in 0..walks {
         let drawn = draw_walk(alloc, draws, has_lists)?;
-        compare(alloc, &drawn, &mut counts, text)?;
+        compare(alloc, &drawn, &mut counts, made)?;
     }
-    let (different, entries, unlisted) = (counts.different, counts.entries, counts.unlisted);
-    let line = format!(in alloc;
-        "{different} differ; {entries} entries, {unlisted} folders not listed"
-    )?;
-    text.push_str(line.as_str())?;
+    made.show(&counts.different);
+    made.add(" differ; ");
+    made.show(&counts.entries);
+    made.add(" entries, ");
+    made.show(&counts.unlisted);
+    made.add(" folders not listed");
     Ok(())
 }
 
 fn draw_walk(alloc: Global, draws: &mut Draws, has_list: bool) -> Result<Drawn, AllocError> {
-    let plan = draws.plan(alloc)?;
-    let expression = draws.expression(alloc)?;
+    let plan = draw_plan(alloc, draws)?;
+    let expression = draw_expression(alloc, draws)?;
     let nots = draw_nots(alloc, draws)?;
-    let min = draws.below(7).saturating_sub(4);
-    let max = match draws.below(4) {
-        0 => min.saturating_add(draws.below(4)),
-        _ => usize::MAX,
-    };
+    let behavior = draw_behavior(draws);
     let list = draw_list(alloc, draws, has_list)?;
     Ok(Drawn {
         plan,
         expression,
         nots,
         list,
-        start: draws.start(),
-        range: DepthRange {
-            min,
-            max,
-            budget: u32::MAX,
-        },
+        start: draw_start(draws),
+        behavior,
     })
+}
+
+/// Draws the least depth, and sometimes the greatest.
+fn draw_behavior(draws: &mut Draws) -> WalkBehavior {
+    let min = draws.below(7).saturating_sub(4);
+    let depths = match draws.below(4) {
+        0 => DepthMinMax::from_depths_or_max(min, min.saturating_add(draws.below(4))),
+        _ => DepthMin::from_min_or_unbounded(min),
+    };
+    WalkBehavior::from(depths)
 }
 
 /// Draws up to three patterns.
 fn draw_nots(alloc: Global, draws: &mut Draws) -> Result<String, AllocError> {
     let mut nots = String::new(alloc);
     for _ in 0..draws.below(6).saturating_sub(2) {
-        nots.push_str(draws.expression(alloc)?.as_str())?;
+        nots.push_str(draw_expression(alloc, draws)?.as_str())?;
         nots.push('\n')?;
     }
     Ok(nots)
@@ -132,7 +140,7 @@ fn draw_list(alloc: Global, draws: &mut Draws, has_list: bool) -> Result<String,
         if draws.below(3) == 0 {
             list.push('!')?;
         }
-        list.push_str(draws.expression(alloc)?.as_str())?;
+        list.push_str(draw_expression(alloc, draws)?.as_str())?;
         list.push('\n')?;
     }
     Ok(list)
@@ -143,31 +151,31 @@ fn compare(
     alloc: Global,
     drawn: &Drawn,
     counts: &mut Counts,
-    text: &mut String,
-) -> Result<(), Unanswered> {
-    let mut walked = String::new(alloc);
-    let tree = push_walked(alloc, drawn, counts, &mut walked)?;
-    compare_walked(alloc, drawn, walked.as_str(), tree.listed(), counts, text)
+    made: &mut Answer,
+) -> Result<(), NoMemory> {
+    let mut walked = Answer::new(alloc)?;
+    let tree = add_walked(alloc, drawn, counts, &mut walked)?;
+    compare_walked(alloc, drawn, walked.text(), tree.listed(), counts, made)
 }
 
 fn compare_walked(
     alloc: Global,
     drawn: &Drawn,
-    walked: &str,
+    walked: Option<&str>,
     listed: &[String],
     counts: &mut Counts,
-    text: &mut String,
-) -> Result<(), Unanswered> {
-    let mut wanted = String::new(alloc);
-    let tree = push_wanted(alloc, drawn, &mut wanted)?;
+    made: &mut Answer,
+) -> Result<(), NoMemory> {
+    let mut wanted = Answer::new(alloc)?;
+    let tree = add_wanted(alloc, drawn, &mut wanted)?;
     let whole = tree.listed();
     let unlisted = whole.len().saturating_sub(listed.len());
     counts.unlisted = counts.unlisted.saturating_add(unlisted);
-    if walked == wanted.as_str() && are_among(listed, whole) {
-        return Ok(());
+    if walked.is_none() || walked != wanted.text() || !are_among(listed, whole) {
+        counts.different = counts.different.saturating_add(1);
+        add_drawn(drawn, made);
     }
-    counts.different = counts.different.saturating_add(1);
-    Ok(push_drawn(alloc, drawn, text)?)
+    Ok(())
 }
 
 /// Returns whether the whole walk listed each folder that was listed.
@@ -175,119 +183,127 @@ fn are_among(listed: &[String], whole: &[String]) -> bool {
     listed.iter().all(|path| whole.iter().any(|other| other.as_str() == path.as_str()))
 }
 
-fn push_drawn(alloc: Global, drawn: &Drawn, text: &mut String) -> Result<(), AllocError> {
-    let (expression, start, plan) = (&drawn.expression, drawn.start, &drawn.plan);
-    let (nots, list, min, max) = (&drawn.nots, &drawn.list, drawn.range.min, drawn.range.max);
-    let line = format!(in alloc;
-        "\"{expression}\" from \"{start}\" in \"{plan}\", {min} to {max}, not {nots:?}, ignore {list:?}; "
-    )?;
-    text.push_str(line.as_str())
+/// Adds what was drawn for a walk that differs.
+fn add_drawn(drawn: &Drawn, made: &mut Answer) {
+    made.quote(drawn.expression.as_str());
+    made.add(" from ");
+    made.quote(drawn.start);
+    made.add(" in ");
+    made.quote(drawn.plan.as_str());
+    made.add(", ");
+    made.debug(&drawn.behavior.depth);
+    made.add(", not ");
+    made.debug(&drawn.nots);
+    made.add(", ignore ");
+    made.debug(&drawn.list);
+    made.add("; ");
 }
 
-fn tree_of(alloc: Global, drawn: &Drawn) -> Result<Tree, Unanswered> {
+fn tree_of(alloc: Global, drawn: &Drawn) -> Result<Tree, NoMemory> {
     match plans::tree_of(alloc, drawn.plan.as_str(), drawn.plan.as_str()) {
         Ok(tree) => Ok(tree),
-        Err(_) => Err(Unanswered::NotBuilt),
+        Err(_) => Err(NoMemory),
     }
 }
 
-/// Appends what the walk of the glob yields without what is excluded. Returns the tree.
-fn push_walked(
+/// Adds what the walk of the glob yields without what is excluded. Returns the tree.
+fn add_walked(
     alloc: Global,
     drawn: &Drawn,
     counts: &mut Counts,
-    text: &mut String,
-) -> Result<Tree, Unanswered> {
-    let Ok(glob) = Glob::new(alloc, drawn.expression.as_str()) else {
-        return Err(Unanswered::NotBuilt);
-    };
-    push_glob(alloc, drawn, &glob, counts, text)
+    walked: &mut Answer,
+) -> Result<Tree, NoMemory> {
+    match Glob::new(alloc, drawn.expression.as_str()) {
+        Ok(glob) => add_glob(alloc, drawn, &glob, counts, walked),
+        Err(_) => Err(NoMemory),
+    }
 }
 
-fn push_glob(
+fn add_glob(
     alloc: Global,
     drawn: &Drawn,
     glob: &Glob<'_>,
     counts: &mut Counts,
-    text: &mut String,
-) -> Result<Tree, Unanswered> {
-    let filters = filters_of(alloc, drawn)?;
-    let behavior = behavior_of(drawn.range).unwrap_or(WalkBehavior::default());
+    walked: &mut Answer,
+) -> Result<Tree, NoMemory> {
     let tree = tree_of(alloc, drawn)?;
-    let Ok((items, tree)) = glob.collect_excluding(alloc, tree, drawn.start, behavior, filters)
-    else {
-        return Err(Unanswered::Memory);
-    };
-    push_entries(items.as_slice(), counts, text)?;
-    Ok(tree)
+    let filters = filters_of(alloc, drawn)?;
+    let (start, behavior) = (drawn.start, drawn.behavior);
+    match glob.collect_excluding(alloc, tree, start, behavior, filters) {
+        Ok((items, tree)) => {
+            add_entries(items.as_slice(), counts, walked);
+            Ok(tree)
+        }
+        Err(_) => Err(NoMemory),
+    }
 }
 
 /// Returns the filters of a walk: one for each pattern, and one for the list.
-fn filters_of(alloc: Global, drawn: &Drawn) -> Result<Vec<WalkFilter>, Unanswered> {
+fn filters_of(alloc: Global, drawn: &Drawn) -> Result<Vec<WalkFilter>, NoMemory> {
     let mut filters = Vec::new(alloc);
     for not in drawn.nots.lines() {
-        match WalkFilter::not(alloc, not) {
-            Ok(filter) => push_filter(&mut filters, filter)?,
-            Err(_) => return Err(Unanswered::NotBuilt),
-        }
+        push_not(alloc, &mut filters, not)?;
     }
-    match IgnoreList::parse(alloc, drawn.list.as_str()) {
-        Ok(list) => push_filter(&mut filters, WalkFilter::ignore(list))?,
-        Err(_) => return Err(Unanswered::NotBuilt),
+    match push_ignored(alloc, &mut filters, drawn.list.as_str()) {
+        Ok(()) => Ok(filters),
+        Err(error) => Err(error),
     }
-    Ok(filters)
 }
 
-fn push_filter(filters: &mut Vec<WalkFilter>, filter: WalkFilter) -> Result<(), AllocError> {
-    filters.push(filter)?;
-    Ok(())
+fn push_not(alloc: Global, filters: &mut Vec<WalkFilter>, not: &str) -> Result<(), NoMemory> {
+    match WalkFilter::not(alloc, not) {
+        Ok(filter) => push(filters, filter),
+        Err(_) => Err(NoMemory),
+    }
 }
 
-fn push_entries(
-    items: &[Result<GlobEntry, WalkError>],
-    counts: &mut Counts,
-    text: &mut String,
-) -> Result<(), AllocError> {
+fn push_ignored(alloc: Global, filters: &mut Vec<WalkFilter>, list: &str) -> Result<(), NoMemory> {
+    match IgnoreList::parse(alloc, list) {
+        Ok(list) => push(filters, WalkFilter::ignore(list)),
+        Err(_) => Err(NoMemory),
+    }
+}
+
+fn add_entries(items: &[Result<GlobEntry, WalkError>], counts: &mut Counts, walked: &mut Answer) {
     for item in items {
         if let Ok(entry) = item {
-            text.push_str(entry.root_relative_paths().1)?;
-            text.push('\n')?;
+            walked.add(entry.root_relative_paths().1);
+            walked.add("\n");
             counts.entries = counts.entries.saturating_add(1);
         }
     }
-    Ok(())
 }
 
-/// Appends what is wanted of the whole walk. Returns the tree.
-fn push_wanted(alloc: Global, drawn: &Drawn, text: &mut String) -> Result<Tree, Unanswered> {
+/// Adds what is wanted of the whole walk. Returns the tree.
+fn add_wanted(alloc: Global, drawn: &Drawn, wanted: &mut Answer) -> Result<Tree, NoMemory> {
     let is_rooted = drawn.expression.starts_with('/');
     let start = if is_rooted { "/" } else { drawn.start };
     let tree = tree_of(alloc, drawn)?;
     let (items, tree) = entries(alloc, tree, start, WalkBehavior::default())?;
-    push_candidates(alloc, drawn, is_rooted, items.as_slice(), text)?;
+    add_candidates(alloc, drawn, is_rooted, items.as_slice(), wanted)?;
     Ok(tree)
 }
 
-fn push_candidates(
+fn add_candidates(
     alloc: Global,
     drawn: &Drawn,
     is_rooted: bool,
     items: &[Result<TreeEntry, WalkError>],
-    text: &mut String,
-) -> Result<(), Unanswered> {
+    wanted: &mut Answer,
+) -> Result<(), NoMemory> {
     let mut candidates = candidates_of(alloc, drawn, is_rooted, items)?;
     decide_all(alloc, drawn, &mut candidates)?;
-    Ok(push_unignored(candidates.as_slice(), text)?)
+    add_unignored(candidates.as_slice(), wanted);
+    Ok(())
 }
 
-fn push_unignored(candidates: &[Candidate], text: &mut String) -> Result<(), AllocError> {
+fn add_unignored(candidates: &[Candidate], wanted: &mut Answer) {
     for candidate in candidates {
         if candidate.is_wanted && !candidate.is_ignored {
-            text.push_str(candidate.path.as_str())?;
-            text.push('\n')?;
+            wanted.add(candidate.path.as_str());
+            wanted.add("\n");
         }
     }
-    Ok(())
 }
 
 /// Returns the candidates of all entries whose depth is in range.
@@ -302,7 +318,7 @@ fn candidates_of(
         let Ok(entry) = item else {
             continue;
         };
-        if entry.depth() < drawn.range.min || entry.depth() > drawn.range.max {
+        if !is_in_range(drawn, entry.depth()) {
             continue;
         }
         let path = if is_rooted {
@@ -319,13 +335,14 @@ fn candidates_of(
     Ok(candidates)
 }
 
+fn is_in_range(drawn: &Drawn, depth: usize) -> bool {
+    let depths = &drawn.behavior.depth;
+    depths.least() <= depth && depth <= depths.greatest().unwrap_or(usize::MAX)
+}
+
 /// Decides about all candidates by the glob, by each pattern and by each line of the list. The last
 /// line that matches counts.
-fn decide_all(
-    alloc: Global,
-    drawn: &Drawn,
-    candidates: &mut [Candidate],
-) -> Result<(), Unanswered> {
+fn decide_all(alloc: Global, drawn: &Drawn, candidates: &mut [Candidate]) -> Result<(), NoMemory> {
     decide(alloc, drawn.expression.as_str(), Says::Wants, candidates)?;
     for not in drawn.nots.lines() {
         decide(alloc, not, Says::Excludes, candidates)?;
@@ -345,10 +362,10 @@ fn decide(
     expression: &str,
     says: Says,
     candidates: &mut [Candidate],
-) -> Result<(), Unanswered> {
+) -> Result<(), NoMemory> {
     match Glob::new(alloc, expression) {
-        Ok(glob) => Ok(decide_by(alloc, &glob, says, candidates)?),
-        Err(_) => Err(Unanswered::NotBuilt),
+        Ok(glob) => decide_by(alloc, &glob, says, candidates),
+        Err(_) => Err(NoMemory),
     }
 }
 

@@ -1,5 +1,5 @@
 use Rattle.std.specs.Iterator.{IsFinite, size}
-use Rattle.wax_test_walks.proofs.walked.push_steps.Given as goal
+use Rattle.wax_test_walks.proofs.walked.add_steps.Given as goal
 
 abbrev pub invariant-loop-item : goal.invariant-loop-item
 invariant-loop-item g l = record {
