@@ -1,7 +1,9 @@
 -- The words of walks.
 use Rattle.std.proofs.Common.{◌≡◌, ℕ, ◌+◌, ◌≤◌, Bool, true, false, List, [], ◌∷◌, ◌++◌, length, length-append, get_or, Option, Some, None, inl, inr, refl, sym, ap, subst, ◌∙◌, append_assoc, arith}
+use Rattle.std.proofs.lemmas.Grind.{flat_map-append}
+use Rattle.std.specs.List.{flat_map}
 use Rattle.std.specs.Prelude.{◌↔◌, IfNone, String, string_bytes, codes, slice_get}
-use Rattle.wax_command_line.specs.Commands.{WalkOption, excluding, ignoring, at_least, at_most, IsOption, SayEach, leasts_in, greatests_in, count_lists}
+use Rattle.wax_command_line.specs.Commands.{WalkOption, excluding, ignoring, at_least, at_most, IsOption, SayEach, least_of, greatest_of, list_of, leasts_in, greatests_in, count_lists}
 use Rattle.wax_command_line.specs.Commands.{AreBounds, SaysWalk, AsksWalk, WalkRequest}
 use Rattle.wax_command_line.specs.WalkWords.{HasNoNext, IsNext}
 use Rattle.wax_command_line.specs.inner.OptionWords.{AreDoubled, AreMore, AreSaidBy, all_in, one_if, IsFirstWord, IsDoubled}
@@ -62,25 +64,13 @@ same_walk (Some x ∷ Some y ∷ Some z ∷ words) a b h k =
 -- ---- options one after another
 
 pub leasts_more : (os us : List WalkOption) → leasts_in (os ++ us) ≡ leasts_in os ++ leasts_in us
-leasts_more [] us = refl
-leasts_more (excluding e ∷ os) us = leasts_more os us
-leasts_more (ignoring e ∷ os) us = leasts_more os us
-leasts_more (at_least n ∷ os) us = ap (λ ns. n ∷ ns) (leasts_more os us)
-leasts_more (at_most n ∷ os) us = leasts_more os us
+leasts_more os us = flat_map-append least_of os us
 
 pub greatests_more : (os us : List WalkOption) → greatests_in (os ++ us) ≡ greatests_in os ++ greatests_in us
-greatests_more [] us = refl
-greatests_more (excluding e ∷ os) us = greatests_more os us
-greatests_more (ignoring e ∷ os) us = greatests_more os us
-greatests_more (at_least n ∷ os) us = greatests_more os us
-greatests_more (at_most n ∷ os) us = ap (λ ns. n ∷ ns) (greatests_more os us)
+greatests_more os us = flat_map-append greatest_of os us
 
 pub lists_more : (os us : List WalkOption) → count_lists (os ++ us) ≡ count_lists os + count_lists us
-lists_more [] us = omega arith
-lists_more (excluding e ∷ os) us = lists_more os us
-lists_more (ignoring e ∷ os) us = let h = lists_more os us in omega (arith, h)
-lists_more (at_least n ∷ os) us = lists_more os us
-lists_more (at_most n ∷ os) us = lists_more os us
+lists_more os us = ap length (flat_map-append list_of os us) ∙ length-append (flat_map list_of os) (flat_map list_of us)
 
 -- the words say these options, and then what the rest says
 pub record Begins {A : Type 0} (words rest : List (Option (String A))) (done : List WalkOption) : Type 0 where

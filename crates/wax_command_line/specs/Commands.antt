@@ -1,7 +1,8 @@
 -- The commands that arguments request.
-use Rattle.std.specs.Prelude.{◌≡◌, ◌≤◌, ◌<◌, ◌+◌, ◌^◌, ⊤, ℕ, List, [], ◌∷◌, Option, Some, String}
+use Rattle.std.specs.Prelude.{◌≡◌, ◌≤◌, ◌<◌, ◌^◌, ⊤, ℕ, List, [], ◌∷◌, Option, Some, String}
 use Rattle.std.specs.Prelude.{string_bytes}
-use Rattle.std.specs.Prelude.{codes, slice_get, unwrap_or}
+use Rattle.std.specs.Prelude.{codes, length, slice_get, unwrap_or}
+use Rattle.std.specs.List.{flat_map}
 use Rattle.std.specs.Str.Parse.{IsNumeral, digits_value}
 
 -- the arguments are the name of a command and an expression
@@ -50,27 +51,30 @@ SayEach (Some name ∷ Some word ∷ words) (o ∷ options) =
     IsOption (string_bytes name) (string_bytes word) o × SayEach words options
 SayEach _ _ = ⊥
 
--- how many of the options name an ignore list
-abbrev pub count_lists : List WalkOption → ℕ
-count_lists [] = 0
-count_lists (excluding e ∷ options) = count_lists options
-count_lists (ignoring file ∷ options) = count_lists options + 1
-count_lists (at_least n ∷ options) = count_lists options
-count_lists (at_most n ∷ options) = count_lists options
+-- the least depth that an option sets, if it sets one
+abbrev pub least_of : WalkOption → List ℕ
+least_of (at_least n) = n ∷ []
+least_of _ = []
+
+-- the greatest depth that an option sets, if it sets one
+abbrev pub greatest_of : WalkOption → List ℕ
+greatest_of (at_most n) = n ∷ []
+greatest_of _ = []
+
+-- the file with an ignore list that an option names, if it names one
+abbrev pub list_of : WalkOption → List (List ℕ)
+list_of (ignoring file) = file ∷ []
+list_of _ = []
 
 abbrev pub leasts_in : List WalkOption → List ℕ
-leasts_in [] = []
-leasts_in (excluding e ∷ options) = leasts_in options
-leasts_in (ignoring file ∷ options) = leasts_in options
-leasts_in (at_least n ∷ options) = n ∷ leasts_in options
-leasts_in (at_most n ∷ options) = leasts_in options
+leasts_in options = flat_map least_of options
 
 abbrev pub greatests_in : List WalkOption → List ℕ
-greatests_in [] = []
-greatests_in (excluding e ∷ options) = greatests_in options
-greatests_in (ignoring file ∷ options) = greatests_in options
-greatests_in (at_least n ∷ options) = greatests_in options
-greatests_in (at_most n ∷ options) = n ∷ greatests_in options
+greatests_in options = flat_map greatest_of options
+
+-- how many of the options name an ignore list
+abbrev pub count_lists : List WalkOption → ℕ
+count_lists options = length (flat_map list_of options)
 
 -- at most one least depth and one greatest depth, and the least is no greater than the greatest
 abbrev pub AreBounds : List ℕ → List ℕ → Type 0
