@@ -48,6 +48,7 @@ pub use Rattle.wax_glob_walk.specs.Laws.{leading_cancelling}
 pub use Rattle.wax_glob_walk.specs.Matches.{IsMatchedEntry, glob_facts, match_of, tree_entry}
 pub use Rattle.wax_glob_walk.specs.Programs.{any_mark, leading_mark}
 pub use Rattle.wax_glob_walk.specs.declared.entry.GlobEntry.{GlobEntry}
+pub use Rattle.wax_glob_walk.specs.declared.filter_any.FilterAny.{FilterAny}
 pub use Rattle.wax_tree.specs.Begins.{Begins, BeginsAt, EndsWithin, FailsFrom, FailsNowhere, HasEnded}
 pub use Rattle.wax_tree.specs.Begins.{IsPassed, LacksMemory, Origin, behavior_range}
 pub use Rattle.wax_tree.specs.Depths.{HasBounds, IsUnbounded, IsUnboundedAt, behavior_at, greatest, least}

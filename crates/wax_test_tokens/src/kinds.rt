@@ -10,6 +10,7 @@ use wax_test_kit::rows::{DataRow, RowKind, find_in};
 #[derive(Clone, Copy)]
 pub enum Kind {
     Tokens(TokensFact),
+    TokenAny,
     CheckedAny,
     Program(ProgramFact),
     Matcher,
@@ -115,6 +116,7 @@ static KINDS: &[(&str, usize, Kind)] = &[
         Kind::Tokens(Checked(CheckedFact::Owned)),
     ),
     ("owned_error", 1, Kind::Tokens(Checked(CheckedFact::Owned))),
+    ("token_any", 1, Kind::TokenAny),
     ("checked_any", 1, Kind::CheckedAny),
     ("length", 1, Kind::Program(ProgramFact::Length)),
     ("program", 2, Kind::Program(ProgramFact::Accepts)),
@@ -146,6 +148,7 @@ impl RowKind for Kind {
         let alloc = rt.alloc();
         match self {
             Kind::Tokens(fact) => tokens::answer(alloc, fact, row, made),
+            Kind::TokenAny => tokens::add_any(alloc, row, made),
             Kind::CheckedAny => checked::add_any(alloc, row, made),
             Kind::Program(fact) => programs::answer(alloc, fact, row, made),
             Kind::Matcher => matchers::add_comparison(alloc, row, made),

@@ -5,11 +5,12 @@ use crate::kinds::{TokenFact, TokensFact};
 use std::alloc::Global;
 use std::fmt::Debug;
 use wax::token::{
-    Component, ExpressionMetadata, LeafKind, Token, TokenExt, Tokenized, Topology, parse,
+    Annotation, Component, ExpressionMetadata, LeafKind, Token, TokenExt, Tokenized, Topology, any,
+    parse,
 };
 use wax::{NoMemory, Refusal};
 use wax_test_kit::answer::Answer;
-use wax_test_kit::rows::DataRow;
+use wax_test_kit::rows::{DataRow, push};
 
 type Tokens<'t> = Tokenized<'t, ExpressionMetadata>;
 
@@ -81,9 +82,9 @@ fn of_token(
 /// # Errors
 ///
 /// Returns `NoMemory` if allocation fails.
-pub fn add_text(
+pub fn add_text<A: Annotation>(
     alloc: Global,
-    token: &Token<'_, ExpressionMetadata>,
+    token: &Token<'_, A>,
     made: &mut Answer,
 ) -> Result<(), NoMemory> {
     match token.text(alloc)? {
@@ -98,9 +99,9 @@ pub fn add_text(
 /// # Errors
 ///
 /// Returns `NoMemory` if allocation fails.
-pub fn add_texts(
+pub fn add_texts<A: Annotation>(
     alloc: Global,
-    tokens: &[Token<'_, ExpressionMetadata>],
+    tokens: &[Token<'_, A>],
     made: &mut Answer,
 ) -> Result<(), NoMemory> {
     for token in tokens {
@@ -108,6 +109,52 @@ pub fn add_texts(
         made.add("|");
     }
     Ok(())
+}
+
+/// Adds the texts of the tokens that the expressions spell, which have spaces between them, after the
+/// tokens were combined into one.
+///
+/// # Errors
+///
+/// Returns `NoMemory` if allocation fails, or if an expression can't be parsed.
+pub fn add_any(alloc: Global, row: &DataRow, made: &mut Answer) -> Result<(), NoMemory> {
+    let Ok(all) = parsed_each(alloc, row.input(0)) else {
+        return Err(NoMemory);
+    };
+    match any(alloc, all) {
+        Ok(combined) => add_branches(alloc, &combined, made),
+        Err(error) => Err(error),
+    }
+}
+
+fn add_branches(
+    alloc: Global,
+    combined: &Token<'_, ()>,
+    made: &mut Answer,
+) -> Result<(), NoMemory> {
+    match combined.as_alternation() {
+        Some(alternation) => add_texts(alloc, alternation.tokens(), made),
+        None => Err(NoMemory),
+    }
+}
+
+fn parsed_each(alloc: Global, expressions: &str) -> Result<Vec<Tokens<'_>>, NoMemory> {
+    let mut all = Vec::new(alloc);
+    for expression in expressions.split(' ') {
+        push_parsed(alloc, &mut all, expression)?;
+    }
+    Ok(all)
+}
+
+fn push_parsed<'e>(
+    alloc: Global,
+    all: &mut Vec<Tokens<'e>>,
+    expression: &'e str,
+) -> Result<(), NoMemory> {
+    match parse(alloc, expression) {
+        Ok(tokens) => push(all, tokens),
+        Err(_) => Err(NoMemory),
+    }
 }
 
 /// Adds the literals of the top level, each with 1 if it has the flag `i`, and otherwise 0.
@@ -169,14 +216,19 @@ fn add_components(
     Ok(())
 }
 
-/// Adds the components of only literals, level by level, each with its text.
+/// Adds the components of only literals, level by level, each with its text and its literals.
 fn add_literals(
     alloc: Global,
     token: &Token<'_, ExpressionMetadata>,
     made: &mut Answer,
 ) -> Result<(), NoMemory> {
-    for (component, literal) in &token.literals(alloc)? {
-        made.add(literal.text(alloc)?.as_str());
+    for (component, sequence) in &token.literals(alloc)? {
+        made.add(sequence.text(alloc)?.as_str());
+        made.add(" ");
+        for literal in &sequence.literals(alloc)? {
+            made.add(literal.text());
+            made.add("|");
+        }
         made.add(" ");
         add_component(component, made);
     }

@@ -2,7 +2,9 @@
 
 use crate::row::{Unanswered, WalkRow, list_of, number, residue_of, words};
 use std::alloc::Global;
-use wax::walk::{Candidate, EntryResidue, Exclude, Exclusion, IgnoreList, exclusion_of};
+use wax::walk::{
+    Candidate, EntryResidue, Exclude, Exclusion, FilterAny, FilterAnyExt, IgnoreList, exclusion_of,
+};
 use wax::{Any, NoMemory, any};
 
 /// One rule of a row.
@@ -11,6 +13,7 @@ pub enum Filter {
     Nothing,
     Not(Exclusion),
     Ignore(IgnoreList),
+    Any(FilterAny<Exclusion>),
     /// Excludes the entries from a depth on.
     From(usize, EntryResidue),
 }
@@ -18,7 +21,8 @@ pub enum Filter {
 impl Exclude for Filter {
     ghost use Rattle.wax_test_walks.specs.Filters.{rule_of};
 
-    ghost rule = { rule_of ⟦<Exclusion as Exclude>⟧.rule ⟦<IgnoreList as Exclude>⟧.rule };
+    ghost rule = { rule_of ⟦<Exclusion as Exclude>⟧.rule ⟦<IgnoreList as Exclude>⟧.rule
+        ⟦<FilterAny<Exclusion> as Exclude>⟧.rule };
 
     fn residue(
         &mut self,
@@ -29,6 +33,7 @@ impl Exclude for Filter {
             Filter::Nothing => Ok(None),
             Filter::Not(exclusion) => exclusion.residue(alloc, candidate),
             Filter::Ignore(list) => list.residue(alloc, candidate),
+            Filter::Any(any) => any.residue(alloc, candidate),
             Filter::From(depth, residue) => {
                 if candidate.depth < *depth {
                     return Ok(None);
@@ -40,7 +45,7 @@ impl Exclude for Filter {
 }
 
 /// The options that are rules.
-pub const RULES: &str = "not ignore file_from tree_from";
+pub const RULES: &str = "not ignore any file_from tree_from";
 
 /// Returns the rule of the option at the index among those that are rules.
 ///
@@ -53,6 +58,7 @@ pub fn filter_of(alloc: Global, row: WalkRow<'_>, index: usize) -> Result<Filter
         None => Ok(Filter::Nothing),
         Some(("not", pattern)) => Ok(Filter::Not(exclusion(alloc, pattern)?)),
         Some(("ignore", list)) => Ok(Filter::Ignore(list_of(alloc, list)?)),
+        Some(("any", patterns)) => Ok(Filter::Any(any_of(alloc, patterns)?)),
         Some((word, depth)) => {
             let depth = usize::try_from(number(depth, 0)).unwrap_or(0);
             Ok(Filter::From(depth, residue_of(word)))
@@ -63,6 +69,14 @@ pub fn filter_of(alloc: Global, row: WalkRow<'_>, index: usize) -> Result<Filter
 fn exclusion(alloc: Global, pattern: &str) -> Result<Exclusion, Unanswered> {
     match exclusion_of(alloc, pattern) {
         Ok(exclusion) => Ok(exclusion),
+        Err(_) => Err(Unanswered::NotBuilt),
+    }
+}
+
+/// Builds the rule of patterns with spaces between them.
+fn any_of(alloc: Global, patterns: &str) -> Result<FilterAny<Exclusion>, Unanswered> {
+    match FilterAny::any(alloc, words(alloc, patterns)?) {
+        Ok(any) => Ok(any),
         Err(_) => Err(Unanswered::NotBuilt),
     }
 }

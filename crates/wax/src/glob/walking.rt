@@ -6,6 +6,7 @@ ghost use Rattle.wax_glob_walk.specs.Matches.{IsMatchedEntry};
 ghost use Rattle.wax_exclude.specs.Prefix.{HasEmptyName};
 ghost use Rattle.wax_query.specs.Components.{component_total};
 ghost use Rattle.wax_query.specs.Ranges.{AtMost, Bounds};
+ghost use Rattle.wax_token.specs.Cost.{program_length};
 ghost use Rattle.wax_tree.specs.Begins.{EndsWithin, BeginsAt, behavior_range};
 ghost use Rattle.wax_tree.specs.Depths.{behavior_at};
 ghost use Rattle.wax_tree.specs.Prefix.{from_last};
@@ -124,6 +125,7 @@ fn needs<'g, 't>(
     alloc: Global,
     token: &'g Token<'t, ExpressionMetadata>,
 ) -> Result<Option<(PrefixNames, Vec<LeadingComponent<'g, 't>>)>, NoMemory>
+    requires { program_length token.now ≤ 1048576 }
     ensures { IfOk result (λ plan. (taken : ℕ) (prefix : List ℕ) → Prefix token.now taken prefix
         → MatchOption plan (HasEmptyName prefix) (λ r.
         IsPlan token.now prefix r.0.is_rooted (from_last r.0.names.items) r.1.items)) }

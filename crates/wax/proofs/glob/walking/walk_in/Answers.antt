@@ -1,4 +1,4 @@
-use Rattle.std.proofs.Common.{◌≡◌, ◌∙◌, ℕ, List, MatchOption, ap, subst}
+use Rattle.std.proofs.Common.{◌≡◌, ◌∙◌, MatchOption, ap, subst, sym}
 use Rattle.wax_facts.specs.Prefix.{Prefix}
 use Rattle.wax_tree.specs.Begins.{behavior_range}
 use Rattle.wax_tree.specs.Prefix.{from_last}
@@ -15,36 +15,37 @@ use Rattle.wax.proofs.glob.walking.walk_in.Goals as goal
 pub returns-in-Ok-Some-clause-begins : goal.returns-in-Ok-Some-clause-begins
 returns-in-Ok-Some-clause-begins g c =
     let glob = c.args.glob.now in
-    let plans = subst (λ t. (taken : ℕ) (prefix : List ℕ) → Prefix t taken prefix →
-    MatchOption _ (HasEmptyName prefix) (λ r. IsPlan t prefix r.0.is_rooted (from_last r.0.names.items) r.1.items))
-    c.token.ensures.same c.in-Ok-Some.ensures in
+    let token = c.token.result.now in
+    let tree : token ≡ glob.tree = c.token.ensures.same in
     let start = c.args.start.now in
     let asked = behavior_range c.args.behavior in
     let w = c.within-range.ensures in
-    let kept : IsKept glob.tree = subst IsKept c.token.ensures.same c.token.ensures.kept in
+    let kept : IsKept glob.tree = subst IsKept tree c.token.ensures.kept in
     let same : c.within-range.result ≡ within asked w.0 = w.3 ∙ ap (λ r. within r w.0) c.range.ensures in
     let prefix_names = c.in-Ok-Some.prefix_names in
     begins_along glob g.D.Directory.law c.args.directory start asked w.0 w.1 (λ b filters plain. can_walk glob.tree kept w.0 w.2 start asked b filters plain)
     (none_match glob.tree kept) _
     _ c.within-range.result same prefix_names.is_rooted (from_last prefix_names.names.items) c.in-Ok-Some.leading.items
-    (λ taken prefix p. subst (λ o. MatchOption o (HasEmptyName prefix) (λ r. IsPlan glob.tree prefix r.0.is_rooted (from_last r.0.names.items) r.1.items)) c.in-Ok-Some.field-0-is (plans taken prefix p))
+    (λ taken prefix p. subst (λ t. IsPlan t prefix prefix_names.is_rooted (from_last prefix_names.names.items) c.in-Ok-Some.leading.items) tree
+    (subst (λ o. MatchOption o (HasEmptyName prefix) (λ r. IsPlan token prefix r.0.is_rooted (from_last r.0.names.items) r.1.items)) c.in-Ok-Some.field-0-is
+    (c.in-Ok-Some.ensures taken prefix (subst (λ t. Prefix t taken prefix) (sym tree) p))))
     c.walk_along-walk.ensures.begins c.walk_of.ensures.view
 
 pub returns-in-Ok-None-clause-begins : goal.returns-in-Ok-None-clause-begins
 returns-in-Ok-None-clause-begins g c =
     let glob = c.args.glob.now in
-    let plans = subst (λ t. (taken : ℕ) (prefix : List ℕ) → Prefix t taken prefix →
-    MatchOption _ (HasEmptyName prefix) (λ r. IsPlan t prefix r.0.is_rooted (from_last r.0.names.items) r.1.items))
-    c.token.ensures.same c.in-Ok-None.ensures in
+    let token = c.token.result.now in
+    let tree : token ≡ glob.tree = c.token.ensures.same in
     let start = c.args.start.now in
     let asked = behavior_range c.args.behavior in
     let w = c.within-range.ensures in
-    let kept : IsKept glob.tree = subst IsKept c.token.ensures.same c.token.ensures.kept in
+    let kept : IsKept glob.tree = subst IsKept tree c.token.ensures.kept in
     let same : c.within-range.result ≡ within asked w.0 = w.3 ∙ ap (λ r. within r w.0) c.range.ensures in
     begins_ended glob g.D.Directory.law c.args.directory start asked w.0 w.1 (λ b filters plain. can_walk glob.tree kept w.0 w.2 start asked b filters plain)
     (none_match glob.tree kept) _
     _ c.within-range.result (leading_mark (component_test {A = Span}) c.new.result.items decides glob)
-    (λ taken prefix p. subst (λ o. MatchOption o (HasEmptyName prefix) (λ r. IsPlan glob.tree prefix r.0.is_rooted (from_last r.0.names.items) r.1.items)) c.in-Ok-None.field-0-is (plans taken prefix p))
+    (λ taken prefix p. subst (λ o. MatchOption o (HasEmptyName prefix) (λ r. IsPlan token prefix r.0.is_rooted (from_last r.0.names.items) r.1.items)) c.in-Ok-None.field-0-is
+    (c.in-Ok-None.ensures taken prefix (subst (λ t. Prefix t taken prefix) (sym tree) p)))
     same c.ended-walk.ensures.ended c.walk_of-in-Ok-None.ensures.view
 
 pub returns-in-Err-clause-begins : goal.returns-in-Err-clause-begins
