@@ -1,4 +1,5 @@
-use Rattle.std.proofs.Common.{◌≡◌, ◌++◌, ◌∷◌, [], rules, subst, sym}
+use Rattle.std.proofs.Common.{◌≡◌, ◌++◌, ◌∷◌, [], arith, rules, subst, sym}
+use Rattle.std.proofs.lemmas.Grind.{common_steps}
 use Rattle.std.specs.Vec.Iter.{into_iter_items}
 use Rattle.wax_exclude.specs.Excluded.{excluded_mark}
 use Rattle.wax.proofs.Filters.{Excluded, any_excluded, first_refused, one_more_excluded, pattern_taken}
@@ -29,3 +30,12 @@ returns-in-Err g c =
     first_refused g.P.Pattern.spells excluded_mark g.P.Pattern.refuses c.args.patterns.items c.loop-pattern.yielded
     c.loop-pattern.exclusions.items c.in-Some.pattern left rest c.in-Err.error c.loop-pattern.invariant.each
     c.loop-pattern.invariant.joined taken c.in-Err.ensures
+
+pub returns : goal.returns
+returns g c =
+    let spells = g.P.Pattern.spells in
+    let made = c.loop-pattern.exclusions.items in
+    let all : c.loop-pattern.yielded ≡ c.args.patterns.items = grind (arith, common_steps) in
+    let each : Excluded spells excluded_mark c.args.patterns.items made =
+    subst (λ patterns. Excluded spells excluded_mark patterns made) all c.loop-pattern.invariant.each in
+    any_excluded spells excluded_mark c.args.patterns.items made _ each c.new.ensures
