@@ -1,5 +1,5 @@
 -- Several patterns as one filter.
-use Rattle.std.proofs.Common.{◌≡◌, ◌⊎◌, ◌++◌, ◌∷◌, List, [], inr, map, refl, sym, ap, ap2, ◌∙◌}
+use Rattle.std.proofs.Common.{◌≡◌, ◌⊎◌, ◌++◌, ◌∷◌, List, [], inr, map, refl, sym, ap, ◌∙◌}
 use Rattle.std.specs.List.{AllZip}
 use Rattle.wax_token.specs.Reads.{Span}
 use Rattle.wax_token.specs.Syntax.{Tree}
@@ -34,7 +34,7 @@ module _ {P E : Type 0} (S : P → Tree Span → Type 0) (rule : E → Candidate
   one_more_excluded (q ∷ ps) (f ∷ es) p e h k = (h.0, one_more_excluded ps es p e h.1 k)
 
   -- the trees of their patterns
-  Trees : List P → List E → Type 0
+  abbrev Trees : List P → List E → Type 0
   Trees ps es = (ts : List (Tree Span)) × SpellEach (λ p. FitsAlone (S p)) ps ts × (map rule es ≡ map not_mark ts)
 
   trees_of : (ps : List P) (es : List E) → Excluded ps es → Trees ps es
@@ -44,7 +44,7 @@ module _ {P E : Type 0} (S : P → Tree Span → Type 0) (rule : E → Candidate
   trees_of (p ∷ ps) (e ∷ es) h =
       let rest = trees_of ps es h.1 in
       let (t, fits, same) = h.0 in
-      (t ∷ rest.0, ((fits, λ u k. fits.only.1 u k.only.0), rest.1), ap2 (λ x xs. x ∷ xs) same rest.2)
+      (t ∷ rest.0, ((fits, λ u k. fits.only.1 u k.only.0), rest.1), ap (λ r. r ∷ map rule es) same ∙ ap (λ rs. not_mark t ∷ rs) rest.2)
 
   pub any_excluded : (ps : List P) (es : List E) (any : Candidate → Mark) → Excluded ps es → any ≡ any_mark (map rule es) →
       IsAnyExclusionOf S ps any
