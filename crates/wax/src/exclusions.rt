@@ -50,7 +50,13 @@ pub fn exclusion_of<P: Pattern>(alloc: Global, pattern: P) -> Result<Exclusion, 
 }
 
 /// Rules that are built from several patterns.
-pub trait FilterAnyExt: Exclude + Sized {
+pub trait FilterAnyExt: Sized {
+    ghost use Rattle.wax_walk.specs.Candidates.{Candidate};
+    ghost use Rattle.wax_walk.specs.Given.{Mark};
+
+    /// What the rule decides about each candidate.
+    ghost rule_of: { Self → Candidate → Mark };
+
     /// Builds the rule that excludes what at least one of the patterns matches. An entry is excluded
     /// with everything below it if an alternative of one of them covers it.
     ///
@@ -67,11 +73,13 @@ pub trait FilterAnyExt: Exclude + Sized {
     ///
     /// Returns the errors of `exclusion_of` for the first pattern that has one.
     fn any<P: Pattern + Drop>(alloc: Global, patterns: Vec<P>) -> Result<Self, BuildError>
-        ensures { MatchResult result (λ any. IsAnyExclusionOf P.spells patterns.items (Self.rule any))
+        ensures { MatchResult result (λ any. IsAnyExclusionOf P.spells patterns.items (rule_of any))
             (NoAnyExclusion P.spells P.refuses patterns.items) };
 }
 
 impl FilterAnyExt for FilterAny<Exclusion> {
+    ghost rule_of = { ⟦<FilterAny<Exclusion> as Exclude>⟧.rule };
+
     fn any<P: Pattern + Drop>(alloc: Global, patterns: Vec<P>) -> Result<Self, BuildError> {
         let mut exclusions = Vec::new(alloc);
         for pattern in patterns {
