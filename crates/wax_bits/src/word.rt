@@ -1,5 +1,5 @@
 //! Sets of places below 64, one bit each, in one word.
-ghost use Rattle.std.specs.Prelude.{◌≡◌, ◌<◌, ◌≤◌, ℕ, IsTrue, length, slice_index_or, slice_set, true, false};
+ghost use Rattle.std.specs.Prelude.{◌≡◌, ◌<◌, ◌≤◌, ◌↔◌, ℕ, IsTrue, length, slice_index_or, slice_set, true, false};
 ghost use Rattle.wax_bits.specs.Bits.{places_of};
 ghost use Rattle.wax_bits.specs.Places.{HoldsPlace, IsEmpty};
 
@@ -41,7 +41,7 @@ impl Word {
     /// Returns whether it is the set of this word.
     #[inline]
     pub fn is(&self, bits: u64) -> bool
-        ensures { IsTrue result → self.now ≡ places_of bits }
+        ensures { IsTrue result ↔ (self.now ≡ places_of bits) }
     {
         self.bits == bits
     }
