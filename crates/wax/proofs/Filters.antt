@@ -1,5 +1,6 @@
 -- Several patterns as one filter.
 use Rattle.std.proofs.Common.{◌≡◌, ◌⊎◌, ◌++◌, ◌∷◌, List, [], inr, map, refl, sym, ap, ◌∙◌}
+use Rattle.std.proofs.lemmas.List.{append_assoc}
 use Rattle.std.specs.List.{AllZip}
 use Rattle.wax_token.specs.Reads.{Span}
 use Rattle.wax_token.specs.Syntax.{Tree}
@@ -12,14 +13,10 @@ use Rattle.wax_error.specs.declared.build_error.BuildError.{BuildError}
 use Rattle.wax.specs.Exclusions.{FitsAlone, IsAnyExclusionOf, IsExclusionOf, NoAnyExclusion, NoExclusion}
 
 -- the first of those that are left is taken
-pushed : {P : Type 0} (before : List P) (p : P) (rest : List P) → (before ++ p ∷ []) ++ rest ≡ before ++ p ∷ rest
-pushed [] p rest = refl
-pushed (q ∷ before) p rest = ap (λ z. q ∷ z) (pushed before p rest)
-
 pub pattern_taken : {P : Type 0} (before : List P) (p : P) (rest left all : List P) → left ≡ p ∷ rest →
     before ++ left ≡ all → (before ++ p ∷ []) ++ rest ≡ all
 pattern_taken before p rest left all taken joined =
-    pushed before p rest ∙ ap (λ z. before ++ z) (sym taken) ∙ joined
+    append_assoc before (p ∷ []) rest ∙ ap (λ z. before ++ z) (sym taken) ∙ joined
 
 module _ {P E : Type 0} (S : P → Tree Span → Type 0) (rule : E → Candidate → Mark) where
   -- each pattern has its exclusion

@@ -1,5 +1,5 @@
 -- Patterns that are left out of walks.
-use Rattle.std.specs.Prelude.{◌≡◌, ◌<◌, ◌≤◌, ◌⊎◌, false, List, map, ⊤}
+use Rattle.std.specs.Prelude.{◌≡◌, ◌<◌, ◌≤◌, ◌⊎◌, false, List, map}
 use Rattle.wax_exclude.specs.GlobRequests.{IsRuleOf}
 use Rattle.wax_token.specs.Cost.{program_length}
 use Rattle.wax_token.specs.Reads.{Span}
@@ -11,9 +11,9 @@ use Rattle.wax_walk.specs.View.{IsSeenAs, WalkView}
 use Rattle.wax_exclude.specs.Marks.{not_mark}
 use Rattle.wax_exclude.specs.Wanted.{not_meant}
 use Rattle.wax_glob_walk.specs.Programs.{any_mark}
-use Rattle.wax_set.specs.Patterns.{IsFirstRefused, IsOnly, SpellEach}
+use Rattle.wax_set.specs.Patterns.{IsFirstRefused, IsOnly, SpellEach, WhyNotBuilt}
 use Rattle.wax_error.specs.declared.build_error.BuildError.{BuildError}
-use Rattle.wax_error.specs.declared.build_error.BuildError.TheVariants.{Parse, Rule, Compile, Memory}
+use Rattle.wax_error.specs.declared.build_error.BuildError.TheVariants.{Memory}
 use Rattle.wax.specs.declared.ignoring.IgnoreList.{IgnoreList}
 use Rattle.wax.specs.declared.walk_filter.WalkFilter.{WalkFilter}
 use Rattle.wax.specs.declared.walk_filter.WalkFilter.TheVariants.{Not, Ignore}
@@ -28,17 +28,14 @@ pub record FitsAlone (SpellsTree : Tree Span → Type 0) (t : Tree Span) : Type 
 abbrev pub IsExclusionOf : (Tree Span → Type 0) → (Candidate → Mark) → Type 0
 IsExclusionOf SpellsTree rule = (t : Tree Span) × FitsAlone SpellsTree t × (rule ≡ not_mark t)
 
--- why nothing is left out; nothing is said where memory was refused
+-- why nothing is left out: the pattern is refused, or its tree would cost too much
 abbrev pub NoExclusion : (Tree Span → Type 0) → (BuildError → Type 0) → BuildError → Type 0
-NoExclusion SpellsTree RefusesAs (Parse place) = RefusesAs (Parse place)
-NoExclusion SpellsTree RefusesAs (Rule error) = RefusesAs (Rule error)
-NoExclusion SpellsTree RefusesAs (Compile error) = RefusesAs (Compile error)
-    ⊎ ((t : Tree Span) × IsOnly SpellsTree t × (1048576 < program_length t))
-NoExclusion SpellsTree RefusesAs Memory = ⊤
+NoExclusion SpellsTree RefusesAs =
+    WhyNotBuilt RefusesAs ((t : Tree Span) × IsOnly SpellsTree t × (1048576 < program_length t))
 
 -- ---- several patterns as one
 
--- the rule leaves out what one of the patterns does
+-- the rule leaves out what the tree of one of the patterns means
 abbrev pub IsAnyExclusionOf : {P : Type 0} → (P → Tree Span → Type 0) → List P → (Candidate → Mark) → Type 0
 IsAnyExclusionOf SpellsTree patterns rule = (ts : List (Tree Span))
     × SpellEach (λ p. FitsAlone (SpellsTree p)) patterns ts × (rule ≡ any_mark (map not_mark ts))

@@ -1,5 +1,6 @@
 -- What the alternation of the patterns' trees means, and why there is none.
 use Rattle.std.proofs.Common.{◌≡◌, ◌↔◌, ◌<◌, ◌≤◌, ◌++◌, ◌∷◌, ℕ, false, List, [], inl, inr, map, refl, sym, ap, ◌∙◌, subst}
+use Rattle.std.proofs.lemmas.List.{append_assoc}
 use Rattle.wax_token.specs.Cost.{program_length}
 use Rattle.wax_token.specs.Meaning.{Means, MeansSome}
 use Rattle.wax_token.specs.Reads.{Reads, Span}
@@ -56,23 +57,15 @@ module _ {P : Type 0} (S : P → Tree Span → Type 0) where
   one_more (q ∷ ps) [] p t h k = absurd h
   one_more (q ∷ ps) (u ∷ ts) p t h k = (h.0, one_more ps ts p t h.1 k)
 
-pub mapped_to_itself : (ts : List (Tree Span)) → map (λ t. t) ts ≡ ts
-mapped_to_itself [] = refl
-mapped_to_itself (t ∷ ts) = ap (λ z. t ∷ z) (mapped_to_itself ts)
-
 -- the tree that an expression spells is the only one
 pub only_spelled : (e : List ℕ) (t : Tree Span) → Spells e t → ((u : Tree Span) → Reads e u → u ≡ t) → IsOnly (Spells e) t
 only_spelled e t spells only = (spells, λ u h. only u h.0)
 
 -- the first of those that are left is taken
-pushed : {P : Type 0} (before : List P) (p : P) (rest : List P) → (before ++ p ∷ []) ++ rest ≡ before ++ p ∷ rest
-pushed [] p rest = refl
-pushed (q ∷ before) p rest = ap (λ z. q ∷ z) (pushed before p rest)
-
 pub one_taken : {P : Type 0} (before : List P) (p : P) (rest left all : List P) → left ≡ p ∷ rest →
     before ++ left ≡ all → (before ++ p ∷ []) ++ rest ≡ all
 one_taken before p rest left all taken joined =
-    pushed before p rest ∙ ap (λ z. before ++ z) (sym taken) ∙ joined
+    append_assoc before (p ∷ []) rest ∙ ap (λ z. before ++ z) (sym taken) ∙ joined
 
 module _ {P : Type 0} (S : P → Tree Span → Type 0) (R : P → BuildError → Type 0) where
   pub refused_first : (all before : List P) (ts : List (Tree Span)) (p : P) (after : List P) (e : BuildError) →

@@ -67,11 +67,15 @@ pub record IsFirstRefused {P : Type 0} (SpellsTree : P → Tree Span → Type 0)
   pub after : List P
   pub all : patterns ≡ before ++ pattern ∷ after
 
--- why there is no set of the patterns; nothing is said where memory was refused
+-- why nothing is built: it is refused, or would cost too much; nothing is said where memory was refused
+abbrev pub WhyNotBuilt : (BuildError → Type 0) → Type 0 → BuildError → Type 0
+WhyNotBuilt RefusedAs Oversized (Parse place) = RefusedAs (Parse place)
+WhyNotBuilt RefusedAs Oversized (Rule error) = RefusedAs (Rule error)
+WhyNotBuilt RefusedAs Oversized (Compile error) = RefusedAs (Compile error) ⊎ Oversized
+WhyNotBuilt RefusedAs Oversized Memory = ⊤
+
+-- why there is no set of the patterns: the first that is refused, or the cost of all
 abbrev pub NoSet : {P : Type 0} → (P → Tree Span → Type 0) → (P → BuildError → Type 0) → List P
     → BuildError → Type 0
-NoSet SpellsTree RefusesAs patterns (Parse place) = IsFirstRefused SpellsTree RefusesAs patterns (Parse place)
-NoSet SpellsTree RefusesAs patterns (Rule error) = IsFirstRefused SpellsTree RefusesAs patterns (Rule error)
-NoSet SpellsTree RefusesAs patterns (Compile error) =
-    IsFirstRefused SpellsTree RefusesAs patterns (Compile error) ⊎ AreOversized SpellsTree patterns
-NoSet SpellsTree RefusesAs patterns Memory = ⊤
+NoSet SpellsTree RefusesAs patterns =
+    WhyNotBuilt (IsFirstRefused SpellsTree RefusesAs patterns) (AreOversized SpellsTree patterns)
