@@ -16,6 +16,7 @@ from __future__ import annotations
 import ctypes
 import itertools
 import os
+import threading
 from typing import Iterable, Iterator, Optional
 
 __all__ = ["BuildError", "Error", "Glob", "IgnoreList", "LineError", "is_match"]
@@ -203,6 +204,7 @@ class IgnoreList:
 
     def __init__(self, text: str) -> None:
         self._handle = ctypes.c_void_p()
+        self._lock = threading.Lock()  # (a call keeps what it learns in the list, so one at a time may use it)
         lines, line = _bytes(text), ctypes.c_size_t()
         status = _library.wax_ignore_new(lines, len(lines), ctypes.byref(self._handle), ctypes.byref(line))
         if status and line.value:
@@ -219,4 +221,5 @@ class IgnoreList:
     def is_ignored(self, path: str) -> bool:
         """Returns whether the list ignores the path. Raises `MemoryError` if an allocation fails."""
         text = _bytes(path)
-        return _answer(_library.wax_ignore_is_ignored(self._handle, text, len(text)))
+        with self._lock:
+            return _answer(_library.wax_ignore_is_ignored(self._handle, text, len(text)))

@@ -94,10 +94,12 @@ static void lists(void) {
   size_t line = 7;
   wax_ignore *list = NULL;
   CHECK(wax_ignore_new(TEXT("# logs\n**/*.log\n!x/**\n"), &list, &line) == 0 && list != NULL && line == 0);
-  CHECK(wax_ignore_is_ignored(list, TEXT("a.log")) == 1);
-  CHECK(wax_ignore_is_ignored(list, TEXT("y/b.log")) == 1);
-  CHECK(wax_ignore_is_ignored(list, TEXT("x/a.log")) == 0);
-  CHECK(wax_ignore_is_ignored(list, TEXT("a")) == 0);
+  for (int time = 0; time < 2; time++) {
+    CHECK(wax_ignore_is_ignored(list, TEXT("a.log")) == 1);
+    CHECK(wax_ignore_is_ignored(list, TEXT("y/b.log")) == 1);
+    CHECK(wax_ignore_is_ignored(list, TEXT("x/a.log")) == 0);
+    CHECK(wax_ignore_is_ignored(list, TEXT("a")) == 0);
+  }
   CHECK(wax_ignore_is_ignored(list, "\xff", 1) == -20);
   wax_ignore_free(list);
   wax_ignore_free(NULL);

@@ -120,6 +120,32 @@ impl IgnoreList {
         self.rule.is_ignored(alloc, path)
     }
 
+    /// Returns what `is_ignored` does, and keeps what it learns from each path for the next ones:
+    /// for many paths, and lists of many lines. What it keeps is in proportion to the number of
+    /// lines.
+    ///
+    /// ```
+    /// let mut list = IgnoreList::parse(alloc, "**/*.o\n!keep.o\n")?;
+    /// for path in vec![in alloc; "a/b.o", "keep.o"]? {
+    ///     println!(rt; "{}", list.is_ignored_cached(alloc, &CandidatePath::from(path))?)?;
+    /// }
+    /// ```
+    ///
+    /// # Errors
+    ///
+    /// Returns `NoMemory` if allocation fails. The list can be used for further paths after that.
+    pub fn is_ignored_cached(
+        &mut self,
+        alloc: Global,
+        path: &CandidatePath<'_>,
+    ) -> Result<bool, NoMemory>
+        ensures decides { IfOk result (λ answer. (lines : List (Line Span)) → HoldsLines self.old lines
+            → answer ≡ is_ignored lines path.now) }
+        ensures same { self.new ≡ self.old }
+    {
+        self.rule.is_ignored_cached(alloc, path)
+    }
+
     /// Collects the plain walk from `start` without what the list ignores: returns what is kept, in
     /// order, errors included, and the directory. Over a lawful directory, the entries are exactly
     /// those of the whole walk, at the depths of `behavior`, that the list doesn't ignore. If

@@ -73,7 +73,7 @@ typedef struct wax_ignore wax_ignore;
  * errors 1 to 9, `line` is the number, from 1, of the first line whose glob has an error; otherwise it is 0. */
 int32_t wax_ignore_new(const char *text, size_t text_length, wax_ignore **out, size_t *line);
 
-/* Returns 1 if the list ignores the path, 0 if not. */
+/* Returns 1 if the list ignores the path, 0 if not. The list keeps what it learns from the path for the next ones. */
 int32_t wax_ignore_is_ignored(const wax_ignore *list, const char *path, size_t path_length);
 
 /* Frees a handle. Does nothing if it is null. */

@@ -46,7 +46,8 @@ pub extern "C" fn wax_ignore_new(
     status_of(&outcome)
 }
 
-/// Returns 1 if the list ignores the path and 0 if not.
+/// Returns 1 if the list ignores the path and 0 if not. The list keeps what it learns from the path
+/// for the next ones.
 ///
 /// # Errors
 ///
@@ -58,7 +59,7 @@ pub unsafe extern "C" fn wax_ignore_is_ignored(alloc: Global, list: *const u8, p
     ensures* back { sem 𝓛 (list_at alloc list held) }
     ensures answer { IgnoresAs held path.now result }
 {
-    answer_list(alloc, &*(list as *const IgnoreList), path)
+    answer_list(alloc, &mut *(list as *mut IgnoreList), path)
 }
 
 /// Frees what the handle points to. A null handle is ignored.
@@ -108,20 +109,22 @@ fn boxed_list(alloc: Global, text: &[u8]) -> Result<Box<IgnoreList>, (CallError,
     }
 }
 
-fn answer_list(alloc: Global, list: &IgnoreList, path: &[u8]) -> i32
-    ensures { IgnoresAs list.now path.now result }
+fn answer_list(alloc: Global, list: &mut IgnoreList, path: &[u8]) -> i32
+    ensures answer { IgnoresAs list.old path.now result }
+    ensures same { list.new ≡ list.old }
 {
     let outcome = is_ignored(alloc, list, path);
     answer_of(&outcome)
 }
 
-fn is_ignored(alloc: Global, list: &IgnoreList, path: &[u8]) -> Result<bool, CallError>
-    ensures { Ignores list.now path.now result }
+fn is_ignored(alloc: Global, list: &mut IgnoreList, path: &[u8]) -> Result<bool, CallError>
+    ensures answer { Ignores list.old path.now result }
+    ensures same { list.new ≡ list.old }
 {
     let Ok(path) = str::from_utf8(path) else {
         return Err(CallError::NotText);
     };
-    match list.is_ignored(alloc, &CandidatePath::from(path)) {
+    match list.is_ignored_cached(alloc, &CandidatePath::from(path)) {
         Ok(answer) => Ok(answer),
         Err(_) => Err(CallError::Build(BuildError::Memory)),
     }

@@ -21,6 +21,7 @@ pub mod Passed
 pub mod Passing
 pub mod TreeRequests
 pub mod Reaching
+pub mod Remembered
 pub mod Rows
 pub mod Shown
 pub mod Stacking

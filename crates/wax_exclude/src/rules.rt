@@ -111,6 +111,28 @@ impl IgnoreRule {
     {
         is_ignored_by(alloc, self.lines.as_slice(), path.as_str())
     }
+
+    /// Returns what `is_ignored` does, with the help of what is kept of earlier paths.
+    ///
+    /// # Errors
+    ///
+    /// Returns `NoMemory` if allocation fails. The rule can be used for further paths after that.
+    pub fn is_ignored_cached(
+        &mut self,
+        alloc: Global,
+        path: &CandidatePath<'_>,
+    ) -> Result<bool, NoMemory>
+        ensures decides { IfOk result (λ answer. (ls : List (Line Span)) → HasLines self.old ls
+            → answer ≡ is_ignored ls path.now) }
+        ensures same { self.new ≡ self.old }
+    {
+        let candidate = Candidate {
+            path: path.as_str(),
+            depth: 0,
+        };
+        let residue = residue_by(alloc, self.lines.as_slice(), &mut self.blocks, candidate)?;
+        Ok(residue.is_some())
+    }
 }
 
 impl Exclude for IgnoreRule {

@@ -19,16 +19,16 @@ pub fn answer(
     made: &mut Answer,
 ) -> Result<(), NoMemory> {
     match IgnoreList::parse(alloc, row.input(0)) {
-        Ok(list) if is_twice => {
-            add_twice(alloc, &list, row.input(1), made);
+        Ok(mut list) if is_twice => {
+            add_twice(alloc, &mut list, row.input(1), made);
             Ok(())
         }
-        Ok(list) => add_ignored(alloc, &list, row.input(1), made),
+        Ok(mut list) => add_ignored(alloc, &mut list, row.input(1), made),
         Err(error) => add_error(&error, made),
     }
 }
 
-fn add_twice(alloc: Global, list: &IgnoreList, path: &str, made: &mut Answer) {
+fn add_twice(alloc: Global, list: &mut IgnoreList, path: &str, made: &mut Answer) {
     for _ in 0..2 {
         let call = add_ignored(alloc, list, path, made);
         made.end(call);
@@ -37,11 +37,16 @@ fn add_twice(alloc: Global, list: &IgnoreList, path: &str, made: &mut Answer) {
 
 fn add_ignored(
     alloc: Global,
-    list: &IgnoreList,
+    list: &mut IgnoreList,
     path: &str,
     made: &mut Answer,
 ) -> Result<(), NoMemory> {
-    made.digit(list.is_ignored(alloc, &CandidatePath::from(path))?);
+    let path = CandidatePath::from(path);
+    let is_ignored = list.is_ignored(alloc, &path)?;
+    made.digit(is_ignored);
+    if list.is_ignored_cached(alloc, &path)? != is_ignored {
+        made.add(", but not with what is kept");
+    }
     Ok(())
 }
 

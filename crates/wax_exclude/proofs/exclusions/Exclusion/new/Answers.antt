@@ -1,4 +1,4 @@
-use Rattle.std.proofs.Common.{◌≡◌, ◌∙◌, ◌↔◌, ◌<◌, ℕ, List, ap, false, subst, sym}
+use Rattle.std.proofs.Common.{◌≡◌, ◌∙◌, ◌↔◌, ◌<◌, ap, false, subst, sym}
 use Rattle.std.proofs.lemmas.List.Elements.{All-same}
 use Rattle.wax_alternatives.specs.Alternatives.{MeansOneOf, alternatives}
 use Rattle.wax_program.specs.Machine.{Accepts}
