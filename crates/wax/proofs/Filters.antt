@@ -1,5 +1,5 @@
 -- Several patterns as one filter.
-use Rattle.std.proofs.Common.{◌≡◌, ◌⊎◌, ◌++◌, ◌∷◌, List, [], inr, map, refl, sym, ap, ◌∙◌}
+use Rattle.std.proofs.Common.{◌≡◌, ◌++◌, ◌∷◌, List, [], inr, map, refl, sym, ap, ◌∙◌}
 use Rattle.std.proofs.lemmas.List.{append_assoc}
 use Rattle.std.specs.List.{AllZip}
 use Rattle.wax_token.specs.Reads.{Span}
@@ -8,7 +8,7 @@ use Rattle.wax_exclude.specs.Marks.{not_mark}
 use Rattle.wax_glob_walk.specs.Programs.{any_mark}
 use Rattle.wax_walk.specs.Candidates.{Candidate}
 use Rattle.wax_walk.specs.Given.{Mark}
-use Rattle.wax_set.specs.Patterns.{IsFirstRefused, SpellEach}
+use Rattle.wax_set.specs.Patterns.{SpellEach}
 use Rattle.wax_error.specs.declared.build_error.BuildError.{BuildError}
 use Rattle.wax.specs.Exclusions.{FitsAlone, IsAnyExclusionOf, IsExclusionOf, NoAnyExclusion, NoExclusion}
 

@@ -1,5 +1,5 @@
 -- Globs that match a folder and everything below it.
-use Rattle.std.proofs.Common.{◌≡◌, ◌↔◌, ℕ, false, List, Option, None, Some, IfSome, Bor, chars, sym, subst}
+use Rattle.std.proofs.Common.{◌≡◌, ◌↔◌, ℕ, false, List, Option, None, Some, IfSome, Bor, chars, subst}
 use Rattle.wax_alternatives.proofs.Joining.{as_members, of_members}
 use Rattle.wax_prefilter.specs.Within.{IsInFolder}
 use Rattle.wax_token.specs.Meaning.{Means, MeansEach}

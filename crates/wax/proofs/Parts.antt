@@ -14,9 +14,7 @@ use Rattle.wax_facts.specs.Rest.{left}
 use Rattle.wax_facts.proofs.BuiltOrderly.{built_orderly}
 use Rattle.wax_facts.proofs.Seams.{prefix_seam}
 use Rattle.wax_partition.specs.Partition.{IsPartition, rest_glob, spelled_rest}
-use Rattle.wax_partition.proofs.RestKeeps.{parts_keep}
 use Rattle.wax_partition.proofs.RestKnown.{parts_branch, parts_fits, parts_orderly, parts_rest, parts_split, parts_whole}
-use Rattle.wax_rule.specs.Keeping.{KeepsRules}
 use Rattle.wax.specs.GlobView.{IsKept, empty_tree}
 use Rattle.wax.specs.Partition.{HasParts, IsRest, MeansAlone, as_glob}
 

@@ -1,4 +1,4 @@
-use Rattle.std.proofs.Common.{◌≡◌, ◌∙◌, ◌≤◌, ap, subst, sym}
+use Rattle.std.proofs.Common.{◌∙◌, ◌≤◌, ap, subst, sym}
 use Rattle.wax_token.specs.Cost.{program_length}
 use Rattle.wax.specs.GlobView.{IsKept}
 use Rattle.wax.proofs.glob.Glob.token.Goals as goal
