@@ -1,5 +1,6 @@
 //! Sets of places below 64, one bit each, in one word.
-ghost use Rattle.std.specs.Prelude.{◌≡◌, ◌<◌, ◌≤◌, ◌↔◌, ℕ, IsTrue, length, slice_index_or, slice_set, true, false};
+ghost use Rattle.std.specs.Prelude.{◌≡◌, ◌<◌, ◌≤◌, ◌↔◌, ℕ, IsTrue, false, length};
+ghost use Rattle.std.specs.Prelude.{slice_index_or, slice_set, true};
 ghost use Rattle.wax_bits.specs.Bits.{places_of};
 ghost use Rattle.wax_bits.specs.Places.{HoldsPlace, IsEmpty};
 

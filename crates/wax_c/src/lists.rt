@@ -110,8 +110,7 @@ fn boxed_list(alloc: Global, text: &[u8]) -> Result<Box<IgnoreList>, (CallError,
 }
 
 fn answer_list(alloc: Global, list: &mut IgnoreList, path: &[u8]) -> i32
-    ensures answer { IgnoresAs list.old path.now result }
-    ensures same { list.new ≡ list.old }
+    ensures { IgnoresAs list.old path.now result × (list.new ≡ list.old) }
 {
     let outcome = is_ignored(alloc, list, path);
     answer_of(&outcome)
