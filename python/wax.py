@@ -219,7 +219,10 @@ class IgnoreList:
             _library.wax_ignore_free(handle)
 
     def is_ignored(self, path: str) -> bool:
-        """Returns whether the list ignores the path. Raises `MemoryError` if an allocation fails."""
+        """Returns whether the list ignores the path, and keeps what it learns from it for the next ones.
+
+        Raises `MemoryError` if an allocation fails.
+        """
         text = _bytes(path)
         with self._lock:
             return _answer(_library.wax_ignore_is_ignored(self._handle, text, len(text)))

@@ -14,11 +14,15 @@
 //!
 //! `time walk FOLDER..` walks folders of the real system. It prints entries, errors and
 //! milliseconds.
+//!
+//! `time ignored -` reads an ignore list from standard input, up to an empty line, and asks it about
+//! each line after that. It prints nanoseconds for each line by `is_ignored` and by
+//! `is_ignored_cached`, and how many lines each of them ignores.
 
 use std::alloc::{AllocError, Global};
 use std::time::Instant;
 use std::{env, io};
-use wax::walk::{Folders, PathExt};
+use wax::walk::{Folders, IgnoreList, PathExt};
 use wax::{CandidatePath, Glob, NoMemory, Program};
 
 /// How often `time new` builds each glob.
@@ -66,6 +70,7 @@ fn time_word(rt: HostRuntime, job: &str, word: &str, given: &str) -> io::Result<
         "captures-by-matcher" => time_lines(rt, Timed::CapturesByMatcher, word, given),
         "new" => time_new(rt, word),
         "build" => time_build(rt, given.trim_end()),
+        "ignored" => time_list(rt, given),
         _ => time_walk(rt, word),
     }
 }
@@ -205,4 +210,47 @@ fn walked(rt: HostRuntime, start: &str) -> (u64, u64) {
         }
     }
     (entries, errors)
+}
+
+fn time_list(rt: HostRuntime, given: &str) -> io::Result<()> {
+    let alloc = rt.alloc();
+    let Some((text, paths)) = given.split_once("\n\n") else {
+        return println!(rt; "no empty line");
+    };
+    let lines = lines_of(alloc, paths)?;
+    let count = (lines.len() as u128).max(1);
+    let Ok(mut list) = IgnoreList::parse(alloc, text) else {
+        return println!(rt; "refused");
+    };
+    let start = Instant::now(&rt)?;
+    let ignored = count_ignored(alloc, &list, &lines);
+    let single = start.elapsed(&rt)?.as_nanos() / count;
+    let start = Instant::now(&rt)?;
+    let ignored_cached = count_ignored_cached(alloc, &mut list, &lines);
+    let cached = start.elapsed(&rt)?.as_nanos() / count;
+    println!(rt; "{single}\t{cached}\t{ignored:?}\t{ignored_cached:?}")
+}
+
+/// Returns how many lines the list ignores.
+fn count_ignored(alloc: Global, list: &IgnoreList, lines: &[&str]) -> Result<u64, NoMemory> {
+    let mut count: u64 = 0;
+    for line in lines {
+        let answer = list.is_ignored(alloc, &CandidatePath::from(*line))?;
+        count = count.saturating_add(answer as u64);
+    }
+    Ok(count)
+}
+
+/// Returns what `count_ignored` does, with what the list keeps.
+fn count_ignored_cached(
+    alloc: Global,
+    list: &mut IgnoreList,
+    lines: &[&str],
+) -> Result<u64, NoMemory> {
+    let mut count: u64 = 0;
+    for line in lines {
+        let answer = list.is_ignored_cached(alloc, &CandidatePath::from(*line))?;
+        count = count.saturating_add(answer as u64);
+    }
+    Ok(count)
 }
