@@ -43,8 +43,9 @@ fn add_ignored(
 ) -> Result<(), NoMemory> {
     let path = CandidatePath::from(path);
     let is_ignored = list.is_ignored(alloc, &path)?;
+    let is_ignored_cached = list.is_ignored_cached(alloc, &path)?;
     made.digit(is_ignored);
-    if list.is_ignored_cached(alloc, &path)? != is_ignored {
+    if is_ignored_cached != is_ignored {
         made.add(", but not with what is kept");
     }
     Ok(())
