@@ -109,6 +109,7 @@ impl IgnoreList {
     }
 
     /// Returns whether the last line that matches the path ignores it; false if no line matches.
+    /// It takes time in proportion to the number of lines: for many paths, use `is_ignored_cached`.
     ///
     /// # Errors
     ///
@@ -120,14 +121,14 @@ impl IgnoreList {
         self.rule.is_ignored(alloc, path)
     }
 
-    /// Returns what `is_ignored` does, and keeps what it learns from each path for the next ones:
-    /// for many paths, and lists of many lines. What it keeps is in proportion to the number of
-    /// lines.
+    /// Returns what `is_ignored` does, and keeps what it learns from each path for the next ones. What
+    /// it keeps takes memory in proportion to the number of lines.
     ///
     /// ```
     /// let mut list = IgnoreList::parse(alloc, "**/*.o\n!keep.o\n")?;
     /// for path in vec![in alloc; "a/b.o", "keep.o"]? {
-    ///     println!(rt; "{}", list.is_ignored_cached(alloc, &CandidatePath::from(path))?)?;
+    ///     let is_ignored = list.is_ignored_cached(alloc, &CandidatePath::from(path))?;
+    ///     println!(rt; "{is_ignored}")?; // true; false
     /// }
     /// ```
     ///
