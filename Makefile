@@ -1,21 +1,34 @@
 # make quick:     builds ./globs without a proof, in about a minute
+# make test:      runs all tests that need no proof, in minutes; with ONLY='NAME..', only those that cover these crates
 # make globs:     proves `globs` and each library that it uses, and builds ./globs
+# make prove:     proves everything, tests what was proved, and tries the wrong bodies
 # make explain:   proves and builds ./globs_explain, which explains an expression
-# make library:   builds the C library in crates/wax_c/out; `make test` or `./prove wax` has to run before
-# make test:      proves everything from nothing, runs all tests, and tries the wrong bodies
+# make library:   builds the C library in target/library; `make globs` or `make prove` has to run before
 # make bench:     measures matches beside grep and rg, and walks beside find and fd (bench/README.md)
 # make install:   installs what was built, with its manual pages and completions, below PREFIX (packaging/README.md)
 # make uninstall: removes it
 # docs/GATE.md says how long they take.
 
-.PHONY: quick globs explain library test bench install uninstall
+.PHONY: quick test globs prove explain library bench install uninstall
 
 quick:
-	./quick
+	./quick globs
+	BUILT=target/unproved tests/rows globs
+	cp target/unproved/globs globs
+
+test:
+	tests/run $(ONLY)
 
 globs:
 	./prove globs
 	cp crates/globs/out/globs globs
+
+prove:
+	rt ci
+	tests/run --proved
+	tests/repository
+	tests/targets
+	tests/wrong-bodies
 
 explain:
 	./prove globs_explain
@@ -23,25 +36,6 @@ explain:
 
 library:
 	./library
-
-test:
-	tests/house
-	tests/calling
-	rt ci
-	./quick crates/globs/out/globs.unproved
-	tests/commands
-	tests/memory
-	tests/hostile
-	tests/c
-	tests/python
-	tests/install
-	tests/completions
-	tests/pipelines
-	tests/explain
-	tests/examples
-	tests/comparison
-	tests/repository
-	tests/wrong-bodies
 
 bench: globs
 	cd crates/wax_vectors && rt run </dev/null

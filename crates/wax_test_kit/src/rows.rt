@@ -146,14 +146,16 @@ pub fn compare_file<K: RowKind>(rt: &HostRuntime, name: &str, made: &mut Answer)
     println!(rt; "{name}: {same} the same, {other} other")
 }
 
-/// Returns whether the computed answer of the row is the one in the file. If not, prints both.
+/// Returns whether the computed answer of the row is the one in the file. If not, prints the row
+/// and both.
 fn is_same<K: RowKind>(rt: &HostRuntime, line: &str, made: &mut Answer) -> io::Result<bool> {
     let (inputs, kind) = K::find(name_of(line));
     let row = DataRow::read(rt.alloc(), line, inputs)?;
     let answer = make(rt, kind, &row, made);
     let is_same = K::agrees(answer, row.wanted());
     if !is_same {
-        println!(rt; "{line}\n    came to {answer}")?;
+        let wanted = row.wanted();
+        println!(rt; "a row differs: {line}\n    expected {wanted}\n    got {answer}")?;
     }
     Ok(is_same)
 }
