@@ -53,7 +53,10 @@ fn is_same(rt: &HostRuntime, row: &str, given: usize) -> io::Result<bool> {
     rows::make(rt.alloc(), row, given, &mut made);
     let is_same = made.text() == row;
     if !is_same {
-        println!(rt; "a row differs: {row}\n    expected {row}\n    got {}", made.text())?;
+        println!(rt;
+            "a row differs: {row}\n    expected {row}\n    got {}",
+            made.text()
+        )?;
     }
     Ok(is_same)
 }
