@@ -1,5 +1,5 @@
 -- What is to come of a glob's walk.
-use Rattle.std.proofs.Common.{◌≡◌, ◌∙◌, ◌≤◌, ◌<◌, ◌+◌, ◌&&◌, ℕ, Bool, true, false, cond, if◌then◌else◌, List, [], ◌∷◌, length, refl, sym, subst, ap, chars, encode_utf8_all, inr, arith}
+use Rattle.std.proofs.Common.{◌≡◌, ◌∙◌, ◌≤◌, ◌<◌, ◌+◌, ◌&&◌, ℕ, Bool, true, false, cond, if◌then◌else◌, List, [], ◌∷◌, length, refl, sym, subst, ap, chars, encode_utf8_all, inl, inr, arith}
 use Rattle.std.specs.Str.{IsUtf8}
 use Rattle.std.proofs.lemmas.Bool.{ltb-false, ltb-true}
 use Rattle.std.proofs.lemmas.Str.{encodes-chars}
@@ -243,6 +243,12 @@ module _ {D C : Type 0} (g : GlobView) (law : Law D C) (d : D) (start : List ℕ
           (subst (λ n. n ≤ length (origin_from start a.rooted a.names).names) (sym seen.names_left) (begins_so a).names);
       fails = fails_along;
       none_listed = seen.listings_open ∙ b.none_listed;
+      begun = elim b.begun [
+        | inl e ↦ inl (seen.to_begin ∙ e)
+        | inr e ↦ inr (seen.idles (inr e.0), seen.to_begin ∙ e.1)
+      ];
+      none_to_open = seen.to_open ∙ b.none_to_open;
+      yields_from = seen.yields_from ∙ b.yields_from ∙ ap (λ r. r.min) same_range;
       opens_above = seen.opens_above ∙ b.opens_above ∙ ap (λ r. r.max) same_range;
       directory = seen.directory ∙ b.directory;
     }
@@ -264,6 +270,9 @@ module _ {D C : Type 0} (g : GlobView) (law : Law D C) (d : D) (start : List ℕ
     names = λ a. omega (arith, seen.names_left, b.names);
     fails = λ a. fails_nowhere inner rule asked.min (origin_from start a.rooted a.names).path a.names b.fails seen;
     none_listed = seen.listings_open ∙ b.none_listed;
+    begun = inr (seen.idles (inr b.idle), seen.to_begin ∙ b.begun);
+    none_to_open = seen.to_open ∙ b.none_to_open;
+    yields_from = seen.yields_from ∙ b.yields_from ∙ ap (λ r. r.min) same;
     opens_above = seen.opens_above ∙ b.opens_above ∙ ap (λ r. r.max) same;
     directory = seen.directory ∙ b.directory;
   }
@@ -287,6 +296,9 @@ module _ {D C : Type 0} (g : GlobView) (law : Law D C) (d : D) (start : List ℕ
     names = λ a. omega (arith, seen.names_left, b.names);
     fails = λ a. fails_nowhere inner (leading_mark (component_test {A = Span}) cs decides g) asked.min (origin_from start a.rooted a.names).path a.names b.fails seen;
     none_listed = seen.listings_open ∙ b.none_listed;
+    begun = inr (seen.idles (inr b.idle), seen.to_begin ∙ b.begun);
+    none_to_open = seen.to_open ∙ b.none_to_open;
+    yields_from = seen.yields_from ∙ b.yields_from ∙ ap (λ r. r.min) same;
     opens_above = seen.opens_above ∙ b.opens_above ∙ ap (λ r. r.max) same;
     directory = seen.directory ∙ b.directory;
   } where

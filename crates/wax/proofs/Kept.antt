@@ -1,8 +1,8 @@
 -- What is kept of a glob's walk, whatever the directory shows, and where two `/` stand side by side in the prefix.
-use Rattle.std.proofs.Common.{◌≡◌, ◌∙◌, ℕ, ◌+◌, ◌*◌, ◌≤◌, false, List, [], ◌∷◌, ◌++◌, length, filter, refl, ap, subst, arith}
+use Rattle.std.proofs.Common.{◌≡◌, ◌∙◌, ℕ, ◌+◌, ◌*◌, ◌≤◌, false, List, [], ◌∷◌, ◌++◌, length, filter, refl, ap, subst, arith, inl, inr}
 use Rattle.wax_directory.specs.Counting.{grown}
 use Rattle.wax_directory.specs.Law.{Law}
-use Rattle.wax_walk.specs.Collected.{GaveAll, whole, lacks_memory, over_budget, Took, all_fault_counts, count_to_open}
+use Rattle.wax_walk.specs.Collected.{GaveAll, whole, lacks_memory, over_budget, Took, all_fault_counts, all_items_lost, count_to_open}
 use Rattle.wax_walk.specs.Forest.{nothing, pending}
 use Rattle.wax_walk.specs.Candidates.{Candidate}
 use Rattle.wax_walk.specs.Given.{Mark, Given, is_kept, no_memory}
@@ -20,13 +20,24 @@ pub gave_within : {D C : Type 0} (t : Tree Span) (law : Law D C) (d : D) (start 
     → GaveWithin t law d asked new xs
 gave_within t law d start asked v rule new xs begins few took = let over = begins.directory in record {
   few = few;
-  counts = subst (λ w. CountsFaults (all_fault_counts xs) (law.tally w) (law.tally new)) over took.counts;
+  counts = subst (λ w. CountsFaults (all_fault_counts xs) (all_items_lost xs) (law.tally w) (law.tally new)) over
+      took.counts;
   taken = took.taken;
   counted = took.counted ∙ ap (λ w. grown took.taken (law.tally w).items) over;
   within = subst (λ n. took.taken ≤ n) begins.listings took.within;
   spent = λ path depth h. took.spent path depth h ∙ begins.listings;
   misplaced = λ path depth h b. omega (arith, took.misplaced path depth h, begins.names b);
   ends_there = took.ends_there;
+  going = λ n. omega (arith, took.going n (omega (arith, begins.listings)), begins.listings);
+  passed = took.passed;
+  passes = λ e. took.passes (begins.yields_from ∙ e);
+  refused = took.refused;
+  refuses = took.refuses;
+  begun = v.to_begin;
+  begun_is = elim begins.begun [ inl e ↦ inl e | inr e ↦ inr (e.1, took.unasked (inr e.0) ∙ over) ];
+  gives = took.gives;
+  folders = took.folders;
+  folders_passed = took.folders_passed;
   opened = took.opened;
   opened_is = took.opened_is ∙ ap (λ w. grown took.opened (law.tally w).opened) over;
   ended_is = λ n.
@@ -36,7 +47,8 @@ gave_within t law d start asked v rule new xs begins few took = let over = begin
   opens = λ n. (
     begins.depth,
     begins.depth_is,
-    subst (λ m. count_to_open m xs ≤ took.opened) begins.opens_above (omega (arith, took.opens n)),
+    subst (λ m. took.opened ≡ took.folders + count_to_open m xs) begins.opens_above
+        (omega (arith, took.opens n, begins.none_to_open)),
   );
 }
 

@@ -1,6 +1,6 @@
 -- The walk of a glob.
 use Rattle.std.specs.Prelude.{◌≡◌, ℕ, ◌+◌, ◌*◌, ◌<◌, ◌≤◌, Bool, true, false, List, [], ◌∷◌, length, min}
-use Rattle.std.specs.Prelude.{Option, Some, None}
+use Rattle.std.specs.Prelude.{◌⊎◌, Option, Some, None}
 use Rattle.std.specs.List.{Contains}
 use Rattle.wax_exclude.specs.GlobRequests.{ComesWanted, GlobRequest}
 use Rattle.wax_components.specs.Depth.{Depth}
@@ -12,11 +12,12 @@ use Rattle.wax_exclude.specs.Prefix.{HasEmptyName, PrefixSplitsInto}
 use Rattle.wax_query.specs.Ranges.{Bounds}
 use Rattle.wax_token.specs.Reads.{Span}
 use Rattle.wax_token.specs.Syntax.{Tree}
-use Rattle.wax_tree.specs.Begins.{FailsFrom, IsPassed, Origin}
+use Rattle.wax_tree.specs.Begins.{FailsFrom, IsBegun, IsPassed, Origin}
 use Rattle.wax_tree.specs.declared.steps.DepthRange.{DepthRange}
 use Rattle.wax_tree.specs.Plain.{count_shown}
 use Rattle.wax_tree.specs.Prefix.{ArePlain}
-use Rattle.wax_walk.specs.Collected.{AreOfFolders, EndsThere, NoneLast, all_fault_counts, count_to_open}
+use Rattle.wax_walk.specs.Collected.{AreOfFolders, EndsThere, NoneLast, NoneLacksMemory}
+use Rattle.wax_walk.specs.Collected.{all_fault_counts, all_items_lost, count_to_open}
 use Rattle.wax_walk.specs.declared.error.FaultKind.TheVariants.{Budget, NotAFolder}
 use Rattle.wax_walk.specs.Forest.{pending, nothing}
 use Rattle.wax_walk.specs.Given.{Given, fault, no_memory}
@@ -111,18 +112,25 @@ pub record BeginsGlob {D C : Type 0} (t : Tree Span) (law : Law D C) (d : D) (st
   pub fails : (b : Beginning t) → FailsFrom asked.min (origin_from start b.rooted b.names).path b.names view
   -- no listing is open, and folders are opened above the lesser greatest depth
   pub none_listed : view.listings_open ≡ 0
+  pub begun : IsBegun view
+  pub none_to_open : view.to_open ≡ 0
+  pub yields_from : view.yields_from ≡ asked.min
   pub opens_above : view.opens_above ≡ (within asked depth).max
   pub directory : view.directory ≡ d
 
--- Whatever the directory shows: a walk over it gave these items, no more than twice its budget and 3. Each
--- fault among them was counted, and at most budget + 1 items were taken from listings: all of these, where an
--- item tells that the budget is reached. A folder was missed only on the way along the prefix. An item after
--- which a walk has ended is the last. If none is, no fewer folders were opened than were given above the
--- greatest depth, and as many listings came to their end as folders were opened.
+-- Whatever the directory shows: a walk over it gave these items, no more than twice its budget and 3. The
+-- faults among them are those that were counted, but for one item's at most, where the budget is reached or
+-- memory is refused. At most budget + 1 items were taken from listings: all of these, where an item tells that
+-- the budget is reached, and no more than the budget if no item ends the walk. Unless memory is refused, each
+-- of them was given, or passed if there is a least depth; besides, only the entry where the walk begins was
+-- given, and errors of folders that couldn't be opened. Just the folders that were given above the greatest
+-- depth were opened, and those that were passed. A folder was missed only on the way along the prefix. An item
+-- after which a walk has ended is the last. If none is, as many listings came to their end as folders were
+-- opened.
 pub record GaveWithin {D C : Type 0} (t : Tree Span) (law : Law D C) (d : D) (asked : DepthRange)
     (new : D) (xs : List Given) : Type 0 where
   pub few : length xs ≤ 2 * asked.budget + 3
-  pub counts : CountsFaults (all_fault_counts xs) (law.tally d) (law.tally new)
+  pub counts : CountsFaults (all_fault_counts xs) (all_items_lost xs) (law.tally d) (law.tally new)
   pub taken : ℕ
   pub counted : (law.tally new).items ≡ grown taken (law.tally d).items
   pub within : taken ≤ asked.budget + 1
@@ -131,11 +139,21 @@ pub record GaveWithin {D C : Type 0} (t : Tree Span) (law : Law D C) (d : D) (as
   pub misplaced : (path : List ℕ) (depth : ℕ) → Contains xs (fault NotAFolder path depth) → (b : Beginning t)
       → 0 < length b.names
   pub ends_there : EndsThere xs
+  pub going : NoneLast xs → taken ≤ asked.budget
+  pub passed : ℕ
+  pub passes : asked.min ≡ 0 → passed ≡ 0
+  pub refused : ℕ
+  pub refuses : refused ≤ (all_fault_counts xs).failures
+  pub begun : ℕ
+  pub begun_is : (begun ≡ 1) ⊎ ((begun ≡ 0) × (new ≡ d))
+  pub gives : NoneLacksMemory xs → taken + (refused + begun) ≡ length xs + passed
+  pub folders : ℕ
+  pub folders_passed : folders ≤ passed
   pub opened : ℕ
   pub opened_is : (law.tally new).opened ≡ grown opened (law.tally d).opened
   pub ended_is : NoneLast xs → (law.tally new).ended ≡ grown opened (law.tally d).ended
-  pub opens : NoneLast xs → (depth : Bounds) × Depth t depth
-      × (count_to_open (up_to asked.max depth.1) xs ≤ opened)
+  pub opens : NoneLacksMemory xs → (depth : Bounds) × Depth t depth
+      × (opened ≡ folders + count_to_open (up_to asked.max depth.1) xs)
 
 -- Whatever the directory shows: each error among these items is of a folder that was given before it, or of
 -- what the walk passes on the way of the prefix.

@@ -10,7 +10,7 @@ use Rattle.wax_token.specs.Reads.{Span}
 use Rattle.wax_tree.specs.Plain.{count_shown}
 use Rattle.wax_walk.specs.Candidates.{Candidate, of_candidate}
 use Rattle.wax_walk.specs.Collected.{GaveAll, whole, lacks_memory, over_budget, Took, count_to_open}
-use Rattle.wax_walk.specs.Collected.{AreOfFolders, HasFolder, all_fault_counts}
+use Rattle.wax_walk.specs.Collected.{AreOfFolders, HasFolder, all_fault_counts, all_items_lost}
 use Rattle.wax_walk.specs.declared.error.FaultKind.TheVariants.{Budget}
 use Rattle.wax_walk.specs.Forest.{Pending, Forest, nothing, pending, preorder, listings}
 use Rattle.wax_walk.specs.Given.{Mark, Given, fault, no_memory, is_kept}
@@ -49,8 +49,8 @@ module _ {D C : Type 0} (law : Law D C) where
   took_seen this that new xs seen took = record {
     all = λ p h.
         subst (λ n. GaveAll (law.tells new) n p xs) seen.listings_left (took.all p (seen.to_come p h));
-    counts = subst (λ v. CountsFaults (all_fault_counts xs) (law.tally v) (law.tally new)) seen.directory
-        took.counts;
+    counts = subst (λ v. CountsFaults (all_fault_counts xs) (all_items_lost xs) (law.tally v) (law.tally new))
+        seen.directory took.counts;
     taken = took.taken;
     counted = took.counted ∙ ap (λ v. grown took.taken (law.tally v).items) seen.directory;
     within = subst (λ n. took.taken ≤ n) seen.listings_left took.within;
@@ -59,11 +59,23 @@ module _ {D C : Type 0} (law : Law D C) where
     ends_there = took.ends_there;
     of_folders = folders_seen this that xs seen took.of_folders;
     unasked = λ i. took.unasked (seen.idles i) ∙ seen.directory;
+    passed = took.passed;
+    passes = λ e. took.passes (seen.yields_from ∙ e);
+    refused = took.refused;
+    refuses = took.refuses;
+    gives = λ n. omega (arith, took.gives n, seen.to_begin);
+    going = λ n i. omega (
+      arith,
+      took.going n (omega (arith, i, seen.listings_left)),
+      seen.listings_left,
+    );
+    folders = took.folders;
+    folders_passed = took.folders_passed;
     opened = took.opened;
     opened_is = took.opened_is ∙ ap (λ v. grown took.opened (law.tally v).opened) seen.directory;
     ended = took.ended;
     ended_is = took.ended_is ∙ ap (λ v. grown took.ended (law.tally v).ended) seen.directory;
-    opens = λ n. subst (λ m. this.to_open + count_to_open m xs ≤ took.opened) seen.opens_above
+    opens = λ n. subst (λ m. took.opened ≡ this.to_open + (took.folders + count_to_open m xs)) seen.opens_above
         (omega (arith, took.opens n, seen.to_open));
     closes = λ n. omega (arith, took.closes n, seen.listings_open);
   }

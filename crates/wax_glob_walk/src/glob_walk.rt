@@ -1,6 +1,6 @@
 //! The walk of a glob.
 
-ghost use Rattle.std.specs.Prelude.{◌≡◌, IfOk, chars, false};
+ghost use Rattle.std.specs.Prelude.{◌≡◌, IfOk, OnErr, chars, false, true};
 ghost use Rattle.std.specs.Iterator.{IsFinite};
 ghost use Rattle.wax_candidate.specs.Matched.{IsMatchOf};
 ghost use Rattle.wax_filter.specs.Feeding.{NextFiltrate};
@@ -121,6 +121,7 @@ where
     ensures cuts { IfOk result (λ r. r.1
         ≡ G.cut_by (of_candidate (leading_mark C.decides leading.now P.decides program.now))
         (given_of facts_of facts_of separation)) }
+    ensures asks { OnErr result (G.is_entry (given_of facts_of facts_of separation) ≡ true) }
     ensures matches { IfOk result
         (λ r. KnownItem (IsMatchedEntry (P.means program.now) (P.captured program.now)) r.0) }
 {

@@ -1,5 +1,6 @@
 -- What is found in a folder.
 use Rattle.std.proofs.Common.{◌≡◌, ℕ, ◌+◌, ◌-◌, List, false, inl, inr, sym, subst, ◌∙◌, ap, arith, string_bytes}
+use Rattle.std.proofs.Common.{◌<◌, ◌≤◌, Bool, true, cond, refl}
 use Rattle.std.proofs.lemmas.Str.{IsUtf8-string_bytes}
 use Rattle.std.specs.Prelude.{Option, Some, None, Err, String}
 use Rattle.std.specs.declared.alloc.Global.{Global}
@@ -19,7 +20,7 @@ use Rattle.wax_walk.specs.declared.error.WalkError.TheVariants as W
 use Rattle.wax_walk.specs.Entries.{facts_of}
 use Rattle.wax_walk.specs.Forest.{Forest, nothing, item}
 use Rattle.wax_walk.specs.Given.{Given, entry, fault, no_memory}
-use Rattle.wax_walk.specs.View.{Takes, fault_counts}
+use Rattle.wax_walk.specs.View.{Takes, fault_counts, items_lost}
 use Rattle.wax_tree.specs.declared.steps.FoundItem.TheVariants.{Entry, Fault}
 use Rattle.wax_tree.specs.declared.steps.Step.{Step}
 use Rattle.wax_tree.specs.declared.steps.Step.TheVariants.{Gives}
@@ -28,7 +29,7 @@ use Rattle.wax_tree.specs.Plain.{WalkScope, Location, count_shown, entry_forest}
 use Rattle.wax_tree.specs.inner.Finding.{IsFault, IsFound}
 use Rattle.wax_tree.specs.inner.Heads.{first_item_forest, own_count}
 use Rattle.wax_tree.specs.Stepping.{Asked, IsCounted, UsesAnswer, nothing_asked}
-use Rattle.wax_tree.specs.Walking.{HasKind, allowance, entry_location, names_left, step_given}
+use Rattle.wax_tree.specs.Walking.{HasKind, allowance, begins, entry_location, names_left, step_given}
 use Rattle.wax_tree.proofs.UsingAnswers.{gives_uses_answer}
 use Rattle.wax_tree.proofs.Showing.{takes_name, takes_misnamed, takes_failed, takes_not_text}
 
@@ -84,22 +85,92 @@ module _ (scope : WalkScope) (at : Location) (shows : List ℕ → Shown → Typ
 
 -- ---- what a step makes of it
 
-counted_none : (n k : Tally) → IsCounted n no_counts → IsCounted n k
-counted_none n k c = record {
-  misses = omega (arith, c.misses);
-  leaves = omega (arith, c.leaves);
-  failures = omega (arith, c.failures);
-  bad_names = omega (arith, c.bad_names);
+-- an entry's name is plain, so nothing but an item is counted
+plain_counted : (at : Location) (root : List ℕ) (x : ListItem) (e : TreeEntry) (n : Tally) (lost : ℕ)
+    → IsFound at root x (Entry e) → IsCounted n lost no_counts → IsCounted n lost (item_counts x)
+plain_counted at root (I.Name name kind) e n lost f c = elim f [
+  | inl a ↦ record {
+    misses = c.misses;
+    leaves = omega (arith, c.leaves);
+    failures_lost = c.failures_lost;
+    failures = c.failures;
+    names_lost = c.names_lost;
+    bad_names = rw a.0 c.bad_names;
+    within = c.within;
+  }
+  | inr a ↦ absurd a.1
+]
+plain_counted at root I.Failed e n lost f c = absurd f
+plain_counted at root I.NotText e n lost f c = absurd f
+
+one_name : (b : Bool) → cond b 0 1 ≤ 1
+one_name true = omega arith
+one_name false = omega arith
+
+-- an item is one item, and opens and ends nothing
+pub record OneItem (k : Tally) : Type 0 where
+  pub items : k.items ≡ 1
+  pub opened : k.opened ≡ 0
+  pub ended : k.ended ≡ 0
+
+pub one_item : (x : ListItem) → OneItem (item_counts x)
+one_item (I.Name name kind) = record { items = refl; opened = refl; ended = refl }
+one_item I.Failed = record { items = refl; opened = refl; ended = refl }
+one_item I.NotText = record { items = refl; opened = refl; ended = refl }
+
+-- an item has one fault at most
+pub item_lost : (x : ListItem) → IsCounted no_counts 1 (item_counts x)
+item_lost (I.Name name kind) =
+    let one = one_name (is_plain (string_bytes name)) in record {
+      misses = refl;
+      leaves = omega arith;
+      failures_lost = 0;
+      failures = refl;
+      names_lost = cond (is_plain (string_bytes name)) 0 1;
+      bad_names = omega arith;
+      within = omega (arith, one);
+    }
+item_lost I.Failed = record {
+  misses = refl;
+  leaves = omega arith;
+  failures_lost = 1;
+  failures = refl;
+  names_lost = 0;
+  bad_names = refl;
+  within = omega arith;
+}
+item_lost I.NotText = record {
+  misses = refl;
+  leaves = omega arith;
+  failures_lost = 1;
+  failures = refl;
+  names_lost = 0;
+  bad_names = refl;
+  within = omega arith;
 }
 
 misnamed_counted : (name : String Global) (kind : FileType) (path : List ℕ) (depth : ℕ)
     → is_plain (string_bytes name) ≡ false
-    → IsCounted (fault_counts (Some (fault K.BadName path depth))) (item_counts (I.Name name kind))
+    → IsCounted (fault_counts (Some (fault K.BadName path depth))) 0 (item_counts (I.Name name kind))
 misnamed_counted name kind path depth e = record {
-  misses = omega arith;
+  misses = refl;
   leaves = omega arith;
+  failures_lost = 0;
   failures = omega arith;
+  names_lost = 0;
   bad_names = rw e (omega arith);
+  within = omega arith;
+}
+
+failed_counted : IsCounted (record no_counts { failures = 1 }) 0 (record no_counts { items = 1; failures = 1 })
+failed_counted = record {
+  misses = refl;
+  leaves = omega arith;
+  failures_lost = 0;
+  failures = omega arith;
+  names_lost = 0;
+  bad_names = omega arith;
+  within = omega arith;
 }
 
 takes_more : (r : Option Given) (n m left : ℕ) → n ≡ m + 1 → Takes r m 0 left → Takes r n 1 left
@@ -115,13 +186,22 @@ takes_more (Some (fault K.Budget path depth)) n m left e h = (omega (arith, e, h
 
 module _ {D C : Type 0} where
   -- an entry needs no further call of the directory
-  pub entry_uses_answer : (x : ListItem) (names : ℕ) (w new : Steps D C) (r : Step)
-      → UsesAnswer (nothing_asked names) w r new
-      → UsesAnswer (record { counts = item_counts x; taken = 0; names = names }) w r new
-  entry_uses_answer x names w new r s = record {
+  pub entry_uses_answer : (at : Location) (root : List ℕ) (x : ListItem) (e : TreeEntry) (names made : ℕ)
+      (w new : Steps D C) (r : Step) → IsFound at root x (Entry e)
+      → UsesAnswer (nothing_asked names made) w r new
+      → UsesAnswer (record { counts = item_counts x; taken = 0; names = names; made = made }) w r new
+  entry_uses_answer at root x e names made w new r f s = record {
     goes_on = s.goes_on;
     directory = s.directory;
-    counts = counted_none (fault_counts (step_given r)) (item_counts x) s.counts;
+    counts = plain_counted at root x e (fault_counts (step_given r)) (items_lost (step_given r)) f s.counts;
+    passed = s.passed;
+    passes = s.passes;
+    gives = s.gives;
+    passes_alone = s.passes_alone;
+    going = s.going;
+    folders = s.folders;
+    folders_passed = s.folders_passed;
+    enters = s.enters;
     takes = s.takes;
     ends = s.ends;
     names = s.names;
@@ -138,45 +218,48 @@ module _ {D C : Type 0} where
   -- a fault was counted
   pub found_uses_answer : (at : Location) (x : ListItem) (kind : FaultKind) (path : String Global) (depth : ℕ)
       (w : Steps D C) → IsFound at (string_bytes w.root) x (Fault kind path)
-      → UsesAnswer (record { counts = item_counts x; taken = 0; names = names_left w }) w
-      (Gives (Err (W.Fault kind path depth))) w
+      → UsesAnswer (record {
+        counts = item_counts x;
+        taken = 0;
+        names = names_left w;
+        made = begins w + 1;
+      }) w (Gives (Err (W.Fault kind path depth))) w
   found_uses_answer at (I.Name name k) kind path depth w f = elim f [
     | inl a ↦ absurd a.1
     | inr a ↦
         fault_uses_answer at _ w K.BadName kind path depth a.1
         (gives_uses_answer _ w (Err (W.Fault K.BadName path depth))
-        (misnamed_counted name k (string_bytes path) depth a.0) (omega arith) (λ i. i) (λ i. i)
+        (misnamed_counted name k (string_bytes path) depth a.0) refl refl (omega arith) (λ i. i) (λ i. i)
         (omega arith))
   ]
   found_uses_answer at I.Failed kind path depth w f =
       fault_uses_answer at _ w K.Listing kind path depth f
       (gives_uses_answer _ w (Err (W.Fault K.Listing path depth))
-      (record {
-        misses = omega arith;
-        leaves = omega arith;
-        failures = omega arith;
-        bad_names = omega arith;
-      }) (omega arith) (λ i. i) (λ i. i) (omega arith))
+      failed_counted refl refl (omega arith) (λ i. i) (λ i. i) (omega arith))
   found_uses_answer at I.NotText kind path depth w f =
       fault_uses_answer at _ w K.NotText kind path depth f
       (gives_uses_answer _ w (Err (W.Fault K.NotText path depth))
-      (record {
-        misses = omega arith;
-        leaves = omega arith;
-        failures = omega arith;
-        bad_names = omega arith;
-      }) (omega arith) (λ i. i) (λ i. i) (omega arith))
+      failed_counted refl refl (omega arith) (λ i. i) (λ i. i) (omega arith))
 
   -- an item was taken before
-  pub taken_uses_answer : (counts : Tally) (names : ℕ) (w mid new : Steps D C) (r : Step)
-      → mid.directory ≡ w.directory → allowance w ≡ allowance mid + 1
-      → UsesAnswer (record { counts = counts; taken = 0; names = names }) mid r new
-      → UsesAnswer (record { counts = counts; taken = 1; names = names }) w r new
-  taken_uses_answer counts names w mid new r d a s = record {
+  pub taken_uses_answer : (counts : Tally) (names made : ℕ) (w : Steps D C) (levels : _) (budget : ℕ)
+      (new : Steps D C) (r : Step) → let mid = record w { levels = levels; budget = budget } in
+      allowance w ≡ allowance mid + 1 → 0 < allowance mid
+      → UsesAnswer (record { counts = counts; taken = 0; names = names; made = made }) mid r new
+      → UsesAnswer (record { counts = counts; taken = 1; names = names; made = made }) w r new
+  taken_uses_answer counts names made w levels budget new r a some s = record {
     goes_on = s.goes_on;
-    directory = s.directory ∙ d;
+    directory = s.directory;
     counts = s.counts;
-    takes = takes_more (step_given r) (allowance w) (allowance mid) (allowance new) a s.takes;
+    passed = s.passed;
+    passes = s.passes;
+    gives = s.gives;
+    passes_alone = s.passes_alone;
+    going = λ n i. s.going n some;
+    folders = s.folders;
+    folders_passed = s.folders_passed;
+    enters = s.enters;
+    takes = takes_more (step_given r) (allowance w) _ (allowance new) a s.takes;
     ends = s.ends;
     names = s.names;
     misplaced = s.misplaced;

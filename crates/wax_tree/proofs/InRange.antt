@@ -25,7 +25,7 @@ use Rattle.wax_walk.proofs.Collecting.{preorder_append}
 not_less : (a b : ℕ) → nat_lt a b ≡ false → b ≤ a
 not_less a b h = grind (arith, nat_tests)
 
-at_most : (a b : ℕ) → a ≤ b → nat_lt b a ≡ false
+pub at_most : (a b : ℕ) → a ≤ b → nat_lt b a ≡ false
 at_most a b h = grind (arith, nat_tests)
 
 append-nil : {A : Type 0} (xs : List A) → xs ++ [] ≡ xs

@@ -6,7 +6,7 @@ use Rattle.std.specs.declared.alloc.Global.{Global}
 use Rattle.wax_directory.specs.Law.{Law}
 use Rattle.wax_directory.specs.Shown.{Shown}
 use Rattle.wax_walk.specs.Forest.{Forest, nothing, item, lists, Pending, pending, all_pending, FirstIs}
-use Rattle.wax_walk.specs.Given.{Given}
+use Rattle.wax_walk.specs.Given.{Given, no_memory}
 use Rattle.wax_walk.specs.View.{WalkView, GivesOrStops, lacks_memory, over_budget, gives, FeedStep}
 use Rattle.wax_tree.specs.declared.steps.StartPoint.{StartPoint}
 use Rattle.wax_tree.specs.declared.steps.DepthRange.{DepthRange}
@@ -112,6 +112,14 @@ module _ {D C : Type 0} (law : Law D C) where
       taken = f.accounts.taken;
       takes = f.accounts.takes;
       counted = f.accounts.counted;
+      passed = f.accounts.passed;
+      passes = f.accounts.passes;
+      refused = f.accounts.refused;
+      refuses = f.accounts.refuses;
+      gives = f.accounts.gives;
+      going = f.accounts.going;
+      folders = f.accounts.folders;
+      folders_passed = f.accounts.folders_passed;
       opened = f.accounts.opened;
       opened_is = f.accounts.opened_is;
       ended = f.accounts.ended;
@@ -122,6 +130,8 @@ module _ {D C : Type 0} (law : Law D C) where
     };
     at_end = λ i. (d, f.at_end i);
     closed = f.closed;
+    begun = f.begun;
+    from = f.from;
     to_open = f.to_open;
     above = f.above;
     stays = λ i. ((f.stays i.1).0, (d, (f.stays i.1).1));
@@ -136,6 +146,58 @@ module _ {D C : Type 0} (law : Law D C) where
     known : (p : Pending Given) → MayCome law w p → GivesOrStops (tree_view law w) p r (tree_view law v)
     known p (lacks t told) = absurd (let b : true ≡ false = sym t ∙ e in (cc))
     known p (goes t c) = goes_on w v p r d (f.gives p c)
+
+-- a call of `feed` where memory was lacked for the start
+pub lacking_fed : {D C : Type 0} (law : Law D C) (w : WalkTree D C) → w.lacks_memory ≡ true
+    → FeedStep law (tree_view law w) (Some no_memory)
+    (tree_view law (record w { lacks_memory = false; steps = record w.steps { has_ended = true } }))
+lacking_fed law w e = record {
+  gives = λ p h. lacks_memory refl;
+  accounts = record {
+    counts = record {
+      misses = omega arith;
+      leaves = omega arith;
+      failures_lost = 0;
+      failures = omega arith;
+      names_lost = 0;
+      bad_names = omega arith;
+      within = omega arith;
+    };
+    taken = 0;
+    takes = omega arith;
+    counted = omega arith;
+    passed = 0;
+    passes = λ i. refl;
+    refused = 0;
+    refuses = omega arith;
+    gives = λ n. absurd (n tt);
+    going = λ n. absurd (n tt);
+    folders = 0;
+    folders_passed = omega arith;
+    opened = 0;
+    opened_is = omega arith;
+    ended = 0;
+    ended_is = omega arith;
+    opens = λ n. absurd (n tt);
+    closes = λ n. absurd (n tt);
+    ends = λ i. (refl, inl refl);
+  };
+  at_end = λ i. (cc);
+  closed = λ i. (cc);
+  begun = λ i. (cc);
+  from = refl;
+  to_open = refl;
+  above = refl;
+  stays = λ i. absurd (let b : true ≡ false = sym e ∙ i.0 in (cc));
+  idles = λ i. (inr (inl refl), refl);
+  names = omega arith;
+  misplaced = λ i. absurd i;
+  places = record {
+    item = λ path depth i. absurd i;
+    later = λ path depth i. absurd (let b : true ≡ false = i.0 in (cc));
+    below = λ path depth i. absurd (let b : true ≡ false = i.0 in (cc));
+  };
+}
 
 -- a walk of which no error can come
 fails_as_from : {D : Type 0} (least : ℕ) (start : List ℕ) (way : List (List ℕ)) (view : WalkView D)
@@ -156,6 +218,9 @@ ended_at law d origin range view h l = record {
   listings = h.listings;
   names = omega (arith, h.names);
   none_listed = h.none_listed;
+  begun = inr (h.idle, h.begun);
+  none_to_open = h.none_to_open;
+  yields_from = h.yields_from;
   opens_above = h.opens_above;
   fails = fails_as_from range.min origin.path origin.names view h.fails;
   directory = h.directory;
@@ -172,6 +237,9 @@ lacking_at law d origin range view h l = record {
   listings = h.listings;
   names = omega (arith, h.names);
   none_listed = h.none_listed;
+  begun = inr (h.idle, h.begun);
+  none_to_open = h.none_to_open;
+  yields_from = h.yields_from;
   opens_above = h.opens_above;
   fails = fails_as_from range.min origin.path origin.names view h.fails;
   directory = h.directory;
@@ -199,6 +267,9 @@ begins_plain law d start names range view e b =
       listings = b.listings;
       names = omega (arith, b.names, long);
       none_listed = b.none_listed;
+      begun = b.begun;
+      none_to_open = b.none_to_open;
+      yields_from = b.yields_from;
       opens_above = b.opens_above;
       fails = subst (λ v. FailsFrom range.min start v view) e b.fails;
       directory = b.directory;

@@ -53,6 +53,10 @@ pub record FailsNowhere {D : Type 0} (view : WalkView D) : Type 0 where
   pub at : (path : List ℕ) (depth : ℕ) → ¬ (view.may_fail path depth)
   pub below : (path : List ℕ) (depth : ℕ) → ¬ (view.may_fail_below path depth)
 
+-- the entry where the walk begins is still to come; or the walk leaves the directory as it is
+abbrev pub IsBegun : {D : Type 0} → WalkView D → Type 0
+IsBegun view = (view.to_begin ≡ 1) ⊎ (view.is_idle × (view.to_begin ≡ 0))
+
 -- the view of a walk over the directory d: what is shown at the start is to come, of the depths in range, and
 -- there are no names to follow
 pub record Begins {D C : Type 0} (law : Law D C) (d : D) (start : List ℕ) (range : DepthRange)
@@ -62,6 +66,9 @@ pub record Begins {D C : Type 0} (law : Law D C) (d : D) (start : List ℕ) (ran
   pub listings : view.listings_left ≡ range.budget + 1
   pub names : view.names_left ≡ 0
   pub none_listed : view.listings_open ≡ 0
+  pub begun : IsBegun view
+  pub none_to_open : view.to_open ≡ 0
+  pub yields_from : view.yields_from ≡ range.min
   pub opens_above : view.opens_above ≡ range.max
   pub fails : FailsFrom range.min start [] view
   pub directory : view.directory ≡ d
@@ -93,6 +100,9 @@ pub record BeginsAt {D C : Type 0} (law : Law D C) (d : D) (origin : Origin) (ra
   pub listings : view.listings_left ≡ range.budget + 1
   pub names : view.names_left ≤ length origin.names
   pub none_listed : view.listings_open ≡ 0
+  pub begun : IsBegun view
+  pub none_to_open : view.to_open ≡ 0
+  pub yields_from : view.yields_from ≡ range.min
   pub opens_above : view.opens_above ≡ range.max
   pub fails : FailsFrom range.min origin.path origin.names view
   pub directory : view.directory ≡ d
@@ -107,6 +117,9 @@ pub record HasEnded {D C : Type 0} (law : Law D C) (d : D) (range : DepthRange)
   pub listings : view.listings_left ≡ range.budget + 1
   pub names : view.names_left ≡ 0
   pub none_listed : view.listings_open ≡ 0
+  pub begun : view.to_begin ≡ 0
+  pub none_to_open : view.to_open ≡ 0
+  pub yields_from : view.yields_from ≡ range.min
   pub opens_above : view.opens_above ≡ range.max
   pub fails : FailsNowhere view
   pub directory : view.directory ≡ d
@@ -120,6 +133,9 @@ pub record LacksMemory {D C : Type 0} (law : Law D C) (d : D) (range : DepthRang
   pub listings : view.listings_left ≡ range.budget + 1
   pub names : view.names_left ≡ 0
   pub none_listed : view.listings_open ≡ 0
+  pub begun : view.to_begin ≡ 0
+  pub none_to_open : view.to_open ≡ 0
+  pub yields_from : view.yields_from ≡ range.min
   pub opens_above : view.opens_above ≡ range.max
   pub fails : FailsNowhere view
   pub directory : view.directory ≡ d

@@ -7,7 +7,8 @@ use Rattle.wax_walk.specs.View.{WalkView}
 use Rattle.wax_tree.specs.declared.walk_tree.WalkTree.{WalkTree}
 use Rattle.wax_tree.specs.Reaching.{MayFailAt, MayFailBelow}
 use Rattle.wax_tree.specs.Stepping.{items_left}
-use Rattle.wax_tree.specs.Walking.{PlainToCome, HasStopped, allowance, names_left, open_lists, entering}
+use Rattle.wax_tree.specs.Walking.{PlainToCome, HasStopped, allowance, names_left, begins, open_lists}
+use Rattle.wax_tree.specs.Walking.{entering}
 
 -- what is to come: anything, if allocation failed and that error wasn't yielded yet
 pub data MayCome {D C : Type 0} (law : Law D C) (w : WalkTree D C) (p : Pending Given) : Type 0 where
@@ -21,9 +22,11 @@ tree_view law w = record {
   directory = w.steps.directory;
   listings_left = allowance w.steps;
   names_left = names_left w.steps;
+  to_begin = begins w.steps;
   listings_open = open_lists w.steps;
   to_open = entering w.steps;
   opens_above = w.steps.max;
+  yields_from = w.steps.min;
   may_fail = MayFailAt w.steps;
   may_fail_below = MayFailBelow w.steps;
   has_ended = (w.lacks_memory ≡ false) × HasStopped w.steps;

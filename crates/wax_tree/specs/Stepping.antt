@@ -8,8 +8,9 @@ use Rattle.wax_directory.specs.Law.{Law, HoldsLast}
 use Rattle.wax_directory.specs.Shown.{Items, ShowsIn}
 use Rattle.wax_walk.specs.Forest.{Forest, nothing, followed_by, Pending, pending}
 use Rattle.wax_walk.specs.Given.{Given}
-use Rattle.wax_walk.specs.View.{WalkView, Accounts, GivesOrStops, IsLast, IsMisplaced, IsToOpen, Takes}
-use Rattle.wax_walk.specs.View.{fault_counts, IsErrorAt, IsFolderAt}
+use Rattle.wax_walk.specs.View.{WalkView, Accounts, GivesOrStops, IsLast, IsMisplaced, Takes}
+use Rattle.wax_walk.specs.View.{fault_counts, IsErrorAt, IsFolderAt, items_lost, how_many, LacksMemory}
+use Rattle.wax_walk.specs.View.{opens_one}
 use Rattle.wax_tree.specs.declared.steps.OpenFolder.{OpenFolder}
 use Rattle.wax_tree.specs.declared.steps.StartPoint.{StartPoint}
 use Rattle.wax_tree.specs.declared.steps.Step.{Step}
@@ -18,24 +19,29 @@ use Rattle.wax_tree.specs.declared.steps.Steps.{Steps}
 use Rattle.wax_tree.specs.Plain.{WalkScope, Location, items_forest}
 use Rattle.wax_tree.specs.Reaching.{FolderSet, LeadsUnseen, OfEntered, ReachesFrom, no_folders}
 use Rattle.wax_tree.specs.Walking.{if_some, step_given, cursors_of, Rest, HasStopped, allowance, names_left}
-use Rattle.wax_tree.specs.Walking.{AtRest, PlainToCome, steps_view, MovesOn, open_lists, entering}
+use Rattle.wax_tree.specs.Walking.{AtRest, PlainToCome, steps_view, MovesOn, open_lists, entering, begins}
 
--- no count of n is greater than that of k
-pub record IsCounted (n k : Tally) : Type 0 where
-  pub misses : n.misses ≤ k.misses
+-- the misses, failures and bad names of k are those of n, and those of at most `lost` items besides; n has no
+-- more leaves
+pub record IsCounted (n : Tally) (lost : ℕ) (k : Tally) : Type 0 where
+  pub misses : k.misses ≡ n.misses
   pub leaves : n.leaves ≤ k.leaves
-  pub failures : n.failures ≤ k.failures
-  pub bad_names : n.bad_names ≤ k.bad_names
+  pub failures_lost : ℕ
+  pub failures : k.failures ≡ n.failures + failures_lost
+  pub names_lost : ℕ
+  pub bad_names : k.bad_names ≡ n.bad_names + names_lost
+  pub within : failures_lost + names_lost ≤ lost
 
--- what a call of the directory counted, how many items it took from listings, and how many names were left to
--- follow
+-- what a call of the directory counted, how many items it took from listings, how many names were left to
+-- follow, and how many items are made of its result, and of what the walk begins with
 pub record Asked : Type 0 where
   pub counts : Tally
   pub taken : ℕ
   pub names : ℕ
+  pub made : ℕ
 
-abbrev pub nothing_asked : ℕ → Asked
-nothing_asked names = record { counts = no_counts; taken = 0; names = names }
+abbrev pub nothing_asked : ℕ → ℕ → Asked
+nothing_asked names made = record { counts = no_counts; taken = 0; names = names; made = made }
 
 -- at most how many steps a walk makes for its start point
 abbrev pub first_steps : Option StartPoint → ℕ
@@ -47,7 +53,16 @@ module _ {D C : Type 0} where
   pub record UsesAnswer (asked : Asked) (old : Steps D C) (r : Step) (new : Steps D C) : Type 0 where
     pub goes_on : r ≡ Ends → ⊥
     pub directory : new.directory ≡ old.directory
-    pub counts : IsCounted (fault_counts (step_given r)) asked.counts
+    pub counts : IsCounted (fault_counts (step_given r)) (items_lost (step_given r)) asked.counts
+    pub passed : ℕ
+    pub passes : old.min ≡ 0 → passed ≡ 0
+    pub gives : ¬ (LacksMemory (step_given r)) → asked.made ≡ how_many (step_given r) + (passed + begins new)
+    pub passes_alone : how_many (step_given r) ≡ 1 → passed ≡ 0
+    pub going : ¬ (IsLast (step_given r)) → 0 < allowance old → 0 < allowance new
+    pub folders : ℕ
+    pub folders_passed : folders ≤ passed
+    pub enters : old.has_ended ≡ false → old.first ≡ None → old.entered ≡ None
+        → ¬ (LacksMemory (step_given r)) → entering new ≡ folders + opens_one old.max (step_given r)
     pub takes : Takes (step_given r) (allowance old) asked.taken (allowance new)
     pub ends : IsLast (step_given r) → new.has_ended ≡ true
     pub names : names_left new ≤ asked.names
@@ -57,11 +72,10 @@ module _ {D C : Type 0} where
   abbrev pub KeepsLists : ℕ → Step → Steps D C → Type 0
   KeepsLists lists r new = ¬ (IsLast (step_given r)) → open_lists new ≡ lists
 
-  -- a folder above the greatest depth that a step yields is to be opened
+  -- the depths stay as they are
   pub record Remembers (old : Steps D C) (r : Step) (new : Steps D C) : Type 0 where
-    pub to_open : old.has_ended ≡ false → old.first ≡ None → IsToOpen old.max (step_given r)
-        → entering new ≡ 1
     pub above : new.max ≡ old.max
+    pub from : new.min ≡ old.min
 
   -- if the item is an error, it is of one of these folders; after it, errors may come of these and, below it,
   -- of the item itself if it is a folder, or of one of `entered` if there is no item
@@ -138,6 +152,7 @@ module _ {D C : Type 0} (law : Law D C) where
     pub accounts : Accounts law old (step_given r) (steps_view law new)
     pub names_left : names_left new ≤ old.names_left
     pub misplaced : IsMisplaced (step_given r) → 0 < old.names_left
+    pub to_open : ¬ (r ≡ GoesOn) → entering new ≡ opens_one old.opens_above (step_given r)
 
   -- what every step does
   pub record IsStep (old : Steps D C) (r : Step) (new : Steps D C) : Type 0 where
@@ -147,5 +162,6 @@ module _ {D C : Type 0} (law : Law D C) where
     pub idles : HasStopped old → new.directory ≡ old.directory
     pub names : names_left new ≤ names_left old
     pub misplaced : IsMisplaced (step_given r) → 0 < names_left old
-    pub to_open : IsToOpen old.max (step_given r) → entering new ≡ 1
+    pub to_open : ¬ (r ≡ GoesOn) → entering new ≡ opens_one old.max (step_given r)
     pub above : new.max ≡ old.max
+    pub from : new.min ≡ old.min

@@ -1,14 +1,20 @@
 -- Proofs of the laws of the plain walk.
 use Rattle.std.proofs.Common.{◌≡◌, ◌≤◌, refl, sym, ap, subst, ◌∙◌, arith, inl, inr}
-use Rattle.std.specs.Prelude.{Some, None}
+use Rattle.std.specs.Prelude.{Option, Some, None, Bool, true, false, cond}
+use Rattle.wax_tree.specs.declared.steps.StartPoint.{StartPoint}
 use Rattle.wax_directory.specs.Law.{Law}
 use Rattle.wax_tree.specs.declared.steps.Steps.{Steps}
 use Rattle.wax_tree.specs.declared.walk_tree.WalkTree.{WalkTree}
 use Rattle.wax_tree.specs.Lacking.{MayCome, lacks, goes, tree_view, gives_at_most}
-use Rattle.wax_tree.specs.Walking.{HasStopped, IsAlone, PlainToCome}
+use Rattle.wax_tree.specs.Walking.{HasStopped, IsAlone, PlainToCome, entering_after}
 use Rattle.wax_walk.specs.Forest.{Pending, cancelled}
 use Rattle.wax_walk.specs.Given.{Given}
 use Rattle.wax_walk.specs.View.{CancelStep}
+
+none_entered : (b : Bool) (f : Option StartPoint) → cond b 0 (entering_after f None) ≡ 0
+none_entered true f = refl
+none_entered false None = refl
+none_entered false (Some place) = refl
 
 module _ {D C : Type 0} where
   -- the walk after cancelling: the last yielded folder won't be entered
@@ -59,8 +65,11 @@ module _ {D C : Type 0} where
       directory = refl;
       listings_left = refl;
       names_left = refl;
+      to_begin = refl;
       listings_open = refl;
+      to_open = none_entered s.steps.has_ended s.steps.first;
       opens_above = refl;
+      yields_from = refl;
       may_fail = λ path depth i. i;
       none_below = λ path depth i. i.3.begins;
       ends = λ e. (e.0, stopped_still s.steps e.1);

@@ -136,6 +136,10 @@ names_of_first (Some place) = length place.names.items
 abbrev pub names_left : {D C : Type 0} → Steps D C → ℕ
 names_left w = names_of_first w.first
 
+-- 1 if the entry where it begins is still to come
+abbrev pub begins : {D C : Type 0} → Steps D C → ℕ
+begins w = cond w.has_ended 0 (if_some w.first 1)
+
 -- how many listings are open; none count once it has ended with an error
 abbrev pub open_lists : {D C : Type 0} → Steps D C → ℕ
 open_lists w = cond w.has_ended 0 (length w.levels.items)
@@ -184,9 +188,11 @@ module _ {D C : Type 0} (law : Law D C) where
     directory = w.directory;
     listings_left = allowance w;
     names_left = names_left w;
+    to_begin = begins w;
     listings_open = open_lists w;
     to_open = entering w;
     opens_above = w.max;
+    yields_from = w.min;
     may_fail = MayFailAt w;
     may_fail_below = MayFailBelow w;
     has_ended = HasStopped w;

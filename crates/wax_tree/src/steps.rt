@@ -23,7 +23,8 @@ ghost use Rattle.wax_tree.specs.Stepping.{WeaklyDecreases, Decreases, StepIs, Co
 ghost use Rattle.wax_tree.specs.Stepping.{listing_pending, StepAnswers, IsStep, items_left};
 ghost use Rattle.wax_tree.specs.Walking.{HasKind, IsFolder, EnteredShows, PlainToCome, entered_forest};
 ghost use Rattle.wax_tree.specs.Walking.{entry_location, located, scope_of, steps_view};
-ghost use Rattle.wax_tree.specs.Walking.{names_left, step_given, tree_answer, Rest, open_lists, if_some};
+ghost use Rattle.wax_tree.specs.Walking.{names_left, begins, step_given, tree_answer, Rest, open_lists};
+ghost use Rattle.wax_tree.specs.Walking.{if_some};
 
 use crate::location::Location;
 use std::alloc::{AllocError, Global};
@@ -220,7 +221,8 @@ impl<D: Directory> Steps<D> {
 
     // Yields an entry if its depth is in range, and remembers it as a folder to be opened.
     fn give(&mut self, entry: TreeEntry) -> Step
-        ensures uses_answer { UsesAnswer (nothing_asked (names_left self.old)) self.old result self.new }
+        ensures uses_answer { UsesAnswer (nothing_asked (names_left self.old) (begins self.old + 1)) self.old
+            result self.new }
         ensures lists { KeepsLists (open_lists self.old) result self.new }
         ensures remembers { Remembers self.old result self.new }
         ensures places { let f = facts_of entry in
@@ -246,10 +248,11 @@ impl<D: Directory> Steps<D> {
     // Goes on to the next name of a place, which has to be a folder; without a next name, yields
     // the entry of the place.
     fn follow(&mut self, place: StartPoint, kind: FileType) -> Step
-        ensures uses_answer { UsesAnswer (record {
+        ensures uses_answer { (self.old.has_ended ≡ false) → (self.old.first ≡ None) → UsesAnswer (record {
           counts = kind_counts (Ok (Some kind));
           taken = 0;
           names = names_left self.old + length place.names.items;
+          made = 1;
         }) self.old result self.new }
         ensures lists { KeepsLists (open_lists self.old) result self.new }
         ensures remembers { Remembers self.old result self.new }
@@ -282,10 +285,12 @@ impl<D: Directory> Steps<D> {
 
     // Looks up what is at a place.
     fn begin(&mut self, place: StartPoint) -> Step
-        ensures answers { StepAnswers D.law (record (steps_view D.law self.old) {
-          names_left = names_left self.old + length place.names.items;
-          to_open = 0;
-        }) result self.new }
+        ensures answers { (self.old.has_ended ≡ false) → (self.old.first ≡ None)
+            → (self.old.entered ≡ None) → StepAnswers D.law (record (steps_view D.law self.old) {
+              names_left = names_left self.old + length place.names.items;
+              to_begin = 1;
+              to_open = 0;
+            }) result self.new }
         ensures remembers { Remembers self.old result self.new }
         ensures places { (self.old.entered ≡ None) → StepPlaces (ReachesFrom self.old (OnWay place))
             (ReachesFrom self.old (OnWay place)) self.old.max result self.new }
@@ -314,7 +319,8 @@ impl<D: Directory> Steps<D> {
     // Opens a folder. `folder.depth` is that of what is in it, so an error of the folder itself is
     // at one less.
     fn enter(&mut self, folder: Location) -> Step
-        ensures answers { (self.old.has_ended ≡ false)
+        ensures answers { (self.old.has_ended ≡ false) → (self.old.first ≡ None)
+            → (self.old.entered ≡ None)
             → StepAnswers D.law (record (steps_view D.law self.old) { to_open = 1 }) result self.new }
         ensures remembers { Remembers self.old result self.new }
         ensures places { (self.old.entered ≡ None) → StepPlaces (ReachesFrom self.old (IsOf folder))
@@ -341,8 +347,12 @@ impl<D: Directory> Steps<D> {
     // Yields what was found in a folder. `depth` is that of the folder's items.
     fn give_found(&mut self, found: FoundItem, depth: usize) -> Step
         ensures uses_answer { (at : Place) (x : ListItem) → IsFound at (string_bytes self.old.root) x found
-            → UsesAnswer (record { counts = item_counts x; taken = 0; names = names_left self.old })
-            self.old result self.new }
+            → UsesAnswer (record {
+              counts = item_counts x;
+              taken = 0;
+              names = names_left self.old;
+              made = begins self.old + 1;
+            }) self.old result self.new }
         ensures lists { KeepsLists (open_lists self.old) result self.new }
         ensures remembers { Remembers self.old result self.new }
         ensures places { (self.old.entered ≡ None) → (at : Place) (x : ListItem)
@@ -367,9 +377,13 @@ impl<D: Directory> Steps<D> {
     // Takes an item of a folder, unless the budget is used up, and puts the folder back on the
     // stack: the cursor has its rest.
     fn take_from(&mut self, folder: Location, cursor: D::Cursor, item: ListItem) -> Step
-        ensures uses_answer { (self.old.has_ended ≡ false)
-            → UsesAnswer (record { counts = item_counts item; taken = 1; names = names_left self.old })
-            self.old result self.new }
+        ensures uses_answer { (self.old.has_ended ≡ false) → (self.old.first ≡ None)
+            → UsesAnswer (record {
+              counts = item_counts item;
+              taken = 1;
+              names = names_left self.old;
+              made = begins self.old + 1;
+            }) self.old result self.new }
         ensures kept { (self.old.has_ended ≡ false)
             → KeepsLists (open_lists self.old + 1) result self.new }
         ensures remembers { Remembers self.old result self.new }
@@ -401,8 +415,8 @@ impl<D: Directory> Steps<D> {
 
     // Moves on in the innermost folder. At its end it isn't put back on the stack.
     fn list_next(&mut self, level: OpenFolder<D::Cursor>) -> Step
-        ensures answers { (self.old.has_ended ≡ false)
-            → StepAnswers D.law (record (steps_view D.law self.old) {
+        ensures answers { (self.old.has_ended ≡ false) → (self.old.first ≡ None)
+            → (self.old.entered ≡ None) → StepAnswers D.law (record (steps_view D.law self.old) {
               listings_open = open_lists self.old + 1;
               to_open = 0;
             }) result self.new }

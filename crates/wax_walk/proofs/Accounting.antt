@@ -9,6 +9,7 @@ use Rattle.wax_walk.specs.declared.error.FaultKind.TheVariants.{NotText, Budget}
 use Rattle.wax_walk.specs.Given.{Given, Mark, entry, fault, no_memory, with_mark, is_cut}
 use Rattle.wax_walk.specs.Given.{kept, alone, with_tree}
 use Rattle.wax_walk.specs.View.{WalkView, CountsFaults, fault_counts, IsLast, IsMisplaced, Takes, IsToOpen}
+use Rattle.wax_walk.specs.View.{items_lost, how_many, opens_one, LacksMemory}
 use Rattle.wax_walk.specs.View.{GivesOrStops, Accounts, FeedStep, IsErrorAt, IsFolderAt, MayFail, Places}
 use Rattle.wax_walk.specs.Forest.{Pending}
 
@@ -43,51 +44,56 @@ pub takes_within : (r : Option Given) (allowed n left : ℕ) → Takes r allowed
 takes_within r allowed n left h =
     elim (takes_exactly r allowed n left h) [ inl e ↦ omega (arith, e) | inr e ↦ e.1 ]
 
+pub grown_then : (n k a b c : ℕ) → b ≡ grown n a → c ≡ grown k b → c ≡ grown (n + k) a
+grown_then n k a b c h i = omega (arith, h, i)
+
 -- faults are counted, and then others
-pub counts_faults_then : (n k a b c : _) → CountsFaults n a b → CountsFaults k b c
-    → CountsFaults (plus n k) a c
-counts_faults_then n k a b c h i = record {
+pub counts_faults_then : (n k : Tally) (l m : ℕ) (a b c : _) → CountsFaults n l a b → CountsFaults k m b c
+    → CountsFaults (plus n k) (l + m) a c
+counts_faults_then n k l m a b c h i = record {
+  misses = grown_then n.misses k.misses _ _ _ h.misses i.misses;
+  leaves = omega (arith, h.leaves, i.leaves);
+  failures_lost = h.failures_lost + i.failures_lost;
+  failures = omega (arith, h.failures, i.failures);
+  names_lost = h.names_lost + i.names_lost;
+  bad_names = omega (arith, h.bad_names, i.bad_names);
+  within = omega (arith, h.within, i.within);
+}
+
+pub counts_none_then : (k : Tally) (m : ℕ) (a b c : _) → CountsFaults no_counts 0 a b → CountsFaults k m b c
+    → CountsFaults k m a c
+counts_none_then k m a b c h i = record {
   misses = omega (arith, h.misses, i.misses);
   leaves = omega (arith, h.leaves, i.leaves);
-  failures = omega (arith, h.failures, i.failures);
-  bad_names = omega (arith, h.bad_names, i.bad_names);
+  failures_lost = i.failures_lost;
+  failures = omega (arith, h.failures, h.within, i.failures);
+  names_lost = i.names_lost;
+  bad_names = omega (arith, h.bad_names, h.within, i.bad_names);
+  within = i.within;
 }
 
-pub counts_none_then : (k a b c : _) → CountsFaults no_counts a b → CountsFaults k b c → CountsFaults k a c
-counts_none_then k a b c h i = record {
+pub counts_then_none : (k : Tally) (m : ℕ) (a b c : _) → CountsFaults k m a b → CountsFaults no_counts 0 b c
+    → CountsFaults k m a c
+counts_then_none k m a b c h i = record {
   misses = omega (arith, h.misses, i.misses);
   leaves = omega (arith, h.leaves, i.leaves);
-  failures = omega (arith, h.failures, i.failures);
-  bad_names = omega (arith, h.bad_names, i.bad_names);
+  failures_lost = h.failures_lost;
+  failures = omega (arith, h.failures, i.within, i.failures);
+  names_lost = h.names_lost;
+  bad_names = omega (arith, h.bad_names, i.within, i.bad_names);
+  within = h.within;
 }
 
-pub counts_then_none : (k a b c : _) → CountsFaults k a b → CountsFaults no_counts b c → CountsFaults k a c
-counts_then_none k a b c h i = record {
-  misses = omega (arith, h.misses, i.misses);
-  leaves = omega (arith, h.leaves, i.leaves);
-  failures = omega (arith, h.failures, i.failures);
-  bad_names = omega (arith, h.bad_names, i.bad_names);
-}
-
-pub counts_fewer : (n a b : _) → CountsFaults n a b → CountsFaults no_counts a b
-counts_fewer n a b h = record {
-  misses = omega (arith, h.misses);
-  leaves = omega (arith, h.leaves);
-  failures = omega (arith, h.failures);
-  bad_names = omega (arith, h.bad_names);
-}
-
-pub counts_nothing : (t : Tally) → CountsFaults no_counts t t
+pub counts_nothing : (t : Tally) → CountsFaults no_counts 0 t t
 counts_nothing t = record {
   misses = omega arith;
   leaves = omega arith;
+  failures_lost = 0;
   failures = omega arith;
-  bad_names =
-      omega arith;
+  names_lost = 0;
+  bad_names = omega arith;
+  within = omega arith;
 }
-
-pub grown_then : (n k a b c : ℕ) → b ≡ grown n a → c ≡ grown k b → c ≡ grown (n + k) a
-grown_then n k a b c h i = omega (arith, h, i)
 
 -- ---- filters
 
@@ -96,9 +102,11 @@ pub record IsAsked {D : Type 0} (outer inner : WalkView D) : Type 0 where
   pub directory : outer.directory ≡ inner.directory
   pub listings_left : outer.listings_left ≡ inner.listings_left
   pub names_left : outer.names_left ≡ inner.names_left
+  pub to_begin : outer.to_begin ≡ inner.to_begin
   pub listings_open : outer.listings_open ≡ inner.listings_open
   pub to_open : outer.to_open ≡ inner.to_open
   pub opens_above : outer.opens_above ≡ inner.opens_above
+  pub yields_from : outer.yields_from ≡ inner.yields_from
   pub may_fail : (path : List ℕ) (depth : ℕ) → MayFail inner path depth → MayFail outer path depth
   pub ended : outer.has_ended → inner.has_ended
   pub idle : outer.is_idle → inner.is_idle
@@ -107,8 +115,10 @@ pub record HasAnswered {D : Type 0} (outer inner : WalkView D) : Type 0 where
   pub directory : outer.directory ≡ inner.directory
   pub listings_left : outer.listings_left ≡ inner.listings_left
   pub names_left : outer.names_left ≡ inner.names_left
+  pub to_begin : outer.to_begin ≡ inner.to_begin
   pub listings_open : outer.listings_open ≡ inner.listings_open
   pub opens_above : outer.opens_above ≡ inner.opens_above
+  pub yields_from : outer.yields_from ≡ inner.yields_from
   pub may_fail : (path : List ℕ) (depth : ℕ) → outer.may_fail path depth → inner.may_fail path depth
   pub ended : inner.has_ended → outer.has_ended
   pub idle : inner.is_idle → outer.is_idle
@@ -124,31 +134,66 @@ misplaced_marked (entry k f) m i = absurd i
 misplaced_marked (fault kind path depth) m i = i
 misplaced_marked no_memory m i = absurd i
 
--- a folder that a filter leaves to be opened was to be opened before
-pub opened_marked : (most : ℕ) (x : Given) (m : Mark) → IsToOpen most (Some (with_mark x m))
-    → IsToOpen most (Some x)
-opened_marked most (entry kept f) kept i = i
-opened_marked most (entry kept f) alone i = i
-opened_marked most (entry kept f) with_tree i = cc
-opened_marked most (entry alone f) kept i = i
-opened_marked most (entry alone f) alone i = i
-opened_marked most (entry alone f) with_tree i = cc
-opened_marked most (entry with_tree f) m i = i
-opened_marked most (fault kind path depth) m i = i
-opened_marked most no_memory m i = i
+-- a folder is to be opened as before if a filter doesn't cancel below it
+pub opened_uncut : (most : ℕ) (x : Given) (m : Mark) → false ≡ is_cut x m
+    → opens_one most (Some (with_mark x m)) ≡ opens_one most (Some x)
+opened_uncut most (entry kept f) kept c = refl
+opened_uncut most (entry kept f) alone c = refl
+opened_uncut most (entry kept f) with_tree c = absurd (let b : false ≡ true = c in (cc))
+opened_uncut most (entry alone f) kept c = refl
+opened_uncut most (entry alone f) alone c = refl
+opened_uncut most (entry alone f) with_tree c = absurd (let b : false ≡ true = c in (cc))
+opened_uncut most (entry with_tree f) m c = refl
+opened_uncut most (fault kind path depth) m c = refl
+opened_uncut most no_memory m c = refl
 
 -- a folder below which a filter cancels isn't to be opened
-pub opened_uncut : (most : ℕ) (x : Given) (m : Mark) → true ≡ is_cut x m
-    → IsToOpen most (Some (with_mark x m)) → ⊥
-opened_uncut most (entry kept f) kept c i = cc
-opened_uncut most (entry kept f) alone c i = cc
-opened_uncut most (entry kept f) with_tree c i = cc
-opened_uncut most (entry alone f) kept c i = cc
-opened_uncut most (entry alone f) alone c i = cc
-opened_uncut most (entry alone f) with_tree c i = cc
-opened_uncut most (entry with_tree f) m c i = cc
-opened_uncut most (fault kind path depth) m c i = cc
-opened_uncut most no_memory m c i = cc
+pub opened_cut : (most : ℕ) (x : Given) (m : Mark) → true ≡ is_cut x m
+    → opens_one most (Some (with_mark x m)) ≡ 0
+opened_cut most (entry kept f) kept c = absurd (let b : true ≡ false = c in (cc))
+opened_cut most (entry kept f) alone c = absurd (let b : true ≡ false = c in (cc))
+opened_cut most (entry kept f) with_tree c = refl
+opened_cut most (entry alone f) kept c = absurd (let b : true ≡ false = c in (cc))
+opened_cut most (entry alone f) alone c = absurd (let b : true ≡ false = c in (cc))
+opened_cut most (entry alone f) with_tree c = refl
+opened_cut most (entry with_tree f) m c = absurd (let b : true ≡ false = c in (cc))
+opened_cut most (fault kind path depth) m c = absurd (let b : true ≡ false = c in (cc))
+opened_cut most no_memory m c = absurd (let b : true ≡ false = c in (cc))
+
+-- the account of y is that of x
+pub record IsAs (x y : Option Given) : Type 0 where
+  pub counts : fault_counts y ≡ fault_counts x
+  pub lost : items_lost y ≡ items_lost x
+  pub many : how_many y ≡ how_many x
+  pub takes : (allowed n left : ℕ) → Takes x allowed n left → Takes y allowed n left
+  pub lacks : LacksMemory x → LacksMemory y
+  pub last : IsLast x → IsLast y
+  pub last_only : IsLast y → IsLast x
+
+same_as : (x : Option Given) → IsAs x x
+same_as x = record {
+  counts = refl;
+  lost = refl;
+  many = refl;
+  takes = λ a n l t. t;
+  lacks = λ i. i;
+  last = λ i. i;
+  last_only = λ i. i;
+}
+
+-- a filter changes no fault
+marked_as : (x : Given) (m : Mark) → IsAs (Some x) (Some (with_mark x m))
+marked_as (entry k f) m = record {
+  counts = refl;
+  lost = refl;
+  many = refl;
+  takes = λ a n l t. t;
+  lacks = λ i. i;
+  last = λ i. i;
+  last_only = λ i. i;
+}
+marked_as (fault kind path depth) m = same_as _
+marked_as no_memory m = same_as _
 
 error_marked : (path : List ℕ) (depth : ℕ) (x : Given) (m : Mark) → IsErrorAt path depth (Some (with_mark x m))
     → IsErrorAt path depth (Some x)
@@ -182,71 +227,54 @@ places_marked v w outer new x m f b a below = record {
 }
 
 module _ {D C : Type 0} (law : Law D C) where
-  pub accounts_moved : (v w outer new : WalkView D) (r : Option Given) → Accounts law v r w → IsAsked outer v
-      → HasAnswered new w → Accounts law outer r new
-  accounts_moved v w outer new r h b a =
-      let A : D → Type 0 = λ d. CountsFaults (fault_counts r) (law.tally d) (law.tally w.directory) in
-      let B : D → Type 0 = λ d. CountsFaults (fault_counts r) (law.tally outer.directory) (law.tally d) in
+  pub accounts_moved : (v w outer new : WalkView D) (x y : Option Given) → IsAs x y → (h : Accounts law v x w)
+      → IsAsked outer v → HasAnswered new w → (¬ (LacksMemory y)
+      → h.opened + new.to_open ≡ outer.to_open + (h.folders + opens_one outer.opens_above y))
+      → Accounts law outer y new
+  accounts_moved v w outer new x y s h b a opens =
+      let C : Tally → ℕ → Type 0 = λ n lost. CountsFaults n lost (law.tally v.directory)
+      (law.tally w.directory) in
+      let A : D → Type 0 = λ d. CountsFaults (fault_counts y) (items_lost y) (law.tally d)
+      (law.tally w.directory) in
+      let B : D → Type 0 = λ d. CountsFaults (fault_counts y) (items_lost y) (law.tally outer.directory)
+      (law.tally d) in
       let A' : D → Type 0 = λ d. (law.tally w.directory).items ≡ grown h.taken (law.tally d).items in
       let B' : D → Type 0 = λ d. (law.tally d).items ≡ grown h.taken (law.tally outer.directory).items in
       let OA : D → Type 0 = λ d. (law.tally w.directory).opened ≡ grown h.opened (law.tally d).opened in
       let OB : D → Type 0 = λ d. (law.tally d).opened ≡ grown h.opened (law.tally outer.directory).opened in
       let EA : D → Type 0 = λ d. (law.tally w.directory).ended ≡ grown h.ended (law.tally d).ended in
       let EB : D → Type 0 = λ d. (law.tally d).ended ≡ grown h.ended (law.tally outer.directory).ended in
-      let L : ℕ → Type 0 = λ n. Takes r n h.taken w.listings_left in
-      let M : ℕ → Type 0 = λ n. Takes r outer.listings_left h.taken n in
+      let L : ℕ → Type 0 = λ n. Takes y n h.taken w.listings_left in
+      let M : ℕ → Type 0 = λ n. Takes y outer.listings_left h.taken n in
+      let F : Tally → Type 0 = λ n. h.refused ≤ n.failures in
       record {
-        counts = subst B (sym a.directory) (subst A (sym b.directory) h.counts);
+        counts = subst B (sym a.directory) (subst A (sym b.directory)
+            (subst (λ lost. C (fault_counts y) lost) (sym s.lost)
+            (subst (λ n. C n (items_lost x)) (sym s.counts) h.counts)));
         taken = h.taken;
-        takes = subst M (sym a.listings_left) (subst L (sym b.listings_left) h.takes);
+        takes = subst M (sym a.listings_left) (subst L (sym b.listings_left)
+            (s.takes v.listings_left h.taken w.listings_left h.takes));
         counted = subst B' (sym a.directory) (subst A' (sym b.directory) h.counted);
+        passed = h.passed;
+        passes = λ e. h.passes (sym b.yields_from ∙ e);
+        refused = h.refused;
+        refuses = subst F (sym s.counts) h.refuses;
+        gives = λ n. omega (arith, h.gives (λ i. n (s.lacks i)), s.many, b.to_begin, a.to_begin);
+        going = λ n i. omega (
+          arith,
+          h.going (λ l. n (s.last l)) (omega (arith, i, b.listings_left)),
+          a.listings_left,
+        );
+        folders = h.folders;
+        folders_passed = h.folders_passed;
         opened = h.opened;
         opened_is = subst OB (sym a.directory) (subst OA (sym b.directory) h.opened_is);
         ended = h.ended;
         ended_is = subst EB (sym a.directory) (subst EA (sym b.directory) h.ended_is);
-        opens = λ n. omega (arith, h.opens n, b.to_open);
-        closes = λ n. omega (arith, h.closes n, b.listings_open, a.listings_open);
-        ends = λ i. a.ended (h.ends i);
+        opens = opens;
+        closes = λ n. omega (arith, h.closes (λ l. n (s.last l)), b.listings_open, a.listings_open);
+        ends = λ i. a.ended (h.ends (s.last_only i));
       }
-
-  -- a filter changes no fault
-  accounts_marked : (v w : WalkView D) (x : Given) (m : Mark) → Accounts law v (Some x) w
-      → Accounts law v (Some (with_mark x m)) w
-  accounts_marked v w (entry k f) m h =
-      record {
-        counts = h.counts;
-        taken = h.taken;
-        takes = h.takes;
-        counted = h.counted;
-        opened = h.opened;
-        opened_is = h.opened_is;
-        ended = h.ended;
-        ended_is = h.ended_is;
-        opens = h.opens;
-        closes = h.closes;
-        ends =
-            λ i. absurd i;
-      }
-  accounts_marked v w (fault kind path depth) m h = h
-  accounts_marked v w no_memory m h = h
-
-  -- nothing was given, and then r
-  pub accounts_then : (a b c : WalkView D) (r : Option Given) → Accounts law a None b → Accounts law b r c
-      → Accounts law a r c
-  accounts_then a b c r h i = record {
-    counts = counts_none_then _ _ _ _ h.counts i.counts;
-    taken = h.taken + i.taken;
-    takes = takes_more r h.taken b.listings_left i.taken c.listings_left a.listings_left (h.taken + i.taken)
-        h.takes refl i.takes;
-    counted = grown_then h.taken i.taken _ _ _ h.counted i.counted;
-    opened = h.opened + i.opened;
-    opened_is = grown_then h.opened i.opened _ _ _ h.opened_is i.opened_is;
-    ended = h.ended + i.ended;
-    ended_is = grown_then h.ended i.ended _ _ _ h.ended_is i.ended_is;
-    opens = λ n. omega (arith, h.opens (λ v. v));
-    closes = λ n. omega (arith, h.closes (λ v. v), i.closes n);
-    ends = i.ends;
-  }
 
   -- ---- the steps of a filter, by those of the walk
 
@@ -258,16 +286,19 @@ module _ {D C : Type 0} (law : Law D C) where
         let idles = f.idles (b.idle i) in
         (a.idle idles.0, a.directory ∙ (idles.1 ∙ sym b.directory))
 
-    pub step_ends : FeedStep law v None w
+    pub step_ends : FeedStep law v None w → new.to_open ≡ 0
         → ((path : List ℕ) (depth : ℕ) → new.may_fail_below path depth → w.may_fail_below path depth)
         → ((p : Pending Given) → outer.to_come p → GivesOrStops outer p None new)
         → FeedStep law outer None new
-    step_ends f below gives = record {
+    step_ends f none below gives = record {
       gives = gives;
-      accounts = accounts_moved v w outer new None f.accounts b a;
+      accounts = accounts_moved v w outer new None None (same_as None) f.accounts b a
+          (λ n. omega (arith, f.accounts.opens n, f.to_open, none, b.to_open));
       at_end = λ e. a.ended (f.at_end e);
       closed = λ e. omega (arith, f.closed e, a.listings_open);
-      to_open = λ i. absurd i;
+      begun = λ e. omega (arith, f.begun e, a.to_begin);
+      from = a.yields_from ∙ (f.from ∙ sym b.yields_from);
+      to_open = none;
       above = a.opens_above ∙ (f.above ∙ sym b.opens_above);
       stays = λ e. let s = f.stays (b.ended e) in (s.0, a.ended s.1);
       idles = idles_moved None f;
@@ -281,20 +312,24 @@ module _ {D C : Type 0} (law : Law D C) where
     }
 
     pub step_marked : (x y : Given) (m : Mark) → y ≡ with_mark x m → FeedStep law v (Some x) w
-        → (IsToOpen outer.opens_above (Some y) → new.to_open ≡ 1)
+        → new.to_open ≡ opens_one outer.opens_above (Some y)
         → ((path : List ℕ) (depth : ℕ) → new.may_fail_below path depth
         → IsFolderAt outer.opens_above path depth (Some (with_mark x m)))
         → ((p : Pending Given) → outer.to_come p → GivesOrStops outer p (Some y) new)
         → FeedStep law outer (Some y) new
     step_marked x y m e f opens below gives =
-        let A : Given → Type 0 = λ z. Accounts law v (Some z) w in
+        let A : Given → Type 0 = λ z. IsAs (Some x) (Some z) in
         let M : Given → Type 0 = λ z. IsMisplaced (Some z) → 0 < v.names_left in
         record {
           gives = gives;
-          accounts = accounts_moved v w outer new (Some y)
-              (subst A (sym e) (accounts_marked v w x m f.accounts)) b a;
+          accounts =
+              let alike = subst A (sym e) (marked_as x m) in
+              accounts_moved v w outer new (Some x) (Some y) alike f.accounts b a
+              (λ n. omega (arith, f.accounts.opens (λ i. n (alike.lacks i)), f.to_open, opens, b.to_open));
           at_end = λ i. (cc);
           closed = λ i. (cc);
+          begun = λ i. (cc);
+          from = a.yields_from ∙ (f.from ∙ sym b.yields_from);
           to_open = opens;
           above = a.opens_above ∙ (f.above ∙ sym b.opens_above);
           stays = λ i. let s : Some x ≡ None = (f.stays (b.ended i)).0 in absurd (cc);

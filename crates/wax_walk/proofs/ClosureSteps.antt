@@ -1,5 +1,5 @@
 -- Steps of a filter by a closure.
-use Rattle.std.proofs.Common.{◌≡◌, true, false, refl, sym, subst}
+use Rattle.std.proofs.Common.{◌≡◌, ◌∙◌, true, false, refl, sym, ap, subst}
 use Rattle.std.specs.Prelude.{Option, Some, None}
 use denote.Ref.{Bor}
 use Rattle.wax_directory.specs.Law.{Law}
@@ -8,8 +8,8 @@ use Rattle.wax_walk.specs.declared.iterator.EntryResidue.{EntryResidue}
 use Rattle.wax_walk.specs.Forest.{cancelled}
 use Rattle.wax_walk.specs.Given.{Given, Facts, Mark, mark_by, with_mark, is_cut}
 use Rattle.wax_walk.specs.Says.{SaysByRule, closure_view}
-use Rattle.wax_walk.specs.View.{WalkView, FeedStep, CancelStep, GivesOrStops, IsToOpen}
-use Rattle.wax_walk.proofs.Accounting.{IsAsked, HasAnswered, step_ends, step_marked, opened_marked, opened_uncut}
+use Rattle.wax_walk.specs.View.{WalkView, FeedStep, CancelStep, GivesOrStops, opens_one}
+use Rattle.wax_walk.proofs.Accounting.{IsAsked, HasAnswered, step_ends, step_marked, opened_cut, opened_uncut}
 use Rattle.wax_walk.proofs.Accounting.{folder_uncut}
 use Rattle.wax_walk.proofs.Filtering.{layer_ends, layer_cuts, layer_passes}
 
@@ -19,9 +19,11 @@ module _ {D C F : Type 0} (law : Law D C) (step : F → Bor TreeEntry → Option
     directory = refl;
     listings_left = refl;
     names_left = refl;
+    to_begin = refl;
     listings_open = refl;
     to_open = refl;
     opens_above = refl;
+    yields_from = refl;
     may_fail = λ path depth i. i;
     ended = λ i. i;
     idle = λ i. i;
@@ -32,8 +34,10 @@ module _ {D C F : Type 0} (law : Law D C) (step : F → Bor TreeEntry → Option
     directory = refl;
     listings_left = refl;
     names_left = refl;
+    to_begin = refl;
     listings_open = refl;
     opens_above = refl;
+    yields_from = refl;
     may_fail = λ path depth i. i;
     ended = λ i. i;
     idle = λ i. i;
@@ -45,8 +49,10 @@ module _ {D C F : Type 0} (law : Law D C) (step : F → Bor TreeEntry → Option
         directory = k.directory;
         listings_left = k.listings_left;
         names_left = k.names_left;
+        to_begin = k.to_begin;
         listings_open = k.listings_open;
         opens_above = k.opens_above;
+        yields_from = k.yields_from;
         may_fail = k.may_fail;
         ended = k.ends;
         idle = k.idles;
@@ -55,7 +61,7 @@ module _ {D C F : Type 0} (law : Law D C) (step : F → Bor TreeEntry → Option
   pub closure_ends : (v w : WalkView D) (f : F) → FeedStep law v None w
       → FeedStep law (closure_view step v f) None (closure_view step w f)
   closure_ends v w f h = step_ends law v w _ _ (asked v f) (answered w f) h
-      (λ path depth i. i) (λ q s.
+      h.to_open (λ path depth i. i) (λ q s.
       let p = s.2 in
       subst (λ z. GivesOrStops (closure_view step v f) z None (closure_view step w f)) (sym p.2)
       (layer_ends s.0 v w (closure_view step v f) (closure_view step w f) p.0 refl refl
@@ -69,8 +75,8 @@ module _ {D C F : Type 0} (law : Law D C) (step : F → Bor TreeEntry → Option
       → SaysOf f x m t → y ≡ with_mark x m → false ≡ is_cut x m → FeedStep law (closure_view step v f)
       (Some y) (closure_view step w t)
   closure_passes v w f t x y m h says k n = step_marked law v w _ _ (asked v f) (answered w t) x y m k h
-      (λ i. h.to_open (opened_marked v.opens_above x m
-      (subst (λ z. IsToOpen v.opens_above (Some z)) k i)))
+      (h.to_open ∙ (sym (opened_uncut v.opens_above x m n) ∙ sym
+      (ap (λ z. opens_one v.opens_above (Some z)) k)))
       (λ path depth i. folder_uncut v.opens_above path depth x m n (h.places.below path depth i))
       (λ q s.
       let p = s.2 in
@@ -83,8 +89,8 @@ module _ {D C F : Type 0} (law : Law D C) (step : F → Bor TreeEntry → Option
       → SaysOf f x m t → y ≡ with_mark x m → true ≡ is_cut x m → CancelStep w u
       → FeedStep law (closure_view step v f) (Some y) (closure_view step u t)
   closure_cuts v w u f t x y m h says k n c = step_marked law v w _ _ (asked v f) (answered_cut w u t c) x y m
-      k h (λ i. absurd (opened_uncut v.opens_above x m n
-      (subst (λ z. IsToOpen v.opens_above (Some z)) k i)))
+      k h (c.to_open ∙ (sym (opened_cut v.opens_above x m n) ∙ sym
+      (ap (λ z. opens_one v.opens_above (Some z)) k)))
       (λ path depth i. absurd (c.none_below path depth i)) (λ q s.
       let p = s.2 in
       let o = says s.0 s.1 in

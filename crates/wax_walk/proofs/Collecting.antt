@@ -18,7 +18,7 @@ use Rattle.wax_walk.specs.declared.error.WalkError.{WalkError}
 use Rattle.wax_walk.specs.declared.error.WalkError.TheVariants.{Fault, Memory}
 use Rattle.wax_walk.specs.declared.error.FaultKind.TheVariants.{NotAFolder, Budget}
 use Rattle.wax_walk.specs.Collected.{IsCutShort, GaveAll, whole, Took, all_fault_counts, NoneLast, count_to_open}
-use Rattle.wax_walk.specs.Collected.{AreOfFolders, HasFolder}
+use Rattle.wax_walk.specs.Collected.{AreOfFolders, HasFolder, all_items_lost, NoneLacksMemory}
 use Rattle.wax_walk.specs.Collected as all
 use Rattle.wax_walk.specs.Entries.{given_of, given_outcome, given_residue}
 use Rattle.wax_walk.specs.Forest.{Forest, nothing, item, lists, followed_by, Pending, pending, all_pending}
@@ -27,7 +27,8 @@ use Rattle.wax_walk.specs.Given.{Given, Facts, fault, no_memory, is_kept}
 use Rattle.wax_walk.specs.Known.{kept_of}
 use Rattle.wax_walk.specs.View.{WalkView, FeedStep, GivesOrStops, lacks_memory, over_budget, gives}
 use Rattle.wax_walk.specs.View.{CountsFaults, fault_counts, IsLast, IsMisplaced, Takes, IsToOpen, is_to_open}
-use Rattle.wax_walk.specs.View.{IsErrorAt, IsFolderAt, MayFail, Places}
+use Rattle.wax_walk.specs.View.{IsErrorAt, IsFolderAt, MayFail, Places, items_lost, opens_one}
+use Rattle.wax_walk.specs.View.{LacksMemory}
 use Rattle.wax_walk.proofs.Accounting.{takes_within, takes_exactly, counts_faults_then, counts_then_none}
 use Rattle.wax_walk.proofs.Accounting.{counts_nothing, grown_then}
 
@@ -167,6 +168,15 @@ faults_more [] x = plus_none (fault_counts (Some x))
 faults_more (y ∷ xs) x = ap (plus (fault_counts (Some y))) (faults_more xs x) ∙ plus_assoc
     (fault_counts (Some y)) (all_fault_counts xs) (fault_counts (Some x))
 
+lost_more : (xs : List Given) (x : Given) → all_items_lost (xs ++ x ∷ []) ≡ all_items_lost xs + items_lost (Some x)
+lost_more [] x = omega arith
+lost_more (y ∷ xs) x = omega (arith, lost_more xs x)
+
+memory_parts : (xs : List Given) (x : Given) → NoneLacksMemory (xs ++ x ∷ [])
+    → NoneLacksMemory xs × ¬ (LacksMemory (Some x))
+memory_parts [] x h = (tt, h.0)
+memory_parts (y ∷ xs) x h = let p = memory_parts xs x h.1 in ((h.0, p.0), p.1)
+
 -- ---- the last item
 
 none_split : {A : Type 0} (before after : List A) (x : A) → [] ≡ before ++ x ∷ after → ⊥
@@ -212,10 +222,6 @@ opened_more : (most : ℕ) (xs : List Given) (x : Given)
 opened_more most [] x = omega arith
 opened_more most (y ∷ xs) x = omega (arith, opened_more most xs x)
 
-one_opened : (b : Bool) (n : ℕ) → (b ≡ true → n ≡ 1) → cond b 1 0 ≤ n
-one_opened true n h = omega (arith, h refl)
-one_opened false n h = omega arith
-
 -- ---- where errors come
 
 -- errors may come only of folders that were yielded, or of one of the paths `first`
@@ -259,7 +265,8 @@ module _ {D C : Type 0} (law : Law D C) where
   pub record Taking (walk now : WalkView D) (most less : ℕ) (xs : List Given) : Type 0 where
     pub gave : (p : Pending Given) → walk.to_come p → GaveSoFar walk.listings_left now p xs
     pub few : length xs + less ≤ most
-    pub counts : CountsFaults (all_fault_counts xs) (law.tally walk.directory) (law.tally now.directory)
+    pub counts : CountsFaults (all_fault_counts xs) (all_items_lost xs) (law.tally walk.directory)
+        (law.tally now.directory)
     pub taken : ℕ
     pub counted : (law.tally now.directory).items ≡ grown taken (law.tally walk.directory).items
     pub within : taken + now.listings_left ≤ walk.listings_left
@@ -277,9 +284,20 @@ module _ {D C : Type 0} (law : Law D C) where
     pub opened_is : (law.tally now.directory).opened ≡ grown opened (law.tally walk.directory).opened
     pub ended_count : ℕ
     pub ended_is : (law.tally now.directory).ended ≡ grown ended_count (law.tally walk.directory).ended
-    pub opens : NoneLast xs → walk.to_open + count_to_open walk.opens_above xs ≤ opened + now.to_open
+    pub going : NoneLast xs → 0 < walk.listings_left → 0 < now.listings_left
+    pub folders : ℕ
+    pub opens : NoneLacksMemory xs
+        → opened + now.to_open ≡ walk.to_open + (folders + count_to_open walk.opens_above xs)
     pub closes : NoneLast xs → walk.listings_open + opened ≡ ended_count + now.listings_open
     pub above : now.opens_above ≡ walk.opens_above
+    pub passed : ℕ
+    pub folders_passed : folders ≤ passed
+    pub passes : walk.yields_from ≡ 0 → passed ≡ 0
+    pub refused : ℕ
+    pub refuses : refused ≤ (all_fault_counts xs).failures
+    pub gives : NoneLacksMemory xs
+        → taken + (refused + walk.to_begin) ≡ length xs + (passed + now.to_begin)
+    pub from : now.yields_from ≡ walk.yields_from
 
   module _ (walk mid new : WalkView D) (most less fewer : ℕ) (xs : List Given) where
     -- what was taken, with what a call took that gave an item
@@ -321,12 +339,26 @@ module _ {D C : Type 0} (law : Law D C) where
         let a = f.accounts in
         let n : mid.has_ended → ⊥ = λ i. let s : Some x ≡ None = (f.stays i).0 in cc in
         let e = h.exactly n in
-        let P : Tally → Type 0 = λ c. CountsFaults c (law.tally walk.directory) (law.tally new.directory) in
+        let lost = all_items_lost xs + items_lost (Some x) in
+        let P : Tally → Type 0 = λ c. CountsFaults c lost (law.tally walk.directory) (law.tally new.directory) in
+        let Q : ℕ → Type 0 = λ m. CountsFaults (all_fault_counts (xs ++ x ∷ [])) m (law.tally walk.directory)
+        (law.tally new.directory) in
+        let F : Tally → Type 0 = λ c. h.refused + a.refused ≤ c.failures in
         record {
           gave = λ p c. gave_more walk.listings_left mid new p xs x n (λ q i. f.gives q i) a.ends
               (h.gave p c);
           few = let long = length-append xs (x ∷ []) in omega (arith, h.few, l, long);
-          counts = subst P (sym (faults_more xs x)) (counts_faults_then _ _ _ _ _ h.counts a.counts);
+          counts = subst Q (sym (lost_more xs x))
+              (subst P (sym (faults_more xs x)) (counts_faults_then _ _ _ _ _ _ _ h.counts a.counts));
+          passed = h.passed + a.passed;
+          passes = λ e. omega (arith, h.passes e, a.passes (h.from ∙ e));
+          refused = h.refused + a.refused;
+          refuses = subst F (sym (faults_more xs x)) (omega (arith, h.refuses, a.refuses));
+          gives = λ m.
+              let p = memory_parts xs x m in
+              let long = length-append xs (x ∷ []) in
+              omega (arith, h.gives p.0, a.gives p.1, long);
+          from = f.from ∙ h.from;
           taken = h.taken + a.taken;
           counted = grown_then h.taken a.taken _ _ _ h.counted a.counted;
           within = omega (
@@ -349,17 +381,14 @@ module _ {D C : Type 0} (law : Law D C) where
           opened_is = grown_then h.opened a.opened _ _ _ h.opened_is a.opened_is;
           ended_count = h.ended_count + a.ended;
           ended_is = grown_then h.ended_count a.ended _ _ _ h.ended_is a.ended_is;
+          going = λ m i. let p = none_last_parts xs x m in a.going p.1 (h.going p.0 i);
+          folders = h.folders + a.folders;
+          folders_passed = omega (arith, h.folders_passed, a.folders_passed);
           opens = λ m.
-              let p = none_last_parts xs x m in
-              let most = walk.opens_above in
-              let T : ℕ → Type 0 = λ v. IsToOpen v (Some x) → new.to_open ≡ 1 in
-              omega (
-                arith,
-                h.opens p.0,
-                a.opens p.1,
-                opened_more most xs x,
-                one_opened (is_to_open most x) new.to_open (subst T h.above f.to_open),
-              );
+              let p = memory_parts xs x m in
+              let one : opens_one mid.opens_above (Some x) ≡ cond (is_to_open walk.opens_above x) 1 0 =
+              ap (λ v. cond (is_to_open v x) 1 0) h.above in
+              omega (arith, h.opens p.0, a.opens p.1, opened_more walk.opens_above xs x, one);
           closes = λ m. let p = none_last_parts xs x m in omega (arith, h.closes p.0, a.closes p.1);
           above = f.above ∙ h.above;
         }
@@ -373,7 +402,12 @@ module _ {D C : Type 0} (law : Law D C) where
         record {
           all = λ p c. gave_all walk.listings_left mid new p xs (law.tells new.directory) (λ q i. f.gives q i)
               t (h.gave p c);
-          counts = counts_then_none _ _ _ _ h.counts a.counts;
+          counts = counts_then_none _ _ _ _ _ h.counts a.counts;
+          passed = h.passed + a.passed;
+          passes = λ e. omega (arith, h.passes e, a.passes (h.from ∙ e));
+          refused = h.refused;
+          refuses = h.refuses;
+          gives = λ m. omega (arith, h.gives m, a.gives (λ i. i), a.refuses, f.begun refl);
           taken = h.taken + a.taken;
           counted = grown_then h.taken a.taken _ _ _ h.counted a.counted;
           within = omega (arith, h.within, e);
@@ -386,7 +420,10 @@ module _ {D C : Type 0} (law : Law D C) where
           opened_is = grown_then h.opened a.opened _ _ _ h.opened_is a.opened_is;
           ended = h.ended_count + a.ended;
           ended_is = grown_then h.ended_count a.ended _ _ _ h.ended_is a.ended_is;
-          opens = λ m. omega (arith, h.opens m, a.opens (λ i. i));
+          going = λ m i. omega (arith, h.within, e, a.going (λ l. l) (h.going m i));
+          folders = h.folders + a.folders;
+          folders_passed = omega (arith, h.folders_passed, a.folders_passed);
+          opens = λ m. omega (arith, h.opens m, a.opens (λ i. i), f.to_open);
           closes = λ m. omega (arith, h.closes m, a.closes (λ i. i), f.closed refl);
         }
 
@@ -410,9 +447,18 @@ module _ {D C : Type 0} (law : Law D C) where
     opened_is = omega arith;
     ended_count = 0;
     ended_is = omega arith;
+    going = λ m i. i;
+    folders = 0;
+    folders_passed = omega arith;
     opens = λ m. omega arith;
     closes = λ m. omega arith;
     above = refl;
+    passed = 0;
+    passes = λ e. refl;
+    refused = 0;
+    refuses = omega arith;
+    gives = λ m. omega arith;
+    from = refl;
   }
 
 -- ---- what is kept of it

@@ -1,5 +1,5 @@
 -- What a walk yielded, to its end.
-use Rattle.std.specs.Prelude.{◌≡◌, ℕ, ◌+◌, ◌<◌, ◌≤◌, ◌⊎◌, cond, List, [], ◌∷◌, ◌++◌, Some, ⊤}
+use Rattle.std.specs.Prelude.{◌≡◌, ℕ, ◌+◌, ◌<◌, ◌≤◌, ◌⊎◌, cond, length, List, [], ◌∷◌, ◌++◌, Some, ⊤}
 use Rattle.std.specs.List.{Contains}
 use Rattle.wax_directory.specs.Counting.{no_counts, grown, plus}
 use Rattle.wax_directory.specs.Law.{Law}
@@ -8,7 +8,7 @@ use Rattle.wax_walk.specs.declared.error.FaultKind.TheVariants.{NotAFolder, Budg
 use Rattle.wax_walk.specs.Forest.{Pending, all_pending, preorder, listings}
 use Rattle.wax_walk.specs.Given.{Given, fault, no_memory}
 use Rattle.wax_walk.specs.View.{WalkView, CountsFaults, IsLast, IsErrorAt, IsFolderAt, MayFail, fault_counts}
-use Rattle.wax_walk.specs.View.{is_to_open}
+use Rattle.wax_walk.specs.View.{is_to_open, items_lost, LacksMemory}
 
 -- the items are a prefix of `all`, and then x
 abbrev pub IsCutShort : List Given → Given → List Given → Type 0
@@ -31,6 +31,16 @@ pub data GaveAll (tells : List (List ℕ) → Type 0) (allowed : ℕ) (p : Pendi
 abbrev pub all_fault_counts : List Given → Tally
 all_fault_counts [] = no_counts
 all_fault_counts (x ∷ xs) = plus (fault_counts (Some x)) (all_fault_counts xs)
+
+-- at most how many items were taken for these whose faults aren't among them
+abbrev pub all_items_lost : List Given → ℕ
+all_items_lost [] = 0
+all_items_lost (x ∷ xs) = items_lost (Some x) + all_items_lost xs
+
+-- allocation never failed
+abbrev pub NoneLacksMemory : List Given → Type 0
+NoneLacksMemory [] = ⊤
+NoneLacksMemory (x ∷ xs) = ¬ (LacksMemory (Some x)) × NoneLacksMemory xs
 
 -- an item that ends a walk is the last of these
 abbrev pub EndsThere : List Given → Type 0
@@ -62,7 +72,8 @@ AreOfFolders first most xs = (before after : List Given) (x : Given) (path : Lis
 -- a walk yielded these items to its end, and left the directory as `new`, unchanged if the walk was idle
 pub record Took {D C : Type 0} (law : Law D C) (walk : WalkView D) (new : D) (xs : List Given) : Type 0 where
   pub all : (p : Pending Given) → walk.to_come p → GaveAll (law.tells new) walk.listings_left p xs
-  pub counts : CountsFaults (all_fault_counts xs) (law.tally walk.directory) (law.tally new)
+  pub counts : CountsFaults (all_fault_counts xs) (all_items_lost xs) (law.tally walk.directory)
+      (law.tally new)
   pub taken : ℕ
   pub counted : (law.tally new).items ≡ grown taken (law.tally walk.directory).items
   pub within : taken ≤ walk.listings_left
@@ -72,10 +83,22 @@ pub record Took {D C : Type 0} (law : Law D C) (walk : WalkView D) (new : D) (xs
   pub ends_there : EndsThere xs
   pub of_folders : AreOfFolders (MayFail walk) walk.opens_above xs
   pub unasked : walk.is_idle → new ≡ walk.directory
-  -- if no item ended the walk, each yielded folder was opened, and each listing was read to its end
+  -- unless allocation failed, each item that was taken from a listing was yielded, or passed if there is a
+  -- least depth; nothing else was but the entry where the walk begins, and errors of folders that couldn't be
+  -- opened
+  pub passed : ℕ
+  pub passes : walk.yields_from ≡ 0 → passed ≡ 0
+  pub refused : ℕ
+  pub refuses : refused ≤ (all_fault_counts xs).failures
+  pub gives : NoneLacksMemory xs → taken + (refused + walk.to_begin) ≡ length xs + passed
+  pub going : NoneLast xs → 0 < walk.listings_left → taken < walk.listings_left
+  -- unless allocation failed, just the yielded folders were opened, and those that were passed; if no item ended
+  -- the walk, each listing was read to its end
   pub opened : ℕ
   pub opened_is : (law.tally new).opened ≡ grown opened (law.tally walk.directory).opened
   pub ended : ℕ
   pub ended_is : (law.tally new).ended ≡ grown ended (law.tally walk.directory).ended
-  pub opens : NoneLast xs → walk.to_open + count_to_open walk.opens_above xs ≤ opened
+  pub folders : ℕ
+  pub folders_passed : folders ≤ passed
+  pub opens : NoneLacksMemory xs → opened ≡ walk.to_open + (folders + count_to_open walk.opens_above xs)
   pub closes : NoneLast xs → walk.listings_open + opened ≡ ended

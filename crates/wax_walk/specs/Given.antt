@@ -31,6 +31,11 @@ is_kept (entry kept f) = true
 is_kept (entry m f) = false
 is_kept x = true
 
+-- the item is an entry
+abbrev pub is_entry : Given → Bool
+is_entry (entry m f) = true
+is_entry x = false
+
 -- the mark of an entry after one more filter: the one of the two marks that excludes more
 abbrev pub combined_mark : Mark → Mark → Mark
 combined_mark with_tree m = with_tree

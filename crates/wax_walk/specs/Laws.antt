@@ -1,6 +1,6 @@
 -- Proofs of laws that impls cite.
-use Rattle.std.specs.Prelude.{◌≡◌, List, ℕ, Bool, true, cond, Option, Some, None, Result, Ok, Err, ◌⊎◌, ⊤}
-use Rattle.std.proofs.Common.{ap, subst, sym, ◌∙◌, inl, inr}
+use Rattle.std.specs.Prelude.{◌≡◌, List, ℕ, Bool, true, false, cond, Option, Some, None, Result, Ok, Err, ◌⊎◌, ⊤}
+use Rattle.std.proofs.Common.{ap, refl, subst, sym, ◌∙◌, inl, inr}
 use denote.Ref.{Bor}
 use Rattle.wax_filter.specs.declared.filter.separation.Separation.{Separation}
 use Rattle.wax_filter.specs.declared.filter.separation.Separation.TheVariants.{Filtrate, Residue}
@@ -35,6 +35,10 @@ ended_either : (b c : Bool) (before after : Type 0) → c ≡ b → (before → 
     → (c ≡ true) ⊎ after
 ended_either b c before after e f h = elim h [ inl a ↦ inl (e ∙ a) | inr i ↦ inr (f i) ]
 
+none_still : (b : Bool) (n : ℕ) → n ≡ 0 → cond b 0 n ≡ 0
+none_still true n e = refl
+none_still false n e = e
+
 pub ruled_cancelling : {D P : Type 0} (v w : WalkView D) (rules : P → Candidate → Mark) (p q : P) (b c : Bool)
     → CancelStep v w → q ≡ p → c ≡ b → CancelStep (ruled_view v (rules p) b) (ruled_view w (rules q) c)
 ruled_cancelling v w rules p q b c h e f = record {
@@ -46,8 +50,11 @@ ruled_cancelling v w rules p q b c h e f = record {
   directory = h.directory;
   listings_left = h.listings_left;
   names_left = h.names_left;
+  to_begin = ap (λ n. cond c 0 n) h.to_begin ∙ ap (λ i. cond i 0 v.to_begin) f;
   listings_open = ap (λ n. cond c 0 n) h.listings_open ∙ ap (λ i. cond i 0 v.listings_open) f;
+  to_open = ap (λ i. cond i 0 w.to_open) f ∙ none_still b w.to_open h.to_open;
   opens_above = h.opens_above;
+  yields_from = h.yields_from;
   may_fail = h.may_fail;
   none_below = λ path depth i. h.none_below path depth i.1;
   ends = λ i. ended_either b c v.has_ended w.has_ended f h.ends i;
@@ -72,8 +79,11 @@ module _ {F : Type 0} (step : F → Bor TreeEntry → Option EntryResidue → F 
     directory = h.directory;
     listings_left = h.listings_left;
     names_left = h.names_left;
+    to_begin = h.to_begin;
     listings_open = h.listings_open;
+    to_open = h.to_open;
     opens_above = h.opens_above;
+    yields_from = h.yields_from;
     may_fail = h.may_fail;
     none_below = h.none_below;
     ends = h.ends;

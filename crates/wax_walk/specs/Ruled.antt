@@ -8,6 +8,7 @@ use Rattle.wax_walk.specs.View.{WalkView}
 abbrev pub ruled_view : {D : Type 0} → WalkView D → (Candidate → Mark) → Bool → WalkView D
 ruled_view inner rule lacked = record inner {
   to_come = λ q. (lacked ≡ false) × ToComeFiltered inner.to_come (of_candidate rule) q;
+  to_begin = cond lacked 0 inner.to_begin;
   listings_open = cond lacked 0 inner.listings_open;
   to_open = cond lacked 0 inner.to_open;
   may_fail_below = λ path depth. (lacked ≡ false) × inner.may_fail_below path depth;

@@ -1,6 +1,6 @@
 -- What contracts see of a walk, and how a call of `feed` and cancelling change it.
 use Rattle.std.specs.Prelude.{◌≡◌, ℕ, ◌+◌, ◌<◌, ◌≤◌, ◌^◌, ◌-◌, min, List, Option, Some, None, ⊤}
-use Rattle.std.specs.Prelude.{Bool, true, false, ◌&&◌, nat_lt, ◌⊎◌}
+use Rattle.std.specs.Prelude.{Bool, true, false, cond, ◌&&◌, nat_lt, ◌⊎◌}
 use Rattle.wax_directory.specs.Counting.{no_counts, grown}
 use Rattle.wax_directory.specs.declared.directory.FileType.{FileType}
 use Rattle.wax_directory.specs.declared.directory.FileType.TheVariants as F
@@ -12,8 +12,9 @@ use Rattle.wax_walk.specs.Forest.{Pending, all_pending, cancelled, FirstIs, IsLi
 use Rattle.wax_walk.specs.Given.{Given, entry, fault, no_memory, kept, alone, with_tree}
 
 -- what is to come; the directory; at most how many more items may be taken from listings; how many names are
--- left to follow to where the walk begins; how many listings are open; 1 if the last yielded entry is a
--- folder that is still to be opened, else 0; the depth above which folders are opened; the paths, each with
+-- left to follow to where the walk begins; 1 if the entry there is still to come, else 0; how many listings
+-- are open; 1 if the last yielded entry is a folder that is still to be opened, else 0; the depth above which
+-- folders are opened; the depth from which entries are yielded; the paths, each with
 -- its depth, of which errors may come, and those of which errors may come unless what is below the last
 -- yielded item is cancelled; that the walk has ended; and that it leaves the directory as it is
 pub record WalkView (D : Type 0) : Type 1 where
@@ -21,9 +22,11 @@ pub record WalkView (D : Type 0) : Type 1 where
   pub directory : D
   pub listings_left : ℕ
   pub names_left : ℕ
+  pub to_begin : ℕ
   pub listings_open : ℕ
   pub to_open : ℕ
   pub opens_above : ℕ
+  pub yields_from : ℕ
   pub may_fail : List ℕ → ℕ → Type 0
   pub may_fail_below : List ℕ → ℕ → Type 0
   pub has_ended : Type 0
@@ -90,14 +93,40 @@ Takes (Some (fault NotAFolder path depth)) allowed n left = n + left ≤ allowed
 Takes (Some (fault Budget path depth)) allowed n left = (n ≡ allowed) × (left ≡ 0)
 Takes r allowed n left = n + left ≡ allowed
 
+-- allocation failed
+abbrev pub LacksMemory : Option Given → Type 0
+LacksMemory (Some no_memory) = ⊤
+LacksMemory r = ⊥
+
+-- at most how many items were taken from listings whose faults aren't yielded: the one past the budget, and
+-- the one for which allocation failed
+abbrev pub items_lost : Option Given → ℕ
+items_lost (Some no_memory) = 1
+items_lost (Some (fault Budget path depth)) = 1
+items_lost r = 0
+
+-- 1 if the item is a folder above this depth that isn't excluded with everything below it, else 0
+abbrev pub opens_one : ℕ → Option Given → ℕ
+opens_one most None = 0
+opens_one most (Some x) = cond (is_to_open most x) 1 0
+
+-- how many items there are
+abbrev pub how_many : Option Given → ℕ
+how_many None = 0
+how_many (Some x) = 1
+
 -- ---- a call
 
--- each count except that of items grew by at least that of n, or reached the greatest u64
-pub record CountsFaults (n old new : Tally) : Type 0 where
-  pub misses : min (old.misses + n.misses) (2 ^ 64 - 1) ≤ new.misses
+-- each count grew, up to the greatest u64: that of misses, of failures and of bad names by exactly that of n,
+-- except for the faults of at most `lost` items; that of leaves by at least that of n
+pub record CountsFaults (n : Tally) (lost : ℕ) (old new : Tally) : Type 0 where
+  pub misses : new.misses ≡ grown n.misses old.misses
   pub leaves : min (old.leaves + n.leaves) (2 ^ 64 - 1) ≤ new.leaves
-  pub failures : min (old.failures + n.failures) (2 ^ 64 - 1) ≤ new.failures
-  pub bad_names : min (old.bad_names + n.bad_names) (2 ^ 64 - 1) ≤ new.bad_names
+  pub failures_lost : ℕ
+  pub failures : new.failures ≡ grown (n.failures + failures_lost) old.failures
+  pub names_lost : ℕ
+  pub bad_names : new.bad_names ≡ grown (n.bad_names + names_lost) old.bad_names
+  pub within : failures_lost + names_lost ≤ lost
 
 module _ {D : Type 0} where
   -- an error of this path and depth may come, if nothing is cancelled
@@ -122,21 +151,34 @@ module _ {D : Type 0} where
       gives : (items : ℕ) → ((IsLast r → ⊥) → items + old.listings_left ≤ p.items + new.listings_left)
           → FirstIs new.to_come (all_pending p) p.listed items r → GivesOrStops old p r new
 
-  -- what the directory counted; how many items were taken from listings; how many folders were opened, and
-  -- how many listings came to their end; and that the walk has ended if the item is its last. If it isn't, a
-  -- folder that was to be opened was opened, and the listings that are open are those that were opened and
-  -- haven't come to their end
+  -- what the directory counted; how many items were taken from listings; how many entries were passed, since
+  -- they are above the least depth; whether the item is that a folder couldn't be opened; how many folders
+  -- were opened, and how many listings came to their end; and that the walk has ended if the item is its last.
+  -- Unless allocation failed, each item that was taken was yielded or passed, and nothing else was but the
+  -- entry where the walk begins, and that error; and just those folders were opened that were to be opened or
+  -- were passed. If the item isn't the last, the budget isn't used up, and the listings that are open are those
+  -- that were opened and haven't come to their end
   pub record Accounts {C : Type 0} (law : Law D C) (old : WalkView D) (r : Option Given) (new : WalkView D) :
       Type 0 where
-    pub counts : CountsFaults (fault_counts r) (law.tally old.directory) (law.tally new.directory)
+    pub counts : CountsFaults (fault_counts r) (items_lost r) (law.tally old.directory)
+        (law.tally new.directory)
     pub taken : ℕ
     pub takes : Takes r old.listings_left taken new.listings_left
     pub counted : (law.tally new.directory).items ≡ grown taken (law.tally old.directory).items
+    pub passed : ℕ
+    pub passes : old.yields_from ≡ 0 → passed ≡ 0
+    pub refused : ℕ
+    pub refuses : refused ≤ (fault_counts r).failures
+    pub gives : ¬ (LacksMemory r) → taken + (refused + old.to_begin) ≡ how_many r + (passed + new.to_begin)
+    pub going : ¬ (IsLast r) → 0 < old.listings_left → 0 < new.listings_left
+    pub folders : ℕ
+    pub folders_passed : folders ≤ passed
     pub opened : ℕ
     pub opened_is : (law.tally new.directory).opened ≡ grown opened (law.tally old.directory).opened
     pub ended : ℕ
     pub ended_is : (law.tally new.directory).ended ≡ grown ended (law.tally old.directory).ended
-    pub opens : ¬ (IsLast r) → old.to_open ≤ opened
+    pub opens : ¬ (LacksMemory r)
+        → opened + new.to_open ≡ old.to_open + (folders + opens_one old.opens_above r)
     pub closes : ¬ (IsLast r) → old.listings_open + opened ≡ ended + new.listings_open
     pub ends : IsLast r → new.has_ended
 
@@ -147,7 +189,9 @@ module _ {D : Type 0} where
     pub accounts : Accounts law old r new
     pub at_end : r ≡ None → new.has_ended
     pub closed : r ≡ None → new.listings_open ≡ 0
-    pub to_open : IsToOpen old.opens_above r → new.to_open ≡ 1
+    pub begun : r ≡ None → new.to_begin ≡ 0
+    pub from : new.yields_from ≡ old.yields_from
+    pub to_open : new.to_open ≡ opens_one old.opens_above r
     pub above : new.opens_above ≡ old.opens_above
     pub stays : old.has_ended → (r ≡ None) × new.has_ended
     pub idles : old.is_idle → new.is_idle × (new.directory ≡ old.directory)
@@ -161,8 +205,11 @@ module _ {D : Type 0} where
     pub directory : new.directory ≡ old.directory
     pub listings_left : new.listings_left ≡ old.listings_left
     pub names_left : new.names_left ≡ old.names_left
+    pub to_begin : new.to_begin ≡ old.to_begin
     pub listings_open : new.listings_open ≡ old.listings_open
+    pub to_open : new.to_open ≡ 0
     pub opens_above : new.opens_above ≡ old.opens_above
+    pub yields_from : new.yields_from ≡ old.yields_from
     pub may_fail : (path : List ℕ) (depth : ℕ) → new.may_fail path depth → old.may_fail path depth
     pub none_below : (path : List ℕ) (depth : ℕ) → ¬ (new.may_fail_below path depth)
     pub ends : old.has_ended → new.has_ended
@@ -175,9 +222,11 @@ module _ {D : Type 0} where
     pub directory : that.directory ≡ this.directory
     pub listings_left : that.listings_left ≡ this.listings_left
     pub names_left : that.names_left ≡ this.names_left
+    pub to_begin : that.to_begin ≡ this.to_begin
     pub listings_open : that.listings_open ≡ this.listings_open
     pub to_open : that.to_open ≡ this.to_open
     pub opens_above : that.opens_above ≡ this.opens_above
+    pub yields_from : that.yields_from ≡ this.yields_from
     pub may_fail : (path : List ℕ) (depth : ℕ) → that.may_fail path depth → this.may_fail path depth
     pub may_fail_below : (path : List ℕ) (depth : ℕ) → that.may_fail_below path depth
         → this.may_fail_below path depth

@@ -1,12 +1,12 @@
 //! Filters of walks by a rule.
 
-ghost use Rattle.std.specs.Prelude.{◌≡◌, ◌⊎◌, IfOk, true, false};
+ghost use Rattle.std.specs.Prelude.{◌≡◌, ◌⊎◌, IfOk, OnErr, true, false};
 ghost use Rattle.std.specs.Iterator.{IsFinite};
 ghost use Rattle.wax_filter.specs.Feeding.{NextFiltrate};
 ghost use Rattle.wax_filter.specs.Separating.{AtFiltrate};
 ghost use Rattle.wax_walk.specs.Entries.{given_of, given_outcome};
 ghost use Rattle.wax_walk.specs.Candidates.{Candidate, in_characters, of_candidate};
-ghost use Rattle.wax_walk.specs.Given.{Mark, mark_by, is_cut, with_mark};
+ghost use Rattle.wax_walk.specs.Given.{Mark, mark_by, is_cut, is_entry, with_mark};
 ghost use Rattle.wax_walk.specs.Known.{KeepsKnown, KeepsOnly};
 ghost use Rattle.wax_walk.specs.Said.{RuleStep, mark_of};
 
@@ -52,6 +52,7 @@ where
     F: Feed<Filtrate = Result<T, WalkError>, Residue = TreeResidue<R>>,
     ensures says { let given = given_of T.facts R.facts separation.now in
         IfOk result (λ r. mark_of r ≡ mark_by (of_candidate (P.rule rule.old)) given) }
+    ensures asks { OnErr result (is_entry (given_of T.facts R.facts separation.now) ≡ true) }
     ensures same { P.rule rule.new ≡ P.rule rule.old }
 {
     match separation {

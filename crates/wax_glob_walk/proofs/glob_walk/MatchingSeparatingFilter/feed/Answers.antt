@@ -3,7 +3,7 @@ use Rattle.std.proofs.Common.{refl, sym, subst, ◌∙◌}
 use Rattle.wax_walk.specs.Candidates.{of_candidate}
 use Rattle.wax_walk.specs.Entries.{facts_of, given_of}
 use Rattle.wax_walk.specs.Given.{mark_by, changed_by, cut_by}
-use Rattle.wax_walk.proofs.RuleSteps.{ruled_ends, ruled_cuts, ruled_passes}
+use Rattle.wax_walk.proofs.RuleSteps.{ruled_ends, ruled_cuts, ruled_lacks, ruled_passes, ruled_stays}
 use Rattle.wax_glob_walk.specs.Matches.{glob_facts}
 use Rattle.wax_glob_walk.specs.Programs.{leading_mark}
 use Rattle.wax_glob_walk.proofs.glob_walk.MatchingSeparatingFilter.feed.Goals as goal
@@ -49,3 +49,25 @@ returns-clause-steps g c =
         record { answer = c.in-Ok.ensures.matches; stays = λ e k. k },
       )
     ]
+
+pub returns-then-self-clause-steps : goal.returns-then-self-clause-steps
+returns-then-self-clause-steps g c =
+    let s = c.args.self.now in
+    let rule = leading_mark g.C.NameTest.decides s.leading.items g.P.Program.decides s.program.now in (
+      ruled_stays g.I.Directory.Directory.law rule (g.I.FileIterator.view s.input) s.has_ended c.if-self.true,
+      record { answer = tt; stays = λ e k. k },
+    )
+
+pub returns-in_default-clause-steps : goal.returns-in_default-clause-steps
+returns-in_default-clause-steps g c =
+    let view = g.I.FileIterator.view in
+    let s = c.args.self.now in
+    let rule = leading_mark g.C.NameTest.decides s.leading.items g.P.Program.decides s.program.now in
+    let x = given_of facts_of facts_of c.in_ok-separation.separation in
+    let fed = g.met.I.FileIterator.feeding s.input c.feed.new.self (Some c.in_ok-separation.separation)
+    c.in_ok-separation.ensures.steps in
+    rw c.new.ensures (
+      ruled_lacks g.I.Directory.Directory.law rule (view s.input) (view c.feed.new.self) rule s.has_ended
+          c.if-self.false x c.in_default.ensures.asks fed,
+      record { answer = tt; stays = λ e k. k },
+    )

@@ -1,5 +1,5 @@
-use Rattle.std.proofs.Common.{arith, refl, sym, subst, string_bytes, length, ◌+◌, inl}
-use Rattle.std.specs.Prelude.{Ok, Err, None}
+use Rattle.std.proofs.Common.{◌≡◌, ap, arith, refl, sym, subst, string_bytes, length, ◌+◌, inl}
+use Rattle.std.specs.Prelude.{Ok, Err, None, Some}
 use Rattle.wax_directory.specs.declared.directory.DirectoryFault.TheVariants as F
 use Rattle.wax_directory.specs.Counting.{kind_counts}
 use Rattle.wax_walk.specs.declared.error.FaultKind.TheVariants.{NotFound, Listing}
@@ -7,11 +7,11 @@ use Rattle.wax_walk.specs.declared.error.WalkError.TheVariants.{Fault}
 use Rattle.wax_walk.specs.Given.{fault}
 use Rattle.wax_walk.specs.View.{IsLast}
 use Rattle.wax_tree.specs.Prefix.{from_last}
-use Rattle.wax_tree.specs.Walking.{scope_of, located, cursors_of, names_left, open_lists}
+use Rattle.wax_tree.specs.Walking.{scope_of, located, cursors_of, begins, names_left, open_lists}
 use Rattle.wax_tree.proofs.Showing.{has_kind, begins_missing, begins_failing}
 use Rattle.wax_tree.proofs.Resting.{rest_moved, comes_rest}
 use Rattle.wax_tree.proofs.UsingAnswers.{counted_same, answer_used, failed_uses_answer, gives_uses_answer}
-use Rattle.wax_tree.proofs.UsingAnswers.{stopped_uses_answer, stops_with, step_from}
+use Rattle.wax_tree.proofs.UsingAnswers.{kind_no_listing, none_begins, stopped_uses_answer, stops_with, step_from}
 use Rattle.wax_tree.proofs.Stepping.{gives_fault}
 use Rattle.wax_tree.specs.Reaching.{OfAny, OnWay, ReachesFrom, no_folders}
 use Rattle.wax_tree.proofs.Reaching.{fault_places, leads_here, reaches_more, stopped_places, way_here}
@@ -30,7 +30,7 @@ returns-in-Ok-Some-clause-continues g c s h p d none rest items r e =
     (has_kind s c.in-Ok-Some.kind (o.kind s h)) p d none rest items moved e)
 
 pub returns-in-Ok-None-clause-answers : goal.returns-in-Ok-None-clause-answers
-returns-in-Ok-None-clause-answers g c =
+returns-in-Ok-None-clause-answers g c running none entered =
     let w = c.args.self.now in
     let o = rw c.in-Ok-None.field-0-is at c.in-Ok-None.ensures in
     answer_used g.D.Directory.law
@@ -39,11 +39,13 @@ returns-in-Ok-None-clause-answers g c =
       taken = 0;
       names =
           names_left w + length c.args.place.names.items;
-    }) w (open_lists w) 0 c.kind.new.self c.stop.result c.stop.new.self
-    o.counted refl (λ n. omega arith) (λ n. absurd (n (subst IsLast (sym c.stop.ensures.gives) tt)))
+      made = 1;
+    }) w (open_lists w) 0 1 0 c.kind.new.self c.stop.result c.stop.new.self
+    o.counted refl (omega arith) (λ n. refl) running none entered (λ n. refl)
+    (λ n. absurd (n (subst IsLast (sym c.stop.ensures.gives) tt)))
     (stopped_uses_answer _ (record w { directory = c.kind.new.self }) c.stop.new.self c.stop.result
     (fault NotFound (string_bytes c.args.place.at.path) c.args.place.at.depth) c.stop.ensures.gives
-    c.stop.ensures.ended (counted_same _) (omega arith) (λ i. absurd i) (omega arith))
+    c.stop.ensures.ended (counted_same _ 0) tt refl (omega arith) (λ i. absurd i) (omega arith))
 
 pub returns-in-Ok-None-clause-continues : goal.returns-in-Ok-None-clause-continues
 returns-in-Ok-None-clause-continues g c s h p d none rest items r e =
@@ -61,8 +63,9 @@ returns-in-Ok-None-clause-continues g c s h p d none rest items r e =
     c.stop.ensures.gives tt c.stop.ensures.ended is moved none (omega (arith, e)))
 
 pub returns-in-Err-Failed-clause-answers : goal.returns-in-Err-Failed-clause-answers
-returns-in-Err-Failed-clause-answers g c =
+returns-in-Err-Failed-clause-answers g c running none entered =
     let w = c.args.self.now in
+    let one : 1 ≡ begins w + 1 = sym (ap (λ v. v + 1) (none_begins w none)) in
     let o = rw c.in-Err-Failed.field-0-is at c.in-Err-Failed.ensures in
     answer_used g.D.Directory.law
     (record {
@@ -70,9 +73,11 @@ returns-in-Err-Failed-clause-answers g c =
       taken = 0;
       names =
           names_left w + length c.args.place.names.items;
-    }) w (open_lists w) 0 c.kind.new.self _ _ o.counted refl (λ n. omega arith) (λ n. omega arith)
+      made = 1;
+    }) w (open_lists w) 0 1 0 c.kind.new.self _ _ o.counted refl (omega arith) (λ n. refl) running none entered (λ n. refl)
+    (λ n. omega arith)
     (gives_uses_answer _ (record w { directory = c.kind.new.self })
-    (Err (Fault Listing c.args.place.at.path c.args.place.at.depth)) (counted_same _) (omega arith) (λ i. i)
+    (Err (Fault Listing c.args.place.at.path c.args.place.at.depth)) (counted_same _ 0) refl one (omega arith) (λ i. i)
     (λ i. i) (omega arith))
 
 pub returns-in-Err-Failed-clause-continues : goal.returns-in-Err-Failed-clause-continues
@@ -91,7 +96,7 @@ returns-in-Err-Failed-clause-continues g c s h p d none rest items r e =
     (comes_rest law v items rest moved (omega (arith, e)))
 
 pub returns-in-Err-Memory-clause-answers : goal.returns-in-Err-Memory-clause-answers
-returns-in-Err-Memory-clause-answers g c =
+returns-in-Err-Memory-clause-answers g c running none entered =
     let w = c.args.self.now in
     let o = rw c.in-Err-Memory.field-0-is at c.in-Err-Memory.ensures in
     rw (c.fail.ensures.memory, c.fail.ensures.ended)
@@ -101,8 +106,11 @@ returns-in-Err-Memory-clause-answers g c =
       taken = 0;
       names =
           names_left w + length c.args.place.names.items;
-    }) w (open_lists w) 0 c.kind.new.self _ _ o.counted refl (λ n. omega arith) (λ n. absurd (n tt))
-    (failed_uses_answer _ (record w { directory = c.kind.new.self }) (omega arith) (omega arith)))
+      made = 1;
+    }) w (open_lists w) 0 1 0 c.kind.new.self _ _ o.counted refl (omega arith) (λ n. refl) running none entered (λ n. refl)
+    (λ n. absurd (n tt))
+    (failed_uses_answer _ (record w { directory = c.kind.new.self }) (counted_same _ 1) (omega arith)
+    (omega arith)))
 
 pub returns-in-Ok-None-clause-places : goal.returns-in-Ok-None-clause-places
 returns-in-Ok-None-clause-places g c none =
@@ -121,3 +129,19 @@ returns-in-Err-Failed-clause-places g c none =
     fault_places of of w.max w Listing place.at.path place.at.depth (place.at.depth + 1) (omega arith)
     (leads_here w.min (OfAny w (OnWay place)) _ _ (inl (way_here place _ _ (refl, refl)))) none
     (reaches_more w no_folders (OnWay place) (λ p n i. absurd i))
+
+pub returns-in-Ok-Some-clause-answers : goal.returns-in-Ok-Some-clause-answers
+returns-in-Ok-Some-clause-answers g c running none entered =
+    let w = c.args.self.now in
+    let kind = c.in-Ok-Some.kind in
+    let o = rw c.in-Ok-Some.field-0-is at c.in-Ok-Some.ensures in
+    let no = kind_no_listing kind in
+    answer_used g.D.Directory.law
+    (record {
+      counts = kind_counts (Ok (Some kind));
+      taken = 0;
+      names = names_left w + length c.args.place.names.items;
+      made = 1;
+    }) w (open_lists w) 0 1 0 c.kind.new.self c.follow.result c.follow.new.self o.counted no.items (omega arith)
+    (λ n. omega arith) running none entered (λ n. no.opened)
+    (λ n. omega (arith, no.opened, no.ended, c.follow.ensures.lists n)) (c.follow.ensures.uses_answer running none)

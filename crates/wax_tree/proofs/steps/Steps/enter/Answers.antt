@@ -1,6 +1,6 @@
 use Rattle.std.proofs.Common.{refl, sym, ap, inl, Err, string_bytes, ◌++◌, ◌∷◌, []}
 use Rattle.wax_walk.specs.declared.error.FaultKind.TheVariants.{Listing}
-use Rattle.wax_walk.specs.declared.error.WalkError.TheVariants.{Fault}
+use Rattle.wax_walk.specs.declared.error.WalkError.TheVariants.{Fault, Memory}
 use Rattle.wax_walk.specs.Given.{fault}
 use Rattle.wax_walk.specs.View.{lacks_memory}
 use Rattle.wax_tree.specs.Walking.{cursors_of, located}
@@ -11,6 +11,14 @@ use Rattle.wax_tree.proofs.Reaching.{failed_places, fault_places, leads_here, pu
 use Rattle.wax_tree.proofs.Reaching.{silent_places}
 use Rattle.wax_tree.proofs.steps.Steps.enter.Goals as goal
 use Rattle.wax_tree.proofs.steps.Steps.enter.Goals.{in-Ok-push, in-Err}
+use Rattle.std.proofs.Common.{◌≡◌, ◌+◌, ◌∙◌, arith, cond, length, length-append, true}
+use Rattle.wax_directory.specs.Counting.{no_counts}
+use Rattle.wax_tree.specs.Stepping.{Asked}
+use Rattle.wax_tree.specs.declared.steps.Step.TheVariants.{GoesOn, Gives}
+use Rattle.wax_tree.specs.Walking.{begins, names_left, open_lists}
+use Rattle.wax_tree.proofs.UsingAnswers.{answer_used, counted_same, failed_uses_answer, failure_counted}
+use Rattle.wax_tree.proofs.UsingAnswers.{gives_uses_answer, memory_uses_answer, opening_counted, opening_lost}
+use Rattle.wax_tree.proofs.UsingAnswers.{none_enters, silent_uses_answer}
 
 pub returns-after-push-clause-continues : goal.returns-after-push-clause-continues
 returns-after-push-clause-continues g c s h i rest items r e =
@@ -69,3 +77,71 @@ returns-in-Err-Failed-clause-places g c none =
     c.saturating_sub-depth.ensures
     (leads_here w.min (OfAny w (IsOf c.args.folder)) _ _ (inl (refl, refl))) none
     (reaches_more w no_folders (IsOf c.args.folder) (λ p n i. absurd i))
+
+pub returns-after-push-clause-answers : goal.returns-after-push-clause-answers
+returns-after-push-clause-answers g c running first entered =
+    let law = g.D.Directory.law in
+    let w = c.args.self.now in
+    let d = c.open.new.self in
+    let o = c.in-Ok.ensures in
+    let asked : Asked = record {
+      counts = record no_counts { opened = 1 };
+      taken = 0;
+      names = names_left w;
+      made = begins w;
+    } in
+    elim c.match-push.branch [
+      | in-Ok-push v ↦
+          let new = record w { directory = d; levels = c.push.new.self } in
+          let before : open_lists w ≡ length w.levels.items =
+          ap (λ b. cond b 0 (length w.levels.items)) running in
+          let after : open_lists new ≡ length c.push.new.self.items =
+          ap (λ b. cond b 0 (length c.push.new.self.items)) running in
+          let begun : begins new ≡ begins w = refl in
+          let long = ap length v.in-Ok-push.ensures.items ∙ length-append w.levels.items _ in
+          rw (v.self-is, v.result-is)
+          (answer_used law asked w (open_lists w) 1 (begins w) 0 d GoesOn new o.counted refl (omega arith)
+          (λ n. omega arith) running first entered (λ n. refl) (λ n. omega (arith, before, after, long))
+          (silent_uses_answer asked (record w { directory = d }) new 0 0 (omega arith)
+          (λ a b e. none_enters new e) refl refl (omega arith) (omega arith) opening_counted (λ e. refl) (omega (arith, begun))))
+      | in-Err v ↦
+          let new = record w { directory = d; levels = c.push.new.self; has_ended = true } in
+          rw (v.self-is, v.result-is, v.fail.ensures.memory, v.fail.ensures.ended)
+          (answer_used law asked w (open_lists w) 1 (begins w) 0 d (Gives (Err Memory)) new o.counted refl
+          (omega arith) (λ n. omega arith) running first entered (λ n. refl) (λ n. absurd (n tt))
+          (memory_uses_answer asked (record w { directory = d }) new (Gives (Err Memory)) refl refl refl
+          (omega arith) opening_lost (omega arith)))
+    ]
+
+pub returns-in-Err-Failed-clause-answers : goal.returns-in-Err-Failed-clause-answers
+returns-in-Err-Failed-clause-answers g c running first entered =
+    let w = c.args.self.now in
+    let d = c.open.new.self in
+    let o = rw c.in-Err-Failed.field-0-is at c.in-Err-Failed.ensures in
+    answer_used g.D.Directory.law
+    (record {
+      counts = record no_counts { failures = 1; opened = 1; ended = 1 };
+      taken = 0;
+      names = names_left w;
+      made = begins w + 1;
+    }) w (open_lists w) 1 (begins w) 1 d _ _ o.counted refl (omega arith) (λ n. omega arith) running first
+    entered (λ n. refl) (λ n. omega arith)
+    (gives_uses_answer _ (record w { directory = d })
+    (Err (Fault Listing c.args.folder.path c.saturating_sub-depth.result)) (failure_counted _ refl refl refl) refl refl
+    (omega arith) (λ i. i) (λ i. i) (omega arith))
+
+pub returns-in-Err-Memory-clause-answers : goal.returns-in-Err-Memory-clause-answers
+returns-in-Err-Memory-clause-answers g c running first entered =
+    let w = c.args.self.now in
+    let d = c.open.new.self in
+    let o = rw c.in-Err-Memory.field-0-is at c.in-Err-Memory.ensures in
+    rw (c.fail-in-Err-Memory.ensures.memory, c.fail-in-Err-Memory.ensures.ended)
+    (answer_used g.D.Directory.law
+    (record {
+      counts = no_counts;
+      taken = 0;
+      names = names_left w;
+      made = begins w;
+    }) w (open_lists w) 1 (begins w) 0 d _ _ o.counted refl (omega arith) (λ n. omega arith)
+    running first entered (λ n. absurd (n tt)) (λ n. absurd (n tt))
+    (failed_uses_answer _ (record w { directory = d }) (counted_same _ 1) (omega arith) (omega arith)))

@@ -18,6 +18,10 @@ use Rattle.wax_tree.specs.Reaching.{LeadsUnseen, OfAny, OnWay, OneFolder, Reache
 use Rattle.wax_tree.proofs.Reaching.{leads_here, leads_more, next_reaches, places_more, reaches_more}
 use Rattle.wax_tree.proofs.Reaching.{silent_places, stopped_places, way_here}
 use Rattle.wax_tree.proofs.steps.Steps.follow.Goals as goal
+use Rattle.std.proofs.Common.{cond}
+use Rattle.wax_tree.specs.Walking.{begins, names_left}
+use Rattle.wax_tree.proofs.UsingAnswers.{kind_counted, kind_uses_answer, memory_uses_answer, none_begins, none_either}
+use Rattle.wax_tree.proofs.UsingAnswers.{silent_uses_answer}
 
 pub returns-in_default-clause-continues : goal.returns-in_default-clause-continues
 returns-in_default-clause-continues g c s h k p d empty rest items r e =
@@ -35,13 +39,13 @@ returns-in_default-clause-continues g c s h k p d empty rest items r e =
     c.give.new.self) (sym is) (given root h k rest items r e)
 
 pub returns-then-ne-clause-uses_answer : goal.returns-then-ne-clause-uses_answer
-returns-then-ne-clause-uses_answer g c =
+returns-then-ne-clause-uses_answer g c running first =
     let no_folder : c.args.kind ≡ Folder → ⊥ = search rules in
     let long : length c.args.place.names.items ≡ length c.pop.new.self.items + 1 =
     ap length c.in-Some.ensures.items ∙ length-append c.pop.new.self.items (c.in-Some.name ∷ []) in
     stopped_uses_answer _ c.args.self.now c.stop.new.self c.stop.result
     (fault NotAFolder (string_bytes c.args.place.at.path) c.args.place.at.depth) c.stop.ensures.gives
-    c.stop.ensures.ended (leaf_counted c.args.kind no_folder) (omega arith) (λ i. omega (arith, long))
+    c.stop.ensures.ended (leaf_counted c.args.kind no_folder) tt refl (omega arith) (λ i. omega (arith, long))
     (omega arith)
 
 pub returns-then-ne-clause-continues : goal.returns-then-ne-clause-continues
@@ -103,3 +107,36 @@ returns-clause-places g c none =
     let below = rw c.as_str.ensures.value at c.in-Ok-below.ensures in
     silent_places of of w.max (record w { first = Some next }) _ refl none
     (next_reaches w place next c.in-Some.name c.in-Some.ensures.items (path_is next.at _ below) (depth_is next.at _ below))
+
+pub returns-in_default-clone-clause-uses_answer : goal.returns-in_default-clone-clause-uses_answer
+returns-in_default-clone-clause-uses_answer g c running first =
+    let w = c.args.self.now in
+    let e = c.fail.ensures.ended in
+    let few : names_left c.fail.new.self ≡ names_left w = ap names_left e in
+    memory_uses_answer _ w c.fail.new.self c.fail.result c.fail.ensures.memory (ap (λ v. v.directory) e)
+    (ap (λ v. v.has_ended) e) (omega (arith, few)) (kind_counted c.args.kind 1) (omega arith)
+
+pub returns-in_default-clause-uses_answer : goal.returns-in_default-clause-uses_answer
+returns-in_default-clause-uses_answer g c running first =
+    let w = c.args.self.now in
+    kind_uses_answer c.args.kind (names_left w) _ w c.give.new.self c.give.result (none_begins w first)
+    c.give.ensures.uses_answer
+
+pub returns-in_default-below-clause-uses_answer : goal.returns-in_default-below-clause-uses_answer
+returns-in_default-below-clause-uses_answer g c running first =
+    let w = c.args.self.now in
+    let e = c.fail-in_default-below.ensures.ended in
+    let few : names_left c.fail-in_default-below.new.self ≡ names_left w = ap names_left e in
+    memory_uses_answer _ w c.fail-in_default-below.new.self c.fail-in_default-below.result c.fail-in_default-below.ensures.memory (ap (λ v. v.directory) e)
+    (ap (λ v. v.has_ended) e) (omega (arith, few)) (kind_counted c.args.kind 1) (omega arith)
+
+pub returns-clause-uses_answer : goal.returns-clause-uses_answer
+returns-clause-uses_answer g c running first =
+    let w = c.args.self.now in
+    let next : StartPoint = record { at = c.in-Ok-below.at; names = c.pop.new.self } in
+    let long : length c.args.place.names.items ≡ length c.pop.new.self.items + 1 =
+    ap length c.in-Some.ensures.items ∙ length-append c.pop.new.self.items (c.in-Some.name ∷ []) in
+    let begun : begins (record w { first = Some next }) ≡ 1 = ap (λ b. cond b 0 1) running in
+    silent_uses_answer _ w (record w { first = Some next }) 0 0 (omega arith)
+    (λ going none entered. none_either w.has_ended 0 refl) refl refl (omega arith) (omega (arith, long))
+    (kind_counted c.args.kind 0) (λ e. refl) (omega (arith, begun))

@@ -6,6 +6,12 @@ use Rattle.wax_tree.specs.Plain.{plain_entry}
 use Rattle.wax_tree.specs.Walking.{entry_location, scope_of, tree_given}
 use Rattle.wax_tree.proofs.Stepping.{goes_silently, gives_entry}
 use Rattle.wax_tree.proofs.steps.Steps.give.Goals as goal
+use Rattle.std.proofs.Common.{◌+◌, ◌∙◌, refl}
+use Rattle.wax_tree.specs.Stepping.{nothing_asked}
+use Rattle.wax_tree.specs.Walking.{allowance, begins, entering, names_left}
+use Rattle.wax_tree.proofs.UsingAnswers.{counted_same, entered_uses_answer, one_enters}
+use Rattle.wax_tree.proofs.Listing.{remembers_one}
+use Rattle.wax_tree.proofs.UsingAnswers.{memory_uses_answer, silent_uses_answer}
 
 pub returns-then-depth-self-clause-continues : goal.returns-then-depth-self-clause-continues
 returns-then-depth-self-clause-continues g c s root h k rest items r e =
@@ -25,3 +31,36 @@ returns-clause-continues g c s root h k rest items r e =
     gives_entry g.D.Directory.law w c.enter_later.new.self c.enter_later.new.self.entered (entry_location f) f.kind s
     i.0 items rest (Ok c.args.entry) c.enter_later.ensures.rest
     (omega (arith, c.depth.ensures, c.if-depth-self.false)) given r i.2 i.1 e
+
+pub returns-in_default-clause-uses_answer : goal.returns-in_default-clause-uses_answer
+returns-in_default-clause-uses_answer g c =
+    let w = c.args.self.now in
+    let e = c.fail.ensures.ended in
+    let rest = c.enter_later.ensures.rest in
+    let few : names_left c.fail.new.self ≡ names_left w = ap names_left e ∙ ap names_left rest in
+    memory_uses_answer (nothing_asked (names_left w) (begins w + 1)) w c.fail.new.self c.fail.result
+    c.fail.ensures.memory (ap (λ v. v.directory) e ∙ ap (λ v. v.directory) rest) (ap (λ v. v.has_ended) e)
+    (omega (arith, few)) (counted_same _ 1) (omega arith)
+
+pub returns-then-depth-self-clause-uses_answer : goal.returns-then-depth-self-clause-uses_answer
+returns-then-depth-self-clause-uses_answer g c =
+    let w = c.args.self.now in
+    let rest = c.enter_later.ensures.rest in
+    let few : names_left c.enter_later.new.self ≡ names_left w = ap names_left rest in
+    let min : c.enter_later.new.self.min ≡ w.min = ap (λ v. v.min) rest in
+    let left : allowance c.enter_later.new.self ≡ allowance w = ap allowance rest in
+    let begun : begins c.enter_later.new.self ≡ begins w = ap begins rest in
+    silent_uses_answer (nothing_asked (names_left w) (begins w + 1)) w c.enter_later.new.self 1
+    (entering c.enter_later.new.self) (one_enters c.enter_later.new.self) (λ going first entered. refl) refl
+    (ap (λ v. v.directory) rest) (omega (arith, left)) (omega (arith, few)) (counted_same _ 0)
+    (λ e. absurd (omega (arith, e, min, c.if-depth-self.true))) (omega (arith, begun))
+
+pub returns-clause-uses_answer : goal.returns-clause-uses_answer
+returns-clause-uses_answer g c =
+    let w = c.args.self.now in
+    let new = c.enter_later.new.self in
+    let rest = c.enter_later.ensures.rest in
+    entered_uses_answer (names_left w) w new c.args.entry rest (omega arith)
+    (λ going first entered. remembers_one (facts_of c.args.entry) w new rest going first entered
+    c.in-Ok.ensures.remembered
+    (λ p n i. let t = c.in-Ok.ensures.folder entered p n i in (t.1, t.2)))

@@ -5,7 +5,7 @@ use Rattle.wax_walk.specs.Given.{fault}
 use Rattle.wax_tree.specs.Plain.{count_shown}
 use Rattle.wax_tree.specs.Reaching.{OneFolder, ReachesFrom}
 use Rattle.wax_tree.specs.Stepping.{StepPlaces}
-use Rattle.wax_tree.specs.Walking.{names_left, scope_of}
+use Rattle.wax_tree.specs.Walking.{begins, names_left, scope_of}
 use Rattle.wax_tree.proofs.Finding.{found_entry, found_root, found_fault, entry_uses_answer, found_uses_answer}
 use Rattle.wax_tree.proofs.Resting.{comes_rest}
 use Rattle.wax_tree.proofs.Stepping.{gives_fault}
@@ -14,7 +14,8 @@ use Rattle.wax_tree.proofs.steps.Steps.give_found.Goals as goal
 
 pub returns-in-Entry-clause-uses_answer : goal.returns-in-Entry-clause-uses_answer
 returns-in-Entry-clause-uses_answer g c at x f =
-    entry_uses_answer x (names_left c.args.self.now) c.args.self.now c.give.new.self c.give.result
+    entry_uses_answer at (string_bytes c.args.self.now.root) x c.in-Entry.entry (names_left c.args.self.now)
+    (begins c.args.self.now + 1) c.args.self.now c.give.new.self c.give.result (rw c.in-Entry.is at f)
     c.give.ensures.uses_answer
 
 pub returns-in-Entry-clause-continues : goal.returns-in-Entry-clause-continues

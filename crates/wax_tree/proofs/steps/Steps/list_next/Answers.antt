@@ -6,6 +6,13 @@ use Rattle.wax_tree.proofs.UsingAnswers.{step_from}
 use Rattle.wax_tree.proofs.Showing.{shows_in_moved, shows_rest}
 use Rattle.wax_tree.proofs.Stepping.{goes_up}
 use Rattle.wax_tree.proofs.steps.Steps.list_next.Goals as goal
+use Rattle.std.proofs.Common.{◌+◌}
+use Rattle.wax_directory.specs.Counting.{end_counts, item_counts, no_counts}
+use Rattle.wax_tree.specs.declared.steps.Step.TheVariants.{GoesOn}
+use Rattle.wax_tree.specs.Walking.{begins, names_left, open_lists}
+use Rattle.wax_tree.proofs.Finding.{one_item}
+use Rattle.wax_tree.proofs.UsingAnswers.{answer_used, counted_same, ending_counted, failed_uses_answer}
+use Rattle.wax_tree.proofs.UsingAnswers.{none_enters, silent_uses_answer}
 
 pub returns-in-Ok-None-clause-lists : goal.returns-in-Ok-None-clause-lists
 returns-in-Ok-None-clause-lists g c l rest items b e =
@@ -41,3 +48,40 @@ returns-in-Ok-Some-clause-lists g c l rest items b e =
       shown = shows_rest (law.shows c.next.new.self) path l shown;
       opened = b.opened;
     }) shown e)
+
+pub returns-in-Err-clause-answers : goal.returns-in-Err-clause-answers
+returns-in-Err-clause-answers g c running first entered =
+    let w = c.args.self.now in
+    let d = c.next.new.self in
+    rw (c.fail.ensures.memory, c.fail.ensures.ended)
+    (answer_used g.D.Directory.law
+    (record { counts = no_counts; taken = 0; names = names_left w; made = begins w }) w (open_lists w + 1) 0
+    (begins w) 0 d _ _ c.in-Err.ensures.counted refl (omega arith) (λ n. omega arith) running first entered
+    (λ n. refl) (λ n. absurd (n tt))
+    (failed_uses_answer _ (record w { directory = d }) (counted_same _ 1) (omega arith) (omega arith)))
+
+pub returns-in-Ok-None-clause-answers : goal.returns-in-Ok-None-clause-answers
+returns-in-Ok-None-clause-answers g c running first entered =
+    let w = c.args.self.now in
+    let d = c.next.new.self in
+    let o = rw c.in-Ok-None.field-0-is at c.in-Ok-None.ensures in
+    answer_used g.D.Directory.law
+    (record { counts = end_counts; taken = 0; names = names_left w; made = begins w }) w (open_lists w + 1) 0
+    (begins w) 0 d GoesOn (record w { directory = d }) o.counted refl (omega arith) (λ n. omega arith)
+    running first entered (λ n. refl) (λ n. omega arith)
+    (silent_uses_answer _ (record w { directory = d }) (record w { directory = d }) 0 0 (omega arith)
+    (λ a b e. none_enters (record w { directory = d }) e) refl refl (omega arith)
+    (omega arith) ending_counted (λ e. refl) (omega arith))
+
+pub returns-in-Ok-Some-clause-answers : goal.returns-in-Ok-Some-clause-answers
+returns-in-Ok-Some-clause-answers g c running first entered =
+    let w = c.args.self.now in
+    let d = c.next.new.self in
+    let o = rw c.in-Ok-Some.field-0-is at c.in-Ok-Some.ensures in
+    let one = one_item c.in-Ok-Some.item in
+    answer_used g.D.Directory.law
+    (record { counts = item_counts c.in-Ok-Some.item; taken = 1; names = names_left w; made = begins w + 1 })
+    w (open_lists w + 1) 0 (begins w) 0 d c.take_from.result c.take_from.new.self o.counted one.items
+    (omega arith) (λ n. omega arith) running first entered (λ n. one.opened)
+    (λ n. omega (arith, one.opened, one.ended, c.take_from.ensures.kept running n))
+    (c.take_from.ensures.uses_answer running first)

@@ -1,27 +1,42 @@
-use Rattle.std.proofs.Common.{◌≡◌, ◌∙◌, ℕ, refl, subst, arith}
+use Rattle.std.proofs.Common.{◌≡◌, ◌∙◌, ℕ, [], refl, sym, subst, arith}
+use Rattle.std.proofs.lemmas.List.{append-nil}
 use Rattle.wax_tree.specs.declared.steps.Step.TheVariants.{Gives, Ends}
 use Rattle.wax_tree.proofs.Stepping.{leads_on, run_gives}
 use Rattle.wax_tree.proofs.Reaching.{run_places, run_reaches}
-use Rattle.wax_tree.proofs.Listing.{accounts_on, accounts_run, stopped_closed}
+use Rattle.wax_tree.proofs.Listing.{accounts_none, accounts_on, accounts_run, stopped_begun, stopped_closed}
 use Rattle.wax_tree.specs.Walking.{step_given, entering}
-use Rattle.wax_walk.specs.View.{IsToOpen}
+use Rattle.wax_walk.specs.View.{opens_one}
 use Rattle.wax_tree.proofs.steps.Steps.run.Goals as goal
+
+pub loop-item-init : goal.loop-item-init
+loop-item-init g c = record {
+  fewer = omega arith;
+  stays = λ h. h;
+  idles = λ h. refl;
+  names = omega arith;
+  accounts = accounts_none g.D.Directory.law c.args.self.now;
+  above = refl;
+  from = refl;
+  reaches = λ path n i. i;
+  leads = λ p h. (p, h, ([], refl, sym (append-nil p.listed)), omega arith);
+}
 
 pub returns-in-Gives : goal.returns-in-Gives
 returns-in-Gives g c =
     let law = g.D.Directory.law in
     let i = c.loop-item.invariant in
     let st = c.in-Gives.ensures.is_step in
-    let T : ℕ → Type 0 = λ n. IsToOpen n (step_given (Gives c.in-Gives.item))
-    → entering c.step.new.self ≡ 1 in
+    let T : ℕ → Type 0 = λ n. entering c.step.new.self ≡ opens_one n (step_given (Gives c.in-Gives.item)) in
     record {
       feeds = record {
         gives = λ p h. let q = i.leads p h in run_gives law c.args.self.now c.loop-item.self c.step.new.self p
             q.0 _ q.2 q.3 (c.in-Gives.ensures.step q.0 q.1);
-        accounts = accounts_run law c.args.self.now c.loop-item.self c.step.new.self _ i.accounts st.accounts;
+        accounts = accounts_run law c.args.self.now c.loop-item.self c.step.new.self _ i.from i.above i.accounts st.accounts;
         at_end = λ e. (cc);
         closed = λ e. (cc);
-        to_open = subst T i.above st.to_open;
+        begun = λ e. (cc);
+        from = st.from ∙ i.from;
+        to_open = subst T i.above (st.to_open (λ e. (cc)));
         above = st.above ∙ i.above;
         stays = λ e. let s : Gives c.in-Gives.item ≡ Ends =
             (st.stays (i.stays e)).0 in (cc, (st.stays (i.stays e)).1);
@@ -43,10 +58,12 @@ returns-in-Ends g c =
       feeds = record {
         gives = λ p h. let q = i.leads p h in run_gives law c.args.self.now c.loop-item.self c.step.new.self p
             q.0 _ q.2 q.3 (c.in-Ends.ensures.step q.0 q.1);
-        accounts = accounts_run law c.args.self.now c.loop-item.self c.step.new.self _ i.accounts st.accounts;
+        accounts = accounts_run law c.args.self.now c.loop-item.self c.step.new.self _ i.from i.above i.accounts st.accounts;
         at_end = λ e. st.at_end refl;
         closed = λ e. stopped_closed c.step.new.self (st.at_end refl);
-        to_open = λ e. absurd e;
+        begun = λ e. stopped_begun c.step.new.self (st.at_end refl);
+        from = st.from ∙ i.from;
+        to_open = st.to_open (λ e. (cc));
         above = st.above ∙ i.above;
         stays = λ e. (refl, st.at_end refl);
         idles = λ e. (st.at_end refl, st.idles (i.stays e) ∙ i.idles e);
@@ -68,8 +85,9 @@ loop-item-preserved g c =
       stays = λ e. (st.stays (i.stays e)).1;
       idles = λ e. st.idles (i.stays e) ∙ i.idles e;
       names = omega (arith, st.names, i.names);
-      accounts = accounts_on law c.args.self.now c.loop-item.self c.step.new.self i.accounts st.accounts;
+      accounts = accounts_on law c.args.self.now c.loop-item.self c.step.new.self i.from i.above i.accounts st.accounts;
       above = st.above ∙ i.above;
+      from = st.from ∙ i.from;
       reaches = run_reaches c.args.self.now c.loop-item.self c.step.new.self i.reaches
           c.in-GoesOn.ensures.places;
       leads = λ p h.

@@ -18,6 +18,7 @@ invariant-loop-item g l =
       names : names_left l.self ≤ names_left l.fn.self;
       accounts : AccountsSoFar law l.fn.self l.self;
       above : l.self.max ≡ l.fn.self.max;
+      from : l.self.min ≡ l.fn.self.min;
       reaches : (path : List ℕ) (n : ℕ) → MayReach l.self path n → MayReach l.fn.self path n;
       leads : (p : Pending Given) → PlainToCome law l.fn.self p
           → (q : Pending Given) × PlainToCome law l.self q × ListsBetween p q ×

@@ -1,11 +1,16 @@
 use Rattle.std.specs.Prelude.{None}
-use Rattle.std.proofs.Common.{rules, ◌≡◌, ◌∙◌, false, true, [], ap, arith, sym, refl, inl, ℕ, List}
+use Rattle.std.proofs.Common.{rules, ◌≡◌, ◌∙◌, false, true, [], ap, arith, sym, refl, inl, inr, ℕ, List}
 use Rattle.wax_tree.proofs.UsingAnswers.{step_from}
 use Rattle.wax_tree.proofs.Showing.{none_left}
 use Rattle.wax_tree.proofs.Stepping.{steps_begin, steps_enter, steps_list, steps_none, steps_ended}
 use Rattle.wax_tree.specs.Reaching.{IsOf, MayReach, OnWay, ReachesFrom}
 use Rattle.wax_tree.proofs.Reaching.{entered_reaches, first_reaches, places_more, popped_reaches}
 use Rattle.wax_tree.proofs.steps.Steps.step.Goals as goal
+use Rattle.std.proofs.Common.{◌+◌, cond, length, length-append}
+use Rattle.std.specs.Prelude.{Some}
+use Rattle.wax_tree.specs.Walking.{allowance, begins, entering, entering_after, if_some, names_left, names_of_first}
+use Rattle.wax_tree.specs.Walking.{open_lists, steps_view, HasStopped}
+use Rattle.wax_tree.proofs.Listing.{step_is}
 
 pub returns-then-self-clause-step : goal.returns-then-self-clause-step
 returns-then-self-clause-step g c p h = steps_ended g.D.Directory.law c.args.self.now p h c.if-self.true
@@ -88,3 +93,77 @@ returns-in-Some-pop-clause-places g c =
     ) in
     places_more of (MayReach w) of (MayReach w) w.max c.list_next.result c.list_next.new.self reaches reaches
     (c.list_next.ensures.places c.take-2.ensures.after)
+
+pub returns-in-Some-clause-is_step : goal.returns-in-Some-clause-is_step
+returns-in-Some-clause-is_step g c =
+    let law = g.D.Directory.law in
+    let w = c.args.self.now in
+    let mid = record w { first = c.take.new.self; entered = None } in
+    let place = c.in-Some.place in
+    let going : w.has_ended ≡ false = c.if-self.false in
+    let none : c.take.new.self ≡ None = c.take.ensures.after in
+    let some : w.first ≡ Some place = sym c.take.ensures.value ∙ c.in-Some.is in
+    let run : HasStopped w → ⊥ = λ h. elim h [
+      | inl e ↦ let b : true ≡ false = sym e ∙ going in (cc)
+      | inr e ↦ let b : Some place ≡ None = sym some ∙ e.0 in (cc)
+    ] in
+    let begun : begins w ≡ 1 = ap (λ b. cond b 0 (if_some w.first 1)) going ∙ ap (λ f. if_some f 1) some in
+    let enters : entering w ≡ 0 = ap (λ b. cond b 0 (entering_after w.first w.entered)) going ∙ ap
+    (λ f. entering_after f w.entered) some in
+    let names : names_left w ≡ length place.names.items = ap names_of_first some in
+    let fewer : names_left mid ≡ 0 = ap names_of_first none in
+    step_is law w mid c.begin.new.self
+    (record (steps_view law mid) {
+      names_left = names_left mid + length place.names.items;
+      to_begin = 1;
+      to_open = 0;
+    }) c.begin.result run refl refl refl refl refl begun enters refl refl
+    (omega (arith, names, fewer)) (c.begin.ensures.answers going none refl) c.begin.ensures.remembers
+
+pub returns-in-Some-take-clause-is_step : goal.returns-in-Some-take-clause-is_step
+returns-in-Some-take-clause-is_step g c =
+    let law = g.D.Directory.law in
+    let w = c.args.self.now in
+    let mid = record w { first = c.take.new.self; entered = c.take-2.new.self } in
+    let going : w.has_ended ≡ false = c.if-self.false in
+    let none : c.take.new.self ≡ None = c.take.ensures.after in
+    let first : w.first ≡ None = sym c.take.ensures.value ∙ c.in_default.is in
+    let some = sym c.take-2.ensures.value ∙ c.in-Some-take.is in
+    let run : HasStopped w → ⊥ = λ h. elim h [
+      | inl e ↦ let b : true ≡ false = sym e ∙ going in (cc)
+      | inr e ↦ let b : Some c.in-Some-take.folder ≡ None = sym some ∙ e.1 in (cc)
+    ] in
+    let begun : begins w ≡ begins mid = ap (λ f. cond w.has_ended 0 (if_some f 1)) (first ∙ sym none) in
+    let enters : entering w ≡ 1 = ap (λ b. cond b 0 (entering_after w.first w.entered)) going ∙ (ap
+    (λ f. entering_after f w.entered) first ∙ ap (λ f. if_some f 1) some) in
+    let names : names_left mid ≡ names_left w = ap names_of_first (none ∙ sym first) in
+    step_is law w mid c.enter.new.self (record (steps_view law mid) { to_open = 1 }) c.enter.result run refl refl
+    refl refl refl begun enters refl refl (omega (arith, names))
+    (c.enter.ensures.answers going none c.take-2.ensures.after) c.enter.ensures.remembers
+
+pub returns-in-Some-pop-clause-is_step : goal.returns-in-Some-pop-clause-is_step
+returns-in-Some-pop-clause-is_step g c =
+    let law = g.D.Directory.law in
+    let w = c.args.self.now in
+    let mid = record w { first = c.take.new.self; entered = c.take-2.new.self; levels = c.pop.new.self } in
+    let going : w.has_ended ≡ false = c.if-self.false in
+    let none : c.take.new.self ≡ None = c.take.ensures.after in
+    let first : w.first ≡ None = sym c.take.ensures.value ∙ c.in_default.is in
+    let entered : w.entered ≡ None = sym c.take-2.ensures.value ∙ c.in_default-take.is in
+    let long : length w.levels.items ≡ length c.pop.new.self.items + 1 =
+    ap length c.in-Some-pop.ensures.items ∙ length-append c.pop.new.self.items _ in
+    let run : HasStopped w → ⊥ = λ h. elim h [
+      | inl e ↦ let b : true ≡ false = sym e ∙ going in (cc)
+      | inr e ↦ let b : length w.levels.items ≡ 0 = ap length e.2 in omega (arith, b, long)
+    ] in
+    let begun : begins w ≡ begins mid = ap (λ f. cond w.has_ended 0 (if_some f 1)) (first ∙ sym none) in
+    let enters : entering w ≡ 0 = ap (λ b. cond b 0 (entering_after w.first w.entered)) going ∙ (ap
+    (λ f. entering_after f w.entered) first ∙ ap (λ f. if_some f 1) entered) in
+    let names : names_left mid ≡ names_left w = ap names_of_first (none ∙ sym first) in
+    let before : open_lists w ≡ length w.levels.items = ap (λ b. cond b 0 (length w.levels.items)) going in
+    let after : open_lists mid ≡ length c.pop.new.self.items =
+    ap (λ b. cond b 0 (length c.pop.new.self.items)) going in
+    step_is law w mid c.list_next.new.self
+    (record (steps_view law mid) { listings_open = open_lists mid + 1; to_open = 0 }) c.list_next.result run refl
+    refl refl refl refl begun enters refl (omega (arith, before, after, long))
+    (omega (arith, names)) (c.list_next.ensures.answers going none c.take-2.ensures.after) c.list_next.ensures.remembers

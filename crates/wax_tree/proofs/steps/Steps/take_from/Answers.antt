@@ -5,7 +5,7 @@ use Rattle.wax_directory.specs.Counting.{item_counts}
 use Rattle.wax_directory.specs.Shown.{rest_of}
 use Rattle.wax_tree.specs.inner.Heads.{own_count}
 use Rattle.wax_tree.specs.Plain.{count}
-use Rattle.wax_tree.specs.Walking.{scope_of, located, allowance, names_left}
+use Rattle.wax_tree.specs.Walking.{scope_of, located, allowance, begins, names_left}
 use Rattle.wax_tree.proofs.Finding.{taken_uses_answer}
 use Rattle.wax_tree.proofs.Resting.{rest_pushed, rest_spent}
 use Rattle.wax_tree.proofs.UsingAnswers.{stops_over, step_from}
@@ -15,6 +15,10 @@ use Rattle.wax_walk.specs.declared.error.FaultKind.TheVariants.{Budget}
 use Rattle.wax_tree.specs.Reaching.{IsOf, OfAny, OneFolder, ReachesFrom}
 use Rattle.wax_tree.proofs.Reaching.{leads_here, places_more, pushed_reaches, stopped_places}
 use Rattle.wax_tree.proofs.steps.Steps.take_from.Goals as goal
+use Rattle.std.specs.Prelude.{None}
+use Rattle.wax_walk.specs.Given.{fault}
+use Rattle.wax_tree.proofs.Finding.{item_lost}
+use Rattle.wax_tree.proofs.UsingAnswers.{memory_uses_answer, none_begins, stopped_uses_answer}
 
 pub returns-then-self-eq0-clause-lists : goal.returns-then-self-eq0-clause-lists
 returns-then-self-eq0-clause-lists g c l rest items h b i e =
@@ -26,14 +30,15 @@ returns-then-self-eq0-clause-lists g c l rest items h b i e =
     c.stop.ensures.gives (omega (arith, none, allowed, one, e)) b.opened
 
 pub returns-clause-uses_answer : goal.returns-clause-uses_answer
-returns-clause-uses_answer g c running =
+returns-clause-uses_answer g c running first =
     let w = c.args.self.now in
     let none : w.budget ≡ 0 → ⊥ = c.if-self-eq0.false in
     let mid = record w { levels = c.push.new.self; budget = w.budget - 1 } in
     let allowed : allowance w ≡ w.budget + 1 = ap (λ v. cond v 0 (w.budget + 1)) running in
     let allowed_then : allowance mid ≡ w.budget - 1 + 1 = ap (λ v. cond v 0 (w.budget - 1 + 1)) running in
-    taken_uses_answer (item_counts c.args.item) (names_left w) w mid c.give_found.new.self c.give_found.result
-    refl (omega (arith, none, allowed, allowed_then))
+    taken_uses_answer (item_counts c.args.item) (names_left w) (begins w + 1) w c.push.new.self (w.budget - 1)
+    c.give_found.new.self c.give_found.result (omega (arith, none, allowed, allowed_then))
+    (omega (arith, allowed_then))
     (c.give_found.ensures.uses_answer (located c.args.folder) c.args.item
     (rw c.as_str.ensures.value at c.in-Ok.ensures))
 
@@ -87,3 +92,33 @@ returns-clause-places g c none =
     places_more (ReachesFrom mid one) of (ReachesFrom mid one) of w.max c.give_found.result c.give_found.new.self pushed
     pushed (c.give_found.ensures.places none (located folder) c.args.item
     (rw c.as_str.ensures.value at c.in-Ok.ensures) refl)
+
+pub returns-then-self-eq0-clause-uses_answer : goal.returns-then-self-eq0-clause-uses_answer
+returns-then-self-eq0-clause-uses_answer g c running first =
+    let w = c.args.self.now in
+    let none : w.budget ≡ 0 = c.if-self-eq0.true in
+    let allowed : allowance w ≡ w.budget + 1 = ap (λ v. cond v 0 (w.budget + 1)) running in
+    let begun : begins w ≡ 0 = none_begins w first in
+    stopped_uses_answer _ w c.stop.new.self c.stop.result
+    (fault Budget (string_bytes c.args.folder.path) c.saturating_sub-depth.result) c.stop.ensures.gives
+    c.stop.ensures.ended (item_lost c.args.item) tt (omega (arith, begun)) (omega (arith, none, allowed), refl)
+    (λ i. absurd i) (omega arith)
+
+pub returns-in_default-clause-uses_answer : goal.returns-in_default-clause-uses_answer
+returns-in_default-clause-uses_answer g c running first =
+    let w = c.args.self.now in
+    let e = c.fail.ensures.ended in
+    let allowed : allowance w ≡ w.budget + 1 = ap (λ v. cond v 0 (w.budget + 1)) running in
+    let few : names_left c.fail.new.self ≡ names_left w = ap names_left e in
+    memory_uses_answer _ w c.fail.new.self c.fail.result c.fail.ensures.memory (ap (λ v. v.directory) e)
+    (ap (λ v. v.has_ended) e) (omega (arith, few)) (item_lost c.args.item) (omega (arith, allowed))
+
+pub returns-in_default-push-clause-uses_answer : goal.returns-in_default-push-clause-uses_answer
+returns-in_default-push-clause-uses_answer g c running first =
+    let w = c.args.self.now in
+    let e = c.fail-in_default-push.ensures.ended in
+    let allowed : allowance w ≡ w.budget + 1 = ap (λ v. cond v 0 (w.budget + 1)) running in
+    let few : names_left c.fail-in_default-push.new.self ≡ names_left w = ap names_left e in
+    memory_uses_answer _ w c.fail-in_default-push.new.self c.fail-in_default-push.result
+    c.fail-in_default-push.ensures.memory (ap (λ v. v.directory) e) (ap (λ v. v.has_ended) e)
+    (omega (arith, few)) (item_lost c.args.item) (omega (arith, allowed))

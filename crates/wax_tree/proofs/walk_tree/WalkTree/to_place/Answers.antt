@@ -1,4 +1,4 @@
-use Rattle.std.proofs.Common.{◌≡◌, ◌≤◌, ◌+◌, ◌-◌, ◌^◌, length, refl, arith, ap, string_bytes, false}
+use Rattle.std.proofs.Common.{◌≡◌, ◌≤◌, ◌+◌, ◌-◌, ◌^◌, length, refl, arith, ap, inl, string_bytes, false}
 use Rattle.std.specs.Prelude.{Some, None}
 use Rattle.wax_tree.specs.declared.steps.StartPoint.{StartPoint}
 use Rattle.wax_tree.specs.declared.steps.Steps.{Steps}
@@ -62,6 +62,9 @@ returns-in-Ok-new-clause-begins g c =
       listings = refl;
       names = omega (arith, long);
       none_listed = ap length c.new-in-Ok-new.ensures.levels;
+      begun = inl refl;
+      none_to_open = refl;
+      yields_from = refl;
       opens_above = refl;
       fails = record {
         at = begins_passed made place c.args.start.now (from_last c.args.names.items) refl

@@ -1,6 +1,6 @@
 use Rattle.std.specs.Prelude.{Some, None}
 use Rattle.wax_walk.specs.Entries.{given_of}
-use Rattle.wax_walk.proofs.RuleSteps.{ruled_ends, ruled_cuts, ruled_passes}
+use Rattle.wax_walk.proofs.RuleSteps.{ruled_ends, ruled_cuts, ruled_lacks, ruled_passes}
 use Rattle.wax_walk.proofs.Knowing.{keeps_passed, keeps_cut}
 use Rattle.wax_walk.proofs.excluding.ExcludingSeparatingFilter.feed.Goals as goal
 use Rattle.wax_walk.proofs.excluding.ExcludingSeparatingFilter.feed.Goals.{then-cuts, else-cuts}
@@ -45,3 +45,19 @@ returns-clause-steps g c =
         keeps_passed _ _ _ _ keeps c.separated.ensures.kept,
       )
     ]
+
+pub returns-in_default-clause-steps : goal.returns-in_default-clause-steps
+returns-in_default-clause-steps g c =
+    let view = g.I.FileIterator.view in
+    let law = g.I.Directory.Directory.law in
+    let x = given_of g.I.Entry.Entry.facts g.I.Residue.Entry.facts c.in_ok-separation.separation in
+    let fed = g.met.I.FileIterator.feeding c.args.self.now.input c.feed.new.self
+    (Some c.in_ok-separation.separation) c.in_ok-separation.ensures.steps in
+    let keeps = g.met.I.FileIterator.keeping c.args.self.now.input c.feed.new.self
+    (Some c.in_ok-separation.separation) c.in_ok-separation.ensures.steps in
+    rw c.new.ensures (
+      ruled_lacks law (g.P.Exclude.rule c.args.self.now.rule) (view c.args.self.now.input)
+          (view c.feed.new.self) (g.P.Exclude.rule c.residue_of.new.rule) c.args.self.now.has_ended
+          c.if-self.false x c.in_default.ensures.asks fed,
+      record { answer = tt; stays = keeps.stays },
+    )
