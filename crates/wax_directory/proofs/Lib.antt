@@ -5,3 +5,4 @@ pub mod Cursors
 pub mod Listing
 pub mod Planting
 pub mod Copying
+pub mod Fieldless

@@ -1,5 +1,5 @@
 -- What one call of a directory does.
-use Rattle.std.specs.Prelude.{ℕ, List, [], ◌∷◌, ◌++◌, ◌⊎◌, Option, Result, Err}
+use Rattle.std.specs.Prelude.{◌≡◌, ℕ, List, [], ◌∷◌, ◌++◌, ◌⊎◌, Option, Result, Err}
 use Rattle.wax_query.specs.declared.diagnostics.NoMemory.{NoMemory}
 use Rattle.wax_directory.specs.declared.directory.FileType.{FileType}
 use Rattle.wax_directory.specs.declared.directory.ListItem.{ListItem}
@@ -7,6 +7,7 @@ use Rattle.wax_directory.specs.declared.directory.DirectoryFault.{DirectoryFault
 use Rattle.wax_directory.specs.declared.directory.DirectoryFault.TheVariants.{Memory}
 use Rattle.wax_directory.specs.Answers.{KindIs, Opens, NextIs}
 use Rattle.wax_directory.specs.Counting.{Counts, kind_counts, opening_counts, next_counts}
+use Rattle.wax_directory.specs.History.{kind_answers, opening_answers, next_answers}
 use Rattle.wax_directory.specs.Law.{Law, ShowsSame, HoldsSame, HoldsLast}
 use Rattle.wax_directory.specs.Shown.{Items, Shown}
 
@@ -35,6 +36,7 @@ module _ {D C : Type 0} (law : Law D C) where
     pub held : HoldsSame law old new
     pub told : (t : List (List ℕ)) → law.tells old t → law.tells new t
     pub counted : Counts (kind_counts r) (law.tally old) (law.tally new)
+    pub answered : law.answered new ≡ law.answered old ++ kind_answers path r
 
   pub record OpenCall (old : D) (path : List ℕ) (r : Result C DirectoryFault) (new : D) : Type 0 where
     pub opens : OpensAt old path r new
@@ -42,6 +44,7 @@ module _ {D C : Type 0} (law : Law D C) where
     pub held : HoldsSame law old new
     pub told : (t : List (List ℕ)) → law.tells old t → TellsOpened (law.tells new) path r t
     pub counted : Counts (opening_counts r) (law.tally old) (law.tally new)
+    pub answered : law.answered new ≡ law.answered old ++ opening_answers path r
 
   pub record NextCall (old : D) (cursor : C) (r : Result (Option ListItem) NoMemory) (new : D)
       (next : C) : Type 0 where
@@ -49,3 +52,4 @@ module _ {D C : Type 0} (law : Law D C) where
     pub shown : ShowsSame law old new
     pub told : (t : List (List ℕ)) → law.tells old t → law.tells new t
     pub counted : Counts (next_counts r) (law.tally old) (law.tally new)
+    pub answered : law.answered new ≡ law.answered old ++ next_answers r

@@ -1,15 +1,18 @@
 -- The relations in which the contracts of a directory are stated.
 use Rattle.std.specs.Prelude.{ℕ, List, [], ◌∷◌, ◌++◌}
 use Rattle.wax_directory.specs.declared.tally.Tally.{Tally}
+use Rattle.wax_directory.specs.History.{Answer}
 use Rattle.wax_directory.specs.Shown.{Items, Shown}
 
 -- what a directory shows at a path; which items its open cursors have yet to yield, in the order in which
--- they were opened; which lists of opened folders, in order, it may report; and what it counted
+-- they were opened; which lists of opened folders, in order, it may report; what it counted; and what it
+-- answered
 pub record Law (D C : Type 0) : Type 1 where
   pub shows : D → List ℕ → Shown → Type 0
   pub holds : D → List C → List Items → Type 0
   pub tells : D → List (List ℕ) → Type 0
   pub tally : D → Tally
+  pub answered : D → List Answer
 
 module _ {D C : Type 0} (law : Law D C) where
   -- the new directory shows at each path what the old one does

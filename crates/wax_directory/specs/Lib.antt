@@ -1,5 +1,6 @@
 pub mod Shown
 pub mod Answers
+pub mod History
 pub mod Counting
 pub mod Law
 pub mod Calls

@@ -8,4 +8,5 @@ starved_law law = record {
   holds = λ s. law.holds s.directory;
   tells = λ s. law.tells s.directory;
   tally = λ s. law.tally s.directory;
+  answered = λ s. law.answered s.directory;
 }

@@ -51,11 +51,12 @@ item_among k (Some items) = slice_get items k
 abbrev pub item_at : Tree → TreeCursor → Option TreeItem
 item_at t cursor = item_among cursor.next (held_by t.working t.root cursor)
 
--- what a tree shows, holds, reports and counts
+-- what a tree shows, holds, reports, counts and answered
 abbrev pub tree_law : Law Tree TreeCursor
 tree_law = record {
   shows = tree_shows;
   holds = λ t cursors ls. HaveEach t.working t.root cursors ls;
   tells = λ t told. map string_bytes t.listed.items ≡ told;
   tally = λ t. t.tally;
+  answered = λ t. t.history.answers;
 }

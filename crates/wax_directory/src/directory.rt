@@ -46,20 +46,23 @@ pub enum ListItem {
 /// other at the working folder, and the empty path is the working folder itself.
 ///
 /// The law: a directory shows one tree that no call changes. `kind`, `open` and `next` return what
-/// is in that tree, and count what they return. A directory of which nothing can be known, such as
-/// the real file system, shows nothing; then only the counts are claimed. A cursor may be a mere
-/// handle: what is open is known of all cursors together.
+/// is in that tree, count what they return, and add it to what was answered. A directory of which
+/// nothing can be known, such as the real file system, shows nothing; then only the counts and the
+/// answers are claimed. A cursor may be a mere handle: what is open is known of all cursors
+/// together.
 pub trait Directory: Drop {
     ghost use Rattle.wax_directory.specs.Answers.{KindIs, ListIs};
     ghost use Rattle.wax_directory.specs.Calls.{OpensAt, Nexts, TellsOpened};
     ghost use Rattle.wax_directory.specs.Counting.{Counts, kind_counts, opening_counts, next_counts};
+    ghost use Rattle.wax_directory.specs.History.{kind_answers, opening_answers, next_answers};
     ghost use Rattle.wax_directory.specs.Law.{Law, ShowsSame, HoldsSame, HoldsLast};
     ghost use Rattle.wax_directory.specs.Listing.{HeldWhereShown, TellsListed, CountsListed};
 
     /// A folder that is being listed.
     type Cursor: Drop;
 
-    /// What the directory shows, which cursors are open, which folders were opened, and the counts.
+    /// What the directory shows, which cursors are open, which folders were opened, the counts, and
+    /// what was answered.
     ghost law: { Law Self Self.Cursor };
 
     /// Returns what is at `path`, or `None` if nothing is there. A link isn't followed.
@@ -72,7 +75,8 @@ pub trait Directory: Drop {
         ensures shown { ShowsSame law self.old self.new }
         ensures held { HoldsSame law self.old self.new }
         ensures told { (t : List (List ℕ)) → law.tells self.old t → law.tells self.new t }
-        ensures counted { Counts (kind_counts result) (law.tally self.old) (law.tally self.new) };
+        ensures counted { Counts (kind_counts result) (law.tally self.old) (law.tally self.new) }
+        ensures answered { law.answered self.new ≡ law.answered self.old ++ kind_answers path.now result };
 
     /// Begins to list the folder at `path`.
     ///
@@ -85,7 +89,8 @@ pub trait Directory: Drop {
         ensures held { HoldsSame law self.old self.new }
         ensures told { (t : List (List ℕ)) → law.tells self.old t
             → TellsOpened (law.tells self.new) path.now result t }
-        ensures counted { Counts (opening_counts result) (law.tally self.old) (law.tally self.new) };
+        ensures counted { Counts (opening_counts result) (law.tally self.old) (law.tally self.new) }
+        ensures answered { law.answered self.new ≡ law.answered self.old ++ opening_answers path.now result };
 
     /// Returns the next item of a folder, in the directory's own order, or `None` at the end. The
     /// cursor is the one that was opened last, of those that aren't dropped yet.
@@ -101,7 +106,8 @@ pub trait Directory: Drop {
         ensures nexts { Nexts law self.old cursor.old result self.new cursor.new }
         ensures shown { ShowsSame law self.old self.new }
         ensures told { (t : List (List ℕ)) → law.tells self.old t → law.tells self.new t }
-        ensures counted { Counts (next_counts result) (law.tally self.old) (law.tally self.new) };
+        ensures counted { Counts (next_counts result) (law.tally self.old) (law.tally self.new) }
+        ensures answered { law.answered self.new ≡ law.answered self.old ++ next_answers result };
 
     /// Returns the counts of the calls so far.
     fn tally(&self) -> Tally

@@ -1,12 +1,14 @@
 //! A directory that fails once.
 
-ghost use Rattle.std.specs.Prelude.{◌≡◌, Some, Ok, Err};
+ghost use Rattle.std.specs.Prelude.{◌≡◌, ◌++◌, Some, Ok, Err};
 ghost use Rattle.wax_directory.specs.Calls.{KindCall, OpenCall, NextCall};
 ghost use Rattle.wax_directory.specs.Counting.{Counts, after_counting, no_counts, kind_counts};
 ghost use Rattle.wax_directory.specs.Counting.{opening_counts, next_counts};
+ghost use Rattle.wax_directory.specs.History.{kind_answers, opening_answers, next_answers};
 ghost use Rattle.wax_directory.specs.Turns.{fails_after, failing_inside, after_call};
 
 use crate::directory::{Directory, DirectoryFault, FileType, ListItem};
+use crate::history::History;
 use crate::tally::Tally;
 use crate::turn::Turn;
 use std::alloc::Global;
@@ -23,6 +25,7 @@ pub struct Failing<D> {
     directory: D,
     turn: Turn,
     own: Tally,
+    history: History,
 }
 
 impl<D: Directory> Failing<D> {
@@ -40,6 +43,7 @@ impl<D: Directory> Failing<D> {
                 is_over: false,
             },
             own: Tally::none(),
+            history: History::new(),
         }
     }
 
@@ -61,6 +65,7 @@ impl<D: Directory> Directory for Failing<D> {
       holds = λ _ _ _. ⊥;
       tells = λ _ _. ⊤;
       tally = λ s. after_counting s.own (D.law.tally s.directory);
+      answered = λ s. s.history.answers;
     } };
 
     fn kind(&mut self, alloc: Global, path: &str) -> Result<Option<FileType>, DirectoryFault>
@@ -71,13 +76,18 @@ impl<D: Directory> Directory for Failing<D> {
             → KindCall D.law (failing_inside self.old) path.now result (failing_inside self.new) }
         ensures counted { Counts (kind_counts result)
             (⟦<Self as Directory>⟧.law.tally self.old) (⟦<Self as Directory>⟧.law.tally self.new) }
+        ensures answered { let law = ⟦<Self as Directory>⟧.law in
+            law.answered self.new ≡ law.answered self.old ++ kind_answers path.now result }
     {
         if self.turn.comes() {
             let answer = Err(DirectoryFault::Failed);
             self.own.add(Tally::of_kind(&answer));
+            self.history.add_kind(path, &answer);
             return answer;
         }
-        self.directory.kind(alloc, path)
+        let answer = self.directory.kind(alloc, path);
+        self.history.add_kind(path, &answer);
+        answer
     }
 
     fn open(&mut self, alloc: Global, path: &str) -> Result<D::Cursor, DirectoryFault>
@@ -88,13 +98,18 @@ impl<D: Directory> Directory for Failing<D> {
             → OpenCall D.law (failing_inside self.old) path.now result (failing_inside self.new) }
         ensures counted { Counts (opening_counts result)
             (⟦<Self as Directory>⟧.law.tally self.old) (⟦<Self as Directory>⟧.law.tally self.new) }
+        ensures answered { let law = ⟦<Self as Directory>⟧.law in
+            law.answered self.new ≡ law.answered self.old ++ opening_answers path.now result }
     {
         if self.turn.comes() {
             let answer = Err(DirectoryFault::Failed);
             self.own.add(Tally::of_opening(&answer));
+            self.history.add_opening(path, &answer);
             return answer;
         }
-        self.directory.open(alloc, path)
+        let answer = self.directory.open(alloc, path);
+        self.history.add_opening(path, &answer);
+        answer
     }
 
     fn next(&mut self, alloc: Global, cursor: &mut D::Cursor) -> Result<Option<ListItem>, NoMemory>
@@ -106,13 +121,18 @@ impl<D: Directory> Directory for Failing<D> {
             cursor.new }
         ensures counted { Counts (next_counts result)
             (⟦<Self as Directory>⟧.law.tally self.old) (⟦<Self as Directory>⟧.law.tally self.new) }
+        ensures answered { let law = ⟦<Self as Directory>⟧.law in
+            law.answered self.new ≡ law.answered self.old ++ next_answers result }
     {
         if self.turn.comes() {
-            let item = ListItem::Failed;
-            self.own.add(Tally::of_item(&item));
-            return Ok(Some(item));
+            let answer = Ok(Some(ListItem::Failed));
+            self.own.add(Tally::of_next(&answer));
+            self.history.add_next(&answer);
+            return answer;
         }
-        self.directory.next(alloc, cursor)
+        let answer = self.directory.next(alloc, cursor);
+        self.history.add_next(&answer);
+        answer
     }
 
     fn tally(&self) -> Tally {

@@ -2,7 +2,7 @@
 
 ghost use Rattle.std.specs.Prelude.{◌≡◌};
 ghost use Rattle.wax_directory.specs.Counting.{after_counting, kind_counts, opening_counts, item_counts};
-ghost use Rattle.wax_directory.specs.Counting.{no_counts, end_counts};
+ghost use Rattle.wax_directory.specs.Counting.{no_counts, next_counts};
 
 use crate::directory::{DirectoryFault, FileType, ListItem};
 use crate::path::is_plain;
@@ -75,17 +75,22 @@ impl Tally {
         tally
     }
 
-    /// Counts the end of a listing, at which `next` returned `None`.
-    pub fn of_end() -> Tally
-        ensures { result ≡ end_counts }
+    /// Counts one result of `next`.
+    pub fn of_next(answer: &Result<Option<ListItem>, NoMemory>) -> Tally
+        ensures { result ≡ next_counts answer.now }
     {
-        let mut tally = Tally::none();
-        tally.ended = 1;
-        tally
+        match answer {
+            Ok(Some(item)) => Tally::of_item(item),
+            Ok(None) => {
+                let mut tally = Tally::none();
+                tally.ended = 1;
+                tally
+            }
+            Err(NoMemory) => Tally::none(),
+        }
     }
 
-    /// Counts one item that `next` returned.
-    pub fn of_item(item: &ListItem) -> Tally
+    fn of_item(item: &ListItem) -> Tally
         ensures { result ≡ item_counts item.now }
     {
         let mut tally = Tally::none();

@@ -6,6 +6,7 @@ ghost use Rattle.std.specs.Prelude.{option_map, string_bytes, IfOk, IfErr, IfSom
 ghost use Rattle.wax_directory.specs.declared.directory.DirectoryFault.TheVariants.{Failed};
 ghost use Rattle.wax_directory.specs.declared.tree.Node.TheViews.{out-Node};
 ghost use Rattle.wax_directory.specs.Answers.{listed_of, KindIs, Opens};
+ghost use Rattle.wax_directory.specs.Calls.{Nexts};
 ghost use Rattle.wax_directory.specs.Names.{are_distinct};
 ghost use Rattle.wax_directory.specs.Nodes.{node_at, child_at, held, entry_node, shown_of, listed_item};
 ghost use Rattle.wax_directory.specs.Nodes.{names_of, HasDistinctNames, HasDuplicateName, named_in};
@@ -16,10 +17,13 @@ ghost use Rattle.wax_directory.specs.Trees.{tree_law, HasItems, tree_start, reac
 ghost use Rattle.wax_directory.specs.inner.Places.{has_name, reached_place, reached_at, Locates};
 
 use crate::directory::{Directory, DirectoryFault, FileType, ListItem};
+use crate::history::History;
 use crate::path::{is_rooted, names_in};
 use crate::tally::Tally;
 use std::alloc::{AllocError, Global};
 use std::collections::HashSet;
+use std::fmt;
+use std::fmt::{Debug, Formatter};
 use thiserror::Error;
 use wax_query::diagnostics::{NoMemory, Refusal};
 
@@ -57,12 +61,13 @@ pub struct DuplicateName;
 /// Empty parts of a path are ignored; `.` and `..` are names like others. No path leads through a
 /// file or a link, and nothing below a folder that can't be listed can be read. Dropping a tree
 /// takes stack for each level.
-#[derive(Debug, Drop)]
+#[derive(Drop)]
 pub struct Tree {
     working: Node,
     root: Node,
     listed: Vec<String>,
     tally: Tally,
+    history: History,
 }
 
 /// A folder of a tree that is being listed: the indices of the items that lead there from the root
@@ -203,6 +208,18 @@ impl TreeItem {
     }
 }
 
+/// Prints all but what was answered, which exists only in proofs.
+impl Debug for Tree {
+    fn fmt<W: fmt::Write>(&self, f: &mut Formatter<W>) -> fmt::Result {
+        f.debug_struct("Tree")
+            .field("working", &self.working)
+            .field("root", &self.root)
+            .field("listed", &self.listed)
+            .field("tally", &self.tally)
+            .finish()
+    }
+}
+
 impl Tree {
     /// Builds a tree from its working folder and its root. It takes time in proportion to the
     /// number of items.
@@ -235,6 +252,7 @@ impl Tree {
             root,
             listed: Vec::new(alloc),
             tally: Tally::none(),
+            history: History::new(),
         }
     }
 
@@ -316,6 +334,17 @@ impl Tree {
             None => Ok(None),
         }
     }
+
+    // Returns the item that comes next, and moves the cursor behind it.
+    fn advance(&self, alloc: Global, cursor: &mut TreeCursor) -> Result<Option<ListItem>, NoMemory>
+        ensures { Nexts tree_law self.now cursor.old result self.now cursor.new }
+    {
+        let Some(item) = self.item(alloc, cursor)? else {
+            return Ok(None);
+        };
+        cursor.next += 1;
+        Ok(Some(item))
+    }
 }
 
 impl Directory for Tree {
@@ -331,6 +360,7 @@ impl Directory for Tree {
     fn kind(&mut self, alloc: Global, path: &str) -> Result<Option<FileType>, DirectoryFault> {
         let answer = self.look(alloc, path);
         self.tally.add(Tally::of_kind(&answer));
+        self.history.add_kind(path, &answer);
         answer
     }
 
@@ -346,6 +376,7 @@ impl Directory for Tree {
             return Err(DirectoryFault::Memory);
         };
         self.tally.add(Tally::of_opening(&answer));
+        self.history.add_opening(path, &answer);
         answer
     }
 
@@ -354,13 +385,10 @@ impl Directory for Tree {
         alloc: Global,
         cursor: &mut TreeCursor,
     ) -> Result<Option<ListItem>, NoMemory> {
-        let Some(item) = self.item(alloc, cursor)? else {
-            self.tally.add(Tally::of_end());
-            return Ok(None);
-        };
-        cursor.next += 1;
-        self.tally.add(Tally::of_item(&item));
-        Ok(Some(item))
+        let answer = self.advance(alloc, cursor);
+        self.tally.add(Tally::of_next(&answer));
+        self.history.add_next(&answer);
+        answer
     }
 
     fn tally(&self) -> Tally {

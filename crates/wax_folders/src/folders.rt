@@ -1,6 +1,6 @@
 //! The directory of the real system.
 
-ghost use Rattle.std.specs.Prelude.{◌≡◌};
+ghost use Rattle.std.specs.Prelude.{◌≡◌, []};
 ghost use Rattle.wax_directory.specs.Counting.{no_counts};
 
 use std::alloc::{AllocError, Global};
@@ -8,6 +8,7 @@ use std::fs::Files;
 use std::io::{ErrorKind, Read};
 use std::{fs, io};
 use wax_directory::directory::{Directory, DirectoryFault, FileType, ListItem};
+use wax_directory::history::History;
 use wax_directory::path::is_open;
 use wax_directory::tally::Tally;
 use wax_query::diagnostics::NoMemory;
@@ -16,11 +17,12 @@ use wax_query::diagnostics::NoMemory;
 const CHUNK: usize = 8192;
 
 /// The real file system. Links aren't followed, and items come in the system's order. Each item
-/// costs one system call. Nothing is claimed of what is shown, only of the counts.
+/// costs one system call. Nothing is claimed of what is shown, only of the counts and the answers.
 #[derive(Drop)]
 pub struct Folders {
     runtime: HostRuntime,
     tally: Tally,
+    history: History,
     // The path of the item whose kind was looked at last: its text is used again for the next one.
     item_path: String,
 }
@@ -28,20 +30,40 @@ pub struct Folders {
 impl Folders {
     /// Wraps the runtime that `main` receives. The working folder is that of the process.
     pub fn new(runtime: HostRuntime) -> Folders
-        ensures { ⟦<Self as Directory>⟧.law.tally result ≡ no_counts }
+        ensures counts { ⟦<Self as Directory>⟧.law.tally result ≡ no_counts }
+        ensures unasked { ⟦<Self as Directory>⟧.law.answered result ≡ [] }
     {
         let item_path = String::new(runtime.alloc());
         Folders {
             runtime,
             tally: Tally::none(),
+            history: History::new(),
             item_path,
+        }
+    }
+
+    // Returns the next item of a folder, or `None` at its end.
+    fn next_item(
+        &mut self,
+        alloc: Global,
+        listing: &mut FolderListing,
+    ) -> Result<Option<ListItem>, NoMemory>
+        ensures tally { self.new.tally ≡ self.old.tally }
+        ensures history { self.new.history ≡ self.old.history }
+    {
+        let FolderListing { path, names } = listing;
+        match names.next() {
+            Ok(Some(name)) => Ok(Some(self.item(alloc, path.as_str(), name)?)),
+            Ok(None) => Ok(None),
+            Err(error) => Ok(Some(unread(&error)?)),
         }
     }
 
     // Returns the item with this name in a folder. The name has room for the path that a walk makes
     // of it.
     fn item(&mut self, alloc: Global, folder: &str, name: &[u8]) -> Result<ListItem, NoMemory>
-        ensures { self.new.tally ≡ self.old.tally }
+        ensures tally { self.new.tally ≡ self.old.tally }
+        ensures history { self.new.history ≡ self.old.history }
     {
         let Ok(name) = str::from_utf8(name) else {
             return Ok(ListItem::NotText);
@@ -220,17 +242,25 @@ impl Directory for Folders {
 
     type Cursor = Box<FolderListing>;
 
-    ghost law = { record { shows = λ _ _ _. ⊥; holds = λ _ _ _. ⊥; tells = λ _ _. ⊤; tally = λ s. s.tally } };
+    ghost law = { record {
+      shows = λ _ _ _. ⊥;
+      holds = λ _ _ _. ⊥;
+      tells = λ _ _. ⊤;
+      tally = λ s. s.tally;
+      answered = λ s. s.history.answers;
+    } };
 
     fn kind(&mut self, _alloc: Global, path: &str) -> Result<Option<FileType>, DirectoryFault> {
         let answer = kind_at(&self.runtime, path);
         self.tally.add(Tally::of_kind(&answer));
+        self.history.add_kind(path, &answer);
         answer
     }
 
     fn open(&mut self, alloc: Global, path: &str) -> Result<Box<FolderListing>, DirectoryFault> {
         let answer = opened_at(alloc, &self.runtime, path);
         self.tally.add(Tally::of_opening(&answer));
+        self.history.add_opening(path, &answer);
         answer
     }
 
@@ -239,17 +269,10 @@ impl Directory for Folders {
         alloc: Global,
         cursor: &mut Box<FolderListing>,
     ) -> Result<Option<ListItem>, NoMemory> {
-        let FolderListing { path, names } = &mut **cursor;
-        let item = match names.next() {
-            Ok(Some(name)) => self.item(alloc, path.as_str(), name)?,
-            Ok(None) => {
-                self.tally.add(Tally::of_end());
-                return Ok(None);
-            }
-            Err(error) => unread(&error)?,
-        };
-        self.tally.add(Tally::of_item(&item));
-        Ok(Some(item))
+        let answer = self.next_item(alloc, &mut **cursor);
+        self.tally.add(Tally::of_next(&answer));
+        self.history.add_next(&answer);
+        answer
     }
 
     fn tally(&self) -> Tally {

@@ -1,5 +1,6 @@
 pub mod Forest
 pub mod Given
+pub mod Course
 pub mod Candidates
 pub mod Left
 pub mod Entries

@@ -3,8 +3,9 @@ use Rattle.std.specs.Prelude.{◌≡◌, List, [], ◌∷◌, Option, ⊤}
 use denote.Ref.{Bor}
 use Rattle.wax_walk.specs.declared.entry.TreeEntry.{TreeEntry}
 use Rattle.wax_walk.specs.declared.iterator.EntryResidue.{EntryResidue}
+use Rattle.wax_walk.specs.Course.{AheadFiltered}
 use Rattle.wax_walk.specs.Forest.{Pending}
-use Rattle.wax_walk.specs.Given.{Facts, Mark, Given, ToComeFiltered}
+use Rattle.wax_walk.specs.Given.{Facts, Mark, Given, ToComeFiltered, mark_by}
 use Rattle.wax_walk.specs.Said.{mark_of}
 use Rattle.wax_walk.specs.View.{WalkView}
 use Rattle.wax_walk.specs.Entries.{facts_of}
@@ -31,6 +32,13 @@ module _ {F : Type 0} (step : F → Bor TreeEntry → Option EntryResidue → F 
   abbrev pub ToComeByClosure : (Pending Given → Type 0) → F → Pending Given → Type 0
   ToComeByClosure inner f q = (rule : Facts → Mark) × SaysByRule rule f × ToComeFiltered inner rule q
 
+  -- the mark is what each rule decides that the closure follows
+  abbrev pub IsMarkSaid : F → Given → Mark → Type 0
+  IsMarkSaid f x m = (rule : Facts → Mark) → SaysByRule rule f → m ≡ mark_by rule x
+
   -- the view of the filtered walk
   abbrev pub closure_view : {D : Type 0} → WalkView D → F → WalkView D
-  closure_view inner f = record inner { to_come = ToComeByClosure inner.to_come f }
+  closure_view inner f = record inner {
+    to_come = ToComeByClosure inner.to_come f;
+    may_come = AheadFiltered inner.may_come (IsMarkSaid f);
+  }

@@ -1,6 +1,6 @@
 -- What contracts see of a walk, and how a call of `feed` and cancelling change it.
 use Rattle.std.specs.Prelude.{◌≡◌, ℕ, ◌+◌, ◌<◌, ◌≤◌, ◌^◌, ◌-◌, min, List, Option, Some, None, ⊤}
-use Rattle.std.specs.Prelude.{Bool, true, false, cond, ◌&&◌, nat_lt, ◌⊎◌}
+use Rattle.std.specs.Prelude.{Bool, true, false, cond, ◌&&◌, nat_lt, ◌⊎◌, ◌++◌}
 use Rattle.wax_directory.specs.Counting.{no_counts, grown}
 use Rattle.wax_directory.specs.declared.directory.FileType.{FileType}
 use Rattle.wax_directory.specs.declared.directory.FileType.TheVariants as F
@@ -8,10 +8,12 @@ use Rattle.wax_directory.specs.Law.{Law}
 use Rattle.wax_directory.specs.declared.tally.Tally.{Tally}
 use Rattle.wax_walk.specs.declared.error.FaultKind.TheVariants.{NotFound, NotAFolder, Listing, BadName}
 use Rattle.wax_walk.specs.declared.error.FaultKind.TheVariants.{NotText, Budget}
+use Rattle.wax_walk.specs.Course.{Ahead, Begins, Call, Course, CutsShort, IsNothing, ahead, all_ahead}
+use Rattle.wax_walk.specs.Course.{answers, asking, gives, stop, unknown}
 use Rattle.wax_walk.specs.Forest.{Pending, all_pending, cancelled, FirstIs, IsListed}
 use Rattle.wax_walk.specs.Given.{Given, entry, fault, no_memory, kept, alone, with_tree}
 
--- what is to come; the directory; at most how many more items may be taken from listings; how many names are
+-- what is to come; what may be ahead, by what the directory will answer; the directory; at most how many more items may be taken from listings; how many names are
 -- left to follow to where the walk begins; 1 if the entry there is still to come, else 0; how many listings
 -- are open; 1 if the last yielded entry is a folder that is still to be opened, else 0; the depth above which
 -- folders are opened; the depth from which entries are yielded; the paths, each with
@@ -19,6 +21,7 @@ use Rattle.wax_walk.specs.Given.{Given, entry, fault, no_memory, kept, alone, wi
 -- yielded item is cancelled; that the walk has ended; and that it leaves the directory as it is
 pub record WalkView (D : Type 0) : Type 1 where
   pub to_come : Pending Given → Type 0
+  pub may_come : Ahead → Type 0
   pub directory : D
   pub listings_left : ℕ
   pub names_left : ℕ
@@ -151,6 +154,19 @@ module _ {D : Type 0} where
       gives : (items : ℕ) → ((IsLast r → ⊥) → items + old.listings_left ≤ p.items + new.listings_left)
           → FirstIs new.to_come (all_pending p) p.listed items r → GivesOrStops old p r new
 
+  -- the course may be ahead
+  abbrev pub MayTake : WalkView D → Course → Type 0
+  MayTake view c = (a : Ahead) × view.may_come a × (all_ahead a ≡ c)
+
+  -- after these calls r was returned: whatever is ahead of the walk then, before it were the calls, r and
+  -- that, as far as it is known; or the course ended with the calls; or it was cut short
+  pub data Follows (old : WalkView D) (calls : List Call) (r : Option Given) (new : WalkView D) : Type 0 where
+    goes_on : (x : Given) → r ≡ Some x
+        → ((a : Ahead) (c : Course) → new.may_come a → Begins c (gives x a.below a.after)
+        → MayTake old (asking calls c)) → Follows old calls r new
+    at_end : r ≡ None → MayTake old (asking calls stop) → Follows old calls r new
+    cut : (x : Given) → r ≡ Some x → CutsShort calls x → new.is_idle → Follows old calls r new
+
   -- what the directory counted; how many items were taken from listings; how many entries were passed, since
   -- they are above the least depth; whether the item is that a folder couldn't be opened; how many folders
   -- were opened, and how many listings came to their end; and that the walk has ended if the item is its last.
@@ -186,6 +202,10 @@ module _ {D : Type 0} where
   pub record FeedStep {C : Type 0} (law : Law D C) (old : WalkView D) (r : Option Given) (new : WalkView D) :
       Type 0 where
     pub gives : (p : Pending Given) → old.to_come p → GivesOrStops old p r new
+    pub calls : List Call
+    pub answered : law.answered new.directory ≡ law.answered old.directory ++ answers calls
+    pub begins : MayTake old (asking calls unknown)
+    pub follows : Follows old calls r new
     pub accounts : Accounts law old r new
     pub at_end : r ≡ None → new.has_ended
     pub closed : r ≡ None → new.listings_open ≡ 0
@@ -202,6 +222,7 @@ module _ {D : Type 0} where
   -- what cancelling does: it drops what is below the last yielded item, and nothing else
   pub record CancelStep (old new : WalkView D) : Type 0 where
     pub leaves_out : (p : Pending Given) → old.to_come p → new.to_come (cancelled p)
+    pub drops : (a : Ahead) → new.may_come a → IsNothing a.below × old.may_come (ahead unknown a.after)
     pub directory : new.directory ≡ old.directory
     pub listings_left : new.listings_left ≡ old.listings_left
     pub names_left : new.names_left ≡ old.names_left
@@ -219,6 +240,7 @@ module _ {D : Type 0} where
   -- the paths of `this`; an end by `that` is one by `this`; and if `this` is idle, `that` is idle
   pub record IsSeenAs (this that : WalkView D) : Type 0 where
     pub to_come : (p : Pending Given) → this.to_come p → that.to_come p
+    pub may_come : (a : Ahead) → that.may_come a → this.may_come a
     pub directory : that.directory ≡ this.directory
     pub listings_left : that.listings_left ≡ this.listings_left
     pub names_left : that.names_left ≡ this.names_left

@@ -24,6 +24,7 @@ loop-init g c = record {
         told = c.in_ok-cursor.ensures.told;
         counted =
             c.in_ok-cursor.ensures.counted;
+        answered = c.in_ok-cursor.ensures.answered;
       }));
   turns = ap length c.new-items.ensures.items;
 }

@@ -6,10 +6,10 @@ use Rattle.wax_directory.specs.Shown.{first_item, rest_of}
 use Rattle.wax_directory.specs.TreeCursors.{last_parts, one_more}
 use Rattle.wax_directory.specs.Trees.{item_among}
 use Rattle.wax_directory.proofs.Cursors.{given, ended, none_of}
-use Rattle.wax_directory.proofs.tree.TreeDirectory.next.Goals as goal
+use Rattle.wax_directory.proofs.tree.Tree.advance.Goals as goal
 
-pub returns-in_default-clause-nexts : goal.returns-in_default-clause-nexts
-returns-in_default-clause-nexts c = λ cursors ls l held.
+pub returns-in_default : goal.returns-in_default
+returns-in_default c = λ cursors ls l held.
     let t = c.args.self.now in
     let p = last_parts t.working t.root cursors ls c.args.cursor.now l held in
     let h = p.1 in
@@ -20,8 +20,8 @@ returns-in_default-clause-nexts c = λ cursors ls l held.
     h.1) in
     (r.0, one_more t.working t.root cursors ls c.args.cursor.now (rest_of l) p.0 (h.0, h.1, r.1))
 
-pub returns-clause-nexts : goal.returns-clause-nexts
-returns-clause-nexts c = λ cursors ls l held.
+pub returns : goal.returns
+returns c = λ cursors ls l held.
     let t = c.args.self.now in
     let p = last_parts t.working t.root cursors ls c.args.cursor.now l held in
     let h = p.1 in

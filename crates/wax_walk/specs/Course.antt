@@ -1,0 +1,111 @@
+-- The course of a walk: its calls of the directory, each with its answer, and the items that it yields between
+-- them.
+use Rattle.std.specs.Prelude.{◌≡◌, ◌⊎◌, ℕ, Bool, true, false, List, [], ◌∷◌, ◌++◌, map, ⊤}
+use Rattle.wax_directory.specs.History.{Answer, listed}
+use Rattle.wax_directory.specs.Shown.{Listed}
+use Rattle.wax_walk.specs.declared.error.FaultKind.TheVariants.{Budget}
+use Rattle.wax_walk.specs.Given.{Given, Mark, entry, fault, no_memory, with_mark, is_cut}
+
+-- a call about the file or folder at this path, and its answer; the items of a folder are taken by calls about
+-- the folder
+pub record Call : Type 0 where
+  pub path : List ℕ
+  pub answer : Answer
+
+abbrev pub call : List ℕ → Answer → Call
+call path answer = record { path = path; answer = answer }
+
+pub data Course : Type 0 where
+  stop : Course
+  unknown : Course  -- it may go on
+  asks : Call → Course → Course
+  gives : Given → Course → Course → Course  -- an item, what comes below it, and what comes after that
+
+-- one course and then another
+abbrev pub continued : Course → Course → Course
+continued stop d = d
+continued unknown d = unknown
+continued (asks q c) d = asks q (continued c d)
+continued (gives x below after) d = gives x below (continued after d)
+
+-- these calls, and then the course
+abbrev pub asking : List Call → Course → Course
+asking [] c = c
+asking (q ∷ calls) c = asks q (asking calls c)
+
+abbrev pub items_of : Course → List Given
+items_of stop = []
+items_of unknown = []
+items_of (asks q c) = items_of c
+items_of (gives x below after) = x ∷ (items_of below ++ items_of after)
+
+abbrev pub answers_of : Course → List Answer
+answers_of stop = []
+answers_of unknown = []
+answers_of (asks q c) = q.answer ∷ answers_of c
+answers_of (gives x below after) = answers_of below ++ answers_of after
+
+abbrev pub answers : List Call → List Answer
+answers calls = map (λ q. q.answer) calls
+
+-- the course is known to its end
+abbrev pub IsWhole : Course → Type 0
+IsWhole stop = ⊤
+IsWhole unknown = ⊥
+IsWhole (asks q c) = IsWhole c
+IsWhole (gives x below after) = IsWhole below × IsWhole after
+
+-- the course c is d, or d as far as it is known
+abbrev pub Begins : Course → Course → Type 0
+Begins unknown d = ⊤
+Begins stop d = d ≡ stop
+Begins (asks q c) d = (e : Course) × (d ≡ asks q e) × Begins c e
+Begins (gives x below after) d = (b : Course) × (a : Course) × (d ≡ gives x b a) × Begins below b
+    × Begins after a
+
+-- what is ahead of a walk: below the last yielded item, and after it
+pub record Ahead : Type 0 where
+  pub below : Course
+  pub after : Course
+
+abbrev pub ahead : Course → Course → Ahead
+ahead below after = record { below = below; after = after }
+
+abbrev pub all_ahead : Ahead → Course
+all_ahead a = continued a.below a.after
+
+-- nothing comes, as far as it is known
+abbrev pub IsNothing : Course → Type 0
+IsNothing c = Begins c stop
+
+-- ---- filters
+
+-- nothing comes below an item that is cut, else what is filtered
+abbrev pub IsBelow : Bool → Type 0 → Course → Type 0
+IsBelow true filtered below = IsNothing below
+IsBelow false filtered below = filtered
+
+-- d is the course c, as far as d is known, with each item marked as allowed, and without what comes below the
+-- items that are cut
+abbrev pub IsFiltered : (Given → Mark → Type 0) → Course → Course → Type 0
+IsFiltered allows unknown d = d ≡ unknown
+IsFiltered allows stop d = (d ≡ unknown) ⊎ (d ≡ stop)
+IsFiltered allows (asks q c) d = (d ≡ unknown) ⊎ ((e : Course) × (d ≡ asks q e) × IsFiltered allows c e)
+IsFiltered allows (gives x below after) d = (d ≡ unknown) ⊎ ((m : Mark) × allows x m × (b : Course)
+    × (a : Course) × (d ≡ gives (with_mark x m) b a) × IsBelow (is_cut x m) (IsFiltered allows below b) b
+    × IsFiltered allows after a)
+
+-- what is ahead after a filter, if `inner` holds of what is ahead before it
+abbrev pub AheadFiltered : (Ahead → Type 0) → (Given → Mark → Type 0) → Ahead → Type 0
+AheadFiltered inner allows q = (p : Ahead) × inner p × IsFiltered allows p.below q.below
+    × IsFiltered allows p.after q.after
+
+-- ---- errors that cut a course short
+
+-- the item is the error that memory ran out, or that the budget was reached in the folder of which the last of
+-- these calls returned an item
+abbrev pub CutsShort : List Call → Given → Type 0
+CutsShort calls no_memory = ⊤
+CutsShort calls (fault Budget path depth) = (before : List Call) × (x : Listed)
+    × (calls ≡ before ++ call path (listed x) ∷ [])
+CutsShort calls x = ⊥
