@@ -1,16 +1,17 @@
 -- What a call counts, takes and ends, call by call.
-use Rattle.std.proofs.Common.{◌≡◌, ℕ, ◌+◌, ◌<◌, ◌≤◌, true, false, refl, sym, subst, ◌∙◌, arith, inl, inr, List}
+use Rattle.std.proofs.Common.{◌≡◌, ℕ, ◌+◌, ◌<◌, ◌≤◌, true, false, refl, sym, subst, ◌∙◌, arith, inl, inr, List, ap, ◌++◌}
 use Rattle.std.specs.Prelude.{Option, Some, None, ◌⊎◌}
 use Rattle.wax_directory.specs.Counting.{no_counts, plus, grown}
 use Rattle.wax_directory.specs.Law.{Law}
 use Rattle.wax_directory.specs.declared.tally.Tally.{Tally}
 use Rattle.wax_walk.specs.declared.error.FaultKind.TheVariants.{NotFound, NotAFolder, Listing, BadName}
 use Rattle.wax_walk.specs.declared.error.FaultKind.TheVariants.{NotText, Budget}
+use Rattle.wax_walk.specs.Course.{Call, answers, asking, unknown}
 use Rattle.wax_walk.specs.Given.{Given, Mark, entry, fault, no_memory, with_mark, is_cut}
 use Rattle.wax_walk.specs.Given.{kept, alone, with_tree}
 use Rattle.wax_walk.specs.View.{WalkView, CountsFaults, fault_counts, IsLast, IsMisplaced, Takes, IsToOpen}
 use Rattle.wax_walk.specs.View.{items_lost, how_many, opens_one, LacksMemory}
-use Rattle.wax_walk.specs.View.{GivesOrStops, Accounts, FeedStep, IsErrorAt, IsFolderAt, MayFail, Places}
+use Rattle.wax_walk.specs.View.{Follows, MayTake, GivesOrStops, Accounts, FeedStep, IsErrorAt, IsFolderAt, MayFail, Places}
 use Rattle.wax_walk.specs.Forest.{Pending}
 
 -- so many items were taken before
@@ -286,12 +287,24 @@ module _ {D C : Type 0} (law : Law D C) where
         let idles = f.idles (b.idle i) in
         (a.idle idles.0, a.directory ∙ (idles.1 ∙ sym b.directory))
 
-    pub step_ends : FeedStep law v None w → new.to_open ≡ 0
+    -- the filter made the same calls
+    answered_moved : (calls : List Call)
+        → law.answered w.directory ≡ law.answered v.directory ++ answers calls
+        → law.answered new.directory ≡ law.answered outer.directory ++ answers calls
+    answered_moved calls e = ap law.answered a.directory
+        ∙ (e ∙ ap (λ d. law.answered d ++ answers calls) (sym b.directory))
+
+    pub step_ends : (f : FeedStep law v None w) → new.to_open ≡ 0
         → ((path : List ℕ) (depth : ℕ) → new.may_fail_below path depth → w.may_fail_below path depth)
         → ((p : Pending Given) → outer.to_come p → GivesOrStops outer p None new)
+        → MayTake outer (asking f.calls unknown) → Follows outer f.calls None new
         → FeedStep law outer None new
-    step_ends f none below gives = record {
+    step_ends f none below gives begins follows = record {
       gives = gives;
+      calls = f.calls;
+      answered = answered_moved f.calls f.answered;
+      begins = begins;
+      follows = follows;
       accounts = accounts_moved v w outer new None None (same_as None) f.accounts b a
           (λ n. omega (arith, f.accounts.opens n, f.to_open, none, b.to_open));
       at_end = λ e. a.ended (f.at_end e);
@@ -311,17 +324,22 @@ module _ {D C : Type 0} (law : Law D C) where
       };
     }
 
-    pub step_marked : (x y : Given) (m : Mark) → y ≡ with_mark x m → FeedStep law v (Some x) w
+    pub step_marked : (x y : Given) (m : Mark) → y ≡ with_mark x m → (f : FeedStep law v (Some x) w)
         → new.to_open ≡ opens_one outer.opens_above (Some y)
         → ((path : List ℕ) (depth : ℕ) → new.may_fail_below path depth
         → IsFolderAt outer.opens_above path depth (Some (with_mark x m)))
         → ((p : Pending Given) → outer.to_come p → GivesOrStops outer p (Some y) new)
+        → MayTake outer (asking f.calls unknown) → Follows outer f.calls (Some y) new
         → FeedStep law outer (Some y) new
-    step_marked x y m e f opens below gives =
+    step_marked x y m e f opens below gives begins follows =
         let A : Given → Type 0 = λ z. IsAs (Some x) (Some z) in
         let M : Given → Type 0 = λ z. IsMisplaced (Some z) → 0 < v.names_left in
         record {
           gives = gives;
+          calls = f.calls;
+          answered = answered_moved f.calls f.answered;
+          begins = begins;
+          follows = follows;
           accounts =
               let alike = subst A (sym e) (marked_as x m) in
               accounts_moved v w outer new (Some x) (Some y) alike f.accounts b a

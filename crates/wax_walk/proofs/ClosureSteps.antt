@@ -5,13 +5,15 @@ use denote.Ref.{Bor}
 use Rattle.wax_directory.specs.Law.{Law}
 use Rattle.wax_walk.specs.declared.entry.TreeEntry.{TreeEntry}
 use Rattle.wax_walk.specs.declared.iterator.EntryResidue.{EntryResidue}
+use Rattle.wax_walk.specs.Course.{Ahead, AheadFiltered}
 use Rattle.wax_walk.specs.Forest.{cancelled}
 use Rattle.wax_walk.specs.Given.{Given, Facts, Mark, mark_by, with_mark, is_cut}
-use Rattle.wax_walk.specs.Says.{SaysByRule, closure_view}
+use Rattle.wax_walk.specs.Says.{IsMarkSaid, SaysByRule, closure_view}
 use Rattle.wax_walk.specs.View.{WalkView, FeedStep, CancelStep, GivesOrStops, opens_one}
 use Rattle.wax_walk.proofs.Accounting.{IsAsked, HasAnswered, step_ends, step_marked, opened_cut, opened_uncut}
 use Rattle.wax_walk.proofs.Accounting.{folder_uncut}
 use Rattle.wax_walk.proofs.Filtering.{layer_ends, layer_cuts, layer_passes}
+use Rattle.wax_walk.proofs.Following.{begins_filtered, cuts_filtered, ends_filtered, passes_filtered}
 
 module _ {D C F : Type 0} (law : Law D C) (step : F → Bor TreeEntry → Option EntryResidue → F → Type 0) where
   asked : (v : WalkView D) (f : F) → IsAsked (closure_view step v f) v
@@ -66,6 +68,10 @@ module _ {D C F : Type 0} (law : Law D C) (step : F → Bor TreeEntry → Option
       subst (λ z. GivesOrStops (closure_view step v f) z None (closure_view step w f)) (sym p.2)
       (layer_ends s.0 v w (closure_view step v f) (closure_view step w f) p.0 refl refl
       (λ z i. (s.0, s.1, (z, i, refl))) (h.gives p.0 p.1)))
+      (begins_filtered v w (closure_view step v f) (closure_view step w f) _ (IsMarkSaid step f) (λ a i. i) h.calls
+      h.begins)
+      (ends_filtered v w (closure_view step v f) (closure_view step w f) _ (IsMarkSaid step f) (λ a i. i) h.calls
+      h.follows)
 
   -- what the closure says of an item, whatever rule it follows
   abbrev pub SaysOf : F → Given → Mark → F → Type 0
@@ -84,6 +90,11 @@ module _ {D C F : Type 0} (law : Law D C) (step : F → Bor TreeEntry → Option
       subst (λ z. GivesOrStops (closure_view step v f) z (Some y) (closure_view step w t)) (sym p.2)
       (layer_passes s.0 v w (closure_view step v f) (closure_view step w t) p.0 x y m o.0 k refl refl n
       (λ z i. (s.0, o.1, (z, i, refl))) (h.gives p.0 p.1)))
+      (begins_filtered v w (closure_view step v f) (closure_view step w t) _ (IsMarkSaid step t) (λ a i. i) h.calls
+      h.begins)
+      (passes_filtered v w (closure_view step v f) (closure_view step w t) (IsMarkSaid step f) (IsMarkSaid step t)
+      (λ a i. i) h.calls x y m k (λ r i. (says r i).0) (λ z o i r j. i r (says r j).1) n (λ a i. i)
+      (λ i. i) (λ i. i) h.follows)
 
   pub closure_cuts : (v w u : WalkView D) (f t : F) (x y : Given) (m : Mark) → FeedStep law v (Some x) w
       → SaysOf f x m t → y ≡ with_mark x m → true ≡ is_cut x m → CancelStep w u
@@ -97,3 +108,8 @@ module _ {D C F : Type 0} (law : Law D C) (step : F → Bor TreeEntry → Option
       subst (λ z. GivesOrStops (closure_view step v f) z (Some y) (closure_view step u t)) (sym p.2)
       (layer_cuts s.0 v w (closure_view step v f) (closure_view step u t) p.0 x y m o.0 k refl c.listings_left
       n (λ z i. (s.0, o.1, (cancelled z, c.leaves_out z i, refl))) (h.gives p.0 p.1)))
+      (begins_filtered v w (closure_view step v f) (closure_view step u t) _ (IsMarkSaid step t) (λ a i. i) h.calls
+      h.begins)
+      (cuts_filtered v w (closure_view step v f) (closure_view step u t) (IsMarkSaid step f) (IsMarkSaid step t)
+      (λ a i. i) h.calls x y m k (λ r i. (says r i).0) (λ z o i r j. i r (says r j).1) n u c (λ a i. i) c.ends
+      c.idles h.follows)

@@ -29,6 +29,8 @@ use Rattle.wax_walk.specs.View.{WalkView, FeedStep, GivesOrStops, lacks_memory, 
 use Rattle.wax_walk.specs.View.{CountsFaults, fault_counts, IsLast, IsMisplaced, Takes, IsToOpen, is_to_open}
 use Rattle.wax_walk.specs.View.{IsErrorAt, IsFolderAt, MayFail, Places, items_lost, opens_one}
 use Rattle.wax_walk.specs.View.{LacksMemory}
+use Rattle.wax_walk.specs.Course.{Call, answers}
+use Rattle.wax_walk.proofs.Taking.{TakingCourse, answered_more, course_end, course_more, course_none}
 use Rattle.wax_walk.proofs.Accounting.{takes_within, takes_exactly, counts_faults_then, counts_then_none}
 use Rattle.wax_walk.proofs.Accounting.{counts_nothing, grown_then}
 
@@ -264,6 +266,9 @@ module _ {D C : Type 0} (law : Law D C) where
   -- in all
   pub record Taking (walk now : WalkView D) (most less : ℕ) (xs : List Given) : Type 0 where
     pub gave : (p : Pending Given) → walk.to_come p → GaveSoFar walk.listings_left now p xs
+    pub calls : List Call
+    pub answered : law.answered now.directory ≡ law.answered walk.directory ++ answers calls
+    pub course : TakingCourse walk now calls xs
     pub few : length xs + less ≤ most
     pub counts : CountsFaults (all_fault_counts xs) (all_items_lost xs) (law.tally walk.directory)
         (law.tally now.directory)
@@ -347,6 +352,10 @@ module _ {D C : Type 0} (law : Law D C) where
         record {
           gave = λ p c. gave_more walk.listings_left mid new p xs x n (λ q i. f.gives q i) a.ends
               (h.gave p c);
+          calls = h.calls ++ f.calls;
+          answered = answered_more law.answered walk.directory mid.directory new.directory h.calls f.calls
+              h.answered f.answered;
+          course = course_more walk mid new h.calls f.calls xs x n f.begins f.follows h.course;
           few = let long = length-append xs (x ∷ []) in omega (arith, h.few, l, long);
           counts = subst Q (sym (lost_more xs x))
               (subst P (sym (faults_more xs x)) (counts_faults_then _ _ _ _ _ _ _ h.counts a.counts));
@@ -398,10 +407,15 @@ module _ {D C : Type 0} (law : Law D C) where
         → Took law walk new.directory xs
     taking_end h f t =
         let a = f.accounts in
+        let told = course_end walk mid new h.calls f.calls xs law.answered h.answered f.answered
+        (λ i. (f.idles i).1) f.follows h.course in
         let e : a.taken + new.listings_left ≡ mid.listings_left = a.takes in
         record {
           all = λ p c. gave_all walk.listings_left mid new p xs (law.tells new.directory) (λ q i. f.gives q i)
               t (h.gave p c);
+          told = told.0;
+          answered = told.1;
+          course = told.2;
           counts = counts_then_none _ _ _ _ _ h.counts a.counts;
           passed = h.passed + a.passed;
           passes = λ e. omega (arith, h.passes e, a.passes (h.from ∙ e));
@@ -430,6 +444,9 @@ module _ {D C : Type 0} (law : Law D C) where
   pub taking_none : (walk : WalkView D) (most : ℕ) → Taking walk walk most most []
   taking_none walk most = record {
     gave = λ p c. goes_on p c refl refl (λ n. omega arith);
+    calls = [];
+    answered = sym (append-nil (law.answered walk.directory));
+    course = course_none walk;
     few = omega arith;
     counts = counts_nothing (law.tally walk.directory);
     taken = 0;

@@ -1,4 +1,7 @@
 pub mod Filtering
+pub mod Courses
+pub mod Following
+pub mod Taking
 pub mod Accounting
 pub mod Collecting
 pub mod Saying

@@ -1,17 +1,20 @@
 -- Steps of a filter by a rule.
-use Rattle.std.proofs.Common.{◌≡◌, ◌∙◌, Bool, true, false, refl, sym, ap, subst, inl, inr, cond, arith}
+use Rattle.std.proofs.Common.{◌≡◌, ◌∙◌, Bool, true, false, List, [], ◌++◌, refl, sym, ap, subst, inl, inr, cond, arith}
 use Rattle.std.specs.Prelude.{Some, None}
+use Rattle.std.proofs.lemmas.List.{append-nil}
 use Rattle.wax_directory.specs.Law.{Law}
 use Rattle.wax_walk.specs.Candidates.{Candidate, of_candidate}
+use Rattle.wax_walk.specs.Course.{Ahead, AheadFiltered, ahead, stop, unknown}
 use Rattle.wax_walk.specs.Forest.{cancelled}
 use Rattle.wax_directory.specs.declared.tally.Tally.{Tally}
 use Rattle.wax_walk.specs.Given.{Given, Mark, entry, fault, no_memory, mark_by, with_mark, is_cut, is_entry}
-use Rattle.wax_walk.specs.Ruled.{ruled_view}
+use Rattle.wax_walk.specs.Ruled.{AheadRuled, IsMarkBy, ruled_view}
 use Rattle.wax_walk.specs.View.{WalkView, FeedStep, CancelStep, GivesOrStops, lacks_memory, opens_one}
-use Rattle.wax_walk.specs.View.{CountsFaults, fault_counts, items_lost}
+use Rattle.wax_walk.specs.View.{CountsFaults, fault_counts, items_lost, ended_so, was_cut}
 use Rattle.wax_walk.proofs.Accounting.{IsAsked, HasAnswered, step_ends, step_marked, opened_cut, opened_uncut}
 use Rattle.wax_walk.proofs.Accounting.{counts_nothing, folder_uncut, takes_within}
 use Rattle.wax_walk.proofs.Filtering.{layer_ends, layer_cuts, layer_passes}
+use Rattle.wax_walk.proofs.Following.{begins_filtered, cuts_filtered, ends_filtered, passes_filtered}
 
 differ : (b : Bool) → b ≡ false → b ≡ true → ⊥
 differ b e t = cc
@@ -77,6 +80,14 @@ module _ {D C : Type 0} (law : Law D C) (rule : Candidate → Mark) where
         idle = λ h. inr (k.idles h);
       }
 
+  outside : (v : WalkView D) (b : Bool) → b ≡ false → (a : Ahead)
+      → AheadFiltered v.may_come (IsMarkBy (of_candidate rule)) a → AheadRuled v.may_come rule b a
+  outside v b e a h = subst (λ c. AheadRuled v.may_come rule c a) (sym e) h
+
+  inside : (v : WalkView D) (b : Bool) → b ≡ false → (a : Ahead) → AheadRuled v.may_come rule b a
+      → AheadFiltered v.may_come (IsMarkBy (of_candidate rule)) a
+  inside v b e a h = subst (λ c. AheadRuled v.may_come rule c a) e h
+
   pub ruled_ends : (v w : WalkView D) (b : Bool) → b ≡ false → FeedStep law v None w
       → FeedStep law (ruled_view v rule b) None (ruled_view w rule b)
   ruled_ends v w b e f = step_ends law v w _ _ (asked v b e) (answered w b e) f
@@ -85,6 +96,10 @@ module _ {D C : Type 0} (law : Law D C) (rule : Candidate → Mark) where
       subst (λ z. GivesOrStops (ruled_view v rule b) z None (ruled_view w rule b)) (sym p.2)
       (layer_ends (of_candidate rule) v w (ruled_view v rule b) (ruled_view w rule b) p.0 refl refl
       (λ z i. (e, (z, i, refl))) (f.gives p.0 p.1)))
+      (begins_filtered v w (ruled_view v rule b) (ruled_view w rule b) _ (IsMarkBy (of_candidate rule))
+      (outside v b e) f.calls f.begins)
+      (ends_filtered v w (ruled_view v rule b) (ruled_view w rule b) _ (IsMarkBy (of_candidate rule))
+      (outside v b e) f.calls f.follows)
 
   pub ruled_passes : (v w : WalkView D) (b : Bool) → b ≡ false → (x y : Given) (m : Mark)
       → FeedStep law v (Some x) w → m ≡ mark_by (of_candidate rule) x → y ≡ with_mark x m → false ≡ is_cut x m
@@ -97,6 +112,10 @@ module _ {D C : Type 0} (law : Law D C) (rule : Candidate → Mark) where
       subst (λ z. GivesOrStops (ruled_view v rule b) z (Some y) (ruled_view w rule b)) (sym p.2)
       (layer_passes (of_candidate rule) v w (ruled_view v rule b) (ruled_view w rule b) p.0 x y m s k refl refl n
       (λ z i. (e, (z, i, refl))) (f.gives p.0 p.1)))
+      (begins_filtered v w (ruled_view v rule b) (ruled_view w rule b) _ (IsMarkBy (of_candidate rule))
+      (outside v b e) f.calls f.begins)
+      (passes_filtered v w (ruled_view v rule b) (ruled_view w rule b) _ (IsMarkBy (of_candidate rule))
+      (outside v b e) f.calls x y m k s (λ z n i. i) n (inside w b e) inr inr f.follows)
 
   pub ruled_cuts : (v w u : WalkView D) (b : Bool) → b ≡ false → (x y : Given) (m : Mark)
       → FeedStep law v (Some x) w → m ≡ mark_by (of_candidate rule) x → y ≡ with_mark x m → true ≡ is_cut x m
@@ -109,6 +128,11 @@ module _ {D C : Type 0} (law : Law D C) (rule : Candidate → Mark) where
       subst (λ z. GivesOrStops (ruled_view v rule b) z (Some y) (ruled_view u rule b)) (sym p.2)
       (layer_cuts (of_candidate rule) v w (ruled_view v rule b) (ruled_view u rule b) p.0 x y m s k refl c.listings_left n
       (λ z i. (e, (cancelled z, c.leaves_out z i, refl))) (f.gives p.0 p.1)))
+      (begins_filtered v w (ruled_view v rule b) (ruled_view u rule b) _ (IsMarkBy (of_candidate rule))
+      (outside v b e) f.calls f.begins)
+      (cuts_filtered v w (ruled_view v rule b) (ruled_view u rule b) _ (IsMarkBy (of_candidate rule))
+      (outside v b e) f.calls x y m k s (λ z n i. i) n u c (inside u b e) (λ i. inr (c.ends i))
+      (λ i. inr (c.idles i)) f.follows)
 
   -- allocation failed for the rule, which is asked about entries alone
   pub ruled_lacks : (v w : WalkView D) (later : Candidate → Mark) (b : Bool) → b ≡ false → (x : Given)
@@ -116,6 +140,11 @@ module _ {D C : Type 0} (law : Law D C) (rule : Candidate → Mark) where
       → FeedStep law (ruled_view v rule b) (Some no_memory) (ruled_view w later true)
   ruled_lacks v w later b e x i f = record {
     gives = λ p h. lacks_memory refl;
+    calls = f.calls;
+    answered = f.answered;
+    begins = begins_filtered v w (ruled_view v rule b) (ruled_view w later true) _ (IsMarkBy (of_candidate rule))
+        (outside v b e) f.calls f.begins;
+    follows = was_cut no_memory refl tt (inl refl) (inl refl);
     accounts = record {
       counts = lost_entry x i f.accounts.counts;
       taken = f.accounts.taken;
@@ -162,6 +191,10 @@ module _ {D C : Type 0} (law : Law D C) (rule : Candidate → Mark) where
       → FeedStep law (ruled_view v rule b) None (ruled_view v rule b)
   ruled_stays v b e = subst (λ c. FeedStep law (ruled_view v rule c) None (ruled_view v rule c)) (sym e) (record {
     gives = λ p h. absurd (let t : true ≡ false = h.0 in (cc));
+    calls = [];
+    answered = sym (append-nil (law.answered v.directory));
+    begins = (ahead stop unknown, (refl, tt), refl);
+    follows = ended_so refl (ahead stop stop, (refl, refl), refl);
     accounts = record {
       counts = counts_nothing (law.tally v.directory);
       taken = 0;

@@ -2,13 +2,15 @@
 use Rattle.std.specs.Prelude.{◌≡◌, ℕ, ◌+◌, ◌<◌, ◌≤◌, ◌⊎◌, cond, length, List, [], ◌∷◌, ◌++◌, Some, ⊤}
 use Rattle.std.specs.List.{Contains}
 use Rattle.wax_directory.specs.Counting.{no_counts, grown, plus}
+use Rattle.wax_directory.specs.History.{Answer}
 use Rattle.wax_directory.specs.Law.{Law}
 use Rattle.wax_directory.specs.declared.tally.Tally.{Tally}
 use Rattle.wax_walk.specs.declared.error.FaultKind.TheVariants.{NotAFolder, Budget}
+use Rattle.wax_walk.specs.Course.{Course, CutsShort, IsWhole, answers, calls_of, items_of}
 use Rattle.wax_walk.specs.Forest.{Pending, all_pending, preorder, listings}
 use Rattle.wax_walk.specs.Given.{Given, fault, no_memory}
 use Rattle.wax_walk.specs.View.{WalkView, CountsFaults, IsLast, IsErrorAt, IsFolderAt, MayFail, fault_counts}
-use Rattle.wax_walk.specs.View.{is_to_open, items_lost, LacksMemory}
+use Rattle.wax_walk.specs.View.{is_to_open, items_lost, LacksMemory, MayTake}
 
 -- the items are a prefix of `all`, and then x
 abbrev pub IsCutShort : List Given → Given → List Given → Type 0
@@ -69,9 +71,20 @@ AreOfFolders first most xs = (before after : List Given) (x : Given) (path : Lis
     → xs ≡ before ++ x ∷ after → IsErrorAt path depth (Some x)
     → first path depth ⊎ HasFolder most path depth before
 
+-- the answers and the items are those of a course that was ahead of the walk; or they are those of its beginning,
+-- and then one error came
+pub data TookCourse {D : Type 0} (walk : WalkView D) (told : List Answer) (xs : List Given) : Type 0 where
+  whole : (c : Course) → MayTake walk c → IsWhole c → told ≡ answers (calls_of c) → xs ≡ items_of c
+      → TookCourse walk told xs
+  cut_short : (c : Course) (x : Given) → MayTake walk c → told ≡ answers (calls_of c)
+      → xs ≡ items_of c ++ x ∷ [] → CutsShort (calls_of c) x → TookCourse walk told xs
+
 -- a walk yielded these items to its end, and left the directory as `new`, unchanged if the walk was idle
 pub record Took {D C : Type 0} (law : Law D C) (walk : WalkView D) (new : D) (xs : List Given) : Type 0 where
   pub all : (p : Pending Given) → walk.to_come p → GaveAll (law.tells new) walk.listings_left p xs
+  pub told : List Answer
+  pub answered : law.answered new ≡ law.answered walk.directory ++ told
+  pub course : TookCourse walk told xs
   pub counts : CountsFaults (all_fault_counts xs) (all_items_lost xs) (law.tally walk.directory)
       (law.tally new)
   pub taken : ℕ

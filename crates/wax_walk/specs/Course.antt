@@ -19,14 +19,14 @@ pub data Course : Type 0 where
   stop : Course
   unknown : Course  -- it may go on
   asks : Call → Course → Course
-  gives : Given → Course → Course → Course  -- an item, what comes below it, and what comes after that
+  yields : Given → Course → Course → Course  -- an item, what comes below it, and what comes after that
 
 -- one course and then another
 abbrev pub continued : Course → Course → Course
 continued stop d = d
 continued unknown d = unknown
 continued (asks q c) d = asks q (continued c d)
-continued (gives x below after) d = gives x below (continued after d)
+continued (yields x below after) d = yields x below (continued after d)
 
 -- these calls, and then the course
 abbrev pub asking : List Call → Course → Course
@@ -37,13 +37,13 @@ abbrev pub items_of : Course → List Given
 items_of stop = []
 items_of unknown = []
 items_of (asks q c) = items_of c
-items_of (gives x below after) = x ∷ (items_of below ++ items_of after)
+items_of (yields x below after) = x ∷ (items_of below ++ items_of after)
 
-abbrev pub answers_of : Course → List Answer
-answers_of stop = []
-answers_of unknown = []
-answers_of (asks q c) = q.answer ∷ answers_of c
-answers_of (gives x below after) = answers_of below ++ answers_of after
+abbrev pub calls_of : Course → List Call
+calls_of stop = []
+calls_of unknown = []
+calls_of (asks q c) = q ∷ calls_of c
+calls_of (yields x below after) = calls_of below ++ calls_of after
 
 abbrev pub answers : List Call → List Answer
 answers calls = map (λ q. q.answer) calls
@@ -53,14 +53,14 @@ abbrev pub IsWhole : Course → Type 0
 IsWhole stop = ⊤
 IsWhole unknown = ⊥
 IsWhole (asks q c) = IsWhole c
-IsWhole (gives x below after) = IsWhole below × IsWhole after
+IsWhole (yields x below after) = IsWhole below × IsWhole after
 
 -- the course c is d, or d as far as it is known
 abbrev pub Begins : Course → Course → Type 0
 Begins unknown d = ⊤
 Begins stop d = d ≡ stop
 Begins (asks q c) d = (e : Course) × (d ≡ asks q e) × Begins c e
-Begins (gives x below after) d = (b : Course) × (a : Course) × (d ≡ gives x b a) × Begins below b
+Begins (yields x below after) d = (b : Course) × (a : Course) × (d ≡ yields x b a) × Begins below b
     × Begins after a
 
 -- what is ahead of a walk: below the last yielded item, and after it
@@ -91,8 +91,8 @@ abbrev pub IsFiltered : (Given → Mark → Type 0) → Course → Course → Ty
 IsFiltered allows unknown d = d ≡ unknown
 IsFiltered allows stop d = (d ≡ unknown) ⊎ (d ≡ stop)
 IsFiltered allows (asks q c) d = (d ≡ unknown) ⊎ ((e : Course) × (d ≡ asks q e) × IsFiltered allows c e)
-IsFiltered allows (gives x below after) d = (d ≡ unknown) ⊎ ((m : Mark) × allows x m × (b : Course)
-    × (a : Course) × (d ≡ gives (with_mark x m) b a) × IsBelow (is_cut x m) (IsFiltered allows below b) b
+IsFiltered allows (yields x below after) d = (d ≡ unknown) ⊎ ((m : Mark) × allows x m × (b : Course)
+    × (a : Course) × (d ≡ yields (with_mark x m) b a) × IsBelow (is_cut x m) (IsFiltered allows below b) b
     × IsFiltered allows after a)
 
 -- what is ahead after a filter, if `inner` holds of what is ahead before it

@@ -8,11 +8,13 @@ use Rattle.wax_walk.specs.declared.entry.TreeEntry.{TreeEntry}
 use Rattle.wax_walk.specs.declared.error.WalkError.{WalkError}
 use Rattle.wax_walk.specs.declared.iterator.EntryResidue.{EntryResidue}
 use Rattle.wax_walk.specs.Candidates.{Candidate, of_candidate}
+use Rattle.wax_walk.specs.Course.{Ahead, AheadFiltered, Course, IsFiltered, IsNothing, ahead, asks, stop}
+use Rattle.wax_walk.specs.Course.{unknown, yields}
 use Rattle.wax_walk.specs.Forest.{Pending, cancelled}
 use Rattle.wax_walk.specs.Given.{Given, Facts, Mark, ToComeFiltered}
 use Rattle.wax_walk.specs.Known.{KnownOutcome, KnownAnswer, KeepsKnown}
-use Rattle.wax_walk.specs.Ruled.{ruled_view}
-use Rattle.wax_walk.specs.Says.{SaysByRule, ToComeByClosure, closure_view}
+use Rattle.wax_walk.specs.Ruled.{AheadRuled, IsMarkBy, ruled_view}
+use Rattle.wax_walk.specs.Says.{IsMarkSaid, SaysByRule, ToComeByClosure, closure_view}
 use Rattle.wax_walk.specs.View.{WalkView, CancelStep}
 
 filtered_cancelling : (rule : Facts → Mark) (inner new : Pending Given → Type 0) (q : Pending Given)
@@ -31,6 +33,32 @@ pub ruled_telling : {D : Type 0} (v : WalkView D) (rule : Candidate → Mark) (t
     → (q : Pending Given) → ToComeFiltered v.to_come (of_candidate rule) q → tells q.listed
 ruled_telling v rule tells a q h = filtered_telling (of_candidate rule) v.to_come tells q a h
 
+-- where nothing comes, a filter leaves nothing
+pub filtered_nothing : (allows : Given → Mark → Type 0) (c d : Course) → IsNothing c → IsFiltered allows c d
+    → IsNothing d
+filtered_nothing allows unknown d n h = subst IsNothing (sym h) tt
+filtered_nothing allows stop d n h =
+    elim h [ inl e ↦ subst IsNothing (sym e) tt | inr e ↦ subst IsNothing (sym e) refl ]
+filtered_nothing allows (asks q c) d n h = absurd (let e : stop ≡ asks q n.0 = n.1 in (cc))
+filtered_nothing allows (yields x b a) d n h = absurd (let e : stop ≡ yields x n.0 n.1 = n.2 in (cc))
+
+filtered_dropping : (allows : Given → Mark → Type 0) (old new : Ahead → Type 0)
+    → ((p : Ahead) → new p → IsNothing p.below × old (ahead unknown p.after)) → (a : Ahead)
+    → AheadFiltered new allows a → IsNothing a.below × AheadFiltered old allows (ahead unknown a.after)
+filtered_dropping allows old new f a h =
+    let d = f h.0 h.1 in
+    (filtered_nothing allows h.0.below a.below d.0 h.2, (ahead unknown h.0.after, d.1, refl, h.3))
+
+ruled_dropping : (old new : Ahead → Type 0)
+    → ((p : Ahead) → new p → IsNothing p.below × old (ahead unknown p.after)) → (before after : Candidate → Mark)
+    → after ≡ before → (b c : Bool) → c ≡ b → (a : Ahead) → AheadRuled new after c a
+    → IsNothing a.below × AheadRuled old before b (ahead unknown a.after)
+ruled_dropping old new f before after e true true i a h = (h.0, (tt, h.1))
+ruled_dropping old new f before after e false false i a h = filtered_dropping (IsMarkBy (of_candidate before)) old
+    new f a (subst (λ r. AheadFiltered new (IsMarkBy (of_candidate r)) a) e h)
+ruled_dropping old new f before after e true false i a h = absurd (let j : false ≡ true = i in (cc))
+ruled_dropping old new f before after e false true i a h = absurd (let j : true ≡ false = i in (cc))
+
 ended_either : (b c : Bool) (before after : Type 0) → c ≡ b → (before → after) → (b ≡ true) ⊎ before
     → (c ≡ true) ⊎ after
 ended_either b c before after e f h = elim h [ inl a ↦ inl (e ∙ a) | inr i ↦ inr (f i) ]
@@ -47,6 +75,7 @@ ruled_cancelling v w rules p q b c h e f = record {
     subst (λ r. ToComeFiltered w.to_come (of_candidate (rules r)) (cancelled o)) (sym e)
         (filtered_cancelling (of_candidate (rules p)) v.to_come w.to_come o h.leaves_out i.1),
   );
+  drops = ruled_dropping v.may_come w.may_come h.drops (rules p) (rules q) (ap rules e) b c f;
   directory = h.directory;
   listings_left = h.listings_left;
   names_left = h.names_left;
@@ -76,6 +105,8 @@ module _ {F : Type 0} (step : F → Bor TreeEntry → Option EntryResidue → F 
       filtered_cancelling i.0 v.to_come
           w.to_come o h.leaves_out i.2,
     );
+    drops = λ a i. filtered_dropping (IsMarkSaid step f) v.may_come w.may_come h.drops a
+        (subst (λ s. AheadFiltered w.may_come (IsMarkSaid step s) a) e i);
     directory = h.directory;
     listings_left = h.listings_left;
     names_left = h.names_left;

@@ -9,7 +9,7 @@ use Rattle.wax_directory.specs.declared.tally.Tally.{Tally}
 use Rattle.wax_walk.specs.declared.error.FaultKind.TheVariants.{NotFound, NotAFolder, Listing, BadName}
 use Rattle.wax_walk.specs.declared.error.FaultKind.TheVariants.{NotText, Budget}
 use Rattle.wax_walk.specs.Course.{Ahead, Begins, Call, Course, CutsShort, IsNothing, ahead, all_ahead}
-use Rattle.wax_walk.specs.Course.{answers, asking, gives, stop, unknown}
+use Rattle.wax_walk.specs.Course.{answers, asking, stop, unknown, yields}
 use Rattle.wax_walk.specs.Forest.{Pending, all_pending, cancelled, FirstIs, IsListed}
 use Rattle.wax_walk.specs.Given.{Given, entry, fault, no_memory, kept, alone, with_tree}
 
@@ -161,11 +161,12 @@ module _ {D : Type 0} where
   -- after these calls r was returned: whatever is ahead of the walk then, before it were the calls, r and
   -- that, as far as it is known; or the course ended with the calls; or it was cut short
   pub data Follows (old : WalkView D) (calls : List Call) (r : Option Given) (new : WalkView D) : Type 0 where
-    goes_on : (x : Given) → r ≡ Some x
-        → ((a : Ahead) (c : Course) → new.may_come a → Begins c (gives x a.below a.after)
+    went_on : (x : Given) → r ≡ Some x
+        → ((a : Ahead) (c : Course) → new.may_come a → Begins c (yields x a.below a.after)
         → MayTake old (asking calls c)) → Follows old calls r new
-    at_end : r ≡ None → MayTake old (asking calls stop) → Follows old calls r new
-    cut : (x : Given) → r ≡ Some x → CutsShort calls x → new.is_idle → Follows old calls r new
+    ended_so : r ≡ None → MayTake old (asking calls stop) → Follows old calls r new
+    was_cut : (x : Given) → r ≡ Some x → CutsShort calls x → new.has_ended → new.is_idle
+        → Follows old calls r new
 
   -- what the directory counted; how many items were taken from listings; how many entries were passed, since
   -- they are above the least depth; whether the item is that a folder couldn't be opened; how many folders

@@ -1,6 +1,6 @@
 use Rattle.std.specs.Prelude.{Some, None}
 use Rattle.wax_walk.specs.Entries.{given_of}
-use Rattle.wax_walk.proofs.RuleSteps.{ruled_ends, ruled_cuts, ruled_lacks, ruled_passes}
+use Rattle.wax_walk.proofs.RuleSteps.{ruled_ends, ruled_cuts, ruled_lacks, ruled_passes, ruled_stays}
 use Rattle.wax_walk.proofs.Knowing.{keeps_passed, keeps_cut}
 use Rattle.wax_walk.proofs.excluding.ExcludingSeparatingFilter.feed.Goals as goal
 use Rattle.wax_walk.proofs.excluding.ExcludingSeparatingFilter.feed.Goals.{then-cuts, else-cuts}
@@ -60,4 +60,12 @@ returns-in_default-clause-steps g c =
           (view c.feed.new.self) (g.P.Exclude.rule c.residue_of.new.rule) c.args.self.now.has_ended
           c.if-self.false x c.in_default.ensures.asks fed,
       record { answer = tt; stays = keeps.stays },
+    )
+
+pub returns-then-self-clause-steps : goal.returns-then-self-clause-steps
+returns-then-self-clause-steps g c =
+    let s = c.args.self.now in (
+      ruled_stays g.I.Directory.Directory.law (g.P.Exclude.rule s.rule) (g.I.FileIterator.view s.input)
+          s.has_ended c.if-self.true,
+      record { answer = tt; stays = λ e k. k },
     )

@@ -5,6 +5,7 @@ pub returns-clause-view : goal.returns-clause-view
 returns-clause-view g c =
     rw c.new.ensures (record {
       to_come = λ p h. h;
+      may_come = λ a i. i;
       directory = refl;
       listings_left = refl;
       names_left = refl;

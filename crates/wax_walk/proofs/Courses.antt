@@ -1,0 +1,286 @@
+-- Courses: their parts, and what a filter leaves of them.
+use Rattle.std.proofs.Common.{◌≡◌, ◌∙◌, Bool, true, false, List, [], ◌∷◌, ◌++◌, append_assoc, refl, sym, ap, subst, inl, inr}
+use Rattle.std.specs.Prelude.{◌⊎◌, Some, None}
+use Rattle.std.proofs.lemmas.List.{append-nil, map-append}
+use Rattle.wax_walk.specs.Course.{Call, Course, stop, unknown, asks, yields, continued, asking, items_of, calls_of}
+use Rattle.wax_walk.specs.Course.{answers, IsWhole, Begins, IsBelow, IsFiltered, IsNothing}
+use Rattle.wax_walk.specs.Given.{Given, Mark, with_mark, is_cut}
+
+-- ---- parts
+
+pub begins_itself : (c : Course) → Begins c c
+begins_itself stop = refl
+begins_itself unknown = tt
+begins_itself (asks q c) = (c, refl, begins_itself c)
+begins_itself (yields x b a) = (b, a, refl, begins_itself b, begins_itself a)
+
+pub continued_asking : (calls : List Call) (c d : Course) → continued (asking calls c) d
+    ≡ asking calls (continued c d)
+continued_asking [] c d = refl
+continued_asking (q ∷ calls) c d = ap (asks q) (continued_asking calls c d)
+
+pub asking_then : (calls more : List Call) (c : Course) → asking calls (asking more c)
+    ≡ asking (calls ++ more) c
+asking_then [] more c = refl
+asking_then (q ∷ calls) more c = ap (asks q) (asking_then calls more c)
+
+pub continued_stop : (c : Course) → continued c stop ≡ c
+continued_stop stop = refl
+continued_stop unknown = refl
+continued_stop (asks q c) = ap (asks q) (continued_stop c)
+continued_stop (yields x b a) = ap (yields x b) (continued_stop a)
+
+pub continued_then : (c d e : Course) → continued (continued c d) e ≡ continued c (continued d e)
+continued_then stop d e = refl
+continued_then unknown d e = refl
+continued_then (asks q c) d e = ap (asks q) (continued_then c d e)
+continued_then (yields x b a) d e = ap (yields x b) (continued_then a d e)
+
+pub begins_asking : (calls : List Call) (c d : Course) → Begins c d → Begins (asking calls c) (asking calls d)
+begins_asking [] c d h = h
+begins_asking (q ∷ calls) c d h = (asking calls d, refl, begins_asking calls c d h)
+
+-- the parts of a course that begins two
+pub record BeginsBoth (b a c : Course) : Type 0 where
+  pub below : Course
+  pub after : Course
+  pub below_begins : Begins below b
+  pub after_begins : Begins after a
+  pub whole : continued below after ≡ c
+
+abbrev pub both : (b a c below after : Course) → Begins below b → Begins after a → continued below after ≡ c
+    → BeginsBoth b a c
+both b a c below after h i e = record { below = below; after = after; below_begins = h; after_begins = i; whole = e }
+
+pub begins_parts : (b a c : Course) → Begins c (continued b a) → BeginsBoth b a c
+begins_parts stop a c h = both stop a c stop c refl h refl
+begins_parts unknown a unknown h = both unknown a unknown unknown unknown tt tt refl
+begins_parts unknown a stop h = absurd (let e : unknown ≡ stop = h in (cc))
+begins_parts unknown a (asks q c) h = absurd (let e : unknown ≡ asks q h.0 = h.1 in (cc))
+begins_parts unknown a (yields x d e) h = absurd (let e : unknown ≡ yields x h.0 h.1 = h.2 in (cc))
+begins_parts (asks q b) a unknown h = both (asks q b) a unknown unknown unknown tt tt refl
+begins_parts (asks q b) a stop h = absurd (let e : asks q (continued b a) ≡ stop = h in (cc))
+begins_parts (asks q b) a (asks r c) h =
+    let e : asks q (continued b a) ≡ asks r h.0 = h.1 in
+    let same : q ≡ r = cc in
+    let rest : continued b a ≡ h.0 = cc in
+    let p = begins_parts b a c (subst (λ d. Begins c d) (sym rest) h.2) in
+    both (asks q b) a (asks r c) (asks r p.below) p.after
+    (b, ap (λ z. asks z b) same, p.below_begins) p.after_begins (ap (asks r) p.whole)
+begins_parts (asks q b) a (yields x d e) h = absurd (let e : asks q (continued b a) ≡ yields x h.0 h.1 = h.2 in (cc))
+begins_parts (yields x d b) a unknown h = both (yields x d b) a unknown unknown unknown tt tt refl
+begins_parts (yields x d b) a stop h = absurd (let e : yields x d (continued b a) ≡ stop = h in (cc))
+begins_parts (yields x d b) a (asks r c) h = absurd (let e : yields x d (continued b a) ≡ asks r h.0 = h.1 in (cc))
+begins_parts (yields x d b) a (yields y e c) h =
+    let i : yields x d (continued b a) ≡ yields y h.0 h.1 = h.2 in
+    let same : x ≡ y = cc in
+    let under : d ≡ h.0 = cc in
+    let rest : continued b a ≡ h.1 = cc in
+    let p = begins_parts b a c (subst (λ z. Begins c z) (sym rest) h.4) in
+    both (yields x d b) a (yields y e c) (yields y e p.below) p.after
+    (d, b, ap (λ z. yields z d b) same, subst (λ z. Begins e z) (sym under) h.3, p.below_begins)
+    p.after_begins (ap (yields y e) p.whole)
+
+-- how much of what comes after a course is known, if both are one course
+pub record KnownAfter (b a : Course) : Type 0 where
+  pub after : Course
+  pub begins : Begins after a
+  pub items : items_of (continued b a) ≡ items_of b ++ items_of after
+  pub calls : calls_of (continued b a) ≡ calls_of b ++ calls_of after
+  pub whole : IsWhole (continued b a) → IsWhole b × IsWhole after
+
+pub known_after : (b a : Course) → KnownAfter b a
+known_after stop a = record {
+  after = a;
+  begins = begins_itself a;
+  items = refl;
+  calls = refl;
+  whole = λ w. (tt, w);
+}
+known_after unknown a = record { after = unknown; begins = tt; items = refl; calls = refl; whole = λ w. absurd w }
+known_after (asks q b) a = let k = known_after b a in record {
+  after = k.after;
+  begins = k.begins;
+  items = k.items;
+  calls = ap (λ z. q ∷ z) k.calls;
+  whole = k.whole;
+}
+known_after (yields x c b) a = let k = known_after b a in record {
+  after = k.after;
+  begins = k.begins;
+  items = ap (λ z. x ∷ (items_of c ++ z)) k.items
+      ∙ ap (λ z. x ∷ z) (sym (append_assoc (items_of c) (items_of b) (items_of k.after)));
+  calls = ap (λ z. calls_of c ++ z) k.calls ∙ sym (append_assoc (calls_of c) (calls_of b) (calls_of k.after));
+  whole = λ w. let p = k.whole w.1 in ((w.0, p.0), p.1);
+}
+
+pub items_asking : (calls : List Call) (c : Course) → items_of (asking calls c) ≡ items_of c
+items_asking [] c = refl
+items_asking (q ∷ calls) c = items_asking calls c
+
+pub calls_asking : (calls : List Call) (c : Course) → calls_of (asking calls c) ≡ calls ++ calls_of c
+calls_asking [] c = refl
+calls_asking (q ∷ calls) c = ap (λ z. q ∷ z) (calls_asking calls c)
+
+pub whole_asking : (calls : List Call) (c : Course) → IsWhole c → IsWhole (asking calls c)
+whole_asking [] c w = w
+whole_asking (q ∷ calls) c w = whole_asking calls c w
+
+-- ---- filters
+
+module _ (allows : Given → Mark → Type 0) where
+  -- what begins a filtered course is filtered
+  pub filtered_unknown : (c : Course) → IsFiltered allows c unknown
+  filtered_unknown unknown = refl
+  filtered_unknown stop = inl refl
+  filtered_unknown (asks q c) = inl refl
+  filtered_unknown (yields x b a) = inl refl
+
+  begins_unknown : (d e : Course) → d ≡ unknown → Begins e d → e ≡ unknown
+  begins_unknown d unknown i h = refl
+  begins_unknown d stop i h = absurd (let e : unknown ≡ stop = sym i ∙ h in (cc))
+  begins_unknown d (asks q c) i h = absurd (let e : unknown ≡ asks q h.0 = sym i ∙ h.1 in (cc))
+  begins_unknown d (yields x b a) i h = absurd (let e : unknown ≡ yields x h.0 h.1 = sym i ∙ h.2 in (cc))
+
+  pub filtered_asking : (calls : List Call) (c d : Course) → IsFiltered allows c d
+      → IsFiltered allows (asking calls c) (asking calls d)
+  filtered_asking [] c d h = h
+  filtered_asking (q ∷ calls) c d h = inr (asking calls d, refl, filtered_asking calls c d h)
+
+  -- the parts of what is left of two courses
+  pub record FiltersBoth (b a d : Course) : Type 0 where
+    pub below : Course
+    pub after : Course
+    pub below_filtered : IsFiltered allows b below
+    pub after_filtered : IsFiltered allows a after
+    pub whole : continued below after ≡ d
+
+  both_unknown : (b a d : Course) → d ≡ unknown → FiltersBoth b a d
+  both_unknown b a d e = record {
+    below = unknown;
+    after = unknown;
+    below_filtered = filtered_unknown b;
+    after_filtered = filtered_unknown a;
+    whole = sym e;
+  }
+
+  pub filtered_parts : (b a d : Course) → IsFiltered allows (continued b a) d → FiltersBoth b a d
+  filtered_parts stop a d h =
+      record { below = stop; after = d; below_filtered = inr refl; after_filtered = h; whole = refl }
+  filtered_parts unknown a d h = both_unknown unknown a d h
+  filtered_parts (asks q b) a d h = elim h [
+    | inl e ↦ both_unknown (asks q b) a d e
+    | inr i ↦ let p = filtered_parts b a i.0 i.2 in record {
+      below = asks q p.below;
+      after = p.after;
+      below_filtered = inr (p.below, refl, p.below_filtered);
+      after_filtered = p.after_filtered;
+      whole = ap (asks q) p.whole ∙ sym i.1;
+    }
+  ]
+  filtered_parts (yields x c b) a d h = elim h [
+    | inl e ↦ both_unknown (yields x c b) a d e
+    | inr i ↦ let p = filtered_parts b a i.3 i.6 in record {
+      below = yields (with_mark x i.0) i.2 p.below;
+      after = p.after;
+      below_filtered = inr (i.0, i.1, i.2, p.below, refl, i.5, p.below_filtered);
+      after_filtered = p.after_filtered;
+      whole = ap (yields (with_mark x i.0) i.2) p.whole ∙ sym i.4;
+    }
+  ]
+
+  below_begun : (cut : Bool) (P Q : Type 0) (b e : Course) → (P → Q) → (IsNothing b → IsNothing e)
+      → IsBelow cut P b → IsBelow cut Q e
+  below_begun true P Q b e f n h = n h
+  below_begun false P Q b e f n h = f h
+
+  nothing_begun : (b e : Course) → Begins e b → IsNothing b → IsNothing e
+  nothing_begun b unknown h n = tt
+  nothing_begun stop stop h n = refl
+  nothing_begun stop (asks q e) h n = absurd (let i : stop ≡ asks q h.0 = h.1 in (cc))
+  nothing_begun stop (yields x d e) h n = absurd (let i : stop ≡ yields x h.0 h.1 = h.2 in (cc))
+  nothing_begun unknown e h n = subst IsNothing (sym (begins_unknown unknown e refl h)) tt
+  nothing_begun (asks q b) e h n = absurd (let i : stop ≡ asks q n.0 = n.1 in (cc))
+  nothing_begun (yields x d b) e h n = absurd (let i : stop ≡ yields x n.0 n.1 = n.2 in (cc))
+
+  pub filtered_begun : (c d e : Course) → IsFiltered allows c d → Begins e d → IsFiltered allows c e
+  filtered_begun c d unknown h b = filtered_unknown c
+  filtered_begun unknown d e h b = begins_unknown d e h b
+  filtered_begun stop d e h b = elim h [
+    | inl i ↦ inl (begins_unknown d e i b)
+    | inr i ↦ stops d e i b
+  ] where
+    stops : (d e : Course) → d ≡ stop → Begins e d → (e ≡ unknown) ⊎ (e ≡ stop)
+    stops d unknown i b = inl refl
+    stops d stop i b = inr refl
+    stops d (asks q c) i b = absurd (let e : stop ≡ asks q b.0 = sym i ∙ b.1 in (cc))
+    stops d (yields x c a) i b = absurd (let e : stop ≡ yields x b.0 b.1 = sym i ∙ b.2 in (cc))
+  filtered_begun (asks q c) d stop h b = elim h [
+    | inl i ↦ inl (begins_unknown d stop i b)
+    | inr i ↦ absurd (let e : stop ≡ asks q i.0 = sym b ∙ i.1 in (cc))
+  ]
+  filtered_begun (asks q c) d (asks r e) h b = elim h [
+    | inl i ↦ inl (begins_unknown d (asks r e) i b)
+    | inr i ↦
+        let j : asks q i.0 ≡ asks r b.0 = sym i.1 ∙ b.1 in
+        let same : r ≡ q = cc in
+        let rest : b.0 ≡ i.0 = cc in
+        inr (e, ap (λ z. asks z e) same, filtered_begun c i.0 e i.2 (subst (λ z. Begins e z) rest b.2))
+  ]
+  filtered_begun (asks q c) d (yields x e f) h b = elim h [
+    | inl i ↦ inl (begins_unknown d (yields x e f) i b)
+    | inr i ↦ absurd (let j : asks q i.0 ≡ yields x b.0 b.1 = sym i.1 ∙ b.2 in (cc))
+  ]
+  filtered_begun (yields x c a) d stop h b = elim h [
+    | inl i ↦ inl (begins_unknown d stop i b)
+    | inr i ↦ absurd (let e : stop ≡ yields (with_mark x i.0) i.2 i.3 = sym b ∙ i.4 in (cc))
+  ]
+  filtered_begun (yields x c a) d (asks r e) h b = elim h [
+    | inl i ↦ inl (begins_unknown d (asks r e) i b)
+    | inr i ↦ absurd (let e : asks r b.0 ≡ yields (with_mark x i.0) i.2 i.3 = sym b.1 ∙ i.4 in (cc))
+  ]
+  filtered_begun (yields x c a) d (yields y e f) h b = elim h [
+    | inl i ↦ inl (begins_unknown d (yields y e f) i b)
+    | inr i ↦
+        let j : yields (with_mark x i.0) i.2 i.3 ≡ yields y b.0 b.1 = sym i.4 ∙ b.2 in
+        let same : y ≡ with_mark x i.0 = cc in
+        let under : b.0 ≡ i.2 = cc in
+        let rest : b.1 ≡ i.3 = cc in
+        let be : Begins e i.2 = subst (λ z. Begins e z) under b.3 in
+        inr (
+          i.0,
+          i.1,
+          e,
+          f,
+          ap (λ z. yields z e f) same,
+          below_begun (is_cut x i.0) (IsFiltered allows c i.2) (IsFiltered allows c e) i.2 e
+              (λ k. filtered_begun c i.2 e k be) (nothing_begun i.2 e be) i.5,
+          filtered_begun a i.3 f i.6 (subst (λ z. Begins f z) rest b.4),
+        )
+  ]
+
+-- fewer marks are allowed
+below_widened : (cut : Bool) (P Q : Type 0) (b : Course) → (P → Q) → IsBelow cut P b → IsBelow cut Q b
+below_widened true P Q b f h = h
+below_widened false P Q b f h = f h
+
+pub filtered_widened : (these those : Given → Mark → Type 0) → ((x : Given) (m : Mark) → these x m → those x m)
+    → (c d : Course) → IsFiltered these c d → IsFiltered those c d
+filtered_widened these those w unknown d h = h
+filtered_widened these those w stop d h = h
+filtered_widened these those w (asks q c) d h = elim h [
+  | inl e ↦ inl e
+  | inr i ↦ inr (i.0, i.1, filtered_widened these those w c i.0 i.2)
+]
+filtered_widened these those w (yields x c a) d h = elim h [
+  | inl e ↦ inl e
+  | inr i ↦ inr (
+    i.0,
+    w x i.0 i.1,
+    i.2,
+    i.3,
+    i.4,
+    below_widened (is_cut x i.0) _ _ i.2 (filtered_widened these those w c i.2) i.5,
+    filtered_widened these those w a i.3 i.6,
+  )
+]

@@ -1,0 +1,98 @@
+-- How a filter follows the course of the walk inside it.
+use Rattle.std.proofs.Common.{◌≡◌, ◌∙◌, Bool, true, false, List, [], ◌∷◌, ◌++◌, refl, sym, ap, subst, inl, inr}
+use Rattle.std.specs.Prelude.{Option, Some, None}
+use Rattle.wax_walk.specs.Course.{Ahead, AheadFiltered, Call, Course, CutsShort, IsBelow, IsFiltered, IsNothing}
+use Rattle.wax_walk.specs.Course.{Begins, ahead, asking, yields, stop, unknown}
+use Rattle.wax_walk.specs.Given.{Given, Mark, entry, fault, no_memory, with_mark, is_cut}
+use Rattle.wax_walk.specs.Laws.{filtered_nothing}
+use Rattle.wax_walk.specs.View.{WalkView, CancelStep, Follows, MayTake, went_on, ended_so, was_cut}
+use Rattle.wax_walk.proofs.Courses.{begins_itself, filtered_asking, filtered_begun, filtered_parts}
+use Rattle.wax_walk.proofs.Courses.{filtered_widened}
+
+-- an error that cuts a course short isn't marked
+cuts_marked : (calls : List Call) (x : Given) (m : Mark) → CutsShort calls x → CutsShort calls (with_mark x m)
+cuts_marked calls (entry k f) m s = absurd s
+cuts_marked calls (fault kind path depth) m s = s
+cuts_marked calls no_memory m s = s
+
+below_uncut : (b : Bool) (P : Type 0) (c : Course) → false ≡ b → P → IsBelow b P c
+below_uncut true P c e h = absurd (let i : false ≡ true = e in (cc))
+below_uncut false P c e h = h
+
+below_cut : (b : Bool) (P : Type 0) (c : Course) → true ≡ b → IsNothing c → IsBelow b P c
+below_cut true P c e h = h
+below_cut false P c e h = absurd (let i : true ≡ false = e in (cc))
+
+module _ {D : Type 0} (v w outer new : WalkView D) (allows later : Given → Mark → Type 0)
+    (outside : (a : Ahead) → AheadFiltered v.may_come allows a → outer.may_come a)
+    (calls : List Call) where
+  -- a course that the walk inside may take, as the filter leaves it
+  take_filtered : (c d : Course) → MayTake v c → IsFiltered allows c d → MayTake outer d
+  take_filtered c d t h =
+      let p = filtered_parts allows t.0.below t.0.after d (subst (λ z. IsFiltered allows z d) (sym t.2) h) in (
+        ahead p.below p.after,
+        outside (ahead p.below p.after) (t.0, t.1, p.below_filtered, p.after_filtered),
+        p.whole,
+      )
+
+  pub begins_filtered : MayTake v (asking calls unknown) → MayTake outer (asking calls unknown)
+  begins_filtered t = take_filtered _ _ t (filtered_asking allows calls unknown unknown refl)
+
+  pub ends_filtered : Follows v calls None w → Follows outer calls None new
+  ends_filtered (went_on x e f) = absurd (let i : None ≡ Some x = e in (cc))
+  ends_filtered (ended_so e t) =
+      ended_so refl (take_filtered _ _ t (filtered_asking allows calls stop stop (inr refl)))
+  ends_filtered (was_cut x e s h i) = absurd (let j : None ≡ Some x = e in (cc))
+
+  module _ (x y : Given) (m : Mark) (marked : y ≡ with_mark x m) (ok : allows x m)
+      (narrow : (z : Given) (n : Mark) → later z n → allows z n) where
+    -- a course of which the item comes next, as the filter leaves it
+    next_filtered : (p a : Ahead) (c : Course) → MayTake v (asking calls (yields x p.below p.after))
+        → IsBelow (is_cut x m) (IsFiltered allows p.below a.below) a.below
+        → IsFiltered later p.after a.after → Begins c (yields y a.below a.after)
+        → MayTake outer (asking calls c)
+    next_filtered p a c t below after b =
+        let marks : yields y a.below a.after ≡ yields (with_mark x m) a.below a.after =
+        ap (λ z. yields z a.below a.after) marked in
+        let f : IsFiltered allows (yields x p.below p.after) (yields y a.below a.after) = inr
+        (m, ok, a.below, a.after, marks, below, filtered_widened later allows narrow p.after a.after after) in
+        take_filtered (asking calls (yields x p.below p.after)) (asking calls c) t
+        (filtered_asking allows calls (yields x p.below p.after) c
+        (filtered_begun allows (yields x p.below p.after) (yields y a.below a.after) c f b))
+
+    pub passes_filtered : false ≡ is_cut x m
+        → ((a : Ahead) → new.may_come a → AheadFiltered w.may_come later a) → (w.has_ended → new.has_ended)
+        → (w.is_idle → new.is_idle) → Follows v calls (Some x) w → Follows outer calls (Some y) new
+    passes_filtered uncut inside ended idle (went_on z e f) =
+        let same : z ≡ x = cc in
+        went_on y refl (λ a c n b.
+        let q = inside a n in
+        let t = subst (λ k. MayTake v (asking calls (yields k q.0.below q.0.after))) same
+        (f q.0 (yields z q.0.below q.0.after) q.1 (begins_itself (yields z q.0.below q.0.after))) in
+        next_filtered q.0 a c t
+        (below_uncut (is_cut x m) _ a.below uncut
+        (filtered_widened later allows narrow q.0.below a.below q.2)) q.3 b)
+    passes_filtered uncut inside ended idle (ended_so e t) = absurd (let i : Some x ≡ None = e in (cc))
+    passes_filtered uncut inside ended idle (was_cut z e s h i) =
+        let same : z ≡ x = cc in
+        let k : CutsShort calls (with_mark x m) = cuts_marked calls x m (subst (CutsShort calls) same s) in
+        was_cut y refl (subst (CutsShort calls) (sym marked) k) (ended h) (idle i)
+
+    pub cuts_filtered : true ≡ is_cut x m → (u : WalkView D) → CancelStep w u
+        → ((a : Ahead) → new.may_come a → AheadFiltered u.may_come later a) → (w.has_ended → new.has_ended)
+        → (w.is_idle → new.is_idle) → Follows v calls (Some x) w → Follows outer calls (Some y) new
+    cuts_filtered is u k inside ended idle (went_on z e f) =
+        let same : z ≡ x = cc in
+        went_on y refl (λ a c n b.
+        let q = inside a n in
+        let d = k.drops q.0 q.1 in
+        let t = subst (λ k. MayTake v (asking calls (yields k unknown q.0.after))) same
+        (f (ahead unknown q.0.after) (yields z unknown q.0.after) d.1
+        (begins_itself (yields z unknown q.0.after))) in
+        next_filtered (ahead unknown q.0.after) a c t
+        (below_cut (is_cut x m) _ a.below is (filtered_nothing later q.0.below a.below d.0 q.2)) q.3 b)
+    cuts_filtered is u k inside ended idle (ended_so e t) = absurd (let i : Some x ≡ None = e in (cc))
+    cuts_filtered is u k inside ended idle (was_cut z e s h i) =
+        let same : z ≡ x = cc in
+        let k : CutsShort calls (with_mark x m) = cuts_marked calls x m (subst (CutsShort calls) same s) in
+        was_cut y refl (subst (CutsShort calls) (sym marked) k) (ended h) (idle i)
