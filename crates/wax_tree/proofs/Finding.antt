@@ -29,7 +29,8 @@ use Rattle.wax_tree.specs.Plain.{WalkScope, Location, count_shown, entry_forest}
 use Rattle.wax_tree.specs.inner.Finding.{IsFault, IsFound}
 use Rattle.wax_tree.specs.inner.Heads.{first_item_forest, own_count}
 use Rattle.wax_tree.specs.Stepping.{Asked, IsCounted, UsesAnswer, nothing_asked}
-use Rattle.wax_tree.specs.Walking.{HasKind, allowance, begins, entry_location, names_left, step_given}
+use Rattle.wax_tree.specs.Walking.{allowance, begins, entry_location, names_left, step_given}
+use Rattle.wax_tree.specs.Plain.{HasKind}
 use Rattle.wax_tree.proofs.UsingAnswers.{gives_uses_answer}
 use Rattle.wax_tree.proofs.Showing.{takes_name, takes_misnamed, takes_failed, takes_not_text}
 

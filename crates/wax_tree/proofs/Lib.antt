@@ -12,3 +12,4 @@ pub mod InRange
 pub mod Listing
 pub mod Reaching
 pub mod Levelled
+pub mod Coursing

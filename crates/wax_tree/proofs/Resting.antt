@@ -15,7 +15,8 @@ use Rattle.wax_tree.specs.declared.location.Location as code
 use Rattle.wax_tree.specs.declared.steps.OpenFolder.{OpenFolder}
 use Rattle.wax_tree.specs.declared.steps.Steps.{Steps}
 use Rattle.wax_tree.specs.Plain.{WalkScope, Location, count, count_shown, below_forest, items_forest, unlisted}
-use Rattle.wax_tree.specs.Walking.{HasKind, IsAlone, located, scope_of}
+use Rattle.wax_tree.specs.Walking.{IsAlone, located, scope_of}
+use Rattle.wax_tree.specs.Plain.{HasKind}
 use Rattle.wax_tree.specs.Walking.{cursors_of, Rest, FirstShows, EnteredShows, LevelsShow, AtRest}
 use Rattle.wax_tree.specs.Walking.{PlainToCome, WereListed}
 use Rattle.wax_tree.proofs.Showing.{followed_nothing, followed_assoc, shows_in_moved}

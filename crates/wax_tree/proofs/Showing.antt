@@ -21,7 +21,7 @@ use Rattle.wax_tree.specs.Plain.{WalkScope, Location, item_location, one_deeper,
 use Rattle.wax_tree.specs.Plain.{entry_forest, plain_at, items_forest}
 use Rattle.wax_tree.specs.Prefix.{from_last, walk_from}
 use Rattle.wax_tree.specs.inner.Heads.{first_item_forest, own_count}
-use Rattle.wax_tree.specs.Walking.{HasKind}
+use Rattle.wax_tree.specs.Plain.{HasKind}
 
 pub silent : (scope : WalkScope) (depth : ℕ) (x : Given) (below after : Forest Given) → depth < scope.min
     → at_depth scope depth x below after ≡ followed_by below after

@@ -31,7 +31,8 @@ use Rattle.wax_tree.proofs.Lead.{after_listing, ListsBetween}
 use Rattle.wax_tree.specs.Plain.{Location, count, count_shown, below_forest, entry_forest, plain_entry}
 use Rattle.wax_tree.specs.Plain.{items_forest}
 use Rattle.wax_tree.specs.Prefix.{ArePlain, from_last, walk_from}
-use Rattle.wax_tree.specs.Walking.{HasKind, IsAlone, IsFolder, tree_given, entered_forest}
+use Rattle.wax_tree.specs.Walking.{IsAlone, tree_given, entered_forest}
+use Rattle.wax_tree.specs.Plain.{HasKind, IsFolder}
 use Rattle.wax_tree.specs.Walking.{located, scope_of, cursors_of, allowance}
 use Rattle.wax_tree.specs.Walking.{Rest, FirstShows, EnteredShows, LevelsShow, AtRest}
 use Rattle.wax_tree.specs.Walking.{PlainToCome, WereListed, steps_view, MovesOn}

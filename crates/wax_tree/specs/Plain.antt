@@ -1,5 +1,5 @@
 -- The plain walk of what a directory shows.
-use Rattle.std.specs.Prelude.{ℕ, ◌+◌, ◌-◌, cond, List, [], nat_lt}
+use Rattle.std.specs.Prelude.{◌≡◌, ℕ, ◌+◌, ◌-◌, cond, List, [], nat_lt, ⊤}
 use Rattle.wax_directory.specs.declared.directory.FileType.{FileType}
 use Rattle.wax_directory.specs.declared.directory.FileType.TheVariants.{Folder}
 use Rattle.wax_directory.specs.Shown.{Items, end, leaf, folder, sealed, misnamed, unread, not_text, Shown}
@@ -43,6 +43,19 @@ item_location at x = record { path = join at.path x; candidate = join at.candida
 
 abbrev pub one_deeper : Location → Location
 one_deeper at = record { path = at.path; candidate = at.candidate; depth = at.depth + 1 }
+
+-- what is shown is a folder, which may be one that can't be listed
+abbrev pub IsFolder : Shown → Type 0
+IsFolder (a_folder l) = ⊤
+IsFolder a_sealed = ⊤
+IsFolder s = ⊥
+
+-- something is shown, of this file type
+abbrev pub HasKind : Shown → FileType → Type 0
+HasKind (a_leaf link) k = k ≡ leaf_kind link
+HasKind (a_folder l) k = k ≡ Folder
+HasKind a_sealed k = k ≡ Folder
+HasKind s k = ⊥
 
 module _ (scope : WalkScope) where
   -- an entry at a depth, unless that is less than the least; then what is below it, and what comes after it

@@ -1,24 +1,35 @@
 -- What a step of a walk does.
 use Rattle.std.specs.Prelude.{◌≡◌, ℕ, ◌+◌, ◌-◌, ◌*◌, ◌<◌, ◌≤◌, ◌⊎◌, true, false, cond, length, Option, Some}
-use Rattle.std.specs.Prelude.{None, List, string_bytes, ⊤}
+use Rattle.std.specs.Prelude.{None, List, [], ◌++◌, string_bytes, ⊤}
 use Rattle.std.specs.List.{Contains}
 use Rattle.wax_directory.specs.Counting.{no_counts}
 use Rattle.wax_directory.specs.declared.tally.Tally.{Tally}
 use Rattle.wax_directory.specs.Law.{Law, HoldsLast}
-use Rattle.wax_directory.specs.Shown.{Items, ShowsIn}
+use Rattle.wax_directory.specs.Shown.{IsPlain, Items, Shown, ShowsIn}
+use Rattle.wax_directory.specs.declared.directory.ListItem.{ListItem}
+use Rattle.wax_directory.specs.declared.directory.ListItem.TheVariants as I
+use Rattle.wax_walk.specs.Course.{Ahead, Call, Course, CutsShort, all_ahead, answers, asking, continued, stop}
+use Rattle.wax_walk.specs.Course.{yields}
+use Rattle.wax_walk.specs.declared.error.FaultKind.TheVariants.{BadName, Listing, NotText}
 use Rattle.wax_walk.specs.Forest.{Forest, nothing, followed_by, Pending, pending}
-use Rattle.wax_walk.specs.Given.{Given}
+use Rattle.wax_walk.specs.Given.{Facts, Given, fault}
 use Rattle.wax_walk.specs.View.{WalkView, Accounts, GivesOrStops, IsLast, IsMisplaced, Takes}
 use Rattle.wax_walk.specs.View.{fault_counts, IsErrorAt, IsFolderAt, items_lost, how_many, LacksMemory}
 use Rattle.wax_walk.specs.View.{opens_one}
+use Rattle.wax_directory.specs.declared.directory.FileType.{FileType}
+use Rattle.wax_directory.specs.declared.directory.FileType.TheVariants as F
+use Rattle.wax_tree.specs.declared.location.Location as code
 use Rattle.wax_tree.specs.declared.steps.OpenFolder.{OpenFolder}
 use Rattle.wax_tree.specs.declared.steps.StartPoint.{StartPoint}
 use Rattle.wax_tree.specs.declared.steps.Step.{Step}
 use Rattle.wax_tree.specs.declared.steps.Step.TheVariants.{Gives, GoesOn, Ends}
 use Rattle.wax_tree.specs.declared.steps.Steps.{Steps}
-use Rattle.wax_tree.specs.Plain.{WalkScope, Location, items_forest}
+use Rattle.wax_tree.specs.Courses.{AreNamed, FoundComes, IsNamed, entered_course, items_course}
+use Rattle.wax_tree.specs.Plain.{IsFolder, WalkScope, Location, item_location, items_forest, one_deeper}
+use Rattle.wax_tree.specs.Prefix.{from_last}
 use Rattle.wax_tree.specs.Reaching.{FolderSet, LeadsUnseen, OfEntered, ReachesFrom, no_folders}
 use Rattle.wax_tree.specs.Walking.{if_some, step_given, cursors_of, Rest, HasStopped, allowance, names_left}
+use Rattle.wax_tree.specs.Walking.{ComesAhead, LevelsCome, entry_location, located, scope_of, tree_given}
 use Rattle.wax_tree.specs.Walking.{AtRest, PlainToCome, steps_view, MovesOn, open_lists, entering, begins}
 
 -- the misses, failures and bad names of k are those of n, and those of at most `lost` items besides; n has no
@@ -119,6 +130,77 @@ module _ {D C : Type 0} where
   Decreases old (Gives x) new = items_left new < items_left old
   Decreases old GoesOn new = (items_left new ≤ items_left old) × (steps_left new < steps_left old)
   Decreases old Ends new = ⊤
+
+-- ---- the course of a step
+
+-- what may be ahead of a walk, as one course
+abbrev pub ComesWhole : {D C : Type 0} → Steps D C → Course → Type 0
+ComesWhole w c = (a : Ahead) × ComesAhead w a × (c ≡ all_ahead a)
+
+-- an entry is remembered if it is a folder above this depth
+pub data Enters (most : ℕ) (f : Facts) (old new : Option code.Location) : Type 0 where
+  remembered : (e : code.Location) → new ≡ Some e → located e ≡ one_deeper (entry_location f)
+      → f.kind ≡ F.Folder → f.depth < most → Enters most f old new
+  passed_over : new ≡ old → ¬ ((f.kind ≡ F.Folder) × (f.depth < most)) → Enters most f old new
+
+-- what may be ahead where the open folders come last
+abbrev pub ComesLast : {D C : Type 0} → Steps D C → (Course → Course → Type 0) → Course → Type 0
+ComesLast w comes c = (rest : Course) × LevelsCome (scope_of w) w.levels.items rest × comes rest c
+
+-- what may come of an entry, and then of the rest
+abbrev pub EntryComes : WalkScope → Facts → Course → Course → Type 0
+EntryComes scope f rest c = FoundComes scope [] (entry_location f) rest f.kind c
+
+-- what may come of a place where this kind was found
+abbrev pub PlaceComes : WalkScope → StartPoint → FileType → Course → Course → Type 0
+PlaceComes scope place kind rest c =
+    FoundComes scope (from_last place.names.items) (located place.at) rest kind c
+
+-- what may come of a folder that is entered
+abbrev pub FolderComes : WalkScope → Location → Course → Course → Type 0
+FolderComes scope at rest c = (s : Shown) × IsNamed s × IsFolder s
+    × (c ≡ continued (entered_course scope at s) rest)
+
+-- what may come of an item of the folder at a location
+abbrev pub ItemComes : WalkScope → Location → ListItem → Course → Course → Type 0
+ItemComes scope at (I.Name x kind) rest c =
+    let name = string_bytes x in
+    (IsPlain name × FoundComes scope [] (item_location at name) rest kind c)
+    ⊎ (¬ (IsPlain name) × (c ≡ yields (fault BadName at.path (at.depth - 1)) stop rest))
+ItemComes scope at I.Failed rest c = c ≡ yields (fault Listing at.path (at.depth - 1)) stop rest
+ItemComes scope at I.NotText rest c = c ≡ yields (fault NotText at.path (at.depth - 1)) stop rest
+
+-- what may come of the rest of a listed folder
+abbrev pub RestComes : WalkScope → Location → Course → Course → Type 0
+RestComes scope at rest c = (l : Items) × AreNamed l × (c ≡ continued (items_course scope at l) rest)
+
+-- what may come of an item and then of the rest of its folder
+abbrev pub TakenComes : WalkScope → Location → ListItem → Course → Course → Type 0
+TakenComes scope at x rest c = (d : Course) × RestComes scope at rest d × ItemComes scope at x d c
+
+-- what a step yields, and what is ahead then
+abbrev pub next_course : Step → Ahead → Course
+next_course (Gives x) a = yields (tree_given x) a.below a.after
+next_course GoesOn a = all_ahead a
+next_course Ends a = stop
+
+-- an error of the step cuts the course short after these calls
+abbrev pub IsCutOff : {D C : Type 0} → List Call → Step → Steps D C → Type 0
+IsCutOff calls r new = (x : Given) × (step_given r ≡ Some x) × CutsShort calls x × (new.has_ended ≡ true)
+
+-- what a step makes of the answers of these calls: some course was ahead; whatever is ahead after the step, what
+-- it yielded and that was; or it is cut off
+pub record UsesCourse {D C : Type 0} (calls : List Call) (comes : Course → Type 0) (r : Step) (new : Steps D C) :
+    Type 0 where
+  pub some : (c : Course) × comes c
+  pub follows : ((a : Ahead) → ComesAhead new a → comes (next_course r a)) ⊎ IsCutOff calls r new
+
+-- what a step does that asks the directory
+pub record StepCourse {D C : Type 0} (law : Law D C) (before : D) (comes : Course → Type 0) (r : Step)
+    (new : Steps D C) : Type 0 where
+  pub calls : List Call
+  pub answered : law.answered new.directory ≡ law.answered before ++ answers calls
+  pub uses : UsesCourse calls (λ c. comes (asking calls c)) r new
 
 -- what is to come of a folder's items, and after them of a walk at rest
 abbrev pub listing_pending : WalkScope → Location → Items → Rest → ℕ → Pending Given

@@ -1,5 +1,5 @@
 -- What is to come of a walk, by its state.
-use Rattle.std.specs.Prelude.{◌≡◌, ℕ, ◌+◌, ◌-◌, ◌^◌, ◌≤◌, true, false, cond, length, map, List, []}
+use Rattle.std.specs.Prelude.{◌≡◌, ℕ, ◌+◌, ◌-◌, ◌^◌, ◌≤◌, Bool, true, false, cond, length, map, List, []}
 use Rattle.std.specs.Prelude.{◌∷◌, ◌++◌, Option, Some, None, Result, string_bytes, ◌⊎◌, ⊤}
 use Rattle.std.specs.List.{Contains}
 use Rattle.wax_directory.specs.declared.directory.FileType.{FileType}
@@ -11,14 +11,16 @@ use Rattle.wax_walk.specs.declared.entry.TreeEntry.{TreeEntry}
 use Rattle.wax_walk.specs.Entries.{facts_of, given_outcome}
 use Rattle.wax_walk.specs.Forest.{Forest, nothing, lists, followed_by, Pending, all_pending}
 use Rattle.wax_walk.specs.Given.{Facts, Given}
+use Rattle.wax_walk.specs.Course.{Ahead, Begins, Course, ahead, continued, stop}
 use Rattle.wax_walk.specs.View.{WalkView}
+use Rattle.wax_tree.specs.Courses.{AlongComes, AreNamed, IsNamed, entered_course, items_course}
 use Rattle.wax_tree.specs.declared.location.Location as code
 use Rattle.wax_tree.specs.declared.steps.OpenFolder.{OpenFolder}
 use Rattle.wax_tree.specs.declared.steps.StartPoint.{StartPoint}
 use Rattle.wax_tree.specs.declared.steps.Step.{Step}
 use Rattle.wax_tree.specs.declared.steps.Step.TheVariants.{Gives}
 use Rattle.wax_tree.specs.declared.steps.Steps.{Steps}
-use Rattle.wax_tree.specs.Plain.{WalkScope, Location, count, count_shown, items_forest, unlisted}
+use Rattle.wax_tree.specs.Plain.{IsFolder, WalkScope, Location, count, count_shown, items_forest, unlisted}
 use Rattle.wax_tree.specs.Prefix.{ArePlain, from_last, walk_from}
 use Rattle.wax_tree.specs.Reaching.{MayFailAt, MayFailBelow}
 
@@ -61,19 +63,6 @@ entered_forest scope at s = unlisted scope at.path (at.depth - 1)
 abbrev pub IsAlone : {C : Type 0} → Option StartPoint → Option code.Location → List (OpenFolder C) → Type 0
 IsAlone None e levels = ⊤
 IsAlone (Some place) e levels = (e ≡ None) × (levels ≡ [])
-
--- what is shown is a folder, which may be one that can't be listed
-abbrev pub IsFolder : Shown → Type 0
-IsFolder (a_folder l) = ⊤
-IsFolder a_sealed = ⊤
-IsFolder s = ⊥
-
--- something is shown, of this file type
-abbrev pub HasKind : Shown → FileType → Type 0
-HasKind (a_leaf link) k = k ≡ leaf_kind link
-HasKind (a_folder l) k = k ≡ F.Folder
-HasKind a_sealed k = k ≡ F.Folder
-HasKind s k = ⊥
 
 abbrev pub cursors_of : {C : Type 0} → List (OpenFolder C) → List C
 cursors_of levels = map (λ level. level.cursor) levels
@@ -152,6 +141,46 @@ entering_after (Some place) e = 0
 abbrev pub entering : {D C : Type 0} → Steps D C → ℕ
 entering w = cond w.has_ended 0 (entering_after w.first w.entered)
 
+module _ (scope : WalkScope) where
+  -- what may come of the start point, if there is one, and then `after`
+  abbrev pub FirstComes : Option StartPoint → Course → Course → Type 0
+  FirstComes None after c = c ≡ after
+  FirstComes (Some place) after c =
+      AlongComes scope (from_last place.names.items) (located place.at) after c
+
+  -- what may come of the last yielded folder, if it is to be entered
+  abbrev pub EnteredComes : Option StartPoint → Option code.Location → Course → Type 0
+  EnteredComes (Some place) e c = c ≡ stop
+  EnteredComes None None c = c ≡ stop
+  EnteredComes None (Some e) c = (s : Shown) × IsNamed s × IsFolder s
+      × (c ≡ entered_course scope (located e) s)
+
+  -- what may come of the open folders, outermost first
+  abbrev pub LevelsCome : {C : Type 0} → List (OpenFolder C) → Course → Type 0
+  LevelsCome [] c = c ≡ stop
+  LevelsCome (level ∷ inner) c = (l : Items) × AreNamed l × (g : Course) × LevelsCome inner g
+      × (c ≡ continued g (items_course scope (located level.folder) l))
+
+-- nothing is ahead of a walk that has ended
+abbrev pub AheadUnless : Bool → Type 0 → Ahead → Type 0
+AheadUnless true going a = a ≡ ahead stop stop
+AheadUnless false going a = going
+
+module _ {D C : Type 0} where
+  -- what may be ahead of a walk that goes on, by what is in the folders that it has to list
+  pub record GoesAhead (w : Steps D C) (a : Ahead) : Type 0 where
+    pub back : Course
+    pub first : FirstComes (scope_of w) w.first back a.after
+    pub entered : EnteredComes (scope_of w) w.first w.entered a.below
+    pub levels : LevelsCome (scope_of w) w.levels.items back
+
+  abbrev pub ComesAhead : Steps D C → Ahead → Type 0
+  ComesAhead w a = AheadUnless w.has_ended (GoesAhead w a) a
+
+  -- the same, as far as it is known
+  abbrev pub MayBeAhead : Steps D C → Ahead → Type 0
+  MayBeAhead w a = (b : Ahead) × ComesAhead w b × Begins a.below b.below × Begins a.after b.after
+
 module _ {D C : Type 0} (law : Law D C) where
   -- the walk has no start point and no folder to enter, hasn't ended, and has `rest` yet to yield
   pub record AtRest (w : Steps D C) (rest : Rest) : Type 0 where
@@ -185,6 +214,7 @@ module _ {D C : Type 0} (law : Law D C) where
   abbrev pub steps_view : Steps D C → WalkView D
   steps_view w = record {
     to_come = PlainToCome w;
+    may_come = MayBeAhead w;
     directory = w.directory;
     listings_left = allowance w;
     names_left = names_left w;

@@ -8,6 +8,11 @@ ghost use Rattle.wax_directory.specs.Counting.{kind_counts, item_counts};
 ghost use Rattle.wax_directory.specs.Shown.{Items, Shown, ShowsIn, first_item, rest_of};
 ghost use Rattle.wax_directory.specs.declared.directory.ListItem.{ListItem};
 ghost use Rattle.wax_walk.specs.Entries.{facts_of};
+ghost use Rattle.wax_directory.specs.History.{listed};
+ghost use Rattle.wax_walk.specs.Course.{call};
+ghost use Rattle.wax_tree.specs.Courses.{AlongComes};
+ghost use Rattle.wax_tree.specs.Stepping.{ComesLast, ComesWhole, Enters, EntryComes, FolderComes, ItemComes};
+ghost use Rattle.wax_tree.specs.Stepping.{PlaceComes, RestComes, StepCourse, TakenComes, UsesCourse};
 ghost use Rattle.wax_walk.specs.Forest.{Forest, Pending, followed_by};
 ghost use Rattle.wax_walk.specs.Given.{Given, fault};
 ghost use Rattle.wax_walk.specs.View.{Accounts, FeedStep};
@@ -21,7 +26,8 @@ ghost use Rattle.wax_tree.specs.Reaching.{ReachesFrom, no_folders};
 ghost use Rattle.wax_tree.specs.Stepping.{KeepsLists, Remembers, StepPlaces};
 ghost use Rattle.wax_tree.specs.Stepping.{WeaklyDecreases, Decreases, StepIs, Continues, IsPopped};
 ghost use Rattle.wax_tree.specs.Stepping.{listing_pending, StepAnswers, IsStep, items_left};
-ghost use Rattle.wax_tree.specs.Walking.{HasKind, IsFolder, EnteredShows, PlainToCome, entered_forest};
+ghost use Rattle.wax_tree.specs.Walking.{EnteredShows, PlainToCome, entered_forest};
+ghost use Rattle.wax_tree.specs.Plain.{HasKind, IsFolder};
 ghost use Rattle.wax_tree.specs.Walking.{entry_location, located, scope_of, steps_view};
 ghost use Rattle.wax_tree.specs.Walking.{names_left, begins, step_given, tree_answer, Rest, open_lists};
 ghost use Rattle.wax_tree.specs.Walking.{if_some};
@@ -206,6 +212,8 @@ impl<D: Directory> Steps<D> {
             (below_forest (scope_of self.old) (entry_location f) s) n) }
         ensures remembered { IfOk result (λ _. ((facts_of entry.now).kind ≡ FileType.Folder)
             → (facts_of entry.now).depth < self.old.max → if_some self.new.entered 1 ≡ 1) }
+        ensures enters { IfOk result (λ _. Enters self.old.max (facts_of entry.now) self.old.entered
+            self.new.entered) }
         ensures folder { let f = facts_of entry.now in
             (self.old.entered ≡ None) → (p : List ℕ) (n : ℕ) → OfEntered self.new.entered p n
             → OneFolder f.path (f.depth + 1) p n × (f.kind ≡ FileType.Folder) × (f.depth < self.old.max) }
@@ -234,6 +242,9 @@ impl<D: Directory> Steps<D> {
             → HasKind s f.kind
             → Continues D.law self.old (entry_forest (scope_of self.old) (entry_location f) f.kind s)
             (count_shown s) result self.new }
+        ensures course { let f = facts_of entry in (self.old.has_ended ≡ false) → (self.old.first ≡ None)
+            → (self.old.entered ≡ None) → (f.root ≡ string_bytes self.old.root)
+            → UsesCourse [] (ComesLast self.old (EntryComes (scope_of self.old) f)) result self.new }
         ensures measure { (self.old.entered ≡ None) → IncreasesBy 1 2 self.old result self.new }
     {
         let Ok(()) = self.enter_later(&entry) else {
@@ -263,6 +274,9 @@ impl<D: Directory> Steps<D> {
             → at.depth + length place.names.items ≤ 2 ^ 64 - 1 → (self.old.levels.items ≡ [])
             → Continues D.law self.old (walk_from (scope_of self.old) at s names) (count_shown s)
             result self.new }
+        ensures course { (self.old.has_ended ≡ false) → (self.old.first ≡ None)
+            → (self.old.entered ≡ None)
+            → UsesCourse [] (ComesLast self.old (PlaceComes (scope_of self.old) place kind)) result self.new }
         ensures measure { (self.old.entered ≡ None)
             → IncreasesByNames (length place.names.items) self.old result self.new }
     {
@@ -299,6 +313,10 @@ impl<D: Directory> Steps<D> {
             → at.depth + length place.names.items ≤ 2 ^ 64 - 1 → (self.old.levels.items ≡ [])
             → Continues D.law self.old (walk_from (scope_of self.old) at s names) (count_shown s)
             result self.new }
+        ensures course { (self.old.has_ended ≡ false) → (self.old.first ≡ None)
+            → (self.old.entered ≡ None)
+            → let comes = AlongComes (scope_of self.old) (from_last place.names.items) (located place.at) in
+            StepCourse D.law self.old.directory (ComesLast self.old comes) result self.new }
         ensures measure { (self.old.entered ≡ None)
             → IncreasesByNames (length place.names.items) self.old result self.new }
     {
@@ -329,6 +347,10 @@ impl<D: Directory> Steps<D> {
             → IsFolder s
             → let entered = entered_forest (scope_of self.old) (located folder) s in
             Continues D.law self.old (followed_by entered) (count_shown s) result self.new }
+        ensures course { (self.old.has_ended ≡ false) → (self.old.first ≡ None)
+            → (self.old.entered ≡ None)
+            → let comes = FolderComes (scope_of self.old) (located folder) in
+            StepCourse D.law self.old.directory (ComesLast self.old comes) result self.new }
         ensures measure { IncreasesBy 0 1 self.old result self.new }
     {
         match self.directory.open(self.alloc, folder.path.as_str()) {
@@ -364,6 +386,11 @@ impl<D: Directory> Steps<D> {
             → Some (listed_of x) ≡ first_item l → ShowsIn (D.law.shows self.old.directory) at.path l
             → Continues D.law self.old (first_item_forest (scope_of self.old) at l) (own_count l) result
             self.new }
+        ensures course { (self.old.has_ended ≡ false) → (self.old.first ≡ None)
+            → (self.old.entered ≡ None) → (at : Place) (x : ListItem)
+            → IsFound at (string_bytes self.old.root) x found → at.depth ≡ depth
+            → let comes = ItemComes (scope_of self.old) at x in
+            UsesCourse [] (ComesLast self.old comes) result self.new }
         ensures measure { (self.old.entered ≡ None) → IncreasesBy 1 2 self.old result self.new }
     {
         match found {
@@ -395,6 +422,10 @@ impl<D: Directory> Steps<D> {
             → rest.count + count l ≤ items
             → let p = listing_pending (scope_of self.old) (located folder) l rest items in
             StepIs D.law self.old p result self.new }
+        ensures course { (self.old.has_ended ≡ false) → (self.old.first ≡ None)
+            → (self.old.entered ≡ None)
+            → let at = located folder in let calls = call at.path (listed (listed_of item)) ∷ [] in
+            UsesCourse calls (ComesLast self.old (TakenComes (scope_of self.old) at item)) result self.new }
         ensures measure { (self.old.entered ≡ None) → (self.old.has_ended ≡ false)
             → WeaklyDecreases self.old result self.new }
     {
@@ -427,6 +458,10 @@ impl<D: Directory> Steps<D> {
             → rest.count + count l ≤ items
             → let p = listing_pending (scope_of self.old) (located level.folder) l rest items in
             StepIs D.law self.old p result self.new }
+        ensures course { (self.old.has_ended ≡ false) → (self.old.first ≡ None)
+            → (self.old.entered ≡ None)
+            → let comes = RestComes (scope_of self.old) (located level.folder) in
+            StepCourse D.law self.old.directory (ComesLast self.old comes) result self.new }
         ensures measure { (self.old.entered ≡ None) → (self.old.has_ended ≡ false)
             → WeaklyDecreases self.old result self.new }
     {
@@ -445,6 +480,7 @@ impl<D: Directory> Steps<D> {
         ensures places { StepPlaces (MayReach self.old) (MayReach self.old) self.old.max result self.new }
         ensures step { (p : Pending Given) → PlainToCome D.law self.old p
             → StepIs D.law self.old p result self.new }
+        ensures course { StepCourse D.law self.old.directory (ComesWhole self.old) result self.new }
         ensures measure { Decreases self.old result self.new }
     {
         if self.has_ended {

@@ -15,6 +15,13 @@ use Rattle.wax_tree.proofs.UsingAnswers.{kind_no_listing, none_begins, stopped_u
 use Rattle.wax_tree.proofs.Stepping.{gives_fault}
 use Rattle.wax_tree.specs.Reaching.{OfAny, OnWay, ReachesFrom, no_folders}
 use Rattle.wax_tree.proofs.Reaching.{fault_places, leads_here, reaches_more, stopped_places, way_here}
+use Rattle.wax_tree.proofs.Coursing.{fault_uses, memory_uses, stopped_uses, uses_more, some_along}
+use Rattle.std.proofs.Common.{[], ◌∷◌, ◌∙◌, ◌++◌}
+use Rattle.std.proofs.lemmas.List.{append-nil}
+use Rattle.wax_directory.specs.History.{absent, found, unseen}
+use Rattle.wax_walk.specs.Course.{asking, call}
+use Rattle.wax_tree.specs.Courses.{AlongComes, is_failing, is_missing, is_there}
+use Rattle.wax_tree.specs.Stepping.{ComesLast}
 use Rattle.wax_tree.proofs.steps.Steps.begin.Goals as goal
 
 pub returns-in-Ok-Some-clause-continues : goal.returns-in-Ok-Some-clause-continues
@@ -145,3 +152,56 @@ returns-in-Ok-Some-clause-answers g c running none entered =
     }) w (open_lists w) 0 1 0 c.kind.new.self c.follow.result c.follow.new.self o.counted no.items (omega arith)
     (λ n. omega arith) running none entered (λ n. no.opened)
     (λ n. omega (arith, no.opened, no.ended, c.follow.ensures.lists n)) (c.follow.ensures.uses_answer running none)
+
+pub returns-in-Ok-Some-clause-course : goal.returns-in-Ok-Some-clause-course
+returns-in-Ok-Some-clause-course g c going first entered =
+    let w = c.args.self.now in
+    let path = string_bytes c.args.place.at.path in
+    let o = rw (c.as_str.ensures.value, c.in-Ok-Some.field-0-is) at c.in-Ok-Some.ensures in
+    let calls = call path (found path c.in-Ok-Some.kind) ∷ [] in record {
+      calls = calls;
+      answered = ap g.D.Directory.law.answered (c.follow.ensures.uses_answer going first).directory
+          ∙ (o.answered ∙ ap (λ p. g.D.Directory.law.answered w.directory ++ found p c.in-Ok-Some.kind ∷ [])
+          c.as_str.ensures.value);
+      uses = uses_more calls _ _ c.follow.result c.follow.new.self
+          (λ d h. (h.0, h.1, is_there c.in-Ok-Some.kind d h.2 refl)) (c.follow.ensures.course going first entered);
+    }
+
+pub returns-in-Ok-None-clause-course : goal.returns-in-Ok-None-clause-course
+returns-in-Ok-None-clause-course g c going first entered =
+    let w = c.args.self.now in
+    let path = string_bytes c.args.place.at.path in
+    let o = rw (c.as_str.ensures.value, c.in-Ok-None.field-0-is) at c.in-Ok-None.ensures in
+    let calls = call path (absent path) ∷ [] in record {
+      calls = calls;
+      answered = ap (λ v. g.D.Directory.law.answered v.directory) c.stop.ensures.ended
+          ∙ (o.answered ∙ ap (λ p. g.D.Directory.law.answered w.directory ++ absent p ∷ []) c.as_str.ensures.value);
+      uses = let l = some_along w c.args.place in stopped_uses calls _ c.stop.result c.stop.new.self
+          (fault NotFound path c.args.place.at.depth) c.stop.ensures.gives
+          (ap (λ v. v.has_ended) c.stop.ensures.ended) (l.1.0, l.1.1, is_missing refl);
+    }
+
+pub returns-in-Err-Failed-clause-course : goal.returns-in-Err-Failed-clause-course
+returns-in-Err-Failed-clause-course g c going first entered =
+    let w = c.args.self.now in
+    let path = string_bytes c.args.place.at.path in
+    let o = rw (c.as_str.ensures.value, c.in-Err-Failed.field-0-is) at c.in-Err-Failed.ensures in
+    let v = record w { directory = c.kind.new.self } in
+    let calls = call path (unseen path) ∷ [] in record {
+      calls = calls;
+      answered = o.answered ∙ ap (λ p. g.D.Directory.law.answered w.directory ++ unseen p ∷ []) c.as_str.ensures.value;
+      uses = fault_uses calls
+          (λ rest d. AlongComes (scope_of w) (from_last c.args.place.names.items) (located c.args.place.at) rest
+          (asking calls d)) v v _ (fault Listing path c.args.place.at.depth) refl going first entered refl
+          (λ rest. is_failing refl);
+    }
+
+pub returns-in-Err-Memory-clause-course : goal.returns-in-Err-Memory-clause-course
+returns-in-Err-Memory-clause-course g c going first entered =
+    let w = c.args.self.now in
+    let o = rw (c.as_str.ensures.value, c.in-Err-Memory.field-0-is) at c.in-Err-Memory.ensures in record {
+      calls = [];
+      answered = ap (λ v. g.D.Directory.law.answered v.directory) c.fail.ensures.ended ∙ o.answered;
+      uses = memory_uses [] _ c.fail.result c.fail.new.self (some_along w c.args.place) c.fail.ensures.memory
+          (ap (λ v. v.has_ended) c.fail.ensures.ended);
+    }

@@ -9,6 +9,12 @@ use Rattle.wax_tree.proofs.Stepping.{enters, enters_sealed}
 use Rattle.wax_tree.specs.Reaching.{IsOf, OfAny, ReachesFrom, no_folders}
 use Rattle.wax_tree.proofs.Reaching.{failed_places, fault_places, leads_here, pushed_reaches, reaches_more}
 use Rattle.wax_tree.proofs.Reaching.{silent_places}
+use Rattle.wax_tree.proofs.Coursing.{fault_uses, memory_uses, opened_uses, some_folder, some_opened}
+use Rattle.wax_directory.specs.History.{opened, refused}
+use Rattle.wax_walk.specs.Course.{asking, asks, call, stop, yields}
+use Rattle.wax_directory.specs.Shown.{a_sealed}
+use Rattle.wax_tree.specs.Stepping.{ComesLast, FolderComes}
+use Rattle.wax_tree.specs.Walking.{scope_of}
 use Rattle.wax_tree.proofs.steps.Steps.enter.Goals as goal
 use Rattle.wax_tree.proofs.steps.Steps.enter.Goals.{in-Ok-push, in-Err}
 use Rattle.std.proofs.Common.{◌≡◌, ◌+◌, ◌∙◌, arith, cond, length, length-append, true}
@@ -145,3 +151,53 @@ returns-in-Err-Memory-clause-answers g c running first entered =
     }) w (open_lists w) 1 (begins w) 0 d _ _ o.counted refl (omega arith) (λ n. omega arith)
     running first entered (λ n. absurd (n tt)) (λ n. absurd (n tt))
     (failed_uses_answer _ (record w { directory = d }) (counted_same _ 1) (omega arith) (omega arith)))
+
+pub returns-after-push-clause-course : goal.returns-after-push-clause-course
+returns-after-push-clause-course g c going first entered =
+    let w = c.args.self.now in
+    let d = c.open.new.self in
+    let law = g.D.Directory.law in
+    let path = string_bytes c.args.folder.path in
+    let calls = call path (opened path) ∷ [] in
+    let answered = c.in-Ok.ensures.answered ∙ ap (λ p. law.answered w.directory ++ opened p ∷ []) c.as_str.ensures.value in
+    elim c.match-push.branch [
+      | in-Ok-push v ↦ rw (v.self-is, v.result-is) (record {
+          calls = calls;
+          answered = answered;
+          uses = opened_uses w (record w { directory = d; levels = c.push.new.self })
+              (record { folder = c.args.folder; cursor = c.in-Ok.cursor }) v.in-Ok-push.ensures.items refl going
+              first entered;
+        })
+      | in-Err v ↦ rw (v.self-is, v.result-is, v.fail.ensures.memory, v.fail.ensures.ended) (record {
+          calls = calls;
+          answered = answered;
+          uses = memory_uses calls _ (Gives (Err Memory)) _ (some_opened w c.args.folder) refl refl;
+        })
+    ]
+
+pub returns-in-Err-Failed-clause-course : goal.returns-in-Err-Failed-clause-course
+returns-in-Err-Failed-clause-course g c going first entered =
+    let w = c.args.self.now in
+    let law = g.D.Directory.law in
+    let path = string_bytes c.args.folder.path in
+    let o = rw c.in-Err-Failed.field-0-is at c.in-Err-Failed.ensures in
+    let v = record w { directory = c.open.new.self } in
+    let calls = call path (refused path) ∷ [] in record {
+      calls = calls;
+      answered = o.answered ∙ ap (λ p. law.answered w.directory ++ refused p ∷ []) c.as_str.ensures.value;
+      uses = fault_uses calls
+          (λ rest d. FolderComes (scope_of w) (located c.args.folder) rest (asking calls d)) v v _
+          (fault Listing path c.saturating_sub-depth.result) refl going first entered refl
+          (λ rest. (a_sealed, tt, tt, ap (λ n. asks (call path (refused path)) (yields (fault Listing path n) stop rest))
+          c.saturating_sub-depth.ensures));
+    }
+
+pub returns-in-Err-Memory-clause-course : goal.returns-in-Err-Memory-clause-course
+returns-in-Err-Memory-clause-course g c going first entered =
+    let w = c.args.self.now in
+    let o = rw c.in-Err-Memory.field-0-is at c.in-Err-Memory.ensures in record {
+      calls = [];
+      answered = ap (λ v. g.D.Directory.law.answered v.directory) c.fail-in-Err-Memory.ensures.ended ∙ o.answered;
+      uses = memory_uses [] _ c.fail-in-Err-Memory.result c.fail-in-Err-Memory.new.self (some_folder w c.args.folder)
+          c.fail-in-Err-Memory.ensures.memory (ap (λ v. v.has_ended) c.fail-in-Err-Memory.ensures.ended);
+    }

@@ -8,7 +8,8 @@ use Rattle.wax_walk.specs.Given.{Facts, fault}
 use Rattle.wax_tree.specs.Prefix.{from_last, walk_from}
 use Rattle.wax_tree.specs.Stepping.{Continues, StepIs, StepPlaces}
 use Rattle.wax_tree.specs.Plain.{count_shown, entry_forest}
-use Rattle.wax_tree.specs.Walking.{HasKind, entry_location, scope_of, located}
+use Rattle.wax_tree.specs.Walking.{entry_location, scope_of, located}
+use Rattle.wax_tree.specs.Plain.{HasKind}
 use Rattle.wax_tree.proofs.Showing.{none_left, plain_is, from_last_end, follows_leaf}
 use Rattle.wax_tree.proofs.Locations.{candidate_is, depth_is, path_is}
 use Rattle.wax_tree.proofs.UsingAnswers.{leaf_counted, stopped_uses_answer, stops_with}
@@ -17,6 +18,10 @@ use Rattle.wax_tree.specs.declared.steps.StartPoint.{StartPoint}
 use Rattle.wax_tree.specs.Reaching.{LeadsUnseen, OfAny, OnWay, OneFolder, ReachesFrom, no_folders}
 use Rattle.wax_tree.proofs.Reaching.{leads_here, leads_more, next_reaches, places_more, reaches_more}
 use Rattle.wax_tree.proofs.Reaching.{silent_places, stopped_places, way_here}
+use Rattle.wax_tree.proofs.Coursing.{follows_uses, memory_uses, misplaced_place, some_place, uses_moved}
+use Rattle.wax_tree.specs.Courses.{FoundComes}
+use Rattle.wax_tree.specs.Stepping.{ComesLast, EntryComes, UsesCourse}
+use Rattle.wax_tree.proofs.Coursing as course
 use Rattle.wax_tree.proofs.steps.Steps.follow.Goals as goal
 use Rattle.std.proofs.Common.{cond}
 use Rattle.wax_tree.specs.Walking.{begins, names_left}
@@ -140,3 +145,54 @@ returns-clause-uses_answer g c running first =
     silent_uses_answer _ w (record w { first = Some next }) 0 0 (omega arith)
     (λ going none entered. none_either w.has_ended 0 refl) refl refl (omega arith) (omega (arith, long))
     (kind_counted c.args.kind 0) (λ e. refl) (omega (arith, begun))
+
+pub returns-in_default-clone-clause-course : goal.returns-in_default-clone-clause-course
+returns-in_default-clone-clause-course g c going first entered =
+    memory_uses [] _ c.fail.result c.fail.new.self (some_place c.args.self.now c.args.place c.args.kind)
+    c.fail.ensures.memory (ap (λ v. v.has_ended) c.fail.ensures.ended)
+
+pub returns-in_default-below-clause-course : goal.returns-in_default-below-clause-course
+returns-in_default-below-clause-course g c going first entered =
+    memory_uses [] _ c.fail-in_default-below.result c.fail-in_default-below.new.self
+    (some_place c.args.self.now c.args.place c.args.kind) c.fail-in_default-below.ensures.memory
+    (ap (λ v. v.has_ended) c.fail-in_default-below.ensures.ended)
+
+pub returns-in_default-clause-course : goal.returns-in_default-clause-course
+returns-in_default-clause-course g c going first entered =
+    let w = c.args.self.now in
+    let none : c.args.place.names.items ≡ [] = none_left c.args.place.names.items
+    (λ i. let bad : false ≡ true = c.in_default.ensures.variant.1
+    (omega (arith, i, c.args.place.names.ok.0)) in (cc)) in
+    let root : string_bytes c.in-Ok.root ≡ string_bytes w.root = c.in-Ok.ensures.cases in
+    let given = subst (λ (f : Facts). (f.root ≡ string_bytes w.root)
+    → UsesCourse [] (ComesLast w (EntryComes (scope_of w) f)) c.give.result c.give.new.self) c.new.ensures
+    (c.give.ensures.course going first entered) root in
+    uses_moved [] _ _ c.give.result c.give.new.self (λ d h. (
+      h.0,
+      h.1,
+      subst (λ names. FoundComes (scope_of w) names (located c.args.place.at) h.0 c.args.kind d)
+          (sym (ap from_last none)) h.2,
+    )) given
+
+pub returns-then-ne-clause-course : goal.returns-then-ne-clause-course
+returns-then-ne-clause-course g c going first entered =
+    let w = c.args.self.now in
+    let no_folder : c.args.kind ≡ Folder → ⊥ = search rules in
+    let names : from_last c.args.place.names.items ≡ string_bytes c.in-Some.name ∷ from_last
+    c.pop.new.self.items = ap from_last c.in-Some.ensures.items ∙ from_last_end c.pop.new.self.items
+    c.in-Some.name in
+    course.stopped_uses [] _ c.stop.result c.stop.new.self
+    (fault NotAFolder (string_bytes c.args.place.at.path) c.args.place.at.depth) c.stop.ensures.gives
+    (ap (λ v. v.has_ended) c.stop.ensures.ended)
+    (misplaced_place w c.args.place c.args.kind _ _ names no_folder)
+
+pub returns-clause-course : goal.returns-clause-course
+returns-clause-course g c going first entered =
+    let w = c.args.self.now in
+    let next : StartPoint = record { at = c.in-Ok-below.at; names = c.pop.new.self } in
+    let folder : c.args.kind ≡ Folder = search rules in
+    let below = rw c.as_str.ensures.value at c.in-Ok-below.ensures in
+    let names : from_last c.args.place.names.items ≡ string_bytes c.in-Some.name ∷ from_last
+    c.pop.new.self.items = ap from_last c.in-Some.ensures.items ∙ from_last_end c.pop.new.self.items
+    c.in-Some.name in
+    rw folder (follows_uses w c.args.place next (string_bytes c.in-Some.name) names below going)

@@ -1,4 +1,4 @@
-use Rattle.std.proofs.Common.{◌≡◌, ap, arith}
+use Rattle.std.proofs.Common.{◌≡◌, ap, arith, []}
 use Rattle.std.specs.Prelude.{Ok}
 use Rattle.wax_walk.specs.Entries.{facts_of}
 use Rattle.wax_walk.specs.Given.{entry, kept}
@@ -10,6 +10,7 @@ use Rattle.std.proofs.Common.{◌+◌, ◌∙◌, refl}
 use Rattle.wax_tree.specs.Stepping.{nothing_asked}
 use Rattle.wax_tree.specs.Walking.{allowance, begins, entering, names_left}
 use Rattle.wax_tree.proofs.UsingAnswers.{counted_same, entered_uses_answer, one_enters}
+use Rattle.wax_tree.proofs.Coursing.{gives_uses, memory_uses, passes_uses, some_entry}
 use Rattle.wax_tree.proofs.Listing.{remembers_one}
 use Rattle.wax_tree.proofs.UsingAnswers.{memory_uses_answer, silent_uses_answer}
 
@@ -64,3 +65,28 @@ returns-clause-uses_answer g c =
     (λ going first entered. remembers_one (facts_of c.args.entry) w new rest going first entered
     c.in-Ok.ensures.remembered
     (λ p n i. let t = c.in-Ok.ensures.folder entered p n i in (t.1, t.2)))
+
+pub returns-in_default-clause-course : goal.returns-in_default-clause-course
+returns-in_default-clause-course g c going first entered root =
+    let w = c.args.self.now in
+    memory_uses [] _ c.fail.result c.fail.new.self (some_entry w (facts_of c.args.entry)) c.fail.ensures.memory
+    (ap (λ v. v.has_ended) c.fail.ensures.ended)
+
+pub returns-then-depth-self-clause-course : goal.returns-then-depth-self-clause-course
+returns-then-depth-self-clause-course g c going first entered root =
+    let w = c.args.self.now in
+    let rest = c.enter_later.ensures.rest in
+    let min : c.enter_later.new.self.min ≡ w.min = ap (λ v. v.min) rest in
+    passes_uses w c.enter_later.new.self (facts_of c.args.entry) rest going first entered c.in-Ok.ensures.enters
+    (omega (arith, c.depth.ensures, c.if-depth-self.true, min))
+
+pub returns-clause-course : goal.returns-clause-course
+returns-clause-course g c going first entered root =
+    let w = c.args.self.now in
+    let f = facts_of c.args.entry in
+    let rest = c.enter_later.ensures.rest in
+    let min : c.enter_later.new.self.min ≡ w.min = ap (λ v. v.min) rest in
+    let given : tree_given (Ok c.args.entry) ≡ plain_entry (scope_of w) (entry_location f) f.kind =
+    ap (λ v. entry kept (record f { root = v })) root in
+    gives_uses w c.enter_later.new.self f rest going first entered c.in-Ok.ensures.enters (Ok c.args.entry) given
+    (omega (arith, c.depth.ensures, c.if-depth-self.false, min))

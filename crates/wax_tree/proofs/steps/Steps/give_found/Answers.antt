@@ -10,6 +10,9 @@ use Rattle.wax_tree.proofs.Finding.{found_entry, found_root, found_fault, entry_
 use Rattle.wax_tree.proofs.Resting.{comes_rest}
 use Rattle.wax_tree.proofs.Stepping.{gives_fault}
 use Rattle.wax_tree.proofs.Reaching.{entry_places, found_places}
+use Rattle.wax_tree.proofs.Coursing.{entry_item, fault_item, fault_uses, uses_moved}
+use Rattle.std.proofs.Common.{[], ◌∙◌}
+use Rattle.wax_tree.specs.Stepping.{ItemComes}
 use Rattle.wax_tree.proofs.steps.Steps.give_found.Goals as goal
 
 pub returns-in-Entry-clause-uses_answer : goal.returns-in-Entry-clause-uses_answer
@@ -58,3 +61,23 @@ pub returns-in-Fault-clause-places : goal.returns-in-Fault-clause-places
 returns-in-Fault-clause-places g c none at x f d =
     found_places c.args.self.now at x c.in-Fault.kind c.in-Fault.path c.saturating_sub.result c.args.depth
     (rw c.in-Fault.is at f) c.saturating_sub.ensures none
+
+pub returns-in-Entry-clause-course : goal.returns-in-Entry-clause-course
+returns-in-Entry-clause-course g c going first entered at x f d =
+    let w = c.args.self.now in
+    let found = rw c.in-Entry.is at f in
+    let root = found_root (scope_of w) at (g.D.Directory.law.shows w.directory) x c.in-Entry.entry found in
+    uses_moved [] _ _ c.give.result c.give.new.self (λ e h. (
+      h.0,
+      h.1,
+      entry_item (scope_of w) at (string_bytes w.root) x c.in-Entry.entry h.0 e found h.2,
+    )) (c.give.ensures.course going first entered root)
+
+pub returns-in-Fault-clause-course : goal.returns-in-Fault-clause-course
+returns-in-Fault-clause-course g c going first entered at x f d =
+    let w = c.args.self.now in
+    let depth : c.saturating_sub.result ≡ at.depth - 1 = omega (arith, d, c.saturating_sub.ensures) in
+    fault_uses [] (ItemComes (scope_of w) at x) w w _
+    (fault c.in-Fault.kind (string_bytes c.in-Fault.path) c.saturating_sub.result) refl going first entered refl
+    (λ rest. fault_item (scope_of w) at (string_bytes w.root) x c.in-Fault.kind c.in-Fault.path
+    c.saturating_sub.result rest depth (rw c.in-Fault.is at f))

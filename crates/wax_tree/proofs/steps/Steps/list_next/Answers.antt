@@ -5,6 +5,12 @@ use Rattle.wax_tree.proofs.Resting.{rest_moved}
 use Rattle.wax_tree.proofs.UsingAnswers.{step_from}
 use Rattle.wax_tree.proofs.Showing.{shows_in_moved, shows_rest}
 use Rattle.wax_tree.proofs.Stepping.{goes_up}
+use Rattle.wax_tree.proofs.Coursing.{closed_uses, item_taken, memory_uses, some_rest, uses_moved}
+use Rattle.std.proofs.Common.{ap, ◌∙◌, [], ◌∷◌}
+use Rattle.wax_directory.specs.Answers.{listed_of}
+use Rattle.wax_directory.specs.History.{at_end, listed}
+use Rattle.wax_walk.specs.Course.{call}
+use Rattle.wax_tree.specs.Walking.{scope_of}
 use Rattle.wax_tree.proofs.steps.Steps.list_next.Goals as goal
 use Rattle.std.proofs.Common.{◌+◌}
 use Rattle.wax_directory.specs.Counting.{end_counts, item_counts, no_counts}
@@ -85,3 +91,39 @@ returns-in-Ok-Some-clause-answers g c running first entered =
     (omega arith) (λ n. omega arith) running first entered (λ n. one.opened)
     (λ n. omega (arith, one.opened, one.ended, c.take_from.ensures.kept running n))
     (c.take_from.ensures.uses_answer running first)
+
+pub returns-in-Err-clause-course : goal.returns-in-Err-clause-course
+returns-in-Err-clause-course g c going first entered =
+    let w = c.args.self.now in record {
+      calls = [];
+      answered = ap (λ v. g.D.Directory.law.answered v.directory) c.fail.ensures.ended ∙ c.in-Err.ensures.answered;
+      uses = memory_uses [] _ c.fail.result c.fail.new.self (some_rest w c.args.level.folder) c.fail.ensures.memory
+          (ap (λ v. v.has_ended) c.fail.ensures.ended);
+    }
+
+pub returns-in-Ok-None-clause-course : goal.returns-in-Ok-None-clause-course
+returns-in-Ok-None-clause-course g c going first entered =
+    let w = c.args.self.now in
+    let path = string_bytes c.args.level.folder.path in
+    let o = rw c.in-Ok-None.field-0-is at c.in-Ok-None.ensures in record {
+      calls = call path at_end ∷ [];
+      answered = o.answered;
+      uses = closed_uses w (record w { directory = c.next.new.self }) c.args.level.folder refl refl going first
+          entered;
+    }
+
+pub returns-in-Ok-Some-clause-course : goal.returns-in-Ok-Some-clause-course
+returns-in-Ok-Some-clause-course g c going first entered =
+    let w = c.args.self.now in
+    let path = string_bytes c.args.level.folder.path in
+    let x = c.in-Ok-Some.item in
+    let o = rw c.in-Ok-Some.field-0-is at c.in-Ok-Some.ensures in
+    let calls = call path (listed (listed_of x)) ∷ [] in record {
+      calls = calls;
+      answered = ap g.D.Directory.law.answered (c.take_from.ensures.uses_answer going first).directory ∙ o.answered;
+      uses = uses_moved calls _ _ c.take_from.result c.take_from.new.self (λ d h. (
+        h.0,
+        h.1,
+        item_taken (scope_of w) (located c.args.level.folder) x h.0 d h.2,
+      )) (c.take_from.ensures.course going first entered);
+    }

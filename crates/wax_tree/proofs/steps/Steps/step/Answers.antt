@@ -5,6 +5,13 @@ use Rattle.wax_tree.proofs.Showing.{none_left}
 use Rattle.wax_tree.proofs.Stepping.{steps_begin, steps_enter, steps_list, steps_none, steps_ended}
 use Rattle.wax_tree.specs.Reaching.{IsOf, MayReach, OnWay, ReachesFrom}
 use Rattle.wax_tree.proofs.Reaching.{entered_reaches, first_reaches, places_more, popped_reaches}
+use Rattle.wax_tree.proofs.Coursing.{comes_ahead, course_moved, levels_push, stops_so}
+use Rattle.std.proofs.Common.{subst}
+use Rattle.std.proofs.lemmas.List.{append-nil}
+use Rattle.wax_walk.specs.Course.{ahead, continued, stop}
+use Rattle.wax_tree.specs.Stepping.{FolderComes}
+use Rattle.wax_tree.specs.Courses.{entered_course}
+use Rattle.wax_tree.specs.Walking.{EnteredComes, FirstComes, LevelsCome, located, scope_of}
 use Rattle.wax_tree.proofs.steps.Steps.step.Goals as goal
 use Rattle.std.proofs.Common.{◌+◌, cond, length, length-append}
 use Rattle.std.specs.Prelude.{Some}
@@ -167,3 +174,73 @@ returns-in-Some-pop-clause-is_step g c =
     (record (steps_view law mid) { listings_open = open_lists mid + 1; to_open = 0 }) c.list_next.result run refl
     refl refl refl refl begun enters refl (omega (arith, before, after, long))
     (omega (arith, names)) (c.list_next.ensures.answers going none c.take-2.ensures.after) c.list_next.ensures.remembers
+
+pub returns-then-self-clause-course : goal.returns-then-self-clause-course
+returns-then-self-clause-course g c =
+    stops_so g.D.Directory.law c.args.self.now c.args.self.now refl (inl c.if-self.true)
+
+pub returns-in-Some-clause-course : goal.returns-in-Some-clause-course
+returns-in-Some-clause-course g c =
+    let w = c.args.self.now in
+    let scope = scope_of w in
+    let going : w.has_ended ≡ false = c.if-self.false in
+    let some : w.first ≡ Some c.in-Some.place = sym c.take.ensures.value ∙ c.in-Some.is in
+    course_moved g.D.Directory.law w.directory _ _ c.begin.result c.begin.new.self (λ d h. (
+      ahead stop d,
+      comes_ahead w (ahead stop d) going (record {
+        back = h.0;
+        first = subst (λ f. FirstComes scope f h.0 d) (sym some) h.2;
+        entered = subst (λ f. EnteredComes scope f w.entered stop) (sym some) refl;
+        levels = h.1;
+      }),
+      refl,
+    )) (c.begin.ensures.course going c.take.ensures.after refl)
+
+pub returns-in-Some-take-clause-course : goal.returns-in-Some-take-clause-course
+returns-in-Some-take-clause-course g c =
+    let w = c.args.self.now in
+    let scope = scope_of w in
+    let going : w.has_ended ≡ false = c.if-self.false in
+    let first : w.first ≡ None = sym c.take.ensures.value ∙ c.in_default.is in
+    let some = sym c.take-2.ensures.value ∙ c.in-Some-take.is in
+    course_moved g.D.Directory.law w.directory _ _ c.enter.result c.enter.new.self (λ d h.
+      let below = entered_course scope (located c.in-Some-take.folder) h.2.0 in (
+      ahead below h.0,
+      comes_ahead w (ahead below h.0) going (record {
+        back = h.0;
+        first = subst (λ f. FirstComes scope f h.0 h.0) (sym first) refl;
+        entered = subst (λ f. EnteredComes scope f w.entered below) (sym first)
+            (subst (λ e. EnteredComes scope None e below) (sym some) (h.2.0, h.2.1, h.2.2, refl));
+        levels = h.1;
+      }),
+      h.2.3,
+    )) (c.enter.ensures.course going c.take.ensures.after c.take-2.ensures.after)
+
+pub returns-in-Some-pop-clause-course : goal.returns-in-Some-pop-clause-course
+returns-in-Some-pop-clause-course g c =
+    let w = c.args.self.now in
+    let scope = scope_of w in
+    let going : w.has_ended ≡ false = c.if-self.false in
+    let first : w.first ≡ None = sym c.take.ensures.value ∙ c.in_default.is in
+    let entered : w.entered ≡ None = sym c.take-2.ensures.value ∙ c.in_default-take.is in
+    course_moved g.D.Directory.law w.directory _ _ c.list_next.result c.list_next.new.self (λ d h. (
+      ahead stop d,
+      comes_ahead w (ahead stop d) going (record {
+        back = d;
+        first = subst (λ f. FirstComes scope f d d) (sym first) refl;
+        entered = subst (λ f. EnteredComes scope f w.entered stop) (sym first)
+            (subst (λ e. EnteredComes scope None e stop) (sym entered) refl);
+        levels = subst (λ ls. LevelsCome scope ls d) (sym c.in-Some-pop.ensures.items)
+            (levels_push scope c.pop.new.self.items c.in-Some-pop.level h.0 d h.1 h.2);
+      }),
+      refl,
+    )) (c.list_next.ensures.course going c.take.ensures.after c.take-2.ensures.after)
+
+pub returns-in-None-clause-course : goal.returns-in-None-clause-course
+returns-in-None-clause-course g c =
+    let w = c.args.self.now in
+    let none : w.levels.items ≡ [] =
+    none_left w.levels.items
+    (λ i. let bad : false ≡ true = c.in-None.ensures.variant.1 (omega (arith, i, w.levels.ok.0)) in (cc)) in
+    stops_so g.D.Directory.law w _ refl (inr (sym c.take.ensures.value ∙ c.in_default.is,
+    sym c.take-2.ensures.value ∙ c.in_default-take.is, none))

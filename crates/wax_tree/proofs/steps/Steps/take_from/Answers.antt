@@ -14,6 +14,11 @@ use Rattle.wax_tree.proofs.Stepping.{saves_after}
 use Rattle.wax_walk.specs.declared.error.FaultKind.TheVariants.{Budget}
 use Rattle.wax_tree.specs.Reaching.{IsOf, OfAny, OneFolder, ReachesFrom}
 use Rattle.wax_tree.proofs.Reaching.{leads_here, places_more, pushed_reaches, stopped_places}
+use Rattle.wax_tree.proofs.Coursing.{levels_last, memory_uses, some_taken, uses_more}
+use Rattle.std.proofs.Common.{[], ◌∷◌, inr, subst}
+use Rattle.wax_directory.specs.History.{listed}
+use Rattle.wax_walk.specs.Course.{call}
+use Rattle.wax_tree.specs.Walking.{LevelsCome}
 use Rattle.wax_tree.proofs.steps.Steps.take_from.Goals as goal
 use Rattle.std.specs.Prelude.{None}
 use Rattle.wax_walk.specs.Given.{fault}
@@ -122,3 +127,40 @@ returns-in_default-push-clause-uses_answer g c running first =
     memory_uses_answer _ w c.fail-in_default-push.new.self c.fail-in_default-push.result
     c.fail-in_default-push.ensures.memory (ap (λ v. v.directory) e) (ap (λ v. v.has_ended) e)
     (omega (arith, few)) (item_lost c.args.item) (omega (arith, allowed))
+
+pub returns-then-self-eq0-clause-course : goal.returns-then-self-eq0-clause-course
+returns-then-self-eq0-clause-course g c going first entered = record {
+  some = some_taken c.args.self.now c.args.folder c.args.item;
+  follows = inr (
+    fault Budget (string_bytes c.args.folder.path) c.saturating_sub-depth.result,
+    c.stop.ensures.gives,
+    ([], listed_of c.args.item, refl),
+    ap (λ v. v.has_ended) c.stop.ensures.ended,
+  );
+}
+
+pub returns-in_default-clause-course : goal.returns-in_default-clause-course
+returns-in_default-clause-course g c going first entered =
+    let path = string_bytes c.args.folder.path in
+    memory_uses (call path (listed (listed_of c.args.item)) ∷ []) _ c.fail.result c.fail.new.self
+    (some_taken c.args.self.now c.args.folder c.args.item) c.fail.ensures.memory
+    (ap (λ v. v.has_ended) c.fail.ensures.ended)
+
+pub returns-in_default-push-clause-course : goal.returns-in_default-push-clause-course
+returns-in_default-push-clause-course g c going first entered =
+    let path = string_bytes c.args.folder.path in
+    memory_uses (call path (listed (listed_of c.args.item)) ∷ []) _ c.fail-in_default-push.result
+    c.fail-in_default-push.new.self (some_taken c.args.self.now c.args.folder c.args.item)
+    c.fail-in_default-push.ensures.memory (ap (λ v. v.has_ended) c.fail-in_default-push.ensures.ended)
+
+pub returns-clause-course : goal.returns-clause-course
+returns-clause-course g c going first entered =
+    let w = c.args.self.now in
+    let path = string_bytes c.args.folder.path in
+    uses_more (call path (listed (listed_of c.args.item)) ∷ []) _ _ c.give_found.result c.give_found.new.self
+    (λ d h.
+    let p = levels_last (scope_of w) w.levels.items (record { folder = c.args.folder; cursor = c.args.cursor }) h.0
+    (subst (λ ls. LevelsCome (scope_of w) ls h.0) c.in-Ok-push.ensures.items h.1) in
+    (p.0, p.1, (h.0, p.2, h.2)))
+    (c.give_found.ensures.course going first entered (located c.args.folder) c.args.item
+    (rw c.as_str.ensures.value at c.in-Ok.ensures) refl)
