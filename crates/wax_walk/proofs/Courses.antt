@@ -3,7 +3,7 @@ use Rattle.std.proofs.Common.{◌≡◌, ◌∙◌, Bool, true, false, List, [],
 use Rattle.std.specs.Prelude.{◌⊎◌, Some, None}
 use Rattle.std.proofs.lemmas.List.{append-nil, map-append}
 use Rattle.wax_walk.specs.Course.{Call, Course, stop, unknown, asks, yields, continued, asking, items_of, calls_of}
-use Rattle.wax_walk.specs.Course.{answers, IsWhole, Begins, IsBelow, IsFiltered, IsNothing}
+use Rattle.wax_walk.specs.Course.{IsKnownFirst, answers, IsWhole, Begins, IsBelow, IsFiltered, IsNothing}
 use Rattle.wax_walk.specs.Given.{Given, Mark, with_mark, is_cut}
 
 -- ---- parts
@@ -81,38 +81,147 @@ begins_parts (yields x d b) a (yields y e c) h =
     (d, b, ap (λ z. yields z d b) same, subst (λ z. Begins e z) (sym under) h.3, p.below_begins)
     p.after_begins (ap (yields y e) p.whole)
 
--- how much of what comes after a course is known, if both are one course
-pub record KnownAfter (b a : Course) : Type 0 where
+-- how much of two courses is known, if both are one course
+pub record KnownParts (b a : Course) : Type 0 where
+  pub below : Course
   pub after : Course
-  pub begins : Begins after a
-  pub items : items_of (continued b a) ≡ items_of b ++ items_of after
-  pub calls : calls_of (continued b a) ≡ calls_of b ++ calls_of after
-  pub whole : IsWhole (continued b a) → IsWhole b × IsWhole after
+  pub below_begins : Begins below b
+  pub after_begins : Begins after a
+  pub items : items_of (continued b a) ≡ items_of below ++ items_of after
+  pub calls : calls_of (continued b a) ≡ calls_of below ++ calls_of after
+  pub whole : IsWhole (continued b a) → IsWhole below × IsWhole after
+  pub first : IsKnownFirst (continued b a) → IsKnownFirst below × IsKnownFirst after
+      × (IsWhole below ⊎ (after ≡ unknown))
+  pub unended : continued b a ≡ unknown → (below ≡ unknown) × (after ≡ unknown)
 
-pub known_after : (b a : Course) → KnownAfter b a
-known_after stop a = record {
+known_known : (a : Course) → ¬ (a ≡ unknown) → KnownParts stop a
+known_known a n = record {
+  below = stop;
   after = a;
-  begins = begins_itself a;
+  below_begins = refl;
+  after_begins = begins_itself a;
   items = refl;
   calls = refl;
   whole = λ w. (tt, w);
+  first = λ f. (tt, f, inl tt);
+  unended = λ e. absurd (n e);
 }
-known_after unknown a = record { after = unknown; begins = tt; items = refl; calls = refl; whole = λ w. absurd w }
-known_after (asks q b) a = let k = known_after b a in record {
+
+known_unknown : (b a : Course) → continued b a ≡ unknown → KnownParts b a
+known_unknown b a e = record {
+  below = unknown;
+  after = unknown;
+  below_begins = tt;
+  after_begins = tt;
+  items = ap items_of e;
+  calls = ap calls_of e;
+  whole = λ w. absurd (subst IsWhole e w);
+  first = λ f. (tt, tt, inr refl);
+  unended = λ i. (refl, refl);
+}
+
+pub known_parts : (b a : Course) → KnownParts b a
+known_parts stop stop = known_known stop (λ e. (cc))
+known_parts stop unknown = known_unknown stop unknown refl
+known_parts stop (asks q c) = known_known (asks q c) (λ e. (cc))
+known_parts stop (yields x c d) = known_known (yields x c d) (λ e. (cc))
+known_parts unknown a = known_unknown unknown a refl
+known_parts (asks q b) a = let k = known_parts b a in record {
+  below = asks q k.below;
   after = k.after;
-  begins = k.begins;
+  below_begins = (b, refl, k.below_begins);
+  after_begins = k.after_begins;
   items = k.items;
   calls = ap (λ z. q ∷ z) k.calls;
   whole = k.whole;
+  first = k.first;
+  unended = λ e. absurd (let i : asks q (continued b a) ≡ unknown = e in (cc));
 }
-known_after (yields x c b) a = let k = known_after b a in record {
+known_parts (yields x c b) a = let k = known_parts b a in record {
+  below = yields x c k.below;
   after = k.after;
-  begins = k.begins;
+  below_begins = (c, b, refl, begins_itself c, k.below_begins);
+  after_begins = k.after_begins;
   items = ap (λ z. x ∷ (items_of c ++ z)) k.items
-      ∙ ap (λ z. x ∷ z) (sym (append_assoc (items_of c) (items_of b) (items_of k.after)));
-  calls = ap (λ z. calls_of c ++ z) k.calls ∙ sym (append_assoc (calls_of c) (calls_of b) (calls_of k.after));
+      ∙ ap (λ z. x ∷ z) (sym (append_assoc (items_of c) (items_of k.below) (items_of k.after)));
+  calls = ap (λ z. calls_of c ++ z) k.calls
+      ∙ sym (append_assoc (calls_of c) (calls_of k.below) (calls_of k.after));
   whole = λ w. let p = k.whole w.1 in ((w.0, p.0), p.1);
+  first = λ f. let p = k.first f.1 in elim f.2 [
+    | inl w ↦ ((f.0, p.0, inl w), p.1, elim p.2 [ inl v ↦ inl (w, v) | inr e ↦ inr e ])
+    | inr e ↦ let o = k.unended e in ((f.0, p.0, inr o.0), p.1, inr o.1)
+  ];
+  unended = λ e. absurd (let i : yields x c (continued b a) ≡ unknown = e in (cc));
 }
+
+-- a whole course is all that it begins
+pub begins_whole : (c d : Course) → IsWhole c → Begins c d → c ≡ d
+begins_whole stop d w h = sym h
+begins_whole unknown d w h = absurd w
+begins_whole (asks q c) d w h = ap (asks q) (begins_whole c h.0 w h.2) ∙ sym h.1
+begins_whole (yields x b a) d w h =
+    ap (λ z. yields x z a) (begins_whole b h.0 w.0 h.3)
+    ∙ (ap (yields x h.0) (begins_whole a h.1 w.1 h.4) ∙ sym h.2)
+
+-- what is known first are the first calls and items
+pub record ComesFirst (c d : Course) : Type 0 where
+  pub items : List Given
+  pub items_are : items_of c ++ items ≡ items_of d
+  pub calls : List Call
+  pub calls_are : calls_of c ++ calls ≡ calls_of d
+
+comes_first_parts : (x : Given) (b a e f : Course) → b ≡ e → ComesFirst a f
+    → ComesFirst (yields x b a) (yields x e f)
+comes_first_parts x b a e f i k = record {
+  items = k.items;
+  items_are = ap (λ z. x ∷ z) (append_assoc (items_of b) (items_of a) k.items
+      ∙ (ap (λ z. items_of b ++ z) k.items_are ∙ ap (λ z. items_of z ++ items_of f) i));
+  calls = k.calls;
+  calls_are = append_assoc (calls_of b) (calls_of a) k.calls
+      ∙ (ap (λ z. calls_of b ++ z) k.calls_are ∙ ap (λ z. calls_of z ++ calls_of f) i);
+}
+
+comes_first_below : (x : Given) (b a e f : Course) → a ≡ unknown → ComesFirst b e
+    → ComesFirst (yields x b a) (yields x e f)
+comes_first_below x b a e f i k = record {
+  items = k.items ++ items_of f;
+  items_are = ap (λ z. x ∷ ((items_of b ++ items_of z) ++ (k.items ++ items_of f))) i
+      ∙ ap (λ z. x ∷ z) (ap (λ z. z ++ (k.items ++ items_of f)) (append-nil (items_of b))
+      ∙ (sym (append_assoc (items_of b) k.items (items_of f)) ∙ ap (λ z. z ++ items_of f) k.items_are));
+  calls = k.calls ++ calls_of f;
+  calls_are = ap (λ z. (calls_of b ++ calls_of z) ++ (k.calls ++ calls_of f)) i
+      ∙ (ap (λ z. z ++ (k.calls ++ calls_of f)) (append-nil (calls_of b))
+      ∙ (sym (append_assoc (calls_of b) k.calls (calls_of f)) ∙ ap (λ z. z ++ calls_of f) k.calls_are));
+}
+
+pub comes_first : (c d : Course) → IsKnownFirst c → Begins c d → ComesFirst c d
+comes_first unknown d f h = record { items = items_of d; items_are = refl; calls = calls_of d; calls_are = refl }
+comes_first stop d f h = record {
+  items = [];
+  items_are = sym (ap items_of h);
+  calls = [];
+  calls_are = sym (ap calls_of h);
+}
+comes_first (asks q c) d f h = let k = comes_first c h.0 f h.2 in record {
+  items = k.items;
+  items_are = k.items_are ∙ sym (ap items_of h.1);
+  calls = k.calls;
+  calls_are = ap (λ z. q ∷ z) k.calls_are ∙ sym (ap calls_of h.1);
+}
+comes_first (yields x b a) d f h =
+    subst (ComesFirst (yields x b a)) (sym h.2) (elim f.2 [
+      | inl w ↦ comes_first_parts x b a h.0 h.1 (begins_whole b h.0 w h.3) (comes_first a h.1 f.1 h.4)
+      | inr e ↦ comes_first_below x b a h.0 h.1 e (comes_first b h.0 f.0 h.3)
+    ])
+
+pub begins_trans : (c d e : Course) → Begins c d → Begins d e → Begins c e
+begins_trans unknown d e h i = tt
+begins_trans stop d e h i = subst (λ z. Begins z e) h i
+begins_trans (asks q c) d e h i =
+    let j = subst (λ z. Begins z e) h.1 i in (j.0, j.1, begins_trans c h.0 j.0 h.2 j.2)
+begins_trans (yields x b a) d e h i =
+    let j = subst (λ z. Begins z e) h.2 i in
+    (j.0, j.1, j.2, begins_trans b h.0 j.0 h.3 j.3, begins_trans a h.1 j.1 h.4 j.4)
 
 pub items_asking : (calls : List Call) (c : Course) → items_of (asking calls c) ≡ items_of c
 items_asking [] c = refl
@@ -121,6 +230,10 @@ items_asking (q ∷ calls) c = items_asking calls c
 pub calls_asking : (calls : List Call) (c : Course) → calls_of (asking calls c) ≡ calls ++ calls_of c
 calls_asking [] c = refl
 calls_asking (q ∷ calls) c = ap (λ z. q ∷ z) (calls_asking calls c)
+
+pub first_asking : (calls : List Call) (c : Course) → IsKnownFirst c → IsKnownFirst (asking calls c)
+first_asking [] c f = f
+first_asking (q ∷ calls) c f = first_asking calls c f
 
 pub whole_asking : (calls : List Call) (c : Course) → IsWhole c → IsWhole (asking calls c)
 whole_asking [] c w = w

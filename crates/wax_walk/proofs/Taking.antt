@@ -5,26 +5,27 @@ use Rattle.std.proofs.lemmas.List.{append-nil, map-append}
 use Rattle.wax_directory.specs.History.{Answer}
 use Rattle.wax_walk.specs.declared.error.FaultKind.TheVariants as F
 use Rattle.wax_walk.specs.Collected.{TookCourse, whole, cut_short}
-use Rattle.wax_walk.specs.Course.{Ahead, Begins, Call, Course, CutsShort, IsWhole, all_ahead, answers, asking}
-use Rattle.wax_walk.specs.Course.{calls_of, items_of, stop, unknown, yields}
+use Rattle.wax_walk.specs.Course.{Ahead, Begins, Call, Course, CutsShort, IsKnownFirst, IsWhole, all_ahead}
+use Rattle.wax_walk.specs.Course.{answers, asking, calls_of, items_of, stop, unknown, yields}
 use Rattle.wax_walk.specs.Given.{Given, entry, fault, no_memory}
 use Rattle.wax_walk.specs.View.{WalkView, Follows, MayTake, went_on, ended_so, was_cut}
-use Rattle.wax_walk.proofs.Courses.{begins_itself, calls_asking, items_asking, known_after, whole_asking}
+use Rattle.wax_walk.proofs.Courses.{calls_asking, first_asking, items_asking, known_parts, whole_asking}
 
 -- a course of the walk that goes on as c after these calls and items
-pub record GoesOnAs {D : Type 0} (walk : WalkView D) (calls : List Call) (xs : List Given) (c : Course) : Type 0
-  where
-    pub course : Course
-    pub takes : MayTake walk course
-    pub whole : IsWhole c → IsWhole course
-    pub calls_are : calls_of course ≡ calls ++ calls_of c
-    pub items_are : items_of course ≡ xs ++ items_of c
+pub record GoesOnAs {D : Type 0} (walk : WalkView D) (calls : List Call) (xs : List Given)
+    (c : Course) : Type 0 where
+  pub course : Course
+  pub takes : MayTake walk course
+  pub whole : IsWhole c → IsWhole course
+  pub first : IsKnownFirst c → IsKnownFirst course
+  pub calls_are : calls_of course ≡ calls ++ calls_of c
+  pub items_are : items_of course ≡ xs ++ items_of c
 
 -- after these calls and items, whatever course the walk may take now goes on one that it could take before; or
 -- an error cut that short
 pub data TakingCourse {D : Type 0} (walk now : WalkView D) (calls : List Call) (xs : List Given) : Type 0 where
   going : ((c : Course) → MayTake now c → GoesOnAs walk calls xs c) → TakingCourse walk now calls xs
-  cut_off : (c : Course) (x : Given) → MayTake walk c → calls ≡ calls_of c → xs ≡ items_of c ++ x ∷ []
+  cut_off : (c : Course) (x : Given) → MayTake walk c → IsKnownFirst c → calls ≡ calls_of c → xs ≡ items_of c ++ x ∷ []
       → CutsShort calls x → now.has_ended → now.is_idle → TakingCourse walk now calls xs
 
 pub course_none : {D : Type 0} (walk : WalkView D) → TakingCourse walk walk [] []
@@ -32,6 +33,7 @@ course_none walk = going (λ c t. record {
   course = c;
   takes = t;
   whole = λ w. w;
+  first = λ f. f;
   calls_are = refl;
   items_are = refl;
 })
@@ -44,7 +46,7 @@ answered_more answered walk mid new before calls h i =
     ∙ ap (λ z. answered walk ++ z) (sym (map-append (λ q. q.answer) before calls))))
 
 -- calls that went before
-cuts_later : (before calls : List Call) (x : Given) → CutsShort calls x → CutsShort (before ++ calls) x
+pub cuts_later : (before calls : List Call) (x : Given) → CutsShort calls x → CutsShort (before ++ calls) x
 cuts_later before calls no_memory s = tt
 cuts_later before calls (entry m f) s = absurd s
 cuts_later before calls (fault F.NotFound path depth) s = absurd s
@@ -62,6 +64,7 @@ module _ {D : Type 0} (walk mid new : WalkView D) (before calls : List Call) (xs
     course = g.course;
     takes = g.takes;
     whole = λ w. g.whole (whole_asking calls c w);
+    first = λ f. g.first (first_asking calls c f);
     calls_are = g.calls_are ∙ (ap (λ z. before ++ z) (calls_asking calls c)
         ∙ sym (append_assoc before calls (calls_of c)));
     items_are = g.items_are ∙ ap (λ z. xs ++ z) (items_asking calls c);
@@ -72,14 +75,15 @@ module _ {D : Type 0} (walk mid new : WalkView D) (before calls : List Call) (xs
       → ((d : Course) → Begins d (yields x a.below a.after) → GoesOnAs walk (before ++ calls) xs d)
       → GoesOnAs walk (before ++ calls) (xs ++ x ∷ []) c
   after_item x a c e f = subst (GoesOnAs walk (before ++ calls) (xs ++ x ∷ [])) e (
-      let k = known_after a.below a.after in
-      let d = yields x a.below k.after in
-      let g = f d (a.below, a.after, refl, begins_itself a.below, k.begins) in record {
+      let k = known_parts a.below a.after in
+      let d = yields x k.below k.after in
+      let g = f d (a.below, a.after, refl, k.below_begins, k.after_begins) in record {
         course = g.course;
         takes = g.takes;
         whole = λ w. g.whole (k.whole w);
+        first = λ w. g.first (k.first w);
         calls_are = g.calls_are ∙ ap (λ z. (before ++ calls) ++ z) (sym k.calls);
-        items_are = g.items_are ∙ (sym (append_assoc xs (x ∷ []) (items_of a.below ++ items_of k.after))
+        items_are = g.items_are ∙ (sym (append_assoc xs (x ∷ []) (items_of k.below ++ items_of k.after))
             ∙ ap (λ z. (xs ++ x ∷ []) ++ z) (sym k.items));
       })
 
@@ -96,10 +100,10 @@ module _ {D : Type 0} (walk mid new : WalkView D) (before calls : List Call) (xs
   course_more x n b (was_cut z e s ended idle) (going g) =
       let same : z ≡ x = cc in
       let r = after_calls unknown (g (asking calls unknown) b) in
-      cut_off r.course x r.takes (sym (r.calls_are ∙ append-nil (before ++ calls)))
+      cut_off r.course x r.takes (r.first tt) (sym (r.calls_are ∙ append-nil (before ++ calls)))
       (ap (λ u. u ++ x ∷ []) (sym (r.items_are ∙ append-nil xs)))
       (cuts_later before calls x (subst (CutsShort calls) same s)) ended idle
-  course_more x n b f (cut_off c y t i j s ended idle) = absurd (n ended)
+  course_more x n b f (cut_off c y t l i j s ended idle) = absurd (n ended)
 
   pub course_end : (answered : D → List Answer)
       → answered mid.directory ≡ answered walk.directory ++ answers before
@@ -119,8 +123,8 @@ module _ {D : Type 0} (walk mid new : WalkView D) (before calls : List Call) (xs
       )
   course_end answered h i idle (was_cut z e s ended idle') (going g) =
       absurd (let j : None ≡ Some z = e in (cc))
-  course_end answered h i idle f (cut_off c x t j k s ended still) = (
+  course_end answered h i idle f (cut_off c x t l j k s ended still) = (
     answers before,
     ap answered (idle still) ∙ h,
-    cut_short c x t (ap answers j) k (subst (λ z. CutsShort z x) j s),
+    cut_short c x t l (ap answers j) k (subst (λ z. CutsShort z x) j s),
   )

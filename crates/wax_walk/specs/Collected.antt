@@ -6,7 +6,7 @@ use Rattle.wax_directory.specs.History.{Answer}
 use Rattle.wax_directory.specs.Law.{Law}
 use Rattle.wax_directory.specs.declared.tally.Tally.{Tally}
 use Rattle.wax_walk.specs.declared.error.FaultKind.TheVariants.{NotAFolder, Budget}
-use Rattle.wax_walk.specs.Course.{Course, CutsShort, IsWhole, answers, calls_of, items_of}
+use Rattle.wax_walk.specs.Course.{Course, CutsShort, IsKnownFirst, IsWhole, answers, calls_of, items_of}
 use Rattle.wax_walk.specs.Forest.{Pending, all_pending, preorder, listings}
 use Rattle.wax_walk.specs.Given.{Given, fault, no_memory}
 use Rattle.wax_walk.specs.View.{WalkView, CountsFaults, IsLast, IsErrorAt, IsFolderAt, MayFail, fault_counts}
@@ -76,7 +76,7 @@ AreOfFolders first most xs = (before after : List Given) (x : Given) (path : Lis
 pub data TookCourse {D : Type 0} (walk : WalkView D) (told : List Answer) (xs : List Given) : Type 0 where
   whole : (c : Course) → MayTake walk c → IsWhole c → told ≡ answers (calls_of c) → xs ≡ items_of c
       → TookCourse walk told xs
-  cut_short : (c : Course) (x : Given) → MayTake walk c → told ≡ answers (calls_of c)
+  cut_short : (c : Course) (x : Given) → MayTake walk c → IsKnownFirst c → told ≡ answers (calls_of c)
       → xs ≡ items_of c ++ x ∷ [] → CutsShort (calls_of c) x → TookCourse walk told xs
 
 -- a walk yielded these items to its end, and left the directory as `new`, unchanged if the walk was idle

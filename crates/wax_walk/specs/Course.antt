@@ -55,6 +55,14 @@ IsWhole unknown = ⊥
 IsWhole (asks q c) = IsWhole c
 IsWhole (yields x below after) = IsWhole below × IsWhole after
 
+-- the course is known up to some point
+abbrev pub IsKnownFirst : Course → Type 0
+IsKnownFirst stop = ⊤
+IsKnownFirst unknown = ⊤
+IsKnownFirst (asks q c) = IsKnownFirst c
+IsKnownFirst (yields x below after) = IsKnownFirst below × IsKnownFirst after
+    × (IsWhole below ⊎ (after ≡ unknown))
+
 -- the course c is d, or d as far as it is known
 abbrev pub Begins : Course → Course → Type 0
 Begins unknown d = ⊤
