@@ -137,9 +137,13 @@ module _ (scope : WalkScope) where
   not_below at F.File below e n = (a_leaf false, tt, refl, e)
   not_below at F.Link below e n = (a_leaf true, tt, refl, e)
   not_below at F.Folder below e n =
-      let more : scope.max ≤ at.depth = omega (arith, λ (i : at.depth < scope.max). n (refl, i)) in
-      (a_sealed, tt, refl, e ∙ sym (ap (λ b. cond b (entered_course scope (one_deeper at) a_sealed) stop)
-      (le-ltb at.depth scope.max more)))
+      let more : scope.max ≤ at.depth = omega (arith, λ (i : at.depth < scope.max). n (refl, i)) in (
+        a_sealed,
+        tt,
+        refl,
+        e ∙ sym (ap (λ b. cond b (entered_course scope (one_deeper at) a_sealed) stop)
+            (le-ltb at.depth scope.max more)),
+      )
 
   pub below_of : (f : Facts) (old new : Option code.Location) (below : Course) → old ≡ None
       → Enters scope.max f old new → EnteredComes scope None new below
@@ -341,9 +345,12 @@ module _ {D C : Type 0} where
         let here : AlongComes scope names (onward_location (located place.at) x) g.back a.after =
         subst (λ l. AlongComes scope names l g.back a.after) at g.first in
         let found : FoundComes scope (from_last place.names.items) (located place.at) g.back F.Folder a.after =
-        subst (λ ns. FoundComes scope ns (located place.at) g.back F.Folder a.after) (sym e) here in
-        (g.back, g.levels, subst (FoundComes scope (from_last place.names.items) (located place.at) g.back F.Folder)
-        (sym (ap (λ b. continued b a.after) g.entered)) found));
+        subst (λ ns. FoundComes scope ns (located place.at) g.back F.Folder a.after) (sym e) here in (
+          g.back,
+          g.levels,
+          subst (FoundComes scope (from_last place.names.items) (located place.at) g.back F.Folder)
+              (sym (ap (λ b. continued b a.after) g.entered)) found,
+        ));
   }
 
   -- ---- what is made of a call
@@ -372,30 +379,31 @@ module _ {D C : Type 0} where
       (_, (l.0, l.1, (a_folder end, tt, tt, refl)))
 
   -- a walk that has stopped
+  goes_nowhere : (w : Steps D C) (b : Bool) → (w.first ≡ None) × (w.entered ≡ None) × (w.levels.items ≡ [])
+      → AheadUnless b (GoesAhead w (ahead stop stop)) (ahead stop stop)
+  goes_nowhere w true i = refl
+  goes_nowhere w false i = record {
+    back = stop;
+    first = subst (λ f. FirstComes (scope_of w) f stop stop) (sym i.0) refl;
+    entered = subst (λ f. EnteredComes (scope_of w) f w.entered stop) (sym i.0)
+        (subst (λ e. EnteredComes (scope_of w) None e stop) (sym i.1) refl);
+    levels = subst (λ ls. LevelsCome (scope_of w) ls stop) (sym i.2) refl;
+  }
+
+  pub stopped_ahead : (w : Steps D C) → HasStopped w → ComesAhead w (ahead stop stop)
+  stopped_ahead w h = elim h [
+    | inl e ↦ subst (λ b. AheadUnless b (GoesAhead w (ahead stop stop)) (ahead stop stop)) (sym e) refl
+    | inr i ↦ goes_nowhere w w.has_ended i
+  ]
+
   pub stops_so : (law : Law D C) (w new : Steps D C) → new.directory ≡ w.directory → HasStopped w
       → StepCourse law w.directory (ComesWhole w) Ends new
-  stops_so law w new e h = record {
-    calls = [];
-    answered = ap law.answered e ∙ sym (append-nil (law.answered w.directory));
-    uses = record { some = (stop, nothing); follows = inl (λ a i. nothing) };
-  } where
-    nothing : ComesWhole w stop
-    nothing = (ahead stop stop, none h, refl) where
-      going : (b : Bool) → w.has_ended ≡ b → (w.first ≡ None) × (w.entered ≡ None) × (w.levels.items ≡ [])
-          → AheadUnless b (GoesAhead w (ahead stop stop)) (ahead stop stop)
-      going true e i = refl
-      going false e i = record {
-        back = stop;
-        first = subst (λ f. FirstComes (scope_of w) f stop stop) (sym i.0) refl;
-        entered = subst (λ f. EnteredComes (scope_of w) f w.entered stop) (sym i.0)
-            (subst (λ e. EnteredComes (scope_of w) None e stop) (sym i.1) refl);
-        levels = subst (λ ls. LevelsCome (scope_of w) ls stop) (sym i.2) refl;
+  stops_so law w new e h =
+      let nothing : ComesWhole w stop = (ahead stop stop, stopped_ahead w h, refl) in record {
+        calls = [];
+        answered = ap law.answered e ∙ sym (append-nil (law.answered w.directory));
+        uses = record { some = (stop, nothing); follows = inl (λ a i. nothing) };
       }
-      none : HasStopped w → ComesAhead w (ahead stop stop)
-      none h = elim h [
-        | inl e ↦ subst (λ b. AheadUnless b (GoesAhead w (ahead stop stop)) (ahead stop stop)) (sym e) refl
-        | inr i ↦ going w.has_ended refl i
-      ]
 
   -- a folder was opened
   pub opened_uses : (w new : Steps D C) (level : OpenFolder C) → new.levels.items ≡ w.levels.items ++ level ∷ []
@@ -410,9 +418,17 @@ module _ {D C : Type 0} where
         let l : LevelsCome (scope_of w) (w.levels.items ++ level ∷ []) a.after =
         subst (λ s. LevelsCome s (w.levels.items ++ level ∷ []) a.after) same
         (subst (λ ls. LevelsCome (scope_of new) ls a.after) e r.1) in
-        let p = levels_last (scope_of w) w.levels.items level a.after l in
-        (p.0, p.1, (a_folder p.2.0, p.2.1, tt, ap (asks (call at.path (opened at.path)))
-        (ap (λ b. continued b a.after) r.0 ∙ p.2.2))));
+        let p = levels_last (scope_of w) w.levels.items level a.after l in (
+          p.0,
+          p.1,
+          (
+            a_folder p.2.0,
+            p.2.1,
+            tt,
+            ap (asks (call at.path (opened at.path)))
+                (ap (λ b. continued b a.after) r.0 ∙ p.2.2),
+          ),
+        ));
   }
 
   pub some_folder : (w : Steps D C) (place : code.Location)
@@ -464,8 +480,10 @@ module _ (scope : WalkScope) where
   pub entry_item : (at : Location) (root : List ℕ) (x : ListItem) (e : TreeEntry) (rest c : Course)
       → IsFound at root x (Found.Entry e) → EntryComes scope (facts_of e) rest c → ItemComes scope at x rest c
   entry_item at root (I.Name x kind) e rest c f h = elim f [
-    | inl i ↦ inl (plain_of (string_bytes x) (IsUtf8-string_bytes x) i.0,
-        subst (λ g. EntryComes scope g rest c) i.1 h)
+    | inl i ↦ inl (
+      plain_of (string_bytes x) (IsUtf8-string_bytes x) i.0,
+      subst (λ g. EntryComes scope g rest c) i.1 h,
+    )
     | inr i ↦ absurd i.1
   ]
   entry_item at root I.Failed e rest c f h = absurd f
@@ -496,43 +514,55 @@ module _ (scope : WalkScope) where
       → RestComes scope at rest (asks (call at.path (listed (listed_of x))) c)
   item_taken at (I.Name x kind) rest c h = elim h.2 [
     | inl i ↦ entry_taken i.1.0 i.0 i.1.1 i.1.2 i.1.3
-    | inr i ↦ (misnamed (string_bytes x) kind h.1.0, (i.0, h.1.1),
-        ap (asks (call at.path (listed (named (string_bytes x) kind)))) (i.1 ∙ ap (yields (fault K.BadName at.path (at.depth - 1)) stop) h.1.2))
+    | inr i ↦ (
+      misnamed (string_bytes x) kind h.1.0,
+      (i.0, h.1.1),
+      ap (asks (call at.path (listed (named (string_bytes x) kind)))) (i.1 ∙ ap (yields (fault K.BadName at.path (at.depth - 1)) stop) h.1.2),
+    )
   ] where
     entry_taken : (s : Shown) → IsPlain (string_bytes x) → IsNamed s → HasKind s kind
         → c ≡ entry_course scope (item_location at (string_bytes x)) kind s h.0
         → RestComes scope at rest (asks (call at.path (listed (named (string_bytes x) kind))) c)
     entry_taken (a_leaf link) p n k e =
         let y = plain_entry scope (item_location at (string_bytes x)) (leaf_kind link) in
-        let l = leaf (string_bytes x) link h.1.0 in
-        (l, (p, h.1.1), subst (λ z. asks (call at.path (listed (named (string_bytes x) z))) c
-        ≡ continued (items_course scope at l) rest) (sym k)
-        (ap (asks (call at.path (listed (named (string_bytes x) (leaf_kind link)))))
-        (e ∙ (ap (λ z. entry_course scope (item_location at (string_bytes x)) z (a_leaf link) h.0) k
-        ∙ (ap (course_at_depth scope at.depth y stop) h.1.2
-        ∙ sym (at_depth_then scope at.depth y stop (items_course scope at h.1.0) rest))))))
+        let l = leaf (string_bytes x) link h.1.0 in (
+          l,
+          (p, h.1.1),
+          subst (λ z. asks (call at.path (listed (named (string_bytes x) z))) c
+              ≡ continued (items_course scope at l) rest) (sym k)
+              (ap (asks (call at.path (listed (named (string_bytes x) (leaf_kind link)))))
+              (e ∙ (ap (λ z. entry_course scope (item_location at (string_bytes x)) z (a_leaf link) h.0) k
+              ∙ (ap (course_at_depth scope at.depth y stop) h.1.2
+              ∙ sym (at_depth_then scope at.depth y stop (items_course scope at h.1.0) rest))))),
+        )
     entry_taken (a_folder inner) p n k e =
         let y = plain_entry scope (item_location at (string_bytes x)) F.Folder in
         let l = folder (string_bytes x) inner h.1.0 in
-        let b = below_course scope (item_location at (string_bytes x)) (a_folder inner) in
-        (l, (p, n, h.1.1), subst (λ z. asks (call at.path (listed (named (string_bytes x) z))) c
-        ≡ continued (items_course scope at l) rest) (sym k)
-        (ap (asks (call at.path (listed (named (string_bytes x) F.Folder))))
-        (e ∙ (ap (λ z. entry_course scope (item_location at (string_bytes x)) z (a_folder inner) h.0) k
-        ∙ (ap (course_at_depth scope at.depth y b) h.1.2
-        ∙ sym (at_depth_then scope at.depth y b (items_course scope at h.1.0) rest))))))
+        let b = below_course scope (item_location at (string_bytes x)) (a_folder inner) in (
+          l,
+          (p, n, h.1.1),
+          subst (λ z. asks (call at.path (listed (named (string_bytes x) z))) c
+              ≡ continued (items_course scope at l) rest) (sym k)
+              (ap (asks (call at.path (listed (named (string_bytes x) F.Folder))))
+              (e ∙ (ap (λ z. entry_course scope (item_location at (string_bytes x)) z (a_folder inner) h.0) k
+              ∙ (ap (course_at_depth scope at.depth y b) h.1.2
+              ∙ sym (at_depth_then scope at.depth y b (items_course scope at h.1.0) rest))))),
+        )
     entry_taken a_sealed p n k e =
         let y = plain_entry scope (item_location at (string_bytes x)) F.Folder in
         let l = sealed (string_bytes x) h.1.0 in
-        let b = course_above_max scope at.depth (refused_course scope (join at.path (string_bytes x)) at.depth) in
-        (l, (p, h.1.1), subst (λ z. asks (call at.path (listed (named (string_bytes x) z))) c
-        ≡ continued (items_course scope at l) rest) (sym k)
-        (ap (asks (call at.path (listed (named (string_bytes x) F.Folder))))
-        (e ∙ (ap (λ z. entry_course scope (item_location at (string_bytes x)) z a_sealed h.0) k
-        ∙ (ap (λ n. course_at_depth scope at.depth y (course_above_max scope at.depth
-        (refused_course scope (join at.path (string_bytes x)) n)) h.0) (one_less at.depth)
-        ∙ (ap (course_at_depth scope at.depth y b) h.1.2
-        ∙ sym (at_depth_then scope at.depth y b (items_course scope at h.1.0) rest)))))))
+        let b = course_above_max scope at.depth (refused_course scope (join at.path (string_bytes x)) at.depth) in (
+          l,
+          (p, h.1.1),
+          subst (λ z. asks (call at.path (listed (named (string_bytes x) z))) c
+              ≡ continued (items_course scope at l) rest) (sym k)
+              (ap (asks (call at.path (listed (named (string_bytes x) F.Folder))))
+              (e ∙ (ap (λ z. entry_course scope (item_location at (string_bytes x)) z a_sealed h.0) k
+              ∙ (ap (λ n. course_at_depth scope at.depth y (course_above_max scope at.depth
+              (refused_course scope (join at.path (string_bytes x)) n)) h.0) (one_less at.depth)
+              ∙ (ap (course_at_depth scope at.depth y b) h.1.2
+              ∙ sym (at_depth_then scope at.depth y b (items_course scope at h.1.0) rest)))))),
+        )
     entry_taken missing p n k e = absurd k
     entry_taken failing p n k e = absurd k
   item_taken at I.Failed rest c h = (

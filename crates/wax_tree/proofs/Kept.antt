@@ -96,6 +96,18 @@ module _ (scope : WalkScope) where
   kept_plain missing = (refl, tt, tt)
   kept_plain failing = (refl, tt, tt)
 
+  -- what is yielded first of a plain walk is kept
+  pub first_kept : (s : Shown) (xs rest : List Given) → xs ++ rest ≡ preorder (plain scope s)
+      → filter is_kept xs ≡ xs
+  first_kept s xs rest e =
+      filter_kept xs (kept_before xs rest (subst AllKept (sym e) (kept_preorder (plain scope s) (kept_plain s))))
+
+  -- and so is an error after it
+  pub error_kept : (s : Shown) (xs rest : List Given) (x : Given) → is_kept x ≡ true
+      → xs ++ rest ≡ preorder (plain scope s) → filter is_kept (xs ++ x ∷ []) ≡ xs ++ x ∷ []
+  error_kept s xs rest x k e = filter_kept (xs ++ x ∷ []) (kept_append xs (x ∷ [])
+      (kept_before xs rest (subst AllKept (sym e) (kept_preorder (plain scope s) (kept_plain s)))) (k, tt))
+
   kept_cut : (all : List Given) (x : Given) (xs : List Given) → is_kept x ≡ true → AllKept all
       → IsCutShort all x xs → AllKept xs
   kept_cut all x xs e h c =

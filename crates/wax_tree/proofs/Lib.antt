@@ -13,3 +13,5 @@ pub mod Listing
 pub mod Reaching
 pub mod Levelled
 pub mod Coursing
+pub mod CourseRuns
+pub mod Answered

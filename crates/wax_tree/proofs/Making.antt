@@ -4,19 +4,31 @@ use Rattle.std.proofs.Common.{ap, subst, ◌∙◌, arith, inl, inr, string_byte
 use Rattle.std.specs.Prelude.{Option, Some, None, String}
 use Rattle.std.specs.declared.alloc.Global.{Global}
 use Rattle.wax_directory.specs.Law.{Law}
-use Rattle.wax_directory.specs.Shown.{Shown}
+use Rattle.wax_directory.specs.History.{found}
+use Rattle.wax_directory.specs.Shown.{Shown, a_folder, a_leaf, a_sealed, failing, missing}
 use Rattle.wax_walk.specs.Forest.{Forest, nothing, item, lists, Pending, pending, all_pending, FirstIs}
 use Rattle.wax_walk.specs.Given.{Given, no_memory}
+use Rattle.wax_walk.specs.Course.{Ahead, Call, Course, ahead, all_ahead, asking, asks, call, continued, stop, unknown}
+use Rattle.wax_walk.specs.Course.{yields}
+use Rattle.wax_walk.specs.Course as course
+use Rattle.wax_walk.specs.View.{Follows, MayTake, ended_so, was_cut, went_on}
 use Rattle.wax_walk.specs.View.{WalkView, GivesOrStops, lacks_memory, over_budget, gives, FeedStep}
+use Rattle.wax_walk.proofs.Courses.{begins_trans}
+use Rattle.std.proofs.lemmas.List.{append-nil}
 use Rattle.wax_tree.specs.declared.steps.StartPoint.{StartPoint}
 use Rattle.wax_tree.specs.declared.steps.DepthRange.{DepthRange}
 use Rattle.wax_tree.specs.declared.steps.Steps.{Steps}
 use Rattle.wax_tree.specs.declared.walk_tree.WalkTree.{WalkTree}
 use Rattle.wax_tree.specs.Begins.{Begins, BeginsAt, FailsFrom, FailsNowhere, HasEnded, LacksMemory, Origin}
-use Rattle.wax_tree.specs.Lacking.{MayCome, lacks, goes, tree_view}
-use Rattle.wax_tree.specs.Plain.{Location, count_shown}
+use Rattle.wax_tree.specs.Begins.{OriginTakes, StartTakes, along, beyond, lacking, lacking_start, scope_in, walks}
+use Rattle.wax_tree.specs.Courses.{AlongComes, IsNamed, entry_course, is_failing, is_missing, is_there}
+use Rattle.wax_tree.specs.Courses.{place_course}
+use Rattle.wax_tree.proofs.Coursing.{goes_ahead, rests_ahead}
+use Rattle.wax_tree.specs.Lacking.{AheadUnlessLacking, MayCome, lacks, goes, tree_view}
+use Rattle.wax_tree.specs.Plain.{HasKind, Location, WalkScope, count_shown, start_location}
 use Rattle.wax_tree.specs.Prefix.{ArePlain, from_last, walk_from}
-use Rattle.wax_tree.specs.Walking.{PlainToCome, scope_of, steps_view, located}
+use Rattle.wax_tree.specs.Walking.{EnteredComes, FirstComes, LevelsCome}
+use Rattle.wax_tree.specs.Walking.{MayBeAhead, PlainToCome, scope_of, steps_view, located}
 
 module _ {D C : Type 0} (law : Law D C) where
   made_comes : (w : Steps D C) (place : StartPoint) (s : Shown) (listed : List (List ℕ)) → w.first ≡ Some place
@@ -101,12 +113,31 @@ module _ {D C : Type 0} (law : Law D C) where
       gives items few (first_known (PlainToCome law v.steps) (MayCome law v) (λ q i. goes d i) p items r
       first)
 
+  -- where no memory is lacked
+  taken : (w : WalkTree D C) → w.lacks_memory ≡ false → (c : Course) → MayTake (steps_view law w.steps) c
+      → MayTake (tree_view law w) c
+  taken w e c t =
+      (t.0, subst (λ b. AheadUnlessLacking b (MayBeAhead w.steps t.0) t.0) (sym e) t.1, t.2)
+
+  followed : (w v : WalkTree D C) (r : Option Given) (calls : List Call) → w.lacks_memory ≡ false
+      → v.lacks_memory ≡ false → Follows (steps_view law w.steps) calls r (steps_view law v.steps)
+      → Follows (tree_view law w) calls r (tree_view law v)
+  followed w v r calls e d (went_on x i f) = went_on x i (λ a c m b.
+      let n = subst (λ b. AheadUnlessLacking b (MayBeAhead v.steps a) a) d m in
+      taken w e (asking calls c) (f a c n b))
+  followed w v r calls e d (ended_so i t) = ended_so i (taken w e (asking calls stop) t)
+  followed w v r calls e d (was_cut x i s ended idle) = was_cut x i s (d, ended) (inr idle)
+
   -- a call of `feed` where no memory is lacked
   pub fed_on : (w v : WalkTree D C) (r : Option Given) → w.lacks_memory ≡ false → v.lacks_memory ≡ false
       → FeedStep law (steps_view law w.steps) r (steps_view law v.steps) → FeedStep law (tree_view law w) r
       (tree_view law v)
   fed_on w v r e d f = record {
     gives = λ p c. known p c;
+    calls = f.calls;
+    answered = f.answered;
+    begins = taken w e (asking f.calls unknown) f.begins;
+    follows = followed w v r f.calls e d f.follows;
     accounts = record {
       counts = f.accounts.counts;
       taken = f.accounts.taken;
@@ -147,12 +178,29 @@ module _ {D C : Type 0} (law : Law D C) where
     known p (lacks t told) = absurd (let b : true ≡ false = sym t ∙ e in (cc))
     known p (goes t c) = goes_on w v p r d (f.gives p c)
 
+lacking_takes : {D C : Type 0} (law : Law D C) (w : WalkTree D C) → w.lacks_memory ≡ true → (c : Course)
+    → course.Begins c (yields no_memory stop stop) → MayTake (tree_view law w) c
+lacking_takes law w e c b = (
+  ahead stop c,
+  subst (λ b. AheadUnlessLacking b (MayBeAhead w.steps (ahead stop c)) (ahead stop c)) (sym e) (refl, b),
+  refl,
+)
+
 -- a call of `feed` where memory was lacked for the start
 pub lacking_fed : {D C : Type 0} (law : Law D C) (w : WalkTree D C) → w.lacks_memory ≡ true
     → FeedStep law (tree_view law w) (Some no_memory)
     (tree_view law (record w { lacks_memory = false; steps = record w.steps { has_ended = true } }))
 lacking_fed law w e = record {
   gives = λ p h. lacks_memory refl;
+  calls = [];
+  answered = sym (append-nil (law.answered w.steps.directory));
+  begins = lacking_takes law w e unknown tt;
+  follows = went_on no_memory refl (λ a c m b.
+      let none : m.0 ≡ ahead stop stop = m.1 in
+      let below = subst (course.Begins a.below) (ap (λ (v : Ahead). v.below) none) m.2 in
+      let after = subst (course.Begins a.after) (ap (λ (v : Ahead). v.after) none) m.3 in
+      lacking_takes law w e c (begins_trans c (yields no_memory a.below a.after) (yields no_memory stop stop) b
+      (stop, stop, refl, below, after)));
   accounts = record {
     counts = record {
       misses = omega arith;
@@ -199,6 +247,97 @@ lacking_fed law w e = record {
   };
 }
 
+-- ---- what it may take
+
+begins_after : (b a d : Course) → course.Begins b stop → course.Begins a d → course.Begins (continued b a) d
+begins_after stop a d h i = i
+begins_after unknown a d h i = tt
+begins_after (asks q b) a d h i = absurd (let e : stop ≡ asks q h.0 = h.1 in (cc))
+begins_after (yields x b e) a d h i = absurd (let e : stop ≡ yields x h.0 h.1 = h.2 in (cc))
+
+-- what begins what is ahead of a walk that takes nothing below
+begins_taken : (a : Ahead) (c b d : Course) → all_ahead a ≡ c → course.Begins a.below b → b ≡ stop
+    → course.Begins a.after d → course.Begins c d
+begins_taken a c b d e h i k = subst (λ z. course.Begins z d) e
+    (begins_after a.below a.after d (subst (course.Begins a.below) i h) k)
+
+module _ {D C : Type 0} (law : Law D C) where
+  pub made_takes : (w : Steps D C) (place : StartPoint) (at : Location) (root : List ℕ) (c : Course)
+      → w.first ≡ Some place → w.levels.items ≡ [] → w.has_ended ≡ false → located place.at ≡ at
+      → string_bytes w.root ≡ root → MayTake (steps_view law w) c
+      → (d : Course) × AlongComes (record { min = w.min; max = w.max; root = root }) (from_last place.names.items) at
+      stop d × course.Begins c d
+  made_takes w place at root c first levels going here r t =
+      let b = t.1 in
+      let g = goes_ahead w b.0 going b.1 in
+      let scope = scope_of w in
+      let below : b.0.below ≡ stop = subst (λ f. EnteredComes scope f w.entered b.0.below) first g.entered in
+      let back : g.back ≡ stop = subst (λ ls. LevelsCome scope ls g.back) levels g.levels in
+      let along : AlongComes scope (from_last place.names.items) (located place.at) g.back b.0.after =
+      subst (λ f. FirstComes scope f g.back b.0.after) first g.first in
+      let names = from_last place.names.items in
+      let some : AlongComes scope names at stop b.0.after =
+      subst (λ z. AlongComes scope names at z b.0.after) back
+      (subst (λ z. AlongComes scope names z g.back b.0.after) here along) in (
+        b.0.after,
+        subst (λ z. AlongComes (record { min = w.min; max = w.max; root = z }) names at stop b.0.after) r some,
+        begins_taken t.0 c b.0.below b.0.after t.2 b.2 below b.3,
+      )
+
+  pub none_takes : (w : Steps D C) (c : Course) → w.first ≡ None → w.entered ≡ None → w.levels.items ≡ []
+      → w.has_ended ≡ false → MayTake (steps_view law w) c → course.Begins c stop
+  none_takes w c first entered levels going t =
+      let b = t.1 in
+      let r = rests_ahead w b.0 going first entered b.1 in
+      let after : b.0.after ≡ stop = subst (λ ls. LevelsCome (scope_of w) ls b.0.after) levels r.1 in
+      begins_taken t.0 c b.0.below stop t.2 b.2 r.0 (subst (course.Begins t.0.after) after b.3)
+
+  pub lacks_takes : (w : WalkTree D C) (c : Course) → w.lacks_memory ≡ true → MayTake (tree_view law w) c
+      → course.Begins c (yields no_memory stop stop)
+  lacks_takes w c e t =
+      let b = subst (λ b. AheadUnlessLacking b (MayBeAhead w.steps t.0) t.0) e t.1 in
+      begins_taken t.0 c stop (yields no_memory stop stop) t.2 b.0 refl b.1
+
+-- without names it is the course of what is at the start
+along_plain : (scope : WalkScope) (at : Location) (after c : Course) → AlongComes scope [] at after c
+    → (s : Shown) × IsNamed s × (c ≡ place_course scope at s after)
+along_plain scope at after c (is_there kind d h e) = go h.0 h.1 h.2 h.3 where
+  go : (s : Shown) → IsNamed s → HasKind s kind → d ≡ entry_course scope at kind s after
+      → (s : Shown) × IsNamed s × (c ≡ place_course scope at s after)
+  go (a_leaf link) n k i = (
+    a_leaf link,
+    tt,
+    e ∙ (ap (asks (call at.path (found at.path kind))) i
+        ∙ ap (λ z. asks (call at.path (found at.path z)) (entry_course scope at z (a_leaf link) after)) k),
+  )
+  go (a_folder l) n k i = (
+    a_folder l,
+    n,
+    e ∙ (ap (asks (call at.path (found at.path kind))) i
+        ∙ ap (λ z. asks (call at.path (found at.path z)) (entry_course scope at z (a_folder l) after)) k),
+  )
+  go a_sealed n k i = (
+    a_sealed,
+    tt,
+    e ∙ (ap (asks (call at.path (found at.path kind))) i
+        ∙ ap (λ z. asks (call at.path (found at.path z)) (entry_course scope at z a_sealed after)) k),
+  )
+  go missing n k i = absurd k
+  go failing n k i = absurd k
+along_plain scope at after c (is_missing e) = (missing, tt, e)
+along_plain scope at after c (is_failing e) = (failing, tt, e)
+
+start_takes : (range : DepthRange) (start : List ℕ) (names : List (List ℕ)) (c : Course) → names ≡ []
+    → OriginTakes (record { root = start; path = start; candidate = []; names = names }) range c
+    → StartTakes (scope_in range start) c
+start_takes range start names c e (along d h b) =
+    let p = along_plain (scope_in range start) (start_location start) stop d
+    (subst (λ ns. AlongComes (scope_in range start) ns (start_location start) stop d) e h) in
+    walks p.0 p.1 (subst (course.Begins c) p.2 b)
+start_takes range start names c e (lacking b) = lacking_start b
+start_takes range start names c e (beyond l b) =
+    absurd (let z : length names ≡ 0 = ap length e in omega (arith, z, l))
+
 -- a walk of which no error can come
 fails_as_from : {D : Type 0} (least : ℕ) (start : List ℕ) (way : List (List ℕ)) (view : WalkView D)
     → FailsNowhere view → FailsFrom least start way view
@@ -213,6 +352,7 @@ pub ended_at : {D C : Type 0} (law : Law D C) (d : D) (origin : Origin) (range :
 ended_at law d origin range view h l = record {
   shown = λ s listed k told p m. absurd (omega (arith, l, m));
   beyond = λ s listed k told m. h.comes origin.path s listed k told;
+  takes = λ c t. beyond l (h.takes c t);
   above = λ m. h.ended;
   idle = λ m. h.idle;
   listings = h.listings;
@@ -232,6 +372,7 @@ pub lacking_at : {D C : Type 0} (law : Law D C) (d : D) (origin : Origin) (range
 lacking_at law d origin range view h l = record {
   shown = λ s listed k told p m. h.comes _ told;
   beyond = λ s listed k told m. h.comes _ told;
+  takes = λ c t. lacking (h.takes c t);
   above = λ m. absurd (omega (arith, l, m));
   idle = λ m. h.idle;
   listings = h.listings;
@@ -264,6 +405,7 @@ begins_plain law d start names range view e b =
           (pending nothing (walk_from (record { min = range.min; max = range.max; root = start })
           (record { path = start; candidate = []; depth = 0 }) s v nothing) listed (count_shown s))) e
           (b.shown s listed h told (subst ArePlain (sym e) tt) (omega (arith, long)));
+      takes = λ c t. start_takes range start names c e (b.takes c t);
       listings = b.listings;
       names = omega (arith, b.names, long);
       none_listed = b.none_listed;

@@ -10,8 +10,11 @@ use Rattle.wax_tree.specs.declared.steps.DepthRange.{DepthRange}
 use Rattle.wax_tree.specs.Plain.{WalkScope, plain, count_shown}
 use Rattle.wax_tree.specs.Prefix.{ArePlain, path_from, walk_from}
 use Rattle.wax_walk.specs.Forest.{Pending, pending, nothing}
-use Rattle.wax_walk.specs.Given.{Given}
-use Rattle.wax_walk.specs.View.{WalkView}
+use Rattle.wax_walk.specs.Course.{Course, stop, yields}
+use Rattle.wax_walk.specs.Course as course
+use Rattle.wax_walk.specs.Given.{Given, no_memory}
+use Rattle.wax_walk.specs.View.{MayTake, WalkView}
+use Rattle.wax_tree.specs.Courses.{AlongComes, IsNamed, plain_course}
 
 -- the greatest depth; if there is no bound, the greatest `usize`
 abbrev pub or_greatest : Option ℕ → ℕ
@@ -57,12 +60,18 @@ pub record FailsNowhere {D : Type 0} (view : WalkView D) : Type 0 where
 abbrev pub IsBegun : {D : Type 0} → WalkView D → Type 0
 IsBegun view = (view.to_begin ≡ 1) ⊎ (view.is_idle × (view.to_begin ≡ 0))
 
+-- what a walk may take: the course of a tree; or only the error that allocation failed
+pub data StartTakes (scope : WalkScope) (c : Course) : Type 0 where
+  walks : (s : Shown) → IsNamed s → course.Begins c (plain_course scope s) → StartTakes scope c
+  lacking_start : course.Begins c (yields no_memory stop stop) → StartTakes scope c
+
 -- the view of a walk over the directory d: what is shown at the start is to come, of the depths in range, and
 -- there are no names to follow
 pub record Begins {D C : Type 0} (law : Law D C) (d : D) (start : List ℕ) (range : DepthRange)
     (view : WalkView D) : Type 0 where
   pub shown : (s : Shown) (listed : List (List ℕ)) → law.shows d start s → law.tells d listed
       → view.to_come (pending nothing (plain (scope_in range start) s) listed (count_shown s))
+  pub takes : (c : Course) → MayTake view c → StartTakes (scope_in range start) c
   pub listings : view.listings_left ≡ range.budget + 1
   pub names : view.names_left ≡ 0
   pub none_listed : view.listings_open ≡ 0
@@ -81,6 +90,15 @@ pub record Origin : Type 0 where
   pub candidate : List ℕ
   pub names : List (List ℕ)
 
+-- what a walk from this origin may take: what comes along its names; only the error that allocation failed; or
+-- nothing, if there are more names than the greatest depth
+pub data OriginTakes (origin : Origin) (range : DepthRange) (c : Course) : Type 0 where
+  along : (d : Course) → AlongComes (scope_in range origin.root) origin.names
+      (record { path = origin.path; candidate = origin.candidate; depth = 0 }) stop d → course.Begins c d
+      → OriginTakes origin range c
+  lacking : course.Begins c (yields no_memory stop stop) → OriginTakes origin range c
+  beyond : range.max < length origin.names → course.Begins c stop → OriginTakes origin range c
+
 -- the view of a walk over the directory d: it follows the names of the origin and goes on from there, or
 -- yields one error if they don't lead there; if there are more names than the greatest depth, it yields
 -- nothing, has ended, and leaves the directory as it is
@@ -95,6 +113,7 @@ pub record BeginsAt {D C : Type 0} (law : Law D C) (d : D) (origin : Origin) (ra
   pub beyond : (s : Shown) (listed : List (List ℕ)) → law.shows d origin.path s → law.tells d listed
       → range.max < length origin.names
       → view.to_come (pending nothing nothing listed 0)
+  pub takes : (c : Course) → MayTake view c → OriginTakes origin range c
   pub above : range.max < length origin.names → view.has_ended
   pub idle : range.max < length origin.names → view.is_idle
   pub listings : view.listings_left ≡ range.budget + 1
@@ -112,6 +131,7 @@ pub record HasEnded {D C : Type 0} (law : Law D C) (d : D) (range : DepthRange)
     (view : WalkView D) : Type 0 where
   pub comes : (path : List ℕ) (s : Shown) (listed : List (List ℕ)) → law.shows d path s → law.tells d listed
       → view.to_come (pending nothing nothing listed 0)
+  pub takes : (c : Course) → MayTake view c → course.Begins c stop
   pub ended : view.has_ended
   pub idle : view.is_idle
   pub listings : view.listings_left ≡ range.budget + 1
@@ -129,6 +149,7 @@ pub record HasEnded {D C : Type 0} (law : Law D C) (d : D) (range : DepthRange)
 pub record LacksMemory {D C : Type 0} (law : Law D C) (d : D) (range : DepthRange)
     (view : WalkView D) : Type 0 where
   pub comes : (p : Pending Given) → law.tells d p.listed → view.to_come p
+  pub takes : (c : Course) → MayTake view c → course.Begins c (yields no_memory stop stop)
   pub idle : view.is_idle
   pub listings : view.listings_left ≡ range.budget + 1
   pub names : view.names_left ≡ 0

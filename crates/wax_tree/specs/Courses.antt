@@ -10,7 +10,7 @@ use Rattle.wax_walk.specs.Course.{Course, asks, call, continued, stop, yields}
 use Rattle.wax_walk.specs.declared.error.FaultKind.TheVariants.{BadName, Listing, NotAFolder, NotFound, NotText}
 use Rattle.wax_walk.specs.Given.{Given, fault}
 use Rattle.wax_tree.specs.Plain.{HasKind, IsFolder, Location, WalkScope, item_location, one_deeper}
-use Rattle.wax_tree.specs.Plain.{plain_entry}
+use Rattle.wax_tree.specs.Plain.{plain_entry, start_location}
 
 -- the entries of a folder have names that a path can hold, the misnamed items have none, at all depths
 abbrev pub AreNamed : Items → Type 0
@@ -108,3 +108,20 @@ module _ (scope : WalkScope) where
 
   abbrev pub AlongComes : List (List ℕ) → Location → Course → Course → Type 0
   AlongComes names at after c = IsAsked at (FoundComes names at after) after c
+
+  -- a location, by what is there, and what comes after it
+  abbrev pub place_course : Location → Shown → Course → Course
+  place_course at (a_leaf link) after = asks (call at.path (found at.path (leaf_kind link)))
+      (entry_course at (leaf_kind link) (a_leaf link) after)
+  place_course at (a_folder l) after = asks (call at.path (found at.path F.Folder))
+      (entry_course at F.Folder (a_folder l) after)
+  place_course at a_sealed after = asks (call at.path (found at.path F.Folder))
+      (entry_course at F.Folder a_sealed after)
+  place_course at missing after = asks (call at.path (absent at.path))
+      (yields (fault NotFound at.path at.depth) stop stop)
+  place_course at failing after = asks (call at.path (unseen at.path))
+      (yields (fault Listing at.path at.depth) stop after)
+
+  -- the walk from the start
+  abbrev pub plain_course : Shown → Course
+  plain_course s = place_course (start_location scope.root) s stop

@@ -1,24 +1,31 @@
 -- A walk for whose start allocation may have failed.
-use Rattle.std.specs.Prelude.{◌≡◌, ◌⊎◌, ℕ, ◌+◌, cond, true, false}
+use Rattle.std.specs.Prelude.{◌≡◌, ◌⊎◌, ℕ, ◌+◌, Bool, cond, true, false}
 use Rattle.wax_directory.specs.Law.{Law}
 use Rattle.wax_walk.specs.Forest.{Pending}
-use Rattle.wax_walk.specs.Given.{Given}
+use Rattle.wax_walk.specs.Course.{Ahead, Begins, stop, yields}
+use Rattle.wax_walk.specs.Given.{Given, no_memory}
 use Rattle.wax_walk.specs.View.{WalkView}
 use Rattle.wax_tree.specs.declared.walk_tree.WalkTree.{WalkTree}
 use Rattle.wax_tree.specs.Reaching.{MayFailAt, MayFailBelow}
 use Rattle.wax_tree.specs.Stepping.{items_left}
 use Rattle.wax_tree.specs.Walking.{PlainToCome, HasStopped, allowance, names_left, begins, open_lists}
-use Rattle.wax_tree.specs.Walking.{entering}
+use Rattle.wax_tree.specs.Walking.{MayBeAhead, entering}
 
 -- what is to come: anything, if allocation failed and that error wasn't yielded yet
 pub data MayCome {D C : Type 0} (law : Law D C) (w : WalkTree D C) (p : Pending Given) : Type 0 where
   lacks : w.lacks_memory ≡ true → law.tells w.steps.directory p.listed → MayCome law w p
   goes : w.lacks_memory ≡ false → PlainToCome law w.steps p → MayCome law w p
 
+-- what may be ahead: the error, if allocation failed and that wasn't yielded yet
+abbrev pub AheadUnlessLacking : Bool → Type 0 → Ahead → Type 0
+AheadUnlessLacking true ahead a = Begins a.below stop × Begins a.after (yields no_memory stop stop)
+AheadUnlessLacking false ahead a = ahead
+
 -- the view of the walk
 abbrev pub tree_view : {D C : Type 0} → Law D C → WalkTree D C → WalkView D
 tree_view law w = record {
   to_come = MayCome law w;
+  may_come = λ a. AheadUnlessLacking w.lacks_memory (MayBeAhead w.steps a) a;
   directory = w.steps.directory;
   listings_left = allowance w.steps;
   names_left = names_left w.steps;

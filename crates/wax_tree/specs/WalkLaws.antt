@@ -5,8 +5,12 @@ use Rattle.wax_tree.specs.declared.steps.StartPoint.{StartPoint}
 use Rattle.wax_directory.specs.Law.{Law}
 use Rattle.wax_tree.specs.declared.steps.Steps.{Steps}
 use Rattle.wax_tree.specs.declared.walk_tree.WalkTree.{WalkTree}
-use Rattle.wax_tree.specs.Lacking.{MayCome, lacks, goes, tree_view, gives_at_most}
-use Rattle.wax_tree.specs.Walking.{HasStopped, IsAlone, PlainToCome, entering_after}
+use Rattle.wax_tree.specs.Lacking.{AheadUnlessLacking, MayCome, lacks, goes, tree_view, gives_at_most}
+use Rattle.wax_tree.specs.declared.location.Location as code
+use Rattle.wax_tree.specs.Walking.{AheadUnless, EnteredComes, GoesAhead, HasStopped, IsAlone, MayBeAhead}
+use Rattle.wax_tree.specs.Walking.{PlainToCome, entering_after, scope_of}
+use Rattle.wax_directory.specs.Shown.{a_sealed}
+use Rattle.wax_walk.specs.Course.{Ahead, Begins, Course, IsNothing, ahead, stop, unknown}
 use Rattle.wax_walk.specs.Forest.{Pending, cancelled}
 use Rattle.wax_walk.specs.Given.{Given}
 use Rattle.wax_walk.specs.View.{CancelStep}
@@ -56,12 +60,51 @@ module _ {D C : Type 0} where
     cancel_now s p (lacks e t) = lacks e t
     cancel_now s p (goes e c) = goes e (cancel_steps s.steps p c)
 
+    entered_some : (s : Steps D C) (f : Option StartPoint) (e : Option code.Location)
+        → (c : Course) × EnteredComes (scope_of s) f e c
+    entered_some s (Some place) e = (stop, refl)
+    entered_some s None None = (stop, refl)
+    entered_some s None (Some e) = (_, (a_sealed, tt, tt, refl))
+
+    unentered : (s : Steps D C) (f : Option StartPoint) (c : Course)
+        → EnteredComes (scope_of s) f None c → c ≡ stop
+    unentered s (Some place) c h = h
+    unentered s None c h = h
+
+    drop_steps : (s : Steps D C) (b : Bool) (a c : Ahead)
+        → AheadUnless b (GoesAhead (record s { entered = None }) c) c → Begins a.below c.below
+        → Begins a.after c.after
+        → IsNothing a.below × (o : Ahead) × AheadUnless b (GoesAhead s o) o × Begins a.after o.after
+    drop_steps s true a c h below after = (
+      subst (Begins a.below) (ap (λ (v : Ahead). v.below) h) below,
+      ahead stop stop,
+      refl,
+      subst (Begins a.after) (ap (λ (v : Ahead). v.after) h) after,
+    )
+    drop_steps s false a c h below after =
+        let e = entered_some s s.first s.entered in (
+          subst (Begins a.below) (unentered s s.first c.below h.entered) below,
+          ahead e.0 c.after,
+          record { back = h.back; first = h.first; entered = e.1; levels = h.levels },
+          after,
+        )
+
+    drops : (s : WalkTree D C) (b : Bool) (a : Ahead)
+        → AheadUnlessLacking b (MayBeAhead (record s.steps { entered = None }) a) a
+        → IsNothing a.below
+        × AheadUnlessLacking b (MayBeAhead s.steps (ahead unknown a.after)) (ahead unknown a.after)
+    drops s true a h = (h.0, (tt, h.1))
+    drops s false a h =
+        let d = drop_steps s.steps s.steps.has_ended a h.0 h.1 h.2 h.3 in
+        (d.0, (d.1, d.2, tt, d.3))
+
     stopped_still : (s : Steps D C) → HasStopped s → HasStopped (record s { entered = None })
     stopped_still s e = elim e [ inl a ↦ inl a | inr b ↦ inr (b.0, refl, b.2) ]
 
     cancel_step : (s : WalkTree D C) → CancelStep (tree_view law s) (tree_view law (uncancelled s))
     cancel_step s = record {
       leaves_out = cancel_now s;
+      drops = drops s s.lacks_memory;
       directory = refl;
       listings_left = refl;
       names_left = refl;

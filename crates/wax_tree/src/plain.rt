@@ -1,9 +1,10 @@
 //! The plain walk as a list.
 
-ghost use Rattle.std.specs.Prelude.{◌≡◌, ◌+◌, List, [], ℕ, IfOk, filter, map, ⊤};
+ghost use Rattle.std.specs.Prelude.{◌≡◌, ◌+◌, ◌++◌, List, [], ℕ, IfOk, filter, map, ⊤};
+ghost use Rattle.wax_directory.specs.History.{Answer};
 ghost use Rattle.wax_directory.specs.Shown.{Shown};
 ghost use Rattle.wax_tree.specs.Begins.{IsPassed, behavior_range};
-ghost use Rattle.wax_tree.specs.Whole.{plain_pending, EntriesAre};
+ghost use Rattle.wax_tree.specs.Whole.{plain_pending, EntriesAnswered, EntriesAre};
 ghost use Rattle.wax_walk.specs.Collected.{AreOfFolders, GaveAll};
 ghost use Rattle.wax_walk.specs.Entries.{given_outcome};
 ghost use Rattle.wax_walk.specs.Given.{Given, is_kept};
@@ -21,8 +22,10 @@ use wax_walk::{Entry, TreeEntry, WalkError, collect};
 /// Over a lawful directory, the entries are exactly those of the tree that it shows at the start,
 /// at the depths of `behavior`, with the errors of the folders that are listed. If memory or the
 /// budget runs out, the list is a prefix of that and then one error: 17 for memory, or 16 if the
-/// folders together hold more items than the budget. Over any directory, each error is of a folder
-/// that was yielded before it, of the start, or of a folder above the least depth.
+/// folders together hold more items than the budget. Over any directory, whatever it answered, its
+/// answers are those of some tree, and the items are the walk of that tree, or a beginning of both and
+/// one error; and each error is of a folder that was yielded before it, of the start, or of a folder
+/// above the least depth.
 ///
 /// # Errors
 ///
@@ -45,6 +48,10 @@ pub fn entries<D: Directory>(
         → D.law.tells directory listed
         → GaveAll (D.law.tells r.1) (behavior.budget + 1)
         (plain_pending (behavior_range behavior) start.now s listed)
+        (map (given_outcome ⟦<TreeEntry as Entry>⟧.facts ⟦<TreeEntry as Entry>⟧.facts) r.0.items)) }
+    ensures answered { IfOk result (λ r. (told : List Answer)
+        × (D.law.answered r.1 ≡ D.law.answered directory ++ told)
+        × EntriesAnswered (behavior_range behavior) start.now told
         (map (given_outcome ⟦<TreeEntry as Entry>⟧.facts ⟦<TreeEntry as Entry>⟧.facts) r.0.items)) }
     ensures errors { IfOk result (λ r. (xs : List Given)
         × AreOfFolders (IsPassed (behavior_range behavior).min start.now []) (behavior_range behavior).max xs

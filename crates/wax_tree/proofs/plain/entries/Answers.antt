@@ -1,8 +1,9 @@
-use Rattle.std.proofs.Common.{[], ◌+◌, subst}
+use Rattle.std.proofs.Common.{◌≡◌, [], ◌+◌, ◌++◌, subst}
 use Rattle.wax_walk.proofs.Collecting.{map_ok}
 use Rattle.wax_walk.specs.Collected.{GaveAll}
 use Rattle.wax_tree.specs.Begins.{behavior_range, scope_in}
 use Rattle.wax_tree.specs.Whole.{plain_pending}
+use Rattle.wax_tree.proofs.Answered.{entries_answered}
 use Rattle.wax_tree.proofs.InRange.{entries_are, untold}
 use Rattle.wax_tree.proofs.Kept.{plain_kept}
 use Rattle.wax_tree.proofs.Reaching.{errors_passed}
@@ -58,5 +59,16 @@ returns-clause-errors g c =
       h.0,
       errors_passed range.min c.args.start.now [] range.max _ h.0 b.fails b.opens_above h.1.of_folders,
       h.3,
+    ))
+    c.collect.result c.collect.ensures.took
+
+pub returns-clause-answered : goal.returns-clause-answered
+returns-clause-answered g c =
+    let range = behavior_range c.args.behavior in
+    let b = c.walk_from.ensures.begins in
+    map_ok (λ r h. (
+      h.1.told,
+      subst (λ d. g.D.Directory.law.answered r.1 ≡ g.D.Directory.law.answered d ++ h.1.told) b.directory h.1.answered,
+      entries_answered range c.args.start.now _ h.1.told h.0 _ b.takes h.1.ends_there h.1.course h.3,
     ))
     c.collect.result c.collect.ensures.took

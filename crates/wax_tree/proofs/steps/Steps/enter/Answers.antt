@@ -162,17 +162,17 @@ returns-after-push-clause-course g c going first entered =
     let answered = c.in-Ok.ensures.answered ∙ ap (λ p. law.answered w.directory ++ opened p ∷ []) c.as_str.ensures.value in
     elim c.match-push.branch [
       | in-Ok-push v ↦ rw (v.self-is, v.result-is) (record {
-          calls = calls;
-          answered = answered;
-          uses = opened_uses w (record w { directory = d; levels = c.push.new.self })
-              (record { folder = c.args.folder; cursor = c.in-Ok.cursor }) v.in-Ok-push.ensures.items refl going
-              first entered;
-        })
+        calls = calls;
+        answered = answered;
+        uses = opened_uses w (record w { directory = d; levels = c.push.new.self })
+            (record { folder = c.args.folder; cursor = c.in-Ok.cursor }) v.in-Ok-push.ensures.items refl going
+            first entered;
+      })
       | in-Err v ↦ rw (v.self-is, v.result-is, v.fail.ensures.memory, v.fail.ensures.ended) (record {
-          calls = calls;
-          answered = answered;
-          uses = memory_uses calls _ (Gives (Err Memory)) _ (some_opened w c.args.folder) refl refl;
-        })
+        calls = calls;
+        answered = answered;
+        uses = memory_uses calls _ (Gives (Err Memory)) _ (some_opened w c.args.folder) refl refl;
+      })
     ]
 
 pub returns-in-Err-Failed-clause-course : goal.returns-in-Err-Failed-clause-course
@@ -188,8 +188,13 @@ returns-in-Err-Failed-clause-course g c going first entered =
       uses = fault_uses calls
           (λ rest d. FolderComes (scope_of w) (located c.args.folder) rest (asking calls d)) v v _
           (fault Listing path c.saturating_sub-depth.result) refl going first entered refl
-          (λ rest. (a_sealed, tt, tt, ap (λ n. asks (call path (refused path)) (yields (fault Listing path n) stop rest))
-          c.saturating_sub-depth.ensures));
+          (λ rest. (
+            a_sealed,
+            tt,
+            tt,
+            ap (λ n. asks (call path (refused path)) (yields (fault Listing path n) stop rest))
+                c.saturating_sub-depth.ensures,
+          ));
     }
 
 pub returns-in-Err-Memory-clause-course : goal.returns-in-Err-Memory-clause-course

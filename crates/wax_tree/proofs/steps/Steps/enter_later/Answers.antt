@@ -26,8 +26,11 @@ returns-in_ok-folder-clause-enters g c =
     let f = facts_of c.args.entry.now in
     let is : f.kind ≡ Folder = search rules in
     let at : located c.in_ok-folder.folder ≡ one_deeper (entry_location f) =
-    c.in_ok-folder.ensures ∙ (ap (λ p. record { path = p; candidate = c.root_relative_paths.result.1.now;
-    depth = c.depth-depth.result + 1 }) c.path.ensures
+    c.in_ok-folder.ensures ∙ (ap (λ p. record {
+      path = p;
+      candidate = c.root_relative_paths.result.1.now;
+      depth = c.depth-depth.result + 1;
+    }) c.path.ensures
     ∙ (ap (λ p. record { path = f.path; candidate = p; depth = c.depth-depth.result + 1 })
     c.root_relative_paths.ensures.candidate
     ∙ ap (λ n. record { path = f.path; candidate = f.candidate; depth = n + 1 }) c.depth-depth.ensures)) in

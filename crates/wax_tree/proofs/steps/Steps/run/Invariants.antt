@@ -1,6 +1,7 @@
 use Rattle.std.proofs.Common.{◌≡◌, ◌≤◌, ◌+◌, ℕ, List}
 use Rattle.wax_walk.specs.Forest.{Pending}
 use Rattle.wax_walk.specs.Given.{Given}
+use Rattle.wax_tree.proofs.CourseRuns.{CourseSoFar}
 use Rattle.wax_tree.proofs.Lead.{ListsBetween}
 use Rattle.wax_tree.proofs.Listing.{AccountsSoFar}
 use Rattle.wax_tree.specs.Reaching.{MayReach}
@@ -17,6 +18,7 @@ invariant-loop-item g l =
       idles : HasStopped l.fn.self → l.self.directory ≡ l.fn.self.directory;
       names : names_left l.self ≤ names_left l.fn.self;
       accounts : AccountsSoFar law l.fn.self l.self;
+      course : CourseSoFar law l.fn.self l.self;
       above : l.self.max ≡ l.fn.self.max;
       from : l.self.min ≡ l.fn.self.min;
       reaches : (path : List ℕ) (n : ℕ) → MayReach l.self path n → MayReach l.fn.self path n;

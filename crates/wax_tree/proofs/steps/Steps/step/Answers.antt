@@ -204,7 +204,7 @@ returns-in-Some-take-clause-course g c =
     let first : w.first ≡ None = sym c.take.ensures.value ∙ c.in_default.is in
     let some = sym c.take-2.ensures.value ∙ c.in-Some-take.is in
     course_moved g.D.Directory.law w.directory _ _ c.enter.result c.enter.new.self (λ d h.
-      let below = entered_course scope (located c.in-Some-take.folder) h.2.0 in (
+    let below = entered_course scope (located c.in-Some-take.folder) h.2.0 in (
       ahead below h.0,
       comes_ahead w (ahead below h.0) going (record {
         back = h.0;
@@ -242,5 +242,8 @@ returns-in-None-clause-course g c =
     let none : w.levels.items ≡ [] =
     none_left w.levels.items
     (λ i. let bad : false ≡ true = c.in-None.ensures.variant.1 (omega (arith, i, w.levels.ok.0)) in (cc)) in
-    stops_so g.D.Directory.law w _ refl (inr (sym c.take.ensures.value ∙ c.in_default.is,
-    sym c.take-2.ensures.value ∙ c.in_default-take.is, none))
+    stops_so g.D.Directory.law w _ refl (inr (
+      sym c.take.ensures.value ∙ c.in_default.is,
+      sym c.take-2.ensures.value ∙ c.in_default-take.is,
+      none,
+    ))

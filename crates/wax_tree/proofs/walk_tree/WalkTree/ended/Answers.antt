@@ -2,7 +2,7 @@ use Rattle.std.proofs.Common.{refl, ap, length, inr, false}
 use Rattle.std.specs.Prelude.{None}
 use Rattle.wax_tree.specs.declared.steps.Steps.{Steps}
 use Rattle.wax_tree.specs.Lacking.{goes}
-use Rattle.wax_tree.proofs.Making.{made_nothing}
+use Rattle.wax_tree.proofs.Making.{made_nothing, none_takes}
 use Rattle.wax_tree.proofs.Reaching.{none_entered, none_reached}
 use Rattle.wax_tree.proofs.walk_tree.WalkTree.ended.Goals as goal
 
@@ -26,6 +26,7 @@ returns-clause-ended g c =
           made
           listed refl refl c.new-2.ensures.levels told
           (g.met.D.Directory.none_open c.args.directory path s h));
+      takes = λ d t. none_takes law made d refl refl c.new-2.ensures.levels refl t;
       ended = (refl, inr (refl, refl, c.new-2.ensures.levels));
       idle = inr (inr (refl, refl, c.new-2.ensures.levels));
       listings = refl;

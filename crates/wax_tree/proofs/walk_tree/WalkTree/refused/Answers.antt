@@ -1,12 +1,14 @@
-use Rattle.std.proofs.Common.{refl, ap, length, inl, false}
+use Rattle.std.proofs.Common.{refl, ap, length, inl, false, true}
 use Rattle.std.specs.Prelude.{None}
 use Rattle.wax_tree.specs.declared.steps.Steps.{Steps}
 use Rattle.wax_tree.specs.Lacking.{lacks}
+use Rattle.wax_tree.proofs.Making.{lacks_takes}
 use Rattle.wax_tree.proofs.Reaching.{none_entered, none_reached}
 use Rattle.wax_tree.proofs.walk_tree.WalkTree.refused.Goals as goal
 
 pub returns-clause-lacks : goal.returns-clause-lacks
 returns-clause-lacks g c =
+    let law = g.D.Directory.law in
     let made : Steps _ _ = record {
       alloc = c.args.alloc;
       directory = c.args.directory;
@@ -21,6 +23,7 @@ returns-clause-lacks g c =
     } in
     rw c.new-2.ensures.fields (record {
       comes = λ p told. lacks refl told;
+      takes = λ d t. lacks_takes law (record { steps = made; lacks_memory = true }) d refl t;
       idle = inl refl;
       listings = refl;
       names = refl;

@@ -2,9 +2,10 @@ use Rattle.std.proofs.Common.{◌≡◌, ◌≤◌, ◌+◌, ◌-◌, ◌^◌, l
 use Rattle.std.specs.Prelude.{Some, None}
 use Rattle.wax_tree.specs.declared.steps.StartPoint.{StartPoint}
 use Rattle.wax_tree.specs.declared.steps.Steps.{Steps}
+use Rattle.wax_tree.specs.Begins.{along}
 use Rattle.wax_tree.specs.Lacking.{goes}
 use Rattle.wax_tree.specs.Prefix.{from_last}
-use Rattle.wax_tree.proofs.Making.{ended_at, lacking_at, made_at, from_last_length}
+use Rattle.wax_tree.proofs.Making.{ended_at, lacking_at, made_at, made_takes, from_last_length}
 use Rattle.wax_tree.proofs.Locations.{candidate_is, depth_is, path_is}
 use Rattle.wax_tree.proofs.Reaching.{begins_passed, none_entered}
 use Rattle.wax_tree.proofs.walk_tree.WalkTree.to_place.Goals as goal
@@ -57,6 +58,11 @@ returns-in-Ok-new-clause-begins g c =
           (path_is at _ is) (candidate_is at _ is) (depth_is at _ is) refl h p fits told
           (g.met.D.Directory.none_open c.args.directory c.args.start.now s h));
       beyond = λ s listed h told d. absurd (omega (arith, d, less, long));
+      takes = λ d t.
+          let m = made_takes law made place
+          (record { path = c.args.start.now; candidate = c.args.candidate.now; depth = 0 }) c.args.root.now d refl
+          c.new-in-Ok-new.ensures.levels refl is root t in
+          along m.0 m.1 m.2;
       above = λ d. absurd (omega (arith, d, less, long));
       idle = λ d. absurd (omega (arith, d, less, long));
       listings = refl;

@@ -1,0 +1,191 @@
+-- What was answered is what a tree answers.
+use Rattle.std.proofs.Common.{◌≡◌, ◌∙◌, ℕ, Bool, true, false, cond, nat_lt, List, [], ◌∷◌, ◌++◌, append_assoc, filter}
+use Rattle.std.proofs.Common.{refl, sym, ap, subst}
+use Rattle.std.proofs.lemmas.List.{append-nil}
+use Rattle.wax_directory.specs.declared.directory.FileType.{FileType}
+use Rattle.wax_directory.specs.declared.directory.FileType.TheVariants.{Folder}
+use Rattle.wax_directory.specs.History.{Answer}
+use Rattle.wax_directory.specs.Shown.{Items, end, leaf, folder, sealed, misnamed, unread, not_text, Shown}
+use Rattle.wax_directory.specs.Shown.{a_leaf, a_folder, a_sealed, missing, failing, leaf_kind, join}
+use Rattle.wax_walk.specs.Collected.{EndsThere, TookCourse, whole, cut_short}
+use Rattle.wax_walk.specs.Course.{Begins, Call, Course, CutsShort, IsKnownFirst, IsWhole, answers, asks, calls_of}
+use Rattle.wax_walk.specs.Course.{continued, items_of, stop, unknown, yields}
+use Rattle.wax_walk.specs.declared.error.FaultKind.TheVariants as K
+use Rattle.wax_walk.specs.Forest.{Forest, nothing, item, lists, followed_by, preorder}
+use Rattle.wax_walk.specs.Given.{Given, entry, fault, no_memory, is_kept}
+use Rattle.wax_walk.specs.View.{MayTake, WalkView}
+use Rattle.wax_walk.proofs.Collecting.{preorder_append}
+use Rattle.wax_walk.proofs.Courses.{begins_whole, comes_first}
+use Rattle.wax_tree.specs.declared.steps.DepthRange.{DepthRange}
+use Rattle.wax_tree.specs.Begins.{StartTakes, lacking_start, scope_in, walks}
+use Rattle.wax_tree.specs.Courses.{IsNamed, below_course, course_above_max, course_at_depth, entry_course}
+use Rattle.wax_tree.specs.Courses.{items_course, plain_course}
+use Rattle.wax_tree.specs.Plain.{WalkScope, Location, above_max, at_depth, below_forest, entry_forest, item_location}
+use Rattle.wax_tree.specs.Plain.{items_forest, one_deeper, plain, start_location}
+use Rattle.wax_tree.specs.Whole.{EntriesAnswered, as_told, calls_for, told_in_part, yielded}
+use Rattle.wax_tree.specs.Whole as all
+use Rattle.wax_tree.proofs.InRange.{plain_yielded}
+use Rattle.wax_tree.proofs.Kept.{error_kept, first_kept}
+
+-- the course is whole and yields what the forest does
+pub record Yields (c : Course) (f : Forest Given) : Type 0 where
+  pub is_whole : IsWhole c
+  pub items : items_of c ≡ preorder f
+
+nothing_yields : Yields stop nothing
+nothing_yields = record { is_whole = tt; items = refl }
+
+whole_continued : (c d : Course) → IsWhole c → IsWhole d → IsWhole (continued c d)
+whole_continued stop d w v = v
+whole_continued unknown d w v = absurd w
+whole_continued (asks q c) d w v = whole_continued c d w v
+whole_continued (yields x b a) d w v = (w.0, whole_continued a d w.1 v)
+
+items_continued : (c d : Course) → IsWhole c → items_of (continued c d) ≡ items_of c ++ items_of d
+items_continued stop d w = refl
+items_continued unknown d w = absurd w
+items_continued (asks q c) d w = items_continued c d w
+items_continued (yields x b a) d w = ap (λ z. x ∷ (items_of b ++ z)) (items_continued a d w.1)
+    ∙ ap (λ z. x ∷ z) (sym (append_assoc (items_of b) (items_of a) (items_of d)))
+
+continued_yields : (b a : Course) (f g : Forest Given) → Yields b f → Yields a g
+    → Yields (continued b a) (followed_by f g)
+continued_yields b a f g h k = record {
+  is_whole = whole_continued b a h.is_whole k.is_whole;
+  items = items_continued b a h.is_whole ∙ (ap (λ z. z ++ items_of a) h.items
+      ∙ (ap (λ z. preorder f ++ z) k.items ∙ sym (preorder_append f g)));
+}
+
+item_yields : (x : Given) (b a : Course) (f g : Forest Given) → Yields b f → Yields a g
+    → Yields (yields x b a) (item x f g)
+item_yields x b a f g h k = record {
+  is_whole = (h.is_whole, k.is_whole);
+  items = ap (λ z. x ∷ (z ++ items_of a)) h.items ∙ ap (λ z. x ∷ (preorder f ++ z)) k.items;
+}
+
+either_yields : (t : Bool) (c d : Course) (f g : Forest Given) → Yields c f → Yields d g
+    → Yields (cond t c d) (cond t f g)
+either_yields true c d f g h k = h
+either_yields false c d f g h k = k
+
+asked_yields : (q : Call) (c : Course) (f : Forest Given) → Yields c f → Yields (asks q c) f
+asked_yields q c f h = record { is_whole = h.is_whole; items = h.items }
+
+listed_yields : (q : Call) (path : List ℕ) (c : Course) (f : Forest Given) → Yields c f
+    → Yields (asks q c) (lists path f)
+listed_yields q path c f h = record { is_whole = h.is_whole; items = h.items }
+
+module _ (scope : WalkScope) where
+  depth_yields : (depth : ℕ) (x : Given) (b a : Course) (f g : Forest Given) → Yields b f → Yields a g
+      → Yields (course_at_depth scope depth x b a) (at_depth scope depth x f g)
+  depth_yields depth x b a f g h k = either_yields (nat_lt depth scope.min) (continued b a) (yields x b a)
+      (followed_by f g) (item x f g) (continued_yields b a f g h k) (item_yields x b a f g h k)
+
+  max_yields : (depth : ℕ) (c : Course) (f : Forest Given) → Yields c f
+      → Yields (course_above_max scope depth c) (above_max scope depth f)
+  max_yields depth c f h = either_yields (nat_lt depth scope.max) c stop f nothing h nothing_yields
+
+  fault_yields : (x : Given) → Yields (yields x stop stop) (item x nothing nothing)
+  fault_yields x = item_yields x stop stop nothing nothing nothing_yields nothing_yields
+
+  items_yield : (at : Location) (l : Items) → Yields (items_course scope at l) (items_forest scope at l)
+  items_yield at end = record { is_whole = tt; items = refl }
+  items_yield at (leaf x link rest) = asked_yields _ _ _ (depth_yields at.depth _ stop (items_course scope at rest)
+      nothing (items_forest scope at rest) nothing_yields (items_yield at rest))
+  items_yield at (folder x inner rest) = asked_yields _ _ _ (depth_yields at.depth _ _ (items_course scope at rest)
+      _ (items_forest scope at rest)
+      (max_yields at.depth _ _ (listed_yields _ _ _ _ (items_yield (one_deeper (item_location at x)) inner)))
+      (items_yield at rest))
+  items_yield at (sealed x rest) = asked_yields _ _ _ (depth_yields at.depth _ _ (items_course scope at rest)
+      _ (items_forest scope at rest)
+      (max_yields at.depth _ _ (listed_yields _ _ _ _ (fault_yields (fault K.Listing (join at.path x) at.depth))))
+      (items_yield at rest))
+  items_yield at (misnamed x kind rest) = asked_yields _ _ _ (item_yields _ stop (items_course scope at rest)
+      nothing (items_forest scope at rest) nothing_yields (items_yield at rest))
+  items_yield at (unread rest) = asked_yields _ _ _ (item_yields _ stop (items_course scope at rest) nothing
+      (items_forest scope at rest) nothing_yields (items_yield at rest))
+  items_yield at (not_text rest) = asked_yields _ _ _ (item_yields _ stop (items_course scope at rest) nothing
+      (items_forest scope at rest) nothing_yields (items_yield at rest))
+
+  below_yields : (s : Shown) → let at = start_location scope.root in
+      Yields (below_course scope at s) (below_forest scope at s)
+  below_yields (a_leaf link) = nothing_yields
+  below_yields (a_folder l) = max_yields 0 _ _ (listed_yields _ _ _ _ (items_yield _ l))
+  below_yields a_sealed = max_yields 0 _ _ (listed_yields _ _ _ _ (fault_yields (fault K.Listing scope.root 0)))
+  below_yields missing = nothing_yields
+  below_yields failing = nothing_yields
+
+  plain_yields : (s : Shown) → Yields (plain_course scope s) (plain scope s)
+  plain_yields (a_leaf link) = asked_yields _ _ _ (depth_yields 0 _ _ stop _ nothing (below_yields (a_leaf link))
+      nothing_yields)
+  plain_yields (a_folder l) = asked_yields _ _ _ (depth_yields 0 _ _ stop _ nothing (below_yields (a_folder l))
+      nothing_yields)
+  plain_yields a_sealed = asked_yields _ _ _ (depth_yields 0 _ _ stop _ nothing (below_yields a_sealed)
+      nothing_yields)
+  plain_yields missing = record { is_whole = (tt, tt); items = refl }
+  plain_yields failing = record { is_whole = (tt, tt); items = refl }
+
+-- an error that cuts a course short is kept
+cutting_kept : (calls : List Call) (x : Given) → CutsShort calls x → is_kept x ≡ true
+cutting_kept calls no_memory s = refl
+cutting_kept calls (fault kind path depth) s = refl
+cutting_kept calls (entry m f) s = absurd s
+
+module _ (range : DepthRange) (start : List ℕ) where
+  items_plain : (s : Shown) → items_of (plain_course (scope_in range start) s) ≡ yielded range (all.whole start s)
+  items_plain s = (plain_yields (scope_in range start) s).items ∙ plain_yielded range start s
+
+  -- only an error came, and nothing was asked
+  lacks_answered : (told : List Answer) (xs : List Given) (x : Given) → told ≡ [] → xs ≡ x ∷ []
+      → CutsShort [] x → EntriesAnswered range start told xs
+  lacks_answered told xs x e f s =
+      told_in_part missing [] (calls_for range start missing) x tt refl e ([], _, f, refl) s
+
+  first_only : (c : Course) (x : Given) (told : List Answer) (xs : List Given) → EndsThere xs
+      → Begins c (yields no_memory stop stop) → told ≡ answers (calls_of c) → xs ≡ items_of c ++ x ∷ []
+      → CutsShort (calls_of c) x → EntriesAnswered range start told (filter is_kept xs)
+  first_only unknown x told xs ends b e f s =
+      lacks_answered told (filter is_kept xs) x e
+      (ap (filter is_kept) f ∙ ap (λ k. cond k (x ∷ []) []) (cutting_kept [] x s)) s
+  first_only stop x told xs ends b e f s = absurd (let i : yields no_memory stop stop ≡ stop = b in (cc))
+  first_only (asks q c) x told xs ends b e f s =
+      absurd (let i : yields no_memory stop stop ≡ asks q b.0 = b.1 in (cc))
+  first_only (yields y d a) x told xs ends b e f s =
+      let i : yields no_memory stop stop ≡ yields y b.0 b.1 = b.2 in
+      let same : y ≡ no_memory = cc in
+      let parts : xs ≡ [] ++ no_memory ∷ ((items_of d ++ items_of a) ++ x ∷ []) =
+      f ∙ ap (λ z. z ∷ ((items_of d ++ items_of a) ++ x ∷ [])) same in
+      let none = ends [] ((items_of d ++ items_of a) ++ x ∷ []) no_memory parts tt in
+      absurd (not_last (items_of d ++ items_of a) none) where
+        not_last : (zs : List Given) → zs ++ x ∷ [] ≡ [] → ⊥
+        not_last [] e = cc
+        not_last (z ∷ zs) e = cc
+
+  pub entries_answered : {D : Type 0} (view : WalkView D) (told : List Answer) (xs ys : List Given)
+      → ((c : Course) → MayTake view c → StartTakes (scope_in range start) c) → EndsThere xs
+      → TookCourse view told xs → ys ≡ filter is_kept xs → EntriesAnswered range start told ys
+  entries_answered view told xs ys takes ends (whole c t w e f) k = elim (takes c t) [
+    | walks s n b ↦
+        let same = begins_whole c (plain_course (scope_in range start) s) w b in
+        let items = f ∙ ap items_of same in
+        let kept = first_kept (scope_in range start) s xs []
+        (append-nil xs ∙ (items ∙ (plain_yields (scope_in range start) s).items)) in
+        as_told s n (e ∙ ap (λ z. answers (calls_of z)) same) (k ∙ (kept ∙ (items ∙ items_plain s)))
+    | lacking_start b ↦
+        let same = begins_whole c (yields no_memory stop stop) w b in
+        lacks_answered told ys no_memory (e ∙ ap (λ z. answers (calls_of z)) same)
+        (k ∙ ap (filter is_kept) (f ∙ ap items_of same)) tt
+  ]
+  entries_answered view told xs ys takes ends (cut_short c x t first e f s) k = elim (takes c t) [
+    | walks d n b ↦
+        let p = comes_first c (plain_course (scope_in range start) d) first b in
+        let kept = error_kept (scope_in range start) d (items_of c) p.items x (cutting_kept (calls_of c) x s)
+        (p.items_are ∙ (plain_yields (scope_in range start) d).items) in
+        told_in_part d (calls_of c) p.calls x n p.calls_are e (
+          items_of c,
+          p.items,
+          k ∙ (ap (filter is_kept) f ∙ kept),
+          p.items_are ∙ items_plain d,
+        ) s
+    | lacking_start b ↦ subst (EntriesAnswered range start told) (sym k) (first_only c x told xs ends b e f s)
+  ]
