@@ -1,5 +1,5 @@
 -- What is wanted of a walk comes, and is what is kept.
-use Rattle.std.proofs.Common.{◌≡◌, ℕ, ◌+◌, ◌<◌, ◌≤◌, Bool, true, false, List, [], ◌∷◌, length, filter}
+use Rattle.std.proofs.Common.{◌≡◌, ℕ, ◌+◌, ◌<◌, ◌≤◌, Bool, true, false, List, [], ◌∷◌, ◌++◌, length, filter}
 use Rattle.std.proofs.Common.{refl, sym, ap, subst, ◌∙◌, arith, inl, inr}
 use Rattle.std.specs.Prelude.{if◌then◌else◌, All}
 use Rattle.std.proofs.lemmas.Bool.{ltb-false, ltb-true}
@@ -12,6 +12,7 @@ use Rattle.wax_walk.specs.Candidates.{Candidate, of_candidate}
 use Rattle.wax_walk.specs.Collected.{GaveAll, whole, lacks_memory, over_budget, Took, count_to_open}
 use Rattle.wax_walk.specs.Collected.{AreOfFolders, HasFolder, all_fault_counts, all_items_lost}
 use Rattle.wax_walk.specs.declared.error.FaultKind.TheVariants.{Budget}
+use Rattle.wax_walk.proofs.Taking.{course_seen}
 use Rattle.wax_walk.specs.Forest.{Pending, Forest, nothing, pending, preorder, listings}
 use Rattle.wax_walk.specs.Given.{Mark, Given, fault, no_memory, is_kept}
 use Rattle.wax_walk.specs.Ruled.{ruled_view}
@@ -49,6 +50,9 @@ module _ {D C : Type 0} (law : Law D C) where
   took_seen this that new xs seen took = record {
     all = λ p h.
         subst (λ n. GaveAll (law.tells new) n p xs) seen.listings_left (took.all p (seen.to_come p h));
+    told = took.told;
+    answered = took.answered ∙ ap (λ d. law.answered d ++ took.told) seen.directory;
+    course = course_seen this that took.told xs seen took.course;
     counts = subst (λ v. CountsFaults (all_fault_counts xs) (all_items_lost xs) (law.tally v) (law.tally new))
         seen.directory took.counts;
     taken = took.taken;

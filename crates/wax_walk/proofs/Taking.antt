@@ -8,8 +8,15 @@ use Rattle.wax_walk.specs.Collected.{TookCourse, whole, cut_short}
 use Rattle.wax_walk.specs.Course.{Ahead, Begins, Call, Course, CutsShort, IsKnownFirst, IsWhole, all_ahead}
 use Rattle.wax_walk.specs.Course.{answers, asking, calls_of, items_of, stop, unknown, yields}
 use Rattle.wax_walk.specs.Given.{Given, entry, fault, no_memory}
-use Rattle.wax_walk.specs.View.{WalkView, Follows, MayTake, went_on, ended_so, was_cut}
+use Rattle.wax_walk.specs.View.{WalkView, Follows, IsSeenAs, MayTake, went_on, ended_so, was_cut}
 use Rattle.wax_walk.proofs.Courses.{calls_asking, first_asking, items_asking, known_parts, whole_asking}
+
+-- a course that a walk took, by a view that this one implies
+pub course_seen : {D : Type 0} (this that : WalkView D) (told : List Answer) (xs : List Given)
+    → IsSeenAs this that → TookCourse that told xs → TookCourse this told xs
+course_seen this that told xs seen (whole c t w e f) = whole c (t.0, seen.may_come t.0 t.1, t.2) w e f
+course_seen this that told xs seen (cut_short c x t first e f s) =
+    cut_short c x (t.0, seen.may_come t.0 t.1, t.2) first e f s
 
 -- a course of the walk that goes on as c after these calls and items
 pub record GoesOnAs {D : Type 0} (walk : WalkView D) (calls : List Call) (xs : List Given)

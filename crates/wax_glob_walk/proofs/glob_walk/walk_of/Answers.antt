@@ -4,6 +4,7 @@ use Rattle.wax_glob_walk.proofs.glob_walk.walk_of.Goals as goal
 pub returns-clause-view : goal.returns-clause-view
 returns-clause-view g c = record {
   to_come = λ p h. h;
+  may_come = λ a i. i;
   directory = refl;
   listings_left = refl;
   names_left = refl;
