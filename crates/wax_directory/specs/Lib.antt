@@ -2,6 +2,7 @@ pub mod Shown
 pub mod Answers
 pub mod Counting
 pub mod Law
+pub mod Independent
 pub mod Calls
 pub mod Listing
 pub mod Names

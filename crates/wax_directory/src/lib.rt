@@ -4,6 +4,7 @@
 mod copies;
 pub mod directory;
 pub mod failing;
+pub mod independent;
 pub mod path;
 mod paths;
 pub mod starving;
