@@ -8,3 +8,4 @@ pub mod RuleSteps
 pub mod ClosureSteps
 pub mod Leaving
 pub mod Sharing
+pub mod PathsAlong
