@@ -13,8 +13,8 @@ abbrev pub texts_along : PathTexts → List (List ℕ) → PathTexts
 texts_along at [] = at
 texts_along at (x ∷ names) = texts_along (item_texts at x) names
 
--- the candidate of an entry is its names from the start, joined by `/`; its path is the start, a `/` unless the
--- start is empty or ends with one, and the candidate
+-- the candidate of an entry is its names from the start, joined by `/`; its path is the start, a `/` unless
+-- the start is empty or ends with one, and the candidate
 abbrev pub PathsAreJoined : Type 0
 PathsAreJoined = (start x : List ℕ) (names : List (List ℕ)) → All IsPlain (x ∷ names)
     → texts_along (start_texts start) (x ∷ names) ≡ record {
