@@ -1,6 +1,7 @@
 pub mod Depths
 pub mod Plain
 pub mod Prefix
+pub mod Follows
 pub mod Reaching
 pub mod Walking
 pub mod Stepping
