@@ -1,3 +1,5 @@
+pub mod CopySizes
+pub mod FirstRow
 pub mod Rules
 pub mod Situated
 pub mod Sizes

@@ -2,6 +2,9 @@
 //! breaks.
 #![tactic(auto)]
 
+mod laws;
+
+pub use laws::{law_of_copies, law_of_tables};
 use thiserror::Error;
 use wax_query::diagnostics::{CompositeSpan, CorrelatedSpan, Span};
 

@@ -1,4 +1,5 @@
 pub mod Again
+pub mod AllParts
 pub mod Basics
 pub mod Contexts
 pub mod Costs

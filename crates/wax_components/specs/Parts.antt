@@ -1,7 +1,7 @@
 -- The components of a glob: what stands between its boundaries, and each `**`.
 use Rattle.std.specs.Prelude.{◌≡◌, ℕ, Bool, true, false, ◌&&◌, ◌==◌, if◌then◌else◌, not, ◌⊎◌}
 use Rattle.std.specs.Prelude.{◌<◌, length, List, [], ◌∷◌, ◌++◌, fold}
-use Rattle.std.specs.List.{before_first, flat_map, list_all}
+use Rattle.std.specs.List.{Contains, before_first, flat_map, list_all}
 use Rattle.wax_query.specs.Spans.{Span, span_union}
 use Rattle.wax_token.specs.Syntax.{Tree}
 use Rattle.wax_token.specs.Words.{annotation_of}
@@ -51,6 +51,10 @@ IsLongest before part after =
 abbrev pub IsComponent : {A : Type 0} → List (Tree A) → List (Tree A) → Type 0
 IsComponent {A} all part =
     (before after : List (Tree A)) × (all ≡ before ++ (part ++ after)) × IsLongest before part after
+
+-- each part of the tokens that can't be made longer is among these
+abbrev pub HasEach : {A : Type 0} → List (Tree A) → List (List (Tree A)) → Type 0
+HasEach {A} all parts = (part : List (Tree A)) → IsComponent all part → Contains parts part
 
 -- the least span that holds the spans of the tokens
 abbrev pub joint_span : List (Tree Span) → Span

@@ -2,8 +2,8 @@
 ghost use Rattle.std.specs.Prelude.{◌≡◌, All, IfOk, MatchOption, if◌then◌else◌, false, true};
 ghost use Rattle.std.specs.Prelude.{chars, fold, string_bytes};
 ghost use Rattle.std.specs.List.{flat_map, list_all, position_or_len};
-ghost use Rattle.wax_components.specs.Parts.{IsComponent, components, components_in, is_semantic, joint_span};
-ghost use Rattle.wax_components.specs.Parts.{literals_text};
+ghost use Rattle.wax_components.specs.Parts.{HasEach, IsComponent, components, components_in, is_semantic};
+ghost use Rattle.wax_components.specs.Parts.{joint_span, literals_text};
 ghost use Rattle.wax_components.specs.inner.Dots.{dot_after, dots_of};
 ghost use Rattle.wax_components.specs.TopLevel.{tokens_of};
 ghost use Rattle.wax_token.specs.Kinds.{is_boundary, is_literal};
@@ -228,6 +228,7 @@ pub fn components<'i, 't, A: Annotation>(
 ) -> Result<Vec<Component<'i, 't, A>>, NoMemory>
     ensures all { IfOk result (λ cs. cs.items ≡ components token.now) }
     ensures longest { IfOk result (λ cs. All (IsComponent (tokens_of token.now)) cs.items) }
+    ensures each { IfOk result (λ cs. HasEach (tokens_of token.now) cs.items) }
 {
     Ok(components_in(alloc, kinds::top_level(token))?)
 }

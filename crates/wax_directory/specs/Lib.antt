@@ -3,6 +3,7 @@ pub mod Answers
 pub mod History
 pub mod Counting
 pub mod Law
+pub mod Independent
 pub mod Calls
 pub mod Listing
 pub mod Names

@@ -5,6 +5,7 @@ mod copies;
 pub mod directory;
 pub mod failing;
 pub mod history;
+pub mod independent;
 pub mod path;
 mod paths;
 pub mod starving;

@@ -1,5 +1,6 @@
 pub mod Adjacent
 pub mod Beginnings
+pub mod Belows
 pub mod Components
 pub mod Costs
 pub mod Descending
@@ -12,6 +13,7 @@ pub mod Ignored
 pub mod Ignores
 pub mod Keeping
 pub mod KeptItems
+pub mod LastMatch
 pub mod LeadingComponents
 pub mod Listing
 pub mod ListingLines
@@ -22,6 +24,7 @@ pub mod Passing
 pub mod TreeRequests
 pub mod Reaching
 pub mod Remembered
+pub mod RootedLeads
 pub mod Rows
 pub mod Shown
 pub mod Stacking

@@ -1,6 +1,7 @@
 pub mod Candidates
 pub mod Compiled
 pub mod Covers
+pub mod Deciding
 pub mod Excluded
 pub mod Held
 pub mod Ignored
@@ -9,8 +10,10 @@ pub mod Law
 pub mod Leading
 pub mod Lines
 pub mod Marks
+pub mod RootedLeading
 pub mod TreeRequests
 pub mod Prefix
+pub mod NamesBelow
 pub mod Premises
 pub mod Due
 pub mod GlobRequests

@@ -1,21 +1,27 @@
 //! What walks exclude and what they keep: patterns, ignore lists, and the law of a glob's walk.
 #![tactic(auto)]
 
+mod below;
 mod blocks;
 mod component;
+mod deciding;
 mod exclusions;
 mod fitting;
 mod kept;
 mod law;
+mod leading_law;
 mod lines;
 mod prefixes;
 mod rules;
 mod wanted;
 
+pub use below::law_of_cancelling;
 pub use component::{LeadingComponent, leading};
+pub use deciding::law_of_last_match;
 pub use exclusions::{Exclusion, is_everything};
 pub use kept::collect_unignored;
 pub use law::{law_of_feeds, law_of_ignoring, law_of_plain_walks, law_of_walks};
+pub use leading_law::law_of_rooted_leading;
 pub use lines::{WrittenLine, written_lines};
 pub use prefixes::{PrefixNames, prefix_names_of};
 pub use rules::{IgnoreLine, IgnoreRule};

@@ -14,6 +14,7 @@ pub mod FoldedAlone
 pub mod Fronts
 pub mod Insides
 pub mod Lists
+pub mod LongestPrefix
 pub mod Moved
 pub mod NoBreak
 pub mod NoMeeting

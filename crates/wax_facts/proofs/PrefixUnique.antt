@@ -9,7 +9,8 @@ use Rattle.wax_token.specs.Kinds.{is_separator}
 use Rattle.wax_facts.proofs.TextUnique.{text_unique}
 use Rattle.wax_facts.proofs.Truths.{true_false}
 
-tree_text : {A : Type 0} (t : Tree A) (x : List ℕ) → is_tree_wildcard t ≡ true → Text t x → ⊥
+-- a `**` has no invariant text
+pub tree_text : {A : Type 0} (t : Tree A) (x : List ℕ) → is_tree_wildcard t ≡ true → Text t x → ⊥
 tree_text (leaf a (literal i t)) x e h = true_false (sym e)
 tree_text (leaf a (class n xs)) x e h = true_false (sym e)
 tree_text (leaf a separator) x e h = true_false (sym e)

@@ -1,6 +1,7 @@
 pub mod Exhaustive
 pub mod InvariantText
 pub mod Joined
+pub mod Longest
 pub mod Optional
 pub mod Orderly
 pub mod Partition

@@ -4,6 +4,7 @@
 
 mod exhaustive;
 mod invariant;
+mod longest;
 mod opened;
 mod optional;
 mod parts;
@@ -13,6 +14,7 @@ mod root;
 
 pub use exhaustive::is_exhaustive;
 pub use invariant::{has_variant_casing, text};
+pub use longest::law_of_prefixes;
 pub use parts::{built_is_orderly, is_rooted_tree, partition, split_tokens};
 pub use prefix::invariant_text_prefix;
 pub use root::has_root;

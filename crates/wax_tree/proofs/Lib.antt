@@ -6,6 +6,7 @@ pub mod Stepping
 pub mod Naming
 pub mod UsingAnswers
 pub mod Finding
+pub mod Following
 pub mod Making
 pub mod Kept
 pub mod InRange

@@ -2,6 +2,7 @@ pub mod Depths
 pub mod Plain
 pub mod Prefix
 pub mod Courses
+pub mod Follows
 pub mod Reaching
 pub mod Walking
 pub mod Stepping

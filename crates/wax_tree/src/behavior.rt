@@ -112,9 +112,8 @@ impl DepthMinMax {
 
 /// The depths of the entries that a walk yields. The depth of an entry is the number of names that
 /// lead to it from the start.
-#[derive(Clone, Copy, Debug, Default, Eq, PartialEq)]
+#[derive(Clone, Copy, Debug, Eq, PartialEq)]
 pub enum DepthBehavior {
-    #[default]
     Unbounded,
     Min(DepthMin),
     Max(DepthMax),
@@ -172,6 +171,17 @@ impl DepthBehavior {
     }
 }
 
+impl Default for DepthBehavior {
+    ghost use Rattle.wax_tree.specs.declared.behavior.DepthBehavior.TheVariants.{Unbounded};
+
+    ghost is_default = { λ depth. depth ≡ Unbounded };
+
+    /// Builds all depths.
+    fn default() -> Self {
+        Self::Unbounded
+    }
+}
+
 impl From<DepthMin> for DepthBehavior {
     ghost use Rattle.wax_tree.specs.declared.behavior.DepthBehavior.TheVariants.{Min};
 
@@ -203,11 +213,21 @@ impl From<DepthMinMax> for DepthBehavior {
 }
 
 /// What a walk does at a link.
-#[derive(Clone, Copy, Debug, Default, Eq, PartialEq)]
+#[derive(Clone, Copy, Debug, Eq, PartialEq)]
 pub enum LinkBehavior {
     /// Yields the link as an entry, and doesn't follow it.
-    #[default]
     ReadFile,
+}
+
+impl Default for LinkBehavior {
+    ghost use Rattle.wax_tree.specs.declared.behavior.LinkBehavior.TheVariants.{ReadFile};
+
+    ghost is_default = { λ link. link ≡ ReadFile };
+
+    /// Builds the behavior that yields a link as an entry.
+    fn default() -> Self {
+        Self::ReadFile
+    }
 }
 
 /// How a walk goes: the depths of the entries that it yields, what it does at a link, and the

@@ -11,3 +11,4 @@ pub mod RuleSteps
 pub mod ClosureSteps
 pub mod Leaving
 pub mod Sharing
+pub mod PathsAlong

@@ -11,5 +11,6 @@ pub mod Ruled
 pub mod Collected
 pub mod Known
 pub mod Laws
+pub mod NamedPaths
 pub mod Paths
 pub mod inner

@@ -8,6 +8,7 @@ mod excluding;
 mod filter_entry;
 mod gather;
 mod iterator;
+mod named_paths;
 mod walked_path;
 
 pub use candidate::Candidate;
@@ -17,4 +18,5 @@ pub use excluding::{Exclude, Excluding};
 pub use filter_entry::FilterEntry;
 pub use gather::{collect, collect_feed};
 pub use iterator::{EntryResidue, FileIterator};
+pub use named_paths::law_of_paths;
 pub use walked_path::ListedFolder;

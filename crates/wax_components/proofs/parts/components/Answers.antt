@@ -1,5 +1,6 @@
 use Rattle.std.proofs.Common.{◌∙◌, ap, subst, sym, true}
-use Rattle.std.specs.List.{All}
+use Rattle.std.specs.List.{All, Contains}
+use Rattle.wax_components.proofs.AllParts.{has_each}
 use Rattle.wax_components.proofs.Runs.{components_are_longest}
 use Rattle.wax_components.specs.Parts.{IsComponent, components_in}
 use Rattle.wax_components.specs.TopLevel.{tokens_of}
@@ -10,3 +11,9 @@ returns-clause-longest g c =
     subst (All (IsComponent (tokens_of c.args.token.now)))
     (sym (c.in_ok-components_in.ensures ∙ ap (components_in true) c.top_level.ensures))
     (components_are_longest (tokens_of c.args.token.now))
+
+pub returns-clause-each : goal.returns-clause-each
+returns-clause-each g c = λ part h.
+    subst (λ parts. Contains parts part)
+    (sym (c.in_ok-components_in.ensures ∙ ap (components_in true) c.top_level.ensures))
+    (has_each (tokens_of c.args.token.now) part h)
