@@ -16,10 +16,9 @@ use Rattle.wax.specs.GlobWalks.{BeginsGlob, FailsAtFolders, GaveWithin, KeepsNot
 
 pub gave_within : {D C : Type 0} (t : Tree Span) (law : Law D C) (d : D) (start : List ℕ) (asked : DepthRange)
     (v : WalkView D) (rule : Candidate → Mark) (new : D) (xs : List Given) → BeginsGlob t law d start asked v
-    → length xs ≤ 2 * asked.budget + 3 → Took law (ruled_view v rule false) new xs
+    → Took law (ruled_view v rule false) new xs
     → GaveWithin t law d asked new xs
-gave_within t law d start asked v rule new xs begins few took = let over = begins.directory in record {
-  few = few;
+gave_within t law d start asked v rule new xs begins took = let over = begins.directory in record {
   counts = subst (λ w. CountsFaults (all_fault_counts xs) (all_items_lost xs) (law.tally w) (law.tally new)) over
       took.counts;
   taken = took.taken;

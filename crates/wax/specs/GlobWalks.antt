@@ -118,7 +118,7 @@ pub record BeginsGlob {D C : Type 0} (t : Tree Span) (law : Law D C) (d : D) (st
   pub opens_above : view.opens_above ≡ (within asked depth).max
   pub directory : view.directory ≡ d
 
--- Whatever the directory shows: a walk over it gave these items, no more than twice its budget and 3. The
+-- Whatever the directory shows: a walk over it gave these items. The
 -- faults among them are those that were counted, but for one item's at most, where the budget is reached or
 -- memory is refused. At most budget + 1 items were taken from listings: all of these, where an item tells that
 -- the budget is reached, and no more than the budget if no item ends the walk. Unless memory is refused, each
@@ -129,7 +129,6 @@ pub record BeginsGlob {D C : Type 0} (t : Tree Span) (law : Law D C) (d : D) (st
 -- opened.
 pub record GaveWithin {D C : Type 0} (t : Tree Span) (law : Law D C) (d : D) (asked : DepthRange)
     (new : D) (xs : List Given) : Type 0 where
-  pub few : length xs ≤ 2 * asked.budget + 3
   pub counts : CountsFaults (all_fault_counts xs) (all_items_lost xs) (law.tally d) (law.tally new)
   pub taken : ℕ
   pub counted : (law.tally new).items ≡ grown taken (law.tally d).items

@@ -8,6 +8,7 @@ pub use crate::ignoring::{IgnoreError, IgnoreList};
 pub use crate::walk_filter::WalkFilter;
 pub use wax_directory::directory::{Directory, DirectoryFault, FileType, ListItem};
 pub use wax_directory::failing::Failing;
+pub use wax_directory::history::History;
 pub use wax_directory::starving::Starving;
 pub use wax_directory::tally::Tally;
 pub use wax_directory::tree::{DuplicateName, Node, Tree, TreeItem};

@@ -1,5 +1,5 @@
 -- What is written for a walk without what filters exclude.
-use Rattle.std.specs.Prelude.{◌≡◌, ℕ, Bool, List, ◌++◌, Option}
+use Rattle.std.specs.Prelude.{◌≡◌, ℕ, Bool, false, List, ◌++◌, Option, filter}
 use Rattle.std.specs.Io.KnownBytes.{Appends}
 use Rattle.std.specs.List.{list_any}
 use Rattle.wax_exclude.specs.GlobRequests.{AreRulesOf, ComesWanted, KeepsWanted, CanBegin, GlobRequest}
@@ -7,9 +7,12 @@ use Rattle.wax_exclude.specs.GlobRequests.{request_excluding, request_walk}
 use Rattle.wax_directory.specs.Law.{Law}
 use Rattle.wax_directory.specs.Shown.{Shown}
 use Rattle.wax_token.specs.Reads.{Span}
+use Rattle.wax_glob_walk.specs.Programs.{any_mark}
+use Rattle.wax_walk.specs.Collected.{Took}
 use Rattle.wax_walk.specs.Forest.{preorder}
 use Rattle.wax_walk.specs.Candidates.{Candidate}
-use Rattle.wax_walk.specs.Given.{Given, Mark}
+use Rattle.wax_walk.specs.Given.{Given, Mark, is_kept}
+use Rattle.wax_walk.specs.Ruled.{ruled_view}
 use Rattle.wax_walk.specs.View.{WalkView}
 use Rattle.wax_exclude.specs.Wanted.{Filter}
 use Rattle.wax_command_line.specs.Candidates.{candidate_lines, is_error}
@@ -24,10 +27,14 @@ module _ {D C : Type 0} (law : Law D C) (walk : WalkView D) (rules : List (Candi
       → law.shows d request.origin.path s → law.tells d listed
       → P (request_excluding request filters) s listed
 
-  -- what is wanted of the walk was taken to its end, and the lines of these items were written
+  -- the walk by these rules was taken to its end; what was kept of it is what is wanted, and the lines of these
+  -- items were written
   pub record WroteWanted (held held' : Option (List ℕ)) (has_errors : Bool) : Type 0 where
     pub directory : D
+    pub given : List Given
+    pub took : Took law (ruled_view walk (any_mark rules) false) directory given
     pub items : List Given
+    pub kept : items ≡ filter is_kept given
     pub wanted : OnRequests (λ request s listed. KeepsWanted (law.tells directory) request s listed items)
     pub writes : Appends held held' (candidate_lines items)
     pub errors : has_errors ≡ list_any is_error items

@@ -1,5 +1,5 @@
 -- What a walk writes, from the builds on.
-use Rattle.std.proofs.Common.{◌≡◌, ℕ, ◌-◌, ◌^◌, true, false, ◌++◌, List, [], refl, sym, ap, subst, ◌∙◌}
+use Rattle.std.proofs.Common.{◌≡◌, ℕ, ◌-◌, ◌^◌, Bool, true, false, ◌++◌, List, [], refl, sym, ap, subst, ◌∙◌}
 use Rattle.std.specs.Prelude.{Option, chars}
 use Rattle.wax.specs.Headline.{IsGlob}
 use Rattle.wax.specs.GlobView.{GlobView}
@@ -20,6 +20,9 @@ use Rattle.wax_command_line.specs.Candidates.{candidate_lines}
 use Rattle.wax_commands.specs.Files.{FileAnswers}
 use Rattle.wax_command_line.specs.Commands.{SayEach, WalkOption, WalkRequest}
 use Rattle.wax_commands.specs.Refused.{IsRefused}
+use Rattle.wax_commands.specs.Walked.{KeepsAllWanted}
+use Rattle.wax_glob_walk.specs.Programs.{any_mark}
+use Rattle.wax.proofs.Kept.{gave_within}
 use Rattle.wax_commands.specs.Walked.{AreAskedByAll, AreBuilt, Environment, HasRefused, OnWalk, WalkEnds, WalkGlobs, done, faulty, no_filter, no_glob}
 use Rattle.wax_commands.specs.Walked.{range_in, refused, stopped}
 use Rattle.wax_command_line.specs.declared.walk_words.WalkWords.{WalkWords}
@@ -82,17 +85,29 @@ module _ {D C Z : Type 0} (over : Environment D C Z) (walk : WalkWords) (asked :
       all_built : AreBuilt over.answers asked globs
       all_built = record { glob = glob_asked; filters = built.1 }
 
+      begun : BeginsGlob g.tree over.law over.directory asked.start (range_in asked.options) view
+      begun = begins_so over.law over.directory asked globs view walk.start.now b read.start (range_read walk asked b read is) begins
+
+      all_kept : (has : Bool) → (w : WroteWanted over.law view rules held held' has)
+          → KeepsAllWanted over.law over.directory asked globs w.items
+      all_kept has w = record {
+        new = w.directory;
+        wanted = on_walk over.law over.directory asked globs view rules
+            (λ request s listed. KeepsWanted (over.law.tells w.directory) request s listed w.items) begun built.2 w.wanted;
+        given = w.given;
+        within = gave_within g.tree over.law over.directory asked.start (range_in asked.options) view (any_mark rules)
+            w.directory w.given begun w.took;
+        kept = w.kept;
+      }
+
       on : (P : GlobRequest → Shown → List (List ℕ) → Type 0) → OnRequests over.law view rules P → OnWalk over.law over.directory asked globs P
-      on P h = on_walk over.law over.directory asked globs view rules P
-          (begins_so over.law over.directory asked globs view walk.start.now b read.start (range_read walk asked b read is) begins) built.2 h
+      on P h = on_walk over.law over.directory asked globs view rules P begun built.2 h
 
       pub ends_done : WroteWanted over.law view rules held held' false → WalkEnds over asked held held' 0
-      ends_done w = done globs w.items all_built
-          (w.directory, on (λ request s listed. KeepsWanted (over.law.tells w.directory) request s listed w.items) w.wanted) w.writes (sym w.errors) refl
+      ends_done w = done globs w.items all_built (all_kept false w) w.writes (sym w.errors) refl
 
       pub ends_faulty : WroteWanted over.law view rules held held' true → WalkEnds over asked held held' 3
-      ends_faulty w = faulty globs w.items all_built
-          (w.directory, on (λ request s listed. KeepsWanted (over.law.tells w.directory) request s listed w.items) w.wanted) w.writes (sym w.errors) refl
+      ends_faulty w = faulty globs w.items all_built (all_kept true w) w.writes (sym w.errors) refl
 
       pub ends_stopped : WroteFirst over.law view rules held held' → WalkEnds over asked held held' 1
       ends_stopped w = stopped globs w.0 all_built w.1

@@ -1,11 +1,11 @@
 -- How a run of `walk` can end.
-use Rattle.std.specs.Prelude.{◌≡◌, ℕ, ◌-◌, ◌^◌, true, false, ⊤, List, [], ◌∷◌, ◌++◌, Option, chars}
+use Rattle.std.specs.Prelude.{◌≡◌, ℕ, ◌-◌, ◌^◌, true, false, ⊤, List, [], ◌∷◌, ◌++◌, Option, chars, filter}
 use Rattle.std.specs.Io.KnownBytes.{Appends}
 use Rattle.std.specs.List.{list_any}
 use Rattle.wax.specs.Headline.{IsGlob}
 use Rattle.wax.specs.Exclusions.{FitsAlone, NoExclusion}
 use Rattle.wax.specs.GlobView.{GlobView}
-use Rattle.wax.specs.GlobWalks.{Beginning, request_of, origin_from}
+use Rattle.wax.specs.GlobWalks.{Beginning, GaveWithin, request_of, origin_from}
 use Rattle.wax.specs.Patterns.{Refuses, Spells}
 use Rattle.wax_error.specs.declared.build_error.BuildError.{BuildError}
 use Rattle.wax_exclude.specs.GlobRequests.{KeepsWanted, GlobRequest, request_walk}
@@ -19,7 +19,7 @@ use Rattle.wax_tree.specs.Begins.{or_greatest}
 use Rattle.wax_tree.specs.Prefix.{ArePlain}
 use Rattle.wax_tree.specs.declared.steps.DepthRange.{DepthRange}
 use Rattle.wax_walk.specs.Forest.{preorder}
-use Rattle.wax_walk.specs.Given.{Given}
+use Rattle.wax_walk.specs.Given.{Given, is_kept}
 use Rattle.wax_command_line.specs.Candidates.{candidate_lines, is_error}
 use Rattle.wax_exclude.specs.Wanted.{Filter, not_meant, not_ignored}
 use Rattle.wax_command_line.specs.Commands.{WalkOption, excluding, ignoring, at_least, at_most, WalkRequest}
@@ -106,10 +106,14 @@ module _ {D C : Type 0} (law : Law D C) (d : D) (asked : WalkRequest) (globs : W
       → law.shows d (origin_from asked.start b.rooted b.names).path s → law.tells d listed
       → P (request_of asked.start (range_in asked.options) depth b globs.filters) s listed)
 
-  -- the walk kept these items, to its end
-  abbrev pub KeepsAllWanted : List Given → Type 0
-  KeepsAllWanted items =
-      (d' : D) × OnWalk (λ request s listed. KeepsWanted (law.tells d') request s listed items)
+  -- the walk kept these items, to its end. Whatever the directory shows, its counts are those of the items that
+  -- it gave, of which these were kept
+  pub record KeepsAllWanted (items : List Given) : Type 0 where
+    pub new : D
+    pub wanted : OnWalk (λ request s listed. KeepsWanted (law.tells new) request s listed items)
+    pub given : List Given
+    pub within : GaveWithin globs.glob.tree law d (range_in asked.options) new given
+    pub kept : items ≡ filter is_kept given
 
   -- these bytes are a prefix of the lines of all that the walk keeps
   abbrev pub StartsLines : List ℕ → Type 0

@@ -36,6 +36,7 @@ impl Directory for Directories {
       holds = λ _ _ _. ⊥;
       tells = λ _ _. ⊤;
       tally = λ s. ⟦<Failing<Starving<Tree>> as Directory>⟧.law.tally s.inner;
+      answered = λ s. ⟦<Failing<Starving<Tree>> as Directory>⟧.law.answered s.inner;
     } };
 
     fn kind(&mut self, alloc: Global, path: &str) -> Result<Option<FileType>, DirectoryFault> {

@@ -2,12 +2,13 @@
 
 use std::alloc::Global;
 use wax::NoMemory;
-use wax::walk::{Directory, DirectoryFault, FileType, ListItem, Tally};
+use wax::walk::{Directory, DirectoryFault, FileType, History, ListItem, Tally};
 
 /// A directory that contains nothing. Its law says nothing about what it shows.
 #[derive(Drop)]
 pub struct Nowhere {
     pub tally: Tally,
+    pub history: History,
 }
 
 impl Directory for Nowhere {
@@ -20,23 +21,28 @@ impl Directory for Nowhere {
       holds = λ _ _ _. ⊥;
       tells = λ _ _. ⊤;
       tally = λ s. s.tally;
+      answered = λ s. s.history.answers;
     } };
 
-    fn kind(&mut self, _alloc: Global, _path: &str) -> Result<Option<FileType>, DirectoryFault> {
+    fn kind(&mut self, _alloc: Global, path: &str) -> Result<Option<FileType>, DirectoryFault> {
         let answer = Ok(None);
         self.tally.add(Tally::of_kind(&answer));
+        self.history.add_kind(path, &answer);
         answer
     }
 
-    fn open(&mut self, _alloc: Global, _path: &str) -> Result<(), DirectoryFault> {
+    fn open(&mut self, _alloc: Global, path: &str) -> Result<(), DirectoryFault> {
         let answer = Err(DirectoryFault::Memory);
         self.tally.add(Tally::of_opening(&answer));
+        self.history.add_opening(path, &answer);
         answer
     }
 
     fn next(&mut self, _alloc: Global, _cursor: &mut ()) -> Result<Option<ListItem>, NoMemory> {
-        self.tally.add(Tally::of_end());
-        Ok(None)
+        let answer = Ok(None);
+        self.tally.add(Tally::of_next(&answer));
+        self.history.add_next(&answer);
+        answer
     }
 
     fn tally(&self) -> Tally {

@@ -246,7 +246,7 @@ impl<'t> Glob<'t> {
     where
         D: Directory,
         R: Exclude,
-        ensures took { IfOk result (λ r. (xs : List Given)
+        ensures took { IfOk result (λ r. (xs : List Given) × (length xs ≤ 2 * behavior.budget + 3)
             × GaveWithin self.now.tree D.law directory (behavior_range behavior) r.1 xs
             × FailsAtFolders self.now.tree start.now (behavior_range behavior) xs
             × (map (given_outcome ⟦<GlobEntry as Entry>⟧.facts ⟦<TreeEntry as Entry>⟧.facts) r.0.items

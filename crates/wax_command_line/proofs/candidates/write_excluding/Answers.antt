@@ -1,8 +1,8 @@
-use Rattle.std.proofs.Common.{map, subst, ◌∙◌}
+use Rattle.std.proofs.Common.{map, refl, subst, ◌∙◌}
 use Rattle.std.specs.Prelude.{filter}
 use Rattle.std.specs.Io.KnownBytes.{Appends}
 use Rattle.wax_exclude.specs.GlobRequests.{request_excluding, request_pending}
-use Rattle.wax_exclude.proofs.Wanting.{all_gave, keeps_wanted, filters_come}
+use Rattle.wax_exclude.proofs.Wanting.{all_gave, keeps_wanted, filters_come, took_less}
 use Rattle.wax_walk.proofs.Collecting.{map_ok}
 use Rattle.wax_walk.specs.Given.{is_kept}
 use Rattle.wax_exclude.proofs.Shown.{well_named}
@@ -18,7 +18,10 @@ returns-clause-done g c =
     let wanted = c.law_of_walks.ensures in
     map_ok (λ has_errors wrote. record {
       directory = wrote.directory;
+      given = wrote.given;
+      took = took_less law rules _ _ _ wrote.directory wrote.given c.new.ensures c.excluding-kept.ensures.view wrote.took;
       items = filter is_kept wrote.given;
+      kept = refl;
       wanted = λ d request filters s listed comes are can shows told.
           let tells = law.tells wrote.directory in
           let excluding = request_excluding request filters in

@@ -17,8 +17,9 @@ returns-clause-took g c =
     let ends = c.walk_in-walk.ensures.gives in
     map_ok (λ r k. (
       k.0,
+      omega (arith, k.2, ends.gives),
       gave_within c.args.self.now.tree g.D.Directory.law c.args.directory c.args.start.now
-          (behavior_range c.args.behavior) _ rule r.1 k.0 h (omega (arith, k.2, ends.gives)) k.1,
+          (behavior_range c.args.behavior) _ rule r.1 k.0 h k.1,
       fails_at_folders c.args.self.now.tree g.D.Directory.law c.args.directory c.args.start.now
           (behavior_range c.args.behavior) _ rule r.1 k.0 h k.1,
       k.3,
