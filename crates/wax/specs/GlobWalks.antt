@@ -16,7 +16,7 @@ use Rattle.wax_tree.specs.Begins.{FailsFrom, IsBegun, IsPassed, Origin}
 use Rattle.wax_tree.specs.declared.steps.DepthRange.{DepthRange}
 use Rattle.wax_tree.specs.Plain.{count_shown}
 use Rattle.wax_tree.specs.Prefix.{ArePlain}
-use Rattle.wax_walk.specs.Collected.{AreOfFolders, EndsThere, NoneLast, NoneLacksMemory}
+use Rattle.wax_walk.specs.Collected.{AreOfFolders, EndsThere, NoneLast, NoMemoryError}
 use Rattle.wax_walk.specs.Collected.{all_fault_counts, all_items_lost, count_to_open}
 use Rattle.wax_walk.specs.declared.error.FaultKind.TheVariants.{Budget, NotAFolder}
 use Rattle.wax_walk.specs.Forest.{pending, nothing}
@@ -118,15 +118,14 @@ pub record BeginsGlob {D C : Type 0} (t : Tree Span) (law : Law D C) (d : D) (st
   pub opens_above : view.opens_above ≡ (within asked depth).max
   pub directory : view.directory ≡ d
 
--- Whatever the directory shows: a walk over it gave these items. The
--- faults among them are those that were counted, but for one item's at most, where the budget is reached or
--- memory is refused. At most budget + 1 items were taken from listings: all of these, where an item tells that
--- the budget is reached, and no more than the budget if no item ends the walk. Unless memory is refused, each
--- of them was given, or passed if there is a least depth; besides, only the entry where the walk begins was
--- given, and errors of folders that couldn't be opened. Just the folders that were given above the greatest
--- depth were opened, and those that were passed. A folder was missed only on the way along the prefix. An item
--- after which a walk has ended is the last. If none is, as many listings came to their end as folders were
--- opened.
+-- Whatever the directory shows: a walk over it gave these items. The faults among them are those that were
+-- counted, but for one item's at most, if the budget is reached or memory runs out. At most budget + 1 items
+-- were taken from listings: all of these if the budget is reached, and no more than the budget if no item
+-- ends the walk. Unless memory runs out, each of them was given, or passed if there is a least depth;
+-- besides, only the entry where the walk begins was given, and errors of folders that couldn't be opened.
+-- Just the folders that were given above the greatest depth were opened, and those that were passed. A folder
+-- was missed only on the way along the prefix. An item after which a walk has ended is the last. If none is,
+-- as many listings came to their end as folders were opened.
 pub record GaveWithin {D C : Type 0} (t : Tree Span) (law : Law D C) (d : D) (asked : DepthRange)
     (new : D) (xs : List Given) : Type 0 where
   pub counts : CountsFaults (all_fault_counts xs) (all_items_lost xs) (law.tally d) (law.tally new)
@@ -145,13 +144,13 @@ pub record GaveWithin {D C : Type 0} (t : Tree Span) (law : Law D C) (d : D) (as
   pub refuses : refused ≤ (all_fault_counts xs).failures
   pub begun : ℕ
   pub begun_is : (begun ≡ 1) ⊎ ((begun ≡ 0) × (new ≡ d))
-  pub gives : NoneLacksMemory xs → taken + (refused + begun) ≡ length xs + passed
+  pub gives : NoMemoryError xs → taken + (refused + begun) ≡ length xs + passed
   pub folders : ℕ
   pub folders_passed : folders ≤ passed
   pub opened : ℕ
   pub opened_is : (law.tally new).opened ≡ grown opened (law.tally d).opened
   pub ended_is : NoneLast xs → (law.tally new).ended ≡ grown opened (law.tally d).ended
-  pub opens : NoneLacksMemory xs → (depth : Bounds) × Depth t depth
+  pub opens : NoMemoryError xs → (depth : Bounds) × Depth t depth
       × (opened ≡ folders + count_to_open (up_to asked.max depth.1) xs)
 
 -- Whatever the directory shows: each error among these items is of a folder that was given before it, or of

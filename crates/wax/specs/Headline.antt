@@ -21,6 +21,13 @@ pub use Rattle.wax_exclude.specs.GlobRequests.{ComesExcluding, ComesWanted, Keep
 pub use Rattle.wax_exclude.specs.Walked.{MayList, wanted_entries}
 pub use Rattle.wax_exclude.specs.Wanted.{Wanted, is_wanted}
 pub use Rattle.wax_tree.specs.Whole.{is_in, whole_at}
+-- ---- Walks of whatever directory (`entries`): what was answered is what some tree answers, call by call,
+-- and the items are the walk of that tree (`EntriesAnswered`); or both begin so, and one error cuts them
+-- short. The directory needn't keep the law: it may be the real file system, change meanwhile, or hold a name
+-- twice.
+pub use Rattle.wax_directory.specs.History.{Answer}
+pub use Rattle.wax_tree.specs.Courses.{plain_course}
+pub use Rattle.wax_tree.specs.Whole.{EntriesAnswered, whole, yielded}
 -- ---- Matches (`Glob::is_match`): exactly the texts in the meaning of the tree (`IsMeant`, by `Means`).
 -- `is_match_counted` visits at most `program_length` instructions for each character, and as many once more
 -- at the end. `HasCaptures` defines what `matched` captures.

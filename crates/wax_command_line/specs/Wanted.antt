@@ -27,8 +27,8 @@ module _ {D C : Type 0} (law : Law D C) (walk : WalkView D) (rules : List (Candi
       → law.shows d request.origin.path s → law.tells d listed
       → P (request_excluding request filters) s listed
 
-  -- the walk by these rules was taken to its end; what was kept of it is what is wanted, and the lines of these
-  -- items were written
+  -- the walk by these rules was taken to its end; what was kept of it is what is wanted, and the lines of
+  -- these items were written
   pub record WroteWanted (held held' : Option (List ℕ)) (has_errors : Bool) : Type 0 where
     pub directory : D
     pub given : List Given

@@ -106,8 +106,8 @@ module _ {D C : Type 0} (law : Law D C) (d : D) (asked : WalkRequest) (globs : W
       → law.shows d (origin_from asked.start b.rooted b.names).path s → law.tells d listed
       → P (request_of asked.start (range_in asked.options) depth b globs.filters) s listed)
 
-  -- the walk kept these items, to its end. Whatever the directory shows, its counts are those of the items that
-  -- it gave, of which these were kept
+  -- the walk kept these items, to its end. Whatever the directory shows, it counted what the items are that
+  -- the walk gave, of which these were kept
   pub record KeepsAllWanted (items : List Given) : Type 0 where
     pub new : D
     pub wanted : OnWalk (λ request s listed. KeepsWanted (law.tells new) request s listed items)

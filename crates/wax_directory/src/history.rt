@@ -1,4 +1,4 @@
-//! What a directory answered so far, for proofs alone.
+//! What a directory answered so far: a list that exists only in proofs.
 
 ghost use Rattle.std.specs.Prelude.{◌≡◌, List, [], ◌++◌};
 ghost use Rattle.std.specs.Borrow.{ftrue};
@@ -10,8 +10,8 @@ use crate::directory::{DirectoryFault, FileType, ListItem};
 use std::marker::Model;
 use wax_query::diagnostics::NoMemory;
 
-/// What a directory answered so far, in order. It takes no memory and no time: contracts read it,
-/// and nothing else can.
+/// What a directory answered so far, in order. It has no data and costs no time: only contracts can
+/// read it.
 #[derive(Drop)]
 pub struct History {
     pub ghost answers: { List Answer } by { answers_code },

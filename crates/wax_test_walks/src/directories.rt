@@ -6,7 +6,7 @@ use std::alloc::{AllocError, Global};
 use std::fmt::Debug;
 use std::{fs, io};
 use wax::Refusal;
-use wax::walk::{Directory, Folders, Node, Tally, Tree, TreeItem};
+use wax::walk::{Directory, Folders, History, Node, Tally, Tree, TreeItem};
 use wax_test_kit::answer::Answer;
 
 /// Adds what the calls of a row return, one after another, and then the counts of the directory:
@@ -20,8 +20,11 @@ pub fn add(rt: &HostRuntime, row: WalkRow<'_>, made: &mut Answer) -> Result<(), 
     let (alloc, calls) = (rt.alloc(), row.row.input(1));
     match row.row.input(0) {
         "nowhere" => {
-            let tally = Tally::none();
-            add_calls(alloc, &mut Nowhere { tally }, calls, made);
+            let mut nowhere = Nowhere {
+                tally: Tally::none(),
+                history: History::new(),
+            };
+            add_calls(alloc, &mut nowhere, calls, made);
             Ok(())
         }
         "system" => match add_system(rt, calls, made) {

@@ -8,7 +8,7 @@ use Rattle.wax_directory.specs.History.{Answer}
 use Rattle.wax_directory.specs.Shown.{Items, end, leaf, folder, sealed, misnamed, unread, not_text, Shown}
 use Rattle.wax_directory.specs.Shown.{a_leaf, a_folder, a_sealed, missing, failing, leaf_kind, join}
 use Rattle.wax_walk.specs.Collected.{EndsThere, TookCourse, whole, cut_short}
-use Rattle.wax_walk.specs.Course.{Begins, Call, Course, CutsShort, IsKnownFirst, IsWhole, answers, asks, calls_of}
+use Rattle.wax_walk.specs.Course.{IsStartOf, DirectoryCall, Course, CutsShort, IsKnownFirst, IsKnownWhole, answers, asks, calls_of}
 use Rattle.wax_walk.specs.Course.{continued, items_of, stop, unknown, yields}
 use Rattle.wax_walk.specs.declared.error.FaultKind.TheVariants as K
 use Rattle.wax_walk.specs.Forest.{Forest, nothing, item, lists, followed_by, preorder}
@@ -29,19 +29,19 @@ use Rattle.wax_tree.proofs.Kept.{error_kept, first_kept}
 
 -- the course is whole and yields what the forest does
 pub record Yields (c : Course) (f : Forest Given) : Type 0 where
-  pub is_whole : IsWhole c
+  pub is_whole : IsKnownWhole c
   pub items : items_of c ≡ preorder f
 
 nothing_yields : Yields stop nothing
 nothing_yields = record { is_whole = tt; items = refl }
 
-whole_continued : (c d : Course) → IsWhole c → IsWhole d → IsWhole (continued c d)
+whole_continued : (c d : Course) → IsKnownWhole c → IsKnownWhole d → IsKnownWhole (continued c d)
 whole_continued stop d w v = v
 whole_continued unknown d w v = absurd w
 whole_continued (asks q c) d w v = whole_continued c d w v
 whole_continued (yields x b a) d w v = (w.0, whole_continued a d w.1 v)
 
-items_continued : (c d : Course) → IsWhole c → items_of (continued c d) ≡ items_of c ++ items_of d
+items_continued : (c d : Course) → IsKnownWhole c → items_of (continued c d) ≡ items_of c ++ items_of d
 items_continued stop d w = refl
 items_continued unknown d w = absurd w
 items_continued (asks q c) d w = items_continued c d w
@@ -68,10 +68,10 @@ either_yields : (t : Bool) (c d : Course) (f g : Forest Given) → Yields c f �
 either_yields true c d f g h k = h
 either_yields false c d f g h k = k
 
-asked_yields : (q : Call) (c : Course) (f : Forest Given) → Yields c f → Yields (asks q c) f
+asked_yields : (q : DirectoryCall) (c : Course) (f : Forest Given) → Yields c f → Yields (asks q c) f
 asked_yields q c f h = record { is_whole = h.is_whole; items = h.items }
 
-listed_yields : (q : Call) (path : List ℕ) (c : Course) (f : Forest Given) → Yields c f
+listed_yields : (q : DirectoryCall) (path : List ℕ) (c : Course) (f : Forest Given) → Yields c f
     → Yields (asks q c) (lists path f)
 listed_yields q path c f h = record { is_whole = h.is_whole; items = h.items }
 
@@ -126,7 +126,7 @@ module _ (scope : WalkScope) where
   plain_yields failing = record { is_whole = (tt, tt); items = refl }
 
 -- an error that cuts a course short is kept
-cutting_kept : (calls : List Call) (x : Given) → CutsShort calls x → is_kept x ≡ true
+cutting_kept : (calls : List DirectoryCall) (x : Given) → CutsShort calls x → is_kept x ≡ true
 cutting_kept calls no_memory s = refl
 cutting_kept calls (fault kind path depth) s = refl
 cutting_kept calls (entry m f) s = absurd s
@@ -142,7 +142,7 @@ module _ (range : DepthRange) (start : List ℕ) where
       told_in_part missing [] (calls_for range start missing) x tt refl e ([], _, f, refl) s
 
   first_only : (c : Course) (x : Given) (told : List Answer) (xs : List Given) → EndsThere xs
-      → Begins c (yields no_memory stop stop) → told ≡ answers (calls_of c) → xs ≡ items_of c ++ x ∷ []
+      → IsStartOf c (yields no_memory stop stop) → told ≡ answers (calls_of c) → xs ≡ items_of c ++ x ∷ []
       → CutsShort (calls_of c) x → EntriesAnswered range start told (filter is_kept xs)
   first_only unknown x told xs ends b e f s =
       lacks_answered told (filter is_kept xs) x e

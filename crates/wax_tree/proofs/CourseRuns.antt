@@ -3,7 +3,7 @@ use Rattle.std.proofs.Common.{◌≡◌, ◌∙◌, true, false, List, [], ◌++
 use Rattle.std.specs.Prelude.{Some, None}
 use Rattle.std.proofs.lemmas.List.{append-nil}
 use Rattle.wax_directory.specs.Law.{Law}
-use Rattle.wax_walk.specs.Course.{Ahead, Begins, Call, Course, CutsShort, ahead, all_ahead, answers, asking, stop}
+use Rattle.wax_walk.specs.Course.{Ahead, IsStartOf, DirectoryCall, Course, CutsShort, ahead, all_ahead, answers, asking, stop}
 use Rattle.wax_walk.specs.Course.{unknown, yields}
 use Rattle.wax_walk.specs.Given.{Given}
 use Rattle.wax_walk.specs.View.{Follows, MayTake, ended_so, was_cut, went_on}
@@ -19,7 +19,7 @@ use Rattle.wax_tree.proofs.Coursing.{stopped_ahead}
 module _ {D C : Type 0} (law : Law D C) where
   -- after these calls, without an item
   pub record CourseSoFar (old now : Steps D C) : Type 0 where
-    pub calls : List Call
+    pub calls : List DirectoryCall
     pub answered : law.answered now.directory ≡ law.answered old.directory ++ answers calls
     pub goes : (c : Course) → ComesWhole now c → ComesWhole old (asking calls c)
 
@@ -31,14 +31,14 @@ module _ {D C : Type 0} (law : Law D C) where
   }
 
   -- what begins a course that comes is what the walk may take
-  may_take : (w : Steps D C) (c d : Course) → ComesWhole w c → Begins d c → MayTake (steps_view law w) d
+  may_take : (w : Steps D C) (c d : Course) → ComesWhole w c → IsStartOf d c → MayTake (steps_view law w) d
   may_take w c d h b =
-      let p = begins_parts h.0.below h.0.after d (subst (Begins d) h.2 b) in
+      let p = begins_parts h.0.below h.0.after d (subst (IsStartOf d) h.2 b) in
       (ahead p.below p.after, (h.0, h.1, p.below_begins, p.after_begins), p.whole)
 
   module _ (w now new : Steps D C) (r : Step) (f : CourseSoFar w now)
       (st : StepCourse law now.directory (ComesWhole now) r new) where
-    abbrev pub run_calls : List Call
+    abbrev pub run_calls : List DirectoryCall
     run_calls = f.calls ++ st.calls
 
     pub run_answered : law.answered new.directory ≡ law.answered w.directory ++ answers run_calls
@@ -74,7 +74,7 @@ module _ {D C : Type 0} (law : Law D C) where
         let calls = f.calls ++ st.calls in
         let e = m.0 in
         let all = yields (tree_given x) e.below e.after in
-        let same : Begins (yields (tree_given x) a.below a.after) all = (e.below, e.after, refl, m.2, m.3) in
+        let same : IsStartOf (yields (tree_given x) a.below a.after) all = (e.below, e.after, refl, m.2, m.3) in
         may_take w (asking calls all) (asking calls c) (goes_so w now new (Gives x) f st all (g e m.1))
         (begins_asking calls c all (begins_trans c (yields (tree_given x) a.below a.after) all b same)))
     | inr k ↦

@@ -17,7 +17,7 @@ use Rattle.wax_directory.specs.Names.{is_plain}
 use Rattle.wax_directory.specs.PlainNames.{not_plain, plain_of}
 use Rattle.wax_directory.specs.Shown.{IsPlain, Items, Shown, a_folder, a_leaf, a_sealed, end, failing, folder, leaf}
 use Rattle.wax_directory.specs.Shown.{join, leaf_kind, misnamed, missing, named, no_item, no_name, not_text, sealed, unread}
-use Rattle.wax_walk.specs.Course.{Ahead, Call, Course, CutsShort, ahead, all_ahead, asking, asks, call, continued}
+use Rattle.wax_walk.specs.Course.{Ahead, DirectoryCall, Course, CutsShort, ahead, all_ahead, asking, asks, call, continued}
 use Rattle.wax_walk.specs.Course.{stop, yields}
 use Rattle.wax_walk.specs.declared.entry.TreeEntry.{TreeEntry}
 use Rattle.wax_walk.specs.declared.error.FaultKind.{FaultKind}
@@ -36,7 +36,7 @@ use Rattle.wax_tree.specs.Courses.{AlongComes, AreNamed, FoundComes, IsNamed, be
 use Rattle.wax_tree.specs.Courses.{course_at_depth, entered_course, entry_course, is_missing, items_course}
 use Rattle.wax_tree.specs.Courses.{onward_location, refused_course}
 use Rattle.wax_tree.specs.Plain.{HasKind, IsFolder, Location, WalkScope, item_location, one_deeper, plain_entry}
-use Rattle.wax_tree.specs.Stepping.{ComesLast, ComesWhole, Enters, EntryComes, IsCutOff, ItemComes, RestComes, TakenComes}
+use Rattle.wax_tree.specs.Stepping.{ComesLast, ComesWhole, Enters, EntryComes, CutsOff, ItemComes, RestComes, TakenComes}
 use Rattle.wax_tree.specs.Stepping.{FolderComes, PlaceComes, StepCourse, UsesCourse, next_course, passed_over}
 use Rattle.wax_tree.specs.Stepping.{remembered}
 use Rattle.wax_tree.specs.inner.Finding.{IsFound}
@@ -181,7 +181,7 @@ given_next GoesOn x a e = absurd (let i : None ≡ Some x = e in (cc))
 given_next Ends x a e = absurd (let i : None ≡ Some x = e in (cc))
 
 -- no call was made for it
-later_cut : (calls : List Call) (x : Given) → CutsShort [] x → CutsShort calls x
+later_cut : (calls : List DirectoryCall) (x : Given) → CutsShort [] x → CutsShort calls x
 later_cut calls no_memory s = tt
 later_cut calls (entry m f) s = absurd s
 later_cut calls (fault K.NotFound path depth) s = absurd s
@@ -190,7 +190,7 @@ later_cut calls (fault K.Listing path depth) s = absurd s
 later_cut calls (fault K.BadName path depth) s = absurd s
 later_cut calls (fault K.NotText path depth) s = absurd s
 later_cut calls (fault K.Budget path depth) s = absurd (none s.0 (call path (listed s.1)) s.2) where
-  none : (before : List Call) (q : Call) → [] ≡ before ++ q ∷ [] → ⊥
+  none : (before : List DirectoryCall) (q : DirectoryCall) → [] ≡ before ++ q ∷ [] → ⊥
   none [] q e = cc
   none (p ∷ before) q e = cc
 
@@ -208,7 +208,7 @@ module _ {D C : Type 0} where
       (e, subst (LevelsCome (scope_of w) w.levels.items) (sym after) g.levels)
 
   -- allocation failed
-  pub memory_uses : (calls : List Call) (comes : Course → Type 0) (r : Step) (new : Steps D C)
+  pub memory_uses : (calls : List DirectoryCall) (comes : Course → Type 0) (r : Step) (new : Steps D C)
       → (c : Course) × comes c → r ≡ Gives (Err Memory) → new.has_ended ≡ true → UsesCourse calls comes r new
   memory_uses calls comes r new some e ended = record {
     some = some;
@@ -216,7 +216,7 @@ module _ {D C : Type 0} where
   }
 
   -- an error that ends the walk
-  pub stopped_uses : (calls : List Call) (comes : Course → Type 0) (r : Step) (new : Steps D C) (x : Given)
+  pub stopped_uses : (calls : List DirectoryCall) (comes : Course → Type 0) (r : Step) (new : Steps D C) (x : Given)
       → step_given r ≡ Some x → new.has_ended ≡ true → comes (yields x stop stop) → UsesCourse calls comes r new
   stopped_uses calls comes r new x e ended h = record {
     some = (yields x stop stop, h);
@@ -226,7 +226,7 @@ module _ {D C : Type 0} where
   }
 
   -- an error after which the walk goes on
-  pub fault_uses : (calls : List Call) (comes : Course → Course → Type 0) (w new : Steps D C) (r : Step) (x : Given)
+  pub fault_uses : (calls : List DirectoryCall) (comes : Course → Course → Type 0) (w new : Steps D C) (r : Step) (x : Given)
       → step_given r ≡ Some x → w.has_ended ≡ false → w.first ≡ None → w.entered ≡ None
       → (new ≡ w)
       → ((rest : Course) → comes rest (yields x stop rest)) → UsesCourse calls (ComesLast w comes) r new
@@ -239,10 +239,10 @@ module _ {D C : Type 0} where
         (a.after, at.1, subst (comes a.after) (sym is) (h a.after)));
   }
 
-  cut_later : (calls : List Call) (r : Step) (new : Steps D C) → IsCutOff [] r new → IsCutOff calls r new
+  cut_later : (calls : List DirectoryCall) (r : Step) (new : Steps D C) → CutsOff [] r new → CutsOff calls r new
   cut_later calls r new h = (h.0, h.1, later_cut calls h.0 h.2, h.3)
 
-  pub uses_more : (calls : List Call) (this that : Course → Type 0) (r : Step) (new : Steps D C)
+  pub uses_more : (calls : List DirectoryCall) (this that : Course → Type 0) (r : Step) (new : Steps D C)
       → ((c : Course) → this c → that c) → UsesCourse [] this r new → UsesCourse calls that r new
   uses_more calls this that r new f h = record {
     some = (h.some.0, f h.some.0 h.some.1);
@@ -355,7 +355,7 @@ module _ {D C : Type 0} where
 
   -- ---- what is made of a call
 
-  pub uses_moved : (calls : List Call) (this that : Course → Type 0) (r : Step) (new : Steps D C)
+  pub uses_moved : (calls : List DirectoryCall) (this that : Course → Type 0) (r : Step) (new : Steps D C)
       → ((c : Course) → this c → that c) → UsesCourse calls this r new → UsesCourse calls that r new
   uses_moved calls this that r new f h = record {
     some = (h.some.0, f h.some.0 h.some.1);

@@ -8,7 +8,7 @@ use Rattle.wax_directory.specs.History.{found}
 use Rattle.wax_directory.specs.Shown.{Shown, a_folder, a_leaf, a_sealed, failing, missing}
 use Rattle.wax_walk.specs.Forest.{Forest, nothing, item, lists, Pending, pending, all_pending, FirstIs}
 use Rattle.wax_walk.specs.Given.{Given, no_memory}
-use Rattle.wax_walk.specs.Course.{Ahead, Call, Course, ahead, all_ahead, asking, asks, call, continued, stop, unknown}
+use Rattle.wax_walk.specs.Course.{Ahead, DirectoryCall, Course, ahead, all_ahead, asking, asks, call, continued, stop, unknown}
 use Rattle.wax_walk.specs.Course.{yields}
 use Rattle.wax_walk.specs.Course as course
 use Rattle.wax_walk.specs.View.{Follows, MayTake, ended_so, was_cut, went_on}
@@ -119,7 +119,7 @@ module _ {D C : Type 0} (law : Law D C) where
   taken w e c t =
       (t.0, subst (λ b. AheadUnlessLacking b (MayBeAhead w.steps t.0) t.0) (sym e) t.1, t.2)
 
-  followed : (w v : WalkTree D C) (r : Option Given) (calls : List Call) → w.lacks_memory ≡ false
+  followed : (w v : WalkTree D C) (r : Option Given) (calls : List DirectoryCall) → w.lacks_memory ≡ false
       → v.lacks_memory ≡ false → Follows (steps_view law w.steps) calls r (steps_view law v.steps)
       → Follows (tree_view law w) calls r (tree_view law v)
   followed w v r calls e d (went_on x i f) = went_on x i (λ a c m b.
@@ -179,7 +179,7 @@ module _ {D C : Type 0} (law : Law D C) where
     known p (goes t c) = goes_on w v p r d (f.gives p c)
 
 lacking_takes : {D C : Type 0} (law : Law D C) (w : WalkTree D C) → w.lacks_memory ≡ true → (c : Course)
-    → course.Begins c (yields no_memory stop stop) → MayTake (tree_view law w) c
+    → course.IsStartOf c (yields no_memory stop stop) → MayTake (tree_view law w) c
 lacking_takes law w e c b = (
   ahead stop c,
   subst (λ b. AheadUnlessLacking b (MayBeAhead w.steps (ahead stop c)) (ahead stop c)) (sym e) (refl, b),
@@ -197,8 +197,8 @@ lacking_fed law w e = record {
   begins = lacking_takes law w e unknown tt;
   follows = went_on no_memory refl (λ a c m b.
       let none : m.0 ≡ ahead stop stop = m.1 in
-      let below = subst (course.Begins a.below) (ap (λ (v : Ahead). v.below) none) m.2 in
-      let after = subst (course.Begins a.after) (ap (λ (v : Ahead). v.after) none) m.3 in
+      let below = subst (course.IsStartOf a.below) (ap (λ (v : Ahead). v.below) none) m.2 in
+      let after = subst (course.IsStartOf a.after) (ap (λ (v : Ahead). v.after) none) m.3 in
       lacking_takes law w e c (begins_trans c (yields no_memory a.below a.after) (yields no_memory stop stop) b
       (stop, stop, refl, below, after)));
   accounts = record {
@@ -249,24 +249,24 @@ lacking_fed law w e = record {
 
 -- ---- what it may take
 
-begins_after : (b a d : Course) → course.Begins b stop → course.Begins a d → course.Begins (continued b a) d
+begins_after : (b a d : Course) → course.IsStartOf b stop → course.IsStartOf a d → course.IsStartOf (continued b a) d
 begins_after stop a d h i = i
 begins_after unknown a d h i = tt
 begins_after (asks q b) a d h i = absurd (let e : stop ≡ asks q h.0 = h.1 in (cc))
 begins_after (yields x b e) a d h i = absurd (let e : stop ≡ yields x h.0 h.1 = h.2 in (cc))
 
 -- what begins what is ahead of a walk that takes nothing below
-begins_taken : (a : Ahead) (c b d : Course) → all_ahead a ≡ c → course.Begins a.below b → b ≡ stop
-    → course.Begins a.after d → course.Begins c d
-begins_taken a c b d e h i k = subst (λ z. course.Begins z d) e
-    (begins_after a.below a.after d (subst (course.Begins a.below) i h) k)
+begins_taken : (a : Ahead) (c b d : Course) → all_ahead a ≡ c → course.IsStartOf a.below b → b ≡ stop
+    → course.IsStartOf a.after d → course.IsStartOf c d
+begins_taken a c b d e h i k = subst (λ z. course.IsStartOf z d) e
+    (begins_after a.below a.after d (subst (course.IsStartOf a.below) i h) k)
 
 module _ {D C : Type 0} (law : Law D C) where
   pub made_takes : (w : Steps D C) (place : StartPoint) (at : Location) (root : List ℕ) (c : Course)
       → w.first ≡ Some place → w.levels.items ≡ [] → w.has_ended ≡ false → located place.at ≡ at
       → string_bytes w.root ≡ root → MayTake (steps_view law w) c
       → (d : Course) × AlongComes (record { min = w.min; max = w.max; root = root }) (from_last place.names.items) at
-      stop d × course.Begins c d
+      stop d × course.IsStartOf c d
   made_takes w place at root c first levels going here r t =
       let b = t.1 in
       let g = goes_ahead w b.0 going b.1 in
@@ -285,15 +285,15 @@ module _ {D C : Type 0} (law : Law D C) where
       )
 
   pub none_takes : (w : Steps D C) (c : Course) → w.first ≡ None → w.entered ≡ None → w.levels.items ≡ []
-      → w.has_ended ≡ false → MayTake (steps_view law w) c → course.Begins c stop
+      → w.has_ended ≡ false → MayTake (steps_view law w) c → course.IsStartOf c stop
   none_takes w c first entered levels going t =
       let b = t.1 in
       let r = rests_ahead w b.0 going first entered b.1 in
       let after : b.0.after ≡ stop = subst (λ ls. LevelsCome (scope_of w) ls b.0.after) levels r.1 in
-      begins_taken t.0 c b.0.below stop t.2 b.2 r.0 (subst (course.Begins t.0.after) after b.3)
+      begins_taken t.0 c b.0.below stop t.2 b.2 r.0 (subst (course.IsStartOf t.0.after) after b.3)
 
   pub lacks_takes : (w : WalkTree D C) (c : Course) → w.lacks_memory ≡ true → MayTake (tree_view law w) c
-      → course.Begins c (yields no_memory stop stop)
+      → course.IsStartOf c (yields no_memory stop stop)
   lacks_takes w c e t =
       let b = subst (λ b. AheadUnlessLacking b (MayBeAhead w.steps t.0) t.0) e t.1 in
       begins_taken t.0 c stop (yields no_memory stop stop) t.2 b.0 refl b.1
@@ -333,7 +333,7 @@ start_takes : (range : DepthRange) (start : List ℕ) (names : List (List ℕ)) 
 start_takes range start names c e (along d h b) =
     let p = along_plain (scope_in range start) (start_location start) stop d
     (subst (λ ns. AlongComes (scope_in range start) ns (start_location start) stop d) e h) in
-    walks p.0 p.1 (subst (course.Begins c) p.2 b)
+    walks p.0 p.1 (subst (course.IsStartOf c) p.2 b)
 start_takes range start names c e (lacking b) = lacking_start b
 start_takes range start names c e (beyond l b) =
     absurd (let z : length names ≡ 0 = ap length e in omega (arith, z, l))

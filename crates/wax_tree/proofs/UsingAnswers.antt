@@ -17,7 +17,7 @@ use Rattle.wax_walk.specs.declared.entry.TreeEntry.{TreeEntry}
 use Rattle.wax_walk.specs.Given.{Given, entry, fault, no_memory}
 use Rattle.wax_walk.specs.declared.error.FaultKind.TheVariants.{Budget}
 use Rattle.wax_walk.specs.View.{IsLast, IsMisplaced, Takes, fault_counts, CountsFaults, GivesOrStops}
-use Rattle.wax_walk.specs.View.{lacks_memory, over_budget, gives, items_lost, how_many, LacksMemory}
+use Rattle.wax_walk.specs.View.{lacks_memory, over_budget, gives, items_lost, how_many, IsMemoryError}
 use Rattle.wax_walk.specs.View.{opens_one}
 use Rattle.wax_tree.specs.declared.steps.Steps.{Steps}
 use Rattle.wax_tree.specs.declared.steps.Step.{Step}
@@ -337,9 +337,9 @@ module _ {D C : Type 0} (law : Law D C) where
       (new : Steps D C)
       → Counts asked.counts (law.tally w.directory) (law.tally d) → asked.counts.items ≡ asked.taken
       → refused ≤ (fault_counts (step_given r)).failures
-      → (¬ (LacksMemory (step_given r)) → asked.taken + (refused + begun) ≡ asked.made)
+      → (¬ (IsMemoryError (step_given r)) → asked.taken + (refused + begun) ≡ asked.made)
       → w.has_ended ≡ false → w.first ≡ None → w.entered ≡ None
-      → (¬ (LacksMemory (step_given r)) → asked.counts.opened ≡ enters)
+      → (¬ (IsMemoryError (step_given r)) → asked.counts.opened ≡ enters)
       → (¬ (IsLast (step_given r)) → lists + asked.counts.opened ≡ asked.counts.ended + open_lists new)
       → UsesAnswer asked (record w { directory = d }) r new → StepAnswers law (record (steps_view law w) {
         names_left = asked.names;
@@ -402,7 +402,7 @@ module _ {D C : Type 0} (law : Law D C) where
               let one : how_many (step_given r) ≡ 1 = ap how_many k in
               omega (
                 arith,
-                s.enters going first entered (λ l. subst (λ v. LacksMemory v) k l),
+                s.enters going first entered (λ l. subst (λ v. IsMemoryError v) k l),
                 s.folders_passed,
                 s.passes_alone one,
               )
@@ -410,7 +410,7 @@ module _ {D C : Type 0} (law : Law D C) where
               let one : how_many (step_given r) ≡ 1 = ap how_many k in
               omega (
                 arith,
-                s.enters going first entered (λ l. subst (λ v. LacksMemory v) k l),
+                s.enters going first entered (λ l. subst (λ v. IsMemoryError v) k l),
                 s.folders_passed,
                 s.passes_alone one,
               )

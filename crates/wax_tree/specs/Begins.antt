@@ -62,8 +62,8 @@ IsBegun view = (view.to_begin ≡ 1) ⊎ (view.is_idle × (view.to_begin ≡ 0))
 
 -- what a walk may take: the course of a tree; or only the error that allocation failed
 pub data StartTakes (scope : WalkScope) (c : Course) : Type 0 where
-  walks : (s : Shown) → IsNamed s → course.Begins c (plain_course scope s) → StartTakes scope c
-  lacking_start : course.Begins c (yields no_memory stop stop) → StartTakes scope c
+  walks : (s : Shown) → IsNamed s → course.IsStartOf c (plain_course scope s) → StartTakes scope c
+  lacking_start : course.IsStartOf c (yields no_memory stop stop) → StartTakes scope c
 
 -- the view of a walk over the directory d: what is shown at the start is to come, of the depths in range, and
 -- there are no names to follow
@@ -90,14 +90,14 @@ pub record Origin : Type 0 where
   pub candidate : List ℕ
   pub names : List (List ℕ)
 
--- what a walk from this origin may take: what comes along its names; only the error that allocation failed; or
--- nothing, if there are more names than the greatest depth
+-- what a walk from this origin may take: what comes along its names; only the error that allocation failed;
+-- or nothing, if there are more names than the greatest depth
 pub data OriginTakes (origin : Origin) (range : DepthRange) (c : Course) : Type 0 where
   along : (d : Course) → AlongComes (scope_in range origin.root) origin.names
-      (record { path = origin.path; candidate = origin.candidate; depth = 0 }) stop d → course.Begins c d
+      (record { path = origin.path; candidate = origin.candidate; depth = 0 }) stop d → course.IsStartOf c d
       → OriginTakes origin range c
-  lacking : course.Begins c (yields no_memory stop stop) → OriginTakes origin range c
-  beyond : range.max < length origin.names → course.Begins c stop → OriginTakes origin range c
+  lacking : course.IsStartOf c (yields no_memory stop stop) → OriginTakes origin range c
+  beyond : range.max < length origin.names → course.IsStartOf c stop → OriginTakes origin range c
 
 -- the view of a walk over the directory d: it follows the names of the origin and goes on from there, or
 -- yields one error if they don't lead there; if there are more names than the greatest depth, it yields
@@ -131,7 +131,7 @@ pub record HasEnded {D C : Type 0} (law : Law D C) (d : D) (range : DepthRange)
     (view : WalkView D) : Type 0 where
   pub comes : (path : List ℕ) (s : Shown) (listed : List (List ℕ)) → law.shows d path s → law.tells d listed
       → view.to_come (pending nothing nothing listed 0)
-  pub takes : (c : Course) → MayTake view c → course.Begins c stop
+  pub takes : (c : Course) → MayTake view c → course.IsStartOf c stop
   pub ended : view.has_ended
   pub idle : view.is_idle
   pub listings : view.listings_left ≡ range.budget + 1
@@ -149,7 +149,7 @@ pub record HasEnded {D C : Type 0} (law : Law D C) (d : D) (range : DepthRange)
 pub record LacksMemory {D C : Type 0} (law : Law D C) (d : D) (range : DepthRange)
     (view : WalkView D) : Type 0 where
   pub comes : (p : Pending Given) → law.tells d p.listed → view.to_come p
-  pub takes : (c : Course) → MayTake view c → course.Begins c (yields no_memory stop stop)
+  pub takes : (c : Course) → MayTake view c → course.IsStartOf c (yields no_memory stop stop)
   pub idle : view.is_idle
   pub listings : view.listings_left ≡ range.budget + 1
   pub names : view.names_left ≡ 0

@@ -4,10 +4,11 @@ use Rattle.wax_directory.specs.declared.directory.FileType.{FileType}
 use Rattle.wax_directory.specs.declared.directory.FileType.TheVariants as F
 use Rattle.wax_directory.specs.History.{absent, at_end, found, listed, opened, refused, unseen}
 use Rattle.wax_directory.specs.Shown.{IsPlain, Items, Shown, a_folder, a_leaf, a_sealed, end, failing, folder}
-use Rattle.wax_directory.specs.Shown.{join, leaf, leaf_kind, misnamed, missing, named, no_item, no_name, not_text}
-use Rattle.wax_directory.specs.Shown.{sealed, unread}
+use Rattle.wax_directory.specs.Shown.{join, leaf, leaf_kind, misnamed, missing, named, no_item, no_name}
+use Rattle.wax_directory.specs.Shown.{not_text, sealed, unread}
 use Rattle.wax_walk.specs.Course.{Course, asks, call, continued, stop, yields}
-use Rattle.wax_walk.specs.declared.error.FaultKind.TheVariants.{BadName, Listing, NotAFolder, NotFound, NotText}
+use Rattle.wax_walk.specs.declared.error.FaultKind.TheVariants.{BadName, Listing, NotAFolder, NotFound}
+use Rattle.wax_walk.specs.declared.error.FaultKind.TheVariants.{NotText}
 use Rattle.wax_walk.specs.Given.{Given, fault}
 use Rattle.wax_tree.specs.Plain.{HasKind, IsFolder, Location, WalkScope, item_location, one_deeper}
 use Rattle.wax_tree.specs.Plain.{plain_entry, start_location}
@@ -96,11 +97,13 @@ module _ (scope : WalkScope) where
 
   -- an entry, what is below it, and what comes after it
   abbrev pub entry_course : Location → FileType → Shown → Course → Course
-  entry_course at kind s after = course_at_depth at.depth (plain_entry scope at kind) (below_course at s) after
+  entry_course at kind s after =
+      course_at_depth at.depth (plain_entry scope at kind) (below_course at s) after
 
   -- what comes of a location where this kind was found, along these names, and `after` that
   abbrev pub FoundComes : List (List ℕ) → Location → Course → FileType → Course → Type 0
-  FoundComes [] at after kind c = (s : Shown) × IsNamed s × HasKind s kind × (c ≡ entry_course at kind s after)
+  FoundComes [] at after kind c = (s : Shown) × IsNamed s × HasKind s kind
+      × (c ≡ entry_course at kind s after)
   FoundComes (x ∷ names) at after F.Folder c = IsAsked (onward_location at x)
       (FoundComes names (onward_location at x) after) after c
   FoundComes (x ∷ names) at after F.File c = c ≡ yields (fault NotAFolder at.path at.depth) stop stop

@@ -2,7 +2,7 @@
 use Rattle.std.specs.Prelude.{◌≡◌, ◌⊎◌, ℕ, ◌+◌, Bool, cond, true, false}
 use Rattle.wax_directory.specs.Law.{Law}
 use Rattle.wax_walk.specs.Forest.{Pending}
-use Rattle.wax_walk.specs.Course.{Ahead, Begins, stop, yields}
+use Rattle.wax_walk.specs.Course.{Ahead, IsStartOf, stop, yields}
 use Rattle.wax_walk.specs.Given.{Given, no_memory}
 use Rattle.wax_walk.specs.View.{WalkView}
 use Rattle.wax_tree.specs.declared.walk_tree.WalkTree.{WalkTree}
@@ -18,7 +18,7 @@ pub data MayCome {D C : Type 0} (law : Law D C) (w : WalkTree D C) (p : Pending 
 
 -- what may be ahead: the error, if allocation failed and that wasn't yielded yet
 abbrev pub AheadUnlessLacking : Bool → Type 0 → Ahead → Type 0
-AheadUnlessLacking true ahead a = Begins a.below stop × Begins a.after (yields no_memory stop stop)
+AheadUnlessLacking true ahead a = IsStartOf a.below stop × IsStartOf a.after (yields no_memory stop stop)
 AheadUnlessLacking false ahead a = ahead
 
 -- the view of the walk

@@ -8,13 +8,14 @@ use Rattle.wax_directory.specs.Law.{Law, HoldsLast}
 use Rattle.wax_directory.specs.Shown.{IsPlain, Items, Shown, ShowsIn}
 use Rattle.wax_directory.specs.declared.directory.ListItem.{ListItem}
 use Rattle.wax_directory.specs.declared.directory.ListItem.TheVariants as I
-use Rattle.wax_walk.specs.Course.{Ahead, Call, Course, CutsShort, all_ahead, answers, asking, continued, stop}
+use Rattle.wax_walk.specs.Course.{Ahead, DirectoryCall, Course, CutsShort, all_ahead, answers, asking}
+use Rattle.wax_walk.specs.Course.{continued, stop}
 use Rattle.wax_walk.specs.Course.{yields}
 use Rattle.wax_walk.specs.declared.error.FaultKind.TheVariants.{BadName, Listing, NotText}
 use Rattle.wax_walk.specs.Forest.{Forest, nothing, followed_by, Pending, pending}
 use Rattle.wax_walk.specs.Given.{Facts, Given, fault}
 use Rattle.wax_walk.specs.View.{WalkView, Accounts, GivesOrStops, IsLast, IsMisplaced, Takes}
-use Rattle.wax_walk.specs.View.{fault_counts, IsErrorAt, IsFolderAt, items_lost, how_many, LacksMemory}
+use Rattle.wax_walk.specs.View.{fault_counts, IsErrorAt, IsFolderAt, items_lost, how_many, IsMemoryError}
 use Rattle.wax_walk.specs.View.{opens_one}
 use Rattle.wax_directory.specs.declared.directory.FileType.{FileType}
 use Rattle.wax_directory.specs.declared.directory.FileType.TheVariants as F
@@ -67,13 +68,14 @@ module _ {D C : Type 0} where
     pub counts : IsCounted (fault_counts (step_given r)) (items_lost (step_given r)) asked.counts
     pub passed : ℕ
     pub passes : old.min ≡ 0 → passed ≡ 0
-    pub gives : ¬ (LacksMemory (step_given r)) → asked.made ≡ how_many (step_given r) + (passed + begins new)
+    pub gives : ¬ (IsMemoryError (step_given r))
+        → asked.made ≡ how_many (step_given r) + (passed + begins new)
     pub passes_alone : how_many (step_given r) ≡ 1 → passed ≡ 0
     pub going : ¬ (IsLast (step_given r)) → 0 < allowance old → 0 < allowance new
     pub folders : ℕ
     pub folders_passed : folders ≤ passed
     pub enters : old.has_ended ≡ false → old.first ≡ None → old.entered ≡ None
-        → ¬ (LacksMemory (step_given r)) → entering new ≡ folders + opens_one old.max (step_given r)
+        → ¬ (IsMemoryError (step_given r)) → entering new ≡ folders + opens_one old.max (step_given r)
     pub takes : Takes (step_given r) (allowance old) asked.taken (allowance new)
     pub ends : IsLast (step_given r) → new.has_ended ≡ true
     pub names : names_left new ≤ asked.names
@@ -185,20 +187,20 @@ next_course GoesOn a = all_ahead a
 next_course Ends a = stop
 
 -- an error of the step cuts the course short after these calls
-abbrev pub IsCutOff : {D C : Type 0} → List Call → Step → Steps D C → Type 0
-IsCutOff calls r new = (x : Given) × (step_given r ≡ Some x) × CutsShort calls x × (new.has_ended ≡ true)
+abbrev pub CutsOff : {D C : Type 0} → List DirectoryCall → Step → Steps D C → Type 0
+CutsOff calls r new = (x : Given) × (step_given r ≡ Some x) × CutsShort calls x × (new.has_ended ≡ true)
 
--- what a step makes of the answers of these calls: some course was ahead; whatever is ahead after the step, what
--- it yielded and that was; or it is cut off
-pub record UsesCourse {D C : Type 0} (calls : List Call) (comes : Course → Type 0) (r : Step) (new : Steps D C) :
-    Type 0 where
+-- what a step makes of the answers of these calls: some course was ahead; whatever is ahead after the step,
+-- before it were what the step yielded and that; or the course is cut off
+pub record UsesCourse {D C : Type 0} (calls : List DirectoryCall) (comes : Course → Type 0) (r : Step)
+    (new : Steps D C) : Type 0 where
   pub some : (c : Course) × comes c
-  pub follows : ((a : Ahead) → ComesAhead new a → comes (next_course r a)) ⊎ IsCutOff calls r new
+  pub follows : ((a : Ahead) → ComesAhead new a → comes (next_course r a)) ⊎ CutsOff calls r new
 
 -- what a step does that asks the directory
 pub record StepCourse {D C : Type 0} (law : Law D C) (before : D) (comes : Course → Type 0) (r : Step)
     (new : Steps D C) : Type 0 where
-  pub calls : List Call
+  pub calls : List DirectoryCall
   pub answered : law.answered new.directory ≡ law.answered before ++ answers calls
   pub uses : UsesCourse calls (λ c. comes (asking calls c)) r new
 

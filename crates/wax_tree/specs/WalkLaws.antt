@@ -10,7 +10,7 @@ use Rattle.wax_tree.specs.declared.location.Location as code
 use Rattle.wax_tree.specs.Walking.{AheadUnless, EnteredComes, GoesAhead, HasStopped, IsAlone, MayBeAhead}
 use Rattle.wax_tree.specs.Walking.{PlainToCome, entering_after, scope_of}
 use Rattle.wax_directory.specs.Shown.{a_sealed}
-use Rattle.wax_walk.specs.Course.{Ahead, Begins, Course, IsNothing, ahead, stop, unknown}
+use Rattle.wax_walk.specs.Course.{Ahead, IsStartOf, Course, IsNothing, ahead, stop, unknown}
 use Rattle.wax_walk.specs.Forest.{Pending, cancelled}
 use Rattle.wax_walk.specs.Given.{Given}
 use Rattle.wax_walk.specs.View.{CancelStep}
@@ -72,18 +72,18 @@ module _ {D C : Type 0} where
     unentered s None c h = h
 
     drop_steps : (s : Steps D C) (b : Bool) (a c : Ahead)
-        → AheadUnless b (GoesAhead (record s { entered = None }) c) c → Begins a.below c.below
-        → Begins a.after c.after
-        → IsNothing a.below × (o : Ahead) × AheadUnless b (GoesAhead s o) o × Begins a.after o.after
+        → AheadUnless b (GoesAhead (record s { entered = None }) c) c → IsStartOf a.below c.below
+        → IsStartOf a.after c.after
+        → IsNothing a.below × (o : Ahead) × AheadUnless b (GoesAhead s o) o × IsStartOf a.after o.after
     drop_steps s true a c h below after = (
-      subst (Begins a.below) (ap (λ (v : Ahead). v.below) h) below,
+      subst (IsStartOf a.below) (ap (λ (v : Ahead). v.below) h) below,
       ahead stop stop,
       refl,
-      subst (Begins a.after) (ap (λ (v : Ahead). v.after) h) after,
+      subst (IsStartOf a.after) (ap (λ (v : Ahead). v.after) h) after,
     )
     drop_steps s false a c h below after =
         let e = entered_some s s.first s.entered in (
-          subst (Begins a.below) (unentered s s.first c.below h.entered) below,
+          subst (IsStartOf a.below) (unentered s s.first c.below h.entered) below,
           ahead e.0 c.after,
           record { back = h.back; first = h.first; entered = e.1; levels = h.levels },
           after,

@@ -11,7 +11,7 @@ use Rattle.wax_walk.specs.declared.entry.TreeEntry.{TreeEntry}
 use Rattle.wax_walk.specs.Entries.{facts_of, given_outcome}
 use Rattle.wax_walk.specs.Forest.{Forest, nothing, lists, followed_by, Pending, all_pending}
 use Rattle.wax_walk.specs.Given.{Facts, Given}
-use Rattle.wax_walk.specs.Course.{Ahead, Begins, Course, ahead, continued, stop}
+use Rattle.wax_walk.specs.Course.{Ahead, IsStartOf, Course, ahead, continued, stop}
 use Rattle.wax_walk.specs.View.{WalkView}
 use Rattle.wax_tree.specs.Courses.{AlongComes, AreNamed, IsNamed, entered_course, items_course}
 use Rattle.wax_tree.specs.declared.location.Location as code
@@ -179,7 +179,7 @@ module _ {D C : Type 0} where
 
   -- the same, as far as it is known
   abbrev pub MayBeAhead : Steps D C → Ahead → Type 0
-  MayBeAhead w a = (b : Ahead) × ComesAhead w b × Begins a.below b.below × Begins a.after b.after
+  MayBeAhead w a = (b : Ahead) × ComesAhead w b × IsStartOf a.below b.below × IsStartOf a.after b.after
 
 module _ {D C : Type 0} (law : Law D C) where
   -- the walk has no start point and no folder to enter, hasn't ended, and has `rest` yet to yield

@@ -11,7 +11,7 @@ use Rattle.wax_tree.specs.Plain.{Location, start_location, item_location, one_de
 use Rattle.wax_directory.specs.History.{Answer}
 use Rattle.wax_tree.specs.Courses.{IsNamed, plain_course}
 use Rattle.wax_walk.specs.Collected.{IsCutShort}
-use Rattle.wax_walk.specs.Course.{Call, CutsShort, answers, calls_of}
+use Rattle.wax_walk.specs.Course.{DirectoryCall, CutsShort, answers, calls_of}
 use Rattle.wax_walk.specs.declared.error.FaultKind.TheVariants.{NotFound, NotAFolder, Listing, BadName}
 use Rattle.wax_walk.specs.declared.error.FaultKind.TheVariants.{NotText, Budget}
 use Rattle.wax_walk.specs.Forest.{Pending, pending, nothing}
@@ -93,17 +93,17 @@ pub data EntriesAre (range : DepthRange) (start : List ℕ) (s : Shown) (xs : Li
       → IsCutShort (yielded range (whole start s)) (fault Budget path depth) xs → EntriesAre range start s xs
 
 -- the calls of a walk of these depths from a start where s is shown, with their answers
-abbrev pub calls_for : DepthRange → List ℕ → Shown → List Call
+abbrev pub calls_for : DepthRange → List ℕ → Shown → List DirectoryCall
 calls_for range start s = calls_of (plain_course (scope_in range start) s)
 
--- whatever was answered: it is what a tree answers, and the items are what these depths leave of its whole
--- walk; or it is a beginning of that, and the items are a prefix and then one error, because allocation failed or
--- the budget was reached in the folder that was asked last
+-- whatever was answered: it is what some tree answers, and the items are what these depths leave of its whole
+-- walk; or it begins that, and the items are a prefix and then one error, because allocation failed or the
+-- budget was reached in the folder that was asked last
 pub data EntriesAnswered (range : DepthRange) (start : List ℕ) (told : List Answer) (xs : List Given) : Type 0
   where
     as_told : (s : Shown) → IsNamed s → told ≡ answers (calls_for range start s)
         → xs ≡ yielded range (whole start s) → EntriesAnswered range start told xs
-    told_in_part : (s : Shown) (calls rest : List Call) (x : Given) → IsNamed s
+    told_in_part : (s : Shown) (calls rest : List DirectoryCall) (x : Given) → IsNamed s
         → calls ++ rest ≡ calls_for range start s → told ≡ answers calls
         → IsCutShort (yielded range (whole start s)) x xs → CutsShort calls x
         → EntriesAnswered range start told xs

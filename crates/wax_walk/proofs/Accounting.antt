@@ -6,11 +6,11 @@ use Rattle.wax_directory.specs.Law.{Law}
 use Rattle.wax_directory.specs.declared.tally.Tally.{Tally}
 use Rattle.wax_walk.specs.declared.error.FaultKind.TheVariants.{NotFound, NotAFolder, Listing, BadName}
 use Rattle.wax_walk.specs.declared.error.FaultKind.TheVariants.{NotText, Budget}
-use Rattle.wax_walk.specs.Course.{Call, answers, asking, unknown}
+use Rattle.wax_walk.specs.Course.{DirectoryCall, answers, asking, unknown}
 use Rattle.wax_walk.specs.Given.{Given, Mark, entry, fault, no_memory, with_mark, is_cut}
 use Rattle.wax_walk.specs.Given.{kept, alone, with_tree}
 use Rattle.wax_walk.specs.View.{WalkView, CountsFaults, fault_counts, IsLast, IsMisplaced, Takes, IsToOpen}
-use Rattle.wax_walk.specs.View.{items_lost, how_many, opens_one, LacksMemory}
+use Rattle.wax_walk.specs.View.{items_lost, how_many, opens_one, IsMemoryError}
 use Rattle.wax_walk.specs.View.{Follows, MayTake, GivesOrStops, Accounts, FeedStep, IsErrorAt, IsFolderAt, MayFail, Places}
 use Rattle.wax_walk.specs.Forest.{Pending}
 
@@ -167,7 +167,7 @@ pub record IsAs (x y : Option Given) : Type 0 where
   pub lost : items_lost y ≡ items_lost x
   pub many : how_many y ≡ how_many x
   pub takes : (allowed n left : ℕ) → Takes x allowed n left → Takes y allowed n left
-  pub lacks : LacksMemory x → LacksMemory y
+  pub lacks : IsMemoryError x → IsMemoryError y
   pub last : IsLast x → IsLast y
   pub last_only : IsLast y → IsLast x
 
@@ -229,7 +229,7 @@ places_marked v w outer new x m f b a below = record {
 
 module _ {D C : Type 0} (law : Law D C) where
   pub accounts_moved : (v w outer new : WalkView D) (x y : Option Given) → IsAs x y → (h : Accounts law v x w)
-      → IsAsked outer v → HasAnswered new w → (¬ (LacksMemory y)
+      → IsAsked outer v → HasAnswered new w → (¬ (IsMemoryError y)
       → h.opened + new.to_open ≡ outer.to_open + (h.folders + opens_one outer.opens_above y))
       → Accounts law outer y new
   accounts_moved v w outer new x y s h b a opens =
@@ -288,7 +288,7 @@ module _ {D C : Type 0} (law : Law D C) where
         (a.idle idles.0, a.directory ∙ (idles.1 ∙ sym b.directory))
 
     -- the filter made the same calls
-    answered_moved : (calls : List Call)
+    answered_moved : (calls : List DirectoryCall)
         → law.answered w.directory ≡ law.answered v.directory ++ answers calls
         → law.answered new.directory ≡ law.answered outer.directory ++ answers calls
     answered_moved calls e = ap law.answered a.directory

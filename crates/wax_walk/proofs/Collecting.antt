@@ -18,7 +18,7 @@ use Rattle.wax_walk.specs.declared.error.WalkError.{WalkError}
 use Rattle.wax_walk.specs.declared.error.WalkError.TheVariants.{Fault, Memory}
 use Rattle.wax_walk.specs.declared.error.FaultKind.TheVariants.{NotAFolder, Budget}
 use Rattle.wax_walk.specs.Collected.{IsCutShort, GaveAll, whole, Took, all_fault_counts, NoneLast, count_to_open}
-use Rattle.wax_walk.specs.Collected.{AreOfFolders, HasFolder, all_items_lost, NoneLacksMemory}
+use Rattle.wax_walk.specs.Collected.{AreOfFolders, HasFolder, all_items_lost, NoMemoryError}
 use Rattle.wax_walk.specs.Collected as all
 use Rattle.wax_walk.specs.Entries.{given_of, given_outcome, given_residue}
 use Rattle.wax_walk.specs.Forest.{Forest, nothing, item, lists, followed_by, Pending, pending, all_pending}
@@ -28,8 +28,8 @@ use Rattle.wax_walk.specs.Known.{kept_of}
 use Rattle.wax_walk.specs.View.{WalkView, FeedStep, GivesOrStops, lacks_memory, over_budget, gives}
 use Rattle.wax_walk.specs.View.{CountsFaults, fault_counts, IsLast, IsMisplaced, Takes, IsToOpen, is_to_open}
 use Rattle.wax_walk.specs.View.{IsErrorAt, IsFolderAt, MayFail, Places, items_lost, opens_one}
-use Rattle.wax_walk.specs.View.{LacksMemory}
-use Rattle.wax_walk.specs.Course.{Call, answers}
+use Rattle.wax_walk.specs.View.{IsMemoryError}
+use Rattle.wax_walk.specs.Course.{DirectoryCall, answers}
 use Rattle.wax_walk.proofs.Taking.{TakingCourse, answered_more, course_end, course_more, course_none}
 use Rattle.wax_walk.proofs.Accounting.{takes_within, takes_exactly, counts_faults_then, counts_then_none}
 use Rattle.wax_walk.proofs.Accounting.{counts_nothing, grown_then}
@@ -174,8 +174,8 @@ lost_more : (xs : List Given) (x : Given) → all_items_lost (xs ++ x ∷ []) �
 lost_more [] x = omega arith
 lost_more (y ∷ xs) x = omega (arith, lost_more xs x)
 
-memory_parts : (xs : List Given) (x : Given) → NoneLacksMemory (xs ++ x ∷ [])
-    → NoneLacksMemory xs × ¬ (LacksMemory (Some x))
+memory_parts : (xs : List Given) (x : Given) → NoMemoryError (xs ++ x ∷ [])
+    → NoMemoryError xs × ¬ (IsMemoryError (Some x))
 memory_parts [] x h = (tt, h.0)
 memory_parts (y ∷ xs) x h = let p = memory_parts xs x h.1 in ((h.0, p.0), p.1)
 
@@ -266,7 +266,7 @@ module _ {D C : Type 0} (law : Law D C) where
   -- in all
   pub record Taking (walk now : WalkView D) (most less : ℕ) (xs : List Given) : Type 0 where
     pub gave : (p : Pending Given) → walk.to_come p → GaveSoFar walk.listings_left now p xs
-    pub calls : List Call
+    pub calls : List DirectoryCall
     pub answered : law.answered now.directory ≡ law.answered walk.directory ++ answers calls
     pub course : TakingCourse walk now calls xs
     pub few : length xs + less ≤ most
@@ -291,7 +291,7 @@ module _ {D C : Type 0} (law : Law D C) where
     pub ended_is : (law.tally now.directory).ended ≡ grown ended_count (law.tally walk.directory).ended
     pub going : NoneLast xs → 0 < walk.listings_left → 0 < now.listings_left
     pub folders : ℕ
-    pub opens : NoneLacksMemory xs
+    pub opens : NoMemoryError xs
         → opened + now.to_open ≡ walk.to_open + (folders + count_to_open walk.opens_above xs)
     pub closes : NoneLast xs → walk.listings_open + opened ≡ ended_count + now.listings_open
     pub above : now.opens_above ≡ walk.opens_above
@@ -300,7 +300,7 @@ module _ {D C : Type 0} (law : Law D C) where
     pub passes : walk.yields_from ≡ 0 → passed ≡ 0
     pub refused : ℕ
     pub refuses : refused ≤ (all_fault_counts xs).failures
-    pub gives : NoneLacksMemory xs
+    pub gives : NoMemoryError xs
         → taken + (refused + walk.to_begin) ≡ length xs + (passed + now.to_begin)
     pub from : now.yields_from ≡ walk.yields_from
 

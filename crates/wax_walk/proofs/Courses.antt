@@ -2,24 +2,24 @@
 use Rattle.std.proofs.Common.{◌≡◌, ◌∙◌, Bool, true, false, List, [], ◌∷◌, ◌++◌, append_assoc, refl, sym, ap, subst, inl, inr}
 use Rattle.std.specs.Prelude.{◌⊎◌, Some, None}
 use Rattle.std.proofs.lemmas.List.{append-nil, map-append}
-use Rattle.wax_walk.specs.Course.{Call, Course, stop, unknown, asks, yields, continued, asking, items_of, calls_of}
-use Rattle.wax_walk.specs.Course.{IsKnownFirst, answers, IsWhole, Begins, IsBelow, IsFiltered, IsNothing}
+use Rattle.wax_walk.specs.Course.{DirectoryCall, Course, stop, unknown, asks, yields, continued, asking, items_of, calls_of}
+use Rattle.wax_walk.specs.Course.{IsKnownFirst, answers, IsKnownWhole, IsStartOf, ComesBelow, IsFiltered, IsNothing}
 use Rattle.wax_walk.specs.Given.{Given, Mark, with_mark, is_cut}
 
 -- ---- parts
 
-pub begins_itself : (c : Course) → Begins c c
+pub begins_itself : (c : Course) → IsStartOf c c
 begins_itself stop = refl
 begins_itself unknown = tt
 begins_itself (asks q c) = (c, refl, begins_itself c)
 begins_itself (yields x b a) = (b, a, refl, begins_itself b, begins_itself a)
 
-pub continued_asking : (calls : List Call) (c d : Course) → continued (asking calls c) d
+pub continued_asking : (calls : List DirectoryCall) (c d : Course) → continued (asking calls c) d
     ≡ asking calls (continued c d)
 continued_asking [] c d = refl
 continued_asking (q ∷ calls) c d = ap (asks q) (continued_asking calls c d)
 
-pub asking_then : (calls more : List Call) (c : Course) → asking calls (asking more c)
+pub asking_then : (calls more : List DirectoryCall) (c : Course) → asking calls (asking more c)
     ≡ asking (calls ++ more) c
 asking_then [] more c = refl
 asking_then (q ∷ calls) more c = ap (asks q) (asking_then calls more c)
@@ -36,7 +36,7 @@ continued_then unknown d e = refl
 continued_then (asks q c) d e = ap (asks q) (continued_then c d e)
 continued_then (yields x b a) d e = ap (yields x b) (continued_then a d e)
 
-pub begins_asking : (calls : List Call) (c d : Course) → Begins c d → Begins (asking calls c) (asking calls d)
+pub begins_asking : (calls : List DirectoryCall) (c d : Course) → IsStartOf c d → IsStartOf (asking calls c) (asking calls d)
 begins_asking [] c d h = h
 begins_asking (q ∷ calls) c d h = (asking calls d, refl, begins_asking calls c d h)
 
@@ -44,15 +44,15 @@ begins_asking (q ∷ calls) c d h = (asking calls d, refl, begins_asking calls c
 pub record BeginsBoth (b a c : Course) : Type 0 where
   pub below : Course
   pub after : Course
-  pub below_begins : Begins below b
-  pub after_begins : Begins after a
+  pub below_begins : IsStartOf below b
+  pub after_begins : IsStartOf after a
   pub whole : continued below after ≡ c
 
-abbrev pub both : (b a c below after : Course) → Begins below b → Begins after a → continued below after ≡ c
+abbrev pub both : (b a c below after : Course) → IsStartOf below b → IsStartOf after a → continued below after ≡ c
     → BeginsBoth b a c
 both b a c below after h i e = record { below = below; after = after; below_begins = h; after_begins = i; whole = e }
 
-pub begins_parts : (b a c : Course) → Begins c (continued b a) → BeginsBoth b a c
+pub begins_parts : (b a c : Course) → IsStartOf c (continued b a) → BeginsBoth b a c
 begins_parts stop a c h = both stop a c stop c refl h refl
 begins_parts unknown a unknown h = both unknown a unknown unknown unknown tt tt refl
 begins_parts unknown a stop h = absurd (let e : unknown ≡ stop = h in (cc))
@@ -64,7 +64,7 @@ begins_parts (asks q b) a (asks r c) h =
     let e : asks q (continued b a) ≡ asks r h.0 = h.1 in
     let same : q ≡ r = cc in
     let rest : continued b a ≡ h.0 = cc in
-    let p = begins_parts b a c (subst (λ d. Begins c d) (sym rest) h.2) in
+    let p = begins_parts b a c (subst (λ d. IsStartOf c d) (sym rest) h.2) in
     both (asks q b) a (asks r c) (asks r p.below) p.after
     (b, ap (λ z. asks z b) same, p.below_begins) p.after_begins (ap (asks r) p.whole)
 begins_parts (asks q b) a (yields x d e) h = absurd (let e : asks q (continued b a) ≡ yields x h.0 h.1 = h.2 in (cc))
@@ -76,22 +76,22 @@ begins_parts (yields x d b) a (yields y e c) h =
     let same : x ≡ y = cc in
     let under : d ≡ h.0 = cc in
     let rest : continued b a ≡ h.1 = cc in
-    let p = begins_parts b a c (subst (λ z. Begins c z) (sym rest) h.4) in
+    let p = begins_parts b a c (subst (λ z. IsStartOf c z) (sym rest) h.4) in
     both (yields x d b) a (yields y e c) (yields y e p.below) p.after
-    (d, b, ap (λ z. yields z d b) same, subst (λ z. Begins e z) (sym under) h.3, p.below_begins)
+    (d, b, ap (λ z. yields z d b) same, subst (λ z. IsStartOf e z) (sym under) h.3, p.below_begins)
     p.after_begins (ap (yields y e) p.whole)
 
 -- how much of two courses is known, if both are one course
 pub record KnownParts (b a : Course) : Type 0 where
   pub below : Course
   pub after : Course
-  pub below_begins : Begins below b
-  pub after_begins : Begins after a
+  pub below_begins : IsStartOf below b
+  pub after_begins : IsStartOf after a
   pub items : items_of (continued b a) ≡ items_of below ++ items_of after
   pub calls : calls_of (continued b a) ≡ calls_of below ++ calls_of after
-  pub whole : IsWhole (continued b a) → IsWhole below × IsWhole after
+  pub whole : IsKnownWhole (continued b a) → IsKnownWhole below × IsKnownWhole after
   pub first : IsKnownFirst (continued b a) → IsKnownFirst below × IsKnownFirst after
-      × (IsWhole below ⊎ (after ≡ unknown))
+      × (IsKnownWhole below ⊎ (after ≡ unknown))
   pub unended : continued b a ≡ unknown → (below ≡ unknown) × (after ≡ unknown)
 
 known_known : (a : Course) → ¬ (a ≡ unknown) → KnownParts stop a
@@ -115,7 +115,7 @@ known_unknown b a e = record {
   after_begins = tt;
   items = ap items_of e;
   calls = ap calls_of e;
-  whole = λ w. absurd (subst IsWhole e w);
+  whole = λ w. absurd (subst IsKnownWhole e w);
   first = λ f. (tt, tt, inr refl);
   unended = λ i. (refl, refl);
 }
@@ -155,7 +155,7 @@ known_parts (yields x c b) a = let k = known_parts b a in record {
 }
 
 -- a whole course is all that it begins
-pub begins_whole : (c d : Course) → IsWhole c → Begins c d → c ≡ d
+pub begins_whole : (c d : Course) → IsKnownWhole c → IsStartOf c d → c ≡ d
 begins_whole stop d w h = sym h
 begins_whole unknown d w h = absurd w
 begins_whole (asks q c) d w h = ap (asks q) (begins_whole c h.0 w h.2) ∙ sym h.1
@@ -167,7 +167,7 @@ begins_whole (yields x b a) d w h =
 pub record ComesFirst (c d : Course) : Type 0 where
   pub items : List Given
   pub items_are : items_of c ++ items ≡ items_of d
-  pub calls : List Call
+  pub calls : List DirectoryCall
   pub calls_are : calls_of c ++ calls ≡ calls_of d
 
 comes_first_parts : (x : Given) (b a e f : Course) → b ≡ e → ComesFirst a f
@@ -194,7 +194,7 @@ comes_first_below x b a e f i k = record {
       ∙ (sym (append_assoc (calls_of b) k.calls (calls_of f)) ∙ ap (λ z. z ++ calls_of f) k.calls_are));
 }
 
-pub comes_first : (c d : Course) → IsKnownFirst c → Begins c d → ComesFirst c d
+pub comes_first : (c d : Course) → IsKnownFirst c → IsStartOf c d → ComesFirst c d
 comes_first unknown d f h = record { items = items_of d; items_are = refl; calls = calls_of d; calls_are = refl }
 comes_first stop d f h = record {
   items = [];
@@ -214,28 +214,28 @@ comes_first (yields x b a) d f h =
       | inr e ↦ comes_first_below x b a h.0 h.1 e (comes_first b h.0 f.0 h.3)
     ])
 
-pub begins_trans : (c d e : Course) → Begins c d → Begins d e → Begins c e
+pub begins_trans : (c d e : Course) → IsStartOf c d → IsStartOf d e → IsStartOf c e
 begins_trans unknown d e h i = tt
-begins_trans stop d e h i = subst (λ z. Begins z e) h i
+begins_trans stop d e h i = subst (λ z. IsStartOf z e) h i
 begins_trans (asks q c) d e h i =
-    let j = subst (λ z. Begins z e) h.1 i in (j.0, j.1, begins_trans c h.0 j.0 h.2 j.2)
+    let j = subst (λ z. IsStartOf z e) h.1 i in (j.0, j.1, begins_trans c h.0 j.0 h.2 j.2)
 begins_trans (yields x b a) d e h i =
-    let j = subst (λ z. Begins z e) h.2 i in
+    let j = subst (λ z. IsStartOf z e) h.2 i in
     (j.0, j.1, j.2, begins_trans b h.0 j.0 h.3 j.3, begins_trans a h.1 j.1 h.4 j.4)
 
-pub items_asking : (calls : List Call) (c : Course) → items_of (asking calls c) ≡ items_of c
+pub items_asking : (calls : List DirectoryCall) (c : Course) → items_of (asking calls c) ≡ items_of c
 items_asking [] c = refl
 items_asking (q ∷ calls) c = items_asking calls c
 
-pub calls_asking : (calls : List Call) (c : Course) → calls_of (asking calls c) ≡ calls ++ calls_of c
+pub calls_asking : (calls : List DirectoryCall) (c : Course) → calls_of (asking calls c) ≡ calls ++ calls_of c
 calls_asking [] c = refl
 calls_asking (q ∷ calls) c = ap (λ z. q ∷ z) (calls_asking calls c)
 
-pub first_asking : (calls : List Call) (c : Course) → IsKnownFirst c → IsKnownFirst (asking calls c)
+pub first_asking : (calls : List DirectoryCall) (c : Course) → IsKnownFirst c → IsKnownFirst (asking calls c)
 first_asking [] c f = f
 first_asking (q ∷ calls) c f = first_asking calls c f
 
-pub whole_asking : (calls : List Call) (c : Course) → IsWhole c → IsWhole (asking calls c)
+pub whole_asking : (calls : List DirectoryCall) (c : Course) → IsKnownWhole c → IsKnownWhole (asking calls c)
 whole_asking [] c w = w
 whole_asking (q ∷ calls) c w = whole_asking calls c w
 
@@ -249,13 +249,13 @@ module _ (allows : Given → Mark → Type 0) where
   filtered_unknown (asks q c) = inl refl
   filtered_unknown (yields x b a) = inl refl
 
-  begins_unknown : (d e : Course) → d ≡ unknown → Begins e d → e ≡ unknown
+  begins_unknown : (d e : Course) → d ≡ unknown → IsStartOf e d → e ≡ unknown
   begins_unknown d unknown i h = refl
   begins_unknown d stop i h = absurd (let e : unknown ≡ stop = sym i ∙ h in (cc))
   begins_unknown d (asks q c) i h = absurd (let e : unknown ≡ asks q h.0 = sym i ∙ h.1 in (cc))
   begins_unknown d (yields x b a) i h = absurd (let e : unknown ≡ yields x h.0 h.1 = sym i ∙ h.2 in (cc))
 
-  pub filtered_asking : (calls : List Call) (c d : Course) → IsFiltered allows c d
+  pub filtered_asking : (calls : List DirectoryCall) (c d : Course) → IsFiltered allows c d
       → IsFiltered allows (asking calls c) (asking calls d)
   filtered_asking [] c d h = h
   filtered_asking (q ∷ calls) c d h = inr (asking calls d, refl, filtered_asking calls c d h)
@@ -303,11 +303,11 @@ module _ (allows : Given → Mark → Type 0) where
   ]
 
   below_begun : (cut : Bool) (P Q : Type 0) (b e : Course) → (P → Q) → (IsNothing b → IsNothing e)
-      → IsBelow cut P b → IsBelow cut Q e
+      → ComesBelow cut P b → ComesBelow cut Q e
   below_begun true P Q b e f n h = n h
   below_begun false P Q b e f n h = f h
 
-  nothing_begun : (b e : Course) → Begins e b → IsNothing b → IsNothing e
+  nothing_begun : (b e : Course) → IsStartOf e b → IsNothing b → IsNothing e
   nothing_begun b unknown h n = tt
   nothing_begun stop stop h n = refl
   nothing_begun stop (asks q e) h n = absurd (let i : stop ≡ asks q h.0 = h.1 in (cc))
@@ -316,14 +316,14 @@ module _ (allows : Given → Mark → Type 0) where
   nothing_begun (asks q b) e h n = absurd (let i : stop ≡ asks q n.0 = n.1 in (cc))
   nothing_begun (yields x d b) e h n = absurd (let i : stop ≡ yields x n.0 n.1 = n.2 in (cc))
 
-  pub filtered_begun : (c d e : Course) → IsFiltered allows c d → Begins e d → IsFiltered allows c e
+  pub filtered_begun : (c d e : Course) → IsFiltered allows c d → IsStartOf e d → IsFiltered allows c e
   filtered_begun c d unknown h b = filtered_unknown c
   filtered_begun unknown d e h b = begins_unknown d e h b
   filtered_begun stop d e h b = elim h [
     | inl i ↦ inl (begins_unknown d e i b)
     | inr i ↦ stops d e i b
   ] where
-    stops : (d e : Course) → d ≡ stop → Begins e d → (e ≡ unknown) ⊎ (e ≡ stop)
+    stops : (d e : Course) → d ≡ stop → IsStartOf e d → (e ≡ unknown) ⊎ (e ≡ stop)
     stops d unknown i b = inl refl
     stops d stop i b = inr refl
     stops d (asks q c) i b = absurd (let e : stop ≡ asks q b.0 = sym i ∙ b.1 in (cc))
@@ -338,7 +338,7 @@ module _ (allows : Given → Mark → Type 0) where
         let j : asks q i.0 ≡ asks r b.0 = sym i.1 ∙ b.1 in
         let same : r ≡ q = cc in
         let rest : b.0 ≡ i.0 = cc in
-        inr (e, ap (λ z. asks z e) same, filtered_begun c i.0 e i.2 (subst (λ z. Begins e z) rest b.2))
+        inr (e, ap (λ z. asks z e) same, filtered_begun c i.0 e i.2 (subst (λ z. IsStartOf e z) rest b.2))
   ]
   filtered_begun (asks q c) d (yields x e f) h b = elim h [
     | inl i ↦ inl (begins_unknown d (yields x e f) i b)
@@ -359,7 +359,7 @@ module _ (allows : Given → Mark → Type 0) where
         let same : y ≡ with_mark x i.0 = cc in
         let under : b.0 ≡ i.2 = cc in
         let rest : b.1 ≡ i.3 = cc in
-        let be : Begins e i.2 = subst (λ z. Begins e z) under b.3 in
+        let be : IsStartOf e i.2 = subst (λ z. IsStartOf e z) under b.3 in
         inr (
           i.0,
           i.1,
@@ -368,12 +368,12 @@ module _ (allows : Given → Mark → Type 0) where
           ap (λ z. yields z e f) same,
           below_begun (is_cut x i.0) (IsFiltered allows c i.2) (IsFiltered allows c e) i.2 e
               (λ k. filtered_begun c i.2 e k be) (nothing_begun i.2 e be) i.5,
-          filtered_begun a i.3 f i.6 (subst (λ z. Begins f z) rest b.4),
+          filtered_begun a i.3 f i.6 (subst (λ z. IsStartOf f z) rest b.4),
         )
   ]
 
 -- fewer marks are allowed
-below_widened : (cut : Bool) (P Q : Type 0) (b : Course) → (P → Q) → IsBelow cut P b → IsBelow cut Q b
+below_widened : (cut : Bool) (P Q : Type 0) (b : Course) → (P → Q) → ComesBelow cut P b → ComesBelow cut Q b
 below_widened true P Q b f h = h
 below_widened false P Q b f h = f h
 

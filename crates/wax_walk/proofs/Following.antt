@@ -1,8 +1,8 @@
 -- How a filter follows the course of the walk inside it.
 use Rattle.std.proofs.Common.{◌≡◌, ◌∙◌, Bool, true, false, List, [], ◌∷◌, ◌++◌, refl, sym, ap, subst, inl, inr}
 use Rattle.std.specs.Prelude.{Option, Some, None}
-use Rattle.wax_walk.specs.Course.{Ahead, AheadFiltered, Call, Course, CutsShort, IsBelow, IsFiltered, IsNothing}
-use Rattle.wax_walk.specs.Course.{Begins, ahead, asking, yields, stop, unknown}
+use Rattle.wax_walk.specs.Course.{Ahead, AheadFiltered, DirectoryCall, Course, CutsShort, ComesBelow, IsFiltered, IsNothing}
+use Rattle.wax_walk.specs.Course.{IsStartOf, ahead, asking, yields, stop, unknown}
 use Rattle.wax_walk.specs.Given.{Given, Mark, entry, fault, no_memory, with_mark, is_cut}
 use Rattle.wax_walk.specs.Laws.{filtered_nothing}
 use Rattle.wax_walk.specs.View.{WalkView, CancelStep, Follows, MayTake, went_on, ended_so, was_cut}
@@ -10,22 +10,22 @@ use Rattle.wax_walk.proofs.Courses.{begins_itself, filtered_asking, filtered_beg
 use Rattle.wax_walk.proofs.Courses.{filtered_widened}
 
 -- an error that cuts a course short isn't marked
-cuts_marked : (calls : List Call) (x : Given) (m : Mark) → CutsShort calls x → CutsShort calls (with_mark x m)
+cuts_marked : (calls : List DirectoryCall) (x : Given) (m : Mark) → CutsShort calls x → CutsShort calls (with_mark x m)
 cuts_marked calls (entry k f) m s = absurd s
 cuts_marked calls (fault kind path depth) m s = s
 cuts_marked calls no_memory m s = s
 
-below_uncut : (b : Bool) (P : Type 0) (c : Course) → false ≡ b → P → IsBelow b P c
+below_uncut : (b : Bool) (P : Type 0) (c : Course) → false ≡ b → P → ComesBelow b P c
 below_uncut true P c e h = absurd (let i : false ≡ true = e in (cc))
 below_uncut false P c e h = h
 
-below_cut : (b : Bool) (P : Type 0) (c : Course) → true ≡ b → IsNothing c → IsBelow b P c
+below_cut : (b : Bool) (P : Type 0) (c : Course) → true ≡ b → IsNothing c → ComesBelow b P c
 below_cut true P c e h = h
 below_cut false P c e h = absurd (let i : true ≡ false = e in (cc))
 
 module _ {D : Type 0} (v w outer new : WalkView D) (allows later : Given → Mark → Type 0)
     (outside : (a : Ahead) → AheadFiltered v.may_come allows a → outer.may_come a)
-    (calls : List Call) where
+    (calls : List DirectoryCall) where
   -- a course that the walk inside may take, as the filter leaves it
   take_filtered : (c d : Course) → MayTake v c → IsFiltered allows c d → MayTake outer d
   take_filtered c d t h =
@@ -48,8 +48,8 @@ module _ {D : Type 0} (v w outer new : WalkView D) (allows later : Given → Mar
       (narrow : (z : Given) (n : Mark) → later z n → allows z n) where
     -- a course of which the item comes next, as the filter leaves it
     next_filtered : (p a : Ahead) (c : Course) → MayTake v (asking calls (yields x p.below p.after))
-        → IsBelow (is_cut x m) (IsFiltered allows p.below a.below) a.below
-        → IsFiltered later p.after a.after → Begins c (yields y a.below a.after)
+        → ComesBelow (is_cut x m) (IsFiltered allows p.below a.below) a.below
+        → IsFiltered later p.after a.after → IsStartOf c (yields y a.below a.after)
         → MayTake outer (asking calls c)
     next_filtered p a c t below after b =
         let marks : yields y a.below a.after ≡ yields (with_mark x m) a.below a.after =

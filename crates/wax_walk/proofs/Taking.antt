@@ -5,7 +5,7 @@ use Rattle.std.proofs.lemmas.List.{append-nil, map-append}
 use Rattle.wax_directory.specs.History.{Answer}
 use Rattle.wax_walk.specs.declared.error.FaultKind.TheVariants as F
 use Rattle.wax_walk.specs.Collected.{TookCourse, whole, cut_short}
-use Rattle.wax_walk.specs.Course.{Ahead, Begins, Call, Course, CutsShort, IsKnownFirst, IsWhole, all_ahead}
+use Rattle.wax_walk.specs.Course.{Ahead, IsStartOf, DirectoryCall, Course, CutsShort, IsKnownFirst, IsKnownWhole, all_ahead}
 use Rattle.wax_walk.specs.Course.{answers, asking, calls_of, items_of, stop, unknown, yields}
 use Rattle.wax_walk.specs.Given.{Given, entry, fault, no_memory}
 use Rattle.wax_walk.specs.View.{WalkView, Follows, IsSeenAs, MayTake, went_on, ended_so, was_cut}
@@ -19,18 +19,18 @@ course_seen this that told xs seen (cut_short c x t first e f s) =
     cut_short c x (t.0, seen.may_come t.0 t.1, t.2) first e f s
 
 -- a course of the walk that goes on as c after these calls and items
-pub record GoesOnAs {D : Type 0} (walk : WalkView D) (calls : List Call) (xs : List Given)
+pub record GoesOnAs {D : Type 0} (walk : WalkView D) (calls : List DirectoryCall) (xs : List Given)
     (c : Course) : Type 0 where
   pub course : Course
   pub takes : MayTake walk course
-  pub whole : IsWhole c → IsWhole course
+  pub whole : IsKnownWhole c → IsKnownWhole course
   pub first : IsKnownFirst c → IsKnownFirst course
   pub calls_are : calls_of course ≡ calls ++ calls_of c
   pub items_are : items_of course ≡ xs ++ items_of c
 
 -- after these calls and items, whatever course the walk may take now goes on one that it could take before; or
 -- an error cut that short
-pub data TakingCourse {D : Type 0} (walk now : WalkView D) (calls : List Call) (xs : List Given) : Type 0 where
+pub data TakingCourse {D : Type 0} (walk now : WalkView D) (calls : List DirectoryCall) (xs : List Given) : Type 0 where
   going : ((c : Course) → MayTake now c → GoesOnAs walk calls xs c) → TakingCourse walk now calls xs
   cut_off : (c : Course) (x : Given) → MayTake walk c → IsKnownFirst c → calls ≡ calls_of c → xs ≡ items_of c ++ x ∷ []
       → CutsShort calls x → now.has_ended → now.is_idle → TakingCourse walk now calls xs
@@ -45,7 +45,7 @@ course_none walk = going (λ c t. record {
   items_are = refl;
 })
 
-pub answered_more : {D : Type 0} (answered : D → List Answer) (walk mid new : D) (before calls : List Call)
+pub answered_more : {D : Type 0} (answered : D → List Answer) (walk mid new : D) (before calls : List DirectoryCall)
     → answered mid ≡ answered walk ++ answers before → answered new ≡ answered mid ++ answers calls
     → answered new ≡ answered walk ++ answers (before ++ calls)
 answered_more answered walk mid new before calls h i =
@@ -53,7 +53,7 @@ answered_more answered walk mid new before calls h i =
     ∙ ap (λ z. answered walk ++ z) (sym (map-append (λ q. q.answer) before calls))))
 
 -- calls that went before
-pub cuts_later : (before calls : List Call) (x : Given) → CutsShort calls x → CutsShort (before ++ calls) x
+pub cuts_later : (before calls : List DirectoryCall) (x : Given) → CutsShort calls x → CutsShort (before ++ calls) x
 cuts_later before calls no_memory s = tt
 cuts_later before calls (entry m f) s = absurd s
 cuts_later before calls (fault F.NotFound path depth) s = absurd s
@@ -64,7 +64,7 @@ cuts_later before calls (fault F.NotText path depth) s = absurd s
 cuts_later before calls (fault F.Budget path depth) s =
     (before ++ s.0, s.1, ap (λ z. before ++ z) s.2 ∙ sym (append_assoc before s.0 _))
 
-module _ {D : Type 0} (walk mid new : WalkView D) (before calls : List Call) (xs : List Given) where
+module _ {D : Type 0} (walk mid new : WalkView D) (before calls : List DirectoryCall) (xs : List Given) where
   -- after more calls
   after_calls : (c : Course) → GoesOnAs walk before xs (asking calls c) → GoesOnAs walk (before ++ calls) xs c
   after_calls c g = record {
@@ -79,7 +79,7 @@ module _ {D : Type 0} (walk mid new : WalkView D) (before calls : List Call) (xs
 
   -- after an item
   after_item : (x : Given) (a : Ahead) (c : Course) → all_ahead a ≡ c
-      → ((d : Course) → Begins d (yields x a.below a.after) → GoesOnAs walk (before ++ calls) xs d)
+      → ((d : Course) → IsStartOf d (yields x a.below a.after) → GoesOnAs walk (before ++ calls) xs d)
       → GoesOnAs walk (before ++ calls) (xs ++ x ∷ []) c
   after_item x a c e f = subst (GoesOnAs walk (before ++ calls) (xs ++ x ∷ [])) e (
       let k = known_parts a.below a.after in
@@ -100,8 +100,8 @@ module _ {D : Type 0} (walk mid new : WalkView D) (before calls : List Call) (xs
   course_more x n b (went_on z e k) (going g) = going (λ c t.
       let same : z ≡ x = cc in
       after_item x t.0 c t.2 (λ d h.
-      let i : Begins d (yields z t.0.below t.0.after) =
-      subst (λ u. Begins d (yields u t.0.below t.0.after)) (sym same) h in
+      let i : IsStartOf d (yields z t.0.below t.0.after) =
+      subst (λ u. IsStartOf d (yields u t.0.below t.0.after)) (sym same) h in
       after_calls d (g (asking calls d) (k t.0 d t.1 i))))
   course_more x n b (ended_so e t) h = absurd (let i : Some x ≡ None = e in (cc))
   course_more x n b (was_cut z e s ended idle) (going g) =

@@ -6,11 +6,11 @@ use Rattle.wax_directory.specs.History.{Answer}
 use Rattle.wax_directory.specs.Law.{Law}
 use Rattle.wax_directory.specs.declared.tally.Tally.{Tally}
 use Rattle.wax_walk.specs.declared.error.FaultKind.TheVariants.{NotAFolder, Budget}
-use Rattle.wax_walk.specs.Course.{Course, CutsShort, IsKnownFirst, IsWhole, answers, calls_of, items_of}
+use Rattle.wax_walk.specs.Course.{Course, CutsShort, IsKnownFirst, IsKnownWhole, answers, calls_of, items_of}
 use Rattle.wax_walk.specs.Forest.{Pending, all_pending, preorder, listings}
 use Rattle.wax_walk.specs.Given.{Given, fault, no_memory}
 use Rattle.wax_walk.specs.View.{WalkView, CountsFaults, IsLast, IsErrorAt, IsFolderAt, MayFail, fault_counts}
-use Rattle.wax_walk.specs.View.{is_to_open, items_lost, LacksMemory, MayTake}
+use Rattle.wax_walk.specs.View.{is_to_open, items_lost, IsMemoryError, MayTake}
 
 -- the items are a prefix of `all`, and then x
 abbrev pub IsCutShort : List Given → Given → List Given → Type 0
@@ -40,9 +40,9 @@ all_items_lost [] = 0
 all_items_lost (x ∷ xs) = items_lost (Some x) + all_items_lost xs
 
 -- allocation never failed
-abbrev pub NoneLacksMemory : List Given → Type 0
-NoneLacksMemory [] = ⊤
-NoneLacksMemory (x ∷ xs) = ¬ (LacksMemory (Some x)) × NoneLacksMemory xs
+abbrev pub NoMemoryError : List Given → Type 0
+NoMemoryError [] = ⊤
+NoMemoryError (x ∷ xs) = ¬ (IsMemoryError (Some x)) × NoMemoryError xs
 
 -- an item that ends a walk is the last of these
 abbrev pub EndsThere : List Given → Type 0
@@ -71,10 +71,10 @@ AreOfFolders first most xs = (before after : List Given) (x : Given) (path : Lis
     → xs ≡ before ++ x ∷ after → IsErrorAt path depth (Some x)
     → first path depth ⊎ HasFolder most path depth before
 
--- the answers and the items are those of a course that was ahead of the walk; or they are those of its beginning,
--- and then one error came
+-- the answers and the items are those of a course that was ahead of the walk; or those of its beginning, and
+-- then one error came
 pub data TookCourse {D : Type 0} (walk : WalkView D) (told : List Answer) (xs : List Given) : Type 0 where
-  whole : (c : Course) → MayTake walk c → IsWhole c → told ≡ answers (calls_of c) → xs ≡ items_of c
+  whole : (c : Course) → MayTake walk c → IsKnownWhole c → told ≡ answers (calls_of c) → xs ≡ items_of c
       → TookCourse walk told xs
   cut_short : (c : Course) (x : Given) → MayTake walk c → IsKnownFirst c → told ≡ answers (calls_of c)
       → xs ≡ items_of c ++ x ∷ [] → CutsShort (calls_of c) x → TookCourse walk told xs
@@ -103,15 +103,15 @@ pub record Took {D C : Type 0} (law : Law D C) (walk : WalkView D) (new : D) (xs
   pub passes : walk.yields_from ≡ 0 → passed ≡ 0
   pub refused : ℕ
   pub refuses : refused ≤ (all_fault_counts xs).failures
-  pub gives : NoneLacksMemory xs → taken + (refused + walk.to_begin) ≡ length xs + passed
+  pub gives : NoMemoryError xs → taken + (refused + walk.to_begin) ≡ length xs + passed
   pub going : NoneLast xs → 0 < walk.listings_left → taken < walk.listings_left
-  -- unless allocation failed, just the yielded folders were opened, and those that were passed; if no item ended
-  -- the walk, each listing was read to its end
+  -- unless allocation failed, just the yielded folders were opened, and those that were passed; if no item
+  -- ended the walk, each listing was read to its end
   pub opened : ℕ
   pub opened_is : (law.tally new).opened ≡ grown opened (law.tally walk.directory).opened
   pub ended : ℕ
   pub ended_is : (law.tally new).ended ≡ grown ended (law.tally walk.directory).ended
   pub folders : ℕ
   pub folders_passed : folders ≤ passed
-  pub opens : NoneLacksMemory xs → opened ≡ walk.to_open + (folders + count_to_open walk.opens_above xs)
+  pub opens : NoMemoryError xs → opened ≡ walk.to_open + (folders + count_to_open walk.opens_above xs)
   pub closes : NoneLast xs → walk.listings_open + opened ≡ ended

@@ -1,5 +1,6 @@
 -- Proofs of laws that impls cite.
-use Rattle.std.specs.Prelude.{◌≡◌, List, ℕ, Bool, true, false, cond, Option, Some, None, Result, Ok, Err, ◌⊎◌, ⊤}
+use Rattle.std.specs.Prelude.{◌≡◌, List, ℕ, Bool, true, false, cond, Option, Some, None, Result, Ok, Err}
+use Rattle.std.specs.Prelude.{◌⊎◌, ⊤}
 use Rattle.std.proofs.Common.{ap, refl, subst, sym, ◌∙◌, inl, inr}
 use denote.Ref.{Bor}
 use Rattle.wax_filter.specs.declared.filter.separation.Separation.{Separation}
@@ -50,12 +51,13 @@ filtered_dropping allows old new f a h =
     (filtered_nothing allows h.0.below a.below d.0 h.2, (ahead unknown h.0.after, d.1, refl, h.3))
 
 ruled_dropping : (old new : Ahead → Type 0)
-    → ((p : Ahead) → new p → IsNothing p.below × old (ahead unknown p.after)) → (before after : Candidate → Mark)
-    → after ≡ before → (b c : Bool) → c ≡ b → (a : Ahead) → AheadRuled new after c a
-    → IsNothing a.below × AheadRuled old before b (ahead unknown a.after)
+    → ((p : Ahead) → new p → IsNothing p.below × old (ahead unknown p.after))
+    → (before after : Candidate → Mark) → after ≡ before → (b c : Bool) → c ≡ b → (a : Ahead)
+    → AheadRuled new after c a → IsNothing a.below × AheadRuled old before b (ahead unknown a.after)
 ruled_dropping old new f before after e true true i a h = (h.0, (tt, h.1))
-ruled_dropping old new f before after e false false i a h = filtered_dropping (IsMarkBy (of_candidate before)) old
-    new f a (subst (λ r. AheadFiltered new (IsMarkBy (of_candidate r)) a) e h)
+ruled_dropping old new f before after e false false i a h = filtered_dropping
+    (IsMarkBy (of_candidate before)) old new f a
+    (subst (λ r. AheadFiltered new (IsMarkBy (of_candidate r)) a) e h)
 ruled_dropping old new f before after e true false i a h = absurd (let j : false ≡ true = i in (cc))
 ruled_dropping old new f before after e false true i a h = absurd (let j : true ≡ false = i in (cc))
 

@@ -8,17 +8,19 @@ use Rattle.wax_directory.specs.Law.{Law}
 use Rattle.wax_directory.specs.declared.tally.Tally.{Tally}
 use Rattle.wax_walk.specs.declared.error.FaultKind.TheVariants.{NotFound, NotAFolder, Listing, BadName}
 use Rattle.wax_walk.specs.declared.error.FaultKind.TheVariants.{NotText, Budget}
-use Rattle.wax_walk.specs.Course.{Ahead, Begins, Call, Course, CutsShort, IsNothing, ahead, all_ahead}
+use Rattle.wax_walk.specs.Course.{Ahead, IsStartOf, DirectoryCall, Course, CutsShort, IsNothing, ahead}
+use Rattle.wax_walk.specs.Course.{all_ahead}
 use Rattle.wax_walk.specs.Course.{answers, asking, stop, unknown, yields}
 use Rattle.wax_walk.specs.Forest.{Pending, all_pending, cancelled, FirstIs, IsListed}
 use Rattle.wax_walk.specs.Given.{Given, entry, fault, no_memory, kept, alone, with_tree}
 
--- what is to come; what may be ahead, by what the directory will answer; the directory; at most how many more items may be taken from listings; how many names are
--- left to follow to where the walk begins; 1 if the entry there is still to come, else 0; how many listings
--- are open; 1 if the last yielded entry is a folder that is still to be opened, else 0; the depth above which
--- folders are opened; the depth from which entries are yielded; the paths, each with
--- its depth, of which errors may come, and those of which errors may come unless what is below the last
--- yielded item is cancelled; that the walk has ended; and that it leaves the directory as it is
+-- what is to come; what may be ahead, by what the directory will answer; the directory; at most how many more
+-- items may be taken from listings; how many names are left to follow to where the walk begins; 1 if the
+-- entry there is still to come, else 0; how many listings are open; 1 if the last yielded entry is a folder
+-- that is still to be opened, else 0; the depth above which folders are opened; the depth from which entries
+-- are yielded; the paths, each with its depth, of which errors may come, and those of which errors may come
+-- unless what is below the last yielded item is cancelled; that the walk has ended; and that it leaves the
+-- directory as it is
 pub record WalkView (D : Type 0) : Type 1 where
   pub to_come : Pending Given → Type 0
   pub may_come : Ahead → Type 0
@@ -97,9 +99,9 @@ Takes (Some (fault Budget path depth)) allowed n left = (n ≡ allowed) × (left
 Takes r allowed n left = n + left ≡ allowed
 
 -- allocation failed
-abbrev pub LacksMemory : Option Given → Type 0
-LacksMemory (Some no_memory) = ⊤
-LacksMemory r = ⊥
+abbrev pub IsMemoryError : Option Given → Type 0
+IsMemoryError (Some no_memory) = ⊤
+IsMemoryError r = ⊥
 
 -- at most how many items were taken from listings whose faults aren't yielded: the one past the budget, and
 -- the one for which allocation failed
@@ -160,9 +162,10 @@ module _ {D : Type 0} where
 
   -- after these calls r was returned: whatever is ahead of the walk then, before it were the calls, r and
   -- that, as far as it is known; or the course ended with the calls; or it was cut short
-  pub data Follows (old : WalkView D) (calls : List Call) (r : Option Given) (new : WalkView D) : Type 0 where
+  pub data Follows (old : WalkView D) (calls : List DirectoryCall) (r : Option Given)
+      (new : WalkView D) : Type 0 where
     went_on : (x : Given) → r ≡ Some x
-        → ((a : Ahead) (c : Course) → new.may_come a → Begins c (yields x a.below a.after)
+        → ((a : Ahead) (c : Course) → new.may_come a → IsStartOf c (yields x a.below a.after)
         → MayTake old (asking calls c)) → Follows old calls r new
     ended_so : r ≡ None → MayTake old (asking calls stop) → Follows old calls r new
     was_cut : (x : Given) → r ≡ Some x → CutsShort calls x → new.has_ended → new.is_idle
@@ -170,11 +173,11 @@ module _ {D : Type 0} where
 
   -- what the directory counted; how many items were taken from listings; how many entries were passed, since
   -- they are above the least depth; whether the item is that a folder couldn't be opened; how many folders
-  -- were opened, and how many listings came to their end; and that the walk has ended if the item is its last.
-  -- Unless allocation failed, each item that was taken was yielded or passed, and nothing else was but the
-  -- entry where the walk begins, and that error; and just those folders were opened that were to be opened or
-  -- were passed. If the item isn't the last, the budget isn't used up, and the listings that are open are those
-  -- that were opened and haven't come to their end
+  -- were opened, and how many listings came to their end; and that the walk has ended if the item is its
+  -- last. Unless allocation failed, each item that was taken was yielded or passed, and nothing else was but
+  -- the entry where the walk begins, and that error; and just those folders were opened that were to be
+  -- opened or were passed. If the item isn't the last, the budget isn't used up, and the open listings are
+  -- those that were opened and haven't come to their end
   pub record Accounts {C : Type 0} (law : Law D C) (old : WalkView D) (r : Option Given) (new : WalkView D) :
       Type 0 where
     pub counts : CountsFaults (fault_counts r) (items_lost r) (law.tally old.directory)
@@ -186,7 +189,7 @@ module _ {D : Type 0} where
     pub passes : old.yields_from ≡ 0 → passed ≡ 0
     pub refused : ℕ
     pub refuses : refused ≤ (fault_counts r).failures
-    pub gives : ¬ (LacksMemory r) → taken + (refused + old.to_begin) ≡ how_many r + (passed + new.to_begin)
+    pub gives : ¬ (IsMemoryError r) → taken + (refused + old.to_begin) ≡ how_many r + (passed + new.to_begin)
     pub going : ¬ (IsLast r) → 0 < old.listings_left → 0 < new.listings_left
     pub folders : ℕ
     pub folders_passed : folders ≤ passed
@@ -194,7 +197,7 @@ module _ {D : Type 0} where
     pub opened_is : (law.tally new.directory).opened ≡ grown opened (law.tally old.directory).opened
     pub ended : ℕ
     pub ended_is : (law.tally new.directory).ended ≡ grown ended (law.tally old.directory).ended
-    pub opens : ¬ (LacksMemory r)
+    pub opens : ¬ (IsMemoryError r)
         → opened + new.to_open ≡ old.to_open + (folders + opens_one old.opens_above r)
     pub closes : ¬ (IsLast r) → old.listings_open + opened ≡ ended + new.listings_open
     pub ends : IsLast r → new.has_ended
@@ -203,7 +206,7 @@ module _ {D : Type 0} where
   pub record FeedStep {C : Type 0} (law : Law D C) (old : WalkView D) (r : Option Given) (new : WalkView D) :
       Type 0 where
     pub gives : (p : Pending Given) → old.to_come p → GivesOrStops old p r new
-    pub calls : List Call
+    pub calls : List DirectoryCall
     pub answered : law.answered new.directory ≡ law.answered old.directory ++ answers calls
     pub begins : MayTake old (asking calls unknown)
     pub follows : Follows old calls r new
