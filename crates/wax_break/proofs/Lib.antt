@@ -1,2 +1,3 @@
+pub mod BoundSizes
 pub mod Copies
 pub mod FirstRows

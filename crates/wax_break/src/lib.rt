@@ -4,7 +4,7 @@
 
 mod laws;
 
-pub use laws::{law_of_copies, law_of_tables};
+pub use laws::{law_of_copies, law_of_sizes, law_of_tables};
 use thiserror::Error;
 use wax_query::diagnostics::{CompositeSpan, CorrelatedSpan, Span};
 

@@ -2,7 +2,7 @@
 use Rattle.std.proofs.Common.{◌≡◌, ◌<◌, ◌≤◌, ℕ, zero, suc, ◌&&◌, Bool, true, List, [], ◌∷◌, ◌++◌, length, take, drop}
 use Rattle.std.proofs.Common.{refl, sym, ap, ◌∙◌, subst, inl, inr, append_assoc, append-nil, arith}
 use Rattle.std.specs.Prelude.{⊤}
-use Rattle.std.specs.List.{Contains, list_all}
+use Rattle.std.specs.List.{list_all}
 use Rattle.std.proofs.lemmas.Bool.{and_parts, or_cases, false≢true, ltb-true}
 use Rattle.std.proofs.lemmas.List.{length-append, take-append-le, take-append-drop}
 use Rattle.std.proofs.lemmas.List.Elements.{Contains-append_right}
@@ -15,12 +15,12 @@ use Rattle.wax_directory.specs.Shown.{a_leaf, a_folder, a_sealed, missing, faili
 use Rattle.wax_walk.specs.Given.{Facts, Mark, Given, entry, fault, no_memory, cut_by}
 use Rattle.wax_walk.specs.declared.error.FaultKind.TheVariants.{Listing}
 use Rattle.wax_walk.specs.Left.{are_below, is_cancelled, is_deeper}
-use Rattle.wax_exclude.specs.NamesBelow.{BelowByNames, IsBelow}
+use Rattle.wax_exclude.specs.NamesBelow.{IsBelowCut}
 use Rattle.wax_tree.specs.Plain.{Location, start_location, item_location, one_deeper}
 use Rattle.wax_exclude.specs.Premises.{ArePlainItems, IsPlainShown}
 use Rattle.wax_tree.specs.Whole.{whole, whole_entry, whole_items}
 
-abbrev names_of : Facts → List (List ℕ)
+abbrev pub names_of : Facts → List (List ℕ)
 names_of f = names_in_path f.candidate
 
 -- all but the last of the names are the first ones of others
@@ -41,19 +41,19 @@ Extends last names = (k : ℕ) → k ≤ length names → take k names ≡ take 
 
 module _ (root : List ℕ) where
   -- the location of the items in a folder with these names
-  record IsAt (at : Location) (names : List (List ℕ)) : Type 0 where
-    has : names_in_path at.candidate ≡ names
-    depth : at.depth ≡ suc (length names)
+  pub record IsAt (at : Location) (names : List (List ℕ)) : Type 0 where
+    pub has : names_in_path at.candidate ≡ names
+    pub depth : at.depth ≡ suc (length names)
 
   one_longer : (names : List (List ℕ)) (x : List ℕ) → length (names ++ x ∷ []) ≡ suc (length names)
   one_longer names x = omega (arith, length-append names (x ∷ []))
 
-  item_names : (at : Location) (names : List (List ℕ)) (x : List ℕ) → IsAt at names → IsPlain x
+  pub item_names : (at : Location) (names : List (List ℕ)) (x : List ℕ) → IsAt at names → IsPlain x
       → names_in_path (join at.candidate x) ≡ names ++ x ∷ []
   item_names at names x here plain =
       names_join at.candidate x (plainly x plain) ∙ ap (λ ns. ns ++ x ∷ []) here.has
 
-  below_at : (at : Location) (names : List (List ℕ)) (x : List ℕ) → IsAt at names → IsPlain x
+  pub below_at : (at : Location) (names : List (List ℕ)) (x : List ℕ) → IsAt at names → IsPlain x
       → IsAt (one_deeper (item_location at x)) (names ++ x ∷ [])
   below_at at names x here plain = record {
     has = item_names at names x here plain;
@@ -174,16 +174,11 @@ some_more names more d is less =
     )
 
 module _ (rule : Facts → Mark) (m : Mark) (f : Facts) (after : List Given) where
-  -- an earlier entry that the rule excludes with everything below it, and that the entry is below
-  abbrev Canceller : List Given → Type 0
-  Canceller items = (n : Mark) × (above : Facts) × Contains items (entry n above)
-      × (cut_by rule (entry n above) ≡ true) × IsBelow above f
-
-  earlier : (y : Given) (items : List Given) → Canceller items → Canceller (y ∷ items)
+  earlier : (y : Given) (items : List Given) → IsBelowCut rule items f → IsBelowCut rule (y ∷ items) f
   earlier y items h = (h.0, h.1, Contains-append_right (y ∷ []) items (entry h.0 h.1) h.2, h.3, h.4)
 
   canceller : (last : List (List ℕ)) (items : List Given) → Follows last (items ++ entry m f ∷ after)
-      → is_cancelled rule items (entry m f) ≡ true → Canceller items
+      → is_cancelled rule items (entry m f) ≡ true → IsBelowCut rule items f
   canceller last [] h e = absurd (false≢true e)
   canceller last (entry n g ∷ between) h e =
       let deep : Bool = are_below (entry n g) (between ++ entry m f ∷ []) in
@@ -203,6 +198,8 @@ module _ (rule : Facts → Mark) (m : Mark) (f : Facts) (after : List Given) whe
       earlier (fault kind path depth) between (canceller last between h e)
   canceller last (no_memory ∷ between) h e = earlier no_memory between (canceller last between h e)
 
-pub below_by_names : BelowByNames
-below_by_names rule start s before after m f plain split cancelled = canceller rule m f after [] before
+pub only_below : (rule : Facts → Mark) (start : List ℕ) (s : Shown) (before after : List Given) (m : Mark)
+    (f : Facts) → IsPlainShown s → whole start s ≡ before ++ entry m f ∷ after
+    → is_cancelled rule before (entry m f) ≡ true → IsBelowCut rule before f
+only_below rule start s before after m f plain split cancelled = canceller rule m f after [] before
     (subst (Follows []) split (walk_follows start s plain)) cancelled

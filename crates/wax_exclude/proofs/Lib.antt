@@ -1,4 +1,5 @@
 pub mod Adjacent
+pub mod AllBelow
 pub mod Beginnings
 pub mod Belows
 pub mod Components
