@@ -1,10 +1,10 @@
 -- How much pieces come to, and how often characters are looked at.
-use Rattle.std.proofs.Common.{◌≡◌, ℕ, zero, suc, ◌+◌, ◌*◌, ◌<◌, ◌≤◌, List, [], ◌∷◌, length, get_or, take, drop, drop-cons, sym, ◌∙◌, ap, subst, arith}
+use Rattle.std.proofs.Common.{◌≡◌, ℕ, zero, suc, ◌+◌, ◌*◌, ◌<◌, ◌≤◌, List, [], ◌∷◌, length, get_or, take, drop, drop-cons, refl, sym, ◌∙◌, ap, subst, arith}
 use Rattle.std.proofs.Math.Nat.{add-mul, mul-add, mul_assoc, mul-one, mul-le-mul_left, mul-le-mul_right}
 use Rattle.wax_capture.specs.Pieces.{forms_of, size_of}
 use Rattle.wax_lengths.specs.Forms.{form_size}
 use Rattle.wax_lengths.specs.declared.form.Form.{Form}
-use Rattle.wax_capture.specs.inner.Splits.{all_sizes}
+use Rattle.wax_capture.specs.inner.Splits.{all_sizes, split_visits}
 use Rattle.wax_capture.specs.declared.piece.Piece.{Piece}
 
 -- one form more
@@ -122,18 +122,26 @@ row_square all m =
     let b2 : m + 1 ≤ (m + 1) * (m + 1) = omega (arith, b, mul-one (m + 1)) in
     mul-le-mul_left all b2
 
--- a trial and the table
-pub reads_both : (all limit old mid new m : ℕ) → limit ≤ all * ((m + 1) * (m + 1)) → mid ≤ old + limit + 2 * (all * (m + 1)) →
-    new ≤ mid + all * ((m + 1) * (m + 1)) → new ≤ old + 4 * (all * ((m + 1) * (m + 1)))
-reads_both all limit old mid new m few h g = omega (arith, few, h, g, row_square all m)
-
--- the trial alone
-pub reads_trial : (all limit old new m : ℕ) → limit ≤ all * ((m + 1) * (m + 1)) → new ≤ old + limit + 2 * (all * (m + 1)) → new ≤ old + 4 * (all * ((m + 1) * (m + 1)))
-reads_trial all limit old new m few h = omega (arith, few, h, row_square all m)
-
 -- ---- within the stated numbers of visits
-pub visits_square : (all cost new m : ℕ) → all ≤ cost → new ≤ 4 * (all * ((m + 1) * (m + 1))) → new ≤ 4 * (cost * ((m + 1) * (m + 1)))
-visits_square all cost new m few h = omega (arith, h, mul-le-mul_right ((m + 1) * (m + 1)) few)
+pub visits_square : (all cost new m : ℕ) → all ≤ cost → new ≤ split_visits all m → new ≤ 4 * (cost * ((m + 1) * (m + 1)))
+visits_square all cost new m few h = omega (arith, h, row_square all m, mul-le-mul_right ((m + 1) * (m + 1)) few)
+
+-- and a visit for each character of a text that is matched
+taken_row : (all m : ℕ) → (all ≡ 0 → m ≡ 0) → m + 2 * (all * (m + 1)) ≤ 2 * (all * ((m + 1) * (m + 1)))
+taken_row zero m none = let empty : m ≡ 0 = none refl in omega (arith, empty)
+taken_row (suc k) m none =
+    let all : ℕ = suc k in
+    let q : ℕ = m + 1 in
+    let a : q * q ≡ q * m + q = mul-add q m 1 ∙ ap (λ z. q * m + z) (mul-one q) in
+    let b : all * (q * q) ≡ all * (q * m) + all * q = ap (λ z. all * z) a ∙ mul-add all (q * m) q in
+    let one : 1 ≤ all = omega arith in
+    let d : 1 * (q * m) ≤ all * (q * m) = mul-le-mul_right (q * m) one in
+    let first : 1 ≤ q = omega arith in
+    let e : 1 * m ≤ q * m = mul-le-mul_right m first in
+    omega (arith, b, d, e)
+
+pub visits_taken : (all cost new m : ℕ) → all ≤ cost → (all ≡ 0 → m ≡ 0) → new ≤ split_visits all m + m → new ≤ 4 * (cost * ((m + 1) * (m + 1)))
+visits_taken all cost new m few none h = omega (arith, h, taken_row all m none, mul-le-mul_right ((m + 1) * (m + 1)) few)
 
 pub visits_cube : (cost new m : ℕ) → new ≤ 4 * (cost * ((m + 1) * (m + 1))) → new ≤ 8 * ((cost + 1) * ((m + 1) * ((m + 1) * (m + 1))))
 visits_cube cost new m h =

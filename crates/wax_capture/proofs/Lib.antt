@@ -7,6 +7,7 @@ pub mod Linking
 pub mod Parts
 pub mod Rows
 pub mod Runs
+pub mod Sizeless
 pub mod Taking
 pub mod Tied
 pub mod TokenWays

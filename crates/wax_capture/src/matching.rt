@@ -1,5 +1,5 @@
 //! Matching texts with captures.
-ghost use Rattle.std.specs.Prelude.{◌+◌, ◌*◌, ◌<◌, ◌≤◌, false, IfOk, chars};
+ghost use Rattle.std.specs.Prelude.{◌+◌, ◌*◌, ◌<◌, ◌≤◌, false, IfOk, IfSome, chars, length};
 ghost use Rattle.wax_query.specs.Outcome.{MatchBuild};
 ghost use Rattle.wax_token.specs.Cost.{costs};
 ghost use Rattle.wax_token.specs.Reads.{Span};
@@ -91,7 +91,8 @@ impl Pieces {
     }
 
     /// Returns the text with its captures, or `None` if the tokens don't match it, and the number
-    /// of visits. Takes memory proportional to the number of tokens times that of characters.
+    /// of visits, which is at least the number of characters if the tokens match. Takes memory
+    /// proportional to the number of tokens times that of characters.
     ///
     /// # Errors
     ///
@@ -110,6 +111,7 @@ impl Pieces {
             → IfOk result (λ answer. answer.1 ≤ square_visits ts (chars text.now)) }
         ensures above { (ts : Trees Span) → ArePieces ts false false self.now
             → IfOk result (λ answer. answer.1 ≤ cube_visits (costs ts + 1) (chars text.now)) }
+        ensures below { IfOk result (λ answer. IfSome answer.0 (λ _. length (chars text.now) ≤ answer.1)) }
     {
         let mut visits = Visits::new();
         let characters = Text::new(alloc, text)?;
@@ -123,6 +125,7 @@ impl Pieces {
         let Some(parts) = found else {
             return Ok((None, visits.count()));
         };
+        visits.add_text(&characters);
         let captures = to_bytes(alloc, text, &characters, parts)?;
         Ok((Some(MatchedText::new(text, captures)), visits.count()))
     }

@@ -5,7 +5,7 @@ ghost use Rattle.std.specs.List.{All};
 ghost use Rattle.wax_capture.specs.Captures.{tree_capture};
 ghost use Rattle.wax_capture.specs.Pieces.{captured_by};
 ghost use Rattle.wax_capture.specs.inner.Parts.{IsWithin, part_between, parts};
-ghost use Rattle.wax_capture.specs.inner.Splits.{AreChosen, CapturedBy, Splits, all_sizes};
+ghost use Rattle.wax_capture.specs.inner.Splits.{AreChosen, CapturedBy, Splits, all_sizes, split_visits};
 ghost use Rattle.wax_capture.specs.inner.Trials.{lengths_of};
 
 use crate::piece::{Capture, Piece};
@@ -86,8 +86,7 @@ fn chosen_split(
     requires { limit ≤ all_sizes pieces.now * ((length text.now + 1) * (length text.now + 1)) }
     ensures chosen { IfOk result (λ r. MatchOption r (Splits pieces.now text.now → ⊥)
         (λ chosen. AreChosen pieces.now text.now (lengths_of chosen.items))) }
-    ensures above { visits.new
-        ≤ visits.old + 4 * (all_sizes pieces.now * ((length text.now + 1) * (length text.now + 1))) }
+    ensures above { visits.new ≤ visits.old + split_visits (all_sizes pieces.now) (length text.now) }
     ensures steady { visits.old ≤ visits.new }
 {
     match split_by_trial(alloc, pieces, text, limit, visits)? {
@@ -114,8 +113,7 @@ pub fn split(
     ensures captured { IfOk result (λ r. MatchOption r (Splits pieces.now text.now → ⊥)
         (λ captures. CapturedBy pieces.now text.now (parts text.now captures.items))) }
     ensures within { IfOk result (λ r. IfSome r (λ captures. All (IsWithin text.now) captures.items)) }
-    ensures above { visits.new
-        ≤ visits.old + 4 * (all_sizes pieces.now * ((length text.now + 1) * (length text.now + 1))) }
+    ensures above { visits.new ≤ visits.old + split_visits (all_sizes pieces.now) (length text.now) }
     ensures steady { visits.old ≤ visits.new }
 {
     match chosen_split(alloc, pieces, text, limit, visits)? {

@@ -1,9 +1,10 @@
 //! A program with the facts by which most texts are rejected before it is run.
 ghost use Rattle.std.specs.Prelude.{◌≡◌, ◌+◌, ◌*◌, ◌++◌, ◌∷◌, ◌<◌, ◌≤◌, ◌↔◌, [], ℕ, List, IfOk, IsTrue};
-ghost use Rattle.std.specs.Prelude.{chars, false, length};
+ghost use Rattle.std.specs.Prelude.{chars, false, length, min};
 ghost use Rattle.std.specs.Str.{IsUtf8};
 ghost use Rattle.wax_program.specs.Last.{IsLastName};
 ghost use Rattle.wax_program.specs.Machine.{Accepts};
+ghost use Rattle.wax_program.specs.Meter.{most_ticks};
 ghost use Rattle.wax_query.specs.Outcome.{MatchBuild};
 ghost use Rattle.wax_token.specs.Cost.{costs, program_length};
 ghost use Rattle.wax_token.specs.Meaning.{MeansEach};
@@ -25,6 +26,8 @@ use wax_token::token::{ExpressionMetadata, Sides, Token};
 pub struct CompiledTokens {
     program: CompiledProgram,
     prefilter: Prefilter,
+    /// True if the program is known to depend only on the last component of a text.
+    reads_last: bool,
 }
 
 // Written out, so that crates that drop these don't have to prove again how their parts are dropped.
@@ -33,6 +36,7 @@ impl Drop for CompiledTokens {
         let CompiledTokens {
             program: _,
             prefilter: _,
+            reads_last: _,
         } = self;
     }
 }
@@ -41,7 +45,7 @@ impl Model for CompiledTokens {
     ghost use Rattle.std.specs.Coded.{coded×, coded_list, coded_ℕ};
     ghost use Rattle.wax_program.specs.contracts.instruction.Instruction as instruction;
     ghost use Rattle.wax_compiled.specs.Compiled.{Instructions};
-    ghost use Rattle.wax_compiled.specs.inner.Passing.{AllPass};
+    ghost use Rattle.wax_compiled.specs.inner.Passing.{AllPass, KnowsLast};
 
     ghost Value = { Instructions };
 
@@ -49,7 +53,7 @@ impl Model for CompiledTokens {
 
     ghost view = { λ c. c.program };
 
-    ghost invariant = { λ c. AllPass c.program.0 c.prefilter };
+    ghost invariant = { λ c. AllPass c.program.0 c.prefilter × KnowsLast c.reads_last c.program.0 };
 }
 
 impl CompiledTokens {
@@ -72,7 +76,13 @@ impl CompiledTokens {
     {
         let program = encode::compile(alloc, tokens, Sides::NONE)?;
         let prefilter = Prefilter::new(alloc, tokens)?;
-        Ok(CompiledTokens { program, prefilter })
+        let mut meter = Meter::new();
+        let reads_last = encode::reads_last(&program, &mut meter);
+        Ok(CompiledTokens {
+            program,
+            prefilter,
+            reads_last,
+        })
     }
 
     /// Compiles a token, with nothing before or after it. Takes time and memory linear in the token
@@ -98,13 +108,40 @@ impl CompiledTokens {
     pub fn may_match(&self, text: &str) -> bool
         ensures { Accepts self.now.0 0 (chars text.now) → IsTrue result }
     {
-        if !self.program.reads_last() {
+        if !self.reads_last {
             return self.prefilter.may_match(text);
         }
         self.prefilter.may_match_at_once(text) && self.prefilter.may_match(encode::last_name(text))
     }
 
-    /// Returns whether the tokens match the text, and the number of instructions that were visited.
+    /// Returns whether the tokens match the text. The meter counts the visits of the program. A text
+    /// that is rejected before the program is run takes none.
+    ///
+    /// # Errors
+    ///
+    /// Returns `NoMemory` if allocation fails.
+    pub fn is_match_metered(
+        &self,
+        alloc: Global,
+        text: &str,
+        meter: &mut Meter,
+    ) -> Result<bool, NoMemory>
+        ensures decides { IfOk result (λ answer. IsTrue answer ↔ Accepts self.now.0 0 (chars text.now)) }
+        ensures above { meter.new ≤ meter.old + self.now.1 * (length (chars text.now) + 1) }
+        ensures below { IfOk result
+            (λ answer. IsTrue answer → min (meter.old + length (chars text.now)) most_ticks ≤ meter.new) }
+        ensures steady { meter.old ≤ meter.new }
+    {
+        if !self.may_match(text) {
+            return Ok(false);
+        }
+        if self.reads_last {
+            return encode::run_last(alloc, &self.program, text, meter);
+        }
+        encode::run(alloc, &self.program, text, meter)
+    }
+
+    /// Returns whether the tokens match the text, and how far that moved a meter from 0.
     ///
     /// # Errors
     ///
@@ -114,11 +151,8 @@ impl CompiledTokens {
         ensures above { IfOk result (λ answer. answer.1 ≤ self.now.1 * (length (chars text.now) + 1)) }
         ensures below { IfOk result (λ answer. IsTrue answer.0 → length (chars text.now) ≤ answer.1) }
     {
-        if !self.may_match(text) {
-            return Ok((false, 0));
-        }
         let mut meter = Meter::new();
-        let answer = encode::run(alloc, &self.program, text, &mut meter)?;
+        let answer = self.is_match_metered(alloc, text, &mut meter)?;
         Ok((answer, meter.ticks()))
     }
 

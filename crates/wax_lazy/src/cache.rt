@@ -15,7 +15,7 @@ ghost use Rattle.wax_states.specs.States.{IsDead, IsStatePlace, LeadsNext, place
 
 use std::alloc::{AllocError, Global};
 use std::mem;
-use wax_program::{CompiledProgram, check_at, has_loop, part_loops, place_of_all};
+use wax_program::{CompiledProgram, Meter, check_at, has_loop, part_loops, place_of_all};
 use wax_states::{ALL, COLUMNS, DEAD, FIRST, Next, State, Table, cell_of, next_of};
 use wax_stepper::Stepper;
 
@@ -144,6 +144,7 @@ impl Cache {
         program: &CompiledProgram,
         at: usize,
         c: char,
+        meter: &mut Meter,
     ) -> Result<Next, AllocError>
         requires cache { IsCacheOf program.now.0 self.old }
         requires placed { IsStatePlace self.old.table.states.items at }
@@ -156,7 +157,7 @@ impl Cache {
             return Ok(next);
         }
         self.prepare_for(program, c)?;
-        self.fill(program, at, c)
+        self.fill(program, at, c, meter)
     }
 
     /// Makes room for the cell of a character, if it is past ASCII.
@@ -215,6 +216,7 @@ impl Cache {
         at: usize,
         text: &[u8],
         index: usize,
+        meter: &mut Meter,
     ) -> Result<(Next, usize), AllocError>
         requires cache { IsCacheOf program.now.0 self.old }
         requires placed { IsStatePlace self.old.table.states.items at }
@@ -230,12 +232,12 @@ impl Cache {
         let c = char::from(text[index]);
         if !self.is_full() {
             if let Some(lone) = self.lone(program, at) {
-                if let Some(true) = check_at(program, lone.place, c) {
-                    return self.pass(program, lone, text, index);
+                if let Some(true) = check_at(program, lone.place, c, meter) {
+                    return self.pass(program, lone, text, index, meter);
                 }
             }
         }
-        let next = self.fill(program, at, c)?;
+        let next = self.fill(program, at, c, meter)?;
         Ok((next, index + 1))
     }
 
@@ -277,6 +279,7 @@ impl Cache {
         lone: Lone,
         text: &[u8],
         index: usize,
+        meter: &mut Meter,
     ) -> Result<(Next, usize), AllocError>
         requires cache { IsCacheOf program.now.0 self.old }
         requires placed { IfSome lone.rest (IsStatePlace self.old.table.states.items) }
@@ -296,7 +299,7 @@ impl Cache {
         let mut here = lone;
         let mut end = index;
         loop {
-            let next = self.follow_rest(program, here.rest, char::from(text[end]))?;
+            let next = self.follow_rest(program, here.rest, char::from(text[end]), meter)?;
             end += 1;
             if let Next::Everything = next {
                 return Ok((next, end));
@@ -309,16 +312,16 @@ impl Cache {
                 break;
             }
             let c = char::from(text[end]);
-            match check_at(program, here.place, c) {
+            match check_at(program, here.place, c, meter) {
                 Some(true) => {}
                 Some(false) => {
-                    let next = self.follow_rest(program, here.rest, c)?;
+                    let next = self.follow_rest(program, here.rest, c, meter)?;
                     return Ok((next, end + 1));
                 }
                 None => break,
             }
         }
-        let at = self.arrive(program, here)?;
+        let at = self.arrive(program, here, meter)?;
         Ok((Next::To(at), end))
     }
 
@@ -328,6 +331,7 @@ impl Cache {
         program: &CompiledProgram,
         rest: Option<usize>,
         c: char,
+        meter: &mut Meter,
     ) -> Result<Next, AllocError>
         requires cache { IsCacheOf program.now.0 self.old }
         requires placed { IfSome rest (IsStatePlace self.old.table.states.items) }
@@ -339,13 +343,18 @@ impl Cache {
         ensures grows { IfOk result (λ _. GrowsBy 130 self.old self.new) }
     {
         match rest {
-            Some(rest) => self.follow_known(program, rest, c, MOST_PARTS),
+            Some(rest) => self.follow_known(program, rest, c, MOST_PARTS, meter),
             None => Ok(Next::Nothing),
         }
     }
 
     /// Returns where the cells begin of the state of a lone place and its rest.
-    fn arrive(&mut self, program: &CompiledProgram, lone: Lone) -> Result<usize, AllocError>
+    fn arrive(
+        &mut self,
+        program: &CompiledProgram,
+        lone: Lone,
+        meter: &mut Meter,
+    ) -> Result<usize, AllocError>
         requires cache { IsCacheOf program.now.0 self.old }
         requires placed { IfSome lone.rest (IsStatePlace self.old.table.states.items) }
         requires few { length self.old.table.states.items < 65000 }
@@ -363,14 +372,20 @@ impl Cache {
             .extend_from_slice(self.table.places_led(lone.rest))?;
         self.reached.push(lone.place)?;
         self.reached.sort_unstable();
-        let number = self.intern_parted(program, lone.rest)?;
+        let number = self.intern_parted(program, lone.rest, meter)?;
         Ok(number * COLUMNS)
     }
 
     /// Follows a character by a step of the program, and fills its cell. If the cache is full, first
     /// removes all states but the current one.
     #[inline(never)]
-    fn fill(&mut self, program: &CompiledProgram, at: usize, c: char) -> Result<Next, AllocError>
+    fn fill(
+        &mut self,
+        program: &CompiledProgram,
+        at: usize,
+        c: char,
+        meter: &mut Meter,
+    ) -> Result<Next, AllocError>
         requires cache { IsCacheOf program.now.0 self.old }
         requires placed { IsStatePlace self.old.table.states.items at }
         ensures cache { IsCacheOf program.now.0 self.new }
@@ -380,9 +395,9 @@ impl Cache {
     {
         if self.is_full() {
             self.restart(at)?;
-            return self.follow(program, 0, c, MOST_PARTS);
+            return self.follow(program, 0, c, MOST_PARTS, meter);
         }
-        self.follow(program, at, c, MOST_PARTS)
+        self.follow(program, at, c, MOST_PARTS, meter)
     }
 
     /// Follows a character by a step of the program, mostly only from the state's own places: where
@@ -395,6 +410,7 @@ impl Cache {
         at: usize,
         c: char,
         depth: usize,
+        meter: &mut Meter,
     ) -> Result<Next, AllocError>
         requires cache { IsCacheOf program.now.0 self.old }
         requires placed { IsStatePlace self.old.table.states.items at }
@@ -406,23 +422,23 @@ impl Cache {
         ensures grows { IfOk result (λ _. GrowsBy (2 * depth + 2) self.old self.new) }
     {
         let Some(rest) = self.table.state(at).rest else {
-            return self.follow_all(program, at, c);
+            return self.follow_all(program, at, c, meter);
         };
         if depth == 0 {
-            return self.follow_all(program, at, c);
+            return self.follow_all(program, at, c, meter);
         }
-        let next = self.follow_known(program, rest, c, depth - 1)?;
+        let next = self.follow_known(program, rest, c, depth - 1, meter)?;
         if let Next::Everything = next {
             self.table.write(at, c, ALL);
             return Ok(next);
         }
         let led = next.led();
-        let leads = self.step_own(program, at, c, led)?;
+        let leads = self.step_own(program, at, c, led, meter)?;
         if !leads {
             self.table.write(at, c, cell_of(next));
             return Ok(next);
         }
-        self.enter(program, at, c, led)
+        self.enter(program, at, c, led, meter)
     }
 
     /// Follows a character by its cell, if that is filled, and otherwise as `follow` does.
@@ -433,6 +449,7 @@ impl Cache {
         at: usize,
         c: char,
         depth: usize,
+        meter: &mut Meter,
     ) -> Result<Next, AllocError>
         requires cache { IsCacheOf program.now.0 self.old }
         requires placed { IsStatePlace self.old.table.states.items at }
@@ -446,7 +463,7 @@ impl Cache {
         if let Some(next) = self.known_char(at, c) {
             return Ok(next);
         }
-        self.follow(program, at, c, depth)
+        self.follow(program, at, c, depth, meter)
     }
 
     /// Steps from a state's own places. Writes the places that were reached, and those of the state
@@ -458,6 +475,7 @@ impl Cache {
         at: usize,
         c: char,
         led: Option<usize>,
+        meter: &mut Meter,
     ) -> Result<bool, AllocError>
         requires cache { IsCacheOf program.now.0 self.old }
         requires placed { IsStatePlace self.old.table.states.items at }
@@ -472,9 +490,15 @@ impl Cache {
     {
         let own = &self.table.state(at).own;
         let also = self.table.places_led(led);
-        let leads = self
-            .stepper
-            .step(program, own, c, also, &mut self.reached, &mut self.others)?;
+        let leads = self.stepper.step(
+            program,
+            own,
+            c,
+            also,
+            &mut self.reached,
+            &mut self.others,
+            meter,
+        )?;
         Ok(leads)
     }
 
@@ -484,6 +508,7 @@ impl Cache {
         program: &CompiledProgram,
         at: usize,
         c: char,
+        meter: &mut Meter,
     ) -> Result<Next, AllocError>
         requires cache { IsCacheOf program.now.0 self.old }
         requires placed { IsStatePlace self.old.table.states.items at }
@@ -495,23 +520,16 @@ impl Cache {
         ensures grows { IfOk result (λ _. GrowsBy 2 self.old self.new) }
     {
         let places = self.table.places(at);
-        self.stepper.step(program, places, c, &[], &mut self.reached, &mut self.others)?;
-        self.enter(program, at, c, None)
-    }
-
-    /// Returns whether every text is known to be accepted from the places that were reached.
-    fn takes_all(&self, program: &CompiledProgram) -> bool
-        ensures { IsTrue result → (s : List ℕ) → AnyAmong program.now.0 self.now.reached.items s }
-    {
-        let Some(all) = place_of_all(program) else {
-            return false;
-        };
-        for place in &self.reached {
-            if *place == all {
-                return true;
-            }
-        }
-        false
+        self.stepper.step(
+            program,
+            places,
+            c,
+            &[],
+            &mut self.reached,
+            &mut self.others,
+            meter,
+        )?;
+        self.enter(program, at, c, None, meter)
     }
 
     /// Fills the cell of a character in the state whose cells begin at `at`, by the places that were
@@ -523,6 +541,7 @@ impl Cache {
         at: usize,
         c: char,
         led: Option<usize>,
+        meter: &mut Meter,
     ) -> Result<Next, AllocError>
         requires cache { IsCacheOf program.now.0 self.old }
         requires placed { IsStatePlace self.old.table.states.items at }
@@ -539,11 +558,11 @@ impl Cache {
             self.table.write(at, c, DEAD);
             return Ok(Next::Nothing);
         }
-        if self.takes_all(program) {
+        if takes_all(program, &self.reached, meter) {
             self.table.write(at, c, ALL);
             return Ok(Next::Everything);
         }
-        let number = self.intern_parted(program, led)?;
+        let number = self.intern_parted(program, led, meter)?;
         self.table.write(at, c, number as u16 + FIRST);
         Ok(Next::To(number * COLUMNS))
     }
@@ -554,6 +573,7 @@ impl Cache {
         &mut self,
         program: &CompiledProgram,
         led: Option<usize>,
+        meter: &mut Meter,
     ) -> Result<usize, AllocError>
         requires few { length self.old.table.states.items + 2 < 65533 }
         requires cache { IsCacheOf program.now.0 self.old }
@@ -563,13 +583,19 @@ impl Cache {
         ensures small { IfOk result (λ t. t < 65533) }
         ensures interned { IfOk result (λ t. IsInterned 2 self.old self.new self.old.reached.items t) }
     {
-        if led.is_some() && !has_loop(program, &self.others) {
+        if led.is_some() && !has_loop(program, &self.others, meter) {
             return self.intern(program, led);
         }
         if program.size() < LEAST_PARTED {
             return self.intern(program, None);
         }
-        part_loops(program, &self.reached, &mut self.loops, &mut self.others)?;
+        part_loops(
+            program,
+            &self.reached,
+            &mut self.loops,
+            &mut self.others,
+            meter,
+        )?;
         if self.loops.is_empty() || self.others.is_empty() {
             return self.intern(program, None);
         }
@@ -673,7 +699,7 @@ impl Cache {
     /// Returns whether a text that ends in the state whose cells begin at `at` is accepted. Takes a
     /// step of the program if no text has ended there.
     #[inline]
-    pub fn accepts(&mut self, program: &CompiledProgram, at: usize) -> bool
+    pub fn accepts(&mut self, program: &CompiledProgram, at: usize, meter: &mut Meter) -> bool
         requires cache { IsCacheOf program.now.0 self.old }
         requires placed { IsStatePlace self.old.table.states.items at }
         ensures cache { IsCacheOf program.now.0 self.new }
@@ -684,13 +710,13 @@ impl Cache {
         if let Some(accepts) = self.table.state(at).accepts {
             return accepts;
         }
-        let accepts = self.computed(program, at);
+        let accepts = self.computed(program, at, meter);
         self.table.settle(at, accepts);
         accepts
     }
 
     /// Computes what `accepts` returns: by the own places of the state, and then by its rest.
-    fn computed(&mut self, program: &CompiledProgram, at: usize) -> bool
+    fn computed(&mut self, program: &CompiledProgram, at: usize, meter: &mut Meter) -> bool
         requires cache { IsCacheOf program.now.0 self.old }
         requires placed { IsStatePlace self.old.table.states.items at }
         ensures cache { IsCacheOf program.now.0 self.new }
@@ -709,17 +735,18 @@ impl Cache {
             let Some(rest) = state.rest else {
                 break;
             };
-            if self.own_accept(program, here) {
+            if self.own_accept(program, here, meter) {
                 return true;
             }
             here = rest;
         }
-        self.stepper.accepts(program, self.table.places(here))
+        self.stepper
+            .accepts(program, self.table.places(here), meter)
     }
 
     /// Returns whether the program, begun at one of the own places of the state, accepts the empty
     /// text.
-    fn own_accept(&mut self, program: &CompiledProgram, at: usize) -> bool
+    fn own_accept(&mut self, program: &CompiledProgram, at: usize, meter: &mut Meter) -> bool
         requires cache { IsCacheOf program.now.0 self.old }
         requires placed { IsStatePlace self.old.table.states.items at }
         ensures cache { IsCacheOf program.now.0 self.new }
@@ -730,9 +757,27 @@ impl Cache {
             ↔ AnyAmong program.now.0 (own_at self.old.table.states.items (at / 128)) [] }
     {
         let own = &self.table.state(at).own;
-        let accepts = self.stepper.accepts(program, own);
+        let accepts = self.stepper.accepts(program, own, meter);
         accepts
     }
+}
+
+/// Returns whether every text is known to be accepted from one of the places. Reads at most one
+/// instruction.
+fn takes_all(program: &CompiledProgram, places: &[usize], meter: &mut Meter) -> bool
+    ensures all { IsTrue result → (s : List ℕ) → AnyAmong program.now.0 places.now s }
+    ensures above { meter.new ≤ meter.old + 1 }
+    ensures steady { meter.old ≤ meter.new }
+{
+    let Some(all) = place_of_all(program, meter) else {
+        return false;
+    };
+    for place in places {
+        if *place == all {
+            return true;
+        }
+    }
+    false
 }
 
 /// Returns the state without its rest.

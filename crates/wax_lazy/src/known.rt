@@ -7,7 +7,7 @@ ghost use Rattle.wax_program.specs.Machine.{Accepts};
 use crate::cache::Cache;
 use crate::walk::walk;
 use std::alloc::{AllocError, Global};
-use wax_program::{CompiledProgram, Meter, last_name, run};
+use wax_program::{CompiledProgram, Meter, last_name, reads_last, run, run_last};
 use wax_query::diagnostics::NoMemory;
 
 /// The least number of instructions of a program that isn't run over texts of many characters, as
@@ -27,18 +27,23 @@ pub struct Known {
     most_bytes: usize,
     /// The states that texts led to, from the first text on.
     cache: Option<Cache>,
+    /// Counts the instructions that were read, for all texts.
+    meter: Meter,
 }
 
 impl Known {
     /// Creates what is known of a program before the first text. The cache will keep at most about
-    /// `most_bytes` bytes. Doesn't allocate.
+    /// `most_bytes` bytes. Reads each instruction at most once. Doesn't allocate.
     pub fn new(program: &CompiledProgram, most_bytes: usize) -> Known
         ensures { IsKnownOf program.now.0 result }
     {
+        let mut meter = Meter::new();
+        let reads_last = reads_last(program, &mut meter);
         Known {
-            reads_last: program.reads_last(),
+            reads_last,
             most_bytes,
             cache: None,
+            meter,
         }
     }
 
@@ -75,9 +80,10 @@ impl Known {
         ensures decides { IfOk result (λ b. IsTrue b ↔ Accepts program.now.0 0 (chars text.now)) }
     {
         self.prepare(alloc, program)?;
+        let meter = &mut self.meter;
         match &mut self.cache {
-            Some(cache) => decide(alloc, program, self.reads_last, cache, text),
-            None => decide_once(alloc, program, text),
+            Some(cache) => decide(alloc, program, self.reads_last, cache, text, meter),
+            None => decide_once(alloc, program, self.reads_last, text, meter),
         }
     }
 
@@ -116,26 +122,39 @@ fn decide(
     reads_last: bool,
     cache: &mut Cache,
     text: &str,
+    meter: &mut Meter,
 ) -> Result<bool, NoMemory>
     requires cache { IsKeptFor program.now.0 reads_last cache.old }
     requires last { IsTrue reads_last → ReadsLast program.now.0 }
+    requires long { IsTrue reads_last → 2 ≤ length program.now.0 }
     ensures cache { IsKeptFor program.now.0 reads_last cache.new }
     ensures decides { IfOk result (λ b. IsTrue b ↔ Accepts program.now.0 0 (chars text.now)) }
 {
     if cache.gives_up || program.size() < LEAST_SIZE && is_of_long_characters(text) {
-        return decide_once(alloc, program, text);
+        return decide_once(alloc, program, reads_last, text, meter);
     }
     if reads_last {
-        return Ok(walk(program, cache, last_name(text))?);
+        return Ok(walk(program, cache, last_name(text), meter)?);
     }
-    Ok(walk(program, cache, text)?)
+    Ok(walk(program, cache, text, meter)?)
 }
 
-fn decide_once(alloc: Global, program: &CompiledProgram, text: &str) -> Result<bool, NoMemory>
+/// Decides a text by a run of the program.
+fn decide_once(
+    alloc: Global,
+    program: &CompiledProgram,
+    reads_last: bool,
+    text: &str,
+    meter: &mut Meter,
+) -> Result<bool, NoMemory>
+    requires last { IsTrue reads_last → ReadsLast program.now.0 }
+    requires long { IsTrue reads_last → 2 ≤ length program.now.0 }
     ensures { IfOk result (λ b. IsTrue b ↔ Accepts program.now.0 0 (chars text.now)) }
 {
-    let mut meter = Meter::new();
-    run(alloc, program, text, &mut meter)
+    if reads_last {
+        return run_last(alloc, program, text, meter);
+    }
+    run(alloc, program, text, meter)
 }
 
 /// Returns whether the first character past ASCII, if there is one, has three bytes or more. The

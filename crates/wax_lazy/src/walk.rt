@@ -7,7 +7,7 @@ ghost use Rattle.wax_states.specs.States.{IsStatePlace, places_at};
 
 use crate::cache::Cache;
 use std::alloc::AllocError;
-use wax_program::CompiledProgram;
+use wax_program::{CompiledProgram, Meter};
 use wax_states::Next;
 
 /// Returns whether the program, begun at the cache's place, accepts the text.
@@ -15,7 +15,12 @@ use wax_states::Next;
 /// # Errors
 ///
 /// Returns `AllocError` if allocation fails.
-pub fn walk(program: &CompiledProgram, cache: &mut Cache, text: &str) -> Result<bool, AllocError>
+pub fn walk(
+    program: &CompiledProgram,
+    cache: &mut Cache,
+    text: &str,
+    meter: &mut Meter,
+) -> Result<bool, AllocError>
     requires { IsCacheOf program.now.0 cache.old }
     ensures cache { IsCacheOf program.now.0 cache.new }
     ensures start { cache.new.start ≡ cache.old.start }
@@ -23,13 +28,18 @@ pub fn walk(program: &CompiledProgram, cache: &mut Cache, text: &str) -> Result<
         (λ b. IsTrue b ↔ Accepts program.now.0 cache.old.start (chars text.now)) }
 {
     if text.is_ascii() {
-        return walk_ascii(program, cache, text.as_bytes());
+        return walk_ascii(program, cache, text.as_bytes(), meter);
     }
-    walk_chars(program, cache, text)
+    walk_chars(program, cache, text, meter)
 }
 
 /// Decides a text of only ASCII characters, by its bytes.
-fn walk_ascii(program: &CompiledProgram, cache: &mut Cache, text: &[u8]) -> Result<bool, AllocError>
+fn walk_ascii(
+    program: &CompiledProgram,
+    cache: &mut Cache,
+    text: &[u8],
+    meter: &mut Meter,
+) -> Result<bool, AllocError>
     requires cache { IsCacheOf program.now.0 cache.old }
     requires ascii { IsAscii text.now }
     ensures cache { IsCacheOf program.now.0 cache.new }
@@ -39,7 +49,7 @@ fn walk_ascii(program: &CompiledProgram, cache: &mut Cache, text: &[u8]) -> Resu
     let mut at = cache.begin(program, text.len())?;
     let mut index = 0;
     while index < text.len() {
-        let (next, end) = advance_in(program, cache, at, text, index)?;
+        let (next, end) = advance_in(program, cache, at, text, index, meter)?;
         match next {
             Next::To(next) => at = next,
             Next::Nothing => return Ok(false),
@@ -47,7 +57,7 @@ fn walk_ascii(program: &CompiledProgram, cache: &mut Cache, text: &[u8]) -> Resu
         }
         index = end;
     }
-    Ok(cache.accepts(program, at))
+    Ok(cache.accepts(program, at, meter))
 }
 
 /// Follows ASCII characters of a text from the place `index` on: one if its cell is filled, and
@@ -59,6 +69,7 @@ fn advance_in(
     at: usize,
     text: &[u8],
     index: usize,
+    meter: &mut Meter,
 ) -> Result<(Next, usize), AllocError>
     requires cache { IsCacheOf program.now.0 cache.old }
     requires placed { IsStatePlace cache.old.table.states.items at }
@@ -74,11 +85,16 @@ fn advance_in(
     if let Some(next) = cache.known(at, text[index]) {
         return Ok((next, index + 1));
     }
-    cache.advance_far(program, at, text, index)
+    cache.advance_far(program, at, text, index, meter)
 }
 
 /// Decides any text, character by character.
-fn walk_chars(program: &CompiledProgram, cache: &mut Cache, text: &str) -> Result<bool, AllocError>
+fn walk_chars(
+    program: &CompiledProgram,
+    cache: &mut Cache,
+    text: &str,
+    meter: &mut Meter,
+) -> Result<bool, AllocError>
     requires { IsCacheOf program.now.0 cache.old }
     ensures cache { IsCacheOf program.now.0 cache.new }
     ensures start { cache.new.start ≡ cache.old.start }
@@ -88,11 +104,11 @@ fn walk_chars(program: &CompiledProgram, cache: &mut Cache, text: &str) -> Resul
     let mut at = cache.begin(program, text.len())?;
     let mut left = text.chars();
     while let Some(c) = left.next() {
-        match cache.advance(program, at, c)? {
+        match cache.advance(program, at, c, meter)? {
             Next::To(next) => at = next,
             Next::Nothing => return Ok(false),
             Next::Everything => return Ok(true),
         }
     }
-    Ok(cache.accepts(program, at))
+    Ok(cache.accepts(program, at, meter))
 }

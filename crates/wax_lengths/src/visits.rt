@@ -45,11 +45,21 @@ impl Visits {
 
     /// Counts characters that were looked at.
     #[inline]
-    pub fn add(&mut self, characters: usize)
+    pub(crate) fn add(&mut self, characters: usize)
         ensures above { self.new ≤ self.old + characters }
         ensures steady { self.old ≤ self.new }
+        ensures below { characters ≤ self.new }
     {
         self.characters = self.characters.saturating_add(characters as u128);
+    }
+
+    /// Counts each character of a text that was split into parts.
+    pub fn add_text(&mut self, text: &Text<'_>)
+        ensures above { self.new ≤ self.old + length text.now }
+        ensures steady { self.old ≤ self.new }
+        ensures below { length text.now ≤ self.new }
+    {
+        self.add(text.len());
     }
 
     /// Fills `ends` with one flag for each part of the text that begins at `at`, from the empty one

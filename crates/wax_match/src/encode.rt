@@ -21,7 +21,7 @@ mod leaves;
 mod tail;
 
 pub use folding::case_folded_eq;
-pub use wax_program::{CompiledProgram, Meter, last_name, run};
+pub use wax_program::{CompiledProgram, Meter, last_name, reads_last, run, run_last};
 
 /// Tokens cost more than a program may (error 9).
 #[derive(Clone, Copy, Debug, Error)]

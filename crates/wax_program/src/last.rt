@@ -1,5 +1,5 @@
 //! Programs that depend only on the last component of a text, such as that of `**/*.rs`.
-ghost use Rattle.std.specs.Prelude.{◌≡◌, ◌+◌, ◌*◌, ◌≤◌, ◌↔◌, IsTrue, IfOk, Some, chars, length, min};
+ghost use Rattle.std.specs.Prelude.{◌≡◌, ◌+◌, ◌*◌, ◌≤◌, ◌↔◌, IsTrue, IfOk, Some, chars, length, max, min};
 ghost use Rattle.std.specs.Prelude.{map, slice_get};
 ghost use Rattle.std.specs.Simd.Lanes.{mask_l};
 ghost use Rattle.wax_program.specs.declared.instruction.Instruction.TheVariants.{Components, Fork};
@@ -11,7 +11,7 @@ ghost use Rattle.wax_program.specs.Meter.{most_ticks};
 
 use crate::instruction::Instruction;
 use crate::machine::{CompiledProgram, Meter};
-use crate::matching::run_at;
+use crate::matching::{run, run_at};
 use crate::skipped::Skipped;
 use std::alloc::Global;
 use std::simd::prelude::*;
@@ -20,9 +20,13 @@ use wax_query::diagnostics::NoMemory;
 /// How many bytes are compared at once.
 const LANES: usize = 32;
 
-/// Runs a program that depends only on the last component: from the place 2, after the instructions
-/// that take other components.
-pub(crate) fn run_name(
+/// Returns whether a program that depends only on the last component of a text accepts the text. Reads
+/// only that component. Takes as many visits as [`run`], where a byte before the component is one.
+///
+/// # Errors
+///
+/// Returns `NoMemory` if allocation fails.
+pub fn run_last(
     alloc: Global,
     program: &CompiledProgram,
     text: &str,
@@ -30,13 +34,16 @@ pub(crate) fn run_name(
 ) -> Result<bool, NoMemory>
     requires last { ReadsLast program.now.0 }
     requires start { 2 ≤ length program.now.0 }
-    requires long { 4 ≤ program.now.1 }
     ensures decides { IfOk result (λ b. IsTrue b ↔ Accepts program.now.0 0 (chars text.now)) }
     ensures above { meter.new ≤ meter.old + program.now.1 * (length (chars text.now) + 1) }
     ensures below { IfOk result
         (λ b. IsTrue b → min (meter.old + length (chars text.now)) most_ticks ≤ meter.new) }
     ensures steady { meter.old ≤ meter.new }
 {
+    // A name of one instruction is read in no less time than a whole text, where the run ends early.
+    if program.size() <= 3 {
+        return run(alloc, program, text, meter);
+    }
     let name = last_name(text);
     meter.skip(Skipped::before(program, text, name));
     run_at(alloc, program, 2, name, meter)
@@ -77,32 +84,38 @@ fn slashes(bytes: u8x32) -> u64
     bytes.simd_eq(u8x32::splat(b'/')).to_bitmask()
 }
 
-/// Returns whether a program of these instructions is known to depend only on the last component: it
-/// begins with zero or more components, and takes no `/` after them.
-pub(crate) fn is_last_read(instructions: &[Instruction]) -> bool
-    ensures last { IsTrue result → ReadsLast instructions.now }
-    ensures long { IsTrue result → 2 ≤ length instructions.now }
+/// Returns whether the program is known to depend only on the last component of a text: it begins
+/// with zero or more components, and takes no `/` after them. Reads each instruction at most once.
+pub fn reads_last(program: &CompiledProgram, meter: &mut Meter) -> bool
+    ensures last { IsTrue result → ReadsLast program.now.0 }
+    ensures long { IsTrue result → 2 ≤ length program.now.0 }
+    ensures above { meter.new ≤ meter.old + length program.now.0 }
+    ensures steady { meter.old ≤ meter.new }
 {
-    begins_with_components(instructions) && stay_in_name(instructions)
+    begins_with_components(program, meter) && stay_in_name(program, meter)
 }
 
-fn begins_with_components(instructions: &[Instruction]) -> bool
-    ensures fork { IsTrue result → slice_get instructions.now 0 ≡ Some (Fork 1) }
-    ensures components { IsTrue result → slice_get instructions.now 1 ≡ Some Components }
-    ensures long { IsTrue result → 2 ≤ length instructions.now }
+/// Returns whether the program begins with zero or more components.
+fn begins_with_components(program: &CompiledProgram, meter: &mut Meter) -> bool
+    ensures fork { IsTrue result → slice_get program.now.0 0 ≡ Some (Fork 1) }
+    ensures components { IsTrue result → slice_get program.now.0 1 ≡ Some Components }
+    ensures long { IsTrue result → 2 ≤ length program.now.0 }
+    ensures above { meter.new ≤ meter.old + min 2 (length program.now.0) }
+    ensures steady { meter.old ≤ meter.new }
 {
-    matches!(
-        instructions,
-        [Instruction::Fork(1), Instruction::Components, ..]
-    )
+    program.size() >= 2
+        && matches!(program.read(0, meter), Instruction::Fork(1))
+        && matches!(program.read(1, meter), Instruction::Components)
 }
 
 /// Returns whether no instruction from the place 2 on takes a `/` or leads to a place before it.
-fn stay_in_name(instructions: &[Instruction]) -> bool
-    ensures { IsTrue result → StayInName instructions.now (length instructions.now) }
+fn stay_in_name(program: &CompiledProgram, meter: &mut Meter) -> bool
+    ensures stay { IsTrue result → StayInName program.now.0 (length program.now.0) }
+    ensures above { meter.new + 2 ≤ meter.old + max 2 (length program.now.0) }
+    ensures steady { meter.old ≤ meter.new }
 {
-    for at in 2..instructions.len() {
-        if !stays_in_name(&instructions[at], at) {
+    for at in 2..program.size() {
+        if !stays_in_name(program.read(at, meter), at) {
             return false;
         }
     }

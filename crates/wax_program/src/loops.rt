@@ -1,17 +1,19 @@
 //! Instructions that lead to themselves, and those that take one character.
-ghost use Rattle.std.specs.Prelude.{◌≡◌, ◌^◌, ◌<◌, ℕ, IfOk, IfSome, IsTrue, List, length};
+ghost use Rattle.std.specs.Prelude.{◌≡◌, ◌+◌, ◌^◌, ◌<◌, ◌≤◌, ℕ, IfOk, IfSome, IsTrue, List, length, min};
 ghost use Rattle.wax_program.specs.Machine.{Accepts};
+ghost use Rattle.wax_program.specs.Meter.{most_ticks};
 ghost use Rattle.wax_program.specs.Checks.{IsCheckAt, IsCheckOf};
 ghost use Rattle.wax_program.specs.Threads.{AreParts};
 ghost use Rattle.wax_program.specs.declared.instruction.Instruction.TheVariants.{Repeat};
 ghost use Rattle.wax_program.specs.declared.instruction.Test.TheVariants.{Any};
 
 use crate::instruction::{Instruction, Test};
-use crate::machine::{CompiledProgram, Meter, Visits};
+use crate::machine::{CompiledProgram, Meter};
 use std::alloc::AllocError;
 
 /// Parts the places of a program: writes those of `**` and of repeated tests into `loops`, and all
-/// others into `others`. A loop can lead to itself, so many sets have the same ones.
+/// others into `others`. A loop can lead to itself, so many sets have the same ones. Reads one
+/// instruction for each place.
 ///
 /// # Errors
 ///
@@ -21,13 +23,16 @@ pub fn part_loops(
     places: &[usize],
     loops: &mut Vec<usize>,
     others: &mut Vec<usize>,
+    meter: &mut Meter,
 ) -> Result<(), AllocError>
-    ensures { IfOk result (λ _. AreParts places.now loops.new.items others.new.items) }
+    ensures parts { IfOk result (λ _. AreParts places.now loops.new.items others.new.items) }
+    ensures above { meter.new ≤ meter.old + length places.now }
+    ensures steady { meter.old ≤ meter.new }
 {
     loops.clear();
     others.clear();
     for place in places {
-        if is_loop(program, *place) {
+        if is_loop(program, *place, meter) {
             loops.push(*place)?;
         } else {
             others.push(*place)?;
@@ -36,40 +41,46 @@ pub fn part_loops(
     Ok(())
 }
 
-/// Returns whether one of the places is that of a loop.
-pub fn has_loop(program: &CompiledProgram, places: &[usize]) -> bool {
-    places.iter().any(|place| is_loop(program, *place))
+/// Returns whether one of the places is that of a loop. Reads at most one instruction for each.
+pub fn has_loop(program: &CompiledProgram, places: &[usize], meter: &mut Meter) -> bool
+    ensures above { meter.new ≤ meter.old + length places.now }
+    ensures steady { meter.old ≤ meter.new }
+{
+    for place in places {
+        if is_loop(program, *place, meter) {
+            return true;
+        }
+    }
+    false
 }
 
-/// Returns whether the instruction at a place can lead to itself.
-fn is_loop(program: &CompiledProgram, at: usize) -> bool {
+/// Returns whether the instruction at a place can lead to itself. Reads at most that one.
+fn is_loop(program: &CompiledProgram, at: usize, meter: &mut Meter) -> bool
+    ensures above { meter.new ≤ meter.old + 1 }
+    ensures steady { meter.old ≤ meter.new }
+{
     if at >= program.size() {
         return false;
     }
-    let mut visits = Visits::new();
-    let mut meter = Meter::new();
-    let instruction = program.fetch(at, &mut visits);
-    let loops = matches!(
-        instruction,
+    matches!(
+        program.read(at, meter),
         Instruction::Repeat(_) | Instruction::Components
-    );
-    meter.add(visits);
-    loops
+    )
 }
 
 /// Returns whether the character passes the test of the check at a place. Returns `None` if there is
-/// no check.
-pub fn check_at(program: &CompiledProgram, at: usize, c: char) -> Option<bool>
+/// no check. Reads at most that instruction.
+pub fn check_at(program: &CompiledProgram, at: usize, c: char, meter: &mut Meter) -> Option<bool>
     ensures check { IfSome result (IsCheckAt program.now.0 at c) }
     ensures small { length program.now.0 < 2 ^ 64 }
+    ensures above { meter.new ≤ meter.old + 1 }
+    ensures steady { meter.old ≤ meter.new }
+    ensures below { IfSome result (λ _. min (meter.old + 1) most_ticks ≤ meter.new) }
 {
     if at >= program.size() {
         return None;
     }
-    let mut visits = Visits::new();
-    let passes = passes_check(program.fetch(at, &mut visits), c);
-    Meter::new().add(visits);
-    passes
+    passes_check(program.read(at, meter), c)
 }
 
 fn passes_check(instruction: &Instruction, c: char) -> Option<bool>
@@ -82,18 +93,22 @@ fn passes_check(instruction: &Instruction, c: char) -> Option<bool>
 }
 
 /// Returns a place from which the program accepts every text, if its last instruction repeats any
-/// character, as that of `/**` does.
-pub fn place_of_all(program: &CompiledProgram) -> Option<usize>
-    ensures { IfSome result (λ at. (s : List ℕ) → Accepts program.now.0 at s) }
+/// character, as that of `/**` does. Reads at most that instruction.
+pub fn place_of_all(program: &CompiledProgram, meter: &mut Meter) -> Option<usize>
+    ensures all { IfSome result (λ at. (s : List ℕ) → Accepts program.now.0 at s) }
+    ensures above { meter.new ≤ meter.old + 1 }
+    ensures steady { meter.old ≤ meter.new }
+    ensures below { IfSome result (λ _. min (meter.old + 1) most_ticks ≤ meter.new) }
 {
     if program.size() == 0 {
         return None;
     }
     let last = program.size() - 1;
-    let mut visits = Visits::new();
-    let repeats = repeats_any(program.fetch(last, &mut visits));
-    Meter::new().add(visits);
-    if repeats { Some(last) } else { None }
+    if repeats_any(program.read(last, meter)) {
+        Some(last)
+    } else {
+        None
+    }
 }
 
 fn repeats_any(instruction: &Instruction) -> bool

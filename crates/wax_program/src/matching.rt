@@ -5,7 +5,6 @@ ghost use Rattle.wax_program.specs.Meter.{most_ticks};
 ghost use Rattle.wax_bits.specs.Places.{IsEmpty};
 
 use crate::heap_sets::HeapSets;
-use crate::last::run_name;
 use crate::machine::{CompiledProgram, Meter};
 use crate::rounds::{finish, step};
 use crate::sets::Sets;
@@ -20,9 +19,6 @@ use wax_query::diagnostics::NoMemory;
 /// Reads at most `program.len()` instructions for each character, and as many at the end; the meter
 /// counts each of them. Stops once the rest of the text can't change the result. Allocates three
 /// bits for each instruction at the start, and nothing for a program of fewer than 64 instructions.
-///
-/// If the program is known to depend only on the last component, only that is read, and what is
-/// before it is counted by its bytes.
 ///
 /// # Errors
 ///
@@ -39,10 +35,6 @@ pub fn run(
         (λ b. IsTrue b → min (meter.old + length (chars text.now)) most_ticks ≤ meter.new) }
     ensures steady { meter.old ≤ meter.new }
 {
-    // A name of one instruction is read in no less time than a whole text, where the run ends early.
-    if program.reads_last() && program.size() > 3 && program.len() > 3 {
-        return run_name(alloc, program, text, meter);
-    }
     run_at(alloc, program, 0, text, meter)
 }
 

@@ -7,7 +7,7 @@ ghost use Rattle.wax_program.specs.Steady.{NotedRepeat};
 ghost use Rattle.wax_program.specs.Threads.{Advances};
 
 use crate::instruction::{Instruction, Test};
-use crate::machine::{CompiledProgram, Meter, Visits};
+use crate::machine::{CompiledProgram, Meter};
 use crate::sets::Sets;
 
 /// A set of places, held by a word, that leads back to itself by each character that the check at
@@ -117,9 +117,7 @@ pub fn stays<R: Sets>(
     if !sets.is_at(known.word) || (c == '/' && !known.by_slash) {
         return false;
     }
-    let mut visits = Visits::new();
-    let is_missed = misses(program.fetch(known.watch, &mut visits), c);
-    meter.add(visits);
+    let is_missed = misses(program.read(known.watch, meter), c);
     c == '/' || is_missed
 }
 

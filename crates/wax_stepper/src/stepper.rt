@@ -1,5 +1,5 @@
 //! Steps of a program by one character, from places that a caller keeps.
-ghost use Rattle.std.specs.Prelude.{◌≡◌, ◌↔◌, IfOk, IsFalse, IsTrue, [], length};
+ghost use Rattle.std.specs.Prelude.{◌≡◌, ◌+◌, ◌≤◌, ◌↔◌, IfOk, IsFalse, IsTrue, [], length};
 ghost use Rattle.wax_stepper.specs.Reached.{AreReached, taken_if};
 ghost use Rattle.wax_program.specs.Threads.{AnyAmong};
 
@@ -41,7 +41,8 @@ impl Stepper {
     /// Writes the places to which `places` lead by the character into `reached`, ascending, and
     /// also those in `also`, unless `places` lead to none. Then it writes nothing and returns
     /// `false`. Writes those that aren't due to `also` into `own`. Takes time in proportion to the
-    /// instructions that it reads and the places that it writes.
+    /// instructions that it reads, each at most once, and the places that it writes. The meter counts
+    /// the instructions.
     ///
     /// # Errors
     ///
@@ -54,6 +55,7 @@ impl Stepper {
         also: &[usize],
         reached: &mut Vec<usize>,
         own: &mut Vec<usize>,
+        meter: &mut Meter,
     ) -> Result<bool, AllocError>
         requires { self.old ≡ length program.now.0 }
         ensures same { self.new ≡ self.old }
@@ -61,9 +63,11 @@ impl Stepper {
             AreReached program.now.0 c places.now (taken_if leads also.now) reached.new.items) }
         ensures own { IfOk result (λ _. AreReached program.now.0 c places.now [] own.new.items) }
         ensures nowhere { IfOk result (λ leads. IsFalse leads → reached.new.items ≡ []) }
+        ensures above { meter.new ≤ meter.old + length program.now.0 }
+        ensures steady { meter.old ≤ meter.new }
     {
         self.sets.load(places);
-        advance(program, c, &mut self.sets, &mut Meter::new());
+        advance(program, c, &mut self.sets, meter);
         if self.sets.leads_nowhere() {
             self.sets.clear();
             reached.clear();
@@ -81,14 +85,22 @@ impl Stepper {
     }
 
     /// Returns whether a text may end here: whether the program, begun at one of the places,
-    /// accepts the empty text. Takes time in proportion to the instructions that it reads.
-    pub fn accepts(&mut self, program: &CompiledProgram, places: &[usize]) -> bool
+    /// accepts the empty text. Takes time in proportion to the instructions that it reads, each at
+    /// most once. The meter counts them.
+    pub fn accepts(
+        &mut self,
+        program: &CompiledProgram,
+        places: &[usize],
+        meter: &mut Meter,
+    ) -> bool
         requires { self.old ≡ length program.now.0 }
         ensures same { self.new ≡ self.old }
         ensures accepts { IsTrue result ↔ AnyAmong program.now.0 places.now [] }
+        ensures above { meter.new ≤ meter.old + length program.now.0 }
+        ensures steady { meter.old ≤ meter.new }
     {
         self.sets.load(places);
-        let ended = finish(program, &mut self.sets, &mut Meter::new());
+        let ended = finish(program, &mut self.sets, meter);
         self.sets.clear();
         ended
     }

@@ -1,5 +1,5 @@
 -- How pieces split a text, by their forms alone.
-use Rattle.std.specs.Prelude.{◌≡◌, ℕ, ◌+◌, ◌≤◌, List, [], ◌∷◌, ◌++◌, length, take, drop}
+use Rattle.std.specs.Prelude.{◌≡◌, ℕ, ◌+◌, ◌*◌, ◌≤◌, List, [], ◌∷◌, ◌++◌, length, take, drop}
 use Rattle.wax_lengths.specs.Prefers.{Prefers}
 use Rattle.wax_capture.specs.Pieces.{WayOf, captured_by, forms_of, size_of}
 use Rattle.wax_capture.specs.declared.piece.Piece.{Piece}
@@ -37,3 +37,7 @@ CapturedBy (p ∷ ps) s captures =
 abbrev pub all_sizes : List Piece → ℕ
 all_sizes [] = 0
 all_sizes (p ∷ ps) = size_of (forms_of p.ways) + all_sizes ps
+
+-- how many visits pieces that come to this take for a text of so many characters: a trial, and then the table
+abbrev pub split_visits : ℕ → ℕ → ℕ
+split_visits all m = 2 * (all * ((m + 1) * (m + 1))) + 2 * (all * (m + 1))

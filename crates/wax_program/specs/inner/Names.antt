@@ -1,9 +1,8 @@
 -- Instructions that read one component.
-use Rattle.std.specs.Prelude.{◌≡◌, ◌+◌, ◌≤◌, ℕ, Bool, IsTrue, List, Some, length, slice_get, ⊤}
+use Rattle.std.specs.Prelude.{◌≡◌, ◌+◌, ◌≤◌, ℕ, List, Some, slice_get, ⊤}
 use Rattle.wax_program.specs.declared.instruction.Instruction.{Instruction}
 use Rattle.wax_program.specs.declared.instruction.Instruction.TheVariants.{Check, Repeat, Components, Fork}
 use Rattle.wax_program.specs.declared.instruction.Instruction.TheVariants.{Jump, Back}
-use Rattle.wax_program.specs.Last.{ReadsLast}
 use Rattle.wax_program.specs.Machine.{PassesTest}
 
 -- the instruction at k takes no `/`, and leads to no place before 2 from any after it
@@ -19,7 +18,3 @@ StaysInName (Back n) k = n + 2 ≤ k
 abbrev pub StayInName : List Instruction → ℕ → Type 0
 StayInName code end =
     (k : ℕ) (i : Instruction) → 2 ≤ k → k + 1 ≤ end → slice_get code k ≡ Some i → StaysInName i k
-
--- if the flag is set, the program depends only on the last component of a text, from the place 2 on
-abbrev pub KnowsLast : Bool → List Instruction → Type 0
-KnowsLast reads_last code = IsTrue reads_last → ReadsLast code × (2 ≤ length code)

@@ -4,11 +4,12 @@ use Rattle.wax_token.specs.Cost.{costs}
 use Rattle.wax_capture.specs.Pieces.{ArePieces}
 use Rattle.wax_capture.specs.inner.Bytes.{in_bytes}
 use Rattle.wax_capture.specs.inner.Parts.{IsWithin, parts}
-use Rattle.wax_capture.specs.inner.Splits.{CapturedBy, all_sizes}
+use Rattle.wax_capture.specs.inner.Splits.{CapturedBy, all_sizes, split_visits}
 use Rattle.wax_capture.specs.declared.piece.Piece.{Piece}
 use Rattle.wax_capture.proofs.Built.{pieces_few}
 use Rattle.wax_capture.proofs.ByteParts.{text_all_parts, text_parts}
-use Rattle.wax_capture.proofs.Counting.{visits_cube, visits_square}
+use Rattle.wax_capture.proofs.Counting.{visits_cube, visits_square, visits_taken}
+use Rattle.wax_capture.proofs.Sizeless.{captured_length}
 use Rattle.wax_capture.proofs.Tied.{matched_only, none_means, some_matched}
 use Rattle.wax_capture.proofs.matching.Pieces.matched_counted.Goals as goal
 
@@ -25,7 +26,7 @@ returns-in_default-clause-square c = λ ts are.
     let same : ps ≡ c.args.self.now = search rules in
     let text : c.in_ok-characters.characters ≡ chars c.args.text.now = c.in_ok-characters.ensures in
     let m : ℕ = length (chars c.args.text.now) in
-    let read : c.split.new.visits ≤ c.new-visits.result + 4 * (all_sizes ps * ((m + 1) * (m + 1))) = rw text at c.split.ensures.above in
+    let read : c.split.new.visits ≤ c.new-visits.result + split_visits (all_sizes ps) m = rw text at c.split.ensures.above in
     visits_square (all_sizes ps) (costs ts) c.count.result m (pieces_few ts false false ps (subst (ArePieces ts false false) (sym same) are)) (omega (arith, read, c.new-visits.ensures, c.count.ensures.above))
 
 pub returns-in_default-clause-above : goal.returns-in_default-clause-above
@@ -55,8 +56,11 @@ returns-clause-square c = λ ts are.
     let same : ps ≡ c.args.self.now = search rules in
     let text : c.in_ok-characters.characters ≡ chars c.args.text.now = c.in_ok-characters.ensures in
     let m : ℕ = length (chars c.args.text.now) in
-    let read : c.split.new.visits ≤ c.new-visits.result + 4 * (all_sizes ps * ((m + 1) * (m + 1))) = rw text at c.split.ensures.above in
-    visits_square (all_sizes ps) (costs ts) c.count-2.result m (pieces_few ts false false ps (subst (ArePieces ts false false) (sym same) are)) (omega (arith, read, c.new-visits.ensures, c.count-2.ensures.above))
+    let read : c.split.new.visits ≤ c.new-visits.result + split_visits (all_sizes ps) m = rw text at c.split.ensures.above in
+    let captured : CapturedBy ps (chars c.args.text.now) (parts (chars c.args.text.now) c.in-Some.parts.items) = rw (c.in-Some.is, text) at c.in_ok-found.ensures.captured in
+    let taken : c.add_text.new.self ≤ c.split.new.visits + m = rw text at c.add_text.ensures.above in
+    visits_taken (all_sizes ps) (costs ts) c.count-2.result m (pieces_few ts false false ps (subst (ArePieces ts false false) (sym same) are))
+    (captured_length ps (chars c.args.text.now) _ captured) (omega (arith, read, taken, c.new-visits.ensures, c.count-2.ensures.above))
 
 pub returns-clause-above : goal.returns-clause-above
 returns-clause-above c = λ ts are. visits_cube (costs ts) c.count-2.result (length (chars c.args.text.now)) (returns-clause-square c ts are)

@@ -1,5 +1,6 @@
-use Rattle.std.proofs.Common.{◌≡◌, ◌+◌, ◌*◌, ◌/◌, [], refl, sym, ◌∙◌, inl, inr, arith, eqb-true}
+use Rattle.std.proofs.Common.{◌≡◌, ◌+◌, ◌*◌, ◌/◌, ℕ, List, [], refl, subst, sym, ◌∙◌, inl, inr, arith, eqb-true}
 use Rattle.std.proofs.lemmas.List.{nil_from_length}
+use Rattle.wax_program.specs.Threads.{AnyAmong}
 use Rattle.wax_states.specs.States.{IsTransition, places_at}
 use Rattle.wax_lazy.proofs.Caches.{cache_filled}
 use Rattle.wax_lazy.proofs.Tables.{dead_of_none, led, placed_keeps, places_keep, takes_all}
@@ -25,13 +26,13 @@ pub returns-then-takes_all-clause-cache : goal.returns-then-takes_all-clause-cac
 returns-then-takes_all-clause-cache c =
     let code = c.args.program.now.0 in
     let held = c.requires.cache in
-    let all = takes_all code c.args.c _ _ c.requires.next (c.takes_all.ensures c.if-takes_all.true) in
+    let all = takes_all code c.args.c _ _ c.requires.next (subst (λ z. (s : List ℕ) → AnyAmong c.args.program.now.0 z s) c.deref.ensures.value (c.takes_all.ensures.all c.if-takes_all.true)) in
     cache_filled code c.args.self.now _ c.args.at c.args.c 2 held c.requires.placed (inr (inr (inl (refl, all))))
     held.size refl refl c.write-then-takes_all.ensures.states c.write-then-takes_all.ensures.filled c.write-then-takes_all.ensures.unfilled c.write-then-takes_all.ensures.wide
 
 pub returns-then-takes_all-clause-leads : goal.returns-then-takes_all-clause-leads
 returns-then-takes_all-clause-leads c =
-    takes_all c.args.program.now.0 c.args.c _ _ c.requires.next (c.takes_all.ensures c.if-takes_all.true)
+    takes_all c.args.program.now.0 c.args.c _ _ c.requires.next (subst (λ z. (s : List ℕ) → AnyAmong c.args.program.now.0 z s) c.deref.ensures.value (c.takes_all.ensures.all c.if-takes_all.true))
 
 pub returns-clause-cache : goal.returns-clause-cache
 returns-clause-cache c =

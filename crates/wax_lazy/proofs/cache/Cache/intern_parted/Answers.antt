@@ -15,7 +15,7 @@ intern-requires-2-clause-rest c =
     let here = at_number states number ∙ made.places_are ∙ ap (λ z. z.items) c.swap.ensures.x_after in
     let all = ap (λ z. z.items) (c.swap-2.ensures.x_after ∙ lists.loops ∙ c.swap.ensures.y_after) in
     let others = ap (λ z. z.items) lists.others in
-    let parts = subst (λ z. AreParts z c.part_loops.new.loops.items c.part_loops.new.others.items) c.deref-2.ensures.value c.in_ok-part_loops.ensures in
+    let parts = subst (λ z. AreParts z c.part_loops.new.loops.items c.part_loops.new.others.items) c.deref-2.ensures.value c.in_ok-part_loops.ensures.parts in
     let union = union_of_parts code _ _ _ parts in
     record {
       placed = placed_number states number made.known;

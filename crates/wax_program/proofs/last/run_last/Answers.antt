@@ -1,6 +1,6 @@
 use Rattle.std.proofs.Common.{length, arith, chars}
 use Rattle.wax_program.proofs.LastNames.{counted_name, name_decides, same_answer}
-use Rattle.wax_program.proofs.last.run_name.Goals as goal
+use Rattle.wax_program.proofs.last.run_last.Goals as goal
 
 pub returns-clause-decides : goal.returns-clause-decides
 returns-clause-decides c =
@@ -14,4 +14,4 @@ returns-clause-above c =
     counted_name c.args.program.now.1 c.args.meter.now c.skip.new.self c.run_at.new.meter
     (length c.args.text.now) (length c.last_name-name.result.now)
     (length (chars c.args.text.now)) (length (chars c.last_name-name.result.now))
-    c.requires.long cut.bytes cut.most (omega (arith, c.skip.ensures.counted)) c.run_at.ensures.above
+    (omega (arith, c.size.ensures.few, c.size.ensures.size, c.if-size-le3.false)) cut.bytes cut.most (omega (arith, c.skip.ensures.counted)) c.run_at.ensures.above
