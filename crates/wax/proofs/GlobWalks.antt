@@ -16,6 +16,7 @@ use Rattle.wax_tree.specs.Begins.{BeginsAt, FailsFrom, FailsNowhere, HasEnded, L
 use Rattle.wax_tree.specs.declared.steps.DepthRange.{DepthRange}
 use Rattle.wax_tree.specs.Plain.{count_shown}
 use Rattle.wax_walk.specs.Ruled.{ruled_view}
+use Rattle.wax_walk.proofs.Following.{lacks_ruled}
 use Rattle.wax_walk.specs.View.{IsSeenAs, WalkView}
 use Rattle.wax_tree.specs.Prefix.{ArePlain}
 use Rattle.wax_exclude.specs.Wanted.{Filter}
@@ -227,6 +228,13 @@ module _ {D C : Type 0} (g : GlobView) (law : Law D C) (d : D) (start : List ℕ
     idle_along (is_too_deep a less) =
         seen.idles (inr ((begins_so a).idle (subst (λ ns. walked.max < length ns) (same_names a) less)))
 
+    too_deep : range.max < length (origin_from start rooted names).names → (a : Beginning g.tree)
+        → walked.max < length a.names
+    too_deep l a =
+        let all : (origin_from start rooted names).names ≡ a.names =
+        sym (names_are start rooted names) ∙ (same_beginning a).1 in
+        subst (λ r. r.max < length a.names) same_range (subst (λ ns. range.max < length ns) all l)
+
     pub begins_along : BeginsGlob g.tree law d start asked view
     begins_along = record {
       depth = depth;
@@ -245,7 +253,10 @@ module _ {D C : Type 0} (g : GlobView) (law : Law D C) (d : D) (start : List ℕ
       none_listed = seen.listings_open ∙ b.none_listed;
       begun = elim b.begun [
         | inl e ↦ inl (seen.to_begin ∙ e)
-        | inr e ↦ inr (seen.idles (inr e.0), seen.to_begin ∙ e.1)
+        | inr e ↦ inr (seen.idles (inr e.0), seen.to_begin ∙ e.1, elim e.2 [
+          | inl l ↦ inl (too_deep l)
+          | inr t ↦ inr (lacks_ruled inner view (leading_mark (component_test {A = Span}) cs decides g) seen t)
+        ])
       ];
       none_to_open = seen.to_open ∙ b.none_to_open;
       yields_from = seen.yields_from ∙ b.yields_from ∙ ap (λ r. r.min) same_range;
@@ -270,7 +281,8 @@ module _ {D C : Type 0} (g : GlobView) (law : Law D C) (d : D) (start : List ℕ
     names = λ a. omega (arith, seen.names_left, b.names);
     fails = λ a. fails_nowhere inner rule asked.min (origin_from start a.rooted a.names).path a.names b.fails seen;
     none_listed = seen.listings_open ∙ b.none_listed;
-    begun = inr (seen.idles (inr b.idle), seen.to_begin ∙ b.begun);
+    begun = inr (seen.idles (inr b.idle), seen.to_begin ∙ b.begun, inl (λ a.
+        absurd (a.names_are.unbroken (known a.taken a.prefix a.prefix_is))));
     none_to_open = seen.to_open ∙ b.none_to_open;
     yields_from = seen.yields_from ∙ b.yields_from ∙ ap (λ r. r.min) same;
     opens_above = seen.opens_above ∙ b.opens_above ∙ ap (λ r. r.max) same;
@@ -296,7 +308,8 @@ module _ {D C : Type 0} (g : GlobView) (law : Law D C) (d : D) (start : List ℕ
     names = λ a. omega (arith, seen.names_left, b.names);
     fails = λ a. fails_nowhere inner (leading_mark (component_test {A = Span}) cs decides g) asked.min (origin_from start a.rooted a.names).path a.names b.fails seen;
     none_listed = seen.listings_open ∙ b.none_listed;
-    begun = inr (seen.idles (inr b.idle), seen.to_begin ∙ b.begun);
+    begun = inr (seen.idles (inr b.idle), seen.to_begin ∙ b.begun, inr
+        (lacks_ruled inner view (leading_mark (component_test {A = Span}) cs decides g) seen b.takes));
     none_to_open = seen.to_open ∙ b.none_to_open;
     yields_from = seen.yields_from ∙ b.yields_from ∙ ap (λ r. r.min) same;
     opens_above = seen.opens_above ∙ b.opens_above ∙ ap (λ r. r.max) same;

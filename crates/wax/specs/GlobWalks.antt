@@ -112,7 +112,7 @@ pub record BeginsGlob {D C : Type 0} (t : Tree Span) (law : Law D C) (d : D) (st
   pub fails : (b : Beginning t) → FailsFrom asked.min (origin_from start b.rooted b.names).path b.names view
   -- no listing is open, and folders are opened above the lesser greatest depth
   pub none_listed : view.listings_open ≡ 0
-  pub begun : IsBegun view
+  pub begun : IsBegun ((b : Beginning t) → (within asked depth).max < length b.names) view
   pub none_to_open : view.to_open ≡ 0
   pub yields_from : view.yields_from ≡ asked.min
   pub opens_above : view.opens_above ≡ (within asked depth).max
@@ -143,7 +143,10 @@ pub record GaveWithin {D C : Type 0} (t : Tree Span) (law : Law D C) (d : D) (as
   pub refused : ℕ
   pub refuses : refused ≤ (all_fault_counts xs).failures
   pub begun : ℕ
-  pub begun_is : (begun ≡ 1) ⊎ ((begun ≡ 0) × (new ≡ d))
+  -- the walk began, or it leads nowhere, or it was only told that memory ran out
+  pub begun_is : (begun ≡ 1) ⊎ ((begun ≡ 0) × (new ≡ d)
+      × (((depth : Bounds) × Depth t depth × ((b : Beginning t) → up_to asked.max depth.1 < length b.names))
+      ⊎ ¬ (NoMemoryError xs)))
   pub gives : NoMemoryError xs → taken + (refused + begun) ≡ length xs + passed
   pub folders : ℕ
   pub folders_passed : folders ≤ passed

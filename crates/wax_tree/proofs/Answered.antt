@@ -7,7 +7,7 @@ use Rattle.wax_directory.specs.declared.directory.FileType.TheVariants.{Folder}
 use Rattle.wax_directory.specs.History.{Answer}
 use Rattle.wax_directory.specs.Shown.{Items, end, leaf, folder, sealed, misnamed, unread, not_text, Shown}
 use Rattle.wax_directory.specs.Shown.{a_leaf, a_folder, a_sealed, missing, failing, leaf_kind, join}
-use Rattle.wax_walk.specs.Collected.{EndsThere, TookCourse, whole, cut_short}
+use Rattle.wax_walk.specs.Collected.{EndsThere, NoMemoryError, TookCourse, whole, cut_short}
 use Rattle.wax_walk.specs.Course.{IsStartOf, DirectoryCall, Course, CutsShort, IsKnownFirst, IsKnownWhole, answers, asks, calls_of}
 use Rattle.wax_walk.specs.Course.{continued, items_of, stop, unknown, yields}
 use Rattle.wax_walk.specs.declared.error.FaultKind.TheVariants as K
@@ -17,7 +17,7 @@ use Rattle.wax_walk.specs.View.{MayTake, WalkView}
 use Rattle.wax_walk.proofs.Collecting.{preorder_append}
 use Rattle.wax_walk.proofs.Courses.{begins_whole, comes_first}
 use Rattle.wax_tree.specs.declared.steps.DepthRange.{DepthRange}
-use Rattle.wax_tree.specs.Begins.{StartTakes, lacking_start, scope_in, walks}
+use Rattle.wax_tree.specs.Begins.{OnlyLacks, StartTakes, lacking_start, scope_in, walks}
 use Rattle.wax_tree.specs.Courses.{IsNamed, below_course, course_above_max, course_at_depth, entry_course}
 use Rattle.wax_tree.specs.Courses.{items_course, plain_course}
 use Rattle.wax_tree.specs.Plain.{WalkScope, Location, above_max, at_depth, below_forest, entry_forest, item_location}
@@ -26,6 +26,10 @@ use Rattle.wax_tree.specs.Whole.{EntriesAnswered, as_told, calls_for, told_in_pa
 use Rattle.wax_tree.specs.Whole as all
 use Rattle.wax_tree.proofs.InRange.{plain_yielded}
 use Rattle.wax_tree.proofs.Kept.{error_kept, first_kept}
+
+no_calls : (before : List DirectoryCall) (q : DirectoryCall) → [] ≡ before ++ q ∷ [] → ⊥
+no_calls [] q e = cc
+no_calls (p ∷ before) q e = cc
 
 -- the course is whole and yields what the forest does
 pub record Yields (c : Course) (f : Forest Given) : Type 0 where
@@ -124,6 +128,33 @@ module _ (scope : WalkScope) where
       nothing_yields)
   plain_yields missing = record { is_whole = (tt, tt); items = refl }
   plain_yields failing = record { is_whole = (tt, tt); items = refl }
+
+-- a walk that may take only the error that allocation failed gave that error
+pub lacks_given : {D : Type 0} (view : WalkView D) (told : List Answer) (xs : List Given) → OnlyLacks view
+    → TookCourse view told xs → ¬ (NoMemoryError xs)
+lacks_given view told xs lacks (whole c t w e f) n =
+    let same = begins_whole c (yields no_memory stop stop) w (lacks c t) in
+    absurd ((subst NoMemoryError (f ∙ ap items_of same) n).0 tt)
+lacks_given view told xs lacks (cut_short c x t first e f s) n =
+    absurd (none c (lacks c t) (subst NoMemoryError f n) s) where
+      none : (c : Course) → IsStartOf c (yields no_memory stop stop) → NoMemoryError (items_of c ++ x ∷ [])
+          → CutsShort (calls_of c) x → ⊥
+      none unknown b n s = not_first x n s where
+        not_first : (x : Given) → NoMemoryError (x ∷ []) → CutsShort [] x → ⊥
+        not_first no_memory n s = n.0 tt
+        not_first (entry m g) n s = s
+        not_first (fault K.NotFound path depth) n s = s
+        not_first (fault K.NotAFolder path depth) n s = s
+        not_first (fault K.Listing path depth) n s = s
+        not_first (fault K.BadName path depth) n s = s
+        not_first (fault K.NotText path depth) n s = s
+        not_first (fault K.Budget path depth) n s = no_calls s.0 _ s.2
+      none stop b n s = let i : yields no_memory stop stop ≡ stop = b in (cc)
+      none (asks q c) b n s = let i : yields no_memory stop stop ≡ asks q b.0 = b.1 in (cc)
+      none (yields y d a) b n s =
+          let i : yields no_memory stop stop ≡ yields y b.0 b.1 = b.2 in
+          let same : y ≡ no_memory = cc in
+          (subst (λ z. NoMemoryError (z ∷ ((items_of d ++ items_of a) ++ x ∷ []))) same n).0 tt
 
 -- an error that cuts a course short is kept
 cutting_kept : (calls : List DirectoryCall) (x : Given) → CutsShort calls x → is_kept x ≡ true

@@ -358,7 +358,7 @@ ended_at law d origin range view h l = record {
   listings = h.listings;
   names = omega (arith, h.names);
   none_listed = h.none_listed;
-  begun = inr (h.idle, h.begun);
+  begun = inr (h.idle, h.begun, inl l);
   none_to_open = h.none_to_open;
   yields_from = h.yields_from;
   opens_above = h.opens_above;
@@ -378,7 +378,7 @@ lacking_at law d origin range view h l = record {
   listings = h.listings;
   names = omega (arith, h.names);
   none_listed = h.none_listed;
-  begun = inr (h.idle, h.begun);
+  begun = inr (h.idle, h.begun, inr h.takes);
   none_to_open = h.none_to_open;
   yields_from = h.yields_from;
   opens_above = h.opens_above;
@@ -409,7 +409,10 @@ begins_plain law d start names range view e b =
       listings = b.listings;
       names = omega (arith, b.names, long);
       none_listed = b.none_listed;
-      begun = b.begun;
+      begun = elim b.begun [
+        | inl e ↦ inl e
+        | inr i ↦ inr (i.0, i.1, elim i.2 [ inl l ↦ absurd (omega (arith, l, long)) | inr t ↦ inr t ])
+      ];
       none_to_open = b.none_to_open;
       yields_from = b.yields_from;
       opens_above = b.opens_above;

@@ -56,9 +56,15 @@ pub record FailsNowhere {D : Type 0} (view : WalkView D) : Type 0 where
   pub at : (path : List ℕ) (depth : ℕ) → ¬ (view.may_fail path depth)
   pub below : (path : List ℕ) (depth : ℕ) → ¬ (view.may_fail_below path depth)
 
--- the entry where the walk begins is still to come; or the walk leaves the directory as it is
-abbrev pub IsBegun : {D : Type 0} → WalkView D → Type 0
-IsBegun view = (view.to_begin ≡ 1) ⊎ (view.is_idle × (view.to_begin ≡ 0))
+-- the walk may take nothing but the error that allocation failed
+abbrev pub OnlyLacks : {D : Type 0} → WalkView D → Type 0
+OnlyLacks view = (c : Course) → MayTake view c → course.IsStartOf c (yields no_memory stop stop)
+
+-- the entry where the walk begins is still to come; or the walk leaves the directory as it is, since it leads
+-- nowhere or allocation failed
+abbrev pub IsBegun : {D : Type 0} → Type 0 → WalkView D → Type 0
+IsBegun nowhere view =
+    (view.to_begin ≡ 1) ⊎ (view.is_idle × (view.to_begin ≡ 0) × (nowhere ⊎ OnlyLacks view))
 
 -- what a walk may take: the course of a tree; or only the error that allocation failed
 pub data StartTakes (scope : WalkScope) (c : Course) : Type 0 where
@@ -75,7 +81,7 @@ pub record Begins {D C : Type 0} (law : Law D C) (d : D) (start : List ℕ) (ran
   pub listings : view.listings_left ≡ range.budget + 1
   pub names : view.names_left ≡ 0
   pub none_listed : view.listings_open ≡ 0
-  pub begun : IsBegun view
+  pub begun : IsBegun ⊥ view
   pub none_to_open : view.to_open ≡ 0
   pub yields_from : view.yields_from ≡ range.min
   pub opens_above : view.opens_above ≡ range.max
@@ -119,7 +125,7 @@ pub record BeginsAt {D C : Type 0} (law : Law D C) (d : D) (origin : Origin) (ra
   pub listings : view.listings_left ≡ range.budget + 1
   pub names : view.names_left ≤ length origin.names
   pub none_listed : view.listings_open ≡ 0
-  pub begun : IsBegun view
+  pub begun : IsBegun (range.max < length origin.names) view
   pub none_to_open : view.to_open ≡ 0
   pub yields_from : view.yields_from ≡ range.min
   pub opens_above : view.opens_above ≡ range.max
@@ -149,7 +155,7 @@ pub record HasEnded {D C : Type 0} (law : Law D C) (d : D) (range : DepthRange)
 pub record LacksMemory {D C : Type 0} (law : Law D C) (d : D) (range : DepthRange)
     (view : WalkView D) : Type 0 where
   pub comes : (p : Pending Given) → law.tells d p.listed → view.to_come p
-  pub takes : (c : Course) → MayTake view c → course.IsStartOf c (yields no_memory stop stop)
+  pub takes : OnlyLacks view
   pub idle : view.is_idle
   pub listings : view.listings_left ≡ range.budget + 1
   pub names : view.names_left ≡ 0

@@ -2,12 +2,14 @@
 use Rattle.std.proofs.Common.{◌≡◌, ◌∙◌, Bool, true, false, List, [], ◌∷◌, ◌++◌, refl, sym, ap, subst, inl, inr}
 use Rattle.std.specs.Prelude.{Option, Some, None}
 use Rattle.wax_walk.specs.Course.{Ahead, AheadFiltered, DirectoryCall, Course, CutsShort, ComesBelow, IsFiltered, IsNothing}
-use Rattle.wax_walk.specs.Course.{IsStartOf, ahead, asking, yields, stop, unknown}
+use Rattle.wax_walk.specs.Course.{IsStartOf, ahead, all_ahead, asking, asks, continued, yields, stop, unknown}
 use Rattle.wax_walk.specs.Given.{Given, Mark, entry, fault, no_memory, with_mark, is_cut}
 use Rattle.wax_walk.specs.Laws.{filtered_nothing}
-use Rattle.wax_walk.specs.View.{WalkView, CancelStep, Follows, MayTake, went_on, ended_so, was_cut}
+use Rattle.wax_walk.specs.Candidates.{Candidate, of_candidate}
+use Rattle.wax_walk.specs.Ruled.{IsMarkBy, ruled_view}
+use Rattle.wax_walk.specs.View.{WalkView, CancelStep, Follows, IsSeenAs, MayTake, went_on, ended_so, was_cut}
 use Rattle.wax_walk.proofs.Courses.{begins_itself, filtered_asking, filtered_begun, filtered_parts}
-use Rattle.wax_walk.proofs.Courses.{filtered_widened}
+use Rattle.wax_walk.proofs.Courses.{filtered_unknown, filtered_widened}
 
 -- an error that cuts a course short isn't marked
 cuts_marked : (calls : List DirectoryCall) (x : Given) (m : Mark) → CutsShort calls x → CutsShort calls (with_mark x m)
@@ -96,3 +98,56 @@ module _ {D : Type 0} (v w outer new : WalkView D) (allows later : Given → Mar
         let same : z ≡ x = cc in
         let k : CutsShort calls (with_mark x m) = cuts_marked calls x m (subst (CutsShort calls) same s) in
         was_cut y refl (subst (CutsShort calls) (sym marked) k) (ended h) (idle i)
+
+-- ---- a walk after a rule
+
+filtered_both : (allows : Given → Mark → Type 0) (b a d e : Course) → IsFiltered allows b d → IsFiltered allows a e
+    → IsFiltered allows (continued b a) (continued d e)
+filtered_both allows unknown a d e h k = ap (λ z. continued z e) h
+filtered_both allows stop a d e h k = elim h [
+  | inl i ↦ subst (λ z. IsFiltered allows a (continued z e)) (sym i) (filtered_unknown allows a)
+  | inr i ↦ subst (λ z. IsFiltered allows a (continued z e)) (sym i) k
+]
+filtered_both allows (asks q b) a d e h k = elim h [
+  | inl i ↦ inl (ap (λ z. continued z e) i)
+  | inr i ↦ inr (continued i.0 e, ap (λ z. continued z e) i.1, filtered_both allows b a i.0 e i.2 k)
+]
+filtered_both allows (yields x c b) a d e h k = elim h [
+  | inl i ↦ inl (ap (λ z. continued z e) i)
+  | inr i ↦ inr (i.0, i.1, i.2, continued i.3 e, ap (λ z. continued z e) i.4, i.5,
+      filtered_both allows b a i.3 e i.6 k)
+]
+
+-- of a walk that may take only the error that allocation failed, a rule leaves only that
+lacks_filtered : (allows : Given → Mark → Type 0) (c d : Course) → IsStartOf c (yields no_memory stop stop)
+    → IsFiltered allows c d → IsStartOf d (yields no_memory stop stop)
+lacks_filtered allows unknown d b h = subst (λ z. IsStartOf z (yields no_memory stop stop)) (sym h) tt
+lacks_filtered allows stop d b h = absurd (let i : yields no_memory stop stop ≡ stop = b in (cc))
+lacks_filtered allows (asks q c) d b h = absurd (let i : yields no_memory stop stop ≡ asks q b.0 = b.1 in (cc))
+lacks_filtered allows (yields x c a) d b h =
+    let i : yields no_memory stop stop ≡ yields x b.0 b.1 = b.2 in
+    let same : x ≡ no_memory = cc in
+    let under : b.0 ≡ stop = cc in
+    let rest : b.1 ≡ stop = cc in
+    elim h [
+      | inl e ↦ subst (λ z. IsStartOf z (yields no_memory stop stop)) (sym e) tt
+      | inr k ↦
+          let below = nothing_below (is_cut x k.0) k.2 k.5 (subst (IsStartOf c) under b.3) in
+          let after = filtered_nothing allows a k.3 (subst (IsStartOf a) rest b.4) k.6 in
+          let is : d ≡ yields no_memory k.2 k.3 = k.4 ∙ ap (λ z. yields (with_mark z k.0) k.2 k.3) same in
+          subst (λ z. IsStartOf z (yields no_memory stop stop)) (sym is) (stop, stop, refl, below, after)
+    ] where
+      nothing_below : (cut : Bool) (e : Course) → ComesBelow cut (IsFiltered allows c e) e → IsNothing c → IsNothing e
+      nothing_below true e h n = h
+      nothing_below false e h n = filtered_nothing allows c e n h
+
+pub lacks_ruled : {D : Type 0} (inner outer : WalkView D) (rule : Candidate → Mark)
+    → IsSeenAs (ruled_view inner rule false) outer
+    → ((c : Course) → MayTake inner c → IsStartOf c (yields no_memory stop stop))
+    → (c : Course) → MayTake outer c → IsStartOf c (yields no_memory stop stop)
+lacks_ruled inner outer rule seen lacks c t =
+    let a = seen.may_come t.0 t.1 in
+    let allows = IsMarkBy (of_candidate rule) in
+    lacks_filtered allows (all_ahead a.0) c (lacks (all_ahead a.0) (a.0, a.1, refl))
+    (subst (IsFiltered allows (all_ahead a.0)) t.2
+    (filtered_both allows a.0.below a.0.after t.0.below t.0.after a.2 a.3))
