@@ -1,5 +1,5 @@
 -- What comes of a walk less what a pattern means or what lines ignore.
-use Rattle.std.proofs.Common.{◌≡◌, ◌∙◌, List, ap, false, sym}
+use Rattle.std.proofs.Common.{◌≡◌, ◌∙◌, List, ap, false, subst, sym}
 use Rattle.wax_directory.specs.Law.{Law}
 use Rattle.wax_exclude.proofs.ListingLines.{says_lines}
 use Rattle.wax_exclude.proofs.Wanting.{comes_excluding}
@@ -16,7 +16,14 @@ use Rattle.wax_walk.specs.Candidates.{Candidate}
 use Rattle.wax_walk.specs.Given.{Mark}
 use Rattle.wax_walk.specs.Ruled.{ruled_view}
 use Rattle.wax_walk.specs.View.{IsSeenAs, WalkView}
-use Rattle.wax.specs.Exclusions.{IsExclusionOf}
+use Rattle.wax.specs.Exclusions.{IsExclusionOf, IsWalkExcluding}
+
+-- the walk is without what the pattern means if the rule is that of its tree
+pub excludes_pattern : {D : Type 0} (inner outer : WalkView D) (SpellsTree : Tree Span → Type 0)
+    (rule : Candidate → Mark) → IsExclusionOf SpellsTree rule → IsSeenAs (ruled_view inner rule false) outer
+    → IsWalkExcluding SpellsTree inner outer
+excludes_pattern inner outer SpellsTree rule is seen =
+    (is.0, is.1, subst (λ r. IsSeenAs (ruled_view inner r false) outer) is.2 seen)
 
 module _ {D C : Type 0} (law : Law D C) (inner outer : WalkView D) where
   -- the tree that is spelled is the only one

@@ -253,10 +253,14 @@ module _ {D C : Type 0} (g : GlobView) (law : Law D C) (d : D) (start : List ℕ
       none_listed = seen.listings_open ∙ b.none_listed;
       begun = elim b.begun [
         | inl e ↦ inl (seen.to_begin ∙ e)
-        | inr e ↦ inr (seen.idles (inr e.0), seen.to_begin ∙ e.1, elim e.2 [
-          | inl l ↦ inl (too_deep l)
-          | inr t ↦ inr (lacks_ruled inner view (leading_mark (component_test {A = Span}) cs decides g) seen t)
-        ])
+        | inr e ↦ inr (
+          seen.idles (inr e.0),
+          seen.to_begin ∙ e.1,
+          elim e.2 [
+            | inl l ↦ inl (too_deep l)
+            | inr t ↦ inr (lacks_ruled inner view (leading_mark (component_test {A = Span}) cs decides g) seen t)
+          ],
+        )
       ];
       none_to_open = seen.to_open ∙ b.none_to_open;
       yields_from = seen.yields_from ∙ b.yields_from ∙ ap (λ r. r.min) same_range;
@@ -281,8 +285,12 @@ module _ {D C : Type 0} (g : GlobView) (law : Law D C) (d : D) (start : List ℕ
     names = λ a. omega (arith, seen.names_left, b.names);
     fails = λ a. fails_nowhere inner rule asked.min (origin_from start a.rooted a.names).path a.names b.fails seen;
     none_listed = seen.listings_open ∙ b.none_listed;
-    begun = inr (seen.idles (inr b.idle), seen.to_begin ∙ b.begun, inl (λ a.
-        absurd (a.names_are.unbroken (known a.taken a.prefix a.prefix_is))));
+    begun = inr (
+      seen.idles (inr b.idle),
+      seen.to_begin ∙ b.begun,
+      inl (λ a.
+          absurd (a.names_are.unbroken (known a.taken a.prefix a.prefix_is))),
+    );
     none_to_open = seen.to_open ∙ b.none_to_open;
     yields_from = seen.yields_from ∙ b.yields_from ∙ ap (λ r. r.min) same;
     opens_above = seen.opens_above ∙ b.opens_above ∙ ap (λ r. r.max) same;
@@ -308,8 +316,12 @@ module _ {D C : Type 0} (g : GlobView) (law : Law D C) (d : D) (start : List ℕ
     names = λ a. omega (arith, seen.names_left, b.names);
     fails = λ a. fails_nowhere inner (leading_mark (component_test {A = Span}) cs decides g) asked.min (origin_from start a.rooted a.names).path a.names b.fails seen;
     none_listed = seen.listings_open ∙ b.none_listed;
-    begun = inr (seen.idles (inr b.idle), seen.to_begin ∙ b.begun, inr
-        (lacks_ruled inner view (leading_mark (component_test {A = Span}) cs decides g) seen b.takes));
+    begun = inr (
+      seen.idles (inr b.idle),
+      seen.to_begin ∙ b.begun,
+      inr
+          (lacks_ruled inner view (leading_mark (component_test {A = Span}) cs decides g) seen b.takes),
+    );
     none_to_open = seen.to_open ∙ b.none_to_open;
     yields_from = seen.yields_from ∙ b.yields_from ∙ ap (λ r. r.min) same;
     opens_above = seen.opens_above ∙ b.opens_above ∙ ap (λ r. r.max) same;

@@ -54,11 +54,18 @@ gave_within t law d start asked v rule new xs begins took = let over = begins.di
   refused = took.refused;
   refuses = took.refuses;
   begun = v.to_begin;
-  begun_is = elim begins.begun [ inl e ↦ inl e | inr e ↦ inr (e.1, took.unasked (inr e.0) ∙ over, elim e.2 [
-    | inl l ↦ inl (begins.depth, begins.depth_is, l)
-    | inr t ↦ inr (lacks_given (ruled_view v rule false) took.told xs
-        (lacks_ruled v (ruled_view v rule false) rule (seen_itself (ruled_view v rule false)) t) took.course)
-  ]) ];
+  begun_is = elim begins.begun [
+    | inl e ↦ inl e
+    | inr e ↦ inr (
+      e.1,
+      took.unasked (inr e.0) ∙ over,
+      elim e.2 [
+        | inl l ↦ inl (begins.depth, begins.depth_is, l)
+        | inr t ↦ inr (lacks_given (ruled_view v rule false) took.told xs
+            (lacks_ruled v (ruled_view v rule false) rule (seen_itself (ruled_view v rule false)) t) took.course)
+      ],
+    )
+  ];
   gives = took.gives;
   folders = took.folders;
   folders_passed = took.folders_passed;

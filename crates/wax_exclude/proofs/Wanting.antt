@@ -45,7 +45,7 @@ module _ {D C : Type 0} (law : Law D C) where
   ]
 
   -- what a walk yielded, by a view that this one implies
-  took_seen : (this that : WalkView D) (new : D) (xs : List Given) → IsSeenAs this that
+  pub took_seen : (this that : WalkView D) (new : D) (xs : List Given) → IsSeenAs this that
       → Took law that new xs → Took law this new xs
   took_seen this that new xs seen took = record {
     all = λ p h.

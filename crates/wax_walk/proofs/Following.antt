@@ -114,8 +114,15 @@ filtered_both allows (asks q b) a d e h k = elim h [
 ]
 filtered_both allows (yields x c b) a d e h k = elim h [
   | inl i ↦ inl (ap (λ z. continued z e) i)
-  | inr i ↦ inr (i.0, i.1, i.2, continued i.3 e, ap (λ z. continued z e) i.4, i.5,
-      filtered_both allows b a i.3 e i.6 k)
+  | inr i ↦ inr (
+    i.0,
+    i.1,
+    i.2,
+    continued i.3 e,
+    ap (λ z. continued z e) i.4,
+    i.5,
+    filtered_both allows b a i.3 e i.6 k,
+  )
 ]
 
 -- of a walk that may take only the error that allocation failed, a rule leaves only that

@@ -1,5 +1,5 @@
 //! Walks of globs.
-ghost use Rattle.std.specs.Prelude.{◌≡◌, ◌≤◌, ◌+◌, ◌*◌, ℕ, Bool, List, IfOk, MatchOption, map};
+ghost use Rattle.std.specs.Prelude.{◌≡◌, ◌≤◌, ◌+◌, ◌*◌, ℕ, Bool, List, IfOk, MatchOption, length, map};
 ghost use Rattle.wax_components.specs.Depth.{Depth};
 ghost use Rattle.wax_facts.specs.Prefix.{Prefix};
 ghost use Rattle.wax_glob_walk.specs.Matches.{IsMatchedEntry};
