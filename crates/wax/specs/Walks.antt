@@ -4,6 +4,7 @@ pub use Rattle.wax_directory.specs.Calls.{Nexts, OpensAt, TellsOpened}
 pub use Rattle.wax_directory.specs.Copies.{IsCopy}
 pub use Rattle.wax_directory.specs.Counting.{Counts, after_counting, end_counts, item_counts, kind_counts}
 pub use Rattle.wax_directory.specs.Counting.{next_counts, no_counts, opening_counts}
+pub use Rattle.wax_directory.specs.History.{kind_answers, next_answers, opening_answers}
 pub use Rattle.wax_directory.specs.Law.{HoldsLast, HoldsSame, Law, ShowsSame}
 pub use Rattle.wax_directory.specs.Listing.{CountsListed, HeldWhereShown, TellsListed}
 pub use Rattle.wax_directory.specs.Names.{is_plain, is_rooted}
