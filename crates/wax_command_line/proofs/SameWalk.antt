@@ -15,7 +15,7 @@ use Rattle.wax_command_line.specs.Wanted.{WroteFirst, WroteWanted}
 ruled_seen : {D : Type 0} (v u : WalkView D) (rule : Candidate → Mark) → IsSeenAs v u
     → IsSeenAs (ruled_view v rule false) (ruled_view u rule false)
 ruled_seen v u rule seen = record {
-  to_come = λ q h. (h.0, h.1, seen.to_come h.1 h.2, h.3);
+  to_come = λ q h. (h.0, (h.1.0, seen.to_come h.1.0 h.1.1, h.1.2));
   may_come = λ a h. (h.0, seen.may_come h.0 h.1, h.2, h.3);
   directory = seen.directory;
   listings_left = seen.listings_left;
