@@ -21,7 +21,7 @@ use Rattle.wax_commands.specs.Files.{FileAnswers}
 use Rattle.wax_command_line.specs.Commands.{SayEach, WalkOption, WalkRequest}
 use Rattle.wax_commands.specs.Refused.{IsRefused}
 use Rattle.wax_commands.specs.Walked.{KeepsAllWanted}
-use Rattle.wax_glob_walk.specs.Programs.{any_mark}
+use Rattle.wax.specs.Walks.{any_mark}
 use Rattle.wax.proofs.Kept.{gave_within}
 use Rattle.wax_commands.specs.Walked.{AreAskedByAll, AreBuilt, Environment, HasRefused, OnWalk, WalkEnds, WalkGlobs, done, faulty, no_filter, no_glob}
 use Rattle.wax_commands.specs.Walked.{range_in, refused, stopped}
