@@ -175,7 +175,7 @@ module _ {D C : Type 0} (g : GlobView) (law : Law D C) (d : D) (start : List ℕ
   abbrev walked : DepthRange
   walked = within asked depth
 
-  module _ (inner : WalkView D) (range : DepthRange) (same_range : range ≡ within asked depth) (rooted : Bool) (names : List (List ℕ)) (cs : List (List (Tree Span)))
+  module _ (is : (taken : ℕ) × (prefix : List ℕ) × Prefix g.tree taken prefix) (inner : WalkView D) (range : DepthRange) (same_range : range ≡ within asked depth) (rooted : Bool) (names : List (List ℕ)) (cs : List (List (Tree Span)))
       (plan : (taken : ℕ) (prefix : List ℕ) → Prefix g.tree taken prefix → IsPlan g.tree prefix rooted names cs)
       (b : BeginsAt law d (origin_from start rooted names) range inner)
       (seen : IsSeenAs (ruled_view inner (leading_mark (component_test {A = Span}) cs decides g) false) view) where
@@ -239,6 +239,14 @@ module _ {D C : Type 0} (g : GlobView) (law : Law D C) (d : D) (start : List ℕ
     begins_along = record {
       depth = depth;
       depth_is = depth_is;
+      begins = inl (record {
+        taken = is.0;
+        prefix = is.1;
+        prefix_is = is.2;
+        rooted = rooted;
+        names = names;
+        names_are = (plan is.0 is.1 is.2).0;
+      });
       can = can;
       none_match = none_match;
       shown = λ a s listed h told plain fits. shown_along a plain s listed h told fits;
@@ -268,11 +276,12 @@ module _ {D C : Type 0} (g : GlobView) (law : Law D C) (d : D) (start : List ℕ
       directory = seen.directory ∙ b.directory;
     }
 
-  pub begins_ended : (inner : WalkView D) (range : DepthRange) (rule : Candidate → Mark) → ((taken : ℕ) (prefix : List ℕ) → Prefix g.tree taken prefix → HasEmptyName prefix) →
+  pub begins_ended : (is : (taken : ℕ) × (prefix : List ℕ) × Prefix g.tree taken prefix) → (inner : WalkView D) (range : DepthRange) (rule : Candidate → Mark) → ((taken : ℕ) (prefix : List ℕ) → Prefix g.tree taken prefix → HasEmptyName prefix) →
       range ≡ within asked depth → HasEnded law d range inner → IsSeenAs (ruled_view inner rule false) view → BeginsGlob g.tree law d start asked view
-  begins_ended inner range rule known same b seen = record {
+  begins_ended is inner range rule known same b seen = record {
     depth = depth;
     depth_is = depth_is;
+    begins = inr (inl (is.0, is.1, is.2, known is.0 is.1 is.2));
     can = can;
     none_match = none_match;
     shown = λ a s listed h told plain fits. absurd (a.names_are.unbroken (known a.taken a.prefix a.prefix_is));
@@ -303,6 +312,7 @@ module _ {D C : Type 0} (g : GlobView) (law : Law D C) (d : D) (start : List ℕ
   begins_refused inner range cs none same b seen = record {
     depth = depth;
     depth_is = depth_is;
+    begins = inr (inr (lacks_ruled inner view (leading_mark (component_test {A = Span}) cs decides g) seen b.takes));
     can = can;
     none_match = none_match;
     shown = λ a s listed h told plain fits. shown_refused a s listed h told fits;

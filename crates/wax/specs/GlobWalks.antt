@@ -12,7 +12,7 @@ use Rattle.wax_exclude.specs.Prefix.{HasEmptyName, PrefixSplitsInto}
 use Rattle.wax_query.specs.Ranges.{Bounds}
 use Rattle.wax_token.specs.Reads.{Span}
 use Rattle.wax_token.specs.Syntax.{Tree}
-use Rattle.wax_tree.specs.Begins.{FailsFrom, IsBegun, IsPassed, Origin}
+use Rattle.wax_tree.specs.Begins.{FailsFrom, IsBegun, IsPassed, OnlyLacks, Origin}
 use Rattle.wax_tree.specs.declared.steps.DepthRange.{DepthRange}
 use Rattle.wax_tree.specs.Plain.{count_shown}
 use Rattle.wax_tree.specs.Prefix.{ArePlain}
@@ -68,6 +68,10 @@ request_of {t} start asked depth b filters = record {
   origin = origin_from start b.rooted b.names;
 }
 
+-- two `/` stand side by side in the prefix, so that the walk of the glob begins nowhere
+abbrev pub HasBrokenPrefix : Tree Span → Type 0
+HasBrokenPrefix t = (taken : ℕ) × (prefix : List ℕ) × Prefix t taken prefix × HasEmptyName prefix
+
 -- no candidate in range can match: two `/` are side by side in the prefix, or it has more names than the
 -- greatest depth
 pub data LeadsNowhere (t : Tree Span) (range : DepthRange) : Type 0 where
@@ -80,6 +84,8 @@ pub record BeginsGlob {D C : Type 0} (t : Tree Span) (law : Law D C) (d : D) (st
     (asked : DepthRange) (view : WalkView D) : Type 0 where
   pub depth : Bounds
   pub depth_is : Depth t depth
+  -- there is a place where the walk begins, but for a broken prefix, and unless memory ran out before
+  pub begins : Beginning t ⊎ (HasBrokenPrefix t ⊎ OnlyLacks view)
   -- less whatever filters, this is all that is wanted, as the law of glob walks says
   pub can : (b : Beginning t) (filters : List (Filter Span)) → ArePlain b.names
       → CanWalk (wants t b filters) asked (within asked depth) (origin_from start b.rooted b.names)

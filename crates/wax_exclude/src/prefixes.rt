@@ -31,6 +31,7 @@ pub fn prefix_names_of<'t>(
     alloc: Global,
     token: &Token<'t, ExpressionMetadata>,
 ) -> Result<Option<PrefixNames>, NoMemory>
+    ensures prefix { IfOk result (λ _. (n : ℕ) × (p : List ℕ) × Prefix token.now n p) }
     ensures names { IfOk result (λ prefix_names. (n : ℕ) (p : List ℕ) → Prefix token.now n p
         → MatchOption prefix_names (HasEmptyName p)
         (λ w. PrefixSplitsInto p w.is_rooted (from_last w.names.items))) }

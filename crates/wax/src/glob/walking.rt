@@ -126,7 +126,8 @@ fn needs<'g, 't>(
     token: &'g Token<'t, ExpressionMetadata>,
 ) -> Result<Option<(PrefixNames, Vec<LeadingComponent<'g, 't>>)>, NoMemory>
     requires { program_length token.now ≤ 1048576 }
-    ensures { IfOk result (λ plan. (taken : ℕ) (prefix : List ℕ) → Prefix token.now taken prefix
+    ensures prefix { IfOk result (λ _. (taken : ℕ) × (prefix : List ℕ) × Prefix token.now taken prefix) }
+    ensures plan { IfOk result (λ plan. (taken : ℕ) (prefix : List ℕ) → Prefix token.now taken prefix
         → MatchOption plan (HasEmptyName prefix) (λ r.
         IsPlan token.now prefix r.0.is_rooted (from_last r.0.names.items) r.1.items)) }
 {

@@ -5,6 +5,14 @@ use Rattle.wax_exclude.proofs.Beginnings.{begins_with, if_ok_map, none_meant, op
 use Rattle.wax_exclude.proofs.Texts.{empty_chars}
 use Rattle.wax_exclude.proofs.prefixes.prefix_names_of.Goals as goal
 
+pub returns-clause-prefix : goal.returns-clause-prefix
+returns-clause-prefix c =
+    let t = c.args.token.now in
+    let n = c.in_ok-prefix.field-0-0 in
+    let text = c.as_str.result.now in
+    let prefix : Prefix t n (chars text) = subst (λ v. Prefix t n (chars v)) (sym c.as_str.ensures.value) c.in_ok-prefix.ensures.prefix in
+    if_ok_map c.split_prefix.result (λ prefix_names k. (n, chars text, prefix)) c.split_prefix.ensures
+
 pub returns-clause-names : goal.returns-clause-names
 returns-clause-names c =
     let text = c.as_str.result.now in
