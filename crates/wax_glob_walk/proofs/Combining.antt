@@ -1,8 +1,10 @@
 -- Two rules one after the other are one.
-use Rattle.std.proofs.Common.{◌≡◌, Bool, cond, refl, ap, ◌∙◌}
+use Rattle.std.proofs.Common.{◌≡◌, cond, refl, ap, ◌∙◌}
+use Rattle.wax_walk.specs.Course.{Course, asks, stop, unknown, yields}
 use Rattle.wax_walk.specs.Forest.{Forest, nothing, item, lists, filtered}
 use Rattle.wax_walk.specs.Given.{Facts, Mark, kept, alone, with_tree, Given, entry, fault, no_memory}
 use Rattle.wax_walk.specs.Given.{combined_mark, mark_by, with_mark, is_cut, changed_by, cut_by}
+use Rattle.wax_walk.proofs.Filtered.{ruled_course}
 
 -- what two rules say, one after the other
 abbrev pub one_of : (Facts → Mark) → (Facts → Mark) → Facts → Mark
@@ -28,22 +30,40 @@ said_twice first second (entry k f) = refl
 said_twice first second (fault kind path depth) = refl
 said_twice first second no_memory = refl
 
-cut_twice : (change : Given → Given) (cut : Given → Bool) (x : Given) (m n : Mark) (below : Forest Given)
-    → cond (is_cut (with_mark x m) n) nothing (filtered change cut (cond (is_cut x m) nothing below))
-    ≡ cond (is_cut x (combined_mark m n)) nothing (filtered change cut below)
-cut_twice change cut (fault kind path depth) m n below = refl
-cut_twice change cut no_memory m n below = refl
-cut_twice change cut (entry with_tree f) m n below = refl
-cut_twice change cut (entry kept f) with_tree n below = refl
-cut_twice change cut (entry kept f) kept n below = refl
-cut_twice change cut (entry kept f) alone with_tree below = refl
-cut_twice change cut (entry kept f) alone kept below = refl
-cut_twice change cut (entry kept f) alone alone below = refl
-cut_twice change cut (entry alone f) with_tree n below = refl
-cut_twice change cut (entry alone f) kept n below = refl
-cut_twice change cut (entry alone f) alone with_tree below = refl
-cut_twice change cut (entry alone f) alone kept below = refl
-cut_twice change cut (entry alone f) alone alone below = refl
+-- what both rules leave below an item
+cut_twice : {F : Type 0} (none : F) (second : F → F) → second none ≡ none → (x : Given) (m n : Mark) (below : F)
+    → cond (is_cut (with_mark x m) n) none (second (cond (is_cut x m) none below))
+    ≡ cond (is_cut x (combined_mark m n)) none (second below)
+cut_twice none second stays (fault kind path depth) m n below = refl
+cut_twice none second stays no_memory m n below = refl
+cut_twice none second stays (entry with_tree f) m n below = refl
+cut_twice none second stays (entry kept f) with_tree n below = stays
+cut_twice none second stays (entry kept f) kept n below = refl
+cut_twice none second stays (entry kept f) alone with_tree below = refl
+cut_twice none second stays (entry kept f) alone kept below = refl
+cut_twice none second stays (entry kept f) alone alone below = refl
+cut_twice none second stays (entry alone f) with_tree n below = stays
+cut_twice none second stays (entry alone f) kept n below = refl
+cut_twice none second stays (entry alone f) alone with_tree below = refl
+cut_twice none second stays (entry alone f) alone kept below = refl
+cut_twice none second stays (entry alone f) alone alone below = refl
+
+-- what two rules make of an item and of what is below and after it, in forests and in courses
+rules_twice : {F : Type 0} (make : Given → F → F → F) (none : F) (first second both : F → F)
+    (one two : Facts → Mark) (x : Given) (below after : F) → second none ≡ none
+    → second (first below) ≡ both below → second (first after) ≡ both after
+    → make (changed_by two (changed_by one x))
+    (cond (cut_by two (changed_by one x)) none (second (cond (cut_by one x) none (first below))))
+    (second (first after))
+    ≡ make (changed_by (one_of one two) x) (cond (cut_by (one_of one two) x) none (both below)) (both after)
+rules_twice make none first second both one two x below after stays under rest =
+    let m = mark_by one x in
+    let n = mark_by two (changed_by one x) in
+    let said : combined_mark m n ≡ mark_by (one_of one two) x = said_twice one two x in
+    λ i. make ((marked_twice x m n ∙ ap (with_mark x) said) i)
+    ((cut_twice none second stays x m n (first below)
+    ∙ ap (λ v. cond (is_cut x v) none (second (first below))) said
+    ∙ ap (λ v. cond (cut_by (one_of one two) x) none v) under) i) (rest i)
 
 -- what a forest is after a rule
 abbrev pub ruled : (Facts → Mark) → Forest Given → Forest Given
@@ -54,16 +74,14 @@ pub filtered_twice : (first second : Facts → Mark) (f : Forest Given)
 filtered_twice first second nothing = refl
 filtered_twice first second (lists path after) = ap (lists path) (filtered_twice first second after)
 filtered_twice first second (item x below after) =
-    let m = mark_by first x in
-    let n = mark_by second (changed_by first x) in
-    let one = one_of first second in
-    let said : combined_mark m n ≡ mark_by one x = said_twice first second x in
-    let cut = cut_twice (changed_by second) (cut_by second) x m n (ruled first below) in
-    ap (λ y. item y (cond (is_cut (with_mark x m) n) nothing (ruled second (cond (is_cut x m) nothing
-    (ruled first below)))) (ruled second (ruled first after))) (marked_twice x m n ∙ ap (with_mark x) said)
-    ∙ (ap (λ b. item (changed_by one x) b (ruled second (ruled first after)))
-    (cut ∙ ap (λ v. cond (is_cut x v) nothing (ruled second (ruled first below))) said)
-    ∙ (ap (λ b. item (changed_by one x) (cond (cut_by one x) nothing b) (ruled second (ruled first after)))
-    (filtered_twice first second below)
-    ∙ ap (item (changed_by one x) (cond (cut_by one x) nothing (ruled one below)))
-    (filtered_twice first second after)))
+    rules_twice item nothing (ruled first) (ruled second) (ruled (one_of first second)) first second x below after refl
+    (filtered_twice first second below) (filtered_twice first second after)
+
+pub course_twice : (first second : Facts → Mark) (c : Course)
+    → ruled_course second (ruled_course first c) ≡ ruled_course (one_of first second) c
+course_twice first second stop = refl
+course_twice first second unknown = refl
+course_twice first second (asks q c) = ap (asks q) (course_twice first second c)
+course_twice first second (yields x below after) =
+    rules_twice yields stop (ruled_course first) (ruled_course second) (ruled_course (one_of first second)) first second
+    x below after refl (course_twice first second below) (course_twice first second after)

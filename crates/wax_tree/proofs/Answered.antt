@@ -1,27 +1,26 @@
 -- What was answered is what a tree answers.
-use Rattle.std.proofs.Common.{◌≡◌, ◌∙◌, ℕ, Bool, true, false, cond, nat_lt, List, [], ◌∷◌, ◌++◌, append_assoc, filter}
+use Rattle.std.proofs.Common.{◌≡◌, ◌∙◌, ℕ, ◌+◌, ◌-◌, Bool, true, false, cond, nat_lt, List, [], ◌∷◌, ◌++◌, filter, arith}
 use Rattle.std.proofs.Common.{refl, sym, ap, subst}
 use Rattle.std.proofs.lemmas.List.{append-nil}
-use Rattle.wax_directory.specs.declared.directory.FileType.{FileType}
-use Rattle.wax_directory.specs.declared.directory.FileType.TheVariants.{Folder}
 use Rattle.wax_directory.specs.History.{Answer}
 use Rattle.wax_directory.specs.Shown.{Items, end, leaf, folder, sealed, misnamed, unread, not_text, Shown}
-use Rattle.wax_directory.specs.Shown.{a_leaf, a_folder, a_sealed, missing, failing, leaf_kind, join}
+use Rattle.wax_directory.specs.Shown.{a_leaf, a_folder, a_sealed, child_in, missing, failing, join}
 use Rattle.wax_walk.specs.Collected.{EndsThere, NoMemoryError, TookCourse, whole, cut_short}
-use Rattle.wax_walk.specs.Course.{IsStartOf, DirectoryCall, Course, CutsShort, IsKnownFirst, IsKnownWhole, answers, asks, calls_of}
+use Rattle.wax_walk.specs.Course.{IsStartOf, DirectoryCall, Course, CutsShort, IsKnownWhole, answers, asks, calls_of}
 use Rattle.wax_walk.specs.Course.{continued, items_of, stop, unknown, yields}
 use Rattle.wax_walk.specs.declared.error.FaultKind.TheVariants as K
-use Rattle.wax_walk.specs.Forest.{Forest, nothing, item, lists, followed_by, preorder}
+use Rattle.wax_walk.specs.Forest.{Forest, nothing, item, lists, followed_by}
 use Rattle.wax_walk.specs.Given.{Given, entry, fault, no_memory, is_kept}
 use Rattle.wax_walk.specs.View.{MayTake, WalkView}
-use Rattle.wax_walk.proofs.Collecting.{preorder_append}
 use Rattle.wax_walk.proofs.Courses.{begins_whole, comes_first}
+use Rattle.wax_walk.proofs.Filtered.{Yields, forest_continued, unlisted_followed, yields_items}
 use Rattle.wax_tree.specs.declared.steps.DepthRange.{DepthRange}
 use Rattle.wax_tree.specs.Begins.{OnlyLacks, StartTakes, lacking_start, scope_in, walks}
-use Rattle.wax_tree.specs.Courses.{IsNamed, below_course, course_above_max, course_at_depth, entry_course}
-use Rattle.wax_tree.specs.Courses.{items_course, plain_course}
-use Rattle.wax_tree.specs.Plain.{WalkScope, Location, above_max, at_depth, below_forest, entry_forest, item_location}
-use Rattle.wax_tree.specs.Plain.{items_forest, one_deeper, plain, start_location}
+use Rattle.wax_tree.specs.Courses.{below_course, course_above_max, course_at_depth}
+use Rattle.wax_tree.specs.Courses.{along_course, items_course, place_course, plain_course, refused_course}
+use Rattle.wax_tree.specs.Plain.{WalkScope, Location, above_max, at_depth, below_forest, item_location}
+use Rattle.wax_tree.specs.Plain.{items_forest, one_deeper, plain, plain_at, start_location, unlisted}
+use Rattle.wax_tree.specs.Prefix.{walk_from}
 use Rattle.wax_tree.specs.Whole.{EntriesAnswered, as_told, calls_for, told_in_part, yielded}
 use Rattle.wax_tree.specs.Whole as all
 use Rattle.wax_tree.proofs.InRange.{plain_yielded}
@@ -31,13 +30,8 @@ no_calls : (before : List DirectoryCall) (q : DirectoryCall) → [] ≡ before +
 no_calls [] q e = cc
 no_calls (p ∷ before) q e = cc
 
--- the course is whole and yields what the forest does
-pub record Yields (c : Course) (f : Forest Given) : Type 0 where
-  pub is_whole : IsKnownWhole c
-  pub items : items_of c ≡ preorder f
-
-nothing_yields : Yields stop nothing
-nothing_yields = record { is_whole = tt; items = refl }
+pub nothing_yields : Yields stop nothing
+nothing_yields = record { is_whole = tt; forest = refl }
 
 whole_continued : (c d : Course) → IsKnownWhole c → IsKnownWhole d → IsKnownWhole (continued c d)
 whole_continued stop d w v = v
@@ -45,26 +39,19 @@ whole_continued unknown d w v = absurd w
 whole_continued (asks q c) d w v = whole_continued c d w v
 whole_continued (yields x b a) d w v = (w.0, whole_continued a d w.1 v)
 
-items_continued : (c d : Course) → IsKnownWhole c → items_of (continued c d) ≡ items_of c ++ items_of d
-items_continued stop d w = refl
-items_continued unknown d w = absurd w
-items_continued (asks q c) d w = items_continued c d w
-items_continued (yields x b a) d w = ap (λ z. x ∷ (items_of b ++ z)) (items_continued a d w.1)
-    ∙ ap (λ z. x ∷ z) (sym (append_assoc (items_of b) (items_of a) (items_of d)))
-
 continued_yields : (b a : Course) (f g : Forest Given) → Yields b f → Yields a g
     → Yields (continued b a) (followed_by f g)
 continued_yields b a f g h k = record {
   is_whole = whole_continued b a h.is_whole k.is_whole;
-  items = items_continued b a h.is_whole ∙ (ap (λ z. z ++ items_of a) h.items
-      ∙ (ap (λ z. preorder f ++ z) k.items ∙ sym (preorder_append f g)));
+  forest = forest_continued b a h.is_whole ∙ ((λ i. followed_by (h.forest i) (k.forest i))
+      ∙ sym (unlisted_followed f g));
 }
 
 item_yields : (x : Given) (b a : Course) (f g : Forest Given) → Yields b f → Yields a g
     → Yields (yields x b a) (item x f g)
 item_yields x b a f g h k = record {
   is_whole = (h.is_whole, k.is_whole);
-  items = ap (λ z. x ∷ (z ++ items_of a)) h.items ∙ ap (λ z. x ∷ (preorder f ++ z)) k.items;
+  forest = λ i. item x (h.forest i) (k.forest i);
 }
 
 either_yields : (t : Bool) (c d : Course) (f g : Forest Given) → Yields c f → Yields d g
@@ -73,11 +60,11 @@ either_yields true c d f g h k = h
 either_yields false c d f g h k = k
 
 asked_yields : (q : DirectoryCall) (c : Course) (f : Forest Given) → Yields c f → Yields (asks q c) f
-asked_yields q c f h = record { is_whole = h.is_whole; items = h.items }
+asked_yields q c f h = record { is_whole = h.is_whole; forest = h.forest }
 
 listed_yields : (q : DirectoryCall) (path : List ℕ) (c : Course) (f : Forest Given) → Yields c f
     → Yields (asks q c) (lists path f)
-listed_yields q path c f h = record { is_whole = h.is_whole; items = h.items }
+listed_yields q path c f h = record { is_whole = h.is_whole; forest = h.forest }
 
 module _ (scope : WalkScope) where
   depth_yields : (depth : ℕ) (x : Given) (b a : Course) (f g : Forest Given) → Yields b f → Yields a g
@@ -93,7 +80,7 @@ module _ (scope : WalkScope) where
   fault_yields x = item_yields x stop stop nothing nothing nothing_yields nothing_yields
 
   items_yield : (at : Location) (l : Items) → Yields (items_course scope at l) (items_forest scope at l)
-  items_yield at end = record { is_whole = tt; items = refl }
+  items_yield at end = record { is_whole = tt; forest = refl }
   items_yield at (leaf x link rest) = asked_yields _ _ _ (depth_yields at.depth _ stop (items_course scope at rest)
       nothing (items_forest scope at rest) nothing_yields (items_yield at rest))
   items_yield at (folder x inner rest) = asked_yields _ _ _ (depth_yields at.depth _ _ (items_course scope at rest)
@@ -111,23 +98,39 @@ module _ (scope : WalkScope) where
   items_yield at (not_text rest) = asked_yields _ _ _ (item_yields _ stop (items_course scope at rest) nothing
       (items_forest scope at rest) nothing_yields (items_yield at rest))
 
-  below_yields : (s : Shown) → let at = start_location scope.root in
-      Yields (below_course scope at s) (below_forest scope at s)
-  below_yields (a_leaf link) = nothing_yields
-  below_yields (a_folder l) = max_yields 0 _ _ (listed_yields _ _ _ _ (items_yield _ l))
-  below_yields a_sealed = max_yields 0 _ _ (listed_yields _ _ _ _ (fault_yields (fault K.Listing scope.root 0)))
-  below_yields missing = nothing_yields
-  below_yields failing = nothing_yields
+  below_yields : (at : Location) (s : Shown) → Yields (below_course scope at s) (below_forest scope at s)
+  below_yields at (a_leaf link) = nothing_yields
+  below_yields at (a_folder l) = max_yields at.depth _ _ (listed_yields _ _ _ _ (items_yield _ l))
+  below_yields at a_sealed =
+      let same : (at.depth + 1) - 1 ≡ at.depth = omega arith in
+      subst (λ n. Yields (course_above_max scope at.depth (refused_course scope at.path n))
+      (above_max scope at.depth (unlisted scope at.path at.depth))) (sym same)
+      (max_yields at.depth _ _ (listed_yields _ _ _ _ (fault_yields (fault K.Listing at.path at.depth))))
+  below_yields at missing = nothing_yields
+  below_yields at failing = nothing_yields
 
-  plain_yields : (s : Shown) → Yields (plain_course scope s) (plain scope s)
-  plain_yields (a_leaf link) = asked_yields _ _ _ (depth_yields 0 _ _ stop _ nothing (below_yields (a_leaf link))
+  pub place_yields : (at : Location) (s : Shown) → Yields (place_course scope at s stop) (plain_at scope at s nothing)
+  place_yields at (a_leaf link) = asked_yields _ _ _ (depth_yields at.depth _ _ stop _ nothing
+      (below_yields at (a_leaf link)) nothing_yields)
+  place_yields at (a_folder l) = asked_yields _ _ _ (depth_yields at.depth _ _ stop _ nothing
+      (below_yields at (a_folder l)) nothing_yields)
+  place_yields at a_sealed = asked_yields _ _ _ (depth_yields at.depth _ _ stop _ nothing (below_yields at a_sealed)
       nothing_yields)
-  plain_yields (a_folder l) = asked_yields _ _ _ (depth_yields 0 _ _ stop _ nothing (below_yields (a_folder l))
-      nothing_yields)
-  plain_yields a_sealed = asked_yields _ _ _ (depth_yields 0 _ _ stop _ nothing (below_yields a_sealed)
-      nothing_yields)
-  plain_yields missing = record { is_whole = (tt, tt); items = refl }
-  plain_yields failing = record { is_whole = (tt, tt); items = refl }
+  place_yields at missing = asked_yields _ _ _ (fault_yields (fault K.NotFound at.path at.depth))
+  place_yields at failing = asked_yields _ _ _ (fault_yields (fault K.Listing at.path at.depth))
+
+  -- the course along names yields what the walk along them does
+  pub along_yields : (names : List (List ℕ)) (at : Location) (s : Shown)
+      → Yields (along_course scope names at s) (walk_from scope at s names nothing)
+  along_yields [] at s = place_yields at s
+  along_yields (x ∷ names) at (a_folder l) =
+      asked_yields _ _ _ (along_yields names (one_deeper (item_location at x)) (child_in x l))
+  along_yields (x ∷ names) at a_sealed =
+      asked_yields _ _ _ (place_yields (one_deeper (item_location at x)) failing)
+  along_yields (x ∷ names) at (a_leaf link) =
+      asked_yields _ _ _ (fault_yields (fault K.NotAFolder at.path at.depth))
+  along_yields (x ∷ names) at missing = place_yields at missing
+  along_yields (x ∷ names) at failing = place_yields at failing
 
 -- a walk that may take only the error that allocation failed gave that error
 pub lacks_given : {D : Type 0} (view : WalkView D) (told : List Answer) (xs : List Given) → OnlyLacks view
@@ -157,40 +160,42 @@ lacks_given view told xs lacks (cut_short c x t first e f s) n =
           (subst (λ z. NoMemoryError (z ∷ ((items_of d ++ items_of a) ++ x ∷ []))) same n).0 tt
 
 -- an error that cuts a course short is kept
-cutting_kept : (calls : List DirectoryCall) (x : Given) → CutsShort calls x → is_kept x ≡ true
+pub cutting_kept : (calls : List DirectoryCall) (x : Given) → CutsShort calls x → is_kept x ≡ true
 cutting_kept calls no_memory s = refl
 cutting_kept calls (fault kind path depth) s = refl
 cutting_kept calls (entry m f) s = absurd s
 
+-- a walk that may take only the error that allocation failed asked nothing and gave one error
+pub lacks_alone : (c : Course) (x : Given) (told : List Answer) (xs : List Given) → EndsThere xs
+    → IsStartOf c (yields no_memory stop stop) → told ≡ answers (calls_of c) → xs ≡ items_of c ++ x ∷ []
+    → CutsShort (calls_of c) x → (told ≡ []) × (xs ≡ x ∷ []) × CutsShort [] x
+lacks_alone unknown x told xs ends b e f s = (e, f, s)
+lacks_alone stop x told xs ends b e f s = absurd (let i : yields no_memory stop stop ≡ stop = b in (cc))
+lacks_alone (asks q c) x told xs ends b e f s =
+    absurd (let i : yields no_memory stop stop ≡ asks q b.0 = b.1 in (cc))
+lacks_alone (yields y d a) x told xs ends b e f s =
+    let i : yields no_memory stop stop ≡ yields y b.0 b.1 = b.2 in
+    let same : y ≡ no_memory = cc in
+    let parts : xs ≡ [] ++ no_memory ∷ ((items_of d ++ items_of a) ++ x ∷ []) =
+    f ∙ ap (λ z. z ∷ ((items_of d ++ items_of a) ++ x ∷ [])) same in
+    absurd (not_last (items_of d ++ items_of a)
+    (ends [] ((items_of d ++ items_of a) ++ x ∷ []) no_memory parts tt)) where
+      not_last : (zs : List Given) → zs ++ x ∷ [] ≡ [] → ⊥
+      not_last [] e = cc
+      not_last (z ∷ zs) e = cc
+
 module _ (range : DepthRange) (start : List ℕ) where
+  plain_yields : (s : Shown) → Yields (plain_course (scope_in range start) s) (plain (scope_in range start) s)
+  plain_yields s = place_yields (scope_in range start) (start_location start) s
+
   items_plain : (s : Shown) → items_of (plain_course (scope_in range start) s) ≡ yielded range (all.whole start s)
-  items_plain s = (plain_yields (scope_in range start) s).items ∙ plain_yielded range start s
+  items_plain s = yields_items _ _ (plain_yields s) ∙ plain_yielded range start s
 
   -- only an error came, and nothing was asked
   lacks_answered : (told : List Answer) (xs : List Given) (x : Given) → told ≡ [] → xs ≡ x ∷ []
       → CutsShort [] x → EntriesAnswered range start told xs
   lacks_answered told xs x e f s =
       told_in_part missing [] (calls_for range start missing) x tt refl e ([], _, f, refl) s
-
-  first_only : (c : Course) (x : Given) (told : List Answer) (xs : List Given) → EndsThere xs
-      → IsStartOf c (yields no_memory stop stop) → told ≡ answers (calls_of c) → xs ≡ items_of c ++ x ∷ []
-      → CutsShort (calls_of c) x → EntriesAnswered range start told (filter is_kept xs)
-  first_only unknown x told xs ends b e f s =
-      lacks_answered told (filter is_kept xs) x e
-      (ap (filter is_kept) f ∙ ap (λ k. cond k (x ∷ []) []) (cutting_kept [] x s)) s
-  first_only stop x told xs ends b e f s = absurd (let i : yields no_memory stop stop ≡ stop = b in (cc))
-  first_only (asks q c) x told xs ends b e f s =
-      absurd (let i : yields no_memory stop stop ≡ asks q b.0 = b.1 in (cc))
-  first_only (yields y d a) x told xs ends b e f s =
-      let i : yields no_memory stop stop ≡ yields y b.0 b.1 = b.2 in
-      let same : y ≡ no_memory = cc in
-      let parts : xs ≡ [] ++ no_memory ∷ ((items_of d ++ items_of a) ++ x ∷ []) =
-      f ∙ ap (λ z. z ∷ ((items_of d ++ items_of a) ++ x ∷ [])) same in
-      let none = ends [] ((items_of d ++ items_of a) ++ x ∷ []) no_memory parts tt in
-      absurd (not_last (items_of d ++ items_of a) none) where
-        not_last : (zs : List Given) → zs ++ x ∷ [] ≡ [] → ⊥
-        not_last [] e = cc
-        not_last (z ∷ zs) e = cc
 
   pub entries_answered : {D : Type 0} (view : WalkView D) (told : List Answer) (xs ys : List Given)
       → ((c : Course) → MayTake view c → StartTakes (scope_in range start) c) → EndsThere xs
@@ -200,7 +205,7 @@ module _ (range : DepthRange) (start : List ℕ) where
         let same = begins_whole c (plain_course (scope_in range start) s) w b in
         let items = f ∙ ap items_of same in
         let kept = first_kept (scope_in range start) s xs []
-        (append-nil xs ∙ (items ∙ (plain_yields (scope_in range start) s).items)) in
+        (append-nil xs ∙ (items ∙ yields_items _ _ (plain_yields s))) in
         as_told s n (e ∙ ap (λ z. answers (calls_of z)) same) (k ∙ (kept ∙ (items ∙ items_plain s)))
     | lacking_start b ↦
         let same = begins_whole c (yields no_memory stop stop) w b in
@@ -211,12 +216,15 @@ module _ (range : DepthRange) (start : List ℕ) where
     | walks d n b ↦
         let p = comes_first c (plain_course (scope_in range start) d) first b in
         let kept = error_kept (scope_in range start) d (items_of c) p.items x (cutting_kept (calls_of c) x s)
-        (p.items_are ∙ (plain_yields (scope_in range start) d).items) in
+        (p.items_are ∙ yields_items _ _ (plain_yields d)) in
         told_in_part d (calls_of c) p.calls x n p.calls_are e (
           items_of c,
           p.items,
           k ∙ (ap (filter is_kept) f ∙ kept),
           p.items_are ∙ items_plain d,
         ) s
-    | lacking_start b ↦ subst (EntriesAnswered range start told) (sym k) (first_only c x told xs ends b e f s)
+    | lacking_start b ↦
+        let l = lacks_alone c x told xs ends b e f s in
+        lacks_answered told ys x l.0
+        (k ∙ (ap (filter is_kept) l.1 ∙ ap (λ b. cond b (x ∷ []) []) (cutting_kept [] x l.2))) l.2
   ]

@@ -1,11 +1,10 @@
 -- The course of a run of steps, up to an item or the end.
-use Rattle.std.proofs.Common.{◌≡◌, ◌∙◌, true, false, List, [], ◌++◌, refl, sym, ap, subst, inl, inr}
+use Rattle.std.proofs.Common.{◌≡◌, List, [], ◌++◌, refl, sym, subst, inl, inr}
 use Rattle.std.specs.Prelude.{Some, None}
 use Rattle.std.proofs.lemmas.List.{append-nil}
 use Rattle.wax_directory.specs.Law.{Law}
-use Rattle.wax_walk.specs.Course.{Ahead, IsStartOf, DirectoryCall, Course, CutsShort, ahead, all_ahead, answers, asking, stop}
+use Rattle.wax_walk.specs.Course.{IsStartOf, DirectoryCall, Course, CutsShort, ahead, all_ahead, answers, asking, stop}
 use Rattle.wax_walk.specs.Course.{unknown, yields}
-use Rattle.wax_walk.specs.Given.{Given}
 use Rattle.wax_walk.specs.View.{Follows, MayTake, ended_so, was_cut, went_on}
 use Rattle.wax_walk.proofs.Courses.{asking_then, begins_asking, begins_itself, begins_parts, begins_trans}
 use Rattle.wax_walk.proofs.Taking.{answered_more, cuts_later}
@@ -13,7 +12,7 @@ use Rattle.wax_tree.specs.declared.steps.Step.{Step}
 use Rattle.wax_tree.specs.declared.steps.Step.TheVariants.{Ends, Gives, GoesOn}
 use Rattle.wax_tree.specs.declared.steps.Steps.{Steps}
 use Rattle.wax_tree.specs.Stepping.{ComesWhole, StepCourse}
-use Rattle.wax_tree.specs.Walking.{ComesAhead, HasStopped, steps_view, tree_given}
+use Rattle.wax_tree.specs.Walking.{HasStopped, steps_view, tree_given}
 use Rattle.wax_tree.proofs.Coursing.{stopped_ahead}
 
 module _ {D C : Type 0} (law : Law D C) where

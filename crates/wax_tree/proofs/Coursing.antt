@@ -1,7 +1,7 @@
 -- The course of a walk, step by step.
 use Rattle.std.proofs.Common.{◌≡◌, ◌∙◌, ℕ, ◌+◌, ◌-◌, ◌<◌, ◌≤◌, Bool, true, false, cond, nat_lt, List, [], ◌∷◌, ◌++◌}
 use Rattle.std.proofs.Common.{refl, sym, ap, subst, inl, inr, arith, string_bytes}
-use Rattle.std.specs.Prelude.{◌⊎◌, Option, Some, None, Err, String}
+use Rattle.std.specs.Prelude.{Option, Some, None, Err, String}
 use Rattle.std.specs.declared.alloc.Global.{Global}
 use Rattle.std.proofs.lemmas.Bool.{le-ltb, lt-ltb}
 use Rattle.std.proofs.lemmas.List.{append-nil}
@@ -15,7 +15,7 @@ use Rattle.wax_directory.specs.History.{at_end, listed, opened}
 use Rattle.wax_directory.specs.Law.{Law}
 use Rattle.wax_directory.specs.Names.{is_plain}
 use Rattle.wax_directory.specs.PlainNames.{not_plain, plain_of}
-use Rattle.wax_directory.specs.Shown.{IsPlain, Items, Shown, a_folder, a_leaf, a_sealed, end, failing, folder, leaf}
+use Rattle.wax_directory.specs.Shown.{IsPlain, Shown, a_folder, a_leaf, a_sealed, end, failing, folder, leaf}
 use Rattle.wax_directory.specs.Shown.{join, leaf_kind, misnamed, missing, named, no_item, no_name, not_text, sealed, unread}
 use Rattle.wax_walk.specs.Course.{Ahead, DirectoryCall, Course, CutsShort, ahead, all_ahead, asking, asks, call, continued}
 use Rattle.wax_walk.specs.Course.{stop, yields}
@@ -32,7 +32,7 @@ use Rattle.wax_tree.specs.declared.steps.StartPoint.{StartPoint}
 use Rattle.wax_tree.specs.declared.steps.Step.{Step}
 use Rattle.wax_tree.specs.declared.steps.Step.TheVariants.{Ends, Gives, GoesOn}
 use Rattle.wax_tree.specs.declared.steps.Steps.{Steps}
-use Rattle.wax_tree.specs.Courses.{AlongComes, AreNamed, FoundComes, IsNamed, below_course, course_above_max}
+use Rattle.wax_tree.specs.Courses.{AlongComes, FoundComes, IsNamed, below_course, course_above_max}
 use Rattle.wax_tree.specs.Courses.{course_at_depth, entered_course, entry_course, is_missing, items_course}
 use Rattle.wax_tree.specs.Courses.{onward_location, refused_course}
 use Rattle.wax_tree.specs.Plain.{HasKind, IsFolder, Location, WalkScope, item_location, one_deeper, plain_entry}

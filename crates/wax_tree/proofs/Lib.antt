@@ -16,3 +16,4 @@ pub mod Levelled
 pub mod Coursing
 pub mod CourseRuns
 pub mod Answered
+pub mod AlongShown

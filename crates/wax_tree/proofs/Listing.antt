@@ -11,8 +11,8 @@ use Rattle.wax_tree.specs.declared.location.Location as code
 use Rattle.wax_tree.specs.Reaching.{OfEntered}
 use Rattle.wax_tree.proofs.InRange.{at_most}
 use Rattle.wax_directory.specs.Counting.{grown}
-use Rattle.wax_walk.specs.View.{WalkView, Accounts, CountsFaults, IsLast, Takes, fault_counts, items_lost, opens_one}
-use Rattle.wax_walk.proofs.Accounting.{counts_none_then, counts_nothing, grown_then, takes_more}
+use Rattle.wax_walk.specs.View.{WalkView, Accounts, CountsFaults, Takes, fault_counts, items_lost, opens_one}
+use Rattle.wax_walk.proofs.Accounting.{accounts_nothing, counts_none_then, grown_then, takes_more}
 use Rattle.wax_tree.specs.declared.steps.Steps.{Steps}
 use Rattle.wax_tree.specs.declared.steps.Step.{Step}
 use Rattle.wax_tree.specs.declared.steps.Step.TheVariants.{GoesOn}
@@ -110,27 +110,7 @@ module _ {D C : Type 0} (law : Law D C) where
 
   -- no step yet
   pub accounts_none : (w : Steps D C) → AccountsSoFar w w
-  accounts_none w = record {
-    counts = counts_nothing (law.tally w.directory);
-    taken = 0;
-    takes = omega arith;
-    counted = omega arith;
-    passed = 0;
-    passes = λ e. refl;
-    refused = 0;
-    refuses = omega arith;
-    gives = λ n. omega arith;
-    going = λ n i. i;
-    folders = 0;
-    folders_passed = omega arith;
-    opened = 0;
-    opened_is = omega arith;
-    ended = 0;
-    ended_is = omega arith;
-    opens = λ n. omega arith;
-    closes = λ n. omega arith;
-    ends = λ i. absurd i;
-  }
+  accounts_none w = accounts_nothing law (steps_view law w)
 
   -- the walk was seen otherwise before
   accounts_seen : (u v : WalkView D) (r : Option Given) (new : WalkView D) → u.directory ≡ v.directory

@@ -299,7 +299,7 @@ module _ {D C : Type 0} (law : Law D C) where
       begins_taken t.0 c stop (yields no_memory stop stop) t.2 b.0 refl b.1
 
 -- without names it is the course of what is at the start
-along_plain : (scope : WalkScope) (at : Location) (after c : Course) → AlongComes scope [] at after c
+pub along_plain : (scope : WalkScope) (at : Location) (after c : Course) → AlongComes scope [] at after c
     → (s : Shown) × IsNamed s × (c ≡ place_course scope at s after)
 along_plain scope at after c (is_there kind d h e) = go h.0 h.1 h.2 h.3 where
   go : (s : Shown) → IsNamed s → HasKind s kind → d ≡ entry_course scope at kind s after
@@ -330,7 +330,7 @@ along_plain scope at after c (is_failing e) = (failing, tt, e)
 start_takes : (range : DepthRange) (start : List ℕ) (names : List (List ℕ)) (c : Course) → names ≡ []
     → OriginTakes (record { root = start; path = start; candidate = []; names = names }) range c
     → StartTakes (scope_in range start) c
-start_takes range start names c e (along d h b) =
+start_takes range start names c e (along least fits d h b) =
     let p = along_plain (scope_in range start) (start_location start) stop d
     (subst (λ ns. AlongComes (scope_in range start) ns (start_location start) stop d) e h) in
     walks p.0 p.1 (subst (course.IsStartOf c) p.2 b)

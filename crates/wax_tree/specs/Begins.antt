@@ -99,7 +99,8 @@ pub record Origin : Type 0 where
 -- what a walk from this origin may take: what comes along its names; only the error that allocation failed;
 -- or nothing, if there are more names than the greatest depth
 pub data OriginTakes (origin : Origin) (range : DepthRange) (c : Course) : Type 0 where
-  along : (d : Course) → AlongComes (scope_in range origin.root) origin.names
+  along : length origin.names ≤ range.max → length origin.names < 2 ^ 64 → (d : Course)
+      → AlongComes (scope_in range origin.root) origin.names
       (record { path = origin.path; candidate = origin.candidate; depth = 0 }) stop d → course.IsStartOf c d
       → OriginTakes origin range c
   lacking : course.IsStartOf c (yields no_memory stop stop) → OriginTakes origin range c

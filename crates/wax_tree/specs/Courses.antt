@@ -3,14 +3,15 @@ use Rattle.std.specs.Prelude.{◌≡◌, ℕ, ◌+◌, ◌-◌, ◌^◌, min, co
 use Rattle.wax_directory.specs.declared.directory.FileType.{FileType}
 use Rattle.wax_directory.specs.declared.directory.FileType.TheVariants as F
 use Rattle.wax_directory.specs.History.{absent, at_end, found, listed, opened, refused, unseen}
-use Rattle.wax_directory.specs.Shown.{IsPlain, Items, Shown, a_folder, a_leaf, a_sealed, end, failing, folder}
-use Rattle.wax_directory.specs.Shown.{join, leaf, leaf_kind, misnamed, missing, named, no_item, no_name}
+use Rattle.wax_directory.specs.Shown.{IsPlain, Items, Shown, a_folder, a_leaf, a_sealed, child_in, end}
+use Rattle.wax_directory.specs.Shown.{failing, folder, join, leaf, leaf_kind, misnamed, missing, named}
+use Rattle.wax_directory.specs.Shown.{no_item, no_name}
 use Rattle.wax_directory.specs.Shown.{not_text, sealed, unread}
 use Rattle.wax_walk.specs.Course.{Course, asks, call, continued, stop, yields}
 use Rattle.wax_walk.specs.declared.error.FaultKind.TheVariants.{BadName, Listing, NotAFolder, NotFound}
 use Rattle.wax_walk.specs.declared.error.FaultKind.TheVariants.{NotText}
 use Rattle.wax_walk.specs.Given.{Given, fault}
-use Rattle.wax_tree.specs.Plain.{HasKind, IsFolder, Location, WalkScope, item_location, one_deeper}
+use Rattle.wax_tree.specs.Plain.{HasKind, Location, WalkScope, item_location, one_deeper}
 use Rattle.wax_tree.specs.Plain.{plain_entry, start_location}
 
 -- the entries of a folder have names that a path can hold, the misnamed items have none, at all depths
@@ -124,6 +125,18 @@ module _ (scope : WalkScope) where
       (yields (fault NotFound at.path at.depth) stop stop)
   place_course at failing after = asks (call at.path (unseen at.path))
       (yields (fault Listing at.path at.depth) stop after)
+
+  -- the walk along names from a location where s is shown: from the last of them on, or one error if they
+  -- don't lead there
+  abbrev pub along_course : List (List ℕ) → Location → Shown → Course
+  along_course [] at s = place_course at s stop
+  along_course (x ∷ names) at (a_folder l) = asks (call at.path (found at.path F.Folder))
+      (along_course names (one_deeper (item_location at x)) (child_in x l))
+  along_course (x ∷ names) at a_sealed = asks (call at.path (found at.path F.Folder))
+      (place_course (one_deeper (item_location at x)) failing stop)
+  along_course (x ∷ names) at (a_leaf link) = asks (call at.path (found at.path (leaf_kind link)))
+      (yields (fault NotAFolder at.path at.depth) stop stop)
+  along_course (x ∷ names) at s = place_course at s stop
 
   -- the walk from the start
   abbrev pub plain_course : Shown → Course

@@ -1,7 +1,7 @@
 -- Where a walk along names goes.
-use Rattle.std.specs.Prelude.{◌≡◌, ℕ, ◌+◌, List, [], ◌∷◌, ◌++◌, length, Option, Some, None}
-use Rattle.wax_directory.specs.Shown.{Items, Shown, a_leaf, a_folder, a_sealed, missing, failing}
-use Rattle.wax_directory.specs.Shown.{child_in, join}
+use Rattle.std.specs.Prelude.{◌≡◌, ℕ, ◌+◌, List, [], ◌∷◌, ◌++◌, length, Option, Some, None, ⊤}
+use Rattle.wax_directory.specs.Shown.{IsNew, Items, Shown, a_leaf, a_folder, a_sealed, child_in, end, failing}
+use Rattle.wax_directory.specs.Shown.{folder, join, leaf, misnamed, missing, not_text, sealed, unread}
 use Rattle.wax_walk.specs.declared.error.FaultKind.TheVariants.{NotFound, NotAFolder, Listing}
 use Rattle.wax_walk.specs.Forest.{Forest, nothing, item}
 use Rattle.wax_walk.specs.Given.{Given, fault}
@@ -12,6 +12,21 @@ use Rattle.wax_tree.specs.Prefix.{path_from, walk_from}
 abbrev pub NamesLead : Shown → List (List ℕ) → Shown → Type 0
 NamesLead s [] there = s ≡ there
 NamesLead s (x ∷ names) there = (l : Items) × (s ≡ a_folder l) × NamesLead (child_in x l) names there
+
+-- the names of a folder's entries are distinct, whatever is below these
+abbrev pub AreDistinctHere : Items → Type 0
+AreDistinctHere end = ⊤
+AreDistinctHere (leaf x link rest) = IsNew x rest × AreDistinctHere rest
+AreDistinctHere (folder x inner rest) = IsNew x rest × AreDistinctHere rest
+AreDistinctHere (sealed x rest) = IsNew x rest × AreDistinctHere rest
+AreDistinctHere (misnamed x kind rest) = AreDistinctHere rest
+AreDistinctHere (unread rest) = AreDistinctHere rest
+AreDistinctHere (not_text rest) = AreDistinctHere rest
+
+-- they are in each folder in which one of these names is looked up
+abbrev pub AreDistinctAlong : List (List ℕ) → Shown → Type 0
+AreDistinctAlong (x ∷ names) (a_folder l) = AreDistinctHere l × AreDistinctAlong names (child_in x l)
+AreDistinctAlong names s = ⊤
 
 -- the location that names lead to
 abbrev pub location_at : Location → List (List ℕ) → Location

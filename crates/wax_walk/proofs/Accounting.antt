@@ -9,7 +9,7 @@ use Rattle.wax_walk.specs.declared.error.FaultKind.TheVariants.{NotText, Budget}
 use Rattle.wax_walk.specs.Course.{DirectoryCall, answers, asking, unknown}
 use Rattle.wax_walk.specs.Given.{Given, Mark, entry, fault, no_memory, with_mark, is_cut}
 use Rattle.wax_walk.specs.Given.{kept, alone, with_tree}
-use Rattle.wax_walk.specs.View.{WalkView, CountsFaults, fault_counts, IsLast, IsMisplaced, Takes, IsToOpen}
+use Rattle.wax_walk.specs.View.{WalkView, CountsFaults, fault_counts, IsLast, IsMisplaced, Takes}
 use Rattle.wax_walk.specs.View.{items_lost, how_many, opens_one, IsMemoryError}
 use Rattle.wax_walk.specs.View.{Follows, MayTake, GivesOrStops, Accounts, FeedStep, IsErrorAt, IsFolderAt, MayFail, Places}
 use Rattle.wax_walk.specs.Forest.{Pending}
@@ -94,6 +94,30 @@ counts_nothing t = record {
   names_lost = 0;
   bad_names = omega arith;
   within = omega arith;
+}
+
+-- a walk that does nothing
+pub accounts_nothing : {D C : Type 0} (law : Law D C) (v : WalkView D) → Accounts law v None v
+accounts_nothing law v = record {
+  counts = counts_nothing (law.tally v.directory);
+  taken = 0;
+  takes = omega arith;
+  counted = omega arith;
+  passed = 0;
+  passes = λ i. refl;
+  refused = 0;
+  refuses = omega arith;
+  gives = λ n. omega arith;
+  going = λ n i. i;
+  folders = 0;
+  folders_passed = omega arith;
+  opened = 0;
+  opened_is = omega arith;
+  ended = 0;
+  ended_is = omega arith;
+  opens = λ n. omega arith;
+  closes = λ n. omega arith;
+  ends = λ i. absurd i;
 }
 
 -- ---- filters

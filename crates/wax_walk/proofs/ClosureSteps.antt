@@ -5,7 +5,6 @@ use denote.Ref.{Bor}
 use Rattle.wax_directory.specs.Law.{Law}
 use Rattle.wax_walk.specs.declared.entry.TreeEntry.{TreeEntry}
 use Rattle.wax_walk.specs.declared.iterator.EntryResidue.{EntryResidue}
-use Rattle.wax_walk.specs.Course.{Ahead, AheadFiltered}
 use Rattle.wax_walk.specs.Forest.{cancelled}
 use Rattle.wax_walk.specs.Given.{Given, Facts, Mark, mark_by, with_mark, is_cut}
 use Rattle.wax_walk.specs.Says.{IsMarkSaid, SaysByRule, closure_view}

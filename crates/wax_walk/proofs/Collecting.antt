@@ -1,5 +1,5 @@
 -- A loop that takes all that a walk yields.
-use Rattle.std.proofs.Common.{◌≡◌, ℕ, ◌+◌, ◌<◌, ◌≤◌, Bool, true, false, cond, length, length-append, List, []}
+use Rattle.std.proofs.Common.{◌≡◌, ℕ, ◌+◌, ◌<◌, ◌≤◌, true, false, cond, length, length-append, List, []}
 use Rattle.std.proofs.Common.{◌∷◌, ◌++◌, refl, sym, ap, subst, ◌∙◌, append_assoc, inl, inr, arith}
 use Rattle.std.specs.Prelude.{◌⊎◌, Option, Some, None, Result, Ok, Err, IfOk, filter, map}
 use Rattle.std.specs.List.{Contains}
@@ -26,7 +26,7 @@ use Rattle.wax_walk.specs.Forest.{FirstIs, IsListed, listed_next, preorder, list
 use Rattle.wax_walk.specs.Given.{Given, Facts, fault, no_memory, is_kept}
 use Rattle.wax_walk.specs.Known.{kept_of}
 use Rattle.wax_walk.specs.View.{WalkView, FeedStep, GivesOrStops, lacks_memory, over_budget, gives}
-use Rattle.wax_walk.specs.View.{CountsFaults, fault_counts, IsLast, IsMisplaced, Takes, IsToOpen, is_to_open}
+use Rattle.wax_walk.specs.View.{CountsFaults, fault_counts, IsLast, IsMisplaced, Takes, is_to_open}
 use Rattle.wax_walk.specs.View.{IsErrorAt, IsFolderAt, MayFail, Places, items_lost, opens_one}
 use Rattle.wax_walk.specs.View.{IsMemoryError}
 use Rattle.wax_walk.specs.Course.{DirectoryCall, answers}

@@ -1,9 +1,9 @@
 -- Courses: their parts, and what a filter leaves of them.
 use Rattle.std.proofs.Common.{◌≡◌, ◌∙◌, Bool, true, false, List, [], ◌∷◌, ◌++◌, append_assoc, refl, sym, ap, subst, inl, inr}
-use Rattle.std.specs.Prelude.{◌⊎◌, Some, None}
-use Rattle.std.proofs.lemmas.List.{append-nil, map-append}
+use Rattle.std.specs.Prelude.{◌⊎◌}
+use Rattle.std.proofs.lemmas.List.{append-nil}
 use Rattle.wax_walk.specs.Course.{DirectoryCall, Course, stop, unknown, asks, yields, continued, asking, items_of, calls_of}
-use Rattle.wax_walk.specs.Course.{IsKnownFirst, answers, IsKnownWhole, IsStartOf, ComesBelow, IsFiltered, IsNothing}
+use Rattle.wax_walk.specs.Course.{IsKnownFirst, IsKnownWhole, IsStartOf, ComesBelow, IsFiltered, IsNothing}
 use Rattle.wax_walk.specs.Given.{Given, Mark, with_mark, is_cut}
 
 -- ---- parts

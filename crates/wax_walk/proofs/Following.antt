@@ -1,6 +1,6 @@
 -- How a filter follows the course of the walk inside it.
-use Rattle.std.proofs.Common.{◌≡◌, ◌∙◌, Bool, true, false, List, [], ◌∷◌, ◌++◌, refl, sym, ap, subst, inl, inr}
-use Rattle.std.specs.Prelude.{Option, Some, None}
+use Rattle.std.proofs.Common.{◌≡◌, ◌∙◌, Bool, true, false, List, refl, sym, ap, subst, inl, inr}
+use Rattle.std.specs.Prelude.{Some, None}
 use Rattle.wax_walk.specs.Course.{Ahead, AheadFiltered, DirectoryCall, Course, CutsShort, ComesBelow, IsFiltered, IsNothing}
 use Rattle.wax_walk.specs.Course.{IsStartOf, ahead, all_ahead, asking, asks, continued, yields, stop, unknown}
 use Rattle.wax_walk.specs.Given.{Given, Mark, entry, fault, no_memory, with_mark, is_cut}
@@ -126,7 +126,7 @@ filtered_both allows (yields x c b) a d e h k = elim h [
 ]
 
 -- of a walk that may take only the error that allocation failed, a rule leaves only that
-lacks_filtered : (allows : Given → Mark → Type 0) (c d : Course) → IsStartOf c (yields no_memory stop stop)
+pub lacks_filtered : (allows : Given → Mark → Type 0) (c d : Course) → IsStartOf c (yields no_memory stop stop)
     → IsFiltered allows c d → IsStartOf d (yields no_memory stop stop)
 lacks_filtered allows unknown d b h = subst (λ z. IsStartOf z (yields no_memory stop stop)) (sym h) tt
 lacks_filtered allows stop d b h = absurd (let i : yields no_memory stop stop ≡ stop = b in (cc))
@@ -148,13 +148,29 @@ lacks_filtered allows (yields x c a) d b h =
       nothing_below true e h n = h
       nothing_below false e h n = filtered_nothing allows c e n h
 
+-- what a filtered walk may take is filtered of what the walk may take
+pub take_filtered_by : {D : Type 0} (inner : WalkView D) (said allows : Given → Mark → Type 0)
+    → ((x : Given) (m : Mark) → said x m → allows x m) → (e : Course) (a : Ahead)
+    → AheadFiltered inner.may_come said a → all_ahead a ≡ e
+    → (c : Course) × MayTake inner c × IsFiltered allows c e
+take_filtered_by inner said allows wider e a f same = (
+  all_ahead f.0,
+  (f.0, f.1, refl),
+  filtered_widened said allows wider (all_ahead f.0) e (subst (IsFiltered said (all_ahead f.0)) same
+      (filtered_both said f.0.below f.0.after a.below a.after f.2 f.3)),
+)
+
+pub take_ruled : {D : Type 0} (inner outer : WalkView D) (rule : Candidate → Mark)
+    → IsSeenAs (ruled_view inner rule false) outer → (e : Course) → MayTake outer e
+    → (c : Course) × MayTake inner c × IsFiltered (IsMarkBy (of_candidate rule)) c e
+take_ruled inner outer rule seen e t =
+    let allows = IsMarkBy (of_candidate rule) in
+    take_filtered_by inner allows allows (λ x m s. s) e t.0 (seen.may_come t.0 t.1) t.2
+
 pub lacks_ruled : {D : Type 0} (inner outer : WalkView D) (rule : Candidate → Mark)
     → IsSeenAs (ruled_view inner rule false) outer
     → ((c : Course) → MayTake inner c → IsStartOf c (yields no_memory stop stop))
     → (c : Course) → MayTake outer c → IsStartOf c (yields no_memory stop stop)
 lacks_ruled inner outer rule seen lacks c t =
-    let a = seen.may_come t.0 t.1 in
-    let allows = IsMarkBy (of_candidate rule) in
-    lacks_filtered allows (all_ahead a.0) c (lacks (all_ahead a.0) (a.0, a.1, refl))
-    (subst (IsFiltered allows (all_ahead a.0)) t.2
-    (filtered_both allows a.0.below a.0.after t.0.below t.0.after a.2 a.3))
+    let p = take_ruled inner outer rule seen c t in
+    lacks_filtered (IsMarkBy (of_candidate rule)) p.0 c (lacks p.0 p.1) p.2

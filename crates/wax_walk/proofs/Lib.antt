@@ -1,6 +1,7 @@
 pub mod Filtering
 pub mod Courses
 pub mod Following
+pub mod Filtered
 pub mod Taking
 pub mod Accounting
 pub mod Collecting
@@ -10,5 +11,6 @@ pub mod Wanted
 pub mod RuleSteps
 pub mod ClosureSteps
 pub mod Leaving
+pub mod Seen
 pub mod Sharing
 pub mod PathsAlong

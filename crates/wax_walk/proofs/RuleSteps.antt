@@ -1,5 +1,5 @@
 -- Steps of a filter by a rule.
-use Rattle.std.proofs.Common.{◌≡◌, ◌∙◌, Bool, true, false, List, [], ◌++◌, refl, sym, ap, subst, inl, inr, cond, arith}
+use Rattle.std.proofs.Common.{◌≡◌, ◌∙◌, Bool, true, false, [], refl, sym, ap, subst, inl, inr, cond, arith}
 use Rattle.std.specs.Prelude.{Some, None}
 use Rattle.std.proofs.lemmas.List.{append-nil}
 use Rattle.wax_directory.specs.Law.{Law}
@@ -12,7 +12,7 @@ use Rattle.wax_walk.specs.Ruled.{AheadRuled, IsMarkBy, ruled_view}
 use Rattle.wax_walk.specs.View.{WalkView, FeedStep, CancelStep, GivesOrStops, lacks_memory, opens_one}
 use Rattle.wax_walk.specs.View.{CountsFaults, fault_counts, items_lost, ended_so, was_cut}
 use Rattle.wax_walk.proofs.Accounting.{IsAsked, HasAnswered, step_ends, step_marked, opened_cut, opened_uncut}
-use Rattle.wax_walk.proofs.Accounting.{counts_nothing, folder_uncut, takes_within}
+use Rattle.wax_walk.proofs.Accounting.{accounts_nothing, folder_uncut, takes_within}
 use Rattle.wax_walk.proofs.Filtering.{layer_ends, layer_cuts, layer_passes}
 use Rattle.wax_walk.proofs.Following.{begins_filtered, cuts_filtered, ends_filtered, passes_filtered}
 
@@ -195,27 +195,7 @@ module _ {D C : Type 0} (law : Law D C) (rule : Candidate → Mark) where
     answered = sym (append-nil (law.answered v.directory));
     begins = (ahead stop unknown, (refl, tt), refl);
     follows = ended_so refl (ahead stop stop, (refl, refl), refl);
-    accounts = record {
-      counts = counts_nothing (law.tally v.directory);
-      taken = 0;
-      takes = omega arith;
-      counted = omega arith;
-      passed = 0;
-      passes = λ i. refl;
-      refused = 0;
-      refuses = omega arith;
-      gives = λ n. omega arith;
-      going = λ n i. i;
-      folders = 0;
-      folders_passed = omega arith;
-      opened = 0;
-      opened_is = omega arith;
-      ended = 0;
-      ended_is = omega arith;
-      opens = λ n. omega arith;
-      closes = λ n. omega arith;
-      ends = λ i. absurd i;
-    };
+    accounts = accounts_nothing law (ruled_view v rule true);
     at_end = λ i. inl refl;
     closed = λ i. refl;
     begun = λ i. refl;

@@ -1,6 +1,6 @@
 -- The course of what a loop has taken of a walk.
 use Rattle.std.proofs.Common.{◌≡◌, ◌∙◌, List, [], ◌∷◌, ◌++◌, append_assoc, refl, sym, ap, subst}
-use Rattle.std.specs.Prelude.{Option, Some, None}
+use Rattle.std.specs.Prelude.{Some, None}
 use Rattle.std.proofs.lemmas.List.{append-nil, map-append}
 use Rattle.wax_directory.specs.History.{Answer}
 use Rattle.wax_walk.specs.declared.error.FaultKind.TheVariants as F

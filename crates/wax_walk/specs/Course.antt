@@ -1,9 +1,9 @@
 -- The course of a walk: its calls of the directory, each with its answer, and the items between them.
-use Rattle.std.specs.Prelude.{◌≡◌, ◌⊎◌, ℕ, Bool, true, false, List, [], ◌∷◌, ◌++◌, map, ⊤}
+use Rattle.std.specs.Prelude.{◌≡◌, ◌⊎◌, ℕ, Bool, true, false, cond, List, [], ◌∷◌, ◌++◌, map, ⊤}
 use Rattle.wax_directory.specs.History.{Answer, listed}
 use Rattle.wax_directory.specs.Shown.{Listed}
 use Rattle.wax_walk.specs.declared.error.FaultKind.TheVariants.{Budget}
-use Rattle.wax_walk.specs.Given.{Given, Mark, entry, fault, no_memory, with_mark, is_cut}
+use Rattle.wax_walk.specs.Given.{Given, Mark, fault, no_memory, with_mark, is_cut}
 
 -- a call about the file or folder at this path, and its answer; a call that takes an item is about the folder
 pub record DirectoryCall : Type 0 where
@@ -100,6 +100,14 @@ IsFiltered allows (asks q c) d = (d ≡ unknown) ⊎ ((e : Course) × (d ≡ ask
 IsFiltered allows (yields x below after) d = (d ≡ unknown) ⊎ ((m : Mark) × allows x m × (b : Course)
     × (a : Course) × (d ≡ yields (with_mark x m) b a) × ComesBelow (is_cut x m) (IsFiltered allows below b) b
     × IsFiltered allows after a)
+
+-- a known course with each item changed, and without what comes below the items that are cut
+abbrev pub filtered_course : (Given → Given) → (Given → Bool) → Course → Course
+filtered_course change cut stop = stop
+filtered_course change cut unknown = unknown
+filtered_course change cut (asks q c) = asks q (filtered_course change cut c)
+filtered_course change cut (yields x below after) = yields (change x)
+    (cond (cut x) stop (filtered_course change cut below)) (filtered_course change cut after)
 
 -- what is ahead after a filter, if `inner` holds of what is ahead before it
 abbrev pub AheadFiltered : (Ahead → Type 0) → (Given → Mark → Type 0) → Ahead → Type 0

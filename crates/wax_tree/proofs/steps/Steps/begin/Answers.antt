@@ -17,11 +17,9 @@ use Rattle.wax_tree.specs.Reaching.{OfAny, OnWay, ReachesFrom, no_folders}
 use Rattle.wax_tree.proofs.Reaching.{fault_places, leads_here, reaches_more, stopped_places, way_here}
 use Rattle.wax_tree.proofs.Coursing.{fault_uses, memory_uses, stopped_uses, uses_more, some_along}
 use Rattle.std.proofs.Common.{[], ◌∷◌, ◌∙◌, ◌++◌}
-use Rattle.std.proofs.lemmas.List.{append-nil}
 use Rattle.wax_directory.specs.History.{absent, found, unseen}
 use Rattle.wax_walk.specs.Course.{asking, call}
 use Rattle.wax_tree.specs.Courses.{AlongComes, is_failing, is_missing, is_there}
-use Rattle.wax_tree.specs.Stepping.{ComesLast}
 use Rattle.wax_tree.proofs.steps.Steps.begin.Goals as goal
 
 pub returns-in-Ok-Some-clause-continues : goal.returns-in-Ok-Some-clause-continues

@@ -13,7 +13,7 @@ use Rattle.wax_tree.proofs.Coursing.{fault_uses, memory_uses, opened_uses, some_
 use Rattle.wax_directory.specs.History.{opened, refused}
 use Rattle.wax_walk.specs.Course.{asking, asks, call, stop, yields}
 use Rattle.wax_directory.specs.Shown.{a_sealed}
-use Rattle.wax_tree.specs.Stepping.{ComesLast, FolderComes}
+use Rattle.wax_tree.specs.Stepping.{FolderComes}
 use Rattle.wax_tree.specs.Walking.{scope_of}
 use Rattle.wax_tree.proofs.steps.Steps.enter.Goals as goal
 use Rattle.wax_tree.proofs.steps.Steps.enter.Goals.{in-Ok-push, in-Err}

@@ -11,7 +11,7 @@ use Rattle.wax_tree.proofs.Resting.{comes_rest}
 use Rattle.wax_tree.proofs.Stepping.{gives_fault}
 use Rattle.wax_tree.proofs.Reaching.{entry_places, found_places}
 use Rattle.wax_tree.proofs.Coursing.{entry_item, fault_item, fault_uses, uses_moved}
-use Rattle.std.proofs.Common.{[], ◌∙◌}
+use Rattle.std.proofs.Common.{[]}
 use Rattle.wax_tree.specs.Stepping.{ItemComes}
 use Rattle.wax_tree.proofs.steps.Steps.give_found.Goals as goal
 

@@ -7,15 +7,13 @@ use Rattle.wax_tree.specs.Reaching.{IsOf, MayReach, OnWay, ReachesFrom}
 use Rattle.wax_tree.proofs.Reaching.{entered_reaches, first_reaches, places_more, popped_reaches}
 use Rattle.wax_tree.proofs.Coursing.{comes_ahead, course_moved, levels_push, stops_so}
 use Rattle.std.proofs.Common.{subst}
-use Rattle.std.proofs.lemmas.List.{append-nil}
-use Rattle.wax_walk.specs.Course.{ahead, continued, stop}
-use Rattle.wax_tree.specs.Stepping.{FolderComes}
+use Rattle.wax_walk.specs.Course.{ahead, stop}
 use Rattle.wax_tree.specs.Courses.{entered_course}
 use Rattle.wax_tree.specs.Walking.{EnteredComes, FirstComes, LevelsCome, located, scope_of}
 use Rattle.wax_tree.proofs.steps.Steps.step.Goals as goal
 use Rattle.std.proofs.Common.{◌+◌, cond, length, length-append}
 use Rattle.std.specs.Prelude.{Some}
-use Rattle.wax_tree.specs.Walking.{allowance, begins, entering, entering_after, if_some, names_left, names_of_first}
+use Rattle.wax_tree.specs.Walking.{begins, entering, entering_after, if_some, names_left, names_of_first}
 use Rattle.wax_tree.specs.Walking.{open_lists, steps_view, HasStopped}
 use Rattle.wax_tree.proofs.Listing.{step_is}
 

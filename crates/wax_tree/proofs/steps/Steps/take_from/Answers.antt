@@ -20,7 +20,6 @@ use Rattle.wax_directory.specs.History.{listed}
 use Rattle.wax_walk.specs.Course.{call}
 use Rattle.wax_tree.specs.Walking.{LevelsCome}
 use Rattle.wax_tree.proofs.steps.Steps.take_from.Goals as goal
-use Rattle.std.specs.Prelude.{None}
 use Rattle.wax_walk.specs.Given.{fault}
 use Rattle.wax_tree.proofs.Finding.{item_lost}
 use Rattle.wax_tree.proofs.UsingAnswers.{memory_uses_answer, none_begins, stopped_uses_answer}

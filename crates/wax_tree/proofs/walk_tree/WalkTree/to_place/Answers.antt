@@ -62,7 +62,7 @@ returns-in-Ok-new-clause-begins g c =
           let m = made_takes law made place
           (record { path = c.args.start.now; candidate = c.args.candidate.now; depth = 0 }) c.args.root.now d refl
           c.new-in-Ok-new.ensures.levels refl is root t in
-          along m.0 m.1 m.2;
+          along (omega (arith, less, long)) (omega (arith, fits, long)) m.0 m.1 m.2;
       above = λ d. absurd (omega (arith, d, less, long));
       idle = λ d. absurd (omega (arith, d, less, long));
       listings = refl;
