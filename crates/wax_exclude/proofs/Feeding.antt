@@ -16,11 +16,11 @@ use Rattle.wax_walk.specs.Forest.{nothing, preorder}
 use Rattle.wax_walk.specs.Given.{Given, fault, no_memory}
 use Rattle.wax_walk.specs.Left.{left_of}
 use Rattle.wax_exclude.proofs.StackingRequests.{stacked_any}
-use Rattle.wax_exclude.specs.Feeds.{FeedsByRequest, FeedsByRules, FeedsWanted, feed_of}
+use Rattle.wax_exclude.specs.Feeds.{FeedsByRules, FeedsByWalk, FeedsRuled, feed_of}
 use Rattle.wax_exclude.specs.Feeds.{gives, lacks_memory, over_budget}
-use Rattle.wax_exclude.specs.GlobRequests.{GlobRequest, is_beyond, request_pending}
-use Rattle.wax_exclude.specs.Walked.{glob_walk, origin_location, origin_walk}
-use Rattle.wax_exclude.specs.Wanted.{rules_of}
+use Rattle.wax_exclude.specs.RuledWalks.{RuledWalk, exceeds_range, ruled_pending}
+use Rattle.wax_exclude.specs.Walked.{origin_location, origin_walk}
+use Rattle.wax_exclude.specs.Wanted.{stacked}
 
 pub feeds_by_rules : FeedsByRules
 feeds_by_rules rules range origin s fits =
@@ -31,25 +31,25 @@ feeds_by_rules rules range origin s fits =
     ∙ ap (left_of (any_mark rules))
     (along_yielded range origin.root (origin_location origin) s origin.names (omega (arith, fits))))
 
-pub feeds_by_request : FeedsByRequest
-feeds_by_request request s = go (is_beyond request) refl where
-  go : (b : Bool) → is_beyond request ≡ b
-      → preorder (if b then nothing else glob_walk request.wanted request.walked request.origin s)
-      ≡ (if b then [] else feed_of (rules_of request.wanted) request.walked request.origin s)
+pub feeds_by_walk : FeedsByWalk
+feeds_by_walk walk s = go (exceeds_range walk) refl where
+  go : (b : Bool) → exceeds_range walk ≡ b
+      → preorder (if b then nothing else stacked walk.rules (origin_walk walk.walked walk.origin s))
+      ≡ (if b then [] else feed_of walk.rules walk.walked walk.origin s)
   go true e = refl
-  go false e = feeds_by_rules (rules_of request.wanted) request.walked request.origin s (ltb-false _ _ e)
+  go false e = feeds_by_rules walk.rules walk.walked walk.origin s (ltb-false _ _ e)
 
 items_shown : (budget shown : ℕ) (b : Bool) → budget + 1 ≤ (if b then 0 else shown) → budget < shown
 items_shown budget shown true l = absurd (omega (arith, l))
 items_shown budget shown false l = omega (arith, l)
 
--- what a walk gave of a request is its feed
-pub feeds_wanted : (tells : List (List ℕ) → Type 0) (request : GlobRequest) (s : Shown) (listed : List (List ℕ))
-    (xs : List Given) → GaveAll tells (request.walked.budget + 1) (request_pending request s listed) xs
-    → FeedsWanted request s xs
-feeds_wanted tells request s listed xs (given.whole e t) = gives (e ∙ feeds_by_request request s)
-feeds_wanted tells request s listed xs (given.lacks_memory c) =
-    lacks_memory (subst (λ all. IsCutShort all no_memory xs) (feeds_by_request request s) c)
-feeds_wanted tells request s listed xs (given.over_budget path depth few h c) =
-    over_budget path depth (items_shown request.walked.budget (count_shown s) (is_beyond request) few)
-    (subst (λ all. IsCutShort all (fault Budget path depth) xs) (feeds_by_request request s) c)
+-- what a walk gave is its feed
+pub feeds_ruled : (tells : List (List ℕ) → Type 0) (walk : RuledWalk) (s : Shown) (listed : List (List ℕ))
+    (xs : List Given) → GaveAll tells (walk.walked.budget + 1) (ruled_pending walk s listed) xs
+    → FeedsRuled walk s xs
+feeds_ruled tells walk s listed xs (given.whole e t) = gives (e ∙ feeds_by_walk walk s)
+feeds_ruled tells walk s listed xs (given.lacks_memory c) =
+    lacks_memory (subst (λ all. IsCutShort all no_memory xs) (feeds_by_walk walk s) c)
+feeds_ruled tells walk s listed xs (given.over_budget path depth few h c) =
+    over_budget path depth (items_shown walk.walked.budget (count_shown s) (exceeds_range walk) few)
+    (subst (λ all. IsCutShort all (fault Budget path depth) xs) (feeds_by_walk walk s) c)

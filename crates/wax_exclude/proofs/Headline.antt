@@ -14,6 +14,7 @@ use Rattle.wax_token.specs.Meaning.{Means}
 use Rattle.wax_token.specs.Spelled.{LiteralsHaveNoSlash}
 use Rattle.wax_tree.specs.Begins.{Origin, scope_in}
 use Rattle.wax_tree.specs.declared.steps.DepthRange.{DepthRange}
+use Rattle.wax_tree.specs.Follows.{AreDistinctAlong}
 use Rattle.wax_tree.specs.Plain.{WalkScope, Location, plain_entry}
 use Rattle.wax_tree.specs.Prefix.{ArePlain, path_from, walk_from}
 use Rattle.wax_walk.specs.declared.error.FaultKind.{FaultKind}
@@ -27,7 +28,7 @@ use Rattle.wax_exclude.proofs.Walked.{walk_wanted}
 use Rattle.wax_exclude.proofs.Whole.{at_whole}
 use Rattle.wax_exclude.specs.Candidates.{base, text_at}
 use Rattle.wax_exclude.specs.inner.Descents.{At, child_location}
-use Rattle.wax_exclude.specs.Premises.{BoundsNames, CanWalk, IsPlainShown, IsWellNamed}
+use Rattle.wax_exclude.specs.Premises.{BoundsNames, CanWalk, IsPlainShown}
 use Rattle.wax_exclude.specs.Walked.{MayList, origin_location, plain_walk, glob_walk, wanted_entries}
 use Rattle.wax_exclude.specs.Wanted.{Wanted, none_excludes, is_wanted, is_kept_entry, stacked, rules_of}
 
@@ -173,16 +174,17 @@ module _ {A : Type 0} (w : Wanted A) where
     fits_asked (inr b) l = let c = b.0 in omega (arith, c, l)
 
     -- the entries that are kept at last are those of the whole walk that are wanted, in order
-    pub gives_wanted : (s : Shown) → IsWellNamed s → length origin.names ≤ walked.max
+    pub gives_wanted : (s : Shown) → IsPlainShown s → AreDistinctAlong origin.names s
+        → length origin.names ≤ walked.max
         → filter is_kept_entry (preorder (glob_walk w walked origin s)) ≡ wanted_entries w asked origin s
-    gives_wanted s h l =
+    gives_wanted s plain distinct l =
         to_least walked.max s
         ∙ kept_walk (scope_to walked.max) can.spelled origin.names (origin_location origin) [] s can.plain
-        (at_start origin can.candidate) h.plain
-        ∙ to_greatest s h.plain can.greatest
+        (at_start origin can.candidate) plain
+        ∙ to_greatest s plain can.greatest
         ∙ reached (is_wanted w) (λ k p d. refl) w.rooted (scope_to asked.max) origin.names
         (beyond (scope_to asked.max))
-        origin.names (origin_location origin) [] s refl can.plain (at_start origin can.candidate) h.plain h.distinct
+        origin.names (origin_location origin) [] s refl can.plain (at_start origin can.candidate) plain distinct
         (fits_asked can.greatest l)
         ∙ plain_wanted asked origin s
 

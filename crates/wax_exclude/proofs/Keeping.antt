@@ -10,6 +10,7 @@ use Rattle.wax_walk.specs.Forest.{Pending, nothing, pending}
 use Rattle.wax_walk.specs.Given.{Given, fault, no_memory, is_kept}
 use Rattle.wax_walk.specs.Ruled.{ruled_view}
 use Rattle.wax_walk.specs.View.{WalkView, IsSeenAs}
+use Rattle.wax_exclude.proofs.Allowing.{lists_allowed}
 use Rattle.wax_exclude.proofs.KeptItems.{cut_kept, kept_entries}
 use Rattle.wax_exclude.specs.Ignored.{ignore_mark}
 use Rattle.wax_exclude.specs.Unignored.{GivesUnignored, LosesIgnored}
@@ -52,7 +53,7 @@ module _ (gives_unignored : GivesUnignored) (loses_ignored : LosesIgnored) where
   keeps_unignored tells request s listed xs plain (whole e t) =
       due.gives (ap (filter is_kept) e)
       (kept_entries xs ∙ (ap (filter is_kept_entry) e ∙ gives_unignored request.lines request.range request.start s plain)) t
-      (loses_ignored request.lines request.range request.start s plain)
+      (loses_ignored request.lines request.range request.start s plain, lists_allowed request s plain)
   keeps_unignored tells request s listed xs plain (lacks_memory c) =
       due.lacks_memory (cut_kept _ no_memory xs refl c)
   keeps_unignored tells request s listed xs plain (over_budget path depth few contains c) =

@@ -1,4 +1,5 @@
 pub mod Adjacent
+pub mod Allowing
 pub mod AllBelow
 pub mod Beginnings
 pub mod Belows
@@ -26,11 +27,13 @@ pub mod TreeRequests
 pub mod Reaching
 pub mod Remembered
 pub mod RootedLeads
+pub mod SelectingWanted
 pub mod Rows
 pub mod Shown
 pub mod Stacking
 pub mod StackingRequests
 pub mod Steps
+pub mod Telling
 pub mod Tests
 pub mod Texts
 pub mod Unslashed

@@ -12,6 +12,7 @@ use Rattle.wax_directory.specs.declared.directory.FileType.TheVariants.{Folder}
 use Rattle.wax_directory.specs.Shown.{Items, end, leaf, folder, sealed, misnamed, unread, not_text, Shown}
 use Rattle.wax_directory.specs.Shown.{a_leaf, a_folder, a_sealed, missing, failing, leaf_kind, IsPlain}
 use Rattle.wax_directory.specs.Shown.{child_in, IsNew, AreDistinct, IsDistinct}
+use Rattle.wax_tree.specs.Follows.{AreDistinctAlong, AreDistinctHere}
 use Rattle.wax_tree.specs.Plain.{WalkScope, Location, one_deeper, plain_entry, items_forest, below_forest, plain_at}
 use Rattle.wax_tree.specs.Prefix.{ArePlain, walk_from}
 use Rattle.wax_walk.proofs.Collecting.{preorder_append}
@@ -68,6 +69,24 @@ distinct_child x (sealed y rest) t = go (bytes_eq y x) (distinct_child x rest t.
 distinct_child x (misnamed y kind rest) t = distinct_child x rest t
 distinct_child x (unread rest) t = distinct_child x rest t
 distinct_child x (not_text rest) t = distinct_child x rest t
+
+distinct_here : (l : Items) → AreDistinct l → AreDistinctHere l
+distinct_here end d = tt
+distinct_here (leaf x link rest) d = (d.0, distinct_here rest d.1)
+distinct_here (folder x inner rest) d = (d.0, distinct_here rest d.2)
+distinct_here (sealed x rest) d = (d.0, distinct_here rest d.1)
+distinct_here (misnamed x kind rest) d = distinct_here rest d
+distinct_here (unread rest) d = distinct_here rest d
+distinct_here (not_text rest) d = distinct_here rest d
+
+-- names that are distinct in each folder are so in those on the way
+pub distinct_along : (names : List (List ℕ)) (s : Shown) → IsDistinct s → AreDistinctAlong names s
+distinct_along [] s d = tt
+distinct_along (x ∷ names) (a_leaf link) d = tt
+distinct_along (x ∷ names) (a_folder l) d = (distinct_here l d, distinct_along names (child_in x l) (distinct_child x l d))
+distinct_along (x ∷ names) a_sealed d = tt
+distinct_along (x ∷ names) missing d = tt
+distinct_along (x ∷ names) failing d = tt
 
 abbrev never : Given → Bool
 never x = false
@@ -378,7 +397,7 @@ module _ (p : Given → Bool)
             (of_fault Listing c.path c.depth nothing) ∙ ih
 
         -- of a folder only what has the name is wanted
-        only_child : (at : Location) (l : Items) → At rooted at done → ArePlainItems l → AreDistinct l
+        only_child : (at : Location) (l : Items) → At rooted at done → ArePlainItems l → AreDistinctHere l
             → of (in_folder at l) ≡ of (only at (child_in x l))
         only_child at end a t u = sym (of_fault NotFound (child_location at x).path (child_location at x).depth
             nothing)
@@ -386,7 +405,7 @@ module _ (p : Given → Bool)
             only_leaf at y link rest a t.0 t.1 (only_child at rest a t.1 u.1) (bytes_eq y x) (same_name y x)
             (other_name y x) (λ e. subst (λ v. IsNew v rest) e u.0)
         only_child at (folder y inner rest) a t u =
-            only_folder at y inner rest a t.0 t.1 t.2 (only_child at rest a t.2 u.2) (bytes_eq y x)
+            only_folder at y inner rest a t.0 t.1 t.2 (only_child at rest a t.2 u.1) (bytes_eq y x)
             (same_name y x)
             (other_name y x) (λ e. subst (λ v. IsNew v rest) e u.0)
         only_child at (sealed y rest) a t u =
@@ -401,7 +420,7 @@ module _ (p : Given → Bool)
         short at kind a = beyond at kind done a (λ rest e. too_few done names rest x aim e)
 
         -- of what is shown here only what has the name is wanted
-        step_in : (at : Location) (l : Items) → At rooted at done → ArePlainItems l → AreDistinct l
+        step_in : (at : Location) (l : Items) → At rooted at done → ArePlainItems l → AreDistinctHere l
             → length target ≤ scope.max
             → of (plain_at scope at (a_folder l) nothing) ≡ of (only at (child_in x l))
         step_in at l a t u m =
@@ -431,7 +450,8 @@ module _ (p : Given → Bool)
       -- what is wanted of the whole walk is what is wanted of the walk from the last name of the origin
       pub reached : (names : List (List ℕ)) (at : Location) (done : List (List ℕ)) (s : Shown)
           → done ++ names ≡ target
-          → ArePlain names → At rooted at done → IsPlainShown s → IsDistinct s → length target ≤ scope.max
+          → ArePlain names → At rooted at done → IsPlainShown s → AreDistinctAlong names s
+          → length target ≤ scope.max
           → of (walk_from scope at s names nothing) ≡ of (plain_at scope at s nothing)
       reached [] at done s e n a t u m = refl
       reached (x ∷ names) at done (a_leaf link) e n a t u m =
@@ -444,5 +464,5 @@ module _ (p : Given → Bool)
       reached (x ∷ names) at done (a_folder l) e n a t u m =
           reached names (child_location at x) (done ++ x ∷ []) (child_in x l)
           (append_assoc done (x ∷ []) names ∙ e) n.1
-          (at_join rooted at done x a n.0) (plain_child x l t) (distinct_child x l u) m
-          ∙ sym (step_in done names x e at l a t u m)
+          (at_join rooted at done x a n.0) (plain_child x l t) u.1 m
+          ∙ sym (step_in done names x e at l a t u.0 m)

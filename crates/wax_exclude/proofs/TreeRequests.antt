@@ -1,25 +1,32 @@
 -- A plain walk is the walk of `**`.
-use Rattle.std.proofs.Common.{◌≡◌, ◌∙◌, ◌<◌, ◌&&◌, ℕ, true, false, List, arith, chars, filter, inl, refl, sym, subst}
+use Rattle.std.proofs.Common.{◌≡◌, ◌∙◌, ◌<◌, ◌&&◌, ◌∷◌, [], ℕ, true, false, List, ap, arith, chars, filter, inl, refl, sym, subst}
 use Rattle.std.specs.Prelude.{if◌then◌else◌}
 use Rattle.std.proofs.lemmas.Bool.{ltb-true}
 use Rattle.wax_directory.specs.Law.{Law}
 use Rattle.wax_token.specs.Decided.{means_test, means_tested}
 use Rattle.wax_token.specs.Reads.{Span}
 use Rattle.wax_tree.specs.Begins.{Begins, scope_in}
+use Rattle.wax_tree.specs.Begins as begin
+use Rattle.wax_tree.specs.Courses.{plain_course}
 use Rattle.wax_tree.specs.declared.steps.DepthRange.{DepthRange}
 use Rattle.wax_tree.specs.Plain.{count_shown, plain}
 use Rattle.wax_tree.specs.Whole.{is_in, whole}
 use Rattle.wax_walk.specs.Candidates.{candidate_of, of_candidate}
+use Rattle.wax_walk.specs.Course.{Course, IsStartOf, stop}
 use Rattle.wax_walk.specs.Forest.{Forest, nothing, pending}
+use Rattle.wax_walk.proofs.Filtered.{ruled_course}
 use Rattle.wax_walk.specs.Given.{Facts, kept, alone, with_tree, Given, entry, fault, no_memory}
 use Rattle.wax_walk.specs.View.{WalkView}
 use Rattle.wax_glob_walk.proofs.Combining.{ruled}
-use Rattle.wax_exclude.proofs.StackingRequests.{unruled}
+use Rattle.wax_glob_walk.specs.Programs.{any_mark}
+use Rattle.wax_exclude.proofs.StackingRequests.{any_alone, course_unruled, unruled}
 use Rattle.wax_exclude.specs.Marks.{glob_mark, led_mark}
 use Rattle.wax_exclude.specs.TreeRequests.{WantsUnfiltered, is_unfiltered, tree_request, tree_alone}
-use Rattle.wax_exclude.specs.GlobRequests.{ComesWanted, CanBegin, GlobRequest, goes, is_beyond, request_excluding}
+use Rattle.wax_exclude.specs.GlobRequests.{ComesWanted, CanBegin, GlobRequest, goes, is_beyond, request_excluding, walk_for}
+use Rattle.wax_exclude.specs.RuledWalks.{lacking, origin_course, walk_course, walks}
 use Rattle.wax_exclude.specs.Walked.{glob_walk}
-use Rattle.wax_exclude.specs.Wanted.{Filter, is_wanted, none_excludes}
+use Rattle.wax_exclude.specs.Wanted.{Filter, is_wanted, none_excludes, rules_of}
+use Rattle.wax_directory.specs.Shown.{Shown}
 
 -- ---- `**`
 
@@ -31,6 +38,10 @@ all_kept f = λ i. led_mark true (all_meant (candidate_of f).text i)
 
 unchanged : (f : Forest Given) → ruled (of_candidate (glob_mark false tree_alone)) f ≡ f
 unchanged f = (λ i. ruled (λ facts. all_kept facts i) f) ∙ unruled f
+
+unchanged_course : (c : Course) → ruled_course (any_mark (of_candidate (glob_mark false tree_alone) ∷ [])) c ≡ c
+unchanged_course c = ap (λ r. ruled_course r c) (any_alone (of_candidate (glob_mark false tree_alone)))
+    ∙ ((λ i. ruled_course (λ facts. all_kept facts i) c) ∙ course_unruled c)
 
 -- ---- what comes
 
@@ -52,8 +63,19 @@ plain_comes law d range start view begins = record {
       (sym (not_beyond range start))
       (subst (λ f. view.to_come (pending nothing f listed (count_shown s)))
       (sym (unchanged (plain (scope_in range start) s))) (begins.shown s listed shows told));
+  takes = λ c t. elim (begins.takes c t) [
+    | begin.walks s n b ↦ walks s n tt (subst (IsStartOf c) (plain_course_so s (not_beyond range start)) b)
+    | begin.lacking_start b ↦ lacking b
+  ];
   listings = begins.listings;
-}
+} where
+  plain_course_so : (s : Shown) → is_beyond (tree_request range start) ≡ false
+      → plain_course (scope_in range start) s ≡ walk_course (walk_for (tree_request range start)) s
+  plain_course_so s e =
+      let request = tree_request range start in
+      sym (unchanged_course (plain_course (scope_in range start) s))
+      ∙ ap (λ b. if b then stop else ruled_course (any_mark (rules_of request.wanted))
+      (origin_course range request.origin s)) (sym e)
 
 pub plain_goes : (range : DepthRange) (start : List ℕ) (filters : List (Filter Span))
     → CanBegin (request_excluding (tree_request range start) filters)

@@ -7,29 +7,36 @@ use Rattle.wax_directory.specs.Counting.{grown}
 use Rattle.wax_directory.specs.Law.{Law}
 use Rattle.wax_directory.specs.Shown.{Shown}
 use Rattle.wax_token.specs.Reads.{Span}
+use Rattle.wax_tree.specs.Follows.{AreDistinctAlong}
 use Rattle.wax_tree.specs.Plain.{count_shown}
 use Rattle.wax_walk.specs.Candidates.{Candidate, of_candidate}
 use Rattle.wax_walk.specs.Collected.{GaveAll, whole, lacks_memory, over_budget, Took, count_to_open}
 use Rattle.wax_walk.specs.Collected.{AreOfFolders, HasFolder, all_fault_counts, all_items_lost}
 use Rattle.wax_walk.specs.declared.error.FaultKind.TheVariants.{Budget}
+use Rattle.wax_walk.proofs.Filtered.{filtered_begins, ruled_course}
+use Rattle.wax_walk.proofs.Following.{lacks_filtered, take_ruled}
 use Rattle.wax_walk.proofs.Taking.{course_seen}
-use Rattle.wax_walk.specs.Forest.{Pending, Forest, nothing, pending, preorder, listings}
-use Rattle.wax_walk.specs.Given.{Mark, Given, fault, no_memory, is_kept}
-use Rattle.wax_walk.specs.Ruled.{ruled_view}
-use Rattle.wax_walk.specs.View.{WalkView, CountsFaults, IsSeenAs, MayFail}
+use Rattle.wax_walk.specs.Course.{Course, IsFiltered, IsStartOf, stop}
+use Rattle.wax_walk.specs.Forest.{Pending, filtered_pending, nothing, pending, preorder, listings}
+use Rattle.wax_walk.specs.Given.{Facts, Mark, Given, changed_by, combined_mark, cut_by, fault, no_memory, is_kept}
+use Rattle.wax_walk.specs.Ruled.{IsMarkBy, ruled_view}
+use Rattle.wax_walk.specs.View.{WalkView, CountsFaults, IsSeenAs, MayFail, MayTake}
 use Rattle.wax_exclude.proofs.KeptItems.{cut_kept, kept_entries}
 use Rattle.wax_exclude.specs.Law.{GivesWanted, ListsFew, WantsNothing}
 use Rattle.wax_exclude.specs.Marks.{glob_mark}
-use Rattle.wax_exclude.specs.Premises.{IsWellNamed}
+use Rattle.wax_exclude.specs.Premises.{IsPlainShown, IsWellNamed}
 use Rattle.wax_exclude.specs.Walked.{glob_walk, wanted_entries, origin_walk, MayList}
-use Rattle.wax_exclude.specs.Wanted.{Filter, filter_rules, is_kept_entry, stacked, rules_of}
+use Rattle.wax_exclude.specs.Wanted.{Filter, filter_mark, filter_rules, is_kept_entry, stacked, rules_of}
 use Rattle.wax_glob_walk.specs.Programs.{any_mark}
 use Rattle.wax_exclude.specs.Due as due
-use Rattle.wax_exclude.specs.GlobRequests.{AreRulesOf, ComesExcluding, IsRuleOf, GlobRequest, request_excluding, is_beyond}
-use Rattle.wax_exclude.specs.GlobRequests.{CanBegin, goes, unmeant, request_walk, request_items, request_pending, ComesWanted, KeepsWanted}
+use Rattle.wax_exclude.specs.GlobRequests.{AreRulesOf, CanBegin, ComesExcluding, ComesWanted, GlobRequest, IsRuleOf, KeepsWanted}
+use Rattle.wax_exclude.specs.GlobRequests.{goes, is_beyond, request_excluding, request_pending, unmeant, walk_for}
+use Rattle.wax_exclude.specs.RuledWalks.{ComesRuled, RuledWalk, exceeds_range, lacking, origin_course, ruled_items, ruled_pending}
+use Rattle.wax_exclude.specs.RuledWalks.{walk_course, walks, with_rule}
 use Rattle.wax_glob_walk.proofs.Combining.{ruled}
-use Rattle.wax_exclude.proofs.StackingRequests.{any_of_candidates, filter_rules_more, of_candidates, stacked_any, stacked_filters}
-use Rattle.wax_exclude.proofs.StackingRequests.{stacked_more}
+use Rattle.wax_exclude.proofs.StackingRequests.{any_alone, any_both, any_filters, any_of_candidates, course_more, filter_rules_more}
+use Rattle.wax_exclude.proofs.StackingRequests.{stacked_any, stacked_more}
+use Rattle.wax_exclude.proofs.Reaching.{distinct_along}
 
 -- ---- whatever comes
 
@@ -94,79 +101,133 @@ module _ {D C : Type 0} (law : Law D C) where
 
 -- ---- what comes
 
+-- a walk whose rules say the same all at once
+comes_same : {D C : Type 0} (law : Law D C) (d : D) (walk : RuledWalk) (rules : List (Facts → Mark)) (view : WalkView D)
+    → any_mark walk.rules ≡ any_mark rules → ComesRuled law d walk view
+    → ComesRuled law d (record walk { rules = rules }) view
+comes_same law d walk rules view same h = record {
+  comes = λ s listed shows told.
+      subst (λ f. view.to_come (pending nothing f listed (ruled_items walk s))) (forest s (exceeds_range walk))
+      (h.comes s listed shows told);
+  takes = λ c t. elim (h.takes c t) [
+    | walks s n e b ↦ walks s n e (subst (IsStartOf c) (course s (exceeds_range walk)) b)
+    | lacking b ↦ lacking b
+  ];
+  listings = h.listings;
+} where
+  forest : (s : Shown) (b : Bool)
+      → (if b then nothing else stacked walk.rules (origin_walk walk.walked walk.origin s))
+      ≡ (if b then nothing else stacked rules (origin_walk walk.walked walk.origin s))
+  forest s true = refl
+  forest s false =
+      let f = origin_walk walk.walked walk.origin s in
+      stacked_any walk.rules f ∙ (ap (λ r. ruled r f) same ∙ sym (stacked_any rules f))
+
+  course : (s : Shown) (b : Bool)
+      → (if b then stop else ruled_course (any_mark walk.rules) (origin_course walk.walked walk.origin s))
+      ≡ (if b then stop else ruled_course (any_mark rules) (origin_course walk.walked walk.origin s))
+  course s b = ap (λ r. if b then stop else ruled_course r (origin_course walk.walked walk.origin s)) same
+
+-- a filter that leaves of a walk what one more rule does
+pub comes_filtered : {D C : Type 0} (law : Law D C) (d : D) (walk : RuledWalk) (rule : Facts → Mark) (v u : WalkView D)
+    → ((p : Pending Given) → v.to_come p → u.to_come (filtered_pending (changed_by rule) (cut_by rule) p))
+    → ((e : Course) → MayTake u e → (c : Course) × MayTake v c × IsFiltered (IsMarkBy rule) c e)
+    → u.listings_left ≡ v.listings_left → ComesRuled law d walk v → ComesRuled law d (with_rule walk rule) u
+comes_filtered law d walk rule v u to_come takes left h = record {
+  comes = λ s listed shows told.
+      subst (λ f. u.to_come (pending nothing f listed (ruled_items walk s))) (forest s (exceeds_range walk))
+      (to_come _ (h.comes s listed shows told));
+  takes = λ c t.
+      let p = takes c t in
+      elim (h.takes p.0 p.1) [
+        | walks s n e b ↦ walks s n e (subst (IsStartOf c) (course s (exceeds_range walk))
+            (filtered_begins rule p.0 (walk_course walk s) c p.2 b))
+        | lacking b ↦ lacking (lacks_filtered (IsMarkBy rule) p.0 c b p.2)
+      ];
+  listings = left ∙ h.listings;
+} where
+  forest : (s : Shown) (b : Bool)
+      → ruled rule (if b then nothing else stacked walk.rules (origin_walk walk.walked walk.origin s))
+      ≡ (if b then nothing else stacked (walk.rules ++ rule ∷ []) (origin_walk walk.walked walk.origin s))
+  forest s true = refl
+  forest s false = sym (stacked_more walk.rules (rule ∷ []) (origin_walk walk.walked walk.origin s))
+
+  course : (s : Shown) (b : Bool)
+      → ruled_course rule (if b then stop else ruled_course (any_mark walk.rules)
+      (origin_course walk.walked walk.origin s))
+      ≡ (if b then stop else ruled_course (any_mark (walk.rules ++ rule ∷ []))
+      (origin_course walk.walked walk.origin s))
+  course s true = refl
+  course s false =
+      let c = origin_course walk.walked walk.origin s in
+      ap (λ r. ruled_course r (ruled_course (any_mark walk.rules) c)) (sym (any_alone rule))
+      ∙ course_more walk.rules (rule ∷ []) c
+
+-- what one rule takes of a walk comes of it
+comes_by_rule : {D C : Type 0} (law : Law D C) (d : D) (walk : RuledWalk) (rule : Candidate → Mark) (v u : WalkView D)
+    → IsSeenAs (ruled_view v rule false) u → ComesRuled law d walk v
+    → ComesRuled law d (with_rule walk (of_candidate rule)) u
+comes_by_rule law d walk rule v u seen h =
+    comes_filtered law d walk (of_candidate rule) v u (λ p i. seen.to_come _ (refl, (p, i, refl)))
+    (take_ruled v u rule seen) seen.listings_left h
+
 module _ {D C : Type 0} (law : Law D C) (d : D) where
   -- a rule that does what filters do turns the walk of a request into that of the request with these filters
   comes_ruled : (request : GlobRequest) (filters : List (Filter Span)) (rule : Candidate → Mark) (v u : WalkView D)
-      → ((f : Forest Given) → ruled (of_candidate rule) f ≡ stacked (filter_rules filters) f)
+      → of_candidate rule ≡ any_mark (filter_rules filters)
       → ComesWanted law d request v → IsSeenAs (ruled_view v rule false) u
       → ComesWanted law d (request_excluding request filters) u
-  comes_ruled request filters rule v u same h seen = record {
-    comes = λ s listed shows told.
-        subst (λ f. u.to_come (pending nothing f listed (request_items request s))) (walks s (is_beyond request))
-        (seen.to_come _ (
-          refl,
-          (
-            pending nothing (request_walk request s) listed (request_items request s),
-            h.comes s listed shows told,
-            refl,
-          ),
-        ));
-    listings = seen.listings_left ∙ h.listings;
-  } where
-    walks : (s : Shown) (b : Bool)
-        → ruled (of_candidate rule) (if b then nothing else glob_walk request.wanted request.walked request.origin s)
-        ≡ (if b then nothing else glob_walk (request_excluding request filters).wanted request.walked request.origin s)
-    walks s true = refl
-    walks s false =
-        let walk = origin_walk request.walked request.origin s in
-        same (glob_walk request.wanted request.walked request.origin s)
-        ∙ (sym (stacked_more (rules_of request.wanted) (filter_rules filters) walk)
-        ∙ ap (λ rules. stacked rules (ruled (of_candidate (glob_mark request.wanted.rooted request.wanted.glob)) walk))
-        (sym (filter_rules_more request.wanted.filters filters)))
+  comes_ruled request filters rule v u says h seen =
+      let walk = walk_for request in
+      let last = of_candidate rule in
+      comes_same law d (with_rule walk last) (rules_of (request_excluding request filters).wanted) u
+      ((λ i f. sym (any_both walk.rules (last ∷ []) f) i)
+      ∙ ((λ i f. combined_mark (any_mark walk.rules f) ((any_alone last ∙ says) i f))
+      ∙ ((λ i f. any_both walk.rules (filter_rules filters) f i)
+      ∙ ap (λ rules. any_mark (of_candidate (glob_mark request.wanted.rooted request.wanted.glob) ∷ rules))
+      (sym (filter_rules_more request.wanted.filters filters)))))
+      (comes_by_rule law d walk rule v u seen h)
 
   -- the rules of filters do so together
   pub filters_come : (request : GlobRequest) (filters : List (Filter Span)) (rules : List (Candidate → Mark))
       (rule : Candidate → Mark) (v u : WalkView D) → AreRulesOf filters rules → rule ≡ any_mark rules
       → ComesWanted law d request v → IsSeenAs (ruled_view v rule false) u
       → ComesWanted law d (request_excluding request filters) u
-  filters_come request filters rules rule v u are says h seen = comes_ruled request filters rule v u same h seen where
-    all : of_candidate (any_mark rules) ≡ any_mark (of_candidates rules)
-    all = λ i facts. any_of_candidates rules facts i
-
-    same : (f : Forest Given) → ruled (of_candidate rule) f ≡ stacked (filter_rules filters) f
-    same f = ap (λ r. ruled (of_candidate r) f) says ∙ (ap (λ r. ruled r f) all
-        ∙ (sym (stacked_any (of_candidates rules) f) ∙ stacked_filters filters rules f are))
+  filters_come request filters rules rule v u are says h seen =
+      comes_ruled request filters rule v u (ap of_candidate says
+      ∙ (λ i f. (any_of_candidates rules f ∙ any_filters filters rules f are) i)) h seen
 
   -- what a walk gave to its end is what was to come at first
-  pub all_gave : (request : GlobRequest) (view : WalkView D) (tells : List (List ℕ) → Type 0) (s : Shown)
-      (listed : List (List ℕ)) (xs : List Given) → ComesWanted law d request view → law.shows d request.origin.path s
+  pub all_gave : (walk : RuledWalk) (view : WalkView D) (tells : List (List ℕ) → Type 0) (s : Shown)
+      (listed : List (List ℕ)) (xs : List Given) → ComesRuled law d walk view → law.shows d walk.origin.path s
       → law.tells d listed
       → ((p : Pending Given) → view.to_come p → GaveAll tells view.listings_left p xs)
-      → GaveAll tells (request.walked.budget + 1) (request_pending request s listed) xs
-  all_gave request view tells s listed xs h shows told all =
-      subst (λ n. GaveAll tells n (request_pending request s listed) xs) h.listings
-      (all (request_pending request s listed) (h.comes s listed shows told))
+      → GaveAll tells (walk.walked.budget + 1) (ruled_pending walk s listed) xs
+  all_gave walk view tells s listed xs h shows told all =
+      subst (λ n. GaveAll tells n (ruled_pending walk s listed) xs) h.listings
+      (all (ruled_pending walk s listed) (h.comes s listed shows told))
 
 -- the rule of one filter does so
 pub comes_excluding : {D C : Type 0} (law : Law D C) (x : Filter Span) (rule : Candidate → Mark) (v u : WalkView D)
     → IsRuleOf x rule → IsSeenAs (ruled_view v rule false) u → ComesExcluding law x v u
 comes_excluding law x rule v u says seen = λ d request h.
-    comes_ruled law d request (x ∷ []) rule v u (λ f i. ruled (of_candidate (λ c. says c i)) f) h seen
+    comes_ruled law d request (x ∷ []) rule v u
+    ((λ i. of_candidate (λ c. says c i)) ∙ sym (any_alone (of_candidate (filter_mark x)))) h seen
 
 -- ---- what is kept
 
 module _ (gives_wanted : GivesWanted) (lists_few : ListsFew) (wants_nothing : WantsNothing) where
-  entries_wanted : (request : GlobRequest) (s : Shown) → CanBegin request
-      → IsWellNamed s → (b : Bool) → is_beyond request ≡ b
+  pub entries_wanted : (request : GlobRequest) (s : Shown) → CanBegin request
+      → IsPlainShown s → AreDistinctAlong request.origin.names s → (b : Bool) → is_beyond request ≡ b
       → filter is_kept_entry (preorder (if b then nothing else glob_walk request.wanted request.walked request.origin s))
       ≡ wanted_entries request.wanted request.asked request.origin s
-  entries_wanted request s (goes c) named true e = sym (wants_nothing request.wanted request.asked request.origin s named.plain
+  entries_wanted request s (goes c) plain distinct true e = sym (wants_nothing request.wanted request.asked request.origin s plain
       c.candidate (inl (request.walked, c, ltb-true _ _ e)))
-  entries_wanted request s (goes c) named false e = gives_wanted request.wanted request.asked request.walked request.origin s c
-      named (ltb-false _ _ e)
-  entries_wanted request s (unmeant n c m) named true e = sym (wants_nothing request.wanted request.asked request.origin s
-      named.plain c (inr n))
-  entries_wanted request s (unmeant n c m) named false e =
+  entries_wanted request s (goes c) plain distinct false e = gives_wanted request.wanted request.asked request.walked
+      request.origin s c plain distinct (ltb-false _ _ e)
+  entries_wanted request s (unmeant n c m) plain distinct true e = sym (wants_nothing request.wanted request.asked
+      request.origin s plain c (inr n))
+  entries_wanted request s (unmeant n c m) plain distinct false e =
       let l : length request.origin.names ≤ request.walked.max = ltb-false _ _ e in absurd (omega (arith, l, m))
 
   few_listed : (request : GlobRequest) (s : Shown) → CanBegin request
@@ -189,7 +250,8 @@ module _ (gives_wanted : GivesWanted) (lists_few : ListsFew) (wants_nothing : Wa
       → KeepsWanted tells request s listed (filter is_kept xs)
   keeps_wanted tells request s listed xs can named (whole e t) =
       due.gives (ap (filter is_kept) e)
-      (kept_entries xs ∙ (ap (filter is_kept_entry) e ∙ entries_wanted request s can named (is_beyond request) refl)) t
+      (kept_entries xs ∙ (ap (filter is_kept_entry) e ∙ entries_wanted request s can named.plain
+      (distinct_along request.origin.names s named.distinct) (is_beyond request) refl)) t
       (few_listed request s can named (is_beyond request) refl)
   keeps_wanted tells request s listed xs can named (lacks_memory c) =
       due.lacks_memory (cut_kept _ no_memory xs refl c)

@@ -11,25 +11,33 @@ use Rattle.wax_walk.specs.declared.error.FaultKind.TheVariants.{Budget}
 use Rattle.wax_walk.specs.Forest.{preorder}
 use Rattle.wax_walk.specs.Given.{Facts, Mark, Given, fault, no_memory}
 use Rattle.wax_walk.specs.Left.{left_of}
-use Rattle.wax_exclude.specs.GlobRequests.{GlobRequest, is_beyond, request_walk}
+use Rattle.wax_exclude.specs.GlobRequests.{GlobRequest, request_walk, walk_for}
+use Rattle.wax_exclude.specs.RuledWalks.{RuledWalk, exceeds_range, ruled_forest}
 use Rattle.wax_exclude.specs.Walked.{origin_location, origin_walk}
-use Rattle.wax_exclude.specs.Wanted.{rules_of, stacked}
+use Rattle.wax_exclude.specs.Wanted.{stacked}
 
 -- what rules, one after another, leave of the whole walk along the names of the origin, in the range
 abbrev pub feed_of : List (Facts → Mark) → DepthRange → Origin → Shown → List Given
 feed_of rules range origin s =
     left_of (any_mark rules) (yielded range (whole_along origin.root (origin_location origin) s origin.names))
 
--- the feed of a glob's walk; nothing if the origin has more names than the greatest depth
+-- the feed of a walk filtered by rules; nothing if the origin has more names than the greatest depth
+abbrev pub ruled_feed : RuledWalk → Shown → List Given
+ruled_feed walk s = if exceeds_range walk then [] else feed_of walk.rules walk.walked walk.origin s
+
+-- the feed of a glob's walk
 abbrev pub request_feed : GlobRequest → Shown → List Given
-request_feed request s =
-    if is_beyond request then [] else feed_of (rules_of request.wanted) request.walked request.origin s
+request_feed request s = ruled_feed (walk_for request) s
 
 -- a walk along the names of an origin and from there on, with filters by any rules, yields what they leave
 abbrev pub FeedsByRules : Type 0
 FeedsByRules = (rules : List (Facts → Mark)) (range : DepthRange) (origin : Origin) (s : Shown)
     → length origin.names ≤ range.max
     → preorder (stacked rules (origin_walk range origin s)) ≡ feed_of rules range origin s
+
+-- so does any walk filtered by rules
+abbrev pub FeedsByWalk : Type 0
+FeedsByWalk = (walk : RuledWalk) (s : Shown) → preorder (ruled_forest walk s) ≡ ruled_feed walk s
 
 -- so does a glob's walk with filters
 abbrev pub FeedsByRequest : Type 0
@@ -38,8 +46,12 @@ FeedsByRequest = (request : GlobRequest) (s : Shown)
 
 -- A walk yielded these items: the whole feed; or a prefix of it and then one error, because allocation failed
 -- or the budget was reached.
-pub data FeedsWanted (request : GlobRequest) (s : Shown) (xs : List Given) : Type 0 where
-  gives : xs ≡ request_feed request s → FeedsWanted request s xs
-  lacks_memory : IsCutShort (request_feed request s) no_memory xs → FeedsWanted request s xs
-  over_budget : (path : List ℕ) (depth : ℕ) → request.walked.budget < count_shown s
-      → IsCutShort (request_feed request s) (fault Budget path depth) xs → FeedsWanted request s xs
+pub data FeedsRuled (walk : RuledWalk) (s : Shown) (xs : List Given) : Type 0 where
+  gives : xs ≡ ruled_feed walk s → FeedsRuled walk s xs
+  lacks_memory : IsCutShort (ruled_feed walk s) no_memory xs → FeedsRuled walk s xs
+  over_budget : (path : List ℕ) (depth : ℕ) → walk.walked.budget < count_shown s
+      → IsCutShort (ruled_feed walk s) (fault Budget path depth) xs → FeedsRuled walk s xs
+
+-- the walk of the request did so
+abbrev pub FeedsWanted : GlobRequest → Shown → List Given → Type 0
+FeedsWanted request s xs = FeedsRuled (walk_for request) s xs

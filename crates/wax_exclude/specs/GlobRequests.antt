@@ -1,6 +1,5 @@
 -- What a walk of a glob, without what filters exclude, yields to its end.
-use Rattle.std.specs.Prelude.{◌≡◌, ℕ, ◌+◌, ◌<◌, Bool, if◌then◌else◌, nat_lt, ⊤, List, [], ◌∷◌, ◌++◌}
-use Rattle.std.specs.Prelude.{All, length}
+use Rattle.std.specs.Prelude.{◌≡◌, ℕ, ◌<◌, Bool, ⊤, List, [], ◌∷◌, ◌++◌, All, length}
 use Rattle.wax_directory.specs.Law.{Law}
 use Rattle.wax_directory.specs.Shown.{Shown}
 use Rattle.wax_token.specs.Reads.{Span}
@@ -8,14 +7,15 @@ use Rattle.wax_tree.specs.Begins.{Origin}
 use Rattle.wax_tree.specs.declared.steps.DepthRange.{DepthRange}
 use Rattle.wax_tree.specs.Plain.{count_shown}
 use Rattle.wax_walk.specs.Candidates.{Candidate}
-use Rattle.wax_walk.specs.Forest.{Forest, nothing, Pending, pending, listings}
+use Rattle.wax_walk.specs.Forest.{Forest, Pending, listings}
 use Rattle.wax_walk.specs.Given.{Mark, Given}
 use Rattle.wax_walk.specs.View.{WalkView}
 use Rattle.wax_exclude.specs.Candidates.{base}
 use Rattle.wax_exclude.specs.Due.{Due, KeepsDue}
 use Rattle.wax_exclude.specs.Premises.{CanWalk, IsUnmeant}
-use Rattle.wax_exclude.specs.Walked.{glob_walk, wanted_entries, MayList}
-use Rattle.wax_exclude.specs.Wanted.{Filter, Wanted, filter_mark}
+use Rattle.wax_exclude.specs.RuledWalks.{ComesRuled, RuledWalk, exceeds_range, ruled_forest, ruled_pending}
+use Rattle.wax_exclude.specs.Walked.{wanted_entries, MayList}
+use Rattle.wax_exclude.specs.Wanted.{Filter, Wanted, filter_mark, rules_of}
 
 -- ---- rules of filters
 
@@ -53,29 +53,29 @@ pub data CanBegin (request : GlobRequest) : Type 0 where
       → request.origin.candidate ≡ base request.wanted.rooted
       → request.walked.max < length request.origin.names → CanBegin request
 
+-- the walk of the request: the rule of the glob's walk first, and that of each filter after it
+abbrev pub walk_for : GlobRequest → RuledWalk
+walk_for request = record {
+  rules = rules_of request.wanted;
+  walked = request.walked;
+  origin = request.origin;
+}
+
 -- the origin has more names than the greatest depth
 abbrev pub is_beyond : GlobRequest → Bool
-is_beyond request = nat_lt request.walked.max (length request.origin.names)
+is_beyond request = exceeds_range (walk_for request)
 
 -- what the walk yields: nothing if the origin has more names than the greatest depth, else the glob's walk
 abbrev pub request_walk : GlobRequest → Shown → Forest Given
-request_walk request s = if is_beyond request then nothing else glob_walk request.wanted request.walked
-    request.origin s
-
--- at most how many items are taken from listings for it
-abbrev pub request_items : GlobRequest → Shown → ℕ
-request_items request s = if is_beyond request then 0 else count_shown s
+request_walk request s = ruled_forest (walk_for request) s
 
 -- what is to come when the walk begins
 abbrev pub request_pending : GlobRequest → Shown → List (List ℕ) → Pending Given
-request_pending request s listed = pending nothing (request_walk request s) listed (request_items request s)
+request_pending request s listed = ruled_pending (walk_for request) s listed
 
 -- the view of a walk over the directory d, of which the walk of the request is to come
-pub record ComesWanted {D C : Type 0} (law : Law D C) (d : D) (request : GlobRequest)
-    (view : WalkView D) : Type 0 where
-  pub comes : (s : Shown) (listed : List (List ℕ)) → law.shows d request.origin.path s → law.tells d listed
-      → view.to_come (request_pending request s listed)
-  pub listings : view.listings_left ≡ request.walked.budget + 1
+abbrev pub ComesWanted : {D C : Type 0} → Law D C → D → GlobRequest → WalkView D → Type 0
+ComesWanted law d request view = ComesRuled law d (walk_for request) view
 
 -- if the walk of a request is to come of the inner walk, the walk of the request with this filter added is to
 -- come of the outer walk

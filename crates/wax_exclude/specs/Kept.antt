@@ -1,5 +1,5 @@
 -- What a plain walk, without what lines ignore, yields to its end.
-use Rattle.std.specs.Prelude.{◌⊎◌, ◌&&◌, ℕ, List, All, filter}
+use Rattle.std.specs.Prelude.{◌⊎◌, ◌&&◌, ◌∷◌, ℕ, List, [], All, filter}
 use Rattle.std.specs.List.{Contains}
 use Rattle.wax_directory.specs.Shown.{Shown}
 use Rattle.wax_token.specs.Reads.{Span}
@@ -10,9 +10,12 @@ use Rattle.wax_tree.specs.Whole.{is_in, whole}
 use Rattle.wax_walk.specs.Forest.{Forest, listings}
 use Rattle.wax_walk.specs.Given.{Given}
 use Rattle.wax_exclude.specs.Due.{Due, KeepsDue}
+use Rattle.wax_exclude.specs.GlobRequests.{GlobRequest, request_excluding}
 use Rattle.wax_exclude.specs.Ignored.{Line}
+use Rattle.wax_exclude.specs.TreeRequests.{tree_request}
 use Rattle.wax_exclude.specs.Unignored.{ignore_rules, is_unignored, IsIgnoredBelow}
-use Rattle.wax_exclude.specs.Wanted.{stacked}
+use Rattle.wax_exclude.specs.Walked.{MayList}
+use Rattle.wax_exclude.specs.Wanted.{not_ignored, stacked}
 
 -- a plain walk from a start, of the depths in range, without what these lines ignore
 pub record PlainRequest : Type 0 where
@@ -37,13 +40,24 @@ abbrev pub ListsUnignored : PlainRequest → Shown → Type 0
 ListsUnignored request s = All (λ path. Contains (listings (unignored_walk request s)) path
     ⊎ IsIgnoredBelow request.lines request.start path) (listings (requested_plain request s))
 
+-- the plain walk without what the lines ignore, as the walk of `**`
+abbrev pub unignored_request : PlainRequest → GlobRequest
+unignored_request request =
+    request_excluding (tree_request request.range request.start) (not_ignored request.lines ∷ [])
+
+-- only folders that may be are listed: all are above the greatest depth, and none at the least depth or
+-- deeper is at or below what is ignored with everything below it
+abbrev pub ListsAllowed : PlainRequest → Shown → Type 0
+ListsAllowed request s = All (MayList (unignored_request request).wanted request.range
+    (unignored_request request).origin) (listings (unignored_walk request s))
+
 -- what is due: the plain walk, whose entries are exactly those in range that aren't ignored, in order; it
--- skips only folders below which everything is ignored
+-- skips only folders below which everything is ignored, and lists only folders that it may list
 abbrev pub plain_due : PlainRequest → Shown → Due
 plain_due request s = record {
   walk = unignored_walk request s;
   entries = unignored_entries request s;
-  ListsRightly = ListsUnignored request s;
+  ListsRightly = ListsUnignored request s × ListsAllowed request s;
   items = count_shown s;
   budget = request.range.budget;
 }

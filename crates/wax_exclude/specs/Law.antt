@@ -4,6 +4,7 @@ use Rattle.wax_directory.specs.Shown.{Shown}
 use Rattle.wax_token.specs.Reads.{Span}
 use Rattle.wax_tree.specs.Begins.{Origin}
 use Rattle.wax_tree.specs.declared.steps.DepthRange.{DepthRange}
+use Rattle.wax_tree.specs.Follows.{AreDistinctAlong}
 use Rattle.wax_walk.specs.Forest.{preorder, listings}
 use Rattle.wax_exclude.specs.Candidates.{base}
 use Rattle.wax_exclude.specs.Premises.{CanWalk, IsUnmeant, IsPlainShown, IsWellNamed}
@@ -14,7 +15,8 @@ use Rattle.wax_exclude.specs.Wanted.{Wanted, is_kept_entry}
 -- matches and that no filter excludes, in order
 abbrev pub GivesWanted : Type 0
 GivesWanted = (w : Wanted Span) (asked walked : DepthRange) (origin : Origin) (s : Shown)
-    → CanWalk w asked walked origin → IsWellNamed s → length origin.names ≤ walked.max
+    → CanWalk w asked walked origin → IsPlainShown s → AreDistinctAlong origin.names s
+    → length origin.names ≤ walked.max
     → filter is_kept_entry (preorder (glob_walk w walked origin s)) ≡ wanted_entries w asked origin s
 
 -- the walk lists only folders that it may list

@@ -11,6 +11,7 @@ pub mod Leading
 pub mod Lines
 pub mod Marks
 pub mod RootedLeading
+pub mod RuledWalks
 pub mod TreeRequests
 pub mod Prefix
 pub mod NamesBelow
@@ -18,7 +19,9 @@ pub mod Premises
 pub mod Due
 pub mod GlobRequests
 pub mod Feeds
+pub mod Told
 pub mod Unignored
 pub mod Walked
 pub mod Wanted
+pub mod WantedEntries
 pub mod inner

@@ -3,16 +3,21 @@
 ghost use Rattle.std.specs.Prelude.{List, ℕ};
 ghost use Rattle.wax_token.specs.Reads.{Span};
 ghost use Rattle.wax_tree.specs.Begins.{Begins};
-ghost use Rattle.wax_exclude.specs.Feeds.{FeedsByRequest, FeedsByRules};
+ghost use Rattle.wax_exclude.specs.Feeds.{FeedsByRequest, FeedsByRules, FeedsByWalk};
 ghost use Rattle.wax_exclude.specs.Law.{GivesWanted, ListsFew, WantsNothing};
 ghost use Rattle.wax_exclude.specs.TreeRequests.{tree_request, WantsUnfiltered};
 ghost use Rattle.wax_exclude.specs.GlobRequests.{ComesWanted, CanBegin, request_excluding};
 ghost use Rattle.wax_exclude.specs.Unignored.{GivesUnignored, LosesIgnored};
+ghost use Rattle.wax_exclude.specs.RuledWalks.{ComesRuled, RuledWalk, with_rule};
 ghost use Rattle.wax_exclude.specs.Wanted.{Filter};
+ghost use Rattle.wax_walk.specs.declared.filter_entry.FilterEntry.{FilterEntry};
+ghost use Rattle.wax_walk.specs.Given.{Facts, Mark};
+ghost use Rattle.wax_walk.specs.Says.{SaysByRule, closure_view};
+ghost use Rattle.wax_walk.specs.View.{IsSeenAs};
 
 use wax_directory::directory::Directory;
 use wax_tree::{DepthRange, WalkTree};
-use wax_walk::FileIterator;
+use wax_walk::{EntryResidue, FileIterator, FilterEntry, TreeEntry};
 
 /// States that a glob's walk keeps exactly the wanted entries of the plain walk, in order, and
 /// lists only folders that may hold one. If nothing is wanted, it may yield nothing and list
@@ -28,8 +33,27 @@ pub fn law_of_walks()
 /// everything below it.
 pub fn law_of_feeds()
     ensures rules { FeedsByRules }
+    ensures walks { FeedsByWalk }
     ensures requests { FeedsByRequest }
 {}
+
+/// States that a closure whose results depend only on the entry filters a walk by one more rule. So
+/// what is to come after `filter_entry` is known, as a list and by what the directory answers.
+pub fn law_of_closures<I, F>(walk: &I, f: &F)
+where
+    I: FileIterator,
+    F: FnMut(&TreeEntry) -> Option<EntryResidue>,
+    ensures { (d : I.Directory) (ruled : RuledWalk) (rule : Facts → Mark) (kept : FilterEntry I F)
+        → SaysByRule F.step rule f.now
+        → IsSeenAs (closure_view F.step (I.view walk.now) f.now)
+        (⟦<FilterEntry<I, F> as FileIterator>⟧.view kept)
+        → ComesRuled I.Directory.law d ruled (I.view walk.now)
+        → ComesRuled I.Directory.law d (with_rule ruled rule)
+        (⟦<FilterEntry<I, F> as FileIterator>⟧.view kept) }
+{
+    let _walk = walk;
+    let _f = f;
+}
 
 /// States that a plain walk filtered by an ignore list keeps exactly the entries that the list
 /// doesn't ignore, in order, and that everything below a folder that it doesn't list is ignored.

@@ -14,15 +14,17 @@ mod lines;
 mod prefixes;
 mod rules;
 mod wanted;
+mod wanted_law;
 
 pub use below::law_of_cancelling;
 pub use component::{LeadingComponent, leading};
 pub use deciding::law_of_last_match;
 pub use exclusions::{Exclusion, is_everything};
 pub use kept::collect_unignored;
-pub use law::{law_of_feeds, law_of_ignoring, law_of_plain_walks, law_of_walks};
+pub use law::{law_of_closures, law_of_feeds, law_of_ignoring, law_of_plain_walks, law_of_walks};
 pub use leading_law::law_of_rooted_leading;
 pub use lines::{WrittenLine, written_lines};
 pub use prefixes::{PrefixNames, prefix_names_of};
 pub use rules::{IgnoreLine, IgnoreRule};
 pub use wanted::{collect, collect_excluding, collect_feed};
+pub use wanted_law::law_of_wanted;

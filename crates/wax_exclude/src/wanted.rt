@@ -4,7 +4,7 @@ ghost use Rattle.std.specs.Prelude.{◌≡◌, ◌+◌, ◌≤◌, All, List, �
 ghost use Rattle.std.specs.Iterator.{IsFinite, size};
 ghost use Rattle.wax_directory.specs.Shown.{Shown};
 ghost use Rattle.wax_glob_walk.specs.Programs.{any_mark};
-ghost use Rattle.wax_exclude.specs.Feeds.{FeedsWanted};
+ghost use Rattle.wax_exclude.specs.Feeds.{FeedsRuled};
 ghost use Rattle.wax_exclude.specs.GlobRequests.{AreRulesOf, ComesWanted, KeepsWanted, CanBegin, GlobRequest};
 ghost use Rattle.wax_exclude.specs.GlobRequests.{request_excluding, request_pending};
 ghost use Rattle.wax_token.specs.Reads.{Span};
@@ -13,6 +13,8 @@ ghost use Rattle.wax_walk.specs.Entries.{given_of, given_outcome};
 ghost use Rattle.wax_walk.specs.Given.{Given, is_kept};
 ghost use Rattle.wax_walk.specs.Known.{KnownItem, KnownOutcome};
 ghost use Rattle.wax_walk.specs.Ruled.{ruled_view};
+ghost use Rattle.wax_exclude.specs.RuledWalks.{ComesRuled, RuledWalk};
+ghost use Rattle.wax_exclude.specs.Told.{FeedsAnswered, KeepsAnswered, LeavesAnswered};
 ghost use Rattle.wax_exclude.specs.Wanted.{Filter};
 
 use crate::law::law_of_walks;
@@ -52,11 +54,19 @@ where
         → I.Directory.law.shows d request.origin.path s → I.Directory.law.tells d listed
         → KeepsWanted (I.Directory.law.tells r.1) request s listed
         (map (given_outcome I.Entry.facts I.Residue.facts) r.0.items)) }
-    ensures feed { IfOk result (λ r. (d : I.Directory) (request : GlobRequest) (s : Shown)
-        (listed : List (List ℕ)) → ComesWanted I.Directory.law d request (I.view walk)
-        → I.Directory.law.shows d request.origin.path s → I.Directory.law.tells d listed
-        → (xs : List Given) × FeedsWanted request s xs
+    ensures feed { IfOk result (λ r. (d : I.Directory) (ruled : RuledWalk) (s : Shown)
+        (listed : List (List ℕ)) → ComesRuled I.Directory.law d ruled (I.view walk)
+        → I.Directory.law.shows d ruled.origin.path s → I.Directory.law.tells d listed
+        → (xs : List Given) × FeedsRuled ruled s xs
         × (map (given_outcome I.Entry.facts I.Residue.facts) r.0.items ≡ filter is_kept xs)) }
+    ensures answered { IfOk result (λ r. (d : I.Directory) (request : GlobRequest)
+        → ComesWanted I.Directory.law d request (I.view walk) → CanBegin request
+        → KeepsAnswered I.Directory.law (I.view walk).directory r.1 request
+        (map (given_outcome I.Entry.facts I.Residue.facts) r.0.items)) }
+    ensures leaves { IfOk result (λ r. (d : I.Directory) (ruled : RuledWalk)
+        → ComesRuled I.Directory.law d ruled (I.view walk)
+        → LeavesAnswered I.Directory.law (I.view walk).directory r.1 ruled
+        (map (given_outcome I.Entry.facts I.Residue.facts) r.0.items)) }
 {
     law_of_walks();
     collect_items(alloc, walk)
@@ -88,10 +98,14 @@ where
         → I.Directory.law.shows d request.origin.path s → I.Directory.law.tells d listed
         → GaveAll (I.Directory.law.tells r.1) (request.walked.budget + 1) (request_pending request s listed)
         (map (given_of I.Entry.facts I.Residue.facts) r.0.items)) }
-    ensures feed { IfOk result (λ r. (d : I.Directory) (request : GlobRequest) (s : Shown)
-        (listed : List (List ℕ)) → ComesWanted I.Directory.law d request (I.view walk)
-        → I.Directory.law.shows d request.origin.path s → I.Directory.law.tells d listed
-        → FeedsWanted request s (map (given_of I.Entry.facts I.Residue.facts) r.0.items)) }
+    ensures feed { IfOk result (λ r. (d : I.Directory) (ruled : RuledWalk) (s : Shown)
+        (listed : List (List ℕ)) → ComesRuled I.Directory.law d ruled (I.view walk)
+        → I.Directory.law.shows d ruled.origin.path s → I.Directory.law.tells d listed
+        → FeedsRuled ruled s (map (given_of I.Entry.facts I.Residue.facts) r.0.items)) }
+    ensures answered { IfOk result (λ r. (d : I.Directory) (ruled : RuledWalk)
+        → ComesRuled I.Directory.law d ruled (I.view walk)
+        → FeedsAnswered I.Directory.law (I.view walk).directory r.1 ruled
+        (map (given_of I.Entry.facts I.Residue.facts) r.0.items)) }
 {
     collect_feed_items(alloc, walk)
 }
@@ -126,6 +140,11 @@ where
         → AreRulesOf filters (map R.rule rules.items) → CanBegin (request_excluding request filters)
         → I.Directory.law.shows d request.origin.path s → I.Directory.law.tells d listed
         → KeepsWanted (I.Directory.law.tells r.1) (request_excluding request filters) s listed
+        (map (given_outcome I.Entry.facts I.Residue.facts) r.0.items)) }
+    ensures answered { IfOk result (λ r. (d : I.Directory) (request : GlobRequest)
+        (filters : List (Filter Span)) → ComesWanted I.Directory.law d request (I.view walk)
+        → AreRulesOf filters (map R.rule rules.items) → CanBegin (request_excluding request filters)
+        → KeepsAnswered I.Directory.law (I.view walk).directory r.1 (request_excluding request filters)
         (map (given_outcome I.Entry.facts I.Residue.facts) r.0.items)) }
 {
     let kept = walk.excluding(alloc, FilterAny::new(rules));

@@ -1,5 +1,10 @@
-use Rattle.wax_exclude.proofs.Feeding.{feeds_by_request, feeds_by_rules}
+use Rattle.wax_exclude.proofs.Feeding.{feeds_by_rules, feeds_by_walk}
+use Rattle.wax_exclude.specs.GlobRequests.{walk_for}
 use Rattle.wax_exclude.proofs.law.law_of_feeds.Goals as goal
 
 pub returns : goal.returns
-returns c = record { rules = feeds_by_rules; requests = feeds_by_request }
+returns c = record {
+  rules = feeds_by_rules;
+  walks = feeds_by_walk;
+  requests = λ request s. feeds_by_walk (walk_for request) s;
+}

@@ -4,6 +4,7 @@ use Rattle.std.specs.Iterator.{size}
 use Rattle.wax_walk.proofs.Collecting.{map_ok}
 use Rattle.wax_walk.proofs.Knowing.{all_before}
 use Rattle.wax_exclude.specs.GlobRequests.{request_excluding}
+use Rattle.wax_exclude.proofs.Telling.{answered_before}
 use Rattle.wax_exclude.proofs.Wanting.{filters_come, took_less}
 use Rattle.wax_exclude.proofs.wanted.collect_excluding.Goals as goal
 
@@ -33,3 +34,13 @@ returns-clause-wanted g c =
     c.new.ensures comes c.excluding-kept.ensures.view)
     can shows told)
     c.collect.result c.collect.ensures.wanted
+
+pub returns-clause-answered : goal.returns-clause-answered
+returns-clause-answered g c =
+    let law = g.I.Directory.Directory.law in
+    let seen = c.excluding-kept.ensures.view in
+    map_ok (λ r h d request filters comes are can.
+    answered_before law _ _ r.1 _ seen.directory (h d (request_excluding request filters)
+    (filters_come law d request filters (map g.R.Exclude.rule c.args.rules.items) _ _ _ are c.new.ensures comes seen)
+    can))
+    c.collect.result c.collect.ensures.answered

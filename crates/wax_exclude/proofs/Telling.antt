@@ -1,0 +1,223 @@
+-- What a walk yielded is the walk of a tree that answers as the directory did.
+use Rattle.std.proofs.Common.{◌≡◌, ◌∙◌, ◌⊎◌, Bool, true, false, List, [], ◌∷◌, filter, refl, sym, ap, subst, inl, inr, arith}
+use Rattle.std.specs.Prelude.{if◌then◌else◌}
+use Rattle.std.proofs.lemmas.Bool.{le-ltb, lt-ltb}
+use Rattle.wax_directory.specs.History.{Answer}
+use Rattle.wax_directory.specs.Law.{Law}
+use Rattle.wax_directory.specs.Shown.{Items, Shown, a_folder, a_leaf, a_sealed, end, failing, folder, leaf, misnamed}
+use Rattle.wax_directory.specs.Shown.{missing, not_text, sealed, unread}
+use Rattle.wax_glob_walk.specs.Programs.{any_mark}
+use Rattle.wax_tree.proofs.Answered.{along_yields, cutting_kept, lacks_alone, nothing_yields}
+use Rattle.wax_tree.proofs.AlongShown.{along_shown, distinct_missing}
+use Rattle.wax_tree.specs.Begins.{OriginTakes, along, beyond, scope_in}
+use Rattle.wax_tree.specs.Begins as begin
+use Rattle.wax_tree.specs.Prefix.{ArePlain}
+use Rattle.wax_tree.specs.Courses.{AreNamed, IsNamed}
+use Rattle.wax_tree.specs.Follows.{AreDistinctAlong}
+use Rattle.wax_walk.proofs.Courses.{begins_whole, comes_first}
+use Rattle.wax_walk.proofs.Filtered.{Yields, filtered_begins, ruled_course, ruled_yields, yields_items}
+use Rattle.wax_walk.proofs.Following.{lacks_filtered}
+use Rattle.wax_walk.specs.Candidates.{Candidate, of_candidate}
+use Rattle.wax_walk.specs.Ruled.{IsMarkBy}
+use Rattle.wax_walk.specs.Collected.{EndsThere, Took, TookCourse, cut_short, whole}
+use Rattle.wax_walk.specs.Course.{Course, CutsShort, IsFiltered, IsStartOf, answers, calls_of, items_of}
+use Rattle.wax_walk.specs.Course.{stop, yields}
+use Rattle.wax_walk.specs.Forest.{nothing}
+use Rattle.wax_walk.specs.Given.{Facts, Given, Mark, is_kept, no_memory}
+use Rattle.wax_walk.specs.View.{MayTake, WalkView}
+use Rattle.wax_exclude.proofs.Feeding.{feeds_by_walk}
+use Rattle.wax_exclude.proofs.KeptItems.{cut_kept, kept_entries}
+use Rattle.wax_exclude.proofs.StackingRequests.{stacked_any}
+use Rattle.wax_exclude.proofs.Wanting.{entries_wanted}
+use Rattle.wax_exclude.specs.Feeds.{ruled_feed}
+use Rattle.wax_exclude.specs.GlobRequests.{CanBegin, GlobRequest, is_beyond, walk_for}
+use Rattle.wax_exclude.specs.Law.{GivesWanted, ListsFew, WantsNothing}
+use Rattle.wax_exclude.specs.Premises.{ArePlainItems, IsPlainShown}
+use Rattle.wax_exclude.specs.RuledWalks.{RuledWalk, WalkTakes, exceeds_range, lacking, origin_course, ruled_forest}
+use Rattle.wax_exclude.specs.RuledWalks.{walk_course, walks}
+use Rattle.wax_exclude.specs.Told.{Answering, FeedsAnswered, KeepsAnswered, LeavesAnswered, ToldInPart}
+use Rattle.wax_exclude.specs.Told.{as_told, in_part, keeps_all, keeps_in_part, ruled_kept, walk_calls}
+use Rattle.wax_exclude.specs.Walked.{origin_location, origin_walk}
+use Rattle.wax_exclude.specs.Wanted.{is_kept_entry, stacked}
+
+plain_items : (l : Items) → AreNamed l → ArePlainItems l
+plain_items end n = tt
+plain_items (leaf x link rest) n = (n.0, plain_items rest n.1)
+plain_items (folder x inner rest) n = (n.0, plain_items inner n.1, plain_items rest n.2)
+plain_items (sealed x rest) n = (n.0, plain_items rest n.1)
+plain_items (misnamed x kind rest) n = plain_items rest n.1
+plain_items (unread rest) n = plain_items rest n
+plain_items (not_text rest) n = plain_items rest n
+
+plain_named : (s : Shown) → IsNamed s → IsPlainShown s
+plain_named (a_leaf link) n = tt
+plain_named (a_folder l) n = plain_items l n
+plain_named a_sealed n = tt
+plain_named missing n = tt
+plain_named failing n = tt
+
+-- ---- what a walk may take
+
+-- what its rules leave of what its origin may take
+pub ruled_takes : (walk : RuledWalk) (rule : Candidate → Mark) (c e : Course) → ArePlain walk.origin.names
+    → of_candidate rule ≡ any_mark walk.rules → OriginTakes walk.origin walk.walked c
+    → IsFiltered (IsMarkBy (of_candidate rule)) c e → WalkTakes walk e
+ruled_takes walk rule c e plain says (along fits short d h b) f =
+    let s = along_shown (scope_in walk.walked walk.origin.root) walk.origin.names (origin_location walk.origin) d plain
+    (omega (arith, short)) h in
+    let course : ruled_course (of_candidate rule) d ≡ walk_course walk s.shown =
+    (λ i. ruled_course (says i) (s.course i))
+    ∙ ap (λ b. if b then stop else ruled_course (any_mark walk.rules)
+    (origin_course walk.walked walk.origin s.shown)) (sym (le-ltb _ _ fits)) in
+    walks s.shown s.named s.distinct (subst (IsStartOf e) course (filtered_begins (of_candidate rule) c d e f b))
+ruled_takes walk rule c e plain says (begin.lacking b) f =
+    lacking (lacks_filtered (IsMarkBy (of_candidate rule)) c e b f)
+ruled_takes walk rule c e plain says (beyond l b) f =
+    let course : stop ≡ walk_course walk missing =
+    ap (λ b. if b then stop else ruled_course (any_mark walk.rules)
+    (origin_course walk.walked walk.origin missing)) (sym (lt-ltb _ _ l)) in
+    walks missing tt (distinct_missing walk.origin.names)
+    (subst (IsStartOf e) course (filtered_begins (of_candidate rule) c stop e f b))
+
+-- ---- what was answered
+
+module _ (walk : RuledWalk) where
+  abbrev rule : Facts → Mark
+  rule = any_mark walk.rules
+
+  course_yields : (s : Shown) → Yields (walk_course walk s) (ruled_forest walk s)
+  course_yields s = go (exceeds_range walk) where
+    go : (b : Bool) → Yields (if b then stop else ruled_course rule (origin_course walk.walked walk.origin s))
+        (if b then nothing else stacked walk.rules (origin_walk walk.walked walk.origin s))
+    go true = nothing_yields
+    go false =
+        let f = origin_walk walk.walked walk.origin s in
+        let c = origin_course walk.walked walk.origin s in
+        subst (Yields (ruled_course rule c)) (sym (stacked_any walk.rules f))
+        (ruled_yields rule c f (along_yields (scope_in walk.walked walk.origin.root) walk.origin.names
+        (origin_location walk.origin) s))
+
+  items_fed : (s : Shown) → items_of (walk_course walk s) ≡ ruled_feed walk s
+  items_fed s = yields_items _ _ (course_yields s) ∙ feeds_by_walk walk s
+
+  -- a tree answers so, and the items are the feed of the walk of it
+  record IsFed (told : List Answer) (xs : List Given) : Type 0 where
+    pub shown : Shown
+    pub named : IsNamed shown
+    pub distinct : AreDistinctAlong walk.origin.names shown
+    pub told_is : told ≡ answers (walk_calls walk shown)
+    pub items : xs ≡ ruled_feed walk shown
+
+  -- nothing was asked, and only an error came
+  lacks_told : (told : List Answer) (xs : List Given) (x : Given) → told ≡ [] → xs ≡ x ∷ [] → CutsShort [] x
+      → ToldInPart walk (ruled_feed walk) told xs
+  lacks_told told xs x e f s = record {
+    shown = missing;
+    named = tt;
+    calls = [];
+    rest = walk_calls walk missing;
+    calls_are = refl;
+    told_is = e;
+    error = x;
+    items = ([], ruled_feed walk missing, f, refl);
+    cut = s;
+  }
+
+  fed_so : {D : Type 0} (view : WalkView D) (told : List Answer) (xs : List Given)
+      → ((c : Course) → MayTake view c → WalkTakes walk c) → EndsThere xs → TookCourse view told xs
+      → IsFed told xs ⊎ ToldInPart walk (ruled_feed walk) told xs
+  fed_so view told xs takes ends (whole c t w e f) = elim (takes c t) [
+    | walks s n d b ↦
+        let same = begins_whole c (walk_course walk s) w b in
+        inl (record {
+          shown = s;
+          named = n;
+          distinct = d;
+          told_is = e ∙ ap (λ z. answers (calls_of z)) same;
+          items = f ∙ (ap items_of same ∙ items_fed s);
+        })
+    | lacking b ↦
+        let same = begins_whole c (yields no_memory stop stop) w b in
+        inr (lacks_told told xs no_memory (e ∙ ap (λ z. answers (calls_of z)) same) (f ∙ ap items_of same) tt)
+  ]
+  fed_so view told xs takes ends (cut_short c x t first e f s) = elim (takes c t) [
+    | walks d n a b ↦
+        let p = comes_first c (walk_course walk d) first b in
+        inr (record {
+          shown = d;
+          named = n;
+          calls = calls_of c;
+          rest = p.calls;
+          calls_are = p.calls_are;
+          told_is = e;
+          error = x;
+          items = (items_of c, p.items, f, p.items_are ∙ items_fed d);
+          cut = s;
+        })
+    | lacking b ↦
+        let l = lacks_alone c x told xs ends b e f s in
+        inr (lacks_told told xs x l.0 l.1 l.2)
+  ]
+
+  part_kept : (told : List Answer) (xs : List Given) → ToldInPart walk (ruled_feed walk) told xs
+      → ToldInPart walk (ruled_kept walk) told (filter is_kept xs)
+  part_kept told xs p = record {
+    shown = p.shown;
+    named = p.named;
+    calls = p.calls;
+    rest = p.rest;
+    calls_are = p.calls_are;
+    told_is = p.told_is;
+    error = p.error;
+    items = cut_kept (ruled_feed walk p.shown) p.error xs (cutting_kept p.calls p.error p.cut) p.items;
+    cut = p.cut;
+  }
+
+  -- whatever was answered to a walk that was taken to its end
+  module _ {D C : Type 0} (law : Law D C) (view : WalkView D) (new : D) (xs : List Given)
+      (takes : (c : Course) → MayTake view c → WalkTakes walk c) (took : Took law view new xs) where
+    abbrev fed : IsFed took.told xs ⊎ ToldInPart walk (ruled_feed walk) took.told xs
+    fed = fed_so view took.told xs takes took.ends_there took.course
+
+    pub feeds_answered : FeedsAnswered law view.directory new walk xs
+    feeds_answered = record {
+      told = took.told;
+      answered = took.answered;
+      holds_of = elim fed [
+        | inl t ↦ as_told t.shown t.named t.told_is t.items
+        | inr p ↦ in_part p
+      ];
+    }
+
+    pub leaves_answered : LeavesAnswered law view.directory new walk (filter is_kept xs)
+    leaves_answered = record {
+      told = took.told;
+      answered = took.answered;
+      holds_of = elim fed [
+        | inl t ↦ as_told t.shown t.named t.told_is (ap (filter is_kept) t.items)
+        | inr p ↦ in_part (part_kept took.told xs p)
+      ];
+    }
+
+-- so it is of a glob's walk
+pub keeps_answered : GivesWanted → ListsFew → WantsNothing → (request : GlobRequest) {D C : Type 0} (law : Law D C)
+    (view : WalkView D) (new : D) (xs : List Given) → CanBegin request
+    → ((c : Course) → MayTake view c → WalkTakes (walk_for request) c)
+    → Took law view new xs → KeepsAnswered law view.directory new request (filter is_kept xs)
+keeps_answered gives few none request law view new xs can takes took = record {
+  told = took.told;
+  answered = took.answered;
+  holds_of = elim (fed (walk_for request) law view new xs takes took) [
+    | inl t ↦
+        let s = t.shown in
+        keeps_all s t.named t.told_is (ap (filter is_kept) t.items)
+        (kept_entries xs ∙ (ap (filter is_kept_entry) (t.items ∙ sym (feeds_by_walk (walk_for request) s))
+        ∙ entries_wanted gives few none request s can (plain_named s t.named) t.distinct (is_beyond request) refl))
+    | inr p ↦ keeps_in_part (part_kept (walk_for request) took.told xs p)
+  ];
+}
+
+-- over a walk that another one is seen as
+pub answered_before : {D C : Type 0} (law : Law D C) (old other new : D) (holds : List Answer → Type 0) → other ≡ old
+    → Answering law other new holds → Answering law old new holds
+answered_before law old other new holds same a = subst (λ d. Answering law d new holds) same a

@@ -1,0 +1,74 @@
+-- What a walk yields to its end, whatever the directory answers.
+use Rattle.std.specs.Prelude.{◌≡◌, ◌++◌, List, filter}
+use Rattle.wax_directory.specs.History.{Answer}
+use Rattle.wax_directory.specs.Law.{Law}
+use Rattle.wax_directory.specs.Shown.{Shown}
+use Rattle.wax_tree.specs.Courses.{IsNamed}
+use Rattle.wax_walk.specs.Collected.{IsCutShort}
+use Rattle.wax_walk.specs.Course.{CutsShort, DirectoryCall, answers, calls_of}
+use Rattle.wax_walk.specs.Given.{Given, is_kept}
+use Rattle.wax_exclude.specs.Feeds.{ruled_feed}
+use Rattle.wax_exclude.specs.GlobRequests.{GlobRequest, walk_for}
+use Rattle.wax_exclude.specs.RuledWalks.{RuledWalk, walk_course}
+use Rattle.wax_exclude.specs.Walked.{wanted_entries}
+use Rattle.wax_exclude.specs.Wanted.{is_kept_entry}
+
+-- the calls of the walk if s is shown, with their answers
+abbrev pub walk_calls : RuledWalk → Shown → List DirectoryCall
+walk_calls walk s = calls_of (walk_course walk s)
+
+-- what it keeps then
+abbrev pub ruled_kept : RuledWalk → Shown → List Given
+ruled_kept walk s = filter is_kept (ruled_feed walk s)
+
+abbrev pub request_kept : GlobRequest → Shown → List Given
+request_kept request s = ruled_kept (walk_for request) s
+
+-- what was answered begins what a tree answers, and the items begin what is due of that tree; then one error
+-- came, because allocation failed or the budget was reached in the folder that was asked last
+pub record ToldInPart (walk : RuledWalk) (due : Shown → List Given) (told : List Answer)
+    (xs : List Given) : Type 0 where
+  pub shown : Shown
+  pub named : IsNamed shown
+  pub calls : List DirectoryCall
+  pub rest : List DirectoryCall
+  pub calls_are : calls ++ rest ≡ walk_calls walk shown
+  pub told_is : told ≡ answers calls
+  pub error : Given
+  pub items : IsCutShort (due shown) error xs
+  pub cut : CutsShort calls error
+
+-- what was answered is what a tree answers, call by call, and the items are what is due of that tree; or both
+-- in part
+pub data IsTold (walk : RuledWalk) (due : Shown → List Given) (told : List Answer) (xs : List Given) : Type 0
+  where
+    as_told : (s : Shown) → IsNamed s → told ≡ answers (walk_calls walk s) → xs ≡ due s
+        → IsTold walk due told xs
+    in_part : ToldInPart walk due told xs → IsTold walk due told xs
+
+-- so it is of the walk of a glob, whose kept entries are exactly the wanted ones, in order
+pub data KeepsTold (request : GlobRequest) (told : List Answer) (ys : List Given) : Type 0 where
+  keeps_all : (s : Shown) → IsNamed s → told ≡ answers (walk_calls (walk_for request) s)
+      → ys ≡ request_kept request s
+      → filter is_kept_entry ys ≡ wanted_entries request.wanted request.asked request.origin s
+      → KeepsTold request told ys
+  keeps_in_part : ToldInPart (walk_for request) (request_kept request) told ys → KeepsTold request told ys
+
+-- what the directory answered from `old` to `new`, and that this holds of it
+pub record Answering {D C : Type 0} (law : Law D C) (old new : D) (holds : List Answer → Type 0) : Type 0
+  where
+    pub told : List Answer
+    pub answered : law.answered new ≡ law.answered old ++ told
+    pub holds_of : holds told
+
+-- whatever was answered, the items are the feed of the walk of a tree that answers so
+abbrev pub FeedsAnswered : {D C : Type 0} → Law D C → D → D → RuledWalk → List Given → Type 0
+FeedsAnswered law old new walk xs = Answering law old new (λ told. IsTold walk (ruled_feed walk) told xs)
+
+-- they are what is kept of that
+abbrev pub LeavesAnswered : {D C : Type 0} → Law D C → D → D → RuledWalk → List Given → Type 0
+LeavesAnswered law old new walk ys = Answering law old new (λ told. IsTold walk (ruled_kept walk) told ys)
+
+-- they are what the glob's walk keeps of it
+abbrev pub KeepsAnswered : {D C : Type 0} → Law D C → D → D → GlobRequest → List Given → Type 0
+KeepsAnswered law old new request ys = Answering law old new (λ told. KeepsTold request told ys)
