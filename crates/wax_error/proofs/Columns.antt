@@ -11,7 +11,7 @@ pub columns_at_none : (n left : ℕ) (cs : List ℕ) (all : ℕ) → left ≡ 0 
 columns_at_none n left cs all e h =
     let k : columns_before left cs ≡ 0 = ap (λ v. columns_before v cs) e ∙ none_before cs in omega (arith, k, h)
 
-one_more : (left c : ℕ) (cs : List ℕ) → (left == 0) ≡ false
+pub one_more : (left c : ℕ) (cs : List ℕ) → (left == 0) ≡ false
     → columns_before left (c ∷ cs) ≡ 1 + columns_before (left - len_utf8 c) cs
 one_more left c cs e = rw e
 

@@ -1,2 +1,4 @@
 pub mod Columns
+pub mod Lined
+pub mod Marking
 pub mod Pushed
