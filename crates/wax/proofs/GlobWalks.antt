@@ -3,7 +3,10 @@ use Rattle.std.proofs.Common.{◌≡◌, ◌∙◌, ◌≤◌, ◌<◌, ◌+◌,
 use Rattle.std.specs.Str.{IsUtf8}
 use Rattle.std.proofs.lemmas.Bool.{ltb-false, ltb-true}
 use Rattle.std.proofs.lemmas.Str.{encodes-chars}
-use Rattle.wax_exclude.specs.GlobRequests.{ComesWanted, GlobRequest, is_beyond}
+use Rattle.wax_exclude.specs.GlobRequests.{ComesWanted, GlobRequest, is_beyond, walk_for}
+use Rattle.wax_exclude.specs.RuledWalks.{WalkTakes, lacking}
+use Rattle.wax_exclude.proofs.StackingRequests.{any_alone}
+use Rattle.wax_exclude.proofs.Telling.{ruled_takes}
 use Rattle.wax_directory.specs.Names.{is_rooted, names_in_path}
 use Rattle.wax_glob_walk.specs.Programs.{leading_mark, leads, means_mark}
 use Rattle.wax_components.specs.Depth.{Depth}
@@ -16,8 +19,9 @@ use Rattle.wax_tree.specs.Begins.{BeginsAt, FailsFrom, FailsNowhere, HasEnded, L
 use Rattle.wax_tree.specs.declared.steps.DepthRange.{DepthRange}
 use Rattle.wax_tree.specs.Plain.{count_shown}
 use Rattle.wax_walk.specs.Ruled.{ruled_view}
-use Rattle.wax_walk.proofs.Following.{lacks_ruled}
-use Rattle.wax_walk.specs.View.{IsSeenAs, WalkView}
+use Rattle.wax_walk.proofs.Following.{lacks_ruled, take_ruled}
+use Rattle.wax_walk.specs.Course.{Course}
+use Rattle.wax_walk.specs.View.{IsSeenAs, MayTake, WalkView}
 use Rattle.wax_tree.specs.Prefix.{ArePlain}
 use Rattle.wax_exclude.specs.Wanted.{Filter}
 use Rattle.wax_exclude.specs.Premises.{CanWalk, IsUnmeant}
@@ -139,8 +143,9 @@ module _ {D C : Type 0} {t : Tree Span} (law : Law D C) (d : D) (start : List �
   abbrev ComesBeyond : Type 0
   ComesBeyond = (s : Shown) (listed : List (List ℕ)) → law.shows d request.origin.path s → law.tells d listed → request.walked.max < length b.names → view.to_come (pending nothing nothing listed 0)
 
-  comes_so : ComesShown → ComesBeyond → view.listings_left ≡ asked.budget + 1 → ComesWanted law d request view
-  comes_so shown beyond listings = record {
+  comes_so : ComesShown → ComesBeyond → ((c : Course) → MayTake view c → WalkTakes (walk_for request) c)
+      → view.listings_left ≡ asked.budget + 1 → ComesWanted law d request view
+  comes_so shown beyond takes listings = record {
     comes = λ s listed k told.
         let same : request.origin.names ≡ b.names = sym (names_are start b.rooted b.names) in
         elim (is_beyond request) as
@@ -148,6 +153,7 @@ module _ {D C : Type 0} {t : Tree Span} (law : Law D C) (d : D) (start : List �
           | true ↦ λ e. beyond s listed k told (subst (λ ns. request.walked.max < length ns) same (ltb-true request.walked.max (length request.origin.names) e))
           | false ↦ λ e. shown s listed k told (subst (λ ns. length ns ≤ request.walked.max) same (ltb-false request.walked.max (length request.origin.names) e))
         ] refl;
+    takes = takes;
     listings = listings;
   }
 
@@ -214,6 +220,15 @@ module _ {D C : Type 0} (g : GlobView) (law : Law D C) (d : D) (start : List ℕ
     beyond_along a = λ s listed h told less.
         seen.to_come (pending nothing nothing listed 0) (refl, (pending nothing nothing listed 0, (begins_so a).beyond s listed h told (subst (λ ns. walked.max < length ns) (same_names a) less), refl))
 
+    takes_along : (a : Beginning g.tree) → ArePlain a.names → (c : Course) → MayTake view c
+        → WalkTakes (walk_for (request_of start asked depth a [])) c
+    takes_along a plain c t =
+        let leading = leading_mark (component_test {A = Span}) cs decides g in
+        let p = take_ruled inner view leading seen c t in
+        ruled_takes (walk_for (request_of start asked depth a [])) leading p.0 c (subst ArePlain (same_names a) plain)
+        (ap of_candidate (sym (same_rule a)) ∙ sym (any_alone (of_candidate (glob_mark a.rooted g.tree))))
+        ((begins_so a).takes p.0 p.1) p.2
+
     fails_along : (a : Beginning g.tree) → FailsFrom asked.min (origin_from start a.rooted a.names).path a.names view
     fails_along a =
         let at = origin_from start a.rooted a.names in
@@ -253,7 +268,8 @@ module _ {D C : Type 0} (g : GlobView) (law : Law D C) (d : D) (start : List ℕ
       beyond = beyond_along;
       unmeant = λ taken prefix p e path s listed h told. absurd ((plan taken prefix p).0.unbroken e);
       idle = idle_along;
-      comes = λ a plain. comes_so law d start asked depth view a (shown_along a plain) (beyond_along a) listings_along;
+      comes = λ a plain. comes_so law d start asked depth view a (shown_along a plain) (beyond_along a)
+          (takes_along a plain) listings_along;
       listings = listings_along;
       names = λ a. subst (λ ns. view.names_left ≤ length ns) (sym (same_names a))
           (subst (λ n. n ≤ length (origin_from start a.rooted a.names).names) (sym seen.names_left) (begins_so a).names);
@@ -321,6 +337,7 @@ module _ {D C : Type 0} (g : GlobView) (law : Law D C) (d : D) (start : List ℕ
     unmeant = λ taken prefix p e path s listed h told. nothing_comes listed told;
     comes = λ a plain.
         comes_so law d start asked depth view a (shown_refused a) (λ s listed h told less. nothing_comes listed told)
+        (λ c t. lacking (lacks_ruled inner view (leading_mark (component_test {A = Span}) cs decides g) seen b.takes c t))
         listings_refused;
     listings = listings_refused;
     names = λ a. omega (arith, seen.names_left, b.names);

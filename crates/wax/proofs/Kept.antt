@@ -7,33 +7,15 @@ use Rattle.wax_walk.specs.Forest.{nothing, pending}
 use Rattle.wax_walk.specs.Candidates.{Candidate}
 use Rattle.wax_walk.specs.Given.{Mark, Given, is_kept, no_memory}
 use Rattle.wax_walk.specs.Ruled.{ruled_view}
-use Rattle.wax_walk.specs.View.{CountsFaults, IsSeenAs, WalkView}
+use Rattle.wax_walk.specs.View.{CountsFaults, WalkView}
 use Rattle.wax_walk.proofs.Following.{lacks_ruled}
+use Rattle.wax_walk.proofs.Seen.{seen_itself}
 use Rattle.wax_tree.proofs.Answered.{lacks_given}
 use Rattle.wax_token.specs.Reads.{Span}
 use Rattle.wax_token.specs.Syntax.{Tree}
 use Rattle.wax_tree.specs.declared.steps.DepthRange.{DepthRange}
 use Rattle.wax_tree.proofs.Reaching.{errors_passed}
 use Rattle.wax.specs.GlobWalks.{BeginsGlob, FailsAtFolders, GaveWithin, KeepsNothing, none_kept, memory_alone}
-
--- a walk is seen as itself
-seen_itself : {D : Type 0} (v : WalkView D) → IsSeenAs v v
-seen_itself v = record {
-  to_come = λ p h. h;
-  may_come = λ a h. h;
-  directory = refl;
-  listings_left = refl;
-  names_left = refl;
-  to_begin = refl;
-  listings_open = refl;
-  to_open = refl;
-  opens_above = refl;
-  yields_from = refl;
-  may_fail = λ path depth h. h;
-  may_fail_below = λ path depth h. h;
-  ends = λ h. h;
-  idles = λ h. h;
-}
 
 pub gave_within : {D C : Type 0} (t : Tree Span) (law : Law D C) (d : D) (start : List ℕ) (asked : DepthRange)
     (v : WalkView D) (rule : Candidate → Mark) (new : D) (xs : List Given) → BeginsGlob t law d start asked v

@@ -9,10 +9,10 @@ use Rattle.wax_token.specs.Syntax.{Tree}
 -- ---- Walks (`Glob::collect_excluding`; or `walk`, then `not` and `ignore`, then `collect`). Over a lawful
 -- directory, a walk yields exactly the entries of the whole tree (`whole_at`) that are in range (`is_in`),
 -- that the glob matches, and that no pattern and no ignore list excludes (`is_wanted`), in order
--- (`wanted_entries`). So no folder that was skipped hides a match. `KeepsWanted` states how such a walk ends,
--- and `MayList` which folders it may list. `FeedsWanted` states its whole feed as a list, with what is
--- excluded and each error in its place. For a chain of calls, `ComesWanted` states what is to come, and
--- `ComesExcluding` what a filter removes from it.
+-- (`wanted_entries`); `SelectsWanted` says which these are by `Means`. So no folder that was skipped hides a
+-- match. `KeepsWanted` states how such a walk ends, and `MayList` which folders it may list. `FeedsWanted`
+-- states its whole feed as a list, with what is excluded and each error in its place. For a chain of calls,
+-- `ComesWanted` states what is to come, and `ComesExcluding` what a filter removes from it.
 pub use Rattle.wax_directory.specs.Law.{Law}
 pub use Rattle.wax_exclude.specs.Due.{KeepsDue}
 pub use Rattle.wax_exclude.specs.Feeds.{FeedsWanted}
@@ -20,13 +20,15 @@ pub use Rattle.wax_exclude.specs.Ignored.{is_ignored}
 pub use Rattle.wax_exclude.specs.GlobRequests.{ComesExcluding, ComesWanted, KeepsWanted, request_due}
 pub use Rattle.wax_exclude.specs.Walked.{MayList, wanted_entries}
 pub use Rattle.wax_exclude.specs.Wanted.{Wanted, is_wanted}
+pub use Rattle.wax_exclude.specs.WantedEntries.{SelectsWanted}
 pub use Rattle.wax_tree.specs.Whole.{is_in, whole_at}
--- ---- Walks of whatever directory (`entries`): what was answered is what some tree answers, call by call,
--- and the items are the walk of that tree (`EntriesAnswered`); or both begin so, and one error cuts them
--- short. The directory needn't keep the law: it may be the real file system, change meanwhile, or hold a name
--- twice.
+-- ---- Walks of whatever directory: what was answered is what some tree answers, call by call, and the items
+-- are the plain walk of that tree (`EntriesAnswered`, of `entries`), or what a glob's walk with filters keeps
+-- of it (`KeepsTold`, of `collect_excluding` and `collect`); or both begin so, and one error cuts them short.
+-- The directory needn't keep the law: it may be the real file system, change meanwhile, or hold a name twice.
 pub use Rattle.wax_directory.specs.History.{Answer}
-pub use Rattle.wax_tree.specs.Courses.{plain_course}
+pub use Rattle.wax_exclude.specs.Told.{KeepsAnswered, KeepsTold}
+pub use Rattle.wax_tree.specs.Courses.{along_course, plain_course}
 pub use Rattle.wax_tree.specs.Whole.{EntriesAnswered, whole, yielded}
 -- ---- Matches (`Glob::is_match`): exactly the texts in the meaning of the tree (`IsMeant`, by `Means`).
 -- `is_match_counted` visits at most `program_length` instructions for each character, and as many once more

@@ -13,6 +13,7 @@ use Rattle.wax_error.specs.declared.build_error.BuildError.TheVariants as build
 use Rattle.wax.specs.declared.ignoring.IgnoreError.{IgnoreError}
 use Rattle.wax.specs.declared.ignoring.IgnoreError.TheVariants.{BadLine, Memory}
 use Rattle.wax.specs.declared.ignoring.IgnoreList.{IgnoreList}
+pub use Rattle.wax_exclude.specs.Deciding.{IsLastMatch, LastMatchDecides}
 pub use Rattle.wax_exclude.specs.Held.{HasLines, line_of}
 pub use Rattle.wax_exclude.specs.Ignored.{Line, ignore_mark, is_ignored}
 pub use Rattle.wax_exclude.specs.Kept.{KeepsUnignored, PlainRequest}

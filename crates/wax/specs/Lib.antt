@@ -1,4 +1,5 @@
 pub mod Build
+pub mod Ends
 pub mod Exclusions
 pub mod GlobView
 pub mod GlobWalks

@@ -10,6 +10,7 @@ pub use Rattle.wax_lines.specs.Counts.{greatest_count}
 pub use Rattle.wax_lines.specs.Lines.{Filtered, Filters, Stopped, WritesCaptures, WritesMeant, lines}
 pub use Rattle.wax_lines.specs.Written.{WritesPart}
 pub use Rattle.wax_program.specs.Machine.{Accepts}
+pub use Rattle.wax_program.specs.Meter.{most_ticks}
 pub use Rattle.wax_program.specs.declared.instruction.Instruction.{Instruction}
 pub use Rattle.wax_set.specs.Sets.{IsAlternation, IsCompiledAny, IsWhole, MeansText, any_code, AcceptsText}
 

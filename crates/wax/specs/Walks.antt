@@ -9,9 +9,11 @@ pub use Rattle.wax_directory.specs.Law.{HoldsLast, HoldsSame, Law, ShowsSame}
 pub use Rattle.wax_directory.specs.Listing.{CountsListed, HeldWhereShown, TellsListed}
 pub use Rattle.wax_directory.specs.Names.{is_plain, is_rooted}
 pub use Rattle.wax_directory.specs.Nodes.{HasDistinctNames, HasDuplicateName}
-pub use Rattle.wax_directory.specs.PathTails.{StandsBy, tails_to}
-pub use Rattle.wax_directory.specs.Shown.{IsDistinct, IsPlain, Items, Shown, ShowsIn, a_folder, child_shown}
-pub use Rattle.wax_directory.specs.Shown.{join}
+pub use Rattle.wax_directory.specs.PathTails.{HoldsBy, PathTail, StandsBy, leads_on, listing_by, tails_to}
+pub use Rattle.wax_directory.specs.PlainNames.{plain_of}
+pub use Rattle.wax_directory.specs.Shown.{IsDistinct, IsPlain, Items, Shown, ShowsIn, a_folder, a_leaf}
+pub use Rattle.wax_directory.specs.Shown.{a_sealed, child_shown, end, folder, join, leaf, leaf_kind, listing}
+pub use Rattle.wax_directory.specs.Shown.{misnamed, not_text, sealed, unread}
 pub use Rattle.wax_directory.specs.Starved.{starved_law}
 pub use Rattle.wax_directory.specs.TreeCursors.{last_dropped}
 pub use Rattle.wax_directory.specs.TreeLaw.{tree_child, tree_distinct, tree_inner}
@@ -22,17 +24,22 @@ pub use Rattle.wax_directory.specs.declared.directory.FileType.TheVariants.{File
 pub use Rattle.wax_exclude.specs.Covers.{covers_test}
 pub use Rattle.wax_exclude.specs.Due.{Due, KeepsDue, gives, lacks_memory, over_budget}
 pub use Rattle.wax_exclude.specs.Excluded.{excluded_mark}
-pub use Rattle.wax_exclude.specs.Feeds.{FeedsByRequest, FeedsByRules, FeedsWanted, feed_of, request_feed}
+pub use Rattle.wax_exclude.specs.Feeds.{FeedsByRequest, FeedsByRules, FeedsByWalk, FeedsRuled, FeedsWanted}
+pub use Rattle.wax_exclude.specs.Feeds.{feed_of, request_feed, ruled_feed}
 pub use Rattle.wax_exclude.specs.Law.{GivesWanted, ListsFew, WantsNothing}
 pub use Rattle.wax_exclude.specs.Leading.{leading_of}
 pub use Rattle.wax_exclude.specs.Marks.{covered_mark, glob_mark, not_mark}
+pub use Rattle.wax_exclude.specs.Told.{Answering, FeedsAnswered, IsTold, KeepsAnswered, KeepsTold}
+pub use Rattle.wax_exclude.specs.Told.{LeavesAnswered, ToldInPart, request_kept, ruled_kept, walk_calls}
 pub use Rattle.wax_exclude.specs.TreeRequests.{WantsUnfiltered, is_unfiltered, tree_request}
 pub use Rattle.wax_exclude.specs.Prefix.{HasEmptyName, PrefixSplitsInto}
-pub use Rattle.wax_exclude.specs.Premises.{BeginsWith, IsUnmeant}
+pub use Rattle.wax_exclude.specs.Premises.{BeginsWith, CanWalk, IsUnmeant, IsWellNamed}
 pub use Rattle.wax_exclude.specs.GlobRequests.{AreRulesOf, ComesExcluding, ComesWanted, IsRuleOf, KeepsWanted}
 pub use Rattle.wax_exclude.specs.GlobRequests.{CanBegin, GlobRequest, goes, is_beyond, request_due}
-pub use Rattle.wax_exclude.specs.GlobRequests.{request_excluding, request_pending, request_walk}
+pub use Rattle.wax_exclude.specs.GlobRequests.{request_excluding, request_pending, request_walk, walk_for}
+pub use Rattle.wax_exclude.specs.RuledWalks.{ComesRuled, RuledWalk, WalkTakes, walk_course, with_rule}
 pub use Rattle.wax_exclude.specs.Walked.{glob_walk, wanted_entries, origin_walk}
+pub use Rattle.wax_exclude.specs.WantedEntries.{IsExcludedBy, IsWantedEntry, Selects, SelectsWanted}
 pub use Rattle.wax_exclude.specs.Wanted.{Filter, filter_mark, is_kept_entry, not_ignored, not_meant}
 pub use Rattle.wax_filter.specs.Feeding.{AtMostCancels, ByEntry, ByItem, Feeds, NextFiltrate, OnlyCancels}
 pub use Rattle.wax_filter.specs.Feeding.{entry_layer}
@@ -71,7 +78,7 @@ pub use Rattle.wax_walk.specs.Forest.{Forest, Pending, filtered, filtered_pendin
 pub use Rattle.wax_walk.specs.Forest.{preorder}
 pub use Rattle.wax_walk.specs.Given.{Facts, Given, Mark, alone, changed_by, combined_mark, cut_by, entry}
 pub use Rattle.wax_walk.specs.Given.{fault, is_kept, kept, no_memory, with_tree}
-pub use Rattle.wax_walk.specs.Left.{left_of}
+pub use Rattle.wax_walk.specs.Left.{left_after, left_of}
 pub use Rattle.wax_walk.specs.Known.{KeepsKnown, KnownItem, KnownOutcome, StaysKnown}
 pub use Rattle.wax_walk.specs.Laws.{closure_cancelling, closure_telling, nothing_known, ruled_cancelling}
 pub use Rattle.wax_walk.specs.Laws.{ruled_telling}

@@ -1,6 +1,7 @@
 //! Globs: an expression with its tokens, what they are compiled to, and the pieces by which it captures.
 ghost use Rattle.std.specs.Prelude.{◌≡◌, ◌<◌, ◌≤◌, ◌↔◌, ◌+◌, ◌*◌, ◌++◌, ◌∷◌, [], ℕ, List, IsTrue, IfOk};
-ghost use Rattle.std.specs.Prelude.{IfSome, MatchOption, Some, chars, encode_utf8_all, length, false};
+ghost use Rattle.std.specs.Prelude.{IfSome, MatchOption, Some, chars, encode_utf8_all, length, false, min};
+ghost use Rattle.wax_program.specs.Meter.{most_ticks};
 ghost use Rattle.wax_candidate.specs.Parts.{NoLineEndsBefore};
 ghost use Rattle.wax_components.specs.Capturing.{captures};
 ghost use Rattle.wax_components.specs.Warnings.{has_semantic_literals, warnings};
@@ -37,7 +38,7 @@ use wax_compiled::CompiledTokens;
 use wax_components::{Warning, captures, depth, diagnose, has_semantic_literals};
 use wax_error::{BuildError, parse_and_check};
 use wax_facts::{has_root, is_exhaustive, text};
-use wax_match::encode::CompileError;
+use wax_match::encode::{CompileError, Meter};
 use wax_query::diagnostics::{NoMemory, Refusal};
 use wax_query::query::{CapturingToken, DepthVariance, TextVariance, Variance, When};
 use wax_rule::rule::Checked;
@@ -217,6 +218,29 @@ impl<'t> Glob<'t> {
         ensures { IfOk result (λ answer. answer ≡ has_semantic_literals self.now.tree) }
     {
         has_semantic_literals(alloc, self.token())
+    }
+
+    /// Returns whether the glob matches the whole path, and moves the meter by the number of instructions
+    /// that its program visits: at most its length for each character and once more at the end. If the
+    /// path matches, it is at least the number of characters. Most paths that don't match are rejected
+    /// before the program is run, and move the meter by nothing.
+    ///
+    /// # Errors
+    ///
+    /// Returns `NoMemory` if allocation fails.
+    pub fn is_match_metered(
+        &self,
+        alloc: Global,
+        path: &CandidatePath<'_>,
+        meter: &mut Meter,
+    ) -> Result<bool, NoMemory>
+        ensures means { IfOk result (λ answer. IsTrue answer ↔ IsMeant self.now path.now) }
+        ensures above { meter.new ≤ meter.old + program_length self.now.tree * (length path.now + 1) }
+        ensures below { IfOk result
+            (λ answer. IsTrue answer → min (meter.old + length path.now) most_ticks ≤ meter.new) }
+        ensures steady { meter.old ≤ meter.new }
+    {
+        self.compiled.is_match_metered(alloc, path.as_str(), meter)
     }
 }
 

@@ -149,8 +149,9 @@ impl IgnoreList {
 
     /// Collects the plain walk from `start` without what the list ignores: returns what is kept, in
     /// order, errors included, and the directory. Over a lawful directory, the entries are exactly
-    /// those of the whole walk, at the depths of `behavior`, that the list doesn't ignore. If
-    /// memory or the budget runs out, the list is a prefix of that and then one error.
+    /// those of the whole walk, at the depths of `behavior`, that the list doesn't ignore, and only
+    /// folders that may hold one are listed. If memory or the budget runs out, the list is a prefix of
+    /// that and then one error.
     ///
     /// # Errors
     ///

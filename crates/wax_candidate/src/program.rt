@@ -58,7 +58,8 @@ pub trait Program {
 
     /// Matches the whole path. Returns its text with the captures, or `None` if it doesn't match,
     /// and the number of instructions that were visited: at most 8 times the program's length times
-    /// the cube of one more than the number of characters.
+    /// the cube of one more than the number of characters. If the path matches, it is at least the
+    /// number of characters.
     ///
     /// # Errors
     ///
@@ -70,7 +71,8 @@ pub trait Program {
     ) -> Result<(Option<MatchedText<'p>>, u128), NoMemory>
         ensures matched { IfOk result (λ answer.
             IsMatchOf (means self.now) (captured self.now) path.now answer.0) }
-        ensures above { IfOk result (λ answer. answer.1 ≤ cube_visits (program_length self.now) path.now) };
+        ensures above { IfOk result (λ answer. answer.1 ≤ cube_visits (program_length self.now) path.now) }
+        ensures below { IfOk result (λ answer. IfSome answer.0 (λ _. length path.now ≤ answer.1)) };
 
     /// Matches the whole path. Returns its text with the captures, or `None` if it doesn't match.
     ///

@@ -1,6 +1,7 @@
 //! Sets of patterns: the alternation of their tokens, compiled, with its pieces.
-ghost use Rattle.std.specs.Prelude.{◌≡◌, ◌≤◌, ◌<◌, ◌++◌, ◌∷◌, ℕ, List, IsTrue, chars, false};
-ghost use Rattle.std.specs.Prelude.{IfOk, IfSome, MatchOption, Some, codes};
+ghost use Rattle.std.specs.Prelude.{◌≡◌, ◌≤◌, ◌<◌, ◌↔◌, ◌+◌, ◌*◌, ◌++◌, ◌∷◌, ℕ, List, IsTrue, chars, false};
+ghost use Rattle.std.specs.Prelude.{IfOk, IfSome, MatchOption, Some, codes, length, min};
+ghost use Rattle.wax_program.specs.Meter.{most_ticks};
 ghost use Rattle.wax_candidate.specs.Parts.{NoLineEndsBefore};
 ghost use Rattle.wax_components.specs.Depth.{Depth};
 ghost use Rattle.wax_facts.specs.Exhaustive.{exhaustive};
@@ -30,7 +31,7 @@ use wax_compiled::CompiledTokens;
 use wax_components::depth;
 use wax_error::BuildError;
 use wax_facts::{has_root, is_exhaustive, text};
-use wax_match::encode::CompileError;
+use wax_match::encode::{CompileError, Meter};
 use wax_query::diagnostics::{NoMemory, Refusal};
 use wax_query::query::{DepthVariance, TextVariance, Variance, When};
 use wax_rule::rule::Checked;
@@ -94,6 +95,29 @@ pub(crate) fn compiled<'t>(
 }
 
 impl Any<'_> {
+    /// Returns whether one of the patterns matches the whole path, and moves the meter by the number
+    /// of instructions that the set's program visits: at most its length for each character and once
+    /// more at the end. If the path matches, it is at least the number of characters. Most paths that
+    /// don't match are rejected before the program is run, and move the meter by nothing.
+    ///
+    /// # Errors
+    ///
+    /// Returns `NoMemory` if allocation fails.
+    pub fn is_match_metered(
+        &self,
+        alloc: Global,
+        path: &CandidatePath<'_>,
+        meter: &mut Meter,
+    ) -> Result<bool, NoMemory>
+        ensures means { IfOk result (λ answer. IsTrue answer ↔ MeansText self.now path.now) }
+        ensures above { meter.new ≤ meter.old + program_length self.now * (length path.now + 1) }
+        ensures below { IfOk result
+            (λ answer. IsTrue answer → min (meter.old + length path.now) most_ticks ≤ meter.new) }
+        ensures steady { meter.old ≤ meter.new }
+    {
+        self.compiled.is_match_metered(alloc, path.as_str(), meter)
+    }
+
     /// Returns how many bytes at the beginning of a text can be passed over in a search for lines
     /// that a pattern matches: none of them ends before so many bytes.
     fn earliest_end(&self, text: &str) -> usize

@@ -203,6 +203,7 @@ impl<'t> Glob<'t> {
     ghost use Rattle.wax_walk.specs.Entries.{given_outcome};
     ghost use Rattle.wax_walk.specs.Given.{Given, is_kept};
     ghost use Rattle.wax_walk.specs.Known.{KnownOutcome};
+    ghost use Rattle.wax_exclude.specs.Told.{KeepsAnswered};
     ghost use Rattle.wax_exclude.specs.Wanted.{Filter};
     ghost use Rattle.wax.specs.GlobWalks.{Beginning, FailsAtFolders, GaveWithin, KeepsNothing};
     ghost use Rattle.wax.specs.GlobWalks.{LeadsNowhere, request_of};
@@ -270,6 +271,12 @@ impl<'t> Glob<'t> {
             → D.law.tells directory listed
             → KeepsWanted (D.law.tells r.1)
             (request_of start.now (behavior_range behavior) depth b filters) s listed
+            (map (given_outcome ⟦<GlobEntry as Entry>⟧.facts ⟦<TreeEntry as Entry>⟧.facts) r.0.items))) }
+        ensures answered { IfOk result (λ r. (depth : Bounds) × Depth self.now.tree depth
+            × ((b : Beginning self.now.tree) (filters : List (Filter Span))
+            → AreRulesOf filters (map R.rule rules.items) → ArePlain b.names
+            → KeepsAnswered D.law directory r.1
+            (request_of start.now (behavior_range behavior) depth b filters)
             (map (given_outcome ⟦<GlobEntry as Entry>⟧.facts ⟦<TreeEntry as Entry>⟧.facts) r.0.items))) }
     {
         let walk = walk_in(alloc, self, directory, start, behavior);

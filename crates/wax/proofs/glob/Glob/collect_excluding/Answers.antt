@@ -1,4 +1,5 @@
 use Rattle.std.proofs.Common.{[], map, refl, subst, ◌∙◌, inr, arith}
+use Rattle.wax_exclude.proofs.Telling.{answered_before}
 use Rattle.wax_exclude.specs.GlobRequests.{goes}
 use Rattle.wax_glob_walk.specs.Programs.{any_mark}
 use Rattle.wax_tree.specs.Begins.{behavior_range}
@@ -69,3 +70,19 @@ returns-clause-wanted g c =
           (goes (h.can b filters plain)) shows told,
     ))
     c.collect_excluding.result c.collect_excluding.ensures.wanted
+
+pub returns-clause-answered : goal.returns-clause-answered
+returns-clause-answered g c =
+    let start = c.args.start.now in
+    let asked = behavior_range c.args.behavior in
+    let h = c.walk_in-walk.ensures.begins in
+    map_ok
+    (λ r k. (
+      h.depth,
+      h.depth_is,
+      λ b filters are plain.
+          answered_before g.D.Directory.law _ _ r.1 _ h.directory
+          (k c.args.directory (request_of start asked h.depth b []) filters (h.comes b plain) are
+          (goes (h.can b filters plain))),
+    ))
+    c.collect_excluding.result c.collect_excluding.ensures.answered

@@ -1,4 +1,4 @@
-use Rattle.std.proofs.Common.{◌≡◌, false, chars, IsTrue, sym, ap, subst, rules}
+use Rattle.std.proofs.Common.{◌≡◌, ◌≤◌, false, chars, IfOk, IfSome, IsTrue, length, sym, ap, subst, rules}
 use Rattle.wax_token.specs.Meaning.{Means}
 use Rattle.wax.proofs.glob.GlobProgram.matched_counted.Goals as goal
 
@@ -10,3 +10,8 @@ returns-then-not-may_match-clause-matched c meant =
     subst (λ t. Means t false false text) (sym tree) (subst (λ s. Means c.args.self.now.tree false false s) (sym c.as_str-text.ensures) meant) in
     let passes : IsTrue c.may_match.result = c.may_match.ensures ((c.self.invariant.compiled.accepts text).1 same) in
     absurd (search (rules, passes))
+
+pub returns-clause-below : goal.returns-clause-below
+returns-clause-below c =
+    subst (λ z. IfOk c.matched_counted.result (λ r. IfSome r.0 (λ _. length z ≤ r.1))) c.as_str-text.ensures
+    c.matched_counted.ensures.below

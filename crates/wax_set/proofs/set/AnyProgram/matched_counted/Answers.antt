@@ -1,4 +1,4 @@
-use Rattle.std.proofs.Common.{chars, IfOk, IsTrue, sym, subst, rules}
+use Rattle.std.proofs.Common.{◌≤◌, chars, IfOk, IfSome, IsTrue, length, sym, subst, rules}
 use Rattle.std.proofs.lemmas.Result.{IfOk-weaker}
 use Rattle.wax_candidate.specs.Matched.{IsMatchOf}
 use Rattle.wax_capture.specs.Matched.{IsMatched}
@@ -28,3 +28,8 @@ returns-clause-matched c =
     let here : IfOk answer (λ r. IsMatchOf (MeansText t) IsWhole c.args.path.now r.0) =
     subst (λ z. IfOk answer (λ r. IsMatchOf (MeansText t) IsWhole z r.0)) c.as_str-text.ensures matched in
     subst (λ z. IfOk answer (λ r. IsMatchOf (MeansText z) IsWhole c.args.path.now r.0)) c.self.view_is here
+
+pub returns-clause-below : goal.returns-clause-below
+returns-clause-below c =
+    subst (λ z. IfOk c.matched_counted.result (λ r. IfSome r.0 (λ _. length z ≤ r.1))) c.as_str-text.ensures
+    c.matched_counted.ensures.below

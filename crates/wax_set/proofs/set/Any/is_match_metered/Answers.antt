@@ -1,0 +1,30 @@
+use Rattle.std.proofs.Common.{◌↔◌, ◌≤◌, ◌*◌, ◌+◌, IfOk, IsTrue, chars, length, min, subst}
+use Rattle.wax_compiled.specs.Compiled.{IsCompiled}
+use Rattle.wax_compiled.proofs.Deciding.{answers_tree}
+use Rattle.wax_program.specs.Meter.{most_ticks}
+use Rattle.wax_set.specs.Sets.{MeansText}
+use Rattle.wax_token.specs.Cost.{program_length}
+use Rattle.wax_set.proofs.set.Any.is_match_metered.Goals as goal
+
+abbrev compiled_of : (c : goal.After-is_match_metered) → IsCompiled c.args.self.now c.self.inside.compiled
+compiled_of c = subst (λ t. IsCompiled t c.self.inside.compiled) c.self.view_is c.self.invariant.compiled
+
+pub returns-clause-means : goal.returns-clause-means
+returns-clause-means c =
+    let r = c.is_match_metered.result in
+    let t = c.args.self.now in
+    let here = answers_tree t _ (compiled_of c) r (chars c.as_str.result.now) c.is_match_metered.ensures.decides in
+    subst (λ s. IfOk r (λ answer. IsTrue answer ↔ MeansText t s)) c.as_str.ensures here
+
+pub returns-clause-above : goal.returns-clause-above
+returns-clause-above c =
+    let old = c.args.meter.now in
+    let moved = subst (λ s. c.is_match_metered.new.meter ≤ old + c.self.inside.compiled.1 * (length s + 1)) c.as_str.ensures
+    c.is_match_metered.ensures.above in
+    subst (λ n. c.is_match_metered.new.meter ≤ old + n * (length c.args.path.now + 1)) (compiled_of c).len moved
+
+pub returns-clause-below : goal.returns-clause-below
+returns-clause-below c =
+    subst (λ s. IfOk c.is_match_metered.result (λ answer. IsTrue answer
+    → min (c.args.meter.now + length s) most_ticks ≤ c.is_match_metered.new.meter)) c.as_str.ensures
+    c.is_match_metered.ensures.below
