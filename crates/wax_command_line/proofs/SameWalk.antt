@@ -8,6 +8,7 @@ use Rattle.wax_walk.specs.Given.{Mark}
 use Rattle.wax_glob_walk.specs.Programs.{any_mark}
 use Rattle.wax_walk.specs.Ruled.{ruled_view}
 use Rattle.wax_walk.specs.View.{WalkView, IsSeenAs}
+use Rattle.wax_exclude.proofs.Telling.{answered_before}
 use Rattle.wax_exclude.proofs.Wanting.{took_seen}
 use Rattle.wax_command_line.specs.Wanted.{WroteFirst, WroteWanted}
 
@@ -35,6 +36,7 @@ module _ {D C : Type 0} (law : Law D C) (v u : WalkView D) (seen : IsSeenAs v u)
   comes_seen : (d : D) (request : GlobRequest) → ComesWanted law d request v → ComesWanted law d request u
   comes_seen d request h = record {
     comes = λ s listed shows told. seen.to_come _ (h.comes s listed shows told);
+    takes = λ c t. h.takes c (t.0, seen.may_come t.0 t.1, t.2);
     listings = seen.listings_left ∙ h.listings;
   }
 
@@ -48,6 +50,8 @@ module _ {D C : Type 0} (law : Law D C) (v u : WalkView D) (seen : IsSeenAs v u)
     items = w.items;
     kept = w.kept;
     wanted = λ d request filters s listed comes. w.wanted d request filters s listed (comes_seen d request comes);
+    answered = λ d request filters comes are can. answered_before law _ _ w.directory _ seen.directory
+        (w.answered d request filters (comes_seen d request comes) are can);
     writes = w.writes;
     errors = w.errors;
   }

@@ -14,6 +14,7 @@ use Rattle.wax_walk.specs.Candidates.{Candidate}
 use Rattle.wax_walk.specs.Given.{Given, Mark, is_kept}
 use Rattle.wax_walk.specs.Ruled.{ruled_view}
 use Rattle.wax_walk.specs.View.{WalkView}
+use Rattle.wax_exclude.specs.Told.{KeepsAnswered}
 use Rattle.wax_exclude.specs.Wanted.{Filter}
 use Rattle.wax_command_line.specs.Candidates.{candidate_lines, is_error}
 
@@ -27,8 +28,8 @@ module _ {D C : Type 0} (law : Law D C) (walk : WalkView D) (rules : List (Candi
       → law.shows d request.origin.path s → law.tells d listed
       → P (request_excluding request filters) s listed
 
-  -- the walk by these rules was taken to its end; what was kept of it is what is wanted, and the lines of
-  -- these items were written
+  -- the walk by these rules was taken to its end; what was kept of it is what is wanted of what the directory
+  -- shows, and of what it answered; and the lines of these items were written
   pub record WroteWanted (held held' : Option (List ℕ)) (has_errors : Bool) : Type 0 where
     pub directory : D
     pub given : List Given
@@ -36,6 +37,10 @@ module _ {D C : Type 0} (law : Law D C) (walk : WalkView D) (rules : List (Candi
     pub items : List Given
     pub kept : items ≡ filter is_kept given
     pub wanted : OnRequests (λ request s listed. KeepsWanted (law.tells directory) request s listed items)
+    pub answered : (d : D) (request : GlobRequest) (filters : List (Filter Span))
+        → ComesWanted law d request walk → AreRulesOf filters rules
+        → CanBegin (request_excluding request filters)
+        → KeepsAnswered law walk.directory directory (request_excluding request filters) items
     pub writes : Appends held held' (candidate_lines items)
     pub errors : has_errors ≡ list_any is_error items
 

@@ -1,5 +1,5 @@
 -- What an option adds to the filters.
-use Rattle.std.proofs.Common.{◌≡◌, ℕ, List, [], ◌∷◌, ◌++◌, map, refl, sym, ap, subst, ◌∙◌}
+use Rattle.std.proofs.Common.{◌≡◌, ℕ, List, [], ◌∷◌, ◌++◌, map, ap, ◌∙◌}
 use Rattle.std.specs.Prelude.{Result, Ok, Err, OnOk, chars}
 use Rattle.std.proofs.lemmas.List.{map-append}
 use Rattle.wax.specs.Exclusions.{IsNotRule}

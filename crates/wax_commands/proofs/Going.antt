@@ -3,6 +3,7 @@ use Rattle.std.proofs.Common.{◌≡◌, ℕ, ◌-◌, ◌^◌, Bool, true, fals
 use Rattle.std.specs.Prelude.{Option, chars}
 use Rattle.wax.specs.Headline.{IsGlob}
 use Rattle.wax.specs.GlobView.{GlobView}
+use Rattle.wax_exclude.proofs.Telling.{answered_before}
 use Rattle.wax_exclude.specs.GlobRequests.{AreRulesOf, KeepsWanted, GlobRequest, goes, request_walk}
 use Rattle.wax_directory.specs.Law.{Law}
 use Rattle.wax_directory.specs.Shown.{Shown}
@@ -94,6 +95,14 @@ module _ {D C Z : Type 0} (over : Environment D C Z) (walk : WalkWords) (asked :
         new = w.directory;
         wanted = on_walk over.law over.directory asked globs view rules
             (λ request s listed. KeepsWanted (over.law.tells w.directory) request s listed w.items) begun built.2 w.wanted;
+        answered = (
+          begun.depth,
+          begun.depth_is,
+          λ b plain.
+              answered_before over.law _ _ w.directory _ begun.directory
+              (w.answered over.directory (request_of asked.start (range_in asked.options) begun.depth b []) built.0
+              (begun.comes b plain) built.2 (goes (begun.can b built.0 plain))),
+        );
         given = w.given;
         within = gave_within g.tree over.law over.directory asked.start (range_in asked.options) view (any_mark rules)
             w.directory w.given begun w.took;

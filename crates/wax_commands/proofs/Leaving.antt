@@ -1,6 +1,6 @@
 -- What the options of a walk exclude, one after another.
-use Rattle.std.proofs.Common.{◌≡◌, ℕ, List, [], ◌∷◌, ◌++◌, refl, sym, ap, subst, ◌∙◌, append_assoc}
-use Rattle.std.specs.Prelude.{Option, Some, None, String}
+use Rattle.std.proofs.Common.{◌≡◌, List, [], ◌∷◌, ◌++◌, refl, sym, ap, subst, ◌∙◌, append_assoc}
+use Rattle.std.specs.Prelude.{Option, String}
 use Rattle.std.proofs.lemmas.List.{append-nil}
 use Rattle.wax_exclude.specs.GlobRequests.{AreRulesOf}
 use Rattle.wax_token.specs.Reads.{Span}

@@ -21,6 +21,7 @@ use Rattle.wax_tree.specs.declared.steps.DepthRange.{DepthRange}
 use Rattle.wax_walk.specs.Forest.{preorder}
 use Rattle.wax_walk.specs.Given.{Given, is_kept}
 use Rattle.wax_command_line.specs.Candidates.{candidate_lines, is_error}
+use Rattle.wax_exclude.specs.Told.{KeepsAnswered}
 use Rattle.wax_exclude.specs.Wanted.{Filter, not_meant, not_ignored}
 use Rattle.wax_command_line.specs.Commands.{WalkOption, excluding, ignoring, at_least, at_most, WalkRequest}
 use Rattle.wax_command_line.specs.Commands.{greatest_in, least_in}
@@ -106,11 +107,15 @@ module _ {D C : Type 0} (law : Law D C) (d : D) (asked : WalkRequest) (globs : W
       → law.shows d (origin_from asked.start b.rooted b.names).path s → law.tells d listed
       → P (request_of asked.start (range_in asked.options) depth b globs.filters) s listed)
 
-  -- the walk kept these items, to its end. Whatever the directory shows, it counted what the items are that
-  -- the walk gave, of which these were kept
+  -- The walk was taken to its end, and kept these items of those that it gave. Whatever the directory shows,
+  -- its counts account for what was given, and what was kept is what is wanted of a tree that answers as the
+  -- directory did.
   pub record KeepsAllWanted (items : List Given) : Type 0 where
     pub new : D
     pub wanted : OnWalk (λ request s listed. KeepsWanted (law.tells new) request s listed items)
+    pub answered : (depth : Bounds) × Depth globs.glob.tree depth
+        × ((b : Beginning globs.glob.tree) → ArePlain b.names → KeepsAnswered law d new
+        (request_of asked.start (range_in asked.options) depth b globs.filters) items)
     pub given : List Given
     pub within : GaveWithin globs.glob.tree law d (range_in asked.options) new given
     pub kept : items ≡ filter is_kept given

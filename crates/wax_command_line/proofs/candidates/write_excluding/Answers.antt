@@ -1,7 +1,8 @@
 use Rattle.std.proofs.Common.{map, refl, subst, ◌∙◌}
 use Rattle.std.specs.Prelude.{filter}
 use Rattle.std.specs.Io.KnownBytes.{Appends}
-use Rattle.wax_exclude.specs.GlobRequests.{request_excluding, request_pending}
+use Rattle.wax_exclude.specs.GlobRequests.{request_excluding, request_pending, walk_for}
+use Rattle.wax_exclude.proofs.Telling.{answered_before, keeps_answered}
 use Rattle.wax_exclude.proofs.Wanting.{all_gave, keeps_wanted, filters_come, took_less}
 use Rattle.wax_walk.proofs.Collecting.{map_ok}
 use Rattle.wax_walk.specs.Given.{is_kept}
@@ -28,7 +29,12 @@ returns-clause-done g c =
           let come = filters_come law d request filters rules _ _ _ are c.new.ensures comes c.excluding-kept.ensures.view in
           let named = well_named law d request.origin.path s (λ p l. laws.inner d p l) (λ p t. laws.distinct d p t) shows in
           keeps_wanted wanted.gives wanted.lists wanted.nothing tells excluding s listed wrote.given can named
-          (all_gave law d excluding _ tells s listed wrote.given come shows told wrote.took.all);
+          (all_gave law d (walk_for excluding) _ tells s listed wrote.given come shows told wrote.took.all);
+      answered = λ d request filters comes are can.
+          let come = filters_come law d request filters rules _ _ _ are c.new.ensures comes c.excluding-kept.ensures.view in
+          answered_before law _ _ wrote.directory _ c.excluding-kept.ensures.view.directory
+          (keeps_answered wanted.gives wanted.lists wanted.nothing (request_excluding request filters) law _ wrote.directory
+          wrote.given can come.takes wrote.took);
       writes = subst (Appends (contents c.args.output.now.inner) (contents c.write_candidates.new.output.inner)) (lines_kept wrote.given) wrote.writes;
       errors = wrote.errors ∙ errors_kept wrote.given;
     })
