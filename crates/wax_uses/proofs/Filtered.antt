@@ -13,7 +13,7 @@ use Rattle.wax_uses.specs.Excluding.{KeepsExcluding, OpenedFew}
 use Rattle.wax_uses.specs.Excluding as less
 
 -- filters and more filters
-less_more : (request : GlobRequest) (xs ys : List (Filter Span))
+pub less_more : (request : GlobRequest) (xs ys : List (Filter Span))
     → request_excluding (request_excluding request xs) ys ≡ request_excluding request (xs ++ ys)
 less_more request xs ys =
     ap (λ fs. record request { wanted = record request.wanted { filters = fs } })

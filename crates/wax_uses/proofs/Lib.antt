@@ -1,8 +1,15 @@
 pub mod ByRule
-pub mod Filtered
 pub mod ExcludingMatches
+pub mod Expressions
+pub mod Files
+pub mod Filtered
+pub mod KeptFiles
+pub mod KeptSources
+pub mod Matched
 pub mod Meanings
 pub mod OneComponents
 pub mod Pictures
+pub mod Planted
 pub mod SingleNames
+pub mod SourceTree
 pub mod Stems

@@ -55,7 +55,8 @@ or_apart false false e = (refl, refl)
 or_apart false true e = cc
 or_apart true b e = cc
 
-has_no_slash : (t : List ℕ) → list_any (is_one_of (47 ∷ 92 ∷ [])) t ≡ false → HasNoSlash t
+-- a text without a `/` and a backslash
+pub has_no_slash : (t : List ℕ) → list_any (is_one_of (47 ∷ 92 ∷ [])) t ≡ false → HasNoSlash t
 has_no_slash [] e = tt
 has_no_slash (c ∷ t) e =
     let k : ((47 == c) || ((92 == c) || false) ≡ false) × (list_any (is_one_of (47 ∷ 92 ∷ [])) t ≡ false) =

@@ -67,7 +67,7 @@ same_to [] (d ∷ s) h = absurd h
 same_to (c ∷ t) [] h = absurd h
 same_to (c ∷ t) (d ∷ s) h = let e : s ≡ t = same_to t s h.1 in let f : c ≡ d = h.0 in cc
 
-same_self : (t : List ℕ) → SameText false t t
+pub same_self : (t : List ℕ) → SameText false t t
 same_self [] = tt
 same_self (c ∷ t) = (refl, same_self t)
 

@@ -1,3 +1,4 @@
 pub mod Excluding
 pub mod Names
+pub mod Sources
 pub mod Walks

@@ -11,10 +11,11 @@ ghost use Rattle.wax.specs.Patterns.{IsOnly};
 ghost use Rattle.wax.specs.Walks.{facts_of, Filter, Given, given_outcome, KnownOutcome, mark_of};
 ghost use Rattle.wax.specs.Walks.{not_ignored, not_meant, Pending, Shown};
 
-use std::alloc::Global;
+use std::alloc::{AllocFailed, Global};
 use wax::walk::{
-    Directory, Entry, EntryResidue, FileIterator, FileIteratorExt, FileType, GlobEntry, IgnoreList,
-    PathExt, TreeEntry, WalkBehavior, WalkError, WalkFilter, collect, law_of_plain_walks,
+    Directory, Entry, EntryResidue, FileIterator, FileIteratorExt, FileType, GlobEntry,
+    IgnoreError, IgnoreList, PathExt, TreeEntry, WalkBehavior, WalkError, WalkFilter, collect,
+    law_of_plain_walks,
 };
 use wax::{BuildError, Glob, NoMemory, Pattern};
 
@@ -81,6 +82,50 @@ pub enum NotKept {
     /// A pattern or a list isn't built.
     NotBuilt,
     NoMemory,
+}
+
+impl From<BuildError> for NotKept {
+    ghost use Rattle.std.specs.Prelude.{◌≡◌};
+    ghost use Rattle.wax_uses.specs.declared.walks.NotKept.TheVariants.{NotBuilt};
+
+    ghost from_gives = { λ _ error. error ≡ NotBuilt };
+
+    fn from(_: BuildError) -> Self {
+        NotKept::NotBuilt
+    }
+}
+
+impl From<IgnoreError> for NotKept {
+    ghost use Rattle.std.specs.Prelude.{◌≡◌};
+    ghost use Rattle.wax_uses.specs.declared.walks.NotKept.TheVariants.{NotBuilt};
+
+    ghost from_gives = { λ _ error. error ≡ NotBuilt };
+
+    fn from(_: IgnoreError) -> Self {
+        NotKept::NotBuilt
+    }
+}
+
+impl From<NoMemory> for NotKept {
+    ghost use Rattle.std.specs.Prelude.{◌≡◌};
+    ghost use Rattle.wax_uses.specs.declared.walks.NotKept.TheVariants as not_kept;
+
+    ghost from_gives = { λ _ error. error ≡ not_kept.NoMemory };
+
+    fn from(_: NoMemory) -> Self {
+        NotKept::NoMemory
+    }
+}
+
+impl<T: Drop> From<AllocFailed<T>> for NotKept {
+    ghost use Rattle.std.specs.Prelude.{◌≡◌};
+    ghost use Rattle.wax_uses.specs.declared.walks.NotKept.TheVariants as not_kept;
+
+    ghost from_gives = { λ _ error. error ≡ not_kept.NoMemory };
+
+    fn from(_: AllocFailed<T>) -> Self {
+        NotKept::NoMemory
+    }
 }
 
 /// Walks the glob from a start, without what two patterns match and what the list of the text
