@@ -4,6 +4,7 @@ use crate::kinds::GlobFact;
 use crate::{copies, lines, memoryless, parts, refusals};
 use std::alloc::Global;
 use wax::diagnostics::{LocatedError, Warning};
+use wax::encode::Meter;
 use wax::{BuildMatcher, CandidatePath, Glob, MatchedText, NoMemory, PathMatcher, Program};
 use wax_test_kit::answer::Answer;
 use wax_test_kit::rows::DataRow;
@@ -40,6 +41,7 @@ fn of_glob(
         GlobFact::IsMatch => add_is_match(alloc, glob, row.input(1), made),
         GlobFact::Matcher => add_answers(alloc, glob, row.input(1), made),
         GlobFact::Visits => add_visits(alloc, glob, row, made),
+        GlobFact::Metered => add_metered(alloc, glob, row, made),
         GlobFact::Captures => add_captures(alloc, glob, made),
         GlobFact::Semantic => add_semantic(alloc, glob, made),
         GlobFact::Warnings => add_warnings(alloc, glob, made),
@@ -170,10 +172,28 @@ fn add_visits(
 ) -> Result<(), NoMemory> {
     let path = CandidatePath::from(row.input(1));
     let (is_match, visits) = glob.is_match_counted(alloc, &path)?;
+    add_visited(is_match, visits, row.input(2), made);
+    Ok(())
+}
+
+fn add_metered(
+    alloc: Global,
+    glob: &Glob<'_>,
+    row: &DataRow,
+    made: &mut Answer,
+) -> Result<(), NoMemory> {
+    let mut meter = Meter::new();
+    let path = CandidatePath::from(row.input(1));
+    let is_match = glob.is_match_metered(alloc, &path, &mut meter)?;
+    add_visited(is_match, meter.ticks(), row.input(2), made);
+    Ok(())
+}
+
+/// Adds whether a path matched, and whether the number of visits is within bounds.
+pub fn add_visited(is_match: bool, visits: u128, bounds: &str, made: &mut Answer) {
     made.digit(is_match);
     made.tab();
-    made.within(visits, row.input(2));
-    Ok(())
+    made.within(visits, bounds);
 }
 
 /// Adds the number, the start and the length of each capturing token.

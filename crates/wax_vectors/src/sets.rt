@@ -1,12 +1,12 @@
 //! Facts of sets of patterns. Patterns have spaces between them, and sets have semicolons.
 
-use crate::globs::{add_answers, add_facts, add_is_match, add_match};
+use crate::globs::{add_answers, add_facts, add_is_match, add_match, add_visited};
 use crate::kinds::SetFact;
 use std::alloc::{AllocError, Global};
-use wax::encode::compile;
+use wax::encode::{Meter, compile};
 use wax::rule::Checked;
 use wax::token::{ExpressionMetadata, Sides, Token};
-use wax::{Any, BuildError, Glob, NoMemory, Pattern, any};
+use wax::{Any, BuildError, CandidatePath, Glob, NoMemory, Pattern, any};
 use wax_test_kit::answer::Answer;
 use wax_test_kit::rows::{DataRow, push};
 
@@ -40,8 +40,12 @@ fn built(alloc: Global, fact: SetFact, patterns: &str) -> Result<Set, BuildError
         SetFact::Globs => set_of_globs(alloc, patterns),
         SetFact::Length => set_of_parts(alloc, patterns),
         SetFact::Empty | SetFact::EmptyLength => set_of_none(alloc),
-        SetFact::Patterns | SetFact::Match | SetFact::IsMatch | SetFact::Matcher | SetFact::Facts =>
-            set_of(alloc, patterns),
+        SetFact::Patterns
+        | SetFact::Match
+        | SetFact::IsMatch
+        | SetFact::Matcher
+        | SetFact::Metered
+        | SetFact::Facts => set_of(alloc, patterns),
     }
 }
 
@@ -64,6 +68,13 @@ fn of_set(
         SetFact::Match => add_match(alloc, set, row.input(1), made),
         SetFact::IsMatch | SetFact::SetsIsMatch => add_is_match(alloc, set, row.input(1), made),
         SetFact::Matcher => add_answers(alloc, set, row.input(1), made),
+        SetFact::Metered => {
+            let mut meter = Meter::new();
+            let path = CandidatePath::from(row.input(1));
+            let is_match = set.is_match_metered(alloc, &path, &mut meter)?;
+            add_visited(is_match, meter.ticks(), row.input(2), made);
+            Ok(())
+        }
         SetFact::Empty => add_is_match(alloc, set, row.input(0), made),
         SetFact::Facts => {
             made.debug(set);
