@@ -2,6 +2,7 @@
 ghost use Rattle.std.specs.Prelude.{◌≡◌, ◌+◌, ◌*◌, ◌++◌, ◌∷◌, ◌<◌, ◌≤◌, ◌↔◌, [], ℕ, List, IfOk, IsTrue};
 ghost use Rattle.std.specs.Prelude.{chars, false, length, min};
 ghost use Rattle.std.specs.Str.{IsUtf8};
+ghost use Rattle.wax_lazy.specs.Verdict.{AcceptsBelow};
 ghost use Rattle.wax_program.specs.Last.{IsLastName};
 ghost use Rattle.wax_program.specs.Machine.{Accepts};
 ghost use Rattle.wax_program.specs.Meter.{most_ticks};
@@ -13,7 +14,7 @@ ghost use Rattle.wax_compiled.specs.Compiled.{IsCompiled};
 
 use std::alloc::Global;
 use std::marker::Model;
-use wax_lazy::HasProgram;
+use wax_lazy::{HasProgram, Matcher};
 use wax_match::encode;
 use wax_match::encode::{CompileError, CompiledProgram, Meter};
 use wax_prefilter::Prefilter;
@@ -166,6 +167,21 @@ impl CompiledTokens {
     {
         let (answer, _) = self.is_match_counted(alloc, text)?;
         Ok(answer)
+    }
+
+    /// Returns whether the tokens match something below the folder with this text. Finds the places
+    /// of the program that lead on, in time linear in the program, and as much again for each of the
+    /// loops that lie within one another. For many folders a matcher is faster, which finds them once.
+    ///
+    /// # Errors
+    ///
+    /// Returns `NoMemory` if allocation fails.
+    pub fn goes_on(&self, alloc: Global, text: &str) -> Result<bool, NoMemory>
+        ensures { IfOk result (λ answer. IsTrue answer ↔ AcceptsBelow self.now.0 (chars text.now)) }
+    {
+        let mut matcher = Matcher::new(alloc, &self.program)?;
+        let verdict = matcher.verdict(text)?;
+        Ok(verdict.goes_on)
     }
 
     /// Returns how many bytes at the beginning of a text can be passed over in a search for lines

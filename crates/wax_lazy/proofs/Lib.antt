@@ -1,3 +1,4 @@
+pub mod Ahead
 pub mod Caches
 pub mod Lone
 pub mod Tables

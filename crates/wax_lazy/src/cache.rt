@@ -696,6 +696,14 @@ impl Cache {
         states >= MOST_STATES || states >= LEAST_STATES && self.bytes >= self.most_bytes
     }
 
+    /// Returns the places of the state whose cells begin at `at`.
+    pub fn places(&self, at: usize) -> &[usize]
+        requires { IsStatePlace self.now.table.states.items at }
+        ensures { places_at self.now.table.states.items (at / 128) ≡ result.now }
+    {
+        self.table.places(at)
+    }
+
     /// Returns whether a text that ends in the state whose cells begin at `at` is accepted. Takes a
     /// step of the program if no text has ended there.
     #[inline]

@@ -1,14 +1,18 @@
 //! Deciding many texts by one program.
 ghost use Rattle.std.specs.Prelude.{◌≡◌, ◌≤◌, ◌↔◌, IfOk, IsFalse, IsTrue, chars, length};
+ghost use Rattle.wax_lazy.specs.Verdict.{IsVerdict};
 ghost use Rattle.wax_lazy.specs.inner.Cached.{IsKeptFor, IsKnownOf};
 ghost use Rattle.wax_program.specs.Last.{ReadsLast};
 ghost use Rattle.wax_program.specs.Machine.{Accepts};
+ghost use Rattle.wax_program.specs.Onward.{AreFlagsOf};
 
 use crate::cache::Cache;
+use crate::lead::{lead, verdict_at};
 use crate::walk::walk;
 use std::alloc::{AllocError, Global};
-use wax_program::{CompiledProgram, Meter, last_name, reads_last, run, run_last};
+use wax_program::{Ahead, CompiledProgram, Meter, Onward, last_name, reads_last, run, run_last};
 use wax_query::diagnostics::NoMemory;
+use wax_query::query::Verdict;
 
 /// The least number of instructions of a program that isn't run over texts of many characters, as
 /// Chinese ones are. There a smaller program takes less time than filling a cell for each character.
@@ -27,6 +31,8 @@ pub struct Known {
     most_bytes: usize,
     /// The states that texts led to, from the first text on.
     cache: Option<Cache>,
+    /// The places of the program that lead on, from the first verdict on.
+    onward: Option<Onward>,
     /// Counts the instructions that were read, for all texts.
     meter: Meter,
 }
@@ -43,6 +49,7 @@ impl Known {
             reads_last,
             most_bytes,
             cache: None,
+            onward: None,
             meter,
         }
     }
@@ -84,6 +91,59 @@ impl Known {
         match &mut self.cache {
             Some(cache) => decide(alloc, program, self.reads_last, cache, text, meter),
             None => decide_once(alloc, program, self.reads_last, text, meter),
+        }
+    }
+
+    /// Returns whether the program accepts the text, and whether it accepts one of something below
+    /// the folder with this text.
+    ///
+    /// # Errors
+    ///
+    /// Returns `NoMemory` if allocation fails. Further texts can be decided even then.
+    pub fn verdict(
+        &mut self,
+        alloc: Global,
+        program: &CompiledProgram,
+        text: &str,
+    ) -> Result<Verdict, NoMemory>
+        requires { IsKnownOf program.now.0 self.old }
+        ensures known { IsKnownOf program.now.0 self.new }
+        ensures decides { IfOk result (IsVerdict program.now.0 (chars text.now)) }
+    {
+        let onward = self.take_onward(alloc, program)?;
+        let mut cache = self.take_cache(alloc, program)?;
+        let meter = &mut self.meter;
+        let verdict = judge(program, &onward, self.reads_last, &mut cache, text, meter);
+        self.cache = Some(cache);
+        self.onward = Some(onward);
+        Ok(verdict?)
+    }
+
+    /// Takes out the places that lead on, or finds them.
+    fn take_onward(
+        &mut self,
+        alloc: Global,
+        program: &CompiledProgram,
+    ) -> Result<Onward, AllocError>
+        requires { IsKnownOf program.now.0 self.old }
+        ensures known { IsKnownOf program.now.0 self.new }
+        ensures onward { IfOk result (AreFlagsOf program.now.0) }
+    {
+        match self.onward.take() {
+            Some(onward) => Ok(onward),
+            None => Onward::new(alloc, program, &mut self.meter),
+        }
+    }
+
+    /// Takes out the cache, or creates one.
+    fn take_cache(&mut self, alloc: Global, program: &CompiledProgram) -> Result<Cache, AllocError>
+        requires { IsKnownOf program.now.0 self.old }
+        ensures known { IsKnownOf program.now.0 self.new }
+        ensures cache { IfOk result (IsKeptFor program.now.0 self.new.reads_last) }
+    {
+        match self.cache.take() {
+            Some(cache) => Ok(cache),
+            None => empty_cache(alloc, program, self.reads_last, self.most_bytes),
         }
     }
 
@@ -137,6 +197,33 @@ fn decide(
         return Ok(walk(program, cache, last_name(text), meter)?);
     }
     Ok(walk(program, cache, text, meter)?)
+}
+
+/// Follows a text, and returns both answers. If only the last component matters, something below is
+/// accepted if any plain path is.
+fn judge(
+    program: &CompiledProgram,
+    onward: &Onward,
+    reads_last: bool,
+    cache: &mut Cache,
+    text: &str,
+    meter: &mut Meter,
+) -> Result<Verdict, AllocError>
+    requires cache { IsKeptFor program.now.0 reads_last cache.old }
+    requires onward { AreFlagsOf program.now.0 onward.now }
+    requires last { IsTrue reads_last → ReadsLast program.now.0 }
+    ensures cache { IsKeptFor program.now.0 reads_last cache.new }
+    ensures decides { IfOk result (IsVerdict program.now.0 (chars text.now)) }
+{
+    if reads_last {
+        let is_match = walk(program, cache, last_name(text), meter)?;
+        return Ok(Verdict {
+            is_match,
+            goes_on: onward.holds(Ahead::Path, 0),
+        });
+    }
+    let led = lead(program, cache, text, meter)?;
+    Ok(verdict_at(program, onward, cache, led, Ahead::below(text), meter))
 }
 
 /// Decides a text by a run of the program.

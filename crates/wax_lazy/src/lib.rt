@@ -4,6 +4,7 @@
 
 mod cache;
 mod known;
+mod lead;
 mod matcher;
 mod walk;
 

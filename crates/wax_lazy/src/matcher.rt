@@ -1,5 +1,6 @@
 //! Matchers of many texts.
 ghost use Rattle.std.specs.Prelude.{◌≡◌, ◌↔◌, IfOk, IsTrue, List, chars};
+ghost use Rattle.wax_lazy.specs.Verdict.{IsVerdict};
 ghost use Rattle.wax_program.specs.Machine.{Accepts};
 ghost use Rattle.wax_program.specs.declared.instruction.Instruction.{Instruction};
 
@@ -8,6 +9,7 @@ use std::alloc::Global;
 use std::marker::Model;
 use wax_program::CompiledProgram;
 use wax_query::diagnostics::NoMemory;
+use wax_query::query::Verdict;
 
 /// How many bytes states and their cells may take, about.
 const MOST_BYTES: usize = 2_097_152;
@@ -167,6 +169,21 @@ impl<P: HasProgram> Matcher<P> {
     {
         self.known
             .is_match(self.alloc, self.program.program(), text)
+    }
+
+    /// Returns whether the program accepts the text, and whether it accepts one of something below
+    /// the folder with this text. Reads the text once. The first verdict finds the places of the
+    /// program that lead on: that takes time linear in the program, and as much again for each of
+    /// the loops that lie within one another.
+    ///
+    /// # Errors
+    ///
+    /// Returns `NoMemory` if allocation fails. The matcher can be used for further texts even then.
+    pub fn verdict(&mut self, text: &str) -> Result<Verdict, NoMemory>
+        ensures decides { IfOk result (IsVerdict self.old (chars text.now)) }
+        ensures same { self.new ≡ self.old }
+    {
+        self.known.verdict(self.alloc, self.program.program(), text)
     }
 
     /// Returns whether the matcher runs its program for each text from now on, since the states

@@ -1,3 +1,4 @@
+pub mod Below
 pub mod Compiled
 pub mod Folding
 pub mod Fragments

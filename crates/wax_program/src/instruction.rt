@@ -1,13 +1,15 @@
 //! The instructions of a program.
 ghost use Rattle.std.specs.Prelude.{◌≡◌, ◌↔◌, IfOk, IsTrue, true};
 ghost use Rattle.unicode.specs.CaseFolding.{simple_fold};
+ghost use Rattle.std.specs.List.{list_all, list_any};
 ghost use Rattle.wax_program.specs.Machine.{PassesTest};
-ghost use Rattle.wax_token.specs.Meaning.{in_class};
+ghost use Rattle.wax_program.specs.Onward.{FoldsOther, HoldsOther, TakesOther, is_other};
+ghost use Rattle.wax_token.specs.Meaning.{in_class, is_forward};
 
 use std::alloc::{AllocError, Global};
 use std::marker::Model;
 use unicode::case::simple_fold;
-use wax_token::token::Class;
+use wax_token::token::{Archetype, Class};
 
 /// A test of one character.
 #[derive(Drop)]
@@ -98,6 +100,77 @@ impl Test {
             Test::Any => true,
             Test::Never => false,
         }
+    }
+
+    /// Returns whether some character other than `/` passes. Takes time linear in the archetypes of
+    /// a class.
+    pub fn takes_other(&self) -> bool
+        ensures { IsTrue result ↔ TakesOther self.now }
+    {
+        match self {
+            Test::Char(d) => *d != '/',
+            Test::Folded(d) => folded_other(*d),
+            Test::Class(class) => holds_other(class),
+            Test::NotSlash => true,
+            Test::Any => true,
+            Test::Never => false,
+        }
+    }
+}
+
+/// Returns whether some character other than `/` has the simple case folding `d`. If one has, then
+/// `d` has it, too.
+fn folded_other(d: char) -> bool
+    ensures { IsTrue result ↔ FoldsOther d }
+{
+    d != '/' && folds_to(d, d)
+}
+
+fn holds_other(class: &BoxedClass) -> bool
+    ensures { IsTrue result ↔ HoldsOther class.now.0 class.now.1 }
+{
+    class_other(class.class.is_negated(), class.class.archetypes())
+}
+
+/// Returns whether a class has a character: one that isn't negated has none if a range is reversed,
+/// or if all that it lists is `/`; one that is negated, only if a range is reversed.
+fn class_other(negated: bool, archetypes: &[Archetype]) -> bool
+    ensures { IsTrue result ↔ HoldsOther negated archetypes.now }
+{
+    if !are_forward(archetypes) {
+        return false;
+    }
+    negated || list_other(archetypes)
+}
+
+fn are_forward(archetypes: &[Archetype]) -> bool
+    ensures { result ≡ list_all is_forward archetypes.now }
+{
+    archetypes.iter().all(|archetype| is_forward(archetype))
+}
+
+fn is_forward(archetype: &Archetype) -> bool
+    ensures { result ≡ is_forward archetype.now }
+{
+    match archetype {
+        Archetype::Character(_) => true,
+        Archetype::Range(low, high) => *low <= *high,
+    }
+}
+
+/// Returns whether one of the archetypes has a character other than `/`.
+fn list_other(archetypes: &[Archetype]) -> bool
+    ensures { result ≡ list_any is_other archetypes.now }
+{
+    archetypes.iter().any(|archetype| is_other(archetype))
+}
+
+fn is_other(archetype: &Archetype) -> bool
+    ensures { result ≡ is_other archetype.now }
+{
+    match archetype {
+        Archetype::Character(c) => *c != '/',
+        Archetype::Range(low, high) => *low != '/' || *high != '/',
     }
 }
 

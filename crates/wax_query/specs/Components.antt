@@ -1,5 +1,5 @@
 -- The components of a path text, which `/` parts.
-use Rattle.std.specs.Prelude.{◌≡◌, ◌≢◌, ℕ, ◌+◌, ◌-◌, ◌==◌, List, [], ◌∷◌, ◌++◌, if◌then◌else◌}
+use Rattle.std.specs.Prelude.{◌≡◌, ◌≢◌, ℕ, ◌+◌, ◌-◌, ◌==◌, List, [], ◌∷◌, ◌++◌, if◌then◌else◌, ⊤}
 
 abbrev pub slash : ℕ → ℕ
 slash c = if c == 47 then 1 else 0
@@ -31,3 +31,7 @@ EndsWithSlash s = (t : List ℕ) × (s ≡ t ++ 47 ∷ [])
 -- not empty, and without a `/` at an end
 abbrev pub Bare : List ℕ → Type 0
 Bare s = (s ≢ []) × (BeginsWithSlash s → ⊥) × (EndsWithSlash s → ⊥)
+
+abbrev pub HasNoSlash : List ℕ → Type 0
+HasNoSlash [] = ⊤
+HasNoSlash (c ∷ s) = (c ≢ 47) × HasNoSlash s

@@ -1,3 +1,4 @@
+pub mod Below
 pub mod Components
 pub mod Labels
 pub mod Lending

@@ -5,14 +5,11 @@ use Rattle.std.specs.List.{list_any, list_all}
 use Rattle.unicode.specs.CaseFolding.{simple_fold}
 use Rattle.wax_token.specs.declared.token.Archetype.{Archetype}
 use Rattle.wax_token.specs.declared.token.Archetype.TheVariants.{Character, Range}
+pub use Rattle.wax_query.specs.Components.{HasNoSlash}
 use Rattle.wax_query.specs.Components.{BeginsWithSlash, EndsWithSlash}
 use Rattle.wax_query.specs.Ranges.{AtMost}
 use Rattle.wax_token.specs.Syntax.{Leaf, literal, class, separator, one, zero_or_more, tree, Tree, leaf}
 use Rattle.wax_token.specs.Syntax.{alternation, concatenation, repetition, Trees, none, more}
-
-abbrev pub HasNoSlash : List ℕ → Type 0
-HasNoSlash [] = ⊤
-HasNoSlash (c ∷ s) = (c ≢ 47) × HasNoSlash s
 
 -- a tree wildcard: whether something is before it, whether something is after it, whether it is rooted
 abbrev pub TreeMeans : Bool → Bool → Bool → List ℕ → Type 0

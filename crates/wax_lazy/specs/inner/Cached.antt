@@ -1,13 +1,18 @@
 -- What is kept between texts.
 use Rattle.std.specs.Prelude.{◌≡◌, ℕ, ◌+◌, ◌*◌, ◌/◌, ◌<◌, ◌≤◌, ◌⊎◌, ◌↔◌, List, [], ◌∷◌, ◌++◌, Bool, None}
-use Rattle.std.specs.Prelude.{IfSome, IsFalse, IsTrue, Option, length, replicate}
+use Rattle.std.specs.Prelude.{Contains, IfSome, IsFalse, IsTrue, Option, length, replicate}
 use Rattle.wax_lazy.specs.declared.cache.Cache.{Cache}
 use Rattle.wax_lazy.specs.declared.cache.Lone.{Lone}
 use Rattle.wax_lazy.specs.declared.known.Known.{Known}
 use Rattle.wax_lazy.specs.inner.Table.{AreWideCells, BeginsTexts, IsRestState}
 use Rattle.wax_lazy.specs.inner.Table.{IsJoinOf, IsTable, KeepsStates, own_at}
 use Rattle.wax_program.specs.declared.instruction.Instruction.{Instruction}
+use Rattle.wax_bits.specs.Places.{HoldsPlace}
 use Rattle.wax_program.specs.Last.{ReadsLast}
+use Rattle.wax_program.specs.Machine.{Accepts}
+use Rattle.wax_program.specs.Onward.{AreFlagsOf, PlaceFlags, IsAhead, flags_for}
+use Rattle.wax_query.specs.declared.query.verdict.Verdict.{Verdict}
+use Rattle.wax_program.specs.declared.onward.Ahead.{Ahead}
 use Rattle.wax_program.specs.Threads.{AnyAmong}
 use Rattle.wax_states.specs.declared.table.Next.{Next}
 use Rattle.wax_states.specs.declared.table.Next.TheVariants.{To, Nothing, Everything}
@@ -104,6 +109,27 @@ DecidesLeft code states places left after (To at) =
 DecidesLeft code states places left after Nothing = AnyAmong code places left → ⊥
 DecidesLeft code states places left after Everything = AnyAmong code places left
 
+-- the places of the next state accept what may follow the text exactly where the program accepts the whole
+abbrev pub LeadsText : List Instruction → List State → ℕ → List ℕ → Next → Type 0
+LeadsText code states start text (To at) = IsStatePlace states at
+    × ((s : List ℕ) → Accepts code start (text ++ s) ↔ AnyAmong code (places_at states (at / 128)) s)
+LeadsText code states start text Nothing = (s : List ℕ) → Accepts code start (text ++ s) → ⊥
+LeadsText code states start text Everything = (s : List ℕ) → Accepts code start (text ++ s)
+
+-- some text is accepted that begins with this one and goes on so
+abbrev pub AcceptsAhead : List Instruction → ℕ → List ℕ → Ahead → Type 0
+AcceptsAhead code start text m = (s : List ℕ) × IsAhead m s × Accepts code start (text ++ s)
+
+-- both answers are right, where what goes on is said by m
+pub record IsAheadVerdict (code : List Instruction) (start : ℕ) (text : List ℕ) (m : Ahead)
+    (v : Verdict) : Type 0 where
+  pub matches : IsTrue v.is_match ↔ Accepts code start text
+  pub ahead : IsTrue v.goes_on ↔ AcceptsAhead code start text m
+
+-- from one of the places some text is accepted that goes on so
+abbrev pub AnyAhead : PlaceFlags → Ahead → List ℕ → Type 0
+AnyAhead f m places = (k : ℕ) × Contains places k × HoldsPlace (flags_for m f) k
+
 -- the cache of a program of these instructions, for texts of which the last component alone is read where the
 -- flag says so
 pub record IsKeptFor (code : List Instruction) (reads_last : Bool) (c : Cache) : Type 0 where
@@ -116,3 +142,4 @@ pub record IsKnownOf (code : List Instruction) (k : Known) : Type 0 where
   pub last : IsTrue k.reads_last → ReadsLast code
   pub long : IsTrue k.reads_last → 2 ≤ length code
   pub cache : IfSome k.cache (IsKeptFor code k.reads_last)
+  pub onward : IfSome k.onward (AreFlagsOf code)

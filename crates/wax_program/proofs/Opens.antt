@@ -1,0 +1,85 @@
+-- How a folder's text goes on to the texts of what is below it.
+use Rattle.std.proofs.Common.{◌≡◌, ◌≢◌, ◌↔◌, ℕ, ◌*◌, ◌≤◌, ◌==◌, Bool, true, false, List, [], ◌∷◌, ◌++◌, length, if◌then◌else◌, inl, inr, refl, sym, ◌∙◌, ap, subst, arith, append_assoc}
+use Rattle.std.proofs.lemmas.Bool.Decides.{nat_tests}
+use Rattle.std.proofs.lemmas.List.{nil_from_length}
+use Rattle.std.proofs.lemmas.Str.{chars-nil}
+use Rattle.std.specs.Str.{IsUtf8, chars}
+use Rattle.wax_program.specs.declared.onward.Ahead.TheVariants.{Path, Below}
+use Rattle.wax_program.specs.Last.{IsLastName}
+use Rattle.wax_program.specs.Onward.{IsAhead, ahead_of}
+use Rattle.wax_program.proofs.Advancing.{chars_few}
+use Rattle.wax_query.proofs.Below.{Begins, GoesOn, path_begins}
+use Rattle.wax_query.specs.Below.{IsBelow, IsPlainPath, ends_open}
+use Rattle.wax_query.specs.Components.{HasNoSlash}
+
+-- ---- how a text ends
+pub open_end : (x : List ℕ) (c : ℕ) (s : List ℕ) → ends_open (x ++ c ∷ s) ≡ ends_open (c ∷ s)
+open_end [] c s = refl
+open_end (d ∷ []) c s = refl
+open_end (d ∷ e ∷ x) c s = open_end (e ∷ x) c s
+
+not_same : (c d : ℕ) → c ≢ d → (c == d) ≡ false
+not_same c d ne = grind (arith, nat_tests)
+
+name_closed : (c : ℕ) (s : List ℕ) → HasNoSlash (c ∷ s) → ends_open (c ∷ s) ≡ false
+name_closed c [] h = not_same c 47 h.0
+name_closed c (d ∷ s) h = name_closed d s h.1
+
+open_after : (before name : List ℕ) → ends_open (before ++ 47 ∷ name) ≡ ends_open name
+open_after before [] = open_end before 47 []
+open_after before (c ∷ name) = open_end before 47 (c ∷ name)
+
+pub last_open : (text name : List ℕ) → IsLastName text name → ends_open text ≡ ends_open name
+last_open text name (none, inl e) = ap ends_open e
+last_open text name (none, inr (before, e)) = ap ends_open e ∙ open_after before name
+
+is_zero : (n : ℕ) → (n == 0) ≡ true → n ≡ 0
+is_zero n e = grind (arith, nat_tests)
+
+is_some : (n : ℕ) → (n == 0) ≡ false → n ≢ 0
+is_some n e = grind (arith, nat_tests)
+
+pub ahead_after : (text : List ℕ) (bytes : List ℕ) → IsLastName text (chars bytes) → (length bytes == 0) ≡ true → Path ≡ ahead_of text
+ahead_after text bytes last e =
+    let none : chars bytes ≡ [] = ap chars (nil_from_length bytes (is_zero (length bytes) e)) ∙ chars-nil in
+    ap (λ b. if b then Path else Below) (sym (last_open text (chars bytes) last ∙ ap ends_open none))
+
+pub ahead_inside : (text : List ℕ) (bytes : List ℕ) → IsUtf8 bytes → IsLastName text (chars bytes) → (length bytes == 0) ≡ false → Below ≡ ahead_of text
+ahead_inside text bytes utf8 last some = ap (λ b. if b then Path else Below) (sym (last_open text (chars bytes) last ∙ closed (chars bytes) refl))
+  where
+    no_bytes : length bytes ≤ 4 * 0 → ⊥
+    no_bytes le = is_some (length bytes) some (omega (arith, le))
+
+    closed : (cs : List ℕ) → cs ≡ chars bytes → ends_open cs ≡ false
+    closed [] e = absurd (no_bytes (subst (λ (z : List ℕ). length bytes ≤ 4 * length z) (sym e) (chars_few bytes utf8).1))
+    closed (c ∷ cs) e = name_closed c cs (subst HasNoSlash (sym e) last.0)
+
+-- a plain path ends with a name
+goes_closed : (c : ℕ) (s : List ℕ) → c ≢ 47 → GoesOn s → ends_open (c ∷ s) ≡ false
+goes_closed c [] ne h = not_same c 47 ne
+goes_closed c (d ∷ s) ne (inl h) = goes_closed d s h.0 h.1
+goes_closed c (d ∷ []) ne (inr h) = absurd h.1
+goes_closed c (d ∷ e ∷ s) ne (inr h) = goes_closed e s h.1.0 h.1.1
+
+pub path_closed : (s : List ℕ) → IsPlainPath s → (text : List ℕ) → ends_open (text ++ s) ≡ false
+path_closed s h text = from s ((path_begins s).0 h)
+  where
+    from : (s : List ℕ) → Begins s → ends_open (text ++ s) ≡ false
+    from [] h = absurd h
+    from (c ∷ s) h = open_end text c s ∙ goes_closed c s h.0 h.1
+
+-- ---- what is below a folder
+module _ (P : List ℕ → Type 0) (text : List ℕ) where
+  each_way : (b : Bool) → ((s : List ℕ) × IsAhead (if b then Path else Below) s × P (text ++ s))
+      ↔ ((x : List ℕ) × ((path : List ℕ) × IsPlainPath path × (x ≡ (if b then text else text ++ 47 ∷ []) ++ path)) × P x)
+  each_way true = (
+    (λ (s, h, p). (text ++ s, (s, h, refl), p)),
+    (λ (x, (path, h, e), p). (path, h, subst P e p)),
+  )
+  each_way false = (
+    (λ (s, (path, h, e), p). (text ++ s, (path, h, ap (λ z. text ++ z) e ∙ sym (append_assoc text (47 ∷ []) path)), p)),
+    (λ (x, (path, h, e), p). (47 ∷ path, (path, h, refl), subst P (e ∙ append_assoc text (47 ∷ []) path) p)),
+  )
+
+  pub ahead_below : ((s : List ℕ) × IsAhead (ahead_of text) s × P (text ++ s)) ↔ ((x : List ℕ) × IsBelow text x × P x)
+  ahead_below = each_way (ends_open text)
