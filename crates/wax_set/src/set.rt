@@ -3,6 +3,7 @@ ghost use Rattle.std.specs.Prelude.{◌≡◌, ◌≤◌, ◌<◌, ◌↔◌, �
 ghost use Rattle.std.specs.Prelude.{IfOk, IfSome, MatchOption, Some, codes, length, min};
 ghost use Rattle.wax_program.specs.Meter.{most_ticks};
 ghost use Rattle.wax_candidate.specs.Parts.{NoLineEndsBefore};
+ghost use Rattle.wax_compiled.specs.Below.{MeansBelow, goes_test};
 ghost use Rattle.wax_components.specs.Depth.{Depth};
 ghost use Rattle.wax_facts.specs.Exhaustive.{exhaustive};
 ghost use Rattle.wax_facts.specs.InvariantText.{Text, Variant};
@@ -118,6 +119,20 @@ impl Any<'_> {
         self.compiled.is_match_metered(alloc, path.as_str(), meter)
     }
 
+    /// Returns whether something below the folder with this path can match: whether one of the
+    /// patterns matches the path of something below it. Takes time linear in the set's program, and as
+    /// much again for each of the loops that lie within one another. For many folders
+    /// `AnyMatcher::goes_on` is faster.
+    ///
+    /// # Errors
+    ///
+    /// Returns `NoMemory` if allocation fails.
+    pub fn goes_on(&self, alloc: Global, path: &CandidatePath<'_>) -> Result<bool, NoMemory>
+        ensures { IfOk result (λ answer. IsTrue answer ↔ MeansBelow self.now path.now) }
+    {
+        self.compiled.goes_on(alloc, path.as_str())
+    }
+
     /// Returns how many bytes at the beginning of a text can be passed over in a search for lines
     /// that a pattern matches: none of them ends before so many bytes.
     fn earliest_end(&self, text: &str) -> usize
@@ -140,6 +155,8 @@ impl Program for Any<'_> {
     ghost means = { MeansText };
 
     ghost decides = { λ any. means_test any false false };
+
+    ghost goes_on = { λ any. goes_test any };
 
     ghost captured = { λ any. IsWhole };
 

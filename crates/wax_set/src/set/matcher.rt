@@ -1,7 +1,8 @@
 //! A matcher of one set of patterns for many paths.
 ghost use Rattle.std.specs.Prelude.{◌≡◌, ◌↔◌, IfOk, IsTrue, false};
 ghost use Rattle.wax_set.specs.Sets.{MeansText};
-ghost use Rattle.wax_token.specs.Decided.{means_test};
+ghost use Rattle.wax_compiled.specs.Below.{MeansBelow, goes_test, goes_tested};
+ghost use Rattle.wax_token.specs.Decided.{means_test, means_tested};
 
 use crate::set::Any;
 use std::alloc::Global;
@@ -10,6 +11,7 @@ use wax_candidate::{BuildMatcher, CandidatePath, PathMatcher};
 use wax_compiled::CompiledTokens;
 use wax_lazy::Matcher;
 use wax_query::diagnostics::NoMemory;
+use wax_query::query::Verdict;
 
 /// A matcher of a set of patterns for many paths, which keeps what it learns from each for the next
 /// ones. Contracts see the view of its set.
@@ -69,13 +71,55 @@ impl AnyMatcher<'_, '_> {
     {
         self.matcher.is_match(path.as_str())
     }
+
+    /// Returns whether something below the folder with this path can match: whether one of the
+    /// patterns matches the path of something below it.
+    ///
+    /// # Errors
+    ///
+    /// Returns `NoMemory` if allocation fails. The matcher can be used for further paths after
+    /// that.
+    pub fn goes_on(&mut self, path: &CandidatePath<'_>) -> Result<bool, NoMemory>
+        ensures below { IfOk result (λ answer. IsTrue answer ↔ MeansBelow self.old path.now) }
+        ensures same { self.new ≡ self.old }
+    {
+        let verdict = self.verdict(path)?;
+        Ok(verdict.goes_on)
+    }
+
+    /// Returns whether one of the patterns matches the whole path, and whether one matches the path
+    /// of something below the folder with this path. It reads the path once.
+    ///
+    /// # Errors
+    ///
+    /// Returns `NoMemory` if allocation fails. The matcher can be used for further paths after
+    /// that.
+    pub fn verdict(&mut self, path: &CandidatePath<'_>) -> Result<Verdict, NoMemory>
+        ensures means { IfOk result (λ verdict. IsTrue verdict.is_match ↔ MeansText self.old path.now) }
+        ensures below { IfOk result (λ verdict. IsTrue verdict.goes_on ↔ MeansBelow self.old path.now) }
+        ensures decides { IfOk result
+            (λ verdict. verdict.is_match ≡ means_test self.old false false path.now) }
+        ensures onward { IfOk result (λ verdict. verdict.goes_on ≡ goes_test self.old path.now) }
+        ensures same { self.new ≡ self.old }
+    {
+        self.matcher.verdict(path.as_str())
+    }
 }
 
 impl PathMatcher for AnyMatcher<'_, '_> {
     ghost decides = { λ m. means_test m false false };
 
+    ghost goes_on = { λ m. goes_test m };
+
+    ghost leads = { λ m folder s is h.
+        (goes_tested m folder).1 (s, is, (means_tested m false false s).0 h) };
+
     fn is_match(&mut self, path: &CandidatePath<'_>) -> Result<bool, NoMemory> {
         self.is_match(path)
+    }
+
+    fn verdict(&mut self, path: &CandidatePath<'_>) -> Result<Verdict, NoMemory> {
+        self.verdict(path)
     }
 
     fn earliest_end(&self, text: &str) -> usize {
