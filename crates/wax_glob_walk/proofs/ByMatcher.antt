@@ -1,16 +1,11 @@
--- A walk by a matcher is seen as the walk by the program that built it.
-use Rattle.std.proofs.Common.{◌≡◌, ℕ, Bool, false, List, sym, subst}
-use Rattle.wax_walk.specs.Ruled.{ruled_view}
-use Rattle.wax_walk.specs.View.{WalkView, IsSeenAs}
-use Rattle.wax_glob_walk.specs.Programs.{leading_mark}
+-- A walk by a matcher is one by the program that built it.
+use Rattle.std.proofs.Common.{◌≡◌, ◌&&◌, ℕ, Bool, List, false, nat_lt, not, subst}
+use Rattle.wax_walk.specs.Pruned.{selected_view}
+use Rattle.wax_walk.specs.View.{IsSeenAs, WalkView}
 
-module _ {D C P M : Type 0} (v u : WalkView D) (tests : C → List ℕ → Bool) (leading : List C)
-    (decides : P → List ℕ → Bool) (p : P) (matches : M → List ℕ → Bool) (m : M) (has_ended : Bool) where
-  abbrev Seen : (List ℕ → Bool) → Bool → Type 0
-  Seen decided ended = IsSeenAs (ruled_view v (leading_mark tests leading (λ d. d) decided) ended) u
-
-  pub seen_by_matcher : matches m ≡ decides p → has_ended ≡ false
-      → IsSeenAs (ruled_view v (leading_mark tests leading matches m) false) u
-      → IsSeenAs (ruled_view v (leading_mark tests leading decides p) has_ended) u
-  seen_by_matcher same goes_on seen =
-      subst (Seen (decides p)) (sym goes_on) (subst (λ decided. Seen decided false) same seen)
+pub seen_by_matcher : {D : Type 0} (v w : WalkView D) (d e o p : List ℕ → Bool) (least : ℕ) → d ≡ e → o ≡ p
+    → IsSeenAs (selected_view v (λ c. not (nat_lt c.depth least) && d c.text) (λ c. o c.text) false) w
+    → IsSeenAs (selected_view v (λ c. not (nat_lt c.depth least) && e c.text) (λ c. p c.text) false) w
+seen_by_matcher v w d e o p least f g h =
+    subst (λ z. IsSeenAs (selected_view v (λ c. not (nat_lt c.depth least) && e c.text) (λ c. z c.text) false) w) g
+    (subst (λ z. IsSeenAs (selected_view v (λ c. not (nat_lt c.depth least) && z c.text) (λ c. o c.text) false) w) f h)

@@ -1,5 +1,5 @@
 -- What programs decide about entries.
-use Rattle.std.specs.Prelude.{ℕ, Bool, true, ◌&&◌, if◌then◌else◌, List, [], ◌∷◌}
+use Rattle.std.specs.Prelude.{ℕ, Bool, true, ◌&&◌, nat_lt, not, if◌then◌else◌, List, [], ◌∷◌}
 use Rattle.wax_walk.specs.Candidates.{Candidate}
 use Rattle.wax_walk.specs.Given.{Mark, kept, alone, with_tree, combined_mark}
 
@@ -20,6 +20,16 @@ means_mark decides p c = if decides p c.text then kept else alone
 abbrev pub leading_mark : {C P : Type 0} → (C → List ℕ → Bool) → List C → (P → List ℕ → Bool) → P
     → Candidate → Mark
 leading_mark tests cs decides p c = if leads tests cs c.names then means_mark decides p c else with_tree
+
+-- ---- a walk without captures
+
+-- an entry is kept if its depth is at least `least` and it matches
+abbrev pub matches_from : {P : Type 0} → (P → List ℕ → Bool) → P → ℕ → Candidate → Bool
+matches_from decides p least c = not (nat_lt c.depth least) && decides p c.text
+
+-- a folder is opened if something below it may match
+abbrev pub matches_below : {P : Type 0} → (P → List ℕ → Bool) → P → Candidate → Bool
+matches_below goes_on p c = goes_on p c.text
 
 -- ---- several rules
 

@@ -6,7 +6,7 @@ use Rattle.wax_directory.specs.declared.directory.FileType.{FileType}
 use Rattle.wax_directory.specs.declared.directory.FileType.TheVariants as F
 use Rattle.wax_directory.specs.Law.{Law}
 use Rattle.wax_walk.specs.Given.{Given, Facts, entry, kept}
-use Rattle.wax_walk.specs.View.{is_folder_kind}
+use Rattle.wax_walk.specs.View.{is_folder_kind, is_above}
 use Rattle.wax_tree.specs.declared.location.Location as code
 use Rattle.wax_tree.specs.Reaching.{OfEntered}
 use Rattle.wax_tree.proofs.InRange.{at_most}
@@ -47,7 +47,7 @@ module _ {D C : Type 0} where
       → w.has_ended ≡ false → w.first ≡ None → w.entered ≡ None
       → ((f.kind ≡ F.Folder) → f.depth < w.max → if_some new.entered 1 ≡ 1)
       → ((p : List ℕ) (n : ℕ) → OfEntered new.entered p n → (f.kind ≡ F.Folder) × (f.depth < w.max))
-      → entering new ≡ opens_one w.max (Some (entry kept f))
+      → entering new ≡ opens_one (is_above w.max) (Some (entry kept f))
   remembers_one f w new is going first entered to from =
       let here : entering new ≡ if_some new.entered 1 =
       ap entering is ∙ (ap (λ b. cond b 0 (entering_after w.first new.entered)) going ∙ ap
@@ -79,7 +79,8 @@ module _ {D C : Type 0} (law : Law D C) where
       → AccountsSoFar w mid → Accounts law (steps_view law mid) r (steps_view law new)
       → Accounts law (steps_view law w) r (steps_view law new)
   accounts_run w mid new r from above a b =
-      let same : opens_one mid.max r ≡ opens_one w.max r = ap (λ m. opens_one m r) above in
+      let same : opens_one (is_above mid.max) r ≡ opens_one (is_above w.max) r =
+      ap (λ m. opens_one (is_above m) r) above in
       record {
         counts = counts_none_then _ _ _ _ _ a.counts b.counts;
         taken = a.taken + b.taken;
@@ -115,11 +116,11 @@ module _ {D C : Type 0} (law : Law D C) where
   -- the walk was seen otherwise before
   accounts_seen : (u v : WalkView D) (r : Option Given) (new : WalkView D) → u.directory ≡ v.directory
       → u.listings_left ≡ v.listings_left → u.yields_from ≡ v.yields_from → u.to_begin ≡ v.to_begin
-      → u.to_open ≡ v.to_open → u.opens_above ≡ v.opens_above
+      → u.to_open ≡ v.to_open → u.may_open ≡ v.may_open
       → u.listings_open ≡ v.listings_open → Accounts law v r new
       → Accounts law u r new
   accounts_seen u v r new d left from begun opens above lists h =
-      let same : opens_one u.opens_above r ≡ opens_one v.opens_above r = ap (λ m. opens_one m r) above in
+      let same : opens_one u.may_open r ≡ opens_one v.may_open r = ap (λ m. opens_one m r) above in
       let A : D → Type 0 = λ x. CountsFaults (fault_counts r) (items_lost r) (law.tally x)
       (law.tally new.directory) in
       let B : D → Type 0 = λ x. (law.tally new.directory).items ≡ grown h.taken (law.tally x).items in
@@ -152,10 +153,10 @@ module _ {D C : Type 0} (law : Law D C) where
   pub step_is : (w mid new : Steps D C) (u : WalkView D) (r : Step) → ¬ (HasStopped w) → mid.max ≡ w.max
       → mid.min ≡ w.min → w.directory ≡ u.directory
       → allowance w ≡ u.listings_left → w.min ≡ u.yields_from → begins w ≡ u.to_begin
-      → entering w ≡ u.to_open → w.max ≡ u.opens_above → open_lists w ≡ u.listings_open → u.names_left ≤ names_left w
+      → entering w ≡ u.to_open → is_above w.max ≡ u.may_open → open_lists w ≡ u.listings_open → u.names_left ≤ names_left w
       → StepAnswers law u r new → Remembers mid r new → IsStep law w r new
   step_is w mid new u r running max min d left from begun opens above lists few a m =
-      let T : ℕ → Type 0 = λ n. ¬ (r ≡ GoesOn) → entering new ≡ opens_one n (step_given r) in
+      let T : (Facts → Bool) → Type 0 = λ o. ¬ (r ≡ GoesOn) → entering new ≡ opens_one o (step_given r) in
       record {
         accounts = accounts_seen (steps_view law w) u (step_given r) (steps_view law new) d left from begun opens
             above lists a.accounts;

@@ -361,7 +361,7 @@ ended_at law d origin range view h l = record {
   begun = inr (h.idle, h.begun, inl l);
   none_to_open = h.none_to_open;
   yields_from = h.yields_from;
-  opens_above = h.opens_above;
+  may_open = h.may_open;
   fails = fails_as_from range.min origin.path origin.names view h.fails;
   directory = h.directory;
 }
@@ -381,7 +381,7 @@ lacking_at law d origin range view h l = record {
   begun = inr (h.idle, h.begun, inr h.takes);
   none_to_open = h.none_to_open;
   yields_from = h.yields_from;
-  opens_above = h.opens_above;
+  may_open = h.may_open;
   fails = fails_as_from range.min origin.path origin.names view h.fails;
   directory = h.directory;
 }
@@ -415,7 +415,7 @@ begins_plain law d start names range view e b =
       ];
       none_to_open = b.none_to_open;
       yields_from = b.yields_from;
-      opens_above = b.opens_above;
+      may_open = b.may_open;
       fails = subst (λ v. FailsFrom range.min start v view) e b.fails;
       directory = b.directory;
     }

@@ -11,7 +11,7 @@ use Rattle.wax_walk.specs.declared.error.FaultKind.{FaultKind}
 use Rattle.wax_walk.specs.declared.error.WalkError.TheVariants.{Memory, Fault}
 use Rattle.wax_walk.specs.Collected.{AreOfFolders, HasFolder}
 use Rattle.wax_walk.specs.Given.{Given, fault}
-use Rattle.wax_walk.specs.View.{IsErrorAt, IsFolderAt, WalkView, Places, MayFail}
+use Rattle.wax_walk.specs.View.{IsErrorAt, IsFolderAt, WalkView, Places, MayFail, is_above}
 use Rattle.wax_tree.specs.declared.location.Location as code
 use Rattle.wax_tree.specs.declared.steps.OpenFolder.{OpenFolder}
 use Rattle.wax_tree.specs.declared.steps.StartPoint.{StartPoint}
@@ -385,8 +385,8 @@ module _ {D C : Type 0} where
     later = λ path depth i. reach_fails law old path depth i.1 i.2 (f path i.1 (s.later path i.1 i.0 i.3));
     below = λ path depth i. elim (s.below path i.1 i.0 i.3) [
       | inl j ↦
-          subst (λ d. IsFolderAt old.max path d (step_given r)) (sym i.2)
-          (subst (λ m. IsFolderAt m path (i.1 - 1) (step_given r)) same j)
+          subst (λ d. IsFolderAt (is_above old.max) path d (step_given r)) (sym i.2)
+          (subst (λ m. IsFolderAt (is_above m) path (i.1 - 1) (step_given r)) same j)
       | inr j ↦ elim (stops j.0) [
         | inl ended ↦ absurd (let b : true ≡ false = sym ended ∙ i.0 in (cc))
         | inr stopped ↦ absurd (subst (λ v. OfEntered v i.3.top i.3.above) stopped.1 i.3.begins)
@@ -488,8 +488,8 @@ module _ {D C : Type 0} where
 
 -- errors come of what the walk passes, or of yielded folders
 pub errors_passed : {D : Type 0} (least : ℕ) (start : List ℕ) (way : List (List ℕ)) (most : ℕ) (view : WalkView D)
-    (xs : List Given) → FailsFrom least start way view → view.opens_above ≡ most
-    → AreOfFolders (MayFail view) view.opens_above xs → AreOfFolders (IsPassed least start way) most xs
+    (xs : List Given) → FailsFrom least start way view → view.may_open ≡ is_above most
+    → AreOfFolders (MayFail view) view.may_open xs → AreOfFolders (IsPassed least start way) (is_above most) xs
 errors_passed least start way most view xs fails same are before after x path depth e i =
     elim (are before after x path depth e i) [
       | inl may ↦ inl (elim may [

@@ -14,9 +14,9 @@ use Rattle.wax_directory.specs.declared.directory.FileType.{FileType}
 use Rattle.wax_directory.specs.declared.directory.FileType.TheVariants as F
 use Rattle.wax_walk.specs.declared.error.WalkError.{WalkError}
 use Rattle.wax_walk.specs.declared.entry.TreeEntry.{TreeEntry}
-use Rattle.wax_walk.specs.Given.{Given, entry, fault, no_memory}
+use Rattle.wax_walk.specs.Given.{Facts, Given, entry, fault, no_memory}
 use Rattle.wax_walk.specs.declared.error.FaultKind.TheVariants.{Budget}
-use Rattle.wax_walk.specs.View.{IsLast, IsMisplaced, Takes, fault_counts, CountsFaults, GivesOrStops}
+use Rattle.wax_walk.specs.View.{IsLast, IsMisplaced, Takes, fault_counts, CountsFaults, GivesOrStops, is_above}
 use Rattle.wax_walk.specs.View.{lacks_memory, over_budget, gives, items_lost, how_many, IsMemoryError}
 use Rattle.wax_walk.specs.View.{opens_one}
 use Rattle.wax_tree.specs.declared.steps.Steps.{Steps}
@@ -124,10 +124,10 @@ failure_counted k m f b = record {
 }
 
 -- an item that ends a walk is no folder
-none_opened : (most : ℕ) (x : Given) → IsLast (Some x) → opens_one most (Some x) ≡ 0
-none_opened most (entry m f) last = absurd last
-none_opened most (fault kind path depth) last = refl
-none_opened most no_memory last = refl
+none_opened : (opens : Facts → Bool) (x : Given) → IsLast (Some x) → opens_one opens (Some x) ≡ 0
+none_opened opens (entry m f) last = absurd last
+none_opened opens (fault kind path depth) last = refl
+none_opened opens no_memory last = refl
 
 entered_either : (b : Bool) (f : Option StartPoint) (e : Option code.Location) → e ≡ None
     → cond b 0 (entering_after f e) ≡ 0
@@ -221,7 +221,7 @@ module _ {D C : Type 0} where
   pub entered_uses_answer : (names : ℕ) (w new : Steps D C) (e : TreeEntry)
       → new ≡ record w { entered = new.entered } → names_left w ≤ names
       → (w.has_ended ≡ false → w.first ≡ None → w.entered ≡ None
-      → entering new ≡ opens_one w.max (step_given (Gives (Ok e))))
+      → entering new ≡ opens_one (is_above w.max) (step_given (Gives (Ok e))))
       → UsesAnswer (nothing_asked names (begins w + 1)) w (Gives (Ok e)) new
   entered_uses_answer names w new e is few enters =
       let left : allowance new ≡ allowance w = ap allowance is in
@@ -285,8 +285,8 @@ module _ {D C : Type 0} where
       let T : Option Given → Type 0 = λ z. Takes z (allowance w) asked.taken 0 in
       let M : Option Given → Type 0 = λ z. IsMisplaced z → 0 < asked.names in
       let L : Option Given → Type 0 = λ z. IsLast z in
-      let O : Option Given → Type 0 = λ z. opens_one w.max z ≡ 0 in
-      let zero : opens_one w.max (step_given (Gives y)) ≡ 0 = subst O (sym e) (none_opened w.max x last) in
+      let O : Option Given → Type 0 = λ z. opens_one (is_above w.max) z ≡ 0 in
+      let zero : opens_one (is_above w.max) (step_given (Gives y)) ≡ 0 = subst O (sym e) (none_opened (is_above w.max) x last) in
       subst (λ v. UsesAnswer asked w (Gives y) v) (sym is) (record {
         goes_on = λ i. (cc);
         directory = refl;
@@ -310,7 +310,7 @@ module _ {D C : Type 0} where
   -- an item is yielded without a call of the directory
   pub gives_uses_answer : (asked : Asked) (w : Steps D C) (y : Result TreeEntry WalkError)
       → IsCounted (fault_counts (Some (tree_given y))) (items_lost (Some (tree_given y))) asked.counts
-      → opens_one w.max (Some (tree_given y)) ≡ 0 → asked.made ≡ begins w + 1 → Takes (Some (tree_given y)) (allowance w) asked.taken (allowance w)
+      → opens_one (is_above w.max) (Some (tree_given y)) ≡ 0 → asked.made ≡ begins w + 1 → Takes (Some (tree_given y)) (allowance w) asked.taken (allowance w)
       → (IsLast (Some (tree_given y)) → ⊥) → (IsMisplaced (Some (tree_given y)) → ⊥)
       → names_left w ≤ asked.names → UsesAnswer asked w (Gives y) w
   gives_uses_answer asked w y c z o t l m few = record {
@@ -388,15 +388,15 @@ module _ {D C : Type 0} (law : Law D C) where
         misplaced = s.misplaced;
         to_open = opened_by r refl;
       } where
-        opened_by : (q : Step) → r ≡ q → ¬ (q ≡ GoesOn) → entering new ≡ opens_one w.max (step_given r)
+        opened_by : (q : Step) → r ≡ q → ¬ (q ≡ GoesOn) → entering new ≡ opens_one (is_above w.max) (step_given r)
         opened_by GoesOn e n = absurd (n refl)
         opened_by Ends e n = absurd (s.goes_on e)
         opened_by (Gives y) e n = by (tree_given y) (ap step_given e) where
-          by : (x : Given) → step_given r ≡ Some x → entering new ≡ opens_one w.max (step_given r)
+          by : (x : Given) → step_given r ≡ Some x → entering new ≡ opens_one (is_above w.max) (step_given r)
           by no_memory k =
               let last : IsLast (step_given r) = subst (λ v. IsLast v) (sym k) tt in
               let none : entering new ≡ 0 = ap (λ b. cond b 0 (entering_after new.first new.entered)) (s.ends last) in
-              let zero : opens_one w.max (step_given r) ≡ 0 = ap (opens_one w.max) k in
+              let zero : opens_one (is_above w.max) (step_given r) ≡ 0 = ap (opens_one (is_above w.max)) k in
               omega (arith, none, zero)
           by (entry m f) k =
               let one : how_many (step_given r) ≡ 1 = ap how_many k in

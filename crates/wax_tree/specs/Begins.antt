@@ -13,7 +13,7 @@ use Rattle.wax_walk.specs.Forest.{Pending, pending, nothing}
 use Rattle.wax_walk.specs.Course.{Course, stop, yields}
 use Rattle.wax_walk.specs.Course as course
 use Rattle.wax_walk.specs.Given.{Given, no_memory}
-use Rattle.wax_walk.specs.View.{MayTake, WalkView}
+use Rattle.wax_walk.specs.View.{MayTake, WalkView, is_above}
 use Rattle.wax_tree.specs.Courses.{AlongComes, IsNamed, plain_course}
 
 -- the greatest depth; if there is no bound, the greatest `usize`
@@ -84,7 +84,7 @@ pub record Begins {D C : Type 0} (law : Law D C) (d : D) (start : List ℕ) (ran
   pub begun : IsBegun ⊥ view
   pub none_to_open : view.to_open ≡ 0
   pub yields_from : view.yields_from ≡ range.min
-  pub opens_above : view.opens_above ≡ range.max
+  pub may_open : view.may_open ≡ is_above range.max
   pub fails : FailsFrom range.min start [] view
   pub directory : view.directory ≡ d
 
@@ -129,7 +129,7 @@ pub record BeginsAt {D C : Type 0} (law : Law D C) (d : D) (origin : Origin) (ra
   pub begun : IsBegun (range.max < length origin.names) view
   pub none_to_open : view.to_open ≡ 0
   pub yields_from : view.yields_from ≡ range.min
-  pub opens_above : view.opens_above ≡ range.max
+  pub may_open : view.may_open ≡ is_above range.max
   pub fails : FailsFrom range.min origin.path origin.names view
   pub directory : view.directory ≡ d
 
@@ -147,7 +147,7 @@ pub record HasEnded {D C : Type 0} (law : Law D C) (d : D) (range : DepthRange)
   pub begun : view.to_begin ≡ 0
   pub none_to_open : view.to_open ≡ 0
   pub yields_from : view.yields_from ≡ range.min
-  pub opens_above : view.opens_above ≡ range.max
+  pub may_open : view.may_open ≡ is_above range.max
   pub fails : FailsNowhere view
   pub directory : view.directory ≡ d
 
@@ -164,6 +164,6 @@ pub record LacksMemory {D C : Type 0} (law : Law D C) (d : D) (range : DepthRang
   pub begun : view.to_begin ≡ 0
   pub none_to_open : view.to_open ≡ 0
   pub yields_from : view.yields_from ≡ range.min
-  pub opens_above : view.opens_above ≡ range.max
+  pub may_open : view.may_open ≡ is_above range.max
   pub fails : FailsNowhere view
   pub directory : view.directory ≡ d

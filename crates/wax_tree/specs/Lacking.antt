@@ -4,7 +4,7 @@ use Rattle.wax_directory.specs.Law.{Law}
 use Rattle.wax_walk.specs.Forest.{Pending}
 use Rattle.wax_walk.specs.Course.{Ahead, IsStartOf, stop, yields}
 use Rattle.wax_walk.specs.Given.{Given, no_memory}
-use Rattle.wax_walk.specs.View.{WalkView}
+use Rattle.wax_walk.specs.View.{WalkView, is_above}
 use Rattle.wax_tree.specs.declared.walk_tree.WalkTree.{WalkTree}
 use Rattle.wax_tree.specs.Reaching.{MayFailAt, MayFailBelow}
 use Rattle.wax_tree.specs.Stepping.{items_left}
@@ -32,7 +32,7 @@ tree_view law w = record {
   to_begin = begins w.steps;
   listings_open = open_lists w.steps;
   to_open = entering w.steps;
-  opens_above = w.steps.max;
+  may_open = is_above w.steps.max;
   yields_from = w.steps.min;
   may_fail = MayFailAt w.steps;
   may_fail_below = MayFailBelow w.steps;

@@ -14,7 +14,7 @@ use Rattle.wax_walk.specs.Course.{yields}
 use Rattle.wax_walk.specs.declared.error.FaultKind.TheVariants.{BadName, Listing, NotText}
 use Rattle.wax_walk.specs.Forest.{Forest, nothing, followed_by, Pending, pending}
 use Rattle.wax_walk.specs.Given.{Facts, Given, fault}
-use Rattle.wax_walk.specs.View.{WalkView, Accounts, GivesOrStops, IsLast, IsMisplaced, Takes}
+use Rattle.wax_walk.specs.View.{WalkView, Accounts, GivesOrStops, IsLast, IsMisplaced, Takes, is_above}
 use Rattle.wax_walk.specs.View.{fault_counts, IsErrorAt, IsFolderAt, items_lost, how_many, IsMemoryError}
 use Rattle.wax_walk.specs.View.{opens_one}
 use Rattle.wax_directory.specs.declared.directory.FileType.{FileType}
@@ -75,7 +75,8 @@ module _ {D C : Type 0} where
     pub folders : ℕ
     pub folders_passed : folders ≤ passed
     pub enters : old.has_ended ≡ false → old.first ≡ None → old.entered ≡ None
-        → ¬ (IsMemoryError (step_given r)) → entering new ≡ folders + opens_one old.max (step_given r)
+        → ¬ (IsMemoryError (step_given r))
+        → entering new ≡ folders + opens_one (is_above old.max) (step_given r)
     pub takes : Takes (step_given r) (allowance old) asked.taken (allowance new)
     pub ends : IsLast (step_given r) → new.has_ended ≡ true
     pub names : names_left new ≤ asked.names
@@ -99,7 +100,8 @@ module _ {D C : Type 0} where
         → from path inside
     pub below : (path : List ℕ) (inside : ℕ) → new.has_ended ≡ false
         → LeadsUnseen new.min (OfEntered new.entered) path inside
-        → IsFolderAt most path (inside - 1) (step_given r) ⊎ ((step_given r ≡ None) × entered path inside)
+        → IsFolderAt (is_above most) path (inside - 1) (step_given r)
+        ⊎ ((step_given r ≡ None) × entered path inside)
 
   -- at most how many items the walk has yet to yield
   abbrev pub items_left : Steps D C → ℕ
@@ -236,7 +238,7 @@ module _ {D C : Type 0} (law : Law D C) where
     pub accounts : Accounts law old (step_given r) (steps_view law new)
     pub names_left : names_left new ≤ old.names_left
     pub misplaced : IsMisplaced (step_given r) → 0 < old.names_left
-    pub to_open : ¬ (r ≡ GoesOn) → entering new ≡ opens_one old.opens_above (step_given r)
+    pub to_open : ¬ (r ≡ GoesOn) → entering new ≡ opens_one old.may_open (step_given r)
 
   -- what every step does
   pub record IsStep (old : Steps D C) (r : Step) (new : Steps D C) : Type 0 where
@@ -246,6 +248,6 @@ module _ {D C : Type 0} (law : Law D C) where
     pub idles : HasStopped old → new.directory ≡ old.directory
     pub names : names_left new ≤ names_left old
     pub misplaced : IsMisplaced (step_given r) → 0 < names_left old
-    pub to_open : ¬ (r ≡ GoesOn) → entering new ≡ opens_one old.max (step_given r)
+    pub to_open : ¬ (r ≡ GoesOn) → entering new ≡ opens_one (is_above old.max) (step_given r)
     pub above : new.max ≡ old.max
     pub from : new.min ≡ old.min

@@ -111,7 +111,7 @@ module _ {D C : Type 0} where
       to_begin = refl;
       listings_open = refl;
       to_open = none_entered s.steps.has_ended s.steps.first;
-      opens_above = refl;
+      may_open = refl;
       yields_from = refl;
       may_fail = λ path depth i. i;
       none_below = λ path depth i. i.3.begins;

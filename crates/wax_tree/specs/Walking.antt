@@ -10,7 +10,7 @@ use Rattle.wax_walk.specs.Entries.{facts_of, given_outcome}
 use Rattle.wax_walk.specs.Forest.{Forest, nothing, lists, followed_by, Pending, all_pending}
 use Rattle.wax_walk.specs.Given.{Facts, Given}
 use Rattle.wax_walk.specs.Course.{Ahead, IsStartOf, Course, ahead, continued, stop}
-use Rattle.wax_walk.specs.View.{WalkView}
+use Rattle.wax_walk.specs.View.{WalkView, is_above}
 use Rattle.wax_tree.specs.Courses.{AlongComes, AreNamed, IsNamed, entered_course, items_course}
 use Rattle.wax_tree.specs.declared.location.Location as code
 use Rattle.wax_tree.specs.declared.steps.OpenFolder.{OpenFolder}
@@ -219,7 +219,7 @@ module _ {D C : Type 0} (law : Law D C) where
     to_begin = begins w;
     listings_open = open_lists w;
     to_open = entering w;
-    opens_above = w.max;
+    may_open = is_above w.max;
     yields_from = w.min;
     may_fail = MayFailAt w;
     may_fail_below = MayFailBelow w;

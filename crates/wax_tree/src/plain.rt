@@ -6,6 +6,7 @@ ghost use Rattle.wax_directory.specs.Shown.{Shown};
 ghost use Rattle.wax_tree.specs.Begins.{IsPassed, behavior_range};
 ghost use Rattle.wax_tree.specs.Whole.{plain_pending, EntriesAnswered, EntriesAre};
 ghost use Rattle.wax_walk.specs.Collected.{AreOfFolders, GaveAll};
+ghost use Rattle.wax_walk.specs.View.{is_above};
 ghost use Rattle.wax_walk.specs.Entries.{given_outcome};
 ghost use Rattle.wax_walk.specs.Given.{Given, is_kept};
 
@@ -54,7 +55,8 @@ pub fn entries<D: Directory>(
         × EntriesAnswered (behavior_range behavior) start.now told
         (map (given_outcome ⟦<TreeEntry as Entry>⟧.facts ⟦<TreeEntry as Entry>⟧.facts) r.0.items)) }
     ensures errors { IfOk result (λ r. (xs : List Given)
-        × AreOfFolders (IsPassed (behavior_range behavior).min start.now []) (behavior_range behavior).max xs
+        × AreOfFolders (IsPassed (behavior_range behavior).min start.now [])
+        (is_above (behavior_range behavior).max) xs
         × (map (given_outcome ⟦<TreeEntry as Entry>⟧.facts ⟦<TreeEntry as Entry>⟧.facts) r.0.items
         ≡ filter is_kept xs)) }
 {

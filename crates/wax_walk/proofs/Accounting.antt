@@ -1,5 +1,5 @@
 -- What a call counts, takes and ends, call by call.
-use Rattle.std.proofs.Common.{◌≡◌, ℕ, ◌+◌, ◌<◌, ◌≤◌, true, false, refl, sym, subst, ◌∙◌, arith, inl, inr, List, ap, ◌++◌}
+use Rattle.std.proofs.Common.{◌≡◌, Bool, ℕ, ◌+◌, ◌<◌, ◌≤◌, true, false, refl, sym, subst, ◌∙◌, arith, inl, inr, List, ap, ◌++◌}
 use Rattle.std.specs.Prelude.{Option, Some, None, ◌⊎◌}
 use Rattle.wax_directory.specs.Counting.{no_counts, plus, grown}
 use Rattle.wax_directory.specs.Law.{Law}
@@ -7,7 +7,7 @@ use Rattle.wax_directory.specs.declared.tally.Tally.{Tally}
 use Rattle.wax_walk.specs.declared.error.FaultKind.TheVariants.{NotFound, NotAFolder, Listing, BadName}
 use Rattle.wax_walk.specs.declared.error.FaultKind.TheVariants.{NotText, Budget}
 use Rattle.wax_walk.specs.Course.{DirectoryCall, answers, asking, unknown}
-use Rattle.wax_walk.specs.Given.{Given, Mark, entry, fault, no_memory, with_mark, is_cut}
+use Rattle.wax_walk.specs.Given.{Facts, Given, Mark, entry, fault, no_memory, with_mark, is_cut}
 use Rattle.wax_walk.specs.Given.{kept, alone, with_tree}
 use Rattle.wax_walk.specs.View.{WalkView, CountsFaults, fault_counts, IsLast, IsMisplaced, Takes}
 use Rattle.wax_walk.specs.View.{items_lost, how_many, opens_one, IsMemoryError}
@@ -130,7 +130,6 @@ pub record IsAsked {D : Type 0} (outer inner : WalkView D) : Type 0 where
   pub to_begin : outer.to_begin ≡ inner.to_begin
   pub listings_open : outer.listings_open ≡ inner.listings_open
   pub to_open : outer.to_open ≡ inner.to_open
-  pub opens_above : outer.opens_above ≡ inner.opens_above
   pub yields_from : outer.yields_from ≡ inner.yields_from
   pub may_fail : (path : List ℕ) (depth : ℕ) → MayFail inner path depth → MayFail outer path depth
   pub ended : outer.has_ended → inner.has_ended
@@ -142,7 +141,6 @@ pub record HasAnswered {D : Type 0} (outer inner : WalkView D) : Type 0 where
   pub names_left : outer.names_left ≡ inner.names_left
   pub to_begin : outer.to_begin ≡ inner.to_begin
   pub listings_open : outer.listings_open ≡ inner.listings_open
-  pub opens_above : outer.opens_above ≡ inner.opens_above
   pub yields_from : outer.yields_from ≡ inner.yields_from
   pub may_fail : (path : List ℕ) (depth : ℕ) → outer.may_fail path depth → inner.may_fail path depth
   pub ended : inner.has_ended → outer.has_ended
@@ -160,30 +158,30 @@ misplaced_marked (fault kind path depth) m i = i
 misplaced_marked no_memory m i = absurd i
 
 -- a folder is to be opened as before if a filter doesn't cancel below it
-pub opened_uncut : (most : ℕ) (x : Given) (m : Mark) → false ≡ is_cut x m
-    → opens_one most (Some (with_mark x m)) ≡ opens_one most (Some x)
-opened_uncut most (entry kept f) kept c = refl
-opened_uncut most (entry kept f) alone c = refl
-opened_uncut most (entry kept f) with_tree c = absurd (let b : false ≡ true = c in (cc))
-opened_uncut most (entry alone f) kept c = refl
-opened_uncut most (entry alone f) alone c = refl
-opened_uncut most (entry alone f) with_tree c = absurd (let b : false ≡ true = c in (cc))
-opened_uncut most (entry with_tree f) m c = refl
-opened_uncut most (fault kind path depth) m c = refl
-opened_uncut most no_memory m c = refl
+pub opened_uncut : (opens : Facts → Bool) (x : Given) (m : Mark) → false ≡ is_cut x m
+    → opens_one opens (Some (with_mark x m)) ≡ opens_one opens (Some x)
+opened_uncut opens (entry kept f) kept c = refl
+opened_uncut opens (entry kept f) alone c = refl
+opened_uncut opens (entry kept f) with_tree c = absurd (let b : false ≡ true = c in (cc))
+opened_uncut opens (entry alone f) kept c = refl
+opened_uncut opens (entry alone f) alone c = refl
+opened_uncut opens (entry alone f) with_tree c = absurd (let b : false ≡ true = c in (cc))
+opened_uncut opens (entry with_tree f) m c = refl
+opened_uncut opens (fault kind path depth) m c = refl
+opened_uncut opens no_memory m c = refl
 
 -- a folder below which a filter cancels isn't to be opened
-pub opened_cut : (most : ℕ) (x : Given) (m : Mark) → true ≡ is_cut x m
-    → opens_one most (Some (with_mark x m)) ≡ 0
-opened_cut most (entry kept f) kept c = absurd (let b : true ≡ false = c in (cc))
-opened_cut most (entry kept f) alone c = absurd (let b : true ≡ false = c in (cc))
-opened_cut most (entry kept f) with_tree c = refl
-opened_cut most (entry alone f) kept c = absurd (let b : true ≡ false = c in (cc))
-opened_cut most (entry alone f) alone c = absurd (let b : true ≡ false = c in (cc))
-opened_cut most (entry alone f) with_tree c = refl
-opened_cut most (entry with_tree f) m c = absurd (let b : true ≡ false = c in (cc))
-opened_cut most (fault kind path depth) m c = absurd (let b : true ≡ false = c in (cc))
-opened_cut most no_memory m c = absurd (let b : true ≡ false = c in (cc))
+pub opened_cut : (opens : Facts → Bool) (x : Given) (m : Mark) → true ≡ is_cut x m
+    → opens_one opens (Some (with_mark x m)) ≡ 0
+opened_cut opens (entry kept f) kept c = absurd (let b : true ≡ false = c in (cc))
+opened_cut opens (entry kept f) alone c = absurd (let b : true ≡ false = c in (cc))
+opened_cut opens (entry kept f) with_tree c = refl
+opened_cut opens (entry alone f) kept c = absurd (let b : true ≡ false = c in (cc))
+opened_cut opens (entry alone f) alone c = absurd (let b : true ≡ false = c in (cc))
+opened_cut opens (entry alone f) with_tree c = refl
+opened_cut opens (entry with_tree f) m c = absurd (let b : true ≡ false = c in (cc))
+opened_cut opens (fault kind path depth) m c = absurd (let b : true ≡ false = c in (cc))
+opened_cut opens no_memory m c = absurd (let b : true ≡ false = c in (cc))
 
 -- the account of y is that of x
 pub record IsAs (x y : Option Given) : Type 0 where
@@ -227,23 +225,23 @@ error_marked path depth (fault kind p d) m i = i
 error_marked path depth no_memory m i = absurd i
 
 -- a folder stays one if a filter doesn't cancel below it
-pub folder_uncut : (most : ℕ) (path : List ℕ) (depth : ℕ) (x : Given) (m : Mark) → false ≡ is_cut x m
-    → IsFolderAt most path depth (Some x) → IsFolderAt most path depth (Some (with_mark x m))
-folder_uncut most path depth (entry kept f) kept c i = i
-folder_uncut most path depth (entry kept f) alone c i = i
-folder_uncut most path depth (entry kept f) with_tree c i = cc
-folder_uncut most path depth (entry alone f) kept c i = i
-folder_uncut most path depth (entry alone f) alone c i = i
-folder_uncut most path depth (entry alone f) with_tree c i = cc
-folder_uncut most path depth (entry with_tree f) m c i = i
-folder_uncut most path depth (fault kind p d) m c i = absurd i
-folder_uncut most path depth no_memory m c i = absurd i
+pub folder_uncut : (opens : Facts → Bool) (path : List ℕ) (depth : ℕ) (x : Given) (m : Mark) → false ≡ is_cut x m
+    → IsFolderAt opens path depth (Some x) → IsFolderAt opens path depth (Some (with_mark x m))
+folder_uncut opens path depth (entry kept f) kept c i = i
+folder_uncut opens path depth (entry kept f) alone c i = i
+folder_uncut opens path depth (entry kept f) with_tree c i = cc
+folder_uncut opens path depth (entry alone f) kept c i = i
+folder_uncut opens path depth (entry alone f) alone c i = i
+folder_uncut opens path depth (entry alone f) with_tree c i = cc
+folder_uncut opens path depth (entry with_tree f) m c i = i
+folder_uncut opens path depth (fault kind p d) m c i = absurd i
+folder_uncut opens path depth no_memory m c i = absurd i
 
 -- a filter moves no error
 places_marked : {D : Type 0} (v w outer new : WalkView D) (x : Given) (m : Mark) → Places v (Some x) w
     → IsAsked outer v → HasAnswered new w
     → ((path : List ℕ) (depth : ℕ) → new.may_fail_below path depth
-    → IsFolderAt outer.opens_above path depth (Some (with_mark x m)))
+    → IsFolderAt outer.may_open path depth (Some (with_mark x m)))
     → Places outer (Some (with_mark x m)) new
 places_marked v w outer new x m f b a below = record {
   item = λ path depth i. b.may_fail path depth (f.item path depth (error_marked path depth x m i));
@@ -254,7 +252,7 @@ places_marked v w outer new x m f b a below = record {
 module _ {D C : Type 0} (law : Law D C) where
   pub accounts_moved : (v w outer new : WalkView D) (x y : Option Given) → IsAs x y → (h : Accounts law v x w)
       → IsAsked outer v → HasAnswered new w → (¬ (IsMemoryError y)
-      → h.opened + new.to_open ≡ outer.to_open + (h.folders + opens_one outer.opens_above y))
+      → h.opened + new.to_open ≡ outer.to_open + (h.folders + opens_one outer.may_open y))
       → Accounts law outer y new
   accounts_moved v w outer new x y s h b a opens =
       let C : Tally → ℕ → Type 0 = λ n lost. CountsFaults n lost (law.tally v.directory)
@@ -318,12 +316,12 @@ module _ {D C : Type 0} (law : Law D C) where
     answered_moved calls e = ap law.answered a.directory
         ∙ (e ∙ ap (λ d. law.answered d ++ answers calls) (sym b.directory))
 
-    pub step_ends : (f : FeedStep law v None w) → new.to_open ≡ 0
+    pub step_ends : (f : FeedStep law v None w) → new.may_open ≡ outer.may_open → new.to_open ≡ 0
         → ((path : List ℕ) (depth : ℕ) → new.may_fail_below path depth → w.may_fail_below path depth)
         → ((p : Pending Given) → outer.to_come p → GivesOrStops outer p None new)
         → MayTake outer (asking f.calls unknown) → Follows outer f.calls None new
         → FeedStep law outer None new
-    step_ends f none below gives begins follows = record {
+    step_ends f above none below gives begins follows = record {
       gives = gives;
       calls = f.calls;
       answered = answered_moved f.calls f.answered;
@@ -336,7 +334,7 @@ module _ {D C : Type 0} (law : Law D C) where
       begun = λ e. omega (arith, f.begun e, a.to_begin);
       from = a.yields_from ∙ (f.from ∙ sym b.yields_from);
       to_open = none;
-      above = a.opens_above ∙ (f.above ∙ sym b.opens_above);
+      above = above;
       stays = λ e. let s = f.stays (b.ended e) in (s.0, a.ended s.1);
       idles = idles_moved None f;
       names = omega (arith, f.names, a.names_left, b.names_left);
@@ -349,13 +347,13 @@ module _ {D C : Type 0} (law : Law D C) where
     }
 
     pub step_marked : (x y : Given) (m : Mark) → y ≡ with_mark x m → (f : FeedStep law v (Some x) w)
-        → new.to_open ≡ opens_one outer.opens_above (Some y)
+        → new.may_open ≡ outer.may_open → new.to_open ≡ opens_one outer.may_open (Some y)
         → ((path : List ℕ) (depth : ℕ) → new.may_fail_below path depth
-        → IsFolderAt outer.opens_above path depth (Some (with_mark x m)))
+        → IsFolderAt outer.may_open path depth (Some (with_mark x m)))
         → ((p : Pending Given) → outer.to_come p → GivesOrStops outer p (Some y) new)
         → MayTake outer (asking f.calls unknown) → Follows outer f.calls (Some y) new
         → FeedStep law outer (Some y) new
-    step_marked x y m e f opens below gives begins follows =
+    step_marked x y m e f above opens below gives begins follows =
         let A : Given → Type 0 = λ z. IsAs (Some x) (Some z) in
         let M : Given → Type 0 = λ z. IsMisplaced (Some z) → 0 < v.names_left in
         record {
@@ -373,7 +371,7 @@ module _ {D C : Type 0} (law : Law D C) where
           begun = λ i. (cc);
           from = a.yields_from ∙ (f.from ∙ sym b.yields_from);
           to_open = opens;
-          above = a.opens_above ∙ (f.above ∙ sym b.opens_above);
+          above = above;
           stays = λ i. let s : Some x ≡ None = (f.stays (b.ended i)).0 in absurd (cc);
           idles = idles_moved (Some x) f;
           names = omega (arith, f.names, a.names_left, b.names_left);

@@ -23,7 +23,6 @@ module _ {D C F : Type 0} (law : Law D C) (step : F → Bor TreeEntry → Option
     to_begin = refl;
     listings_open = refl;
     to_open = refl;
-    opens_above = refl;
     yields_from = refl;
     may_fail = λ path depth i. i;
     ended = λ i. i;
@@ -37,7 +36,6 @@ module _ {D C F : Type 0} (law : Law D C) (step : F → Bor TreeEntry → Option
     names_left = refl;
     to_begin = refl;
     listings_open = refl;
-    opens_above = refl;
     yields_from = refl;
     may_fail = λ path depth i. i;
     ended = λ i. i;
@@ -52,7 +50,6 @@ module _ {D C F : Type 0} (law : Law D C) (step : F → Bor TreeEntry → Option
         names_left = k.names_left;
         to_begin = k.to_begin;
         listings_open = k.listings_open;
-        opens_above = k.opens_above;
         yields_from = k.yields_from;
         may_fail = k.may_fail;
         ended = k.ends;
@@ -62,7 +59,7 @@ module _ {D C F : Type 0} (law : Law D C) (step : F → Bor TreeEntry → Option
   pub closure_ends : (v w : WalkView D) (f : F) → FeedStep law v None w
       → FeedStep law (closure_view step v f) None (closure_view step w f)
   closure_ends v w f h = step_ends law v w _ _ (asked v f) (answered w f) h
-      h.to_open (λ path depth i. i) (λ q s.
+      h.above h.to_open (λ path depth i. i) (λ q s.
       let p = s.2 in
       subst (λ z. GivesOrStops (closure_view step v f) z None (closure_view step w f)) (sym p.2)
       (layer_ends s.0 v w (closure_view step v f) (closure_view step w f) p.0 refl refl
@@ -80,9 +77,10 @@ module _ {D C F : Type 0} (law : Law D C) (step : F → Bor TreeEntry → Option
       → SaysOf f x m t → y ≡ with_mark x m → false ≡ is_cut x m → FeedStep law (closure_view step v f)
       (Some y) (closure_view step w t)
   closure_passes v w f t x y m h says k n = step_marked law v w _ _ (asked v f) (answered w t) x y m k h
-      (h.to_open ∙ (sym (opened_uncut v.opens_above x m n) ∙ sym
-      (ap (λ z. opens_one v.opens_above (Some z)) k)))
-      (λ path depth i. folder_uncut v.opens_above path depth x m n (h.places.below path depth i))
+      h.above
+      (h.to_open ∙ (sym (opened_uncut v.may_open x m n) ∙ sym
+      (ap (λ z. opens_one v.may_open (Some z)) k)))
+      (λ path depth i. folder_uncut v.may_open path depth x m n (h.places.below path depth i))
       (λ q s.
       let p = s.2 in
       let o = says s.0 s.1 in
@@ -92,15 +90,15 @@ module _ {D C F : Type 0} (law : Law D C) (step : F → Bor TreeEntry → Option
       (begins_filtered v w (closure_view step v f) (closure_view step w t) _ (IsMarkSaid step t) (λ a i. i) h.calls
       h.begins)
       (passes_filtered v w (closure_view step v f) (closure_view step w t) (IsMarkSaid step f) (IsMarkSaid step t)
-      (λ a i. i) h.calls x y m k (λ r i. (says r i).0) (λ z o i r j. i r (says r j).1) n (λ a i. i)
+      (λ a i. i) h.calls x y m (is_cut x m) k (λ r i. (says r i).0, refl) (λ z o c i. (λ r j. i.0 r (says r j).1, i.1)) n (λ a i. i)
       (λ i. i) (λ i. i) h.follows)
 
   pub closure_cuts : (v w u : WalkView D) (f t : F) (x y : Given) (m : Mark) → FeedStep law v (Some x) w
       → SaysOf f x m t → y ≡ with_mark x m → true ≡ is_cut x m → CancelStep w u
       → FeedStep law (closure_view step v f) (Some y) (closure_view step u t)
   closure_cuts v w u f t x y m h says k n c = step_marked law v w _ _ (asked v f) (answered_cut w u t c) x y m
-      k h (c.to_open ∙ (sym (opened_cut v.opens_above x m n) ∙ sym
-      (ap (λ z. opens_one v.opens_above (Some z)) k)))
+      k h (c.may_open ∙ h.above) (c.to_open ∙ (sym (opened_cut v.may_open x m n) ∙ sym
+      (ap (λ z. opens_one v.may_open (Some z)) k)))
       (λ path depth i. absurd (c.none_below path depth i)) (λ q s.
       let p = s.2 in
       let o = says s.0 s.1 in
@@ -110,5 +108,5 @@ module _ {D C F : Type 0} (law : Law D C) (step : F → Bor TreeEntry → Option
       (begins_filtered v w (closure_view step v f) (closure_view step u t) _ (IsMarkSaid step t) (λ a i. i) h.calls
       h.begins)
       (cuts_filtered v w (closure_view step v f) (closure_view step u t) (IsMarkSaid step f) (IsMarkSaid step t)
-      (λ a i. i) h.calls x y m k (λ r i. (says r i).0) (λ z o i r j. i r (says r j).1) n u c (λ a i. i) c.ends
+      (λ a i. i) h.calls x y m (is_cut x m) k (λ r i. (says r i).0, refl) (λ z o c i. (λ r j. i.0 r (says r j).1, i.1)) n u c (λ a i. i) c.ends
       c.idles h.follows)

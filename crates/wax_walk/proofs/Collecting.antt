@@ -1,5 +1,5 @@
 -- A loop that takes all that a walk yields.
-use Rattle.std.proofs.Common.{◌≡◌, ℕ, ◌+◌, ◌<◌, ◌≤◌, true, false, cond, length, length-append, List, []}
+use Rattle.std.proofs.Common.{◌≡◌, Bool, ℕ, ◌+◌, ◌<◌, ◌≤◌, true, false, cond, length, length-append, List, []}
 use Rattle.std.proofs.Common.{◌∷◌, ◌++◌, refl, sym, ap, subst, ◌∙◌, append_assoc, inl, inr, arith}
 use Rattle.std.specs.Prelude.{◌⊎◌, Option, Some, None, Result, Ok, Err, IfOk, filter, map}
 use Rattle.std.specs.List.{Contains}
@@ -219,40 +219,40 @@ none_last_parts : (xs : List Given) (x : Given) → NoneLast (xs ++ x ∷ []) �
 none_last_parts [] x h = (tt, h.0)
 none_last_parts (y ∷ xs) x h = let p = none_last_parts xs x h.1 in ((h.0, p.0), p.1)
 
-opened_more : (most : ℕ) (xs : List Given) (x : Given)
-    → count_to_open most (xs ++ x ∷ []) ≡ count_to_open most xs + cond (is_to_open most x) 1 0
-opened_more most [] x = omega arith
-opened_more most (y ∷ xs) x = omega (arith, opened_more most xs x)
+opened_more : (opens : Facts → Bool) (xs : List Given) (x : Given)
+    → count_to_open opens (xs ++ x ∷ []) ≡ count_to_open opens xs + cond (is_to_open opens x) 1 0
+opened_more opens [] x = omega arith
+opened_more opens (y ∷ xs) x = omega (arith, opened_more opens xs x)
 
 -- ---- where errors come
 
 -- errors may come only of folders that were yielded, or of one of the paths `first`
-abbrev pub MayFailAt : {D : Type 0} → (List ℕ → ℕ → Type 0) → ℕ → List Given → WalkView D → Type 0
-MayFailAt first most xs now = (path : List ℕ) (depth : ℕ) → MayFail now path depth
-    → first path depth ⊎ HasFolder most path depth xs
+abbrev pub MayFailAt : {D : Type 0} → (List ℕ → ℕ → Type 0) → (Facts → Bool) → List Given → WalkView D → Type 0
+MayFailAt first opens xs now = (path : List ℕ) (depth : ℕ) → MayFail now path depth
+    → first path depth ⊎ HasFolder opens path depth xs
 
-folder_kept : (most : ℕ) (path : List ℕ) (depth : ℕ) (xs : List Given) (x : Given)
-    → HasFolder most path depth xs → HasFolder most path depth (xs ++ x ∷ [])
-folder_kept most path depth xs x h = (h.0, Contains-append_left xs (x ∷ []) h.0 h.1, h.2)
+folder_kept : (opens : Facts → Bool) (path : List ℕ) (depth : ℕ) (xs : List Given) (x : Given)
+    → HasFolder opens path depth xs → HasFolder opens path depth (xs ++ x ∷ [])
+folder_kept opens path depth xs x h = (h.0, Contains-append_left xs (x ∷ []) h.0 h.1, h.2)
 
-of_folders_more : {D : Type 0} (first : List ℕ → ℕ → Type 0) (most : ℕ) (mid new : WalkView D)
-    (xs : List Given) (x : Given) → MayFailAt first most xs mid → Places mid (Some x) new
-    → AreOfFolders first most xs → AreOfFolders first most (xs ++ x ∷ [])
-of_folders_more first most mid new xs x may f are before after y path depth e i =
+of_folders_more : {D : Type 0} (first : List ℕ → ℕ → Type 0) (opens : Facts → Bool) (mid new : WalkView D)
+    (xs : List Given) (x : Given) → MayFailAt first opens xs mid → Places mid (Some x) new
+    → AreOfFolders first opens xs → AreOfFolders first opens (xs ++ x ∷ [])
+of_folders_more first opens mid new xs x may f are before after y path depth e i =
     elim (snoc_split xs x before after y e) [
       | inl l ↦
-          subst (λ v. first path depth ⊎ HasFolder most path depth v) l.2
+          subst (λ v. first path depth ⊎ HasFolder opens path depth v) l.2
           (may path depth (f.item path depth (subst (λ v. IsErrorAt path depth (Some v)) (sym l.1) i)))
       | inr r ↦ are before r.0 y path depth r.1 i
     ]
 
-may_fail_more : {D : Type 0} (first : List ℕ → ℕ → Type 0) (most : ℕ) (mid new : WalkView D)
-    (xs : List Given) (x : Given) → mid.opens_above ≡ most → MayFailAt first most xs mid
-    → Places mid (Some x) new → MayFailAt first most (xs ++ x ∷ []) new
-may_fail_more first most mid new xs x same may f path depth i = elim i [
+may_fail_more : {D : Type 0} (first : List ℕ → ℕ → Type 0) (opens : Facts → Bool) (mid new : WalkView D)
+    (xs : List Given) (x : Given) → mid.may_open ≡ opens → MayFailAt first opens xs mid
+    → Places mid (Some x) new → MayFailAt first opens (xs ++ x ∷ []) new
+may_fail_more first opens mid new xs x same may f path depth i = elim i [
   | inl l ↦ elim (may path depth (f.later path depth l)) [
     | inl s ↦ inl s
-    | inr s ↦ inr (folder_kept most path depth xs x s)
+    | inr s ↦ inr (folder_kept opens path depth xs x s)
   ]
   | inr b ↦ inr (
     x,
@@ -282,8 +282,8 @@ module _ {D C : Type 0} (law : Law D C) where
     pub misplaced : (path : List ℕ) (depth : ℕ) → Contains xs (fault NotAFolder path depth)
         → 0 < walk.names_left
     pub ended : EndedThere now xs
-    pub of_folders : AreOfFolders (MayFail walk) walk.opens_above xs
-    pub may_fail : MayFailAt (MayFail walk) walk.opens_above xs now
+    pub of_folders : AreOfFolders (MayFail walk) walk.may_open xs
+    pub may_fail : MayFailAt (MayFail walk) walk.may_open xs now
     pub idle : walk.is_idle → now.is_idle × (now.directory ≡ walk.directory)
     pub opened : ℕ
     pub opened_is : (law.tally now.directory).opened ≡ grown opened (law.tally walk.directory).opened
@@ -292,9 +292,9 @@ module _ {D C : Type 0} (law : Law D C) where
     pub going : NoneLast xs → 0 < walk.listings_left → 0 < now.listings_left
     pub folders : ℕ
     pub opens : NoMemoryError xs
-        → opened + now.to_open ≡ walk.to_open + (folders + count_to_open walk.opens_above xs)
+        → opened + now.to_open ≡ walk.to_open + (folders + count_to_open walk.may_open xs)
     pub closes : NoneLast xs → walk.listings_open + opened ≡ ended_count + now.listings_open
-    pub above : now.opens_above ≡ walk.opens_above
+    pub above : now.may_open ≡ walk.may_open
     pub passed : ℕ
     pub folders_passed : folders ≤ passed
     pub passes : walk.yields_from ≡ 0 → passed ≡ 0
@@ -382,9 +382,9 @@ module _ {D C : Type 0} (law : Law D C) where
           misplaced = λ path depth c. misplaced_more x path depth h.names f.misplaced (h.misplaced path depth)
               c;
           ended = ended_more mid new xs x n a.ends h.ended;
-          of_folders = of_folders_more (MayFail walk) walk.opens_above mid new xs x h.may_fail f.places
+          of_folders = of_folders_more (MayFail walk) walk.may_open mid new xs x h.may_fail f.places
               h.of_folders;
-          may_fail = may_fail_more (MayFail walk) walk.opens_above mid new xs x h.above h.may_fail f.places;
+          may_fail = may_fail_more (MayFail walk) walk.may_open mid new xs x h.above h.may_fail f.places;
           idle = idles_more (Some x) h f;
           opened = h.opened + a.opened;
           opened_is = grown_then h.opened a.opened _ _ _ h.opened_is a.opened_is;
@@ -395,9 +395,9 @@ module _ {D C : Type 0} (law : Law D C) where
           folders_passed = omega (arith, h.folders_passed, a.folders_passed);
           opens = λ m.
               let p = memory_parts xs x m in
-              let one : opens_one mid.opens_above (Some x) ≡ cond (is_to_open walk.opens_above x) 1 0 =
+              let one : opens_one mid.may_open (Some x) ≡ cond (is_to_open walk.may_open x) 1 0 =
               ap (λ v. cond (is_to_open v x) 1 0) h.above in
-              omega (arith, h.opens p.0, a.opens p.1, opened_more walk.opens_above xs x, one);
+              omega (arith, h.opens p.0, a.opens p.1, opened_more walk.may_open xs x, one);
           closes = λ m. let p = none_last_parts xs x m in omega (arith, h.closes p.0, a.closes p.1);
           above = f.above ∙ h.above;
         }

@@ -4,7 +4,7 @@ use Rattle.std.specs.Prelude.{◌⊎◌}
 use Rattle.std.proofs.lemmas.List.{append-nil}
 use Rattle.wax_walk.specs.Course.{DirectoryCall, Course, stop, unknown, asks, yields, continued, asking, items_of, calls_of}
 use Rattle.wax_walk.specs.Course.{IsKnownFirst, IsKnownWhole, IsStartOf, ComesBelow, IsFiltered, IsNothing}
-use Rattle.wax_walk.specs.Given.{Given, Mark, with_mark, is_cut}
+use Rattle.wax_walk.specs.Given.{Given, Mark, with_mark}
 
 -- ---- parts
 
@@ -241,7 +241,7 @@ whole_asking (q ∷ calls) c w = whole_asking calls c w
 
 -- ---- filters
 
-module _ (allows : Given → Mark → Type 0) where
+module _ (allows : Given → Mark → Bool → Type 0) where
   -- what begins a filtered course is filtered
   pub filtered_unknown : (c : Course) → IsFiltered allows c unknown
   filtered_unknown unknown = refl
@@ -293,12 +293,12 @@ module _ (allows : Given → Mark → Type 0) where
   ]
   filtered_parts (yields x c b) a d h = elim h [
     | inl e ↦ both_unknown (yields x c b) a d e
-    | inr i ↦ let p = filtered_parts b a i.3 i.6 in record {
-      below = yields (with_mark x i.0) i.2 p.below;
+    | inr i ↦ let p = filtered_parts b a i.4 i.7 in record {
+      below = yields (with_mark x i.0) i.3 p.below;
       after = p.after;
-      below_filtered = inr (i.0, i.1, i.2, p.below, refl, i.5, p.below_filtered);
+      below_filtered = inr (i.0, i.1, i.2, i.3, p.below, refl, i.6, p.below_filtered);
       after_filtered = p.after_filtered;
-      whole = ap (yields (with_mark x i.0) i.2) p.whole ∙ sym i.4;
+      whole = ap (yields (with_mark x i.0) i.3) p.whole ∙ sym i.5;
     }
   ]
 
@@ -346,29 +346,30 @@ module _ (allows : Given → Mark → Type 0) where
   ]
   filtered_begun (yields x c a) d stop h b = elim h [
     | inl i ↦ inl (begins_unknown d stop i b)
-    | inr i ↦ absurd (let e : stop ≡ yields (with_mark x i.0) i.2 i.3 = sym b ∙ i.4 in (cc))
+    | inr i ↦ absurd (let e : stop ≡ yields (with_mark x i.0) i.3 i.4 = sym b ∙ i.5 in (cc))
   ]
   filtered_begun (yields x c a) d (asks r e) h b = elim h [
     | inl i ↦ inl (begins_unknown d (asks r e) i b)
-    | inr i ↦ absurd (let e : asks r b.0 ≡ yields (with_mark x i.0) i.2 i.3 = sym b.1 ∙ i.4 in (cc))
+    | inr i ↦ absurd (let e : asks r b.0 ≡ yields (with_mark x i.0) i.3 i.4 = sym b.1 ∙ i.5 in (cc))
   ]
   filtered_begun (yields x c a) d (yields y e f) h b = elim h [
     | inl i ↦ inl (begins_unknown d (yields y e f) i b)
     | inr i ↦
-        let j : yields (with_mark x i.0) i.2 i.3 ≡ yields y b.0 b.1 = sym i.4 ∙ b.2 in
+        let j : yields (with_mark x i.0) i.3 i.4 ≡ yields y b.0 b.1 = sym i.5 ∙ b.2 in
         let same : y ≡ with_mark x i.0 = cc in
-        let under : b.0 ≡ i.2 = cc in
-        let rest : b.1 ≡ i.3 = cc in
-        let be : IsStartOf e i.2 = subst (λ z. IsStartOf e z) under b.3 in
+        let under : b.0 ≡ i.3 = cc in
+        let rest : b.1 ≡ i.4 = cc in
+        let be : IsStartOf e i.3 = subst (λ z. IsStartOf e z) under b.3 in
         inr (
           i.0,
           i.1,
+          i.2,
           e,
           f,
           ap (λ z. yields z e f) same,
-          below_begun (is_cut x i.0) (IsFiltered allows c i.2) (IsFiltered allows c e) i.2 e
-              (λ k. filtered_begun c i.2 e k be) (nothing_begun i.2 e be) i.5,
-          filtered_begun a i.3 f i.6 (subst (λ z. IsStartOf f z) rest b.4),
+          below_begun i.1 (IsFiltered allows c i.3) (IsFiltered allows c e) i.3 e
+              (λ k. filtered_begun c i.3 e k be) (nothing_begun i.3 e be) i.6,
+          filtered_begun a i.4 f i.7 (subst (λ z. IsStartOf f z) rest b.4),
         )
   ]
 
@@ -377,7 +378,8 @@ below_widened : (cut : Bool) (P Q : Type 0) (b : Course) → (P → Q) → Comes
 below_widened true P Q b f h = h
 below_widened false P Q b f h = f h
 
-pub filtered_widened : (these those : Given → Mark → Type 0) → ((x : Given) (m : Mark) → these x m → those x m)
+pub filtered_widened : (these those : Given → Mark → Bool → Type 0)
+    → ((x : Given) (m : Mark) (cut : Bool) → these x m cut → those x m cut)
     → (c d : Course) → IsFiltered these c d → IsFiltered those c d
 filtered_widened these those w unknown d h = h
 filtered_widened these those w stop d h = h
@@ -389,11 +391,12 @@ filtered_widened these those w (yields x c a) d h = elim h [
   | inl e ↦ inl e
   | inr i ↦ inr (
     i.0,
-    w x i.0 i.1,
-    i.2,
+    i.1,
+    w x i.0 i.1 i.2,
     i.3,
     i.4,
-    below_widened (is_cut x i.0) _ _ i.2 (filtered_widened these those w c i.2) i.5,
-    filtered_widened these those w a i.3 i.6,
+    i.5,
+    below_widened i.1 _ _ i.3 (filtered_widened these those w c i.3) i.6,
+    filtered_widened these those w a i.4 i.7,
   )
 ]

@@ -3,57 +3,82 @@ use Rattle.std.proofs.Common.{◌≡◌, ◌∙◌, Bool, true, false, cond, ◌
 use Rattle.wax_walk.specs.Course.{ComesBelow, Course, IsFiltered, IsKnownWhole, IsStartOf, asks}
 use Rattle.wax_walk.specs.Course.{continued, filtered_course, items_of, stop, unknown, yields}
 use Rattle.wax_walk.specs.Forest.{Forest, filtered, followed_by, item, lists, nothing, preorder}
-use Rattle.wax_walk.specs.Given.{Facts, Given, Mark, changed_by, cut_by, is_cut, with_mark}
+use Rattle.wax_walk.specs.Given.{Facts, Given, Mark, alone, changed_by, cut_by, entry, fault, is_cut, kept, no_memory}
+use Rattle.wax_walk.specs.Given.{with_mark, with_tree}
+use Rattle.wax_walk.specs.Pruned.{IsPrunedBy, Opening, all_folders, is_closed, itself, opened_forest, opened_course, pruned}
+use Rattle.wax_walk.specs.Pruned.{pruned_course, these_folders}
 use Rattle.wax_walk.specs.Ruled.{IsMarkBy}
 
 -- ---- courses
 
-module _ (rule : Facts → Mark) where
-  abbrev pub ruled_course : Course → Course
-  ruled_course c = filtered_course (changed_by rule) (cut_by rule) c
+pub kept_itself : (x : Given) → x ≡ with_mark x kept
+kept_itself (entry kept f) = refl
+kept_itself (entry alone f) = refl
+kept_itself (entry with_tree f) = refl
+kept_itself (fault kind path depth) = refl
+kept_itself no_memory = refl
 
-  below_begins : (cut : Bool) (c below : Course) (P : Type 0) → (P → IsStartOf below c) → ComesBelow cut P below
-      → IsStartOf below (cond cut stop c)
+module _ (change : Given → Given) (cut : Given → Bool) where
+  abbrev pub cut_course : Course → Course
+  cut_course c = filtered_course change cut c
+
+  below_begins : (b : Bool) (c below : Course) (P : Type 0) → (P → IsStartOf below c) → ComesBelow b P below
+      → IsStartOf below (cond b stop c)
   below_begins true c below P f h = h
   below_begins false c below P f h = f h
 
   -- what is filtered of a start of a course is a start of what is filtered of the course
-  pub filtered_begins : (c d e : Course) → IsFiltered (IsMarkBy rule) c e → IsStartOf c d
-      → IsStartOf e (ruled_course d)
-  filtered_begins unknown d e h b = subst (λ z. IsStartOf z (ruled_course d)) (sym h) tt
-  filtered_begins stop d e h b = elim h [
-    | inl i ↦ subst (λ z. IsStartOf z (ruled_course d)) (sym i) tt
-    | inr i ↦ subst (λ z. IsStartOf z (ruled_course d)) (sym i) (ap ruled_course b)
+  pub cut_begins : (allows : Given → Mark → Bool → Type 0)
+      → ((x : Given) (m : Mark) (b : Bool) → allows x m b → (with_mark x m ≡ change x) × (b ≡ cut x))
+      → (c d e : Course) → IsFiltered allows c e → IsStartOf c d → IsStartOf e (cut_course d)
+  cut_begins allows same unknown d e h b = subst (λ z. IsStartOf z (cut_course d)) (sym h) tt
+  cut_begins allows same stop d e h b = elim h [
+    | inl i ↦ subst (λ z. IsStartOf z (cut_course d)) (sym i) tt
+    | inr i ↦ subst (λ z. IsStartOf z (cut_course d)) (sym i) (ap cut_course b)
   ]
-  filtered_begins (asks q c) d e h b = elim h [
-    | inl i ↦ subst (λ z. IsStartOf z (ruled_course d)) (sym i) tt
-    | inr i ↦ subst (λ z. IsStartOf z (ruled_course d)) (sym i.1)
-        (ruled_course b.0, ap ruled_course b.1, filtered_begins c b.0 i.0 i.2 b.2)
+  cut_begins allows same (asks q c) d e h b = elim h [
+    | inl i ↦ subst (λ z. IsStartOf z (cut_course d)) (sym i) tt
+    | inr i ↦ subst (λ z. IsStartOf z (cut_course d)) (sym i.1)
+        (cut_course b.0, ap cut_course b.1, cut_begins allows same c b.0 i.0 i.2 b.2)
   ]
-  filtered_begins (yields x c a) d e h b = elim h [
-    | inl i ↦ subst (λ z. IsStartOf z (ruled_course d)) (sym i) tt
+  cut_begins allows same (yields x c a) d e h b = elim h [
+    | inl i ↦ subst (λ z. IsStartOf z (cut_course d)) (sym i) tt
     | inr i ↦
-        let below = below_begins (is_cut x i.0) (ruled_course b.0) i.2 _
-        (λ k. filtered_begins c b.0 i.2 k b.3) i.5 in
-        subst (λ z. IsStartOf z (ruled_course d)) (sym i.4) (
-          cond (is_cut x i.0) stop (ruled_course b.0),
-          ruled_course b.1,
-          ap ruled_course b.2 ∙ ap (λ m. yields (with_mark x m) (cond (is_cut x m) stop (ruled_course b.0))
-              (ruled_course b.1)) (sym i.1),
+        let so = same x i.0 i.1 i.2 in
+        let below = below_begins i.1 (cut_course b.0) i.3 _
+        (λ k. cut_begins allows same c b.0 i.3 k b.3) i.6 in
+        subst (λ z. IsStartOf z (cut_course d)) (sym i.5) (
+          cond i.1 stop (cut_course b.0),
+          cut_course b.1,
+          ap cut_course b.2 ∙ (λ j. yields (sym so.0 j) (cond (sym so.1 j) stop (cut_course b.0)) (cut_course b.1)),
           below,
-          filtered_begins a b.1 i.3 i.6 b.4,
+          cut_begins allows same a b.1 i.4 i.7 b.4,
         )
   ]
 
-  whole_below : (cut : Bool) (c : Course) → IsKnownWhole c → IsKnownWhole (cond cut stop c)
+  whole_below : (b : Bool) (c : Course) → IsKnownWhole c → IsKnownWhole (cond b stop c)
   whole_below true c w = tt
   whole_below false c w = w
 
-  whole_ruled : (c : Course) → IsKnownWhole c → IsKnownWhole (ruled_course c)
-  whole_ruled stop w = tt
-  whole_ruled unknown w = w
-  whole_ruled (asks q c) w = whole_ruled c w
-  whole_ruled (yields x b a) w = (whole_below (cut_by rule x) (ruled_course b) (whole_ruled b w.0), whole_ruled a w.1)
+  whole_cut : (c : Course) → IsKnownWhole c → IsKnownWhole (cut_course c)
+  whole_cut stop w = tt
+  whole_cut unknown w = w
+  whole_cut (asks q c) w = whole_cut c w
+  whole_cut (yields x b a) w = (whole_below (cut x) (cut_course b) (whole_cut b w.0), whole_cut a w.1)
+
+-- what a rule leaves of a course
+abbrev pub ruled_course : (Facts → Mark) → Course → Course
+ruled_course rule c = cut_course (changed_by rule) (cut_by rule) c
+
+pub filtered_begins : (rule : Facts → Mark) (c d e : Course) → IsFiltered (IsMarkBy rule) c e → IsStartOf c d
+    → IsStartOf e (ruled_course rule d)
+filtered_begins rule = cut_begins (changed_by rule) (cut_by rule) (IsMarkBy rule)
+    (λ x m b h. (ap (with_mark x) h.0, h.1 ∙ ap (is_cut x) h.0))
+
+pub pruned_begins : (opens : Facts → Bool) (c d e : Course) → IsFiltered (IsPrunedBy opens) c e → IsStartOf c d
+    → IsStartOf e (pruned_course opens d)
+pruned_begins opens = cut_begins itself (is_closed opens) (IsPrunedBy opens)
+    (λ x m b h. (ap (with_mark x) h.0 ∙ sym (kept_itself x), h.1))
 
 -- ---- forests
 
@@ -101,38 +126,88 @@ pub record Yields (c : Course) (f : Forest Given) : Type 0 where
 pub yields_items : (c : Course) (f : Forest Given) → Yields c f → items_of c ≡ preorder f
 yields_items c f y = items_forest c ∙ (ap preorder y.forest ∙ preorder_unlisted f)
 
-module _ (rule : Facts → Mark) where
-  abbrev ruled_forest : Forest Given → Forest Given
-  ruled_forest f = filtered (changed_by rule) (cut_by rule) f
+module _ (change : Given → Given) (cut : Given → Bool) where
+  abbrev cut_forest : Forest Given → Forest Given
+  cut_forest f = filtered change cut f
 
-  forest_below : (cut : Bool) (c : Course) → forest_of (cond cut stop c) ≡ cond cut nothing (forest_of c)
+  forest_below : (b : Bool) (c : Course) → forest_of (cond b stop c) ≡ cond b nothing (forest_of c)
   forest_below true c = refl
   forest_below false c = refl
 
-  forest_ruled : (c : Course) → forest_of (ruled_course rule c) ≡ ruled_forest (forest_of c)
-  forest_ruled stop = refl
-  forest_ruled unknown = refl
-  forest_ruled (asks q c) = forest_ruled c
-  forest_ruled (yields x b a) =
-      ap (λ z. item (changed_by rule x) z (forest_of (ruled_course rule a)))
-      (forest_below (cut_by rule x) (ruled_course rule b))
-      ∙ (λ i. item (changed_by rule x) (cond (cut_by rule x) nothing (forest_ruled b i)) (forest_ruled a i))
+  forest_cut : (c : Course) → forest_of (cut_course change cut c) ≡ cut_forest (forest_of c)
+  forest_cut stop = refl
+  forest_cut unknown = refl
+  forest_cut (asks q c) = forest_cut c
+  forest_cut (yields x b a) =
+      ap (λ z. item (change x) z (forest_of (cut_course change cut a)))
+      (forest_below (cut x) (cut_course change cut b))
+      ∙ (λ i. item (change x) (cond (cut x) nothing (forest_cut b i)) (forest_cut a i))
 
-  unlisted_below : (cut : Bool) (f : Forest Given) → unlisted (cond cut nothing f) ≡ cond cut nothing (unlisted f)
+  unlisted_below : (b : Bool) (f : Forest Given) → unlisted (cond b nothing f) ≡ cond b nothing (unlisted f)
   unlisted_below true f = refl
   unlisted_below false f = refl
 
-  unlisted_ruled : (f : Forest Given) → unlisted (ruled_forest f) ≡ ruled_forest (unlisted f)
-  unlisted_ruled nothing = refl
-  unlisted_ruled (item x below after) =
-      ap (λ z. item (changed_by rule x) z (unlisted (ruled_forest after)))
-      (unlisted_below (cut_by rule x) (ruled_forest below))
-      ∙ (λ i. item (changed_by rule x) (cond (cut_by rule x) nothing (unlisted_ruled below i)) (unlisted_ruled after i))
-  unlisted_ruled (lists path after) = unlisted_ruled after
+  unlisted_cut : (f : Forest Given) → unlisted (cut_forest f) ≡ cut_forest (unlisted f)
+  unlisted_cut nothing = refl
+  unlisted_cut (item x below after) =
+      ap (λ z. item (change x) z (unlisted (cut_forest after)))
+      (unlisted_below (cut x) (cut_forest below))
+      ∙ (λ i. item (change x) (cond (cut x) nothing (unlisted_cut below i)) (unlisted_cut after i))
+  unlisted_cut (lists path after) = unlisted_cut after
 
-  -- a rule leaves of a course what it leaves of the forest
-  pub ruled_yields : (c : Course) (f : Forest Given) → Yields c f → Yields (ruled_course rule c) (ruled_forest f)
-  ruled_yields c f y = record {
-    is_whole = whole_ruled rule c y.is_whole;
-    forest = forest_ruled c ∙ (ap ruled_forest y.forest ∙ sym (unlisted_ruled f));
+  -- a filter leaves of a course what it leaves of the forest
+  pub cut_yields : (c : Course) (f : Forest Given) → Yields c f → Yields (cut_course change cut c) (cut_forest f)
+  cut_yields c f y = record {
+    is_whole = whole_cut change cut c y.is_whole;
+    forest = forest_cut c ∙ (ap cut_forest y.forest ∙ sym (unlisted_cut f));
   }
+
+pub ruled_yields : (rule : Facts → Mark) (c : Course) (f : Forest Given) → Yields c f
+    → Yields (ruled_course rule c) (filtered (changed_by rule) (cut_by rule) f)
+ruled_yields rule = cut_yields (changed_by rule) (cut_by rule)
+
+pub opened_yields : (o : Opening) (c : Course) (f : Forest Given) → Yields c f
+    → Yields (opened_course o c) (opened_forest o f)
+opened_yields all_folders c f y = y
+opened_yields (these_folders opens) c f y = cut_yields itself (is_closed opens) c f y
+
+-- ---- a rule, and folders that aren't opened
+
+closed_still : (opens : Facts → Bool) (rule : Facts → Mark) (x : Given)
+    → is_closed opens (changed_by rule x) ≡ is_closed opens x
+closed_still opens rule (entry m f) = refl
+closed_still opens rule (fault kind path depth) = refl
+closed_still opens rule no_memory = refl
+
+cuts_swap : {F : Type 0} (none : F) (b c : Bool) (one two : F → F) (below : F) → one none ≡ none → two none ≡ none
+    → one (two below) ≡ two (one below)
+    → cond b none (one (cond c none (two below))) ≡ cond c none (two (cond b none (one below)))
+cuts_swap none true true one two below e f g = refl
+cuts_swap none true false one two below e f g = sym f
+cuts_swap none false true one two below e f g = e
+cuts_swap none false false one two below e f g = g
+
+-- it doesn't matter which of them comes first
+pub pruned_ruled : (opens : Facts → Bool) (rule : Facts → Mark) (c : Course)
+    → pruned_course opens (ruled_course rule c) ≡ ruled_course rule (pruned_course opens c)
+pruned_ruled opens rule stop = refl
+pruned_ruled opens rule unknown = refl
+pruned_ruled opens rule (asks q c) = ap (asks q) (pruned_ruled opens rule c)
+pruned_ruled opens rule (yields x b a) =
+    ap (λ e. yields (changed_by rule x) (cond e stop (pruned_course opens
+    (cond (cut_by rule x) stop (ruled_course rule b)))) (pruned_course opens (ruled_course rule a)))
+    (closed_still opens rule x)
+    ∙ (λ i. yields (changed_by rule x) (cuts_swap stop (is_closed opens x) (cut_by rule x) (pruned_course opens)
+    (ruled_course rule) b refl refl (pruned_ruled opens rule b) i) (pruned_ruled opens rule a i))
+
+pub forest_swap : (opens : Facts → Bool) (rule : Facts → Mark) (f : Forest Given)
+    → pruned opens (filtered (changed_by rule) (cut_by rule) f)
+    ≡ filtered (changed_by rule) (cut_by rule) (pruned opens f)
+forest_swap opens rule nothing = refl
+forest_swap opens rule (lists path f) = ap (lists path) (forest_swap opens rule f)
+forest_swap opens rule (item x b a) =
+    let ruled = filtered (changed_by rule) (cut_by rule) in
+    ap (λ e. item (changed_by rule x) (cond e nothing (pruned opens (cond (cut_by rule x) nothing (ruled b))))
+    (pruned opens (ruled a))) (closed_still opens rule x)
+    ∙ (λ i. item (changed_by rule x) (cuts_swap nothing (is_closed opens x) (cut_by rule x) (pruned opens)
+    ruled b refl refl (forest_swap opens rule b) i) (forest_swap opens rule a i))

@@ -7,6 +7,7 @@ use Rattle.wax_walk.specs.Given.{Facts, Mark, Given, entry, fault, no_memory, ma
 use Rattle.wax_walk.specs.Given.{with_mark, is_cut, changed_by, cut_by}
 use Rattle.wax_walk.specs.Forest.{Forest, nothing, item, lists, followed_by, Pending, pending, cancelled}
 use Rattle.wax_walk.specs.Forest.{all_pending, FirstIs, IsListed, listed_next, filtered, filtered_pending}
+use Rattle.wax_walk.specs.Pruned.{itself}
 use Rattle.wax_walk.specs.View.{WalkView, GivesOrStops, lacks_memory, over_budget, gives, IsLast}
 use Rattle.wax_walk.proofs.Accounting.{last_marked}
 
@@ -140,3 +141,15 @@ module _ {D : Type 0} (rule : Facts → Mark) (v w outer new : WalkView D) (p : 
       (λ q i. subst (λ u. new.to_come
       (cond u (cancelled (filtered_pending (changed_by rule) (cut_by rule) q))
       (filtered_pending (changed_by rule) (cut_by rule) q))) b (a q i))
+
+-- ---- a filter that leaves each item as it is
+
+pub itself_gives : {D : Type 0} (cut : Given → Bool) (v w outer new : WalkView D) (p : Pending Given)
+    (r : Option Given) → outer.listings_left ≡ v.listings_left → new.listings_left ≡ w.listings_left
+    → Follows itself cut w.to_come new.to_come r r → GivesOrStops v p r w
+    → GivesOrStops outer (filtered_pending itself cut p) r new
+itself_gives cut v w outer new p r l k a (lacks_memory i) = lacks_memory i
+itself_gives cut v w outer new p r l k a (over_budget path depth i few listed) =
+    over_budget path depth i (omega (arith, few, l)) (listed_filtered itself cut p path listed)
+itself_gives cut v w outer new p r l k a (gives items few f) = gives items (λ n. omega (arith, few n, l, k))
+    (gives_filtered itself cut w.to_come new.to_come p items r r f a)

@@ -3,7 +3,7 @@ use Rattle.std.proofs.Common.{◌≡◌, ◌∙◌, Bool, true, false, List, ref
 use Rattle.std.specs.Prelude.{Some, None}
 use Rattle.wax_walk.specs.Course.{Ahead, AheadFiltered, DirectoryCall, Course, CutsShort, ComesBelow, IsFiltered, IsNothing}
 use Rattle.wax_walk.specs.Course.{IsStartOf, ahead, all_ahead, asking, asks, continued, yields, stop, unknown}
-use Rattle.wax_walk.specs.Given.{Given, Mark, entry, fault, no_memory, with_mark, is_cut}
+use Rattle.wax_walk.specs.Given.{Given, Mark, entry, fault, no_memory, with_mark}
 use Rattle.wax_walk.specs.Laws.{filtered_nothing}
 use Rattle.wax_walk.specs.Candidates.{Candidate, of_candidate}
 use Rattle.wax_walk.specs.Ruled.{IsMarkBy, ruled_view}
@@ -25,7 +25,7 @@ below_cut : (b : Bool) (P : Type 0) (c : Course) → true ≡ b → IsNothing c 
 below_cut true P c e h = h
 below_cut false P c e h = absurd (let i : true ≡ false = e in (cc))
 
-module _ {D : Type 0} (v w outer new : WalkView D) (allows later : Given → Mark → Type 0)
+module _ {D : Type 0} (v w outer new : WalkView D) (allows later : Given → Mark → Bool → Type 0)
     (outside : (a : Ahead) → AheadFiltered v.may_come allows a → outer.may_come a)
     (calls : List DirectoryCall) where
   -- a course that the walk inside may take, as the filter leaves it
@@ -46,23 +46,23 @@ module _ {D : Type 0} (v w outer new : WalkView D) (allows later : Given → Mar
       ended_so refl (take_filtered _ _ t (filtered_asking allows calls stop stop (inr refl)))
   ends_filtered (was_cut x e s h i) = absurd (let j : None ≡ Some x = e in (cc))
 
-  module _ (x y : Given) (m : Mark) (marked : y ≡ with_mark x m) (ok : allows x m)
-      (narrow : (z : Given) (n : Mark) → later z n → allows z n) where
+  module _ (x y : Given) (m : Mark) (cut : Bool) (marked : y ≡ with_mark x m) (ok : allows x m cut)
+      (narrow : (z : Given) (n : Mark) (c : Bool) → later z n c → allows z n c) where
     -- a course of which the item comes next, as the filter leaves it
     next_filtered : (p a : Ahead) (c : Course) → MayTake v (asking calls (yields x p.below p.after))
-        → ComesBelow (is_cut x m) (IsFiltered allows p.below a.below) a.below
+        → ComesBelow cut (IsFiltered allows p.below a.below) a.below
         → IsFiltered later p.after a.after → IsStartOf c (yields y a.below a.after)
         → MayTake outer (asking calls c)
     next_filtered p a c t below after b =
         let marks : yields y a.below a.after ≡ yields (with_mark x m) a.below a.after =
         ap (λ z. yields z a.below a.after) marked in
         let f : IsFiltered allows (yields x p.below p.after) (yields y a.below a.after) = inr
-        (m, ok, a.below, a.after, marks, below, filtered_widened later allows narrow p.after a.after after) in
+        (m, cut, ok, a.below, a.after, marks, below, filtered_widened later allows narrow p.after a.after after) in
         take_filtered (asking calls (yields x p.below p.after)) (asking calls c) t
         (filtered_asking allows calls (yields x p.below p.after) c
         (filtered_begun allows (yields x p.below p.after) (yields y a.below a.after) c f b))
 
-    pub passes_filtered : false ≡ is_cut x m
+    pub passes_filtered : false ≡ cut
         → ((a : Ahead) → new.may_come a → AheadFiltered w.may_come later a) → (w.has_ended → new.has_ended)
         → (w.is_idle → new.is_idle) → Follows v calls (Some x) w → Follows outer calls (Some y) new
     passes_filtered uncut inside ended idle (went_on z e f) =
@@ -72,7 +72,7 @@ module _ {D : Type 0} (v w outer new : WalkView D) (allows later : Given → Mar
         let t = subst (λ k. MayTake v (asking calls (yields k q.0.below q.0.after))) same
         (f q.0 (yields z q.0.below q.0.after) q.1 (begins_itself (yields z q.0.below q.0.after))) in
         next_filtered q.0 a c t
-        (below_uncut (is_cut x m) _ a.below uncut
+        (below_uncut cut _ a.below uncut
         (filtered_widened later allows narrow q.0.below a.below q.2)) q.3 b)
     passes_filtered uncut inside ended idle (ended_so e t) = absurd (let i : Some x ≡ None = e in (cc))
     passes_filtered uncut inside ended idle (was_cut z e s h i) =
@@ -80,7 +80,7 @@ module _ {D : Type 0} (v w outer new : WalkView D) (allows later : Given → Mar
         let k : CutsShort calls (with_mark x m) = cuts_marked calls x m (subst (CutsShort calls) same s) in
         was_cut y refl (subst (CutsShort calls) (sym marked) k) (ended h) (idle i)
 
-    pub cuts_filtered : true ≡ is_cut x m → (u : WalkView D) → CancelStep w u
+    pub cuts_filtered : true ≡ cut → (u : WalkView D) → CancelStep w u
         → ((a : Ahead) → new.may_come a → AheadFiltered u.may_come later a) → (w.has_ended → new.has_ended)
         → (w.is_idle → new.is_idle) → Follows v calls (Some x) w → Follows outer calls (Some y) new
     cuts_filtered is u k inside ended idle (went_on z e f) =
@@ -92,7 +92,7 @@ module _ {D : Type 0} (v w outer new : WalkView D) (allows later : Given → Mar
         (f (ahead unknown q.0.after) (yields z unknown q.0.after) d.1
         (begins_itself (yields z unknown q.0.after))) in
         next_filtered (ahead unknown q.0.after) a c t
-        (below_cut (is_cut x m) _ a.below is (filtered_nothing later q.0.below a.below d.0 q.2)) q.3 b)
+        (below_cut cut _ a.below is (filtered_nothing later q.0.below a.below d.0 q.2)) q.3 b)
     cuts_filtered is u k inside ended idle (ended_so e t) = absurd (let i : Some x ≡ None = e in (cc))
     cuts_filtered is u k inside ended idle (was_cut z e s h i) =
         let same : z ≡ x = cc in
@@ -101,7 +101,7 @@ module _ {D : Type 0} (v w outer new : WalkView D) (allows later : Given → Mar
 
 -- ---- a walk after a rule
 
-filtered_both : (allows : Given → Mark → Type 0) (b a d e : Course) → IsFiltered allows b d → IsFiltered allows a e
+filtered_both : (allows : Given → Mark → Bool → Type 0) (b a d e : Course) → IsFiltered allows b d → IsFiltered allows a e
     → IsFiltered allows (continued b a) (continued d e)
 filtered_both allows unknown a d e h k = ap (λ z. continued z e) h
 filtered_both allows stop a d e h k = elim h [
@@ -118,15 +118,16 @@ filtered_both allows (yields x c b) a d e h k = elim h [
     i.0,
     i.1,
     i.2,
-    continued i.3 e,
-    ap (λ z. continued z e) i.4,
-    i.5,
-    filtered_both allows b a i.3 e i.6 k,
+    i.3,
+    continued i.4 e,
+    ap (λ z. continued z e) i.5,
+    i.6,
+    filtered_both allows b a i.4 e i.7 k,
   )
 ]
 
 -- of a walk that may take only the error that allocation failed, a rule leaves only that
-pub lacks_filtered : (allows : Given → Mark → Type 0) (c d : Course) → IsStartOf c (yields no_memory stop stop)
+pub lacks_filtered : (allows : Given → Mark → Bool → Type 0) (c d : Course) → IsStartOf c (yields no_memory stop stop)
     → IsFiltered allows c d → IsStartOf d (yields no_memory stop stop)
 lacks_filtered allows unknown d b h = subst (λ z. IsStartOf z (yields no_memory stop stop)) (sym h) tt
 lacks_filtered allows stop d b h = absurd (let i : yields no_memory stop stop ≡ stop = b in (cc))
@@ -139,9 +140,9 @@ lacks_filtered allows (yields x c a) d b h =
     elim h [
       | inl e ↦ subst (λ z. IsStartOf z (yields no_memory stop stop)) (sym e) tt
       | inr k ↦
-          let below = nothing_below (is_cut x k.0) k.2 k.5 (subst (IsStartOf c) under b.3) in
-          let after = filtered_nothing allows a k.3 (subst (IsStartOf a) rest b.4) k.6 in
-          let is : d ≡ yields no_memory k.2 k.3 = k.4 ∙ ap (λ z. yields (with_mark z k.0) k.2 k.3) same in
+          let below = nothing_below k.1 k.3 k.6 (subst (IsStartOf c) under b.3) in
+          let after = filtered_nothing allows a k.4 (subst (IsStartOf a) rest b.4) k.7 in
+          let is : d ≡ yields no_memory k.3 k.4 = k.5 ∙ ap (λ z. yields (with_mark z k.0) k.3 k.4) same in
           subst (λ z. IsStartOf z (yields no_memory stop stop)) (sym is) (stop, stop, refl, below, after)
     ] where
       nothing_below : (cut : Bool) (e : Course) → ComesBelow cut (IsFiltered allows c e) e → IsNothing c → IsNothing e
@@ -149,8 +150,8 @@ lacks_filtered allows (yields x c a) d b h =
       nothing_below false e h n = filtered_nothing allows c e n h
 
 -- what a filtered walk may take is filtered of what the walk may take
-pub take_filtered_by : {D : Type 0} (inner : WalkView D) (said allows : Given → Mark → Type 0)
-    → ((x : Given) (m : Mark) → said x m → allows x m) → (e : Course) (a : Ahead)
+pub take_filtered_by : {D : Type 0} (inner : WalkView D) (said allows : Given → Mark → Bool → Type 0)
+    → ((x : Given) (m : Mark) (cut : Bool) → said x m cut → allows x m cut) → (e : Course) (a : Ahead)
     → AheadFiltered inner.may_come said a → all_ahead a ≡ e
     → (c : Course) × MayTake inner c × IsFiltered allows c e
 take_filtered_by inner said allows wider e a f same = (
@@ -165,7 +166,7 @@ pub take_ruled : {D : Type 0} (inner outer : WalkView D) (rule : Candidate → M
     → (c : Course) × MayTake inner c × IsFiltered (IsMarkBy (of_candidate rule)) c e
 take_ruled inner outer rule seen e t =
     let allows = IsMarkBy (of_candidate rule) in
-    take_filtered_by inner allows allows (λ x m s. s) e t.0 (seen.may_come t.0 t.1) t.2
+    take_filtered_by inner allows allows (λ x m c s. s) e t.0 (seen.may_come t.0 t.1) t.2
 
 pub lacks_ruled : {D : Type 0} (inner outer : WalkView D) (rule : Candidate → Mark)
     → IsSeenAs (ruled_view inner rule false) outer

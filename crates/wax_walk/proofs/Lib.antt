@@ -9,6 +9,7 @@ pub mod Saying
 pub mod Knowing
 pub mod Wanted
 pub mod RuleSteps
+pub mod PrunedSteps
 pub mod ClosureSteps
 pub mod Leaving
 pub mod Seen

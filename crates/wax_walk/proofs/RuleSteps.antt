@@ -44,7 +44,6 @@ module _ {D C : Type 0} (law : Law D C) (rule : Candidate → Mark) where
     to_begin = ap (λ c. cond c 0 v.to_begin) e;
     listings_open = ap (λ c. cond c 0 v.listings_open) e;
     to_open = ap (λ c. cond c 0 v.to_open) e;
-    opens_above = refl;
     yields_from = refl;
     may_fail = λ path depth i. elim i [ inl f ↦ inl f | inr f ↦ inr (e, f) ];
     ended = λ h. elim h [ inl t ↦ absurd (differ b e t) | inr i ↦ i ];
@@ -58,7 +57,6 @@ module _ {D C : Type 0} (law : Law D C) (rule : Candidate → Mark) where
     names_left = refl;
     to_begin = ap (λ c. cond c 0 w.to_begin) e;
     listings_open = ap (λ c. cond c 0 w.listings_open) e;
-    opens_above = refl;
     yields_from = refl;
     may_fail = λ path depth i. i;
     ended = inr;
@@ -73,7 +71,6 @@ module _ {D C : Type 0} (law : Law D C) (rule : Candidate → Mark) where
         names_left = k.names_left;
         to_begin = ap (λ c. cond c 0 u.to_begin) e ∙ k.to_begin;
         listings_open = ap (λ c. cond c 0 u.listings_open) e ∙ k.listings_open;
-        opens_above = k.opens_above;
         yields_from = k.yields_from;
         may_fail = k.may_fail;
         ended = λ h. inr (k.ends h);
@@ -90,7 +87,7 @@ module _ {D C : Type 0} (law : Law D C) (rule : Candidate → Mark) where
 
   pub ruled_ends : (v w : WalkView D) (b : Bool) → b ≡ false → FeedStep law v None w
       → FeedStep law (ruled_view v rule b) None (ruled_view w rule b)
-  ruled_ends v w b e f = step_ends law v w _ _ (asked v b e) (answered w b e) f
+  ruled_ends v w b e f = step_ends law v w _ _ (asked v b e) (answered w b e) f f.above
       (ap (λ c. cond c 0 w.to_open) e ∙ f.to_open) (λ path depth i. i.1) (λ q h.
       let p = h.1 in
       subst (λ z. GivesOrStops (ruled_view v rule b) z None (ruled_view w rule b)) (sym p.2)
@@ -105,9 +102,10 @@ module _ {D C : Type 0} (law : Law D C) (rule : Candidate → Mark) where
       → FeedStep law v (Some x) w → m ≡ mark_by (of_candidate rule) x → y ≡ with_mark x m → false ≡ is_cut x m
       → FeedStep law (ruled_view v rule b) (Some y) (ruled_view w rule b)
   ruled_passes v w b e x y m f s k n = step_marked law v w _ _ (asked v b e) (answered w b e) x y m k f
-      (ap (λ c. cond c 0 w.to_open) e ∙ (f.to_open ∙ (sym (opened_uncut v.opens_above x m n) ∙ sym
-      (ap (λ z. opens_one v.opens_above (Some z)) k))))
-      (λ path depth i. folder_uncut v.opens_above path depth x m n (f.places.below path depth i.1)) (λ q h.
+      f.above
+      (ap (λ c. cond c 0 w.to_open) e ∙ (f.to_open ∙ (sym (opened_uncut v.may_open x m n) ∙ sym
+      (ap (λ z. opens_one v.may_open (Some z)) k))))
+      (λ path depth i. folder_uncut v.may_open path depth x m n (f.places.below path depth i.1)) (λ q h.
       let p = h.1 in
       subst (λ z. GivesOrStops (ruled_view v rule b) z (Some y) (ruled_view w rule b)) (sym p.2)
       (layer_passes (of_candidate rule) v w (ruled_view v rule b) (ruled_view w rule b) p.0 x y m s k refl refl n
@@ -115,14 +113,14 @@ module _ {D C : Type 0} (law : Law D C) (rule : Candidate → Mark) where
       (begins_filtered v w (ruled_view v rule b) (ruled_view w rule b) _ (IsMarkBy (of_candidate rule))
       (outside v b e) f.calls f.begins)
       (passes_filtered v w (ruled_view v rule b) (ruled_view w rule b) _ (IsMarkBy (of_candidate rule))
-      (outside v b e) f.calls x y m k s (λ z n i. i) n (inside w b e) inr inr f.follows)
+      (outside v b e) f.calls x y m (is_cut x m) k (s, refl) (λ z n c i. i) n (inside w b e) inr inr f.follows)
 
   pub ruled_cuts : (v w u : WalkView D) (b : Bool) → b ≡ false → (x y : Given) (m : Mark)
       → FeedStep law v (Some x) w → m ≡ mark_by (of_candidate rule) x → y ≡ with_mark x m → true ≡ is_cut x m
       → CancelStep w u → FeedStep law (ruled_view v rule b) (Some y) (ruled_view u rule b)
   ruled_cuts v w u b e x y m f s k n c = step_marked law v w _ _ (asked v b e) (answered_cut w u b e c) x y m k
-      f (ap (λ c. cond c 0 u.to_open) e ∙ (c.to_open ∙ (sym (opened_cut v.opens_above x m n) ∙ sym
-      (ap (λ z. opens_one v.opens_above (Some z)) k))))
+      f (c.may_open ∙ f.above) (ap (λ c. cond c 0 u.to_open) e ∙ (c.to_open ∙ (sym (opened_cut v.may_open x m n) ∙ sym
+      (ap (λ z. opens_one v.may_open (Some z)) k))))
       (λ path depth i. absurd (c.none_below path depth i.1)) (λ q h.
       let p = h.1 in
       subst (λ z. GivesOrStops (ruled_view v rule b) z (Some y) (ruled_view u rule b)) (sym p.2)
@@ -131,7 +129,7 @@ module _ {D C : Type 0} (law : Law D C) (rule : Candidate → Mark) where
       (begins_filtered v w (ruled_view v rule b) (ruled_view u rule b) _ (IsMarkBy (of_candidate rule))
       (outside v b e) f.calls f.begins)
       (cuts_filtered v w (ruled_view v rule b) (ruled_view u rule b) _ (IsMarkBy (of_candidate rule))
-      (outside v b e) f.calls x y m k s (λ z n i. i) n u c (inside u b e) (λ i. inr (c.ends i))
+      (outside v b e) f.calls x y m (is_cut x m) k (s, refl) (λ z n c i. i) n u c (inside u b e) (λ i. inr (c.ends i))
       (λ i. inr (c.idles i)) f.follows)
 
   -- allocation failed for the rule, which is asked about entries alone

@@ -1,5 +1,5 @@
 -- What a walk yielded, to its end.
-use Rattle.std.specs.Prelude.{◌≡◌, ℕ, ◌+◌, ◌<◌, ◌≤◌, ◌⊎◌, cond, length, List, [], ◌∷◌, ◌++◌, Some, ⊤}
+use Rattle.std.specs.Prelude.{◌≡◌, Bool, ℕ, ◌+◌, ◌<◌, ◌≤◌, ◌⊎◌, cond, length, List, [], ◌∷◌, ◌++◌, Some, ⊤}
 use Rattle.std.specs.List.{Contains}
 use Rattle.wax_directory.specs.Counting.{no_counts, grown, plus}
 use Rattle.wax_directory.specs.History.{Answer}
@@ -8,7 +8,7 @@ use Rattle.wax_directory.specs.declared.tally.Tally.{Tally}
 use Rattle.wax_walk.specs.declared.error.FaultKind.TheVariants.{NotAFolder, Budget}
 use Rattle.wax_walk.specs.Course.{Course, CutsShort, IsKnownFirst, IsKnownWhole, answers, calls_of, items_of}
 use Rattle.wax_walk.specs.Forest.{Pending, all_pending, preorder, listings}
-use Rattle.wax_walk.specs.Given.{Given, fault, no_memory}
+use Rattle.wax_walk.specs.Given.{Facts, Given, fault, no_memory}
 use Rattle.wax_walk.specs.View.{WalkView, CountsFaults, IsLast, IsErrorAt, IsFolderAt, MayFail, fault_counts}
 use Rattle.wax_walk.specs.View.{is_to_open, items_lost, IsMemoryError, MayTake}
 
@@ -54,22 +54,21 @@ abbrev pub NoneLast : List Given → Type 0
 NoneLast [] = ⊤
 NoneLast (x ∷ xs) = ¬ (IsLast (Some x)) × NoneLast xs
 
--- how many folders above this depth are among the items, without those that are excluded with everything
--- below
-abbrev pub count_to_open : ℕ → List Given → ℕ
-count_to_open most [] = 0
-count_to_open most (x ∷ xs) = cond (is_to_open most x) 1 0 + count_to_open most xs
+-- how many folders that are opened are among the items, without those that are excluded with everything below
+abbrev pub count_to_open : (Facts → Bool) → List Given → ℕ
+count_to_open opens [] = 0
+count_to_open opens (x ∷ xs) = cond (is_to_open opens x) 1 0 + count_to_open opens xs
 
--- a folder of this path and depth is among the items, above the depth `most` and not excluded with everything
+-- a folder of this path and depth is among the items, which is opened and not excluded with everything
 -- below it
-abbrev pub HasFolder : ℕ → List ℕ → ℕ → List Given → Type 0
-HasFolder most path depth xs = (x : Given) × Contains xs x × IsFolderAt most path depth (Some x)
+abbrev pub HasFolder : (Facts → Bool) → List ℕ → ℕ → List Given → Type 0
+HasFolder opens path depth xs = (x : Given) × Contains xs x × IsFolderAt opens path depth (Some x)
 
 -- each error is of a folder that was yielded before it, or of one of the paths `first`
-abbrev pub AreOfFolders : (List ℕ → ℕ → Type 0) → ℕ → List Given → Type 0
-AreOfFolders first most xs = (before after : List Given) (x : Given) (path : List ℕ) (depth : ℕ)
+abbrev pub AreOfFolders : (List ℕ → ℕ → Type 0) → (Facts → Bool) → List Given → Type 0
+AreOfFolders first opens xs = (before after : List Given) (x : Given) (path : List ℕ) (depth : ℕ)
     → xs ≡ before ++ x ∷ after → IsErrorAt path depth (Some x)
-    → first path depth ⊎ HasFolder most path depth before
+    → first path depth ⊎ HasFolder opens path depth before
 
 -- the answers and the items are those of a course that was ahead of the walk; or those of its beginning, and
 -- then one error came
@@ -94,7 +93,7 @@ pub record Took {D C : Type 0} (law : Law D C) (walk : WalkView D) (new : D) (xs
   pub misplaced : (path : List ℕ) (depth : ℕ) → Contains xs (fault NotAFolder path depth)
       → 0 < walk.names_left
   pub ends_there : EndsThere xs
-  pub of_folders : AreOfFolders (MayFail walk) walk.opens_above xs
+  pub of_folders : AreOfFolders (MayFail walk) walk.may_open xs
   pub unasked : walk.is_idle → new ≡ walk.directory
   -- unless allocation failed, each item that was taken from a listing was yielded, or passed if there is a
   -- least depth; nothing else was but the entry where the walk begins, and errors of folders that couldn't be
@@ -113,5 +112,5 @@ pub record Took {D C : Type 0} (law : Law D C) (walk : WalkView D) (new : D) (xs
   pub ended_is : (law.tally new).ended ≡ grown ended (law.tally walk.directory).ended
   pub folders : ℕ
   pub folders_passed : folders ≤ passed
-  pub opens : NoMemoryError xs → opened ≡ walk.to_open + (folders + count_to_open walk.opens_above xs)
+  pub opens : NoMemoryError xs → opened ≡ walk.to_open + (folders + count_to_open walk.may_open xs)
   pub closes : NoneLast xs → walk.listings_open + opened ≡ ended

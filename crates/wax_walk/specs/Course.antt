@@ -3,7 +3,7 @@ use Rattle.std.specs.Prelude.{◌≡◌, ◌⊎◌, ℕ, Bool, true, false, cond
 use Rattle.wax_directory.specs.History.{Answer, listed}
 use Rattle.wax_directory.specs.Shown.{Listed}
 use Rattle.wax_walk.specs.declared.error.FaultKind.TheVariants.{Budget}
-use Rattle.wax_walk.specs.Given.{Given, Mark, fault, no_memory, with_mark, is_cut}
+use Rattle.wax_walk.specs.Given.{Given, Mark, fault, no_memory, with_mark}
 
 -- a call about the file or folder at this path, and its answer; a call that takes an item is about the folder
 pub record DirectoryCall : Type 0 where
@@ -91,15 +91,15 @@ abbrev pub ComesBelow : Bool → Type 0 → Course → Type 0
 ComesBelow true filtered below = IsNothing below
 ComesBelow false filtered below = filtered
 
--- d is the course c, as far as d is known, with each item marked as allowed, and without what comes below the
--- items that are cut
-abbrev pub IsFiltered : (Given → Mark → Type 0) → Course → Course → Type 0
+-- d is the course c, as far as d is known, with each item marked and cut as allowed, and without what comes
+-- below the items that are cut
+abbrev pub IsFiltered : (Given → Mark → Bool → Type 0) → Course → Course → Type 0
 IsFiltered allows unknown d = d ≡ unknown
 IsFiltered allows stop d = (d ≡ unknown) ⊎ (d ≡ stop)
 IsFiltered allows (asks q c) d = (d ≡ unknown) ⊎ ((e : Course) × (d ≡ asks q e) × IsFiltered allows c e)
-IsFiltered allows (yields x below after) d = (d ≡ unknown) ⊎ ((m : Mark) × allows x m × (b : Course)
-    × (a : Course) × (d ≡ yields (with_mark x m) b a) × ComesBelow (is_cut x m) (IsFiltered allows below b) b
-    × IsFiltered allows after a)
+IsFiltered allows (yields x below after) d = (d ≡ unknown) ⊎ ((m : Mark) × (cut : Bool) × allows x m cut
+    × (b : Course) × (a : Course) × (d ≡ yields (with_mark x m) b a)
+    × ComesBelow cut (IsFiltered allows below b) b × IsFiltered allows after a)
 
 -- a known course with each item changed, and without what comes below the items that are cut
 abbrev pub filtered_course : (Given → Given) → (Given → Bool) → Course → Course
@@ -110,7 +110,7 @@ filtered_course change cut (yields x below after) = yields (change x)
     (cond (cut x) stop (filtered_course change cut below)) (filtered_course change cut after)
 
 -- what is ahead after a filter, if `inner` holds of what is ahead before it
-abbrev pub AheadFiltered : (Ahead → Type 0) → (Given → Mark → Type 0) → Ahead → Type 0
+abbrev pub AheadFiltered : (Ahead → Type 0) → (Given → Mark → Bool → Type 0) → Ahead → Type 0
 AheadFiltered inner allows q = (p : Ahead) × inner p × IsFiltered allows p.below q.below
     × IsFiltered allows p.after q.after
 

@@ -1,5 +1,6 @@
 -- Proofs of laws that impls cite.
-use Rattle.std.specs.Prelude.{◌≡◌, List, ℕ, Bool, true, false, cond, Option, Some, None, Result, Ok, Err}
+use Rattle.std.specs.Prelude.{◌≡◌, ◌&&◌, List, ℕ, Bool, true, false, cond, Option, Some, None, Result, Ok}
+use Rattle.std.specs.Prelude.{Err}
 use Rattle.std.specs.Prelude.{◌⊎◌, ⊤}
 use Rattle.std.proofs.Common.{ap, refl, subst, sym, ◌∙◌, inl, inr}
 use denote.Ref.{Bor}
@@ -14,6 +15,7 @@ use Rattle.wax_walk.specs.Course.{unknown, yields}
 use Rattle.wax_walk.specs.Forest.{Pending, cancelled}
 use Rattle.wax_walk.specs.Given.{Given, Facts, Mark, ToComeFiltered}
 use Rattle.wax_walk.specs.Known.{KnownOutcome, KnownAnswer, KeepsKnown}
+use Rattle.wax_walk.specs.Pruned.{IsPrunedBy, keep_mark, opens_by, pruned_pending, pruned_view, selected_view}
 use Rattle.wax_walk.specs.Ruled.{AheadRuled, IsMarkBy, ruled_view}
 use Rattle.wax_walk.specs.Says.{IsMarkSaid, SaysByRule, ToComeByClosure, closure_view}
 use Rattle.wax_walk.specs.View.{WalkView, CancelStep}
@@ -35,15 +37,15 @@ pub ruled_telling : {D : Type 0} (v : WalkView D) (rule : Candidate → Mark) (t
 ruled_telling v rule tells a q h = filtered_telling (of_candidate rule) v.to_come tells q a h
 
 -- where nothing comes, a filter leaves nothing
-pub filtered_nothing : (allows : Given → Mark → Type 0) (c d : Course) → IsNothing c → IsFiltered allows c d
-    → IsNothing d
+pub filtered_nothing : (allows : Given → Mark → Bool → Type 0) (c d : Course) → IsNothing c
+    → IsFiltered allows c d → IsNothing d
 filtered_nothing allows unknown d n h = subst IsNothing (sym h) tt
 filtered_nothing allows stop d n h =
     elim h [ inl e ↦ subst IsNothing (sym e) tt | inr e ↦ subst IsNothing (sym e) refl ]
 filtered_nothing allows (asks q c) d n h = absurd (let e : stop ≡ asks q n.0 = n.1 in (cc))
 filtered_nothing allows (yields x b a) d n h = absurd (let e : stop ≡ yields x n.0 n.1 = n.2 in (cc))
 
-filtered_dropping : (allows : Given → Mark → Type 0) (old new : Ahead → Type 0)
+filtered_dropping : (allows : Given → Mark → Bool → Type 0) (old new : Ahead → Type 0)
     → ((p : Ahead) → new p → IsNothing p.below × old (ahead unknown p.after)) → (a : Ahead)
     → AheadFiltered new allows a → IsNothing a.below × AheadFiltered old allows (ahead unknown a.after)
 filtered_dropping allows old new f a h =
@@ -84,13 +86,56 @@ ruled_cancelling v w rules p q b c h e f = record {
   to_begin = ap (λ n. cond c 0 n) h.to_begin ∙ ap (λ i. cond i 0 v.to_begin) f;
   listings_open = ap (λ n. cond c 0 n) h.listings_open ∙ ap (λ i. cond i 0 v.listings_open) f;
   to_open = ap (λ i. cond i 0 w.to_open) f ∙ none_still b w.to_open h.to_open;
-  opens_above = h.opens_above;
+  may_open = h.may_open;
   yields_from = h.yields_from;
   may_fail = h.may_fail;
   none_below = λ path depth i. h.none_below path depth i.1;
   ends = λ i. ended_either b c v.has_ended w.has_ended f h.ends i;
   idles = λ i. ended_either b c v.is_idle w.is_idle f h.idles i;
 }
+
+-- ---- a walk that opens only some folders
+
+pruned_telling : (opens : Facts → Bool) (inner : Pending Given → Type 0) (tells : List (List ℕ) → Type 0)
+    → ((p : Pending Given) → inner p → tells p.listed) → (q : Pending Given)
+    → (p : Pending Given) × inner p × (q ≡ pruned_pending opens p) → tells q.listed
+pruned_telling opens inner tells a q h =
+    subst tells (sym (ap (λ (v : Pending Given). v.listed) h.2)) (a h.0 h.1)
+
+pub selected_telling : {D : Type 0} (v : WalkView D) (keeps goes_on : Candidate → Bool) (b : Bool)
+    (tells : List (List ℕ) → Type 0) → ((p : Pending Given) → v.to_come p → tells p.listed)
+    → (q : Pending Given) → (selected_view v keeps goes_on b).to_come q → tells q.listed
+selected_telling v keeps goes_on b tells a q h = pruned_telling (opens_by goes_on)
+    (ruled_view v (keep_mark keeps) b).to_come tells
+    (λ p i. ruled_telling v (keep_mark keeps) tells a p i.1) q h
+
+pub pruned_cancelling : {D : Type 0} (v w : WalkView D) (opens : Facts → Bool) → CancelStep v w
+    → CancelStep (pruned_view v opens) (pruned_view w opens)
+pruned_cancelling v w opens h = record {
+  leaves_out = λ o i. (cancelled i.0, h.leaves_out i.0 i.1, ap cancelled i.2);
+  drops = filtered_dropping (IsPrunedBy opens) v.may_come w.may_come h.drops;
+  directory = h.directory;
+  listings_left = h.listings_left;
+  names_left = h.names_left;
+  to_begin = h.to_begin;
+  listings_open = h.listings_open;
+  to_open = h.to_open;
+  may_open = ap (λ (o : Facts → Bool). λ (f : Facts). o f && opens f) h.may_open;
+  yields_from = h.yields_from;
+  may_fail = h.may_fail;
+  none_below = h.none_below;
+  ends = h.ends;
+  idles = h.idles;
+}
+
+pub selected_cancelling : {D S : Type 0} (v w : WalkView D) (keeps goes_on : S → Candidate → Bool) (s t : S)
+    (b c : Bool) → CancelStep v w → t ≡ s → c ≡ b
+    → CancelStep (selected_view v (keeps s) (goes_on s) b) (selected_view w (keeps t) (goes_on t) c)
+selected_cancelling v w keeps goes_on s t b c h e i =
+    subst (λ r. CancelStep (selected_view v (keeps s) (goes_on s) b)
+    (selected_view w (keeps t) (goes_on r) c))
+    (sym e) (pruned_cancelling (ruled_view v (keep_mark (keeps s)) b) (ruled_view w (keep_mark (keeps t)) c)
+    (opens_by (goes_on s)) (ruled_cancelling v w (λ r. keep_mark (keeps r)) s t b c h e i))
 
 module _ {F : Type 0} (step : F → Bor TreeEntry → Option EntryResidue → F → Type 0) where
   pub closure_telling : {D : Type 0} (v : WalkView D) (f : F) (tells : List (List ℕ) → Type 0)
@@ -115,7 +160,7 @@ module _ {F : Type 0} (step : F → Bor TreeEntry → Option EntryResidue → F 
     to_begin = h.to_begin;
     listings_open = h.listings_open;
     to_open = h.to_open;
-    opens_above = h.opens_above;
+    may_open = h.may_open;
     yields_from = h.yields_from;
     may_fail = h.may_fail;
     none_below = h.none_below;

@@ -8,6 +8,7 @@ pub mod Said
 pub mod View
 pub mod Says
 pub mod Ruled
+pub mod Pruned
 pub mod Collected
 pub mod Known
 pub mod Laws

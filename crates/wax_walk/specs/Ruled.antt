@@ -2,12 +2,12 @@
 use Rattle.std.specs.Prelude.{◌≡◌, ◌⊎◌, Bool, true, false, cond}
 use Rattle.wax_walk.specs.Candidates.{Candidate, of_candidate}
 use Rattle.wax_walk.specs.Course.{Ahead, AheadFiltered, IsNothing}
-use Rattle.wax_walk.specs.Given.{Facts, Given, Mark, ToComeFiltered, mark_by}
+use Rattle.wax_walk.specs.Given.{Facts, Given, Mark, ToComeFiltered, is_cut, mark_by}
 use Rattle.wax_walk.specs.View.{WalkView}
 
--- the mark is what the rule decides
-abbrev pub IsMarkBy : (Facts → Mark) → Given → Mark → Type 0
-IsMarkBy rule x m = m ≡ mark_by rule x
+-- the mark is what the rule decides, and the item is cut by it
+abbrev pub IsMarkBy : (Facts → Mark) → Given → Mark → Bool → Type 0
+IsMarkBy rule x m cut = (m ≡ mark_by rule x) × (cut ≡ is_cut x m)
 
 -- what may be ahead after a filter: nothing, if an allocation for the rule failed
 abbrev pub AheadRuled : (Ahead → Type 0) → (Candidate → Mark) → Bool → Ahead → Type 0

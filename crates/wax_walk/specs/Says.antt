@@ -1,11 +1,11 @@
 -- A closure whose result depends only on the entry.
-use Rattle.std.specs.Prelude.{◌≡◌, List, [], ◌∷◌, Option, ⊤}
+use Rattle.std.specs.Prelude.{◌≡◌, Bool, List, [], ◌∷◌, Option, ⊤}
 use denote.Ref.{Bor}
 use Rattle.wax_walk.specs.declared.entry.TreeEntry.{TreeEntry}
 use Rattle.wax_walk.specs.declared.iterator.EntryResidue.{EntryResidue}
 use Rattle.wax_walk.specs.Course.{AheadFiltered}
 use Rattle.wax_walk.specs.Forest.{Pending}
-use Rattle.wax_walk.specs.Given.{Facts, Mark, Given, ToComeFiltered, mark_by}
+use Rattle.wax_walk.specs.Given.{Facts, Mark, Given, ToComeFiltered, is_cut, mark_by}
 use Rattle.wax_walk.specs.Said.{mark_of}
 use Rattle.wax_walk.specs.View.{WalkView}
 use Rattle.wax_walk.specs.Entries.{facts_of}
@@ -32,9 +32,10 @@ module _ {F : Type 0} (step : F → Bor TreeEntry → Option EntryResidue → F 
   abbrev pub ToComeByClosure : (Pending Given → Type 0) → F → Pending Given → Type 0
   ToComeByClosure inner f q = (rule : Facts → Mark) × SaysByRule rule f × ToComeFiltered inner rule q
 
-  -- the mark is what each rule decides that the closure follows
-  abbrev pub IsMarkSaid : F → Given → Mark → Type 0
-  IsMarkSaid f x m = (rule : Facts → Mark) → SaysByRule rule f → m ≡ mark_by rule x
+  -- the mark is what each rule decides that the closure follows, and the item is cut by it
+  abbrev pub IsMarkSaid : F → Given → Mark → Bool → Type 0
+  IsMarkSaid f x m cut = ((rule : Facts → Mark) → SaysByRule rule f → m ≡ mark_by rule x)
+      × (cut ≡ is_cut x m)
 
   -- the view of the filtered walk
   abbrev pub closure_view : {D : Type 0} → WalkView D → F → WalkView D

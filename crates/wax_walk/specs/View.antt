@@ -12,15 +12,15 @@ use Rattle.wax_walk.specs.Course.{Ahead, IsStartOf, DirectoryCall, Course, CutsS
 use Rattle.wax_walk.specs.Course.{all_ahead}
 use Rattle.wax_walk.specs.Course.{answers, asking, stop, unknown, yields}
 use Rattle.wax_walk.specs.Forest.{Pending, all_pending, cancelled, FirstIs, IsListed}
-use Rattle.wax_walk.specs.Given.{Given, entry, fault, no_memory, kept, alone, with_tree}
+use Rattle.wax_walk.specs.Given.{Facts, Given, entry, fault, no_memory, kept, alone, with_tree}
 
 -- what is to come; what may be ahead, by what the directory will answer; the directory; at most how many more
 -- items may be taken from listings; how many names are left to follow to where the walk begins; 1 if the
 -- entry there is still to come, else 0; how many listings are open; 1 if the last yielded entry is a folder
--- that is still to be opened, else 0; the depth above which folders are opened; the depth from which entries
--- are yielded; the paths, each with its depth, of which errors may come, and those of which errors may come
--- unless what is below the last yielded item is cancelled; that the walk has ended; and that it leaves the
--- directory as it is
+-- that is still to be opened, else 0; which folders are opened; the depth from which entries are yielded; the
+-- paths, each with its depth, of which errors may come, and those of which errors may come unless what is
+-- below the last yielded item is cancelled; that the walk has ended; and that it leaves the directory as it
+-- is
 pub record WalkView (D : Type 0) : Type 1 where
   pub to_come : Pending Given → Type 0
   pub may_come : Ahead → Type 0
@@ -30,7 +30,7 @@ pub record WalkView (D : Type 0) : Type 1 where
   pub to_begin : ℕ
   pub listings_open : ℕ
   pub to_open : ℕ
-  pub opens_above : ℕ
+  pub may_open : Facts → Bool
   pub yields_from : ℕ
   pub may_fail : List ℕ → ℕ → Type 0
   pub may_fail_below : List ℕ → ℕ → Type 0
@@ -66,28 +66,31 @@ is_folder_kind F.Folder = true
 is_folder_kind F.File = false
 is_folder_kind F.Link = false
 
--- the item is a folder above this depth that isn't excluded with everything below it
-abbrev pub is_to_open : ℕ → Given → Bool
-is_to_open most (entry kept f) = is_folder_kind f.kind && nat_lt f.depth most
-is_to_open most (entry alone f) = is_folder_kind f.kind && nat_lt f.depth most
-is_to_open most (entry with_tree f) = false
-is_to_open most x = false
+-- the entry is above this depth
+abbrev pub is_above : ℕ → Facts → Bool
+is_above most f = nat_lt f.depth most
 
-abbrev pub IsToOpen : ℕ → Option Given → Type 0
-IsToOpen most (Some x) = is_to_open most x ≡ true
-IsToOpen most None = ⊥
+-- the item is a folder that is opened and isn't excluded with everything below it
+abbrev pub is_to_open : (Facts → Bool) → Given → Bool
+is_to_open opens (entry kept f) = is_folder_kind f.kind && opens f
+is_to_open opens (entry alone f) = is_folder_kind f.kind && opens f
+is_to_open opens (entry with_tree f) = false
+is_to_open opens x = false
+
+abbrev pub IsToOpen : (Facts → Bool) → Option Given → Type 0
+IsToOpen opens (Some x) = is_to_open opens x ≡ true
+IsToOpen opens None = ⊥
 
 -- the item is an error of this path and depth
 abbrev pub IsErrorAt : List ℕ → ℕ → Option Given → Type 0
 IsErrorAt path depth (Some (fault kind p d)) = (p ≡ path) × (d ≡ depth)
 IsErrorAt path depth r = ⊥
 
--- the item is a folder of this path and depth, above the depth `most` and not excluded with everything below
--- it
-abbrev pub IsFolderAt : ℕ → List ℕ → ℕ → Option Given → Type 0
-IsFolderAt most path depth (Some (entry m f)) = IsToOpen most (Some (entry m f)) × (f.path ≡ path)
+-- the item is a folder of this path and depth, which is opened and not excluded with everything below it
+abbrev pub IsFolderAt : (Facts → Bool) → List ℕ → ℕ → Option Given → Type 0
+IsFolderAt opens path depth (Some (entry m f)) = IsToOpen opens (Some (entry m f)) × (f.path ≡ path)
     × (f.depth ≡ depth)
-IsFolderAt most path depth r = ⊥
+IsFolderAt opens path depth r = ⊥
 
 -- of the allowed items, n were taken and `left` remain: all the others while the walk goes on, and no more
 -- than those after an error that ends it; if the budget is reached, all were taken and none remain
@@ -110,10 +113,10 @@ items_lost (Some no_memory) = 1
 items_lost (Some (fault Budget path depth)) = 1
 items_lost r = 0
 
--- 1 if the item is a folder above this depth that isn't excluded with everything below it, else 0
-abbrev pub opens_one : ℕ → Option Given → ℕ
-opens_one most None = 0
-opens_one most (Some x) = cond (is_to_open most x) 1 0
+-- 1 if the item is a folder that is opened and isn't excluded with everything below it, else 0
+abbrev pub opens_one : (Facts → Bool) → Option Given → ℕ
+opens_one opens None = 0
+opens_one opens (Some x) = cond (is_to_open opens x) 1 0
 
 -- how many items there are
 abbrev pub how_many : Option Given → ℕ
@@ -144,7 +147,7 @@ module _ {D : Type 0} where
     pub item : (path : List ℕ) (depth : ℕ) → IsErrorAt path depth r → MayFail old path depth
     pub later : (path : List ℕ) (depth : ℕ) → new.may_fail path depth → MayFail old path depth
     pub below : (path : List ℕ) (depth : ℕ) → new.may_fail_below path depth
-        → IsFolderAt old.opens_above path depth r
+        → IsFolderAt old.may_open path depth r
 
   -- a call yields the first item of what was to come; or allocation failed; or the budget was reached in a
   -- listed folder, which happens only if no fewer items were to be taken than were allowed
@@ -198,7 +201,7 @@ module _ {D : Type 0} where
     pub ended : ℕ
     pub ended_is : (law.tally new.directory).ended ≡ grown ended (law.tally old.directory).ended
     pub opens : ¬ (IsMemoryError r)
-        → opened + new.to_open ≡ old.to_open + (folders + opens_one old.opens_above r)
+        → opened + new.to_open ≡ old.to_open + (folders + opens_one old.may_open r)
     pub closes : ¬ (IsLast r) → old.listings_open + opened ≡ ended + new.listings_open
     pub ends : IsLast r → new.has_ended
 
@@ -215,8 +218,8 @@ module _ {D : Type 0} where
     pub closed : r ≡ None → new.listings_open ≡ 0
     pub begun : r ≡ None → new.to_begin ≡ 0
     pub from : new.yields_from ≡ old.yields_from
-    pub to_open : new.to_open ≡ opens_one old.opens_above r
-    pub above : new.opens_above ≡ old.opens_above
+    pub to_open : new.to_open ≡ opens_one old.may_open r
+    pub above : new.may_open ≡ old.may_open
     pub stays : old.has_ended → (r ≡ None) × new.has_ended
     pub idles : old.is_idle → new.is_idle × (new.directory ≡ old.directory)
     pub names : new.names_left ≤ old.names_left
@@ -233,7 +236,7 @@ module _ {D : Type 0} where
     pub to_begin : new.to_begin ≡ old.to_begin
     pub listings_open : new.listings_open ≡ old.listings_open
     pub to_open : new.to_open ≡ 0
-    pub opens_above : new.opens_above ≡ old.opens_above
+    pub may_open : new.may_open ≡ old.may_open
     pub yields_from : new.yields_from ≡ old.yields_from
     pub may_fail : (path : List ℕ) (depth : ℕ) → new.may_fail path depth → old.may_fail path depth
     pub none_below : (path : List ℕ) (depth : ℕ) → ¬ (new.may_fail_below path depth)
@@ -251,7 +254,7 @@ module _ {D : Type 0} where
     pub to_begin : that.to_begin ≡ this.to_begin
     pub listings_open : that.listings_open ≡ this.listings_open
     pub to_open : that.to_open ≡ this.to_open
-    pub opens_above : that.opens_above ≡ this.opens_above
+    pub may_open : that.may_open ≡ this.may_open
     pub yields_from : that.yields_from ≡ this.yields_from
     pub may_fail : (path : List ℕ) (depth : ℕ) → that.may_fail path depth → this.may_fail path depth
     pub may_fail_below : (path : List ℕ) (depth : ℕ) → that.may_fail_below path depth

@@ -4,6 +4,7 @@ ghost use Rattle.std.specs.Prelude.{◌≡◌, List, ℕ, Option, Result, false}
 ghost use Rattle.wax_walk.specs.Forest.{Pending};
 ghost use Rattle.wax_walk.specs.Given.{Given};
 ghost use Rattle.wax_walk.specs.Known.{KeepsKnown, StaysKnown};
+ghost use Rattle.wax_walk.specs.Pruned.{selected_view};
 ghost use Rattle.wax_walk.specs.Ruled.{ruled_view};
 ghost use Rattle.wax_walk.specs.Says.{closure_view};
 ghost use Rattle.wax_walk.specs.View.{WalkView, FeedStep, CancelStep, IsSeenAs};
@@ -12,6 +13,7 @@ use crate::entry::{Entry, TreeEntry};
 use crate::error::WalkError;
 use crate::excluding::{Exclude, Excluding};
 use crate::filter_entry::FilterEntry;
+use crate::selecting::{Select, Selecting};
 use std::alloc::Global;
 use wax_directory::directory::Directory;
 use wax_filter::filter::{CancelWalk, Feed, SeparatingFilter, TreeResidue};
@@ -109,6 +111,20 @@ pub trait FileIterator: CancelWalk<
         ensures known { StaysKnown (Self.known self) (⟦<Excluding<Self, P> as FileIterator>⟧.known result) }
     {
         Excluding::new(alloc, self, rule)
+    }
+
+    /// Keeps only the entries that a selection keeps, and opens only the folders that it opens. An
+    /// error is kept. If the selection returns an error, the walk yields it and ends.
+    final fn selecting<S: Select>(self, alloc: Global, selection: S) -> Selecting<Self, S>
+    where
+        Self: Sized,
+        ensures view { IsSeenAs (selected_view (view self) (S.keeps selection) (S.goes_on selection) false)
+            (⟦<Selecting<Self, S> as FileIterator>⟧.view result) }
+        ensures ends { ⟦<Selecting<Self, S> as SeparatingFilter>⟧.left result ≡ Self.left self }
+        ensures feeds { Self.can_feed self → ⟦<Selecting<Self, S> as SeparatingFilter>⟧.can_feed result }
+        ensures known { StaysKnown (Self.known self) (⟦<Selecting<Self, S> as FileIterator>⟧.known result) }
+    {
+        Selecting::new(alloc, self, selection)
     }
 
     /// Excludes what a closure excludes. For each entry, `None` keeps the item as it is, `File`

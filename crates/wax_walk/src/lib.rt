@@ -9,6 +9,7 @@ mod filter_entry;
 mod gather;
 mod iterator;
 mod named_paths;
+mod selecting;
 mod walked_path;
 
 pub use candidate::Candidate;
@@ -19,4 +20,5 @@ pub use filter_entry::FilterEntry;
 pub use gather::{collect, collect_feed};
 pub use iterator::{EntryResidue, FileIterator};
 pub use named_paths::law_of_paths;
+pub use selecting::{Select, Selecting, Selection};
 pub use walked_path::ListedFolder;

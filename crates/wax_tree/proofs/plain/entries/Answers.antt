@@ -57,7 +57,7 @@ returns-clause-errors g c =
     let b = c.walk_from.ensures.begins in
     map_ok (λ r h. (
       h.0,
-      errors_passed range.min c.args.start.now [] range.max _ h.0 b.fails b.opens_above h.1.of_folders,
+      errors_passed range.min c.args.start.now [] range.max _ h.0 b.fails b.may_open h.1.of_folders,
       h.3,
     ))
     c.collect.result c.collect.ensures.took

@@ -1,11 +1,11 @@
-use Rattle.std.proofs.Common.{◌≡◌, ◌∙◌, ℕ, [], refl, sym, subst, arith}
+use Rattle.std.proofs.Common.{◌≡◌, ◌∙◌, ℕ, [], ap, refl, sym, subst, arith}
 use Rattle.std.proofs.lemmas.List.{append-nil}
 use Rattle.wax_tree.specs.declared.steps.Step.TheVariants.{Gives, Ends}
 use Rattle.wax_tree.proofs.Stepping.{leads_on, run_gives}
 use Rattle.wax_tree.proofs.Reaching.{run_places, run_reaches}
 use Rattle.wax_tree.proofs.Listing.{accounts_none, accounts_on, accounts_run, stopped_begun, stopped_closed}
 use Rattle.wax_tree.specs.Walking.{step_given, entering}
-use Rattle.wax_walk.specs.View.{opens_one}
+use Rattle.wax_walk.specs.View.{opens_one, is_above}
 use Rattle.std.proofs.Common.{◌++◌}
 use Rattle.wax_tree.proofs.CourseRuns.{course_begun, course_on, run_answered, run_begins, run_follows, run_stops}
 use Rattle.wax_tree.proofs.steps.Steps.run.Goals as goal
@@ -29,7 +29,7 @@ returns-in-Gives g c =
     let law = g.D.Directory.law in
     let i = c.loop-item.invariant in
     let st = c.in-Gives.ensures.is_step in
-    let T : ℕ → Type 0 = λ n. entering c.step.new.self ≡ opens_one n (step_given (Gives c.in-Gives.item)) in
+    let T : ℕ → Type 0 = λ n. entering c.step.new.self ≡ opens_one (is_above n) (step_given (Gives c.in-Gives.item)) in
     record {
       feeds = record {
         gives = λ p h. let q = i.leads p h in run_gives law c.args.self.now c.loop-item.self c.step.new.self p
@@ -47,7 +47,7 @@ returns-in-Gives g c =
         begun = λ e. (cc);
         from = st.from ∙ i.from;
         to_open = subst T i.above (st.to_open (λ e. (cc)));
-        above = st.above ∙ i.above;
+        above = ap is_above (st.above ∙ i.above);
         stays = λ e. let s : Gives c.in-Gives.item ≡ Ends =
             (st.stays (i.stays e)).0 in (cc, (st.stays (i.stays e)).1);
         idles = λ e. ((st.stays (i.stays e)).1, st.idles (i.stays e) ∙ i.idles e);
@@ -81,7 +81,7 @@ returns-in-Ends g c =
         begun = λ e. stopped_begun c.step.new.self (st.at_end refl);
         from = st.from ∙ i.from;
         to_open = st.to_open (λ e. (cc));
-        above = st.above ∙ i.above;
+        above = ap is_above (st.above ∙ i.above);
         stays = λ e. (refl, st.at_end refl);
         idles = λ e. (st.at_end refl, st.idles (i.stays e) ∙ i.idles e);
         names = omega (arith, st.names, i.names);

@@ -71,7 +71,7 @@ returns-in-Ok-new-clause-begins g c =
       begun = inl refl;
       none_to_open = refl;
       yields_from = refl;
-      opens_above = refl;
+      may_open = refl;
       fails = record {
         at = begins_passed made place c.args.start.now (from_last c.args.names.items) refl
             c.new-in-Ok-new.ensures.levels (path_is at _ is) (depth_is at _ is) refl
