@@ -1,7 +1,8 @@
 -- A candidate holds no two adjacent `/`.
 use Rattle.std.proofs.Common.{◌≡◌, ℕ, Bool, true, false, List, [], ◌∷◌, ◌++◌, refl}
 use Rattle.wax_token.specs.Meaning.{HasNoSlash}
-use Rattle.wax_exclude.specs.Candidates.{slashed, text_at, AreNames}
+use Rattle.wax_query.specs.Below.{slashed, AreNames}
+use Rattle.wax_exclude.specs.Candidates.{text_at}
 
 abbrev NoneIn : List ℕ → Type 0
 NoneIn s = (x y : List ℕ) → s ≡ x ++ 47 ∷ 47 ∷ y → ⊥

@@ -13,7 +13,7 @@ use Rattle.wax_walk.specs.declared.error.FaultKind.TheVariants.{Listing}
 use Rattle.wax_walk.specs.Given.{Facts, Mark, Given, entry, fault, no_memory, cut_by}
 use Rattle.wax_walk.specs.Left.{are_below, is_cancelled, is_deeper}
 use Rattle.wax_exclude.proofs.Belows.{IsAt, below_at, item_names, names_of, only_below}
-use Rattle.wax_exclude.specs.NamesBelow.{CancelsByNames, IsBelow, IsBelowCut}
+use Rattle.wax_exclude.specs.NamesBelow.{CancelsByNames, IsEntryBelow, IsBelowCut}
 use Rattle.wax_tree.specs.Plain.{Location, start_location, item_location, one_deeper}
 use Rattle.wax_exclude.specs.Premises.{ArePlainItems, IsPlainShown, IsWellNamed}
 use Rattle.wax_tree.specs.Whole.{whole, whole_items}
@@ -247,26 +247,26 @@ splits_after (fault kind path depth) xs h = h
 splits_after no_memory xs h = h
 
 module _ (rule : Facts → Mark) (m n : Mark) (above f : Facts) (after : List Given)
-    (cut : cut_by rule (entry n above) ≡ true) (below : IsBelow above f) where
+    (cut : cut_by rule (entry n above) ≡ true) (below : IsEntryBelow above f) where
   cancelled_at : (items : List Given) (k : ℕ) → k < length items → get_or items k (entry n above) ≡ entry n above
-      → Splits (items ++ entry m f ∷ after) → is_cancelled rule items (entry m f) ≡ true
+      → Splits (items ++ entry m f ∷ after) → is_cancelled (cut_by rule) items (entry m f) ≡ true
   cancelled_at [] k less is h = absurd (omega (arith, less))
   cancelled_at (y ∷ between) zero less is h =
       let split : Splits (entry n above ∷ (between ++ entry m f ∷ after)) =
       subst (λ v. Splits (v ∷ (between ++ entry m f ∷ after))) is h in
       let deep : list_all (is_deeper above.depth) (between ++ entry m f ∷ []) ≡ true =
       all_deeper above.depth (names_of above) (below.0 ∷ below.1) between after m f split.0 below.2 in
-      subst (λ v. is_cancelled rule (v ∷ between) (entry m f) ≡ true) (sym is)
+      subst (λ v. is_cancelled (cut_by rule) (v ∷ between) (entry m f) ≡ true) (sym is)
       (or_left (cut_by rule (entry n above) && are_below (entry n above) (between ++ entry m f ∷ []))
-      (is_cancelled rule between (entry m f))
+      (is_cancelled (cut_by rule) between (entry m f))
       (and_from (cut_by rule (entry n above)) (are_below (entry n above) (between ++ entry m f ∷ [])) cut deep))
   cancelled_at (y ∷ between) (suc k) less is h =
-      or_right (cut_by rule y && are_below y (between ++ entry m f ∷ [])) (is_cancelled rule between (entry m f))
+      or_right (cut_by rule y && are_below y (between ++ entry m f ∷ [])) (is_cancelled (cut_by rule) between (entry m f))
       (cancelled_at between k (omega (arith, less)) is (splits_after y (between ++ entry m f ∷ after) h))
 
 all_below : (rule : Facts → Mark) (start : List ℕ) (s : Shown) (before after : List Given) (m : Mark)
     (f : Facts) → IsWellNamed s → whole start s ≡ before ++ entry m f ∷ after → IsBelowCut rule before f
-    → is_cancelled rule before (entry m f) ≡ true
+    → is_cancelled (cut_by rule) before (entry m f) ≡ true
 all_below rule start s before after m f well split h =
     cancelled_at rule m h.0 h.1 f after h.3 h.4 before h.2.0 h.2.1 h.2.2
     (subst Splits split (walk_splits start s well.plain well.distinct))

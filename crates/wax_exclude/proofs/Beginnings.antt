@@ -11,7 +11,8 @@ use Rattle.wax_query.specs.Components.{component_total, last_slash, slash, slash
 use Rattle.wax_token.specs.Meaning.{HasNoSlash, Means}
 use Rattle.wax_token.specs.Syntax.{Tree}
 use Rattle.wax_tree.specs.Prefix.{ArePlain}
-use Rattle.wax_exclude.specs.Candidates.{AreNames, base, joined_names, slashed, text_at}
+use Rattle.wax_query.specs.Below.{AreNames, joined_names, slashed}
+use Rattle.wax_exclude.specs.Candidates.{base, text_at}
 use Rattle.wax_exclude.specs.Premises.{BeginsWith, BoundsNames, IsUnmeant}
 use Rattle.wax_exclude.specs.Prefix.{HasEmptyName, PrefixSplitsInto, SplitsInto}
 use Rattle.wax_exclude.proofs.Adjacent.{none_adjacent}

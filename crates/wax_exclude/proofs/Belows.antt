@@ -178,11 +178,11 @@ module _ (rule : Facts → Mark) (m : Mark) (f : Facts) (after : List Given) whe
   earlier y items h = (h.0, h.1, Contains-append_right (y ∷ []) items (entry h.0 h.1) h.2, h.3, h.4)
 
   canceller : (last : List (List ℕ)) (items : List Given) → Follows last (items ++ entry m f ∷ after)
-      → is_cancelled rule items (entry m f) ≡ true → IsBelowCut rule items f
+      → is_cancelled (cut_by rule) items (entry m f) ≡ true → IsBelowCut rule items f
   canceller last [] h e = absurd (false≢true e)
   canceller last (entry n g ∷ between) h e =
       let deep : Bool = are_below (entry n g) (between ++ entry m f ∷ []) in
-      elim (or_cases (cut_by rule (entry n g) && deep) (is_cancelled rule between (entry m f)) e) [
+      elim (or_cases (cut_by rule (entry n g) && deep) (is_cancelled (cut_by rule) between (entry m f)) e) [
         | inl i ↦ (let parts = and_parts (cut_by rule (entry n g)) deep i in
             let names = deeper_names g.depth (names_of g) (names_of g) between after m f
             (take_all (names_of g) g.depth h.1) h.2 parts.1 in (
@@ -200,6 +200,6 @@ module _ (rule : Facts → Mark) (m : Mark) (f : Facts) (after : List Given) whe
 
 pub only_below : (rule : Facts → Mark) (start : List ℕ) (s : Shown) (before after : List Given) (m : Mark)
     (f : Facts) → IsPlainShown s → whole start s ≡ before ++ entry m f ∷ after
-    → is_cancelled rule before (entry m f) ≡ true → IsBelowCut rule before f
+    → is_cancelled (cut_by rule) before (entry m f) ≡ true → IsBelowCut rule before f
 only_below rule start s before after m f plain split cancelled = canceller rule m f after [] before
     (subst (Follows []) split (walk_follows start s plain)) cancelled

@@ -17,7 +17,8 @@ use Rattle.wax_walk.specs.Given.{with_tree}
 use Rattle.wax_exclude.proofs.LeadingComponents.{lead, sep_leads}
 use Rattle.wax_exclude.proofs.Components.{RowsLead, leading_rows, rows_lead}
 use Rattle.wax_exclude.proofs.Tests.{lead_tested, covers_tested}
-use Rattle.wax_exclude.specs.Candidates.{slashed, joined_names, base, text_at, AreNames}
+use Rattle.wax_query.specs.Below.{slashed, joined_names, AreNames}
+use Rattle.wax_exclude.specs.Candidates.{base, text_at}
 use Rattle.wax_exclude.specs.Candidates.{candidate_at}
 use Rattle.wax_exclude.specs.Covers.{is_everything, ends_wild, Covers, CoversSome, covers_test}
 use Rattle.wax_exclude.specs.Leading.{leading, leading_of, begins_with_separator, Lead, lead_test}

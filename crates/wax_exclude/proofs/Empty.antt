@@ -11,6 +11,7 @@ use Rattle.wax_directory.specs.Shown.{a_leaf, a_folder, a_sealed, missing, faili
 use Rattle.wax_tree.specs.Begins.{Origin, scope_in}
 use Rattle.wax_tree.specs.declared.steps.DepthRange.{DepthRange}
 use Rattle.wax_tree.specs.Plain.{WalkScope, Location, one_deeper, plain_entry, items_forest, below_forest, plain_at}
+use Rattle.wax_tree.specs.Prefix.{ArePlain}
 use Rattle.wax_walk.specs.declared.error.FaultKind.{FaultKind}
 use Rattle.wax_walk.specs.declared.error.FaultKind.TheVariants.{Listing, NotFound}
 use Rattle.wax_walk.specs.Forest.{Forest, nothing, item, lists, preorder}
@@ -20,7 +21,7 @@ use Rattle.wax_exclude.proofs.Names.{at_join, names_chars, length_names}
 use Rattle.wax_exclude.proofs.Reaching.{of_unless, of_fault}
 use Rattle.wax_exclude.specs.Candidates.{base}
 use Rattle.wax_exclude.specs.inner.Descents.{At, child_location}
-use Rattle.wax_exclude.specs.Premises.{BoundsNames, CanWalk, IsUnmeant, ArePlainItems, IsPlainShown}
+use Rattle.wax_exclude.specs.Premises.{BeginsWith, BoundsNames, IsUnmeant, ArePlainItems, IsPlainShown}
 use Rattle.wax_exclude.specs.Walked.{origin_location, wanted_entries}
 use Rattle.wax_exclude.specs.Wanted.{Wanted, is_wanted}
 
@@ -109,7 +110,10 @@ module _ {A : Type 0} (w : Wanted A) (asked : DepthRange) (origin : Origin) (s :
       (λ m. n (map chars names) (names_chars names a.are_plain) m))
       (origin_location origin) [] s (omega arith) (at_start w origin start) plain
 
-  module _ (walked : DepthRange) (can : CanWalk w asked walked origin) (few : walked.max < length origin.names) where
+  module _ (walked : DepthRange) (greatest : (walked.max ≡ asked.max)
+      ⊎ ((walked.max ≤ asked.max) × BoundsNames w.rooted w.glob walked.max))
+      (begins : BeginsWith w.rooted w.glob (map chars origin.names)) (named : ArePlain origin.names)
+      (few : walked.max < length origin.names) where
     -- an entry in the range asked for has no more names than the origin
     too_few : (at : Location) (names : List (List ℕ)) → At w.rooted at names → length origin.names ≤ length names
         → at.depth ≤ asked.max → (walked.max ≡ asked.max)
@@ -126,10 +130,10 @@ module _ {A : Type 0} (w : Wanted A) (asked : DepthRange) (origin : Origin) (s :
         (λ at kind names a d. unmeant w scope at kind names a
         (λ m.
         let cs = names_chars names a.are_plain in
-        let b = can.begins (map chars names) cs m in
-        let e = bytes_begin names origin.names b.0 a.are_plain can.plain b.1 in
+        let b = begins (map chars names) cs m in
+        let e = bytes_begin names origin.names b.0 a.are_plain named b.1 in
         let n : length names ≡ length (origin.names ++ e.0) = ap length e.1 in
-        too_few at names a (omega (arith, n, length-append origin.names e.0)) d can.greatest
+        too_few at names a (omega (arith, n, length-append origin.names e.0)) d greatest
         (λ bounds. (let c = bounds (map chars names) cs m in let k = length_names names in
         omega (arith, c, k)))))
         (origin_location origin) [] s (omega arith) (at_start w origin start) plain

@@ -8,13 +8,14 @@ use Rattle.wax_tree.proofs.InRange.{along_yielded}
 use Rattle.wax_tree.proofs.Levelled.{levelled_along}
 use Rattle.wax_tree.specs.Begins.{scope_in}
 use Rattle.wax_tree.specs.Plain.{count_shown}
-use Rattle.wax_walk.proofs.Leaving.{leaves_list}
+use Rattle.wax_walk.proofs.Leaving.{leaves_list, levelled_opened, opens_list}
 use Rattle.wax_walk.specs.Collected.{GaveAll, IsCutShort}
 use Rattle.wax_walk.specs.Collected as given
 use Rattle.wax_walk.specs.declared.error.FaultKind.TheVariants.{Budget}
 use Rattle.wax_walk.specs.Forest.{nothing, preorder}
-use Rattle.wax_walk.specs.Given.{Given, fault, no_memory}
-use Rattle.wax_walk.specs.Left.{left_of}
+use Rattle.wax_walk.specs.Given.{Given, fault, no_memory, changed_by, cut_by}
+use Rattle.wax_walk.specs.Left.{left_of, opened_items}
+use Rattle.wax_walk.specs.Pruned.{opened_forest}
 use Rattle.wax_exclude.proofs.StackingRequests.{stacked_any}
 use Rattle.wax_exclude.specs.Feeds.{FeedsByRules, FeedsByWalk, FeedsRuled, feed_of}
 use Rattle.wax_exclude.specs.Feeds.{gives, lacks_memory, over_budget}
@@ -23,21 +24,23 @@ use Rattle.wax_exclude.specs.Walked.{origin_location, origin_walk}
 use Rattle.wax_exclude.specs.Wanted.{stacked}
 
 pub feeds_by_rules : FeedsByRules
-feeds_by_rules rules range origin s fits =
+feeds_by_rules rules opening range origin s fits =
     let walk = origin_walk range origin s in
     let level = levelled_along (scope_in range origin.root) (origin_location origin) s origin.names in
-    ap preorder (stacked_any rules walk)
-    ∙ (leaves_list (any_mark rules) level.0 level.1 walk level.2
-    ∙ ap (left_of (any_mark rules))
-    (along_yielded range origin.root (origin_location origin) s origin.names (omega (arith, fits))))
+    ap preorder (stacked_any rules (opened_forest opening walk))
+    ∙ (leaves_list (changed_by (any_mark rules)) (cut_by (any_mark rules)) level.0 level.1 (opened_forest opening walk)
+    (levelled_opened opening level.0 level.1 walk level.2)
+    ∙ ap (left_of (any_mark rules)) (opens_list opening level.0 level.1 walk level.2
+    ∙ ap (opened_items opening)
+    (along_yielded range origin.root (origin_location origin) s origin.names (omega (arith, fits)))))
 
 pub feeds_by_walk : FeedsByWalk
 feeds_by_walk walk s = go (exceeds_range walk) refl where
   go : (b : Bool) → exceeds_range walk ≡ b
-      → preorder (if b then nothing else stacked walk.rules (origin_walk walk.walked walk.origin s))
-      ≡ (if b then [] else feed_of walk.rules walk.walked walk.origin s)
+      → preorder (if b then nothing else stacked walk.rules (opened_forest walk.opening (origin_walk walk.walked walk.origin s)))
+      ≡ (if b then [] else feed_of walk.rules walk.opening walk.walked walk.origin s)
   go true e = refl
-  go false e = feeds_by_rules walk.rules walk.walked walk.origin s (ltb-false _ _ e)
+  go false e = feeds_by_rules walk.rules walk.opening walk.walked walk.origin s (ltb-false _ _ e)
 
 items_shown : (budget shown : ℕ) (b : Bool) → budget + 1 ≤ (if b then 0 else shown) → budget < shown
 items_shown budget shown true l = absurd (omega (arith, l))

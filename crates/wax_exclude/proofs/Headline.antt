@@ -67,7 +67,7 @@ module _ {A : Type 0} (w : Wanted A) where
   abbrev of : Forest Given → List Given
   of f = filter (is_wanted w) (preorder f)
 
-  stacked_fault : (rules : List (Facts → Mark)) (kind : FaultKind) (path : List ℕ) (depth : ℕ)
+  pub stacked_fault : (rules : List (Facts → Mark)) (kind : FaultKind) (path : List ℕ) (depth : ℕ)
       → stacked rules (item (fault kind path depth) nothing nothing)
       ≡ item (fault kind path depth) nothing nothing
   stacked_fault [] kind path depth = refl

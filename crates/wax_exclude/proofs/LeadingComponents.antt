@@ -9,7 +9,7 @@ use Rattle.wax_exclude.proofs.Components.{Sort, separates, wild, plain, sort, on
 use Rattle.wax_exclude.proofs.Components.{leading_rows}
 use Rattle.wax_exclude.proofs.Components.{RowsLead, none_either, either_right, rows_onto, rows_alone}
 use Rattle.wax_exclude.proofs.Unslashed.{freed, freed_each, unslashed, no_slash_back}
-use Rattle.wax_exclude.specs.Candidates.{slashed, AreNames}
+use Rattle.wax_query.specs.Below.{slashed, AreNames}
 
 -- ---- where a text is cut
 

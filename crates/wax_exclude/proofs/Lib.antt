@@ -3,13 +3,17 @@ pub mod Allowing
 pub mod AllBelow
 pub mod Beginnings
 pub mod Belows
+pub mod Closed
+pub mod Closing
 pub mod Components
 pub mod Costs
 pub mod Descending
 pub mod Empty
+pub mod Exactly
 pub mod Excluding
 pub mod Feeding
 pub mod Filters
+pub mod Goes
 pub mod Headline
 pub mod Ignored
 pub mod Ignores
@@ -21,8 +25,11 @@ pub mod Listing
 pub mod ListingLines
 pub mod Losing
 pub mod Names
+pub mod Opened
+pub mod Opening
 pub mod Passed
 pub mod Passing
+pub mod Pruning
 pub mod TreeRequests
 pub mod Reaching
 pub mod Remembered
@@ -32,6 +39,7 @@ pub mod Rows
 pub mod Shown
 pub mod Stacking
 pub mod StackingRequests
+pub mod Staying
 pub mod Steps
 pub mod Telling
 pub mod Tests

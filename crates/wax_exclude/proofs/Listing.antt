@@ -21,7 +21,8 @@ use Rattle.wax_tree.specs.Prefix.{path_from}
 use Rattle.wax_exclude.proofs.Filters.{filter_descends, below_said}
 use Rattle.wax_exclude.proofs.Names.{at_join, at_sees, names_chars}
 use Rattle.wax_exclude.proofs.Tests.{lead_tested}
-use Rattle.wax_exclude.specs.Candidates.{AreNames, candidate_at, text_at}
+use Rattle.wax_query.specs.Below.{AreNames}
+use Rattle.wax_exclude.specs.Candidates.{candidate_at, text_at}
 use Rattle.wax_exclude.specs.inner.Descents.{said_of, At, child_location}
 use Rattle.wax_exclude.specs.Leading.{leading_of, lead_test}
 use Rattle.wax_exclude.specs.Marks.{led_mark, glob_mark}
@@ -30,28 +31,28 @@ use Rattle.wax_exclude.specs.Walked.{AreUncovered, MayList}
 use Rattle.wax_exclude.specs.Wanted.{Filter, Wanted, stacked, filter_mark, filter_rules, rules_of}
 
 -- no rule excludes the entry with everything below it
-abbrev NoneLeaves : List (Facts → Mark) → Facts → Type 0
+abbrev pub NoneLeaves : List (Facts → Mark) → Facts → Type 0
 NoneLeaves [] f = ⊤
 NoneLeaves (rule ∷ rules) f = ¬ (rule f ≡ with_tree) × NoneLeaves rules f
 
 module _ (OfEntry : Facts → List ℕ → Type 0) (Free : List ℕ → Type 0) where
   -- the folder is listed below its entry, which none of these rules excludes with everything below it
-  record Guarded (rules : List (Facts → Mark)) (x : Given) (path : List ℕ) : Type 0 where
-    mark : Mark
-    facts : Facts
-    is : x ≡ entry mark facts
-    stays : ¬ (mark ≡ with_tree)
-    of_entry : OfEntry facts path
-    none : NoneLeaves rules facts
+  pub record Guarded (rules : List (Facts → Mark)) (x : Given) (path : List ℕ) : Type 0 where
+    pub mark : Mark
+    pub facts : Facts
+    pub is : x ≡ entry mark facts
+    pub stays : ¬ (mark ≡ with_tree)
+    pub of_entry : OfEntry facts path
+    pub none : NoneLeaves rules facts
 
   -- each folder is listed right below its entry, or is free
   abbrev mutual
-    Well : List (Facts → Mark) → Forest Given → Type 0
+    pub Well : List (Facts → Mark) → Forest Given → Type 0
     Well rules nothing = ⊤
     Well rules (item x below after) = WellBelow rules x below × Well rules after
     Well rules (lists path after) = Free path × Well rules after
 
-    WellBelow : List (Facts → Mark) → Given → Forest Given → Type 0
+    pub WellBelow : List (Facts → Mark) → Given → Forest Given → Type 0
     WellBelow rules x nothing = ⊤
     WellBelow rules x (item y below after) = WellBelow rules y below × Well rules after
     WellBelow rules x (lists path after) = Guarded rules x path × Well rules after
@@ -107,26 +108,26 @@ module _ (OfEntry : Facts → List ℕ → Type 0) (Free : List ℕ → Type 0) 
       )
       below_after x (lists path after) h e = (guarded_after x path h.0 e, well_after after h.1)
 
-  abbrev done_with : List (Facts → Mark) → List (Facts → Mark) → List (Facts → Mark)
+  abbrev pub done_with : List (Facts → Mark) → List (Facts → Mark) → List (Facts → Mark)
   done_with [] done = done
   done_with (rule ∷ rules) done = done_with rules (rule ∷ done)
 
-  well_stacked : (rules done : List (Facts → Mark)) (f : Forest Given) → Well done f
+  pub well_stacked : (rules done : List (Facts → Mark)) (f : Forest Given) → Well done f
       → Well (done_with rules done) (stacked rules f)
   well_stacked [] done f h = h
   well_stacked (rule ∷ rules) done f h =
       well_stacked rules (rule ∷ done) (filtered (changed_by rule) (cut_by rule) f) (well_after rule done f h)
 
-  none_done : (rules done : List (Facts → Mark)) (f : Facts) → NoneLeaves (done_with rules done) f
+  pub none_done : (rules done : List (Facts → Mark)) (f : Facts) → NoneLeaves (done_with rules done) f
       → NoneLeaves rules f × NoneLeaves done f
   none_done [] done f h = (tt, h)
   none_done (rule ∷ rules) done f h = let r = none_done rules (rule ∷ done) f h in ((r.1.0, r.0), r.1.1)
 
-  abbrev Chosen : List (Facts → Mark) → List ℕ → Type 0
+  abbrev pub Chosen : List (Facts → Mark) → List ℕ → Type 0
   Chosen rules path = Free path ⊎ ((f : Facts) × OfEntry f path × NoneLeaves rules f)
 
   mutual
-    each_listed : (rules : List (Facts → Mark)) (f : Forest Given) → Well rules f
+    pub each_listed : (rules : List (Facts → Mark)) (f : Forest Given) → Well rules f
         → All (Chosen rules) (listings f)
     each_listed rules nothing h = All-nil (Chosen rules)
     each_listed rules (item x below after) h =
@@ -158,18 +159,18 @@ path_last path (n ∷ names) x = path_last (join path n) names x
 
 module _ (rooted : Bool) (scope : WalkScope) (start : List ℕ) (prefix : List (List ℕ)) where
   -- the location of some names below the path
-  record IsBelow (at : Location) : Type 0 where
-    names : List (List ℕ)
-    path_is : at.path ≡ path_from start names
-    place : At rooted at (prefix ++ names)
+  pub record IsBelow (at : Location) : Type 0 where
+    pub names : List (List ℕ)
+    pub path_is : at.path ≡ path_from start names
+    pub place : At rooted at (prefix ++ names)
 
-  abbrev location_at : Facts → List ℕ → Location
+  abbrev pub location_at : Facts → List ℕ → Location
   location_at f path = record { path = path; candidate = f.candidate; depth = f.depth }
 
-  abbrev OfFolder : Facts → List ℕ → Type 0
-  OfFolder f path = IsBelow (location_at f path) × (f.depth < scope.max)
+  abbrev pub OfFolder : Facts → List ℕ → Type 0
+  OfFolder f path = IsBelow (location_at f path) × (f.depth < scope.max) × (f.kind ≡ Folder)
 
-  abbrev AboveLeast : List ℕ → Type 0
+  abbrev pub AboveLeast : List ℕ → Type 0
   AboveLeast path = (at : Location) × (at.path ≡ path) × IsBelow
       at × (at.depth < scope.max) × (at.depth < scope.min)
 
@@ -202,7 +203,7 @@ module _ (rooted : Bool) (scope : WalkScope) (start : List ℕ) (prefix : List (
         };
         is = refl;
         stays = λ i. (cc);
-        of_entry = (s, ltb-true at.depth scope.max f);
+        of_entry = (s, ltb-true at.depth scope.max f, refl);
         none = tt;
       },
       h,
@@ -243,7 +244,7 @@ module _ (rooted : Bool) (scope : WalkScope) (start : List ℕ) (prefix : List (
   well_inside at (unread rest) s t = (tt, well_inside at rest s t)
   well_inside at (not_text rest) s t = (tt, well_inside at rest s t)
 
-  well_at : (at : Location) (s : Shown) → IsBelow at → IsPlainShown s → IsWell (plain_at scope at s nothing)
+  pub well_at : (at : Location) (s : Shown) → IsBelow at → IsPlainShown s → IsWell (plain_at scope at s nothing)
   well_at at (a_leaf link) s t = well_leaf at (leaf_kind link) (nat_lt at.depth scope.min) nothing tt
   well_at at (a_folder l) s t =
       well_folder at s (nat_lt at.depth scope.min) (nat_lt at.depth scope.max) refl refl (in_folder at l)
@@ -262,7 +263,7 @@ module _ (rooted : Bool) (scope : WalkScope) (start : List ℕ) (prefix : List (
   is_led true m n = refl
   is_led false m n = absurd (n refl)
 
-  none_covers : {A : Type 0} (filters : List (Filter A)) (f : Facts) (path : List ℕ) (names : List (List ℕ))
+  pub none_covers : {A : Type 0} (filters : List (Filter A)) (f : Facts) (path : List ℕ) (names : List (List ℕ))
       → At rooted (location_at f path) names → NoneLeaves (filter_rules filters) f
       → AreUncovered rooted filters (map chars names)
   none_covers [] f path names a h = tt

@@ -15,7 +15,8 @@ use Rattle.wax_token.specs.Meaning.{HasNoSlash}
 use Rattle.wax_tree.specs.Plain.{Location}
 use Rattle.wax_tree.specs.Prefix.{ArePlain}
 use Rattle.wax_walk.specs.Candidates.{Candidate}
-use Rattle.wax_exclude.specs.Candidates.{slashed, joined_names, base, text_at, AreNames}
+use Rattle.wax_query.specs.Below.{slashed, joined_names, AreNames}
+use Rattle.wax_exclude.specs.Candidates.{base, text_at}
 use Rattle.wax_exclude.specs.Candidates.{candidate_at}
 use Rattle.wax_exclude.specs.inner.Descents.{At, child_location}
 
@@ -39,12 +40,12 @@ no_slash_in (c ∷ x) h = (
 
 -- ---- paths that no name may follow at once
 
-open_append : (xs : List ℕ) (y : ℕ) (ys : List ℕ) → is_open (xs ++ y ∷ ys) ≡ is_open (y ∷ ys)
+pub open_append : (xs : List ℕ) (y : ℕ) (ys : List ℕ) → is_open (xs ++ y ∷ ys) ≡ is_open (y ∷ ys)
 open_append [] y ys = refl
 open_append (x ∷ []) y ys = refl
 open_append (x ∷ z ∷ xs) y ys = open_append (z ∷ xs) y ys
 
-closed_name : (n : List ℕ) → ¬ (n ≡ []) → HasNoSlash n → is_open n ≡ false
+pub closed_name : (n : List ℕ) → ¬ (n ≡ []) → HasNoSlash n → is_open n ≡ false
 closed_name [] h k = absurd (h refl)
 closed_name (c ∷ []) h k = differ c 47 k.0
 closed_name (c ∷ d ∷ n) h k = closed_name (d ∷ n) (λ e. (cc)) k.1
@@ -64,7 +65,7 @@ base_open : (rooted : Bool) → is_open (base rooted) ≡ true
 base_open true = refl
 base_open false = refl
 
-closed_after : (rooted : Bool) (n : List ℕ) (names : List (List ℕ)) → AreNames (n ∷ names)
+pub closed_after : (rooted : Bool) (n : List ℕ) (names : List (List ℕ)) → AreNames (n ∷ names)
     → is_open (base rooted ++ (n ++ slashed names)) ≡ false
 closed_after false n names h = closed_names n names h
 closed_after true [] names h = absurd (h.0 refl)

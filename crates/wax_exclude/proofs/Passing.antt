@@ -11,7 +11,7 @@ use Rattle.wax_walk.specs.Candidates.{Candidate, of_candidate}
 use Rattle.wax_walk.specs.Forest.{Forest, nothing, item, lists, followed_by}
 use Rattle.wax_walk.specs.Given.{Facts, Mark, with_tree, Given}
 use Rattle.wax_exclude.proofs.Names.{at_join, at_sees, names_chars, seen_at}
-use Rattle.wax_exclude.specs.Candidates.{AreNames}
+use Rattle.wax_query.specs.Below.{AreNames}
 use Rattle.wax_exclude.specs.inner.Descents.{said_of, Descends, At, child_location}
 use Rattle.wax_exclude.specs.inner.Stacks.{LeavesOutWhole, LeavesOutAll, IsEntryLeftOut, PassesDown}
 use Rattle.wax_exclude.specs.Premises.{ArePlainItems, IsPlainShown}

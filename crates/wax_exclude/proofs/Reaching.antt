@@ -88,10 +88,10 @@ distinct_along (x ∷ names) a_sealed d = tt
 distinct_along (x ∷ names) missing d = tt
 distinct_along (x ∷ names) failing d = tt
 
-abbrev never : Given → Bool
+abbrev pub never : Given → Bool
 never x = false
 
-none_of : (xs : List Given) → filter never xs ≡ []
+pub none_of : (xs : List Given) → filter never xs ≡ []
 none_of [] = refl
 none_of (x ∷ xs) = none_of xs
 

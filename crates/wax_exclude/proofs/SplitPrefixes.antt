@@ -11,7 +11,8 @@ use Rattle.wax_directory.specs.Names.{is_rooted, is_some_name, names_in_path}
 use Rattle.wax_token.specs.Meaning.{HasNoSlash}
 use Rattle.wax_tree.specs.Prefix.{from_last}
 use Rattle.wax_tree.proofs.Showing.{from_last_end}
-use Rattle.wax_exclude.specs.Candidates.{AreNames, joined_names, text_at}
+use Rattle.wax_query.specs.Below.{AreNames, joined_names}
+use Rattle.wax_exclude.specs.Candidates.{text_at}
 use Rattle.wax_exclude.specs.Prefix.{HasEmptyName, SplitsInto}
 
 -- ---- names of a text

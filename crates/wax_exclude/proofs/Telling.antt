@@ -15,9 +15,10 @@ use Rattle.wax_tree.specs.Prefix.{ArePlain}
 use Rattle.wax_tree.specs.Courses.{AreNamed, IsNamed}
 use Rattle.wax_tree.specs.Follows.{AreDistinctAlong}
 use Rattle.wax_walk.proofs.Courses.{begins_whole, comes_first}
-use Rattle.wax_walk.proofs.Filtered.{Yields, filtered_begins, ruled_course, ruled_yields, yields_items}
+use Rattle.wax_walk.proofs.Filtered.{Yields, filtered_begins, opened_yields, pruned_begins, pruned_ruled, ruled_course, ruled_yields, yields_items}
 use Rattle.wax_walk.proofs.Following.{lacks_filtered}
 use Rattle.wax_walk.specs.Candidates.{Candidate, of_candidate}
+use Rattle.wax_walk.specs.Pruned.{IsPrunedBy, all_folders, opened_forest, opened_course, pruned_course, these_folders}
 use Rattle.wax_walk.specs.Ruled.{IsMarkBy}
 use Rattle.wax_walk.specs.Collected.{EndsThere, Took, TookCourse, cut_short, whole}
 use Rattle.wax_walk.specs.Course.{Course, CutsShort, IsFiltered, IsStartOf, answers, calls_of, items_of}
@@ -31,7 +32,7 @@ use Rattle.wax_exclude.proofs.StackingRequests.{stacked_any}
 use Rattle.wax_exclude.proofs.Wanting.{entries_wanted}
 use Rattle.wax_exclude.specs.Feeds.{ruled_feed}
 use Rattle.wax_exclude.specs.GlobRequests.{CanBegin, GlobRequest, is_beyond, walk_for}
-use Rattle.wax_exclude.specs.Law.{GivesWanted, ListsFew, WantsNothing}
+use Rattle.wax_exclude.specs.Law.{WalkLaw}
 use Rattle.wax_exclude.specs.Premises.{ArePlainItems, IsPlainShown}
 use Rattle.wax_exclude.specs.RuledWalks.{RuledWalk, WalkTakes, exceeds_range, lacking, origin_course, ruled_forest}
 use Rattle.wax_exclude.specs.RuledWalks.{walk_course, walks}
@@ -58,26 +59,57 @@ plain_named failing n = tt
 
 -- ---- what a walk may take
 
--- what its rules leave of what its origin may take
-pub ruled_takes : (walk : RuledWalk) (rule : Candidate → Mark) (c e : Course) → ArePlain walk.origin.names
-    → of_candidate rule ≡ any_mark walk.rules → OriginTakes walk.origin walk.walked c
+-- a filter that leaves of each course what the rules and the opening of a walk leave, and of the error that
+-- allocation failed only that, leaves of what its origin may take what the walk may take
+module _ (walk : RuledWalk) (filters : Course → Course → Type 0) where
+  abbrev left : Course → Course
+  left c = ruled_course (any_mark walk.rules) (opened_course walk.opening c)
+
+  origin_takes : ((c d e : Course) → filters c e → IsStartOf c d → IsStartOf e (left d))
+      → ((c e : Course) → filters c e → IsStartOf c (yields no_memory stop stop)
+      → IsStartOf e (yields no_memory stop stop))
+      → left stop ≡ stop → (c e : Course) → ArePlain walk.origin.names → OriginTakes walk.origin walk.walked c
+      → filters c e → WalkTakes walk e
+  origin_takes starts lacks stops c e plain (along fits short d h b) f =
+      let s = along_shown (scope_in walk.walked walk.origin.root) walk.origin.names (origin_location walk.origin) d plain
+      (omega (arith, short)) h in
+      let course : left d ≡ walk_course walk s.shown =
+      (λ i. left (s.course i))
+      ∙ ap (λ b. if b then stop else left (origin_course walk.walked walk.origin s.shown)) (sym (le-ltb _ _ fits)) in
+      walks s.shown s.named s.distinct (subst (IsStartOf e) course (starts c d e f b))
+  origin_takes starts lacks stops c e plain (begin.lacking b) f = lacking (lacks c e f b)
+  origin_takes starts lacks stops c e plain (beyond l b) f =
+      let course : left stop ≡ walk_course walk missing =
+      stops ∙ ap (λ b. if b then stop else left (origin_course walk.walked walk.origin missing)) (sym (lt-ltb _ _ l)) in
+      walks missing tt (distinct_missing walk.origin.names) (subst (IsStartOf e) course (starts c stop e f b))
+
+-- what its rules leave of what its origin may take, if it opens all folders
+pub ruled_takes : (walk : RuledWalk) (rule : Candidate → Mark) (c e : Course) → walk.opening ≡ all_folders
+    → ArePlain walk.origin.names → of_candidate rule ≡ any_mark walk.rules → OriginTakes walk.origin walk.walked c
     → IsFiltered (IsMarkBy (of_candidate rule)) c e → WalkTakes walk e
-ruled_takes walk rule c e plain says (along fits short d h b) f =
-    let s = along_shown (scope_in walk.walked walk.origin.root) walk.origin.names (origin_location walk.origin) d plain
-    (omega (arith, short)) h in
-    let course : ruled_course (of_candidate rule) d ≡ walk_course walk s.shown =
-    (λ i. ruled_course (says i) (s.course i))
-    ∙ ap (λ b. if b then stop else ruled_course (any_mark walk.rules)
-    (origin_course walk.walked walk.origin s.shown)) (sym (le-ltb _ _ fits)) in
-    walks s.shown s.named s.distinct (subst (IsStartOf e) course (filtered_begins (of_candidate rule) c d e f b))
-ruled_takes walk rule c e plain says (begin.lacking b) f =
-    lacking (lacks_filtered (IsMarkBy (of_candidate rule)) c e b f)
-ruled_takes walk rule c e plain says (beyond l b) f =
-    let course : stop ≡ walk_course walk missing =
-    ap (λ b. if b then stop else ruled_course (any_mark walk.rules)
-    (origin_course walk.walked walk.origin missing)) (sym (lt-ltb _ _ l)) in
-    walks missing tt (distinct_missing walk.origin.names)
-    (subst (IsStartOf e) course (filtered_begins (of_candidate rule) c stop e f b))
+ruled_takes walk rule c e all plain says takes f =
+    let so : (d : Course) → ruled_course (of_candidate rule) d ≡ left walk (IsFiltered (IsMarkBy (of_candidate rule))) d =
+    λ d. (λ i. ruled_course (says i) (opened_course (sym all i) d)) in
+    origin_takes walk (IsFiltered (IsMarkBy (of_candidate rule)))
+    (λ c d e f b. subst (IsStartOf e) (so d) (filtered_begins (of_candidate rule) c d e f b))
+    (λ c e f b. lacks_filtered (IsMarkBy (of_candidate rule)) c e b f) (sym (so stop)) c e plain takes f
+
+-- what its rules leave of what its origin may take, if it opens these folders alone
+pub selected_takes : (walk : RuledWalk) (rule : Candidate → Mark) (opens : Facts → Bool) (c d e : Course)
+    → walk.opening ≡ these_folders opens → ArePlain walk.origin.names → of_candidate rule ≡ any_mark walk.rules
+    → OriginTakes walk.origin walk.walked c → IsFiltered (IsMarkBy (of_candidate rule)) c d
+    → IsFiltered (IsPrunedBy opens) d e → WalkTakes walk e
+selected_takes walk rule opens c d e these plain says takes f g =
+    let marks = IsFiltered (IsMarkBy (of_candidate rule)) in
+    let prunes = IsFiltered (IsPrunedBy opens) in
+    let filters : Course → Course → Type 0 = λ x z. (y : Course) × marks x y × prunes y z in
+    let so : (x : Course) → pruned_course opens (ruled_course (of_candidate rule) x) ≡ left walk filters x =
+    λ x. pruned_ruled opens (of_candidate rule) x ∙ (λ i. ruled_course (says i) (opened_course (sym these i) x)) in
+    origin_takes walk filters
+    (λ x y z h b. subst (IsStartOf z) (so y) (pruned_begins opens h.0 (ruled_course (of_candidate rule) y) z h.2
+    (filtered_begins (of_candidate rule) x y h.0 h.1 b)))
+    (λ x z h b. lacks_filtered (IsPrunedBy opens) h.0 z (lacks_filtered (IsMarkBy (of_candidate rule)) x h.0 b h.1) h.2)
+    (sym (so stop)) c e plain takes (d, f, g)
 
 -- ---- what was answered
 
@@ -87,15 +119,17 @@ module _ (walk : RuledWalk) where
 
   course_yields : (s : Shown) → Yields (walk_course walk s) (ruled_forest walk s)
   course_yields s = go (exceeds_range walk) where
-    go : (b : Bool) → Yields (if b then stop else ruled_course rule (origin_course walk.walked walk.origin s))
-        (if b then nothing else stacked walk.rules (origin_walk walk.walked walk.origin s))
+    go : (b : Bool)
+        → Yields (if b then stop else ruled_course rule (opened_course walk.opening (origin_course walk.walked walk.origin s)))
+        (if b then nothing else stacked walk.rules (opened_forest walk.opening (origin_walk walk.walked walk.origin s)))
     go true = nothing_yields
     go false =
         let f = origin_walk walk.walked walk.origin s in
         let c = origin_course walk.walked walk.origin s in
-        subst (Yields (ruled_course rule c)) (sym (stacked_any walk.rules f))
-        (ruled_yields rule c f (along_yields (scope_in walk.walked walk.origin.root) walk.origin.names
-        (origin_location walk.origin) s))
+        subst (Yields (ruled_course rule (opened_course walk.opening c)))
+        (sym (stacked_any walk.rules (opened_forest walk.opening f)))
+        (ruled_yields rule (opened_course walk.opening c) (opened_forest walk.opening f) (opened_yields walk.opening c f
+        (along_yields (scope_in walk.walked walk.origin.root) walk.origin.names (origin_location walk.origin) s)))
 
   items_fed : (s : Shown) → items_of (walk_course walk s) ≡ ruled_feed walk s
   items_fed s = yields_items _ _ (course_yields s) ∙ feeds_by_walk walk s
@@ -200,11 +234,11 @@ module _ (walk : RuledWalk) where
     }
 
 -- so it is of a glob's walk
-pub keeps_answered : GivesWanted → ListsFew → WantsNothing → (request : GlobRequest) {D C : Type 0} (law : Law D C)
+pub keeps_answered : WalkLaw → (request : GlobRequest) {D C : Type 0} (law : Law D C)
     (view : WalkView D) (new : D) (xs : List Given) → CanBegin request
     → ((c : Course) → MayTake view c → WalkTakes (walk_for request) c)
     → Took law view new xs → KeepsAnswered law view.directory new request (filter is_kept xs)
-keeps_answered gives few none request law view new xs can takes took = record {
+keeps_answered laws request law view new xs can takes took = record {
   told = took.told;
   answered = took.answered;
   holds_of = elim (fed (walk_for request) law view new xs takes took) [
@@ -212,7 +246,7 @@ keeps_answered gives few none request law view new xs can takes took = record {
         let s = t.shown in
         keeps_all s t.named t.told_is (ap (filter is_kept) t.items)
         (kept_entries xs ∙ (ap (filter is_kept_entry) (t.items ∙ sym (feeds_by_walk (walk_for request) s))
-        ∙ entries_wanted gives few none request s can (plain_named s t.named) t.distinct (is_beyond request) refl))
+        ∙ entries_wanted laws request s can (plain_named s t.named) t.distinct (is_beyond request) refl))
     | inr p ↦ keeps_in_part (part_kept (walk_for request) took.told xs p)
   ];
 }

@@ -4,7 +4,8 @@ use Rattle.std.specs.Str.{IsUtf8}
 use Rattle.std.proofs.Math.Seq.{take-append_seam}
 use Rattle.std.proofs.lemmas.Str.{chars-append, encodes-chars, encodes-append, chars-nil, IsUtf8-append, IsUtf8-nil, IsUtf8-take, IsCharBoundary-before_ascii}
 use Rattle.wax_tree.specs.Prefix.{ArePlain}
-use Rattle.wax_exclude.specs.Candidates.{slashed, text_at}
+use Rattle.wax_query.specs.Below.{slashed}
+use Rattle.wax_exclude.specs.Candidates.{text_at}
 use Rattle.wax_exclude.proofs.Names.{chars_joined, chars_slash}
 use Rattle.wax_exclude.specs.Prefix.{HasEmptyName}
 

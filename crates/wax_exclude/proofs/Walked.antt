@@ -139,7 +139,7 @@ glob_keep rooted t at names p h =
     ∙ sym (ap (λ (c : Candidate). means_test t false false c.text) e)
 
 module _ {A : Type 0} (w : Wanted A) (scope : WalkScope) where
-  pass_filters : (at : Location) (names : List (List ℕ)) (s : Shown) → At w.rooted at names → IsPlainShown s
+  pub pass_filters : (at : Location) (names : List (List ℕ)) (s : Shown) → At w.rooted at names → IsPlainShown s
       → (filters : List (Filter A)) → AllPassDown (filter_rules filters) (plain_at scope at s nothing)
   pass_filters at names s h x [] = tt
   pass_filters at names s h x (y ∷ filters) = (

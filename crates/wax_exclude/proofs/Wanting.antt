@@ -1,12 +1,17 @@
 -- What is wanted of a walk comes, and is what is kept.
 use Rattle.std.proofs.Common.{◌≡◌, ℕ, ◌+◌, ◌<◌, ◌≤◌, Bool, true, false, List, [], ◌∷◌, ◌++◌, length, filter}
 use Rattle.std.proofs.Common.{refl, sym, ap, subst, ◌∙◌, arith, inl, inr}
-use Rattle.std.specs.Prelude.{if◌then◌else◌, All}
+use Rattle.std.proofs.Common.{length-append}
+use Rattle.std.proofs.lemmas.List.Elements.{All-nil}
+use Rattle.std.specs.List.{Contains}
+use Rattle.std.specs.Prelude.{if◌then◌else◌}
 use Rattle.std.proofs.lemmas.Bool.{ltb-false, ltb-true}
 use Rattle.wax_directory.specs.Counting.{grown}
 use Rattle.wax_directory.specs.Law.{Law}
 use Rattle.wax_directory.specs.Shown.{Shown}
 use Rattle.wax_token.specs.Reads.{Span}
+use Rattle.wax_tree.specs.Begins.{Origin}
+use Rattle.wax_tree.specs.declared.steps.DepthRange.{DepthRange}
 use Rattle.wax_tree.specs.Follows.{AreDistinctAlong}
 use Rattle.wax_tree.specs.Plain.{count_shown}
 use Rattle.wax_walk.specs.Candidates.{Candidate, of_candidate}
@@ -17,16 +22,17 @@ use Rattle.wax_walk.proofs.Filtered.{filtered_begins, ruled_course}
 use Rattle.wax_walk.proofs.Following.{lacks_filtered, take_ruled}
 use Rattle.wax_walk.proofs.Taking.{course_seen}
 use Rattle.wax_walk.specs.Course.{Course, IsFiltered, IsStartOf, stop}
-use Rattle.wax_walk.specs.Forest.{Pending, filtered_pending, nothing, pending, preorder, listings}
+use Rattle.wax_walk.specs.Forest.{Forest, Pending, filtered_pending, nothing, pending, preorder}
+use Rattle.wax_walk.specs.Pruned.{opened_forest, opened_course}
 use Rattle.wax_walk.specs.Given.{Facts, Mark, Given, changed_by, combined_mark, cut_by, fault, no_memory, is_kept}
 use Rattle.wax_walk.specs.Ruled.{IsMarkBy, ruled_view}
 use Rattle.wax_walk.specs.View.{WalkView, CountsFaults, IsSeenAs, MayFail, MayTake}
 use Rattle.wax_exclude.proofs.KeptItems.{cut_kept, kept_entries}
-use Rattle.wax_exclude.specs.Law.{GivesWanted, ListsFew, WantsNothing}
-use Rattle.wax_exclude.specs.Marks.{glob_mark}
+use Rattle.wax_exclude.specs.Law.{WalkLaw}
 use Rattle.wax_exclude.specs.Premises.{IsPlainShown, IsWellNamed}
-use Rattle.wax_exclude.specs.Walked.{glob_walk, wanted_entries, origin_walk, MayList}
-use Rattle.wax_exclude.specs.Wanted.{Filter, filter_mark, filter_rules, is_kept_entry, stacked, rules_of}
+use Rattle.wax_exclude.specs.Pruned.{CanWalkBy, ListsBy, Pruning, by_components, by_matches, first_rule, opening_by, rules_by}
+use Rattle.wax_exclude.specs.Walked.{wanted_entries, origin_walk, MayList}
+use Rattle.wax_exclude.specs.Wanted.{Filter, Wanted, filter_mark, filter_rules, is_kept_entry, stacked}
 use Rattle.wax_glob_walk.specs.Programs.{any_mark}
 use Rattle.wax_exclude.specs.Due as due
 use Rattle.wax_exclude.specs.GlobRequests.{AreRulesOf, CanBegin, ComesExcluding, ComesWanted, GlobRequest, IsRuleOf, KeepsWanted}
@@ -42,13 +48,13 @@ use Rattle.wax_exclude.proofs.Reaching.{distinct_along}
 
 module _ {D C : Type 0} (law : Law D C) where
   folders_seen : (this that : WalkView D) (xs : List Given) → IsSeenAs this that
-      → AreOfFolders (MayFail that) that.opens_above xs → AreOfFolders (MayFail this) this.opens_above xs
+      → AreOfFolders (MayFail that) that.may_open xs → AreOfFolders (MayFail this) this.may_open xs
   folders_seen this that xs seen are before after x path depth e i = elim (are before after x path depth e i) [
     | inl may ↦ inl (elim may [
       | inl f ↦ inl (seen.may_fail path depth f)
       | inr f ↦ inr (seen.may_fail_below path depth f)
     ])
-    | inr has ↦ inr (subst (λ most. HasFolder most path depth before) seen.opens_above has)
+    | inr has ↦ inr (subst (λ most. HasFolder most path depth before) seen.may_open has)
   ]
 
   -- what a walk yielded, by a view that this one implies
@@ -86,7 +92,7 @@ module _ {D C : Type 0} (law : Law D C) where
     opened_is = took.opened_is ∙ ap (λ v. grown took.opened (law.tally v).opened) seen.directory;
     ended = took.ended;
     ended_is = took.ended_is ∙ ap (λ v. grown took.ended (law.tally v).ended) seen.directory;
-    opens = λ n. subst (λ m. took.opened ≡ this.to_open + (took.folders + count_to_open m xs)) seen.opens_above
+    opens = λ n. subst (λ m. took.opened ≡ this.to_open + (took.folders + count_to_open m xs)) seen.may_open
         (omega (arith, took.opens n, seen.to_open));
     closes = λ n. omega (arith, took.closes n, seen.listings_open);
   }
@@ -116,17 +122,17 @@ comes_same law d walk rules view same h = record {
   listings = h.listings;
 } where
   forest : (s : Shown) (b : Bool)
-      → (if b then nothing else stacked walk.rules (origin_walk walk.walked walk.origin s))
-      ≡ (if b then nothing else stacked rules (origin_walk walk.walked walk.origin s))
+      → (if b then nothing else stacked walk.rules (opened_forest walk.opening (origin_walk walk.walked walk.origin s)))
+      ≡ (if b then nothing else stacked rules (opened_forest walk.opening (origin_walk walk.walked walk.origin s)))
   forest s true = refl
   forest s false =
-      let f = origin_walk walk.walked walk.origin s in
+      let f = opened_forest walk.opening (origin_walk walk.walked walk.origin s) in
       stacked_any walk.rules f ∙ (ap (λ r. ruled r f) same ∙ sym (stacked_any rules f))
 
   course : (s : Shown) (b : Bool)
-      → (if b then stop else ruled_course (any_mark walk.rules) (origin_course walk.walked walk.origin s))
-      ≡ (if b then stop else ruled_course (any_mark rules) (origin_course walk.walked walk.origin s))
-  course s b = ap (λ r. if b then stop else ruled_course r (origin_course walk.walked walk.origin s)) same
+      → (if b then stop else ruled_course (any_mark walk.rules) (opened_course walk.opening (origin_course walk.walked walk.origin s)))
+      ≡ (if b then stop else ruled_course (any_mark rules) (opened_course walk.opening (origin_course walk.walked walk.origin s)))
+  course s b = ap (λ r. if b then stop else ruled_course r (opened_course walk.opening (origin_course walk.walked walk.origin s))) same
 
 -- a filter that leaves of a walk what one more rule does
 pub comes_filtered : {D C : Type 0} (law : Law D C) (d : D) (walk : RuledWalk) (rule : Facts → Mark) (v u : WalkView D)
@@ -147,19 +153,19 @@ comes_filtered law d walk rule v u to_come takes left h = record {
   listings = left ∙ h.listings;
 } where
   forest : (s : Shown) (b : Bool)
-      → ruled rule (if b then nothing else stacked walk.rules (origin_walk walk.walked walk.origin s))
-      ≡ (if b then nothing else stacked (walk.rules ++ rule ∷ []) (origin_walk walk.walked walk.origin s))
+      → ruled rule (if b then nothing else stacked walk.rules (opened_forest walk.opening (origin_walk walk.walked walk.origin s)))
+      ≡ (if b then nothing else stacked (walk.rules ++ rule ∷ []) (opened_forest walk.opening (origin_walk walk.walked walk.origin s)))
   forest s true = refl
-  forest s false = sym (stacked_more walk.rules (rule ∷ []) (origin_walk walk.walked walk.origin s))
+  forest s false = sym (stacked_more walk.rules (rule ∷ []) (opened_forest walk.opening (origin_walk walk.walked walk.origin s)))
 
   course : (s : Shown) (b : Bool)
       → ruled_course rule (if b then stop else ruled_course (any_mark walk.rules)
-      (origin_course walk.walked walk.origin s))
+      (opened_course walk.opening (origin_course walk.walked walk.origin s)))
       ≡ (if b then stop else ruled_course (any_mark (walk.rules ++ rule ∷ []))
-      (origin_course walk.walked walk.origin s))
+      (opened_course walk.opening (origin_course walk.walked walk.origin s)))
   course s true = refl
   course s false =
-      let c = origin_course walk.walked walk.origin s in
+      let c = opened_course walk.opening (origin_course walk.walked walk.origin s) in
       ap (λ r. ruled_course r (ruled_course (any_mark walk.rules) c)) (sym (any_alone rule))
       ∙ course_more walk.rules (rule ∷ []) c
 
@@ -180,11 +186,13 @@ module _ {D C : Type 0} (law : Law D C) (d : D) where
   comes_ruled request filters rule v u says h seen =
       let walk = walk_for request in
       let last = of_candidate rule in
-      comes_same law d (with_rule walk last) (rules_of (request_excluding request filters).wanted) u
+      comes_same law d (with_rule walk last)
+      (rules_by request.pruning request.asked.min (request_excluding request filters).wanted) u
       ((λ i f. sym (any_both walk.rules (last ∷ []) f) i)
       ∙ ((λ i f. combined_mark (any_mark walk.rules f) ((any_alone last ∙ says) i f))
       ∙ ((λ i f. any_both walk.rules (filter_rules filters) f i)
-      ∙ ap (λ rules. any_mark (of_candidate (glob_mark request.wanted.rooted request.wanted.glob) ∷ rules))
+      ∙ ap (λ rules. any_mark (first_rule request.pruning request.asked.min
+      request.wanted.rooted request.wanted.glob ∷ rules))
       (sym (filter_rules_more request.wanted.filters filters)))))
       (comes_by_rule law d walk rule v u seen h)
 
@@ -216,26 +224,64 @@ comes_excluding law x rule v u says seen = λ d request h.
 
 -- ---- what is kept
 
-module _ (gives_wanted : GivesWanted) (lists_few : ListsFew) (wants_nothing : WantsNothing) where
+contains_none : (path : List ℕ) → Contains [] path → ⊥
+contains_none path c = let l = c.1 in absurd (omega (arith, l))
+
+module _ (laws : WalkLaw) where
+  -- the walk of a glob from an origin on, with filters
+  module _ (w : Wanted Span) (asked walked : DepthRange) (origin : Origin) (s : Shown) where
+    abbrev walk_by : Pruning → Forest Given
+    walk_by pruning =
+        stacked (rules_by pruning asked.min w) (opened_forest (opening_by pruning w.glob) (origin_walk walked origin s))
+
+    gives_by : (pruning : Pruning) → CanWalkBy pruning w asked walked origin → IsPlainShown s
+        → AreDistinctAlong origin.names s → length origin.names ≤ walked.max
+        → filter is_kept_entry (preorder (walk_by pruning)) ≡ wanted_entries w asked origin s
+    gives_by by_components c plain distinct fits = laws.gives w asked walked origin s c plain distinct fits
+    gives_by by_matches c plain distinct fits = laws.gives_least w asked walked origin s c plain distinct fits
+
+    nothing_by : (pruning : Pruning) → CanWalkBy pruning w asked walked origin → IsPlainShown s
+        → walked.max < length origin.names → wanted_entries w asked origin s ≡ []
+    nothing_by by_components c plain less =
+        laws.nothing w asked origin s plain c.candidate (inl (walked, c, less))
+    nothing_by by_matches c plain less = laws.least_nothing w asked walked origin s c plain less
+
+    lists_by : (pruning : Pruning) → CanWalkBy pruning w asked walked origin → IsWellNamed s
+        → ListsBy pruning w walked origin s (walk_by pruning)
+    lists_by by_components c named = laws.lists w asked walked origin s c named
+    lists_by by_matches c named = laws.lists_exactly w asked walked origin s c named
+
+    -- beyond the greatest depth there is nothing to list
+    lists_none : (pruning : Pruning) → walked.max < length origin.names → ListsBy pruning w walked origin s nothing
+    lists_none by_components less = All-nil (MayList w walked origin)
+    lists_none by_matches less = λ path. (
+      λ c. absurd (contains_none path c),
+      λ m. absurd (let l : length (origin.names ++ m.1.names) ≡ length origin.names + length m.1.names =
+          length-append origin.names m.1.names in omega (arith, less, m.1.above_greatest, l)),
+    )
+
   pub entries_wanted : (request : GlobRequest) (s : Shown) → CanBegin request
       → IsPlainShown s → AreDistinctAlong request.origin.names s → (b : Bool) → is_beyond request ≡ b
-      → filter is_kept_entry (preorder (if b then nothing else glob_walk request.wanted request.walked request.origin s))
+      → filter is_kept_entry (preorder (if b then nothing else
+      walk_by request.wanted request.asked request.walked request.origin s request.pruning))
       ≡ wanted_entries request.wanted request.asked request.origin s
-  entries_wanted request s (goes c) plain distinct true e = sym (wants_nothing request.wanted request.asked request.origin s plain
-      c.candidate (inl (request.walked, c, ltb-true _ _ e)))
-  entries_wanted request s (goes c) plain distinct false e = gives_wanted request.wanted request.asked request.walked
-      request.origin s c plain distinct (ltb-false _ _ e)
-  entries_wanted request s (unmeant n c m) plain distinct true e = sym (wants_nothing request.wanted request.asked
+  entries_wanted request s (goes c) plain distinct true e = sym (nothing_by request.wanted request.asked request.walked
+      request.origin s request.pruning c plain (ltb-true _ _ e))
+  entries_wanted request s (goes c) plain distinct false e = gives_by request.wanted request.asked request.walked
+      request.origin s request.pruning c plain distinct (ltb-false _ _ e)
+  entries_wanted request s (unmeant n c m) plain distinct true e = sym (laws.nothing request.wanted request.asked
       request.origin s plain c (inr n))
   entries_wanted request s (unmeant n c m) plain distinct false e =
       let l : length request.origin.names ≤ request.walked.max = ltb-false _ _ e in absurd (omega (arith, l, m))
 
   few_listed : (request : GlobRequest) (s : Shown) → CanBegin request
       → IsWellNamed s → (b : Bool) → is_beyond request ≡ b
-      → All (MayList request.wanted request.walked request.origin)
-      (listings (if b then nothing else glob_walk request.wanted request.walked request.origin s))
-  few_listed request s can named true e = λ k d l. absurd (omega (arith, l))
-  few_listed request s (goes c) named false e = lists_few request.wanted request.asked request.walked request.origin s c named
+      → ListsBy request.pruning request.wanted request.walked request.origin s
+      (if b then nothing else walk_by request.wanted request.asked request.walked request.origin s request.pruning)
+  few_listed request s can named true e =
+      lists_none request.wanted request.asked request.walked request.origin s request.pruning (ltb-true _ _ e)
+  few_listed request s (goes c) named false e =
+      lists_by request.wanted request.asked request.walked request.origin s request.pruning c named
   few_listed request s (unmeant n c m) named false e =
       let l : length request.origin.names ≤ request.walked.max = ltb-false _ _ e in absurd (omega (arith, l, m))
 

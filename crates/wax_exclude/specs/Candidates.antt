@@ -1,22 +1,7 @@
 -- Candidates of walks, by their names.
-use Rattle.std.specs.Prelude.{◌≡◌, ℕ, Bool, true, false, ⊤, List, [], ◌∷◌, ◌++◌, length}
-use Rattle.wax_token.specs.Meaning.{HasNoSlash}
+use Rattle.std.specs.Prelude.{ℕ, Bool, true, false, List, [], ◌∷◌, ◌++◌, length}
+use Rattle.wax_query.specs.Below.{joined_names}
 use Rattle.wax_walk.specs.Candidates.{Candidate}
-
--- names, each after a `/`
-abbrev pub slashed : List (List ℕ) → List ℕ
-slashed [] = []
-slashed (n ∷ names) = 47 ∷ (n ++ slashed names)
-
--- names with a `/` between each two
-abbrev pub joined_names : List (List ℕ) → List ℕ
-joined_names [] = []
-joined_names (n ∷ names) = n ++ slashed names
-
--- names that aren't empty and hold no `/`
-abbrev pub AreNames : List (List ℕ) → Type 0
-AreNames [] = ⊤
-AreNames (n ∷ names) = ¬ (n ≡ []) × HasNoSlash n × AreNames names
 
 -- the candidate of the start: empty, and `/` in a walk from the root
 abbrev pub base : Bool → List ℕ

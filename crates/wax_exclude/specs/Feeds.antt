@@ -10,20 +10,23 @@ use Rattle.wax_walk.specs.Collected.{IsCutShort}
 use Rattle.wax_walk.specs.declared.error.FaultKind.TheVariants.{Budget}
 use Rattle.wax_walk.specs.Forest.{preorder}
 use Rattle.wax_walk.specs.Given.{Facts, Mark, Given, fault, no_memory}
-use Rattle.wax_walk.specs.Left.{left_of}
+use Rattle.wax_walk.specs.Left.{left_of, opened_items}
+use Rattle.wax_walk.specs.Pruned.{Opening, opened_forest}
 use Rattle.wax_exclude.specs.GlobRequests.{GlobRequest, request_walk, walk_for}
 use Rattle.wax_exclude.specs.RuledWalks.{RuledWalk, exceeds_range, ruled_forest}
 use Rattle.wax_exclude.specs.Walked.{origin_location, origin_walk}
 use Rattle.wax_exclude.specs.Wanted.{stacked}
 
--- what rules, one after another, leave of the whole walk along the names of the origin, in the range
-abbrev pub feed_of : List (Facts → Mark) → DepthRange → Origin → Shown → List Given
-feed_of rules range origin s =
-    left_of (any_mark rules) (yielded range (whole_along origin.root (origin_location origin) s origin.names))
+-- what rules, one after another, leave of the whole walk along the names of the origin, in the range, if only
+-- these folders are opened
+abbrev pub feed_of : List (Facts → Mark) → Opening → DepthRange → Origin → Shown → List Given
+feed_of rules opening range origin s = left_of (any_mark rules) (opened_items opening
+    (yielded range (whole_along origin.root (origin_location origin) s origin.names)))
 
 -- the feed of a walk filtered by rules; nothing if the origin has more names than the greatest depth
 abbrev pub ruled_feed : RuledWalk → Shown → List Given
-ruled_feed walk s = if exceeds_range walk then [] else feed_of walk.rules walk.walked walk.origin s
+ruled_feed walk s = if exceeds_range walk then [] else
+    feed_of walk.rules walk.opening walk.walked walk.origin s
 
 -- the feed of a glob's walk
 abbrev pub request_feed : GlobRequest → Shown → List Given
@@ -31,9 +34,10 @@ request_feed request s = ruled_feed (walk_for request) s
 
 -- a walk along the names of an origin and from there on, with filters by any rules, yields what they leave
 abbrev pub FeedsByRules : Type 0
-FeedsByRules = (rules : List (Facts → Mark)) (range : DepthRange) (origin : Origin) (s : Shown)
-    → length origin.names ≤ range.max
-    → preorder (stacked rules (origin_walk range origin s)) ≡ feed_of rules range origin s
+FeedsByRules = (rules : List (Facts → Mark)) (opening : Opening) (range : DepthRange) (origin : Origin)
+    (s : Shown) → length origin.names ≤ range.max
+    → preorder (stacked rules (opened_forest opening (origin_walk range origin s)))
+    ≡ feed_of rules opening range origin s
 
 -- so does any walk filtered by rules
 abbrev pub FeedsByWalk : Type 0

@@ -1,5 +1,5 @@
 -- What a walk of a glob, without what filters exclude, yields to its end.
-use Rattle.std.specs.Prelude.{◌≡◌, ℕ, ◌<◌, Bool, ⊤, List, [], ◌∷◌, ◌++◌, All, length}
+use Rattle.std.specs.Prelude.{◌≡◌, ℕ, ◌<◌, Bool, ⊤, List, [], ◌∷◌, ◌++◌, length}
 use Rattle.wax_directory.specs.Law.{Law}
 use Rattle.wax_directory.specs.Shown.{Shown}
 use Rattle.wax_token.specs.Reads.{Span}
@@ -7,15 +7,16 @@ use Rattle.wax_tree.specs.Begins.{Origin}
 use Rattle.wax_tree.specs.declared.steps.DepthRange.{DepthRange}
 use Rattle.wax_tree.specs.Plain.{count_shown}
 use Rattle.wax_walk.specs.Candidates.{Candidate}
-use Rattle.wax_walk.specs.Forest.{Forest, Pending, listings}
+use Rattle.wax_walk.specs.Forest.{Forest, Pending}
 use Rattle.wax_walk.specs.Given.{Mark, Given}
 use Rattle.wax_walk.specs.View.{WalkView}
 use Rattle.wax_exclude.specs.Candidates.{base}
 use Rattle.wax_exclude.specs.Due.{Due, KeepsDue}
-use Rattle.wax_exclude.specs.Premises.{CanWalk, IsUnmeant}
+use Rattle.wax_exclude.specs.Premises.{IsUnmeant}
+use Rattle.wax_exclude.specs.Pruned.{CanWalkBy, ListsBy, Pruning, opening_by, rules_by}
 use Rattle.wax_exclude.specs.RuledWalks.{ComesRuled, RuledWalk, exceeds_range, ruled_forest, ruled_pending}
-use Rattle.wax_exclude.specs.Walked.{wanted_entries, MayList}
-use Rattle.wax_exclude.specs.Wanted.{Filter, Wanted, filter_mark, rules_of}
+use Rattle.wax_exclude.specs.Walked.{wanted_entries}
+use Rattle.wax_exclude.specs.Wanted.{Filter, Wanted, filter_mark}
 
 -- ---- rules of filters
 
@@ -35,8 +36,10 @@ excluding w filters = record w { filters = w.filters ++ filters }
 
 -- ---- walks
 
--- what is wanted, the depths that were requested, the range that is walked for them, and the origin
+-- how folders are left unopened, what is wanted, the depths that were requested, the range that is walked for
+-- them, and the origin
 pub record GlobRequest : Type 0 where
+  pub pruning : Pruning
   pub wanted : Wanted Span
   pub asked : DepthRange
   pub walked : DepthRange
@@ -48,7 +51,8 @@ request_excluding request filters = record request { wanted = excluding request.
 -- the glob's walk may begin at this origin; or no candidate matches, and the origin has more names than the
 -- greatest depth
 pub data CanBegin (request : GlobRequest) : Type 0 where
-  goes : CanWalk request.wanted request.asked request.walked request.origin → CanBegin request
+  goes : CanWalkBy request.pruning request.wanted request.asked request.walked request.origin
+      → CanBegin request
   unmeant : IsUnmeant request.wanted.rooted request.wanted.glob
       → request.origin.candidate ≡ base request.wanted.rooted
       → request.walked.max < length request.origin.names → CanBegin request
@@ -56,7 +60,8 @@ pub data CanBegin (request : GlobRequest) : Type 0 where
 -- the walk of the request: the rule of the glob's walk first, and that of each filter after it
 abbrev pub walk_for : GlobRequest → RuledWalk
 walk_for request = record {
-  rules = rules_of request.wanted;
+  opening = opening_by request.pruning request.wanted.glob;
+  rules = rules_by request.pruning request.asked.min request.wanted;
   walked = request.walked;
   origin = request.origin;
 }
@@ -84,13 +89,13 @@ ComesExcluding {D} law x inner outer = (d : D) (request : GlobRequest) → Comes
     → ComesWanted law d (request_excluding request (x ∷ [])) outer
 
 -- what is due: the walk of the request, whose entries are exactly the wanted ones, in order; it lists only
--- folders that it may list
+-- folders that it may list, or exactly those that it may open
 abbrev pub request_due : GlobRequest → Shown → Due
 request_due request s = record {
   walk = request_walk request s;
   entries = wanted_entries request.wanted request.asked request.origin s;
-  ListsRightly = All (MayList request.wanted request.walked request.origin)
-      (listings (request_walk request s));
+  ListsRightly = ListsBy request.pruning request.wanted request.walked request.origin s
+      (request_walk request s);
   items = count_shown s;
   budget = request.walked.budget;
 }

@@ -6,8 +6,10 @@ use Rattle.wax_tree.specs.Begins.{Origin}
 use Rattle.wax_tree.specs.declared.steps.DepthRange.{DepthRange}
 use Rattle.wax_tree.specs.Follows.{AreDistinctAlong}
 use Rattle.wax_walk.specs.Forest.{preorder, listings}
+use Rattle.wax_compiled.specs.Below.{goes_test}
 use Rattle.wax_exclude.specs.Candidates.{base}
 use Rattle.wax_exclude.specs.Premises.{CanWalk, IsUnmeant, IsPlainShown, IsWellNamed}
+use Rattle.wax_exclude.specs.Pruned.{CanWalkLeast, ListsBy, by_matches, least_walk}
 use Rattle.wax_exclude.specs.Walked.{wanted_entries, glob_walk, MayList}
 use Rattle.wax_exclude.specs.Wanted.{Wanted, is_kept_entry}
 
@@ -33,3 +35,36 @@ WantsNothing = (w : Wanted Span) (asked : DepthRange) (origin : Origin) (s : Sho
     → ((walked : DepthRange) × CanWalk w asked walked origin × (walked.max < length origin.names))
     ⊎ IsUnmeant w.rooted w.glob
     → wanted_entries w asked origin s ≡ []
+
+-- ---- walks that open only folders below which something is matched
+
+-- the entries that are kept are those of the whole walk that are in the requested range, that the glob
+-- matches and that no filter excludes, in order
+abbrev pub GivesLeast : Type 0
+GivesLeast = (w : Wanted Span) (asked walked : DepthRange) (origin : Origin) (s : Shown)
+    → CanWalkLeast w asked walked origin → IsPlainShown s → AreDistinctAlong origin.names s
+    → length origin.names ≤ walked.max
+    → filter is_kept_entry (preorder (least_walk (goes_test w.glob) asked.min w walked origin s))
+    ≡ wanted_entries w asked origin s
+
+-- the walk lists exactly the folders of the plain walk that it may open: those below which something is
+-- matched, and which no filter excludes with everything below
+abbrev pub ListsExactly : Type 0
+ListsExactly = (w : Wanted Span) (asked walked : DepthRange) (origin : Origin) (s : Shown)
+    → CanWalkLeast w asked walked origin → IsWellNamed s
+    → ListsBy by_matches w walked origin s (least_walk (goes_test w.glob) asked.min w walked origin s)
+
+-- if the origin has more names than the greatest depth, nothing is wanted
+abbrev pub LeastWantsNothing : Type 0
+LeastWantsNothing = (w : Wanted Span) (asked walked : DepthRange) (origin : Origin) (s : Shown)
+    → CanWalkLeast w asked walked origin → IsPlainShown s → walked.max < length origin.names
+    → wanted_entries w asked origin s ≡ []
+
+-- the law of walks
+pub record WalkLaw : Type 0 where
+  pub gives : GivesWanted
+  pub lists : ListsFew
+  pub nothing : WantsNothing
+  pub gives_least : GivesLeast
+  pub lists_exactly : ListsExactly
+  pub least_nothing : LeastWantsNothing

@@ -16,6 +16,7 @@ pub mod TreeRequests
 pub mod Prefix
 pub mod NamesBelow
 pub mod Premises
+pub mod Pruned
 pub mod Due
 pub mod GlobRequests
 pub mod Feeds

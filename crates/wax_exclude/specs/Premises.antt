@@ -8,7 +8,8 @@ use Rattle.wax_token.specs.Syntax.{Tree}
 use Rattle.wax_tree.specs.Begins.{Origin}
 use Rattle.wax_tree.specs.declared.steps.DepthRange.{DepthRange}
 use Rattle.wax_tree.specs.Prefix.{ArePlain}
-use Rattle.wax_exclude.specs.Candidates.{AreNames, base, text_at}
+use Rattle.wax_query.specs.Below.{AreNames}
+use Rattle.wax_exclude.specs.Candidates.{base, text_at}
 use Rattle.wax_exclude.specs.Wanted.{Wanted}
 
 -- each candidate that matches has at most `upper` names

@@ -12,11 +12,14 @@ use Rattle.wax_walk.specs.Course.{Course, IsStartOf, filtered_course, stop, yiel
 use Rattle.wax_walk.specs.Forest.{Forest, nothing, Pending, pending}
 use Rattle.wax_walk.specs.Given.{Facts, Mark, Given, changed_by, cut_by, no_memory}
 use Rattle.wax_walk.specs.View.{MayTake, WalkView}
+use Rattle.wax_walk.specs.Pruned.{Opening, opened_forest, opened_course}
 use Rattle.wax_exclude.specs.Walked.{origin_location, origin_walk}
 use Rattle.wax_exclude.specs.Wanted.{stacked}
 
--- the rules that filter a walk, one after another; the range that is walked, and the origin
+-- the folders that a walk opens, and the rules that filter it, one after another; the range that is walked,
+-- and the origin
 pub record RuledWalk : Type 0 where
+  pub opening : Opening
   pub rules : List (Facts → Mark)
   pub walked : DepthRange
   pub origin : Origin
@@ -30,10 +33,10 @@ abbrev pub exceeds_range : RuledWalk → Bool
 exceeds_range walk = nat_lt walk.walked.max (length walk.origin.names)
 
 -- what the walk yields: nothing if the origin has more names than the greatest depth, else what the rules
--- leave of the walk along these names and from there on
+-- leave of the walk along these names and from there on, of which only some folders are opened
 abbrev pub ruled_forest : RuledWalk → Shown → Forest Given
 ruled_forest walk s = if exceeds_range walk then nothing else stacked walk.rules
-    (origin_walk walk.walked walk.origin s)
+    (opened_forest walk.opening (origin_walk walk.walked walk.origin s))
 
 -- at most how many items are taken from listings for it
 abbrev pub ruled_items : RuledWalk → Shown → ℕ
@@ -53,7 +56,7 @@ abbrev pub walk_course : RuledWalk → Shown → Course
 walk_course walk s =
     let rule = any_mark walk.rules in
     if exceeds_range walk then stop else filtered_course (changed_by rule) (cut_by rule)
-    (origin_course walk.walked walk.origin s)
+    (opened_course walk.opening (origin_course walk.walked walk.origin s))
 
 -- what the walk may take: the course of a tree, in which each name of the origin is looked up among distinct
 -- names; or only the error that allocation failed

@@ -7,6 +7,7 @@ use Rattle.wax_tree.specs.declared.steps.DepthRange.{DepthRange}
 use Rattle.wax_tree.specs.Whole.{is_in, whole}
 use Rattle.wax_walk.specs.Given.{Given}
 use Rattle.wax_exclude.specs.GlobRequests.{GlobRequest, request_excluding}
+use Rattle.wax_exclude.specs.Pruned.{by_components}
 use Rattle.wax_exclude.specs.Walked.{wanted_entries}
 use Rattle.wax_exclude.specs.Wanted.{Filter, is_kept_where, none_excludes}
 
@@ -17,6 +18,7 @@ tree_alone = concatenation (0, 2) (more (leaf (0, 2) (tree false)) none)
 -- the plain walk of these depths from a start, as the walk of `**`
 abbrev pub tree_request : DepthRange → List ℕ → GlobRequest
 tree_request range start = record {
+  pruning = by_components;
   wanted = record { rooted = false; glob = tree_alone; filters = [] };
   asked = range;
   walked = range;

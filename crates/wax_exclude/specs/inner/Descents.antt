@@ -4,7 +4,8 @@ use Rattle.wax_tree.specs.Plain.{Location, item_location, one_deeper}
 use Rattle.wax_tree.specs.Prefix.{ArePlain}
 use Rattle.wax_walk.specs.Candidates.{Candidate}
 use Rattle.wax_walk.specs.Given.{Mark, with_tree}
-use Rattle.wax_exclude.specs.Candidates.{AreNames, candidate_at, text_at}
+use Rattle.wax_query.specs.Below.{AreNames}
+use Rattle.wax_exclude.specs.Candidates.{candidate_at, text_at}
 
 -- the mark of the candidate with these names
 abbrev pub said_of : Bool → (Candidate → Mark) → List (List ℕ) → Mark
