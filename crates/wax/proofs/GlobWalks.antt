@@ -21,7 +21,7 @@ use Rattle.wax_tree.specs.Plain.{count_shown}
 use Rattle.wax_walk.specs.Ruled.{ruled_view}
 use Rattle.wax_walk.proofs.Following.{lacks_ruled, take_ruled}
 use Rattle.wax_walk.specs.Course.{Course}
-use Rattle.wax_walk.specs.View.{IsSeenAs, MayTake, WalkView}
+use Rattle.wax_walk.specs.View.{IsSeenAs, MayTake, WalkView, is_above}
 use Rattle.wax_tree.specs.Prefix.{ArePlain}
 use Rattle.wax_exclude.specs.Wanted.{Filter}
 use Rattle.wax_exclude.specs.Premises.{CanWalk, IsUnmeant}
@@ -36,7 +36,10 @@ use Rattle.wax_exclude.specs.Leading.{component_test, lead_test, leading_of}
 use Rattle.wax_exclude.specs.Marks.{glob_mark, led_mark}
 use Rattle.wax.specs.GlobView.{GlobView}
 use Rattle.wax.proofs.GoingAlong.{names_are}
-use Rattle.wax.specs.GlobWalks.{Beginning, BeginsGlob, IsPlan, LeadsNowhere, has_empty_name, is_too_deep, request_of, wants, origin_from, within}
+use Rattle.wax_exclude.specs.Pruned.{Pruning, by_components, opening_by, rules_by}
+use Rattle.wax_exclude.specs.Wanted.{stacked}
+use Rattle.wax_walk.specs.Pruned.{opened_forest}
+use Rattle.wax.specs.GlobWalks.{Beginning, BeginsGlob, IsPlan, LeadsNowhere, has_empty_name, is_too_deep, request_by, request_of, wants, origin_from, within}
 
 -- ---- the programs say what the tree says
 
@@ -132,24 +135,27 @@ same_split p b c names others h k =
 -- ---- what is wanted comes
 
 -- where that comes which is shown from the prefix on, and nothing where it is too long
-module _ {D C : Type 0} {t : Tree Span} (law : Law D C) (d : D) (start : List ℕ) (asked : DepthRange) (depth : Bounds) (view : WalkView D) (b : Beginning t) where
+module _ {D C : Type 0} {t : Tree Span} (law : Law D C) (d : D) (start : List ℕ) (asked : DepthRange) (depth : Bounds) (view : WalkView D) (b : Beginning t) (pruning : Pruning) where
   abbrev request : GlobRequest
-  request = request_of start asked depth b []
+  request = request_by pruning start asked depth b []
+
+  abbrev requested : Shown → Forest Given
+  requested s = stacked (rules_by pruning asked.min (wants t b [])) (opened_forest (opening_by pruning t) (origin_walk request.walked request.origin s))
 
   abbrev ComesShown : Type 0
   ComesShown = (s : Shown) (listed : List (List ℕ)) → law.shows d request.origin.path s → law.tells d listed → length b.names ≤ request.walked.max →
-      view.to_come (pending nothing (glob_walk request.wanted request.walked request.origin s) listed (count_shown s))
+      view.to_come (pending nothing (requested s) listed (count_shown s))
 
   abbrev ComesBeyond : Type 0
   ComesBeyond = (s : Shown) (listed : List (List ℕ)) → law.shows d request.origin.path s → law.tells d listed → request.walked.max < length b.names → view.to_come (pending nothing nothing listed 0)
 
-  comes_so : ComesShown → ComesBeyond → ((c : Course) → MayTake view c → WalkTakes (walk_for request) c)
+  pub comes_so : ComesShown → ComesBeyond → ((c : Course) → MayTake view c → WalkTakes (walk_for request) c)
       → view.listings_left ≡ asked.budget + 1 → ComesWanted law d request view
   comes_so shown beyond takes listings = record {
     comes = λ s listed k told.
         let same : request.origin.names ≡ b.names = sym (names_are start b.rooted b.names) in
         elim (is_beyond request) as
-        (λ x. is_beyond request ≡ x → view.to_come (pending nothing (if x then nothing else glob_walk request.wanted request.walked request.origin s) listed (if x then 0 else count_shown s))) [
+        (λ x. is_beyond request ≡ x → view.to_come (pending nothing (if x then nothing else requested s) listed (if x then 0 else count_shown s))) [
           | true ↦ λ e. beyond s listed k told (subst (λ ns. request.walked.max < length ns) same (ltb-true request.walked.max (length request.origin.names) e))
           | false ↦ λ e. shown s listed k told (subst (λ ns. length ns ≤ request.walked.max) same (ltb-false request.walked.max (length request.origin.names) e))
         ] refl;
@@ -203,7 +209,7 @@ module _ {D C : Type 0} (g : GlobView) (law : Law D C) (d : D) (start : List ℕ
     same_names : (a : Beginning g.tree) → a.names ≡ (origin_from start a.rooted a.names).names
     same_names a = names_are start a.rooted a.names
 
-    shown_along : (a : Beginning g.tree) → ArePlain a.names → ComesShown law d start asked depth view a
+    shown_along : (a : Beginning g.tree) → ArePlain a.names → ComesShown law d start asked depth view a by_components
     shown_along a plain = λ s listed h told fits.
         let f = origin_walk walked (origin_from start a.rooted a.names) s in
         let rule = same_rule a in
@@ -216,7 +222,7 @@ module _ {D C : Type 0} (g : GlobView) (law : Law D C) (d : D) (start : List ℕ
           ),
         )
 
-    beyond_along : (a : Beginning g.tree) → ComesBeyond law d start asked depth view a
+    beyond_along : (a : Beginning g.tree) → ComesBeyond law d start asked depth view a by_components
     beyond_along a = λ s listed h told less.
         seen.to_come (pending nothing nothing listed 0) (refl, (pending nothing nothing listed 0, (begins_so a).beyond s listed h told (subst (λ ns. walked.max < length ns) (same_names a) less), refl))
 
@@ -225,7 +231,7 @@ module _ {D C : Type 0} (g : GlobView) (law : Law D C) (d : D) (start : List ℕ
     takes_along a plain c t =
         let leading = leading_mark (component_test {A = Span}) cs decides g in
         let p = take_ruled inner view leading seen c t in
-        ruled_takes (walk_for (request_of start asked depth a [])) leading p.0 c (subst ArePlain (same_names a) plain)
+        ruled_takes (walk_for (request_of start asked depth a [])) leading p.0 c refl (subst ArePlain (same_names a) plain)
         (ap of_candidate (sym (same_rule a)) ∙ sym (any_alone (of_candidate (glob_mark a.rooted g.tree))))
         ((begins_so a).takes p.0 p.1) p.2
 
@@ -268,7 +274,7 @@ module _ {D C : Type 0} (g : GlobView) (law : Law D C) (d : D) (start : List ℕ
       beyond = beyond_along;
       unmeant = λ taken prefix p e path s listed h told. absurd ((plan taken prefix p).0.unbroken e);
       idle = idle_along;
-      comes = λ a plain. comes_so law d start asked depth view a (shown_along a plain) (beyond_along a)
+      comes = λ a plain. comes_so law d start asked depth view a by_components (shown_along a plain) (beyond_along a)
           (takes_along a plain) listings_along;
       listings = listings_along;
       names = λ a. subst (λ ns. view.names_left ≤ length ns) (sym (same_names a))
@@ -288,7 +294,7 @@ module _ {D C : Type 0} (g : GlobView) (law : Law D C) (d : D) (start : List ℕ
       ];
       none_to_open = seen.to_open ∙ b.none_to_open;
       yields_from = seen.yields_from ∙ b.yields_from ∙ ap (λ r. r.min) same_range;
-      opens_above = seen.opens_above ∙ b.opens_above ∙ ap (λ r. r.max) same_range;
+      may_open = seen.may_open ∙ b.may_open ∙ ap (λ r. is_above r.max) same_range;
       directory = seen.directory ∙ b.directory;
     }
 
@@ -318,7 +324,7 @@ module _ {D C : Type 0} (g : GlobView) (law : Law D C) (d : D) (start : List ℕ
     );
     none_to_open = seen.to_open ∙ b.none_to_open;
     yields_from = seen.yields_from ∙ b.yields_from ∙ ap (λ r. r.min) same;
-    opens_above = seen.opens_above ∙ b.opens_above ∙ ap (λ r. r.max) same;
+    may_open = seen.may_open ∙ b.may_open ∙ ap (λ r. is_above r.max) same;
     directory = seen.directory ∙ b.directory;
   }
 
@@ -336,7 +342,7 @@ module _ {D C : Type 0} (g : GlobView) (law : Law D C) (d : D) (start : List ℕ
     idle = λ h. seen.idles (inr b.idle);
     unmeant = λ taken prefix p e path s listed h told. nothing_comes listed told;
     comes = λ a plain.
-        comes_so law d start asked depth view a (shown_refused a) (λ s listed h told less. nothing_comes listed told)
+        comes_so law d start asked depth view a by_components (shown_refused a) (λ s listed h told less. nothing_comes listed told)
         (λ c t. lacking (lacks_ruled inner view (leading_mark (component_test {A = Span}) cs decides g) seen b.takes c t))
         listings_refused;
     listings = listings_refused;
@@ -351,10 +357,10 @@ module _ {D C : Type 0} (g : GlobView) (law : Law D C) (d : D) (start : List ℕ
     );
     none_to_open = seen.to_open ∙ b.none_to_open;
     yields_from = seen.yields_from ∙ b.yields_from ∙ ap (λ r. r.min) same;
-    opens_above = seen.opens_above ∙ b.opens_above ∙ ap (λ r. r.max) same;
+    may_open = seen.may_open ∙ b.may_open ∙ ap (λ r. is_above r.max) same;
     directory = seen.directory ∙ b.directory;
   } where
-    shown_refused : (a : Beginning g.tree) → ComesShown law d start asked depth view a
+    shown_refused : (a : Beginning g.tree) → ComesShown law d start asked depth view a by_components
     shown_refused a = λ s listed h told fits.
         let origin = origin_from start a.rooted a.names in
         let f = glob_walk (wants g.tree a []) walked origin s in

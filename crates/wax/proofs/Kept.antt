@@ -1,5 +1,5 @@
 -- What is kept of a glob's walk, whatever the directory shows, and where two `/` stand side by side in the prefix.
-use Rattle.std.proofs.Common.{◌≡◌, ◌∙◌, ℕ, ◌+◌, ◌*◌, ◌≤◌, false, List, [], ◌∷◌, ◌++◌, length, filter, refl, ap, subst, arith, inl, inr}
+use Rattle.std.proofs.Common.{◌≡◌, ◌∙◌, ℕ, ◌+◌, ◌≤◌, false, List, [], ◌∷◌, ◌++◌, filter, refl, ap, subst, arith, inl, inr}
 use Rattle.wax_directory.specs.Counting.{grown}
 use Rattle.wax_directory.specs.Law.{Law}
 use Rattle.wax_walk.specs.Collected.{GaveAll, whole, lacks_memory, over_budget, Took, all_fault_counts, all_items_lost, count_to_open}
@@ -15,13 +15,14 @@ use Rattle.wax_token.specs.Reads.{Span}
 use Rattle.wax_token.specs.Syntax.{Tree}
 use Rattle.wax_tree.specs.declared.steps.DepthRange.{DepthRange}
 use Rattle.wax_tree.proofs.Reaching.{errors_passed}
-use Rattle.wax.specs.GlobWalks.{BeginsGlob, FailsAtFolders, GaveWithin, KeepsNothing, none_kept, memory_alone}
+use Rattle.wax_exclude.specs.Pruned.{Pruning}
+use Rattle.wax.specs.GlobWalks.{BeginsBy, BeginsGlob, FailsAtFolders, GaveBy, KeepsNothing, none_kept, memory_alone}
 
-pub gave_within : {D C : Type 0} (t : Tree Span) (law : Law D C) (d : D) (start : List ℕ) (asked : DepthRange)
-    (v : WalkView D) (rule : Candidate → Mark) (new : D) (xs : List Given) → BeginsGlob t law d start asked v
-    → Took law (ruled_view v rule false) new xs
-    → GaveWithin t law d asked new xs
-gave_within t law d start asked v rule new xs begins took = let over = begins.directory in record {
+pub gave_within : (pruning : Pruning) {D C : Type 0} (t : Tree Span) (law : Law D C) (d : D) (start : List ℕ)
+    (asked : DepthRange) (v : WalkView D) (rule : Candidate → Mark) (new : D) (xs : List Given)
+    → BeginsBy pruning t law d start asked v → Took law (ruled_view v rule false) new xs
+    → GaveBy pruning t law d asked new xs
+gave_within pruning t law d start asked v rule new xs begins took = let over = begins.directory in record {
   counts = subst (λ w. CountsFaults (all_fault_counts xs) (all_items_lost xs) (law.tally w) (law.tally new)) over
       took.counts;
   taken = took.taken;
@@ -60,7 +61,7 @@ gave_within t law d start asked v rule new xs begins took = let over = begins.di
   opens = λ n. (
     begins.depth,
     begins.depth_is,
-    subst (λ m. took.opened ≡ took.folders + count_to_open m xs) begins.opens_above
+    subst (λ m. took.opened ≡ took.folders + count_to_open m xs) begins.may_open
         (omega (arith, took.opens n, begins.none_to_open)),
   );
 }
@@ -75,7 +76,7 @@ fails_at_folders t law d start asked v rule new xs begins took b = (
   errors_passed asked.min _ b.names _ (ruled_view v rule false) xs (record {
     at = (begins.fails b).at;
     below = λ path depth i. (begins.fails b).below path depth i.1;
-  }) begins.opens_above took.of_folders,
+  }) begins.may_open took.of_folders,
 )
 
 front_empty : (xs ys : List Given) → xs ++ ys ≡ [] → xs ≡ []

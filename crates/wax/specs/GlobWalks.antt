@@ -1,6 +1,6 @@
 -- The walk of a glob.
-use Rattle.std.specs.Prelude.{◌≡◌, ℕ, ◌+◌, ◌*◌, ◌<◌, ◌≤◌, Bool, true, false, List, [], ◌∷◌, length, min}
-use Rattle.std.specs.Prelude.{◌⊎◌, Option, Some, None}
+use Rattle.std.specs.Prelude.{◌≡◌, ℕ, ◌+◌, ◌<◌, ◌≤◌, Bool, true, false, List, [], ◌∷◌, length, min}
+use Rattle.std.specs.Prelude.{◌⊎◌, ◌&&◌, Option, Some, None}
 use Rattle.std.specs.List.{Contains}
 use Rattle.wax_exclude.specs.GlobRequests.{ComesWanted, GlobRequest}
 use Rattle.wax_components.specs.Depth.{Depth}
@@ -20,12 +20,16 @@ use Rattle.wax_walk.specs.Collected.{AreOfFolders, EndsThere, NoneLast, NoMemory
 use Rattle.wax_walk.specs.Collected.{all_fault_counts, all_items_lost, count_to_open}
 use Rattle.wax_walk.specs.declared.error.FaultKind.TheVariants.{Budget, NotAFolder}
 use Rattle.wax_walk.specs.Forest.{pending, nothing}
-use Rattle.wax_walk.specs.Given.{Given, fault, no_memory}
-use Rattle.wax_walk.specs.View.{CountsFaults, WalkView}
+use Rattle.wax_walk.specs.Given.{Facts, Given, fault, no_memory}
+use Rattle.wax_walk.specs.View.{CountsFaults, WalkView, is_above}
 use Rattle.wax_exclude.specs.Leading.{leading_of}
-use Rattle.wax_exclude.specs.Premises.{CanWalk, IsUnmeant}
-use Rattle.wax_exclude.specs.Walked.{glob_walk}
-use Rattle.wax_exclude.specs.Wanted.{Filter, Wanted}
+use Rattle.wax_exclude.specs.Premises.{IsUnmeant}
+use Rattle.wax_exclude.specs.Pruned.{CanWalkBy, Pruning, by_components, by_matches, opening_by, opens_where}
+use Rattle.wax_exclude.specs.Pruned.{rules_by}
+use Rattle.wax_exclude.specs.Walked.{origin_walk}
+use Rattle.wax_exclude.specs.Wanted.{Filter, Wanted, stacked}
+use Rattle.wax_compiled.specs.Below.{goes_test}
+use Rattle.wax_walk.specs.Pruned.{opened_forest}
 
 -- the lesser of a greatest depth and the greatest number of components
 abbrev pub up_to : ℕ → Option ℕ → ℕ
@@ -35,6 +39,22 @@ up_to most (Some upper) = min most upper
 -- the range, but no deeper than the texts
 abbrev pub within : DepthRange → Bounds → DepthRange
 within range depth = record { min = range.min; max = up_to range.max depth.1; budget = range.budget }
+
+-- the least depth that is walked: a walk that opens only folders below which something is matched asks about
+-- all of them
+abbrev pub least_by : Pruning → ℕ → ℕ
+least_by by_components least = least
+least_by by_matches least = 0
+
+-- the range that is walked
+abbrev pub walked_by : Pruning → DepthRange → Bounds → DepthRange
+walked_by pruning asked depth =
+    record { min = least_by pruning asked.min; max = up_to asked.max depth.1; budget = asked.budget }
+
+-- the folders that are opened
+abbrev pub walk_opens : Pruning → Tree Span → ℕ → Facts → Bool
+walk_opens by_components t most = is_above most
+walk_opens by_matches t most = λ f. is_above most f && opens_where (goes_test t) f
 
 -- the origin of these names, from a start, or from the root
 abbrev pub origin_from : List ℕ → Bool → List (List ℕ) → Origin
@@ -59,14 +79,20 @@ abbrev pub wants : (t : Tree Span) → Beginning t → List (Filter Span) → Wa
 wants t b filters = record { rooted = b.rooted; glob = t; filters = filters }
 
 -- what is wanted of the walk of a glob, less what these filters leave out
-abbrev pub request_of : {t : Tree Span} → List ℕ → DepthRange → Bounds → Beginning t → List (Filter Span)
-    → GlobRequest
-request_of {t} start asked depth b filters = record {
+abbrev pub request_by : {t : Tree Span} → Pruning → List ℕ → DepthRange → Bounds → Beginning t
+    → List (Filter Span) → GlobRequest
+request_by {t} pruning start asked depth b filters = record {
+  pruning = pruning;
   wanted = wants t b filters;
   asked = asked;
-  walked = within asked depth;
+  walked = walked_by pruning asked depth;
   origin = origin_from start b.rooted b.names;
 }
+
+-- so it is of the walk with captures
+abbrev pub request_of : {t : Tree Span} → List ℕ → DepthRange → Bounds → Beginning t → List (Filter Span)
+    → GlobRequest
+request_of start asked depth b filters = request_by by_components start asked depth b filters
 
 -- two `/` stand side by side in the prefix, so that the walk of the glob begins nowhere
 abbrev pub HasBrokenPrefix : Tree Span → Type 0
@@ -80,21 +106,23 @@ pub data LeadsNowhere (t : Tree Span) (range : DepthRange) : Type 0 where
   is_too_deep : (b : Beginning t) → range.max < length b.names → LeadsNowhere t range
 
 -- A walk over this directory that was made of a glob, in a range: what it means of what is shown will come.
-pub record BeginsGlob {D C : Type 0} (t : Tree Span) (law : Law D C) (d : D) (start : List ℕ)
-    (asked : DepthRange) (view : WalkView D) : Type 0 where
+pub record BeginsBy (pruning : Pruning) {D C : Type 0} (t : Tree Span) (law : Law D C) (d : D)
+    (start : List ℕ) (asked : DepthRange) (view : WalkView D) : Type 0 where
   pub depth : Bounds
   pub depth_is : Depth t depth
   -- there is a place where the walk begins, but for a broken prefix, and unless memory ran out before
   pub begins : Beginning t ⊎ (HasBrokenPrefix t ⊎ OnlyLacks view)
   -- less whatever filters, this is all that is wanted, as the law of glob walks says
   pub can : (b : Beginning t) (filters : List (Filter Span)) → ArePlain b.names
-      → CanWalk (wants t b filters) asked (within asked depth) (origin_from start b.rooted b.names)
+      → CanWalkBy pruning (wants t b filters) asked (walked_by pruning asked depth)
+      (origin_from start b.rooted b.names)
   -- from the prefix on, to the greatest depth of the texts
   pub shown : (b : Beginning t) (s : Shown) (listed : List (List ℕ))
       → law.shows d (origin_from start b.rooted b.names).path s → law.tells d listed → ArePlain b.names
       → length b.names ≤ (within asked depth).max
       → view.to_come (pending nothing
-      (glob_walk (wants t b []) (within asked depth) (origin_from start b.rooted b.names) s) listed
+      (stacked (rules_by pruning asked.min (wants t b [])) (opened_forest (opening_by pruning t)
+      (origin_walk (walked_by pruning asked depth) (origin_from start b.rooted b.names) s))) listed
       (count_shown s))
   -- nothing, where the prefix has more names than the greatest depth
   pub beyond : (b : Beginning t) (s : Shown) (listed : List (List ℕ))
@@ -111,29 +139,34 @@ pub record BeginsGlob {D C : Type 0} (t : Tree Span) (law : Law D C) (d : D) (st
   pub idle : LeadsNowhere t (within asked depth) → view.is_idle
   -- so what is wanted comes: filters over the walk take from this, and what is collected is the rest
   pub comes : (b : Beginning t) → ArePlain b.names
-      → ComesWanted law d (request_of start asked depth b []) view
+      → ComesWanted law d (request_by pruning start asked depth b []) view
   pub listings : view.listings_left ≡ asked.budget + 1
   pub names : (b : Beginning t) → view.names_left ≤ length b.names
   -- errors may come only of what the walk passes on the way of the prefix
-  pub fails : (b : Beginning t) → FailsFrom asked.min (origin_from start b.rooted b.names).path b.names view
+  pub fails : (b : Beginning t)
+      → FailsFrom (least_by pruning asked.min) (origin_from start b.rooted b.names).path b.names view
   -- no listing is open, and folders are opened above the lesser greatest depth
   pub none_listed : view.listings_open ≡ 0
   pub begun : IsBegun ((b : Beginning t) → (within asked depth).max < length b.names) view
   pub none_to_open : view.to_open ≡ 0
-  pub yields_from : view.yields_from ≡ asked.min
-  pub opens_above : view.opens_above ≡ (within asked depth).max
+  pub yields_from : view.yields_from ≡ least_by pruning asked.min
+  pub may_open : view.may_open ≡ walk_opens pruning t (within asked depth).max
   pub directory : view.directory ≡ d
+
+-- so it is of the walk with captures
+abbrev pub BeginsGlob : {D C : Type 0} → Tree Span → Law D C → D → List ℕ → DepthRange → WalkView D → Type 0
+BeginsGlob t law d start asked view = BeginsBy by_components t law d start asked view
 
 -- Whatever the directory shows: a walk over it gave these items. The faults among them are those that were
 -- counted, but for one item's at most, if the budget is reached or memory runs out. At most budget + 1 items
 -- were taken from listings: all of these if the budget is reached, and no more than the budget if no item
 -- ends the walk. Unless memory runs out, each of them was given, or passed if there is a least depth;
 -- besides, only the entry where the walk begins was given, and errors of folders that couldn't be opened.
--- Just the folders that were given above the greatest depth were opened, and those that were passed. A folder
+-- Just the folders that were given and are opened were opened, and those that were passed. A folder
 -- was missed only on the way along the prefix. An item after which a walk has ended is the last. If none is,
 -- as many listings came to their end as folders were opened.
-pub record GaveWithin {D C : Type 0} (t : Tree Span) (law : Law D C) (d : D) (asked : DepthRange)
-    (new : D) (xs : List Given) : Type 0 where
+pub record GaveBy (pruning : Pruning) {D C : Type 0} (t : Tree Span) (law : Law D C) (d : D)
+    (asked : DepthRange) (new : D) (xs : List Given) : Type 0 where
   pub counts : CountsFaults (all_fault_counts xs) (all_items_lost xs) (law.tally d) (law.tally new)
   pub taken : ℕ
   pub counted : (law.tally new).items ≡ grown taken (law.tally d).items
@@ -145,7 +178,7 @@ pub record GaveWithin {D C : Type 0} (t : Tree Span) (law : Law D C) (d : D) (as
   pub ends_there : EndsThere xs
   pub going : NoneLast xs → taken ≤ asked.budget
   pub passed : ℕ
-  pub passes : asked.min ≡ 0 → passed ≡ 0
+  pub passes : least_by pruning asked.min ≡ 0 → passed ≡ 0
   pub refused : ℕ
   pub refuses : refused ≤ (all_fault_counts xs).failures
   pub begun : ℕ
@@ -160,14 +193,18 @@ pub record GaveWithin {D C : Type 0} (t : Tree Span) (law : Law D C) (d : D) (as
   pub opened_is : (law.tally new).opened ≡ grown opened (law.tally d).opened
   pub ended_is : NoneLast xs → (law.tally new).ended ≡ grown opened (law.tally d).ended
   pub opens : NoMemoryError xs → (depth : Bounds) × Depth t depth
-      × (opened ≡ folders + count_to_open (up_to asked.max depth.1) xs)
+      × (opened ≡ folders + count_to_open (walk_opens pruning t (up_to asked.max depth.1)) xs)
+
+-- so it is of the walk with captures
+abbrev pub GaveWithin : {D C : Type 0} → Tree Span → Law D C → D → DepthRange → D → List Given → Type 0
+GaveWithin t law d asked new xs = GaveBy by_components t law d asked new xs
 
 -- Whatever the directory shows: each error among these items is of a folder that was given before it, or of
 -- what the walk passes on the way of the prefix.
 abbrev pub FailsAtFolders : Tree Span → List ℕ → DepthRange → List Given → Type 0
 FailsAtFolders t start asked xs = (b : Beginning t) → (depth : Bounds) × Depth t depth
     × AreOfFolders (IsPassed asked.min (origin_from start b.rooted b.names).path b.names)
-    (up_to asked.max depth.1) xs
+    (is_above (up_to asked.max depth.1)) xs
 
 -- nothing was kept, and no folder was listed; or it was only told that memory was refused
 pub data KeepsNothing (tells : List (List ℕ) → Type 0) (listed : List (List ℕ)) (ys : List Given) : Type 0

@@ -26,7 +26,8 @@ pub use Rattle.wax_exclude.specs.Due.{Due, KeepsDue, gives, lacks_memory, over_b
 pub use Rattle.wax_exclude.specs.Excluded.{excluded_mark}
 pub use Rattle.wax_exclude.specs.Feeds.{FeedsByRequest, FeedsByRules, FeedsByWalk, FeedsRuled, FeedsWanted}
 pub use Rattle.wax_exclude.specs.Feeds.{feed_of, request_feed, ruled_feed}
-pub use Rattle.wax_exclude.specs.Law.{GivesWanted, ListsFew, WantsNothing}
+pub use Rattle.wax_exclude.specs.Law.{GivesLeast, GivesWanted, LeastWantsNothing, ListsExactly, ListsFew}
+pub use Rattle.wax_exclude.specs.Law.{WantsNothing}
 pub use Rattle.wax_exclude.specs.Leading.{leading_of}
 pub use Rattle.wax_exclude.specs.Marks.{covered_mark, glob_mark, not_mark}
 pub use Rattle.wax_exclude.specs.Told.{Answering, FeedsAnswered, IsTold, KeepsAnswered, KeepsTold}
@@ -37,6 +38,7 @@ pub use Rattle.wax_exclude.specs.Premises.{BeginsWith, CanWalk, IsUnmeant, IsWel
 pub use Rattle.wax_exclude.specs.GlobRequests.{AreRulesOf, ComesExcluding, ComesWanted, IsRuleOf, KeepsWanted}
 pub use Rattle.wax_exclude.specs.GlobRequests.{CanBegin, GlobRequest, goes, is_beyond, request_due}
 pub use Rattle.wax_exclude.specs.GlobRequests.{request_excluding, request_pending, request_walk, walk_for}
+pub use Rattle.wax_exclude.specs.Pruned.{ListsBy, MayOpen, MeansLonger, Pruning, by_components, by_matches}
 pub use Rattle.wax_exclude.specs.RuledWalks.{ComesRuled, RuledWalk, WalkTakes, walk_course, with_rule}
 pub use Rattle.wax_exclude.specs.Walked.{glob_walk, wanted_entries, origin_walk}
 pub use Rattle.wax_exclude.specs.WantedEntries.{IsExcludedBy, IsWantedEntry, Selects, SelectsWanted}
@@ -78,15 +80,16 @@ pub use Rattle.wax_walk.specs.Forest.{Forest, Pending, filtered, filtered_pendin
 pub use Rattle.wax_walk.specs.Forest.{preorder}
 pub use Rattle.wax_walk.specs.Given.{Facts, Given, Mark, alone, changed_by, combined_mark, cut_by, entry}
 pub use Rattle.wax_walk.specs.Given.{fault, is_kept, kept, no_memory, with_tree}
-pub use Rattle.wax_walk.specs.Left.{left_after, left_of}
+pub use Rattle.wax_walk.specs.Left.{left_after, left_of, opened_items}
 pub use Rattle.wax_walk.specs.Known.{KeepsKnown, KnownItem, KnownOutcome, StaysKnown}
 pub use Rattle.wax_walk.specs.Laws.{closure_cancelling, closure_telling, nothing_known, ruled_cancelling}
-pub use Rattle.wax_walk.specs.Laws.{ruled_telling}
+pub use Rattle.wax_walk.specs.Laws.{ruled_telling, selected_cancelling, selected_telling}
+pub use Rattle.wax_walk.specs.Pruned.{Opening, all_folders, selected_view, these_folders}
 pub use Rattle.wax_walk.specs.Ruled.{ruled_view}
 pub use Rattle.wax_walk.specs.Said.{RuleStep, mark_of}
 pub use Rattle.wax_walk.specs.Says.{SaysByRule, closure_view}
 pub use Rattle.wax_walk.specs.View.{CancelStep, FeedStep, IsErrorAt, IsFolderAt, IsSeenAs, MayFail, Places}
-pub use Rattle.wax_walk.specs.View.{WalkView}
+pub use Rattle.wax_walk.specs.View.{WalkView, is_above}
 pub use Rattle.wax_walk.specs.declared.entry.TreeEntry.{TreeEntry}
 pub use Rattle.wax_walk.specs.declared.error.FaultKind.TheVariants.{Budget}
 pub use Rattle.wax_walk.specs.declared.error.WalkError.{WalkError}

@@ -3,6 +3,7 @@ ghost use Rattle.std.specs.Prelude.{◌≡◌, ◌<◌, ◌≤◌, ◌↔◌, �
 ghost use Rattle.std.specs.Prelude.{IfSome, MatchOption, Some, chars, encode_utf8_all, length, false, min};
 ghost use Rattle.wax_program.specs.Meter.{most_ticks};
 ghost use Rattle.wax_candidate.specs.Parts.{NoLineEndsBefore};
+ghost use Rattle.wax_compiled.specs.Below.{MeansBelow, goes_test};
 ghost use Rattle.wax_components.specs.Capturing.{captures};
 ghost use Rattle.wax_components.specs.Warnings.{has_semantic_literals, warnings};
 ghost use Rattle.wax_components.specs.Depth.{Depth};
@@ -31,7 +32,7 @@ use std::alloc::Global;
 use std::borrow::CowStr;
 use std::fmt;
 use std::marker::Model;
-pub use walking::GlobWalk;
+pub use walking::{GlobWalk, UncapturedWalk};
 use wax_candidate::{CandidatePath, MatchedText, Program};
 use wax_capture::Pieces;
 use wax_compiled::CompiledTokens;
@@ -242,6 +243,30 @@ impl<'t> Glob<'t> {
     {
         self.compiled.is_match_metered(alloc, path.as_str(), meter)
     }
+
+    /// Returns whether something below the folder with this path can match: whether the glob matches
+    /// the path of something below it. A watcher, a sync or a walk of one's own needs to look only
+    /// into such folders. The empty path is the folder where paths begin.
+    ///
+    /// ```
+    /// let glob = Glob::new(alloc, "src/*/tests/*.rs")?;
+    /// for folder in ["src/net", "src/net/tests", "src/net/tests/a.rs", "doc"] {
+    ///     let path = CandidatePath::from(folder);
+    ///     println!(rt; "{}", glob.goes_on(alloc, &path)?)?; // true; true; false; false
+    /// }
+    /// ```
+    ///
+    /// Takes time linear in the program, and as much again for each of the loops that lie within one
+    /// another. For many folders `GlobMatcher::goes_on` is faster.
+    ///
+    /// # Errors
+    ///
+    /// Returns `NoMemory` if allocation fails.
+    pub fn goes_on(&self, alloc: Global, path: &CandidatePath<'_>) -> Result<bool, NoMemory>
+        ensures { IfOk result (λ answer. IsTrue answer ↔ MeansBelow self.now.tree path.now) }
+    {
+        self.compiled.goes_on(alloc, path.as_str())
+    }
 }
 
 impl<'t> Glob<'t> {
@@ -295,6 +320,8 @@ impl Program for Glob<'_> {
     ghost means = { IsMeant };
 
     ghost decides = { λ glob. means_test glob.tree false false };
+
+    ghost goes_on = { λ glob. goes_test glob.tree };
 
     ghost captured = { HasCaptures };
 

@@ -2,5 +2,5 @@
 
 pub use wax_query::query::{
     Bounded, BoundedVariantRange, Boundedness, CapturingToken, DepthVariance, LocatedError,
-    NaturalRange, Span, TextVariance, Unbounded, Variance, VariantRange, When,
+    NaturalRange, Span, TextVariance, Unbounded, Variance, VariantRange, Verdict, When,
 };

@@ -3,7 +3,7 @@
 pub use crate::exclusions::{
     FileIteratorExt, FilterAnyExt, Ignore, Not, excluding_ignored, excluding_pattern, exclusion_of,
 };
-pub use crate::glob::GlobWalk;
+pub use crate::glob::{GlobWalk, UncapturedWalk};
 pub use crate::ignoring::{IgnoreError, IgnoreList};
 pub use crate::walk_filter::WalkFilter;
 pub use wax_directory::directory::{Directory, DirectoryFault, FileType, ListItem};
@@ -17,12 +17,12 @@ pub use wax_exclude::{
     law_of_ignoring, law_of_last_match, law_of_plain_walks, law_of_walks, law_of_wanted,
 };
 pub use wax_folders::Folders;
-pub use wax_glob_walk::{FilterAny, GlobEntry, GlobFeed, Matching, Uncaptured, Unmatched};
+pub use wax_glob_walk::{FilterAny, GlobEntry, GlobFeed, Matched, Matching, Uncaptured};
 pub use wax_tree::{
     DepthBehavior, DepthMax, DepthMin, DepthMinMax, DepthRange, LinkBehavior, PathExt, TreeFeed,
     WalkBehavior, WalkTree, entries,
 };
 pub use wax_walk::{
     Candidate, Entry, EntryResidue, Exclude, Excluding, FaultKind, FileIterator, FilterEntry,
-    TreeEntry, WalkError, WalkErrorKind,
+    Select, Selecting, Selection, TreeEntry, WalkError, WalkErrorKind,
 };

@@ -12,57 +12,24 @@ ghost use Rattle.wax_walk.specs.Entries.{given_of};
 
 use std::alloc::Global;
 use std::io::Write;
-use wax_candidate::BuildMatcher;
-use wax_directory::directory::Directory;
 use wax_exclude::law_of_walks;
-use wax_filter::filter::{Feed, SeparatingFilter, Separation, TreeResidue};
-use wax_glob_walk::{FilterAny, GlobWalk, NameTest};
+use wax_filter::filter::{Feed, Separation, TreeResidue};
+use wax_glob_walk::FilterAny;
 use wax_lines::{Counted, LinesError, push_line, write_whole};
 use wax_walk::{Entry, Exclude, FileIterator, WalkError};
 
 /// Lines are written once that many bytes of them wait.
 const CHUNK: usize = 8192;
 
-/// Writes the candidates of the entries of a glob's walk, one per line, without those that the
+/// Writes the candidates of the entries that a walk keeps, one per line, without those that the
 /// rules exclude. Returns whether some item was an error; each error is written to `faults` when it
 /// comes.
 ///
 /// # Errors
 ///
-/// Returns `Write` if a write fails or takes nothing, and `Memory` if allocation fails for the lines
-/// or for a matcher of the glob. If memory runs out in the walk, that is one of its items.
-pub fn write_wanted<'g, D, P, C, R, W, F>(
-    alloc: Global,
-    walk: GlobWalk<'g, D, P, C>,
-    rules: Vec<R>,
-    output: &mut Counted<W>,
-    faults: &mut F,
-) -> Result<bool, LinesError>
-where
-    D: Directory,
-    P: BuildMatcher<'g>,
-    C: NameTest,
-    R: Exclude,
-    W: Write,
-    F: Write,
-    requires can { ⟦<GlobWalk<'g, D, P, C> as SeparatingFilter>⟧.can_feed walk }
-    requires ends { IsFinite (⟦<GlobWalk<'g, D, P, C> as SeparatingFilter>⟧.left walk) }
-    ensures done { IfOk result (WroteWanted D.law
-        (⟦<GlobWalk<'g, D, P, C> as FileIterator>⟧.view walk.entry) (map R.rule rules.items)
-        (W.contents output.old.inner) (W.contents output.new.inner)) }
-    ensures stopped { OnErr result (WroteFirst D.law
-        (⟦<GlobWalk<'g, D, P, C> as FileIterator>⟧.view walk.entry) (map R.rule rules.items)
-        (W.contents output.old.inner) (W.contents output.new.inner)) }
-    ensures unread { IsErrOf result LinesError.Read → ⊥ }
-    ensures write_failed { IsErrOf result LinesError.Write →
-        (output.old.failures < output.new.failures) ⊎ (output.new.failures ≡ greatest_count) }
-    ensures quiet { IfOk result (λ has_errors. has_errors ≡ false → faults.new ≡ faults.old) }
-{
-    write_excluding(alloc, walk.uncaptured()?, rules, output, faults)
-}
-
-// The generic body of `write_wanted`: at its concrete types the check would be too large.
-fn write_excluding<I, R, W, F>(
+/// Returns `Write` if a write fails or takes nothing, and `Memory` if allocation fails for the lines.
+/// If memory runs out in the walk, that is one of its items.
+pub fn write_wanted<I, R, W, F>(
     alloc: Global,
     walk: I,
     rules: Vec<R>,

@@ -15,7 +15,8 @@ use Rattle.wax_walk.specs.Candidates.{Candidate}
 use Rattle.wax_walk.specs.Given.{Mark}
 use Rattle.wax_walk.specs.View.{WalkView}
 use Rattle.wax_exclude.specs.Wanted.{Filter}
-use Rattle.wax.specs.GlobWalks.{BeginsGlob, request_of}
+use Rattle.wax.specs.GlobWalks.{BeginsBy, request_by}
+use Rattle.wax_exclude.specs.Pruned.{by_matches}
 use Rattle.wax_walk.specs.Forest.{preorder}
 use Rattle.wax_command_line.specs.Candidates.{candidate_lines}
 use Rattle.wax_commands.specs.Files.{FileAnswers}
@@ -33,21 +34,21 @@ use Rattle.wax_command_line.specs.WalkWords.{IsRead}
 module _ {D C : Type 0} (law : Law D C) (d : D) (asked : WalkRequest) (globs : WalkGlobs) (view : WalkView D) where
   -- what holds of all requests that the walk may be of holds of the walk
   pub on_walk : (rules : List (Candidate → Mark)) (P : GlobRequest → Shown → List (List ℕ) → Type 0)
-      → BeginsGlob globs.glob.tree law d asked.start (range_in asked.options) view → AreRulesOf globs.filters rules
+      → BeginsBy by_matches globs.glob.tree law d asked.start (range_in asked.options) view → AreRulesOf globs.filters rules
       → OnRequests law view rules P → OnWalk law d asked globs P
   on_walk rules P h are on = (
     h.depth,
     h.depth_is,
     λ b s listed plain shows told.
-        on d (request_of asked.start (range_in asked.options) h.depth b []) globs.filters s listed
+        on d (request_by by_matches asked.start (range_in asked.options) h.depth b []) globs.filters s listed
         (h.comes b plain) are (goes (h.can b globs.filters plain)) shows told,
   )
 
   -- the walk begins at the requested start
   pub begins_so : (start : List ℕ) (b : WalkBehavior) → start ≡ asked.start → behavior_range b ≡ range_in asked.options
-      → BeginsGlob globs.glob.tree law d start (behavior_range b) view → BeginsGlob globs.glob.tree law d asked.start (range_in asked.options) view
+      → BeginsBy by_matches globs.glob.tree law d start (behavior_range b) view → BeginsBy by_matches globs.glob.tree law d asked.start (range_in asked.options) view
   begins_so start b e f h =
-      subst (λ r. BeginsGlob globs.glob.tree law d asked.start r view) f (subst (λ v. BeginsGlob globs.glob.tree law d v (behavior_range b) view) e h)
+      subst (λ r. BeginsBy by_matches globs.glob.tree law d asked.start r view) f (subst (λ v. BeginsBy by_matches globs.glob.tree law d v (behavior_range b) view) e h)
 
 -- ---- from what was read on
 
@@ -76,7 +77,7 @@ module _ {D C Z : Type 0} (over : Environment D C Z) (walk : WalkWords) (asked :
     ends_no_filter held h = refused (no_filter g glob_asked (h asked.options read.options)) refl refl
 
     module _ (rules : List (Candidate → Mark)) (left : AreLeftOut rules) (b : WalkBehavior) (is : b ≡ behavior_at walk.depth) (view : WalkView D)
-        (begins : BeginsGlob g.tree over.law over.directory walk.start.now (behavior_range b) view) (held held' : Option (List ℕ)) where
+        (begins : BeginsBy by_matches g.tree over.law over.directory walk.start.now (behavior_range b) view) (held held' : Option (List ℕ)) where
       abbrev built : (xs : List (Filter Span)) × AreAskedByAll over.answers asked.options xs × AreRulesOf xs rules
       built = left asked.options read.options
 
@@ -86,7 +87,7 @@ module _ {D C Z : Type 0} (over : Environment D C Z) (walk : WalkWords) (asked :
       all_built : AreBuilt over.answers asked globs
       all_built = record { glob = glob_asked; filters = built.1 }
 
-      begun : BeginsGlob g.tree over.law over.directory asked.start (range_in asked.options) view
+      begun : BeginsBy by_matches g.tree over.law over.directory asked.start (range_in asked.options) view
       begun = begins_so over.law over.directory asked globs view walk.start.now b read.start (range_read walk asked b read is) begins
 
       all_kept : (has : Bool) → (w : WroteWanted over.law view rules held held' has)
@@ -100,11 +101,11 @@ module _ {D C Z : Type 0} (over : Environment D C Z) (walk : WalkWords) (asked :
           begun.depth_is,
           λ b plain.
               answered_before over.law _ _ w.directory _ begun.directory
-              (w.answered over.directory (request_of asked.start (range_in asked.options) begun.depth b []) built.0
+              (w.answered over.directory (request_by by_matches asked.start (range_in asked.options) begun.depth b []) built.0
               (begun.comes b plain) built.2 (goes (begun.can b built.0 plain))),
         );
         given = w.given;
-        within = gave_within g.tree over.law over.directory asked.start (range_in asked.options) view (any_mark rules)
+        within = gave_within by_matches g.tree over.law over.directory asked.start (range_in asked.options) view (any_mark rules)
             w.directory w.given begun w.took;
         kept = w.kept;
       }

@@ -5,7 +5,8 @@ use Rattle.std.specs.List.{list_any}
 use Rattle.wax.specs.Headline.{IsGlob}
 use Rattle.wax.specs.Exclusions.{FitsAlone, NoExclusion}
 use Rattle.wax.specs.GlobView.{GlobView}
-use Rattle.wax.specs.GlobWalks.{Beginning, GaveWithin, request_of, origin_from}
+use Rattle.wax.specs.GlobWalks.{Beginning, GaveBy, request_by, origin_from}
+use Rattle.wax_exclude.specs.Pruned.{by_matches}
 use Rattle.wax.specs.Patterns.{Refuses, Spells}
 use Rattle.wax_error.specs.declared.build_error.BuildError.{BuildError}
 use Rattle.wax_exclude.specs.GlobRequests.{KeepsWanted, GlobRequest, request_walk}
@@ -105,7 +106,7 @@ module _ {D C : Type 0} (law : Law D C) (d : D) (asked : WalkRequest) (globs : W
   OnWalk P = (depth : Bounds) × Depth globs.glob.tree depth
       × ((b : Beginning globs.glob.tree) (s : Shown) (listed : List (List ℕ)) → ArePlain b.names
       → law.shows d (origin_from asked.start b.rooted b.names).path s → law.tells d listed
-      → P (request_of asked.start (range_in asked.options) depth b globs.filters) s listed)
+      → P (request_by by_matches asked.start (range_in asked.options) depth b globs.filters) s listed)
 
   -- The walk was taken to its end, and kept these items of those that it gave. Whatever the directory shows,
   -- its counts account for what was given, and what was kept is what is wanted of a tree that answers as the
@@ -115,9 +116,9 @@ module _ {D C : Type 0} (law : Law D C) (d : D) (asked : WalkRequest) (globs : W
     pub wanted : OnWalk (λ request s listed. KeepsWanted (law.tells new) request s listed items)
     pub answered : (depth : Bounds) × Depth globs.glob.tree depth
         × ((b : Beginning globs.glob.tree) → ArePlain b.names → KeepsAnswered law d new
-        (request_of asked.start (range_in asked.options) depth b globs.filters) items)
+        (request_by by_matches asked.start (range_in asked.options) depth b globs.filters) items)
     pub given : List Given
-    pub within : GaveWithin globs.glob.tree law d (range_in asked.options) new given
+    pub within : GaveBy by_matches globs.glob.tree law d (range_in asked.options) new given
     pub kept : items ≡ filter is_kept given
 
   -- these bytes are a prefix of the lines of all that the walk keeps

@@ -10,8 +10,8 @@ use crate::files::FileFault;
 use crate::status::{DONE, FAILED, HAS_ERRORS};
 use std::alloc::Global;
 use std::io::Write;
-use wax::Counted;
-use wax::walk::Directory;
+use wax::walk::{Directory, WalkBehavior};
+use wax::{Counted, LinesError};
 use wax_command_line::{WalkWords, write_wanted};
 
 /// Builds the glob, then the filters in the order of the arguments, and then writes the candidates
@@ -42,7 +42,11 @@ where
     let Some(filters) = built_filters(alloc, walk.options, read, faults) else {
         return FAILED;
     };
-    let entries = glob.walk_with_behavior(alloc, directory, walk.start, walk.depth);
+    let behavior = WalkBehavior::from(walk.depth);
+    let Ok(entries) = glob.walk_uncaptured(alloc, directory, walk.start, behavior) else {
+        let _ = writeln!(faults, "globs: {}", LinesError::Memory);
+        return FAILED;
+    };
     match write_wanted(alloc, entries, filters, output, faults) {
         Ok(false) => DONE,
         Ok(true) => HAS_ERRORS,

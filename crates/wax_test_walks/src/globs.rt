@@ -7,7 +7,7 @@ use crate::kinds::Kind;
 use crate::row::{Unanswered, WalkRow, behavior_of};
 use crate::stacked;
 use std::alloc::Global;
-use wax::walk::{FileIterator, GlobEntry, WalkError, collect};
+use wax::walk::{FileIterator, GlobEntry, WalkBehavior, WalkError, collect};
 use wax::{CandidatePath, Glob, Program};
 use wax_test_kit::answer::Answer;
 
@@ -53,17 +53,29 @@ fn add_walk(
     directory: Directories,
     made: &mut Answer,
 ) -> Result<(), Unanswered> {
+    if row.option("without").is_some() {
+        return add_uncaptured(alloc, row, glob, directory, made);
+    }
     let walk = match behavior_of(row.range()) {
         None => glob.walk(alloc, directory, row.start()),
         Some(behavior) => glob.walk_with_behavior(alloc, directory, row.start(), behavior),
     };
-    if row.option("without").is_none() {
-        return add_any(alloc, row, walk, made);
-    }
-    match walk.uncaptured() {
-        Ok(walk) => stacked::add(alloc, row, walk, made),
-        Err(_) => Err(Unanswered::Memory),
-    }
+    add_any(alloc, row, walk, made)
+}
+
+fn add_uncaptured(
+    alloc: Global,
+    row: WalkRow<'_>,
+    glob: &Glob<'_>,
+    directory: Directories,
+    made: &mut Answer,
+) -> Result<(), Unanswered> {
+    let behavior = match behavior_of(row.range()) {
+        None => WalkBehavior::default(),
+        Some(behavior) => behavior,
+    };
+    let walk = glob.walk_uncaptured(alloc, directory, row.start(), behavior)?;
+    stacked::add(alloc, row, walk, made)
 }
 
 fn add_any<I>(alloc: Global, row: WalkRow<'_>, walk: I, made: &mut Answer) -> Result<(), Unanswered>

@@ -18,7 +18,7 @@ use Rattle.wax.specs.Walks.{HasEmptyName, IsRuleOf, KeepsWanted, Mark, Origin, P
 use Rattle.wax.specs.Walks.{a_folder, behavior_at, behavior_range, entry, gives, kept, lacks_memory}
 use Rattle.wax.specs.Walks.{FeedsByRequest, GlobRequest, alone, changed_by, fault, is_beyond, is_kept, is_kept_entry}
 use Rattle.wax.specs.Walks.{left_after, no_memory, not_ignored, not_meant, over_budget, preorder, request_feed}
-use Rattle.wax.specs.Walks.{any_mark, filter_mark, glob_mark, left_of, of_candidate, request_walk, wanted_entries}
+use Rattle.wax.specs.Walks.{any_mark, cut_by, filter_mark, glob_mark, left_of, of_candidate, request_walk, wanted_entries}
 use Rattle.wax.specs.Walks.{whole_along, with_tree, yielded}
 use Rattle.wax_uses.proofs.Expressions.{in_src, main_rs, main_rs_spelled, with_b, with_b_spelled, with_m}
 use Rattle.wax_uses.proofs.Expressions.{with_m_spelled}
@@ -242,10 +242,10 @@ only_yielded depths (fault kind path depth ∷ xs) h = absurd h
 only_yielded depths (no_memory ∷ xs) h = absurd h
 
 only_left : (rule : Facts → Mark) (before xs : List Given) → OnlyEntries xs
-    → OnlyEntries (left_after rule before xs)
+    → OnlyEntries (left_after (changed_by rule) (cut_by rule) before xs)
 only_left rule before [] h = tt
 only_left rule before (entry m f ∷ xs) h =
-    let rest = left_after rule (before ++ entry m f ∷ []) xs in
+    let rest = left_after (changed_by rule) (cut_by rule) (before ++ entry m f ∷ []) xs in
     let r = only_left rule (before ++ entry m f ∷ []) xs h in
     only_cond _ rest (changed_by rule (entry m f) ∷ rest) r r
 only_left rule before (fault kind path depth ∷ xs) h = absurd h

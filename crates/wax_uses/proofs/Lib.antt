@@ -7,6 +7,7 @@ pub mod KeptFiles
 pub mod KeptSources
 pub mod Matched
 pub mod Meanings
+pub mod NoneBelow
 pub mod OneComponents
 pub mod Pictures
 pub mod Planted

@@ -1,7 +1,8 @@
 //! Work that can be skipped, by what is known of a glob.
-ghost use Rattle.std.specs.Prelude.{◌≤◌, ◌++◌, ◌∷◌, ℕ, List, IfOk, IsTrue};
+ghost use Rattle.std.specs.Prelude.{◌≢◌, ◌≤◌, ◌↔◌, ◌++◌, ◌∷◌, [], ℕ, List, IfOk, IsTrue};
 ghost use Rattle.wax.specs.GlobView.{IsMeant};
 ghost use Rattle.wax.specs.Language.{HasNoSlash};
+ghost use Rattle.wax.specs.Matching.{AreNames, folder_text, joined_names};
 ghost use Rattle.wax.specs.Queries.{Bare, component_total};
 
 use std::alloc::Global;
@@ -26,6 +27,24 @@ pub fn means_all_below(
         return Ok(false);
     }
     glob.is_match(alloc, folder)
+}
+
+/// Returns whether the glob matches no path of names below the folder, so that the folder need not be
+/// opened.
+///
+/// # Errors
+///
+/// Returns `NoMemory` if allocation fails.
+pub fn means_none_below(
+    alloc: Global,
+    glob: &Glob<'_>,
+    folder: &CandidatePath<'_>,
+) -> Result<bool, NoMemory>
+    ensures { IfOk result (λ answer. IsTrue answer ↔ ((names : List (List ℕ)) → AreNames names → names ≢ []
+        → IsMeant glob.now (folder_text folder.now ++ joined_names names) → ⊥)) }
+{
+    let goes_on = glob.goes_on(alloc, folder)?;
+    Ok(!goes_on)
 }
 
 /// Returns whether it is known that no path of more than `most` components matches, so that folders

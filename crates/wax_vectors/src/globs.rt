@@ -42,6 +42,8 @@ fn of_glob(
         GlobFact::Matcher => add_answers(alloc, glob, row.input(1), made),
         GlobFact::Visits => add_visits(alloc, glob, row, made),
         GlobFact::Metered => add_metered(alloc, glob, row, made),
+        GlobFact::GoesOn => add_goes_on(alloc, glob, row.input(1), made),
+        GlobFact::Verdicts => add_verdicts(alloc, glob, row.input(1), made),
         GlobFact::Captures => add_captures(alloc, glob, made),
         GlobFact::Semantic => add_semantic(alloc, glob, made),
         GlobFact::Warnings => add_warnings(alloc, glob, made),
@@ -107,6 +109,45 @@ pub fn add_answers<'p, P: BuildMatcher<'p>>(
     let mut matcher = program.build_matcher(alloc)?;
     for path in paths.split(' ') {
         made.digit(matcher.is_match(&CandidatePath::from(path))?);
+    }
+    Ok(())
+}
+
+/// Adds for each of the paths whether one matcher of the glob or the set matches it, and whether
+/// something below it can match. The paths have spaces between them.
+///
+/// # Errors
+///
+/// Returns `NoMemory` if allocation fails.
+pub fn add_verdicts<'p, P: BuildMatcher<'p>>(
+    alloc: Global,
+    program: &'p P,
+    paths: &str,
+    made: &mut Answer,
+) -> Result<(), NoMemory> {
+    let mut matcher = program.build_matcher(alloc)?;
+    for path in paths.split(' ') {
+        let verdict = matcher.verdict(&CandidatePath::from(path))?;
+        made.digit(verdict.is_match);
+        made.digit(verdict.goes_on);
+    }
+    Ok(())
+}
+
+/// Adds below which of the paths something can match, by the glob and by one matcher.
+fn add_goes_on(
+    alloc: Global,
+    glob: &Glob<'_>,
+    paths: &str,
+    made: &mut Answer,
+) -> Result<(), NoMemory> {
+    for path in paths.split(' ') {
+        made.digit(glob.goes_on(alloc, &CandidatePath::from(path))?);
+    }
+    made.tab();
+    let mut matcher = glob.matcher(alloc)?;
+    for path in paths.split(' ') {
+        made.digit(matcher.goes_on(&CandidatePath::from(path))?);
     }
     Ok(())
 }

@@ -37,7 +37,12 @@ pub fn answer(
             made.add("\n");
             made.add(error.picture(alloc, row.input(0))?.as_str());
         }
-        GlobFact::IsMatch | GlobFact::Match | GlobFact::Visits | GlobFact::Metered => made.add("?"),
+        GlobFact::IsMatch
+        | GlobFact::Match
+        | GlobFact::Visits
+        | GlobFact::Metered
+        | GlobFact::GoesOn
+        | GlobFact::Verdicts => made.add("?"),
         _ => made.add("not built"),
     }
     Ok(())

@@ -1,6 +1,6 @@
 //! Facts of sets of patterns. Patterns have spaces between them, and sets have semicolons.
 
-use crate::globs::{add_answers, add_facts, add_is_match, add_match, add_visited};
+use crate::globs::{add_answers, add_facts, add_is_match, add_match, add_verdicts, add_visited};
 use crate::kinds::SetFact;
 use std::alloc::{AllocError, Global};
 use wax::encode::{Meter, compile};
@@ -44,6 +44,8 @@ fn built(alloc: Global, fact: SetFact, patterns: &str) -> Result<Set, BuildError
         | SetFact::Match
         | SetFact::IsMatch
         | SetFact::Matcher
+        | SetFact::GoesOn
+        | SetFact::Verdicts
         | SetFact::Metered
         | SetFact::Facts => set_of(alloc, patterns),
     }
@@ -68,6 +70,8 @@ fn of_set(
         SetFact::Match => add_match(alloc, set, row.input(1), made),
         SetFact::IsMatch | SetFact::SetsIsMatch => add_is_match(alloc, set, row.input(1), made),
         SetFact::Matcher => add_answers(alloc, set, row.input(1), made),
+        SetFact::GoesOn => add_goes_on(alloc, set, row.input(1), made),
+        SetFact::Verdicts => add_verdicts(alloc, set, row.input(1), made),
         SetFact::Metered => {
             let mut meter = Meter::new();
             let path = CandidatePath::from(row.input(1));
@@ -86,6 +90,19 @@ fn of_set(
             Ok(())
         }
     }
+}
+
+/// Adds below which of the paths something can match, by the set and by one matcher.
+fn add_goes_on(alloc: Global, set: &Set, paths: &str, made: &mut Answer) -> Result<(), NoMemory> {
+    for path in paths.split(' ') {
+        made.digit(set.goes_on(alloc, &CandidatePath::from(path))?);
+    }
+    made.tab();
+    let mut matcher = set.matcher(alloc)?;
+    for path in paths.split(' ') {
+        made.digit(matcher.goes_on(&CandidatePath::from(path))?);
+    }
+    Ok(())
 }
 
 /// Builds a set of expressions.

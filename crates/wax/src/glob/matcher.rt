@@ -2,7 +2,8 @@
 ghost use Rattle.std.specs.Prelude.{◌≡◌, ◌↔◌, IfOk, IsTrue, chars, false};
 ghost use Rattle.wax.specs.GlobView.{IsMeant};
 ghost use Rattle.wax_candidate.specs.Parts.{NoLineEndsBefore};
-ghost use Rattle.wax_token.specs.Decided.{means_test};
+ghost use Rattle.wax_compiled.specs.Below.{MeansBelow, goes_test, goes_tested};
+ghost use Rattle.wax_token.specs.Decided.{means_test, means_tested};
 
 use crate::glob::Glob;
 use std::alloc::Global;
@@ -13,6 +14,7 @@ use wax_exclude::is_everything;
 use wax_lazy::Matcher;
 use wax_prefilter::{folder_of, is_within};
 use wax_query::diagnostics::NoMemory;
+use wax_query::query::Verdict;
 
 /// A matcher of a glob for many paths, which keeps what it learns from each for the next ones.
 /// Contracts see the view of its glob.
@@ -106,6 +108,47 @@ impl GlobMatcher<'_, '_> {
         self.matcher.is_match(text)
     }
 
+    /// Returns whether something below the folder with this path can match: whether the glob matches
+    /// the path of something below it.
+    ///
+    /// # Errors
+    ///
+    /// Returns `NoMemory` if allocation fails. The matcher can be used for further paths after
+    /// that.
+    pub fn goes_on(&mut self, path: &CandidatePath<'_>) -> Result<bool, NoMemory>
+        ensures below { IfOk result (λ answer. IsTrue answer ↔ MeansBelow self.old.tree path.now) }
+        ensures same { self.new ≡ self.old }
+    {
+        let verdict = self.verdict(path)?;
+        Ok(verdict.goes_on)
+    }
+
+    /// Returns whether the glob matches the whole path, and whether it matches the path of something
+    /// below the folder with this path. It reads the path once.
+    ///
+    /// ```
+    /// let glob = Glob::new(alloc, "src/*/tests/*.rs")?;
+    /// let mut matcher = glob.matcher(alloc)?;
+    /// let verdict = matcher.verdict(&CandidatePath::from("src/net"))?;
+    /// println!(rt; "{} {}", verdict.is_match, verdict.goes_on)?; // false true
+    /// ```
+    ///
+    /// # Errors
+    ///
+    /// Returns `NoMemory` if allocation fails. The matcher can be used for further paths after
+    /// that.
+    pub fn verdict(&mut self, path: &CandidatePath<'_>) -> Result<Verdict, NoMemory>
+        ensures means { IfOk result (λ verdict. IsTrue verdict.is_match ↔ IsMeant self.old path.now) }
+        ensures below { IfOk result
+            (λ verdict. IsTrue verdict.goes_on ↔ MeansBelow self.old.tree path.now) }
+        ensures decides { IfOk result
+            (λ verdict. verdict.is_match ≡ means_test self.old.tree false false path.now) }
+        ensures onward { IfOk result (λ verdict. verdict.goes_on ≡ goes_test self.old.tree path.now) }
+        ensures same { self.new ≡ self.old }
+    {
+        self.matcher.verdict(path.as_str())
+    }
+
     /// Returns how many bytes at the beginning of a text can be passed over in a search for lines
     /// that the glob matches. Lines in a folder often follow one another, so the first line is looked
     /// at before a search. It is a function of its own, never inlined, so that globs without a folder
@@ -124,9 +167,18 @@ impl GlobMatcher<'_, '_> {
 impl PathMatcher for GlobMatcher<'_, '_> {
     ghost decides = { λ m. means_test m.tree false false };
 
+    ghost goes_on = { λ m. goes_test m.tree };
+
+    ghost leads = { λ m folder s is h.
+        (goes_tested m.tree folder).1 (s, is, (means_tested m.tree false false s).0 h) };
+
     #[inline]
     fn is_match(&mut self, path: &CandidatePath<'_>) -> Result<bool, NoMemory> {
         self.is_match(path)
+    }
+
+    fn verdict(&mut self, path: &CandidatePath<'_>) -> Result<Verdict, NoMemory> {
+        self.verdict(path)
     }
 
     fn earliest_end(&self, text: &str) -> usize {

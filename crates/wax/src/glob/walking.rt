@@ -13,7 +13,8 @@ ghost use Rattle.wax_tree.specs.Prefix.{from_last};
 ghost use Rattle.wax_tree.specs.declared.behavior.DepthBehavior.TheVariants.{Unbounded};
 ghost use Rattle.wax_walk.specs.Known.{StaysKnown};
 ghost use Rattle.wax.specs.GlobView.{HasCaptures, IsMeant};
-ghost use Rattle.wax.specs.GlobWalks.{BeginsGlob, IsPlan, origin_from, within};
+ghost use Rattle.wax.specs.GlobWalks.{BeginsBy, BeginsGlob, IsPlan, origin_from, within};
+ghost use Rattle.wax_exclude.specs.Pruned.{by_matches};
 
 use crate::glob::Glob;
 use std::alloc::Global;
@@ -21,7 +22,7 @@ use wax_candidate::Program;
 use wax_directory::directory::Directory;
 use wax_exclude::{LeadingComponent, PrefixNames, collect_excluding, leading, prefix_names_of};
 use wax_filter::filter::SeparatingFilter;
-use wax_glob_walk::{GlobEntry, walk_of};
+use wax_glob_walk::{GlobEntry, Uncaptured, uncaptured_of, walk_of};
 use wax_query::diagnostics::NoMemory;
 use wax_token::token::{ExpressionMetadata, Token};
 use wax_tree::{DepthRange, WalkBehavior, WalkTree};
@@ -31,13 +32,16 @@ use wax_walk::{Entry, Exclude, FileIterator, TreeEntry, WalkError};
 /// that the names in the glob rule out is excluded before it is listed.
 pub type GlobWalk<'g, 't, D> = wax_glob_walk::GlobWalk<'g, D, Glob<'t>, LeadingComponent<'g, 't>>;
 
+/// The walk of a glob through a directory, without captures. It opens only the folders below which
+/// the glob can match something.
+pub type UncapturedWalk<'g, 't, D> = Uncaptured<'g, D, Glob<'t>>;
+
 impl<'t> Glob<'t> {
     ghost use Rattle.wax_tree.specs.declared.behavior.WalkBehavior.{WalkBehavior};
 
     /// Walks through `directory` from `start` and yields the entries that the glob matches, at
     /// every depth, each with its captures. The walk takes at most 4,294,967,295 items from
-    /// folders. Its method `uncaptured` converts it into a walk without captures, which takes less
-    /// time.
+    /// folders. `walk_uncaptured` takes less time and opens fewer folders.
     ///
     /// The walk begins at the glob's prefix and goes no deeper than the glob's longest matches. If
     /// the prefix begins with `/`, the walk begins at the root and `start` isn't used. If memory
@@ -101,6 +105,58 @@ impl<'t> Glob<'t> {
             (⟦<GlobWalk<'g, 't, D> as FileIterator>⟧.known result) }
     {
         walk_in(alloc, self, directory, start, behavior.into())
+    }
+
+    /// Walks as `walk_with_behavior` does, but without captures, and opens only the folders below
+    /// which the glob can match something. It takes less time: it copies nothing of an entry, and reads no
+    /// folder in vain. If `bin/*` and `include/**/*.h` are two alternatives of
+    /// the glob, it doesn't look into a folder `share`.
+    ///
+    /// It begins at the glob's prefix and goes no deeper than the glob's longest matches. A folder that
+    /// matches is kept even if it isn't opened. Each filter of walks can be added, such as `not` and
+    /// `ignore`.
+    ///
+    /// ```
+    /// use wax::walk::{Tree, WalkBehavior, collect};
+    ///
+    /// let tree = Tree::from_paths(alloc, &["Cargo.toml", "src/lib.rs", "target/debug/lib.o"])?;
+    /// let glob = Glob::new(alloc, "{src/**,Cargo.toml}")?;
+    /// let walk = glob.walk_uncaptured(alloc, tree, "", WalkBehavior::default())?;
+    /// let (items, tree) = collect(alloc, walk)?;
+    /// println!(rt; "{} {}", items.len(), tree.listed().len())?; // 3 2
+    /// ```
+    ///
+    /// # Errors
+    ///
+    /// Returns `NoMemory` if allocation fails before the walk begins. If it fails in the walk, its last
+    /// item is an error.
+    pub fn walk_uncaptured<'g, D: Directory>(
+        &'g self,
+        alloc: Global,
+        directory: D,
+        start: &str,
+        behavior: WalkBehavior,
+    ) -> Result<UncapturedWalk<'g, 't, D>, NoMemory>
+        ensures begins { IfOk result (λ walk. BeginsBy by_matches self.now.tree D.law directory start.now
+            (behavior_range behavior) (⟦<UncapturedWalk<'g, 't, D> as FileIterator>⟧.view walk)) }
+        ensures gives { IfOk result (λ walk. EndsWithin (2 * behavior.budget + 3)
+            (⟦<UncapturedWalk<'g, 't, D> as SeparatingFilter>⟧.left walk)) }
+        ensures feeds { IfOk result (λ walk.
+            ⟦<UncapturedWalk<'g, 't, D> as SeparatingFilter>⟧.can_feed walk) }
+        ensures depth { (depth : Bounds) × Depth self.now.tree depth }
+    {
+        let asked = self.within(behavior.range());
+        let range = DepthRange { min: 0, ..asked };
+        match prefix_names_of(alloc, self.token())? {
+            Some(prefix_names) => {
+                let walk = walk_along(alloc, directory, start, prefix_names, range);
+                uncaptured_of(alloc, walk, self, asked.min)
+            }
+            None => {
+                let walk = WalkTree::ended(alloc, directory, range);
+                uncaptured_of(alloc, walk, self, asked.min)
+            }
+        }
     }
 
     // Lowers the greatest depth of `range` to that of the glob.

@@ -11,9 +11,8 @@ returns-in-Ok-true-clause-ends g c asked read =
     let over = environment law c.args.directory (FnReturnsAt g.B.Fn c.args.read.now) in
     let held = g.W.Write.contents c.args.output.now.inner in
     let held' = g.W.Write.contents c.write_wanted.new.output.inner in
-    let walk = c.walk_with_behavior-entries.ensures.begins in
-    let is : walk.0 ≡ behavior_at c.args.walk.depth = walk.1 in
-    ends_faulty over c.args.walk asked read c.in-Some.glob c.in-Some.ensures.some _ c.in-Some-built_filters.ensures.some walk.0 is _ walk.2 held held'
+    let is : c.from-behavior.result ≡ behavior_at c.args.walk.depth = c.from-behavior.ensures in
+    ends_faulty over c.args.walk asked read c.in-Some.glob c.in-Some.ensures.some _ c.in-Some-built_filters.ensures.some c.from-behavior.result is _ c.in-Ok.ensures.begins held held'
     (subst (WroteWanted law _ _ held held') c.in-Ok-true.field-0-test c.in-Ok-true.ensures.done)
 
 pub returns-in-Ok-false-clause-ends : goal.returns-in-Ok-false-clause-ends
@@ -22,9 +21,8 @@ returns-in-Ok-false-clause-ends g c asked read =
     let over = environment law c.args.directory (FnReturnsAt g.B.Fn c.args.read.now) in
     let held = g.W.Write.contents c.args.output.now.inner in
     let held' = g.W.Write.contents c.write_wanted.new.output.inner in
-    let walk = c.walk_with_behavior-entries.ensures.begins in
-    let is : walk.0 ≡ behavior_at c.args.walk.depth = walk.1 in
-    ends_done over c.args.walk asked read c.in-Some.glob c.in-Some.ensures.some _ c.in-Some-built_filters.ensures.some walk.0 is _ walk.2 held held'
+    let is : c.from-behavior.result ≡ behavior_at c.args.walk.depth = c.from-behavior.ensures in
+    ends_done over c.args.walk asked read c.in-Some.glob c.in-Some.ensures.some _ c.in-Some-built_filters.ensures.some c.from-behavior.result is _ c.in-Ok.ensures.begins held held'
     (subst (WroteWanted law _ _ held held') c.in-Ok-false.field-0-test c.in-Ok-false.ensures.done)
 
 pub returns-clause-ends : goal.returns-clause-ends
@@ -33,7 +31,6 @@ returns-clause-ends g c asked read =
     let over = environment law c.args.directory (FnReturnsAt g.B.Fn c.args.read.now) in
     let held = g.W.Write.contents c.args.output.now.inner in
     let held' = g.W.Write.contents c.write_wanted.new.output.inner in
-    let walk = c.walk_with_behavior-entries.ensures.begins in
-    let is : walk.0 ≡ behavior_at c.args.walk.depth = walk.1 in
-    ends_stopped over c.args.walk asked read c.in-Some.glob c.in-Some.ensures.some _ c.in-Some-built_filters.ensures.some walk.0 is _ walk.2 held held'
+    let is : c.from-behavior.result ≡ behavior_at c.args.walk.depth = c.from-behavior.ensures in
+    ends_stopped over c.args.walk asked read c.in-Some.glob c.in-Some.ensures.some _ c.in-Some-built_filters.ensures.some c.from-behavior.result is _ c.in-Ok.ensures.begins held held'
     c.in-Err.ensures.stopped

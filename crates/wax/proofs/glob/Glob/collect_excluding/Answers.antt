@@ -7,6 +7,7 @@ use Rattle.wax_walk.proofs.Collecting.{map_ok}
 use Rattle.wax_walk.proofs.Knowing.{all_before}
 use Rattle.wax_walk.specs.Collected.{GaveAll}
 use Rattle.wax_walk.specs.Forest.{nothing, pending}
+use Rattle.wax_exclude.specs.Pruned.{by_components}
 use Rattle.wax.specs.GlobWalks.{request_of}
 use Rattle.wax.proofs.Kept.{fails_at_folders, gave_within, keeps_nothing}
 use Rattle.wax.proofs.glob.Glob.collect_excluding.Goals as goal
@@ -19,7 +20,7 @@ returns-clause-took g c =
     map_ok (λ r k. (
       k.0,
       omega (arith, k.2, ends.gives),
-      gave_within c.args.self.now.tree g.D.Directory.law c.args.directory c.args.start.now
+      gave_within by_components c.args.self.now.tree g.D.Directory.law c.args.directory c.args.start.now
           (behavior_range c.args.behavior) _ rule r.1 k.0 h k.1,
       fails_at_folders c.args.self.now.tree g.D.Directory.law c.args.directory c.args.start.now
           (behavior_range c.args.behavior) _ rule r.1 k.0 h k.1,
