@@ -43,6 +43,7 @@ bench: globs
 	bench/run
 	bench/families
 	bench/lists
+	bench/folders
 	bench/shards
 
 install:
