@@ -27,7 +27,7 @@ pub use Rattle.wax_exclude.specs.Excluded.{excluded_mark}
 pub use Rattle.wax_exclude.specs.Feeds.{FeedsByRequest, FeedsByRules, FeedsByWalk, FeedsRuled, FeedsWanted}
 pub use Rattle.wax_exclude.specs.Feeds.{feed_of, request_feed, ruled_feed}
 pub use Rattle.wax_exclude.specs.Law.{GivesLeast, GivesWanted, LeastWantsNothing, ListsExactly, ListsFew}
-pub use Rattle.wax_exclude.specs.Law.{WantsNothing}
+pub use Rattle.wax_exclude.specs.Law.{WalkLaw, WantsNothing}
 pub use Rattle.wax_exclude.specs.Leading.{leading_of}
 pub use Rattle.wax_exclude.specs.Marks.{covered_mark, glob_mark, not_mark}
 pub use Rattle.wax_exclude.specs.Told.{Answering, FeedsAnswered, IsTold, KeepsAnswered, KeepsTold}

@@ -4,8 +4,7 @@ ghost use Rattle.std.specs.Prelude.{List, ℕ};
 ghost use Rattle.wax_token.specs.Reads.{Span};
 ghost use Rattle.wax_tree.specs.Begins.{Begins};
 ghost use Rattle.wax_exclude.specs.Feeds.{FeedsByRequest, FeedsByRules, FeedsByWalk};
-ghost use Rattle.wax_exclude.specs.Law.{GivesLeast, GivesWanted, LeastWantsNothing, ListsExactly, ListsFew};
-ghost use Rattle.wax_exclude.specs.Law.{WantsNothing};
+ghost use Rattle.wax_exclude.specs.Law.{WalkLaw};
 ghost use Rattle.wax_exclude.specs.TreeRequests.{tree_request, WantsUnfiltered};
 ghost use Rattle.wax_exclude.specs.GlobRequests.{ComesWanted, CanBegin, request_excluding};
 ghost use Rattle.wax_exclude.specs.Unignored.{GivesUnignored, LosesIgnored};
@@ -25,12 +24,7 @@ use wax_walk::{EntryResidue, FileIterator, FilterEntry, TreeEntry};
 /// nothing. A walk that opens only folders below which something is matched keeps exactly these
 /// entries, too, and lists exactly the folders that it may open.
 pub fn law_of_walks()
-    ensures gives { GivesWanted }
-    ensures lists { ListsFew }
-    ensures nothing { WantsNothing }
-    ensures gives_least { GivesLeast }
-    ensures lists_exactly { ListsExactly }
-    ensures least_nothing { LeastWantsNothing }
+    ensures { WalkLaw }
 {}
 
 /// States that the feed of a walk with any filters, as a list, is what they leave of the list of the

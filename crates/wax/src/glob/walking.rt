@@ -108,13 +108,13 @@ impl<'t> Glob<'t> {
     }
 
     /// Walks as `walk_with_behavior` does, but without captures, and opens only the folders below
-    /// which the glob can match something. It takes less time: it copies nothing of an entry, and reads no
-    /// folder in vain. If `bin/*` and `include/**/*.h` are two alternatives of
-    /// the glob, it doesn't look into a folder `share`.
+    /// which the glob can match something. It takes less time: it copies nothing of an entry, and
+    /// reads no folder in vain. If `bin/*` and `include/**/*.h` are two alternatives of the glob,
+    /// it doesn't look into a folder `share`.
     ///
-    /// It begins at the glob's prefix and goes no deeper than the glob's longest matches. A folder that
-    /// matches is kept even if it isn't opened. Each filter of walks can be added, such as `not` and
-    /// `ignore`.
+    /// It begins at the glob's prefix and goes no deeper than the glob's longest matches. A folder
+    /// that matches is kept even if it isn't opened. Each filter of walks can be added, such as
+    /// `not` and `ignore`; it sees the entries below the least depth, too.
     ///
     /// ```
     /// use wax::walk::{Tree, WalkBehavior, collect};
@@ -128,8 +128,8 @@ impl<'t> Glob<'t> {
     ///
     /// # Errors
     ///
-    /// Returns `NoMemory` if allocation fails before the walk begins. If it fails in the walk, its last
-    /// item is an error.
+    /// Returns `NoMemory` if allocation fails before the walk begins. If it fails in the walk, its
+    /// last item is an error.
     pub fn walk_uncaptured<'g, D: Directory>(
         &'g self,
         alloc: Global,
@@ -143,7 +143,6 @@ impl<'t> Glob<'t> {
             (⟦<UncapturedWalk<'g, 't, D> as SeparatingFilter>⟧.left walk)) }
         ensures feeds { IfOk result (λ walk.
             ⟦<UncapturedWalk<'g, 't, D> as SeparatingFilter>⟧.can_feed walk) }
-        ensures depth { (depth : Bounds) × Depth self.now.tree depth }
     {
         let asked = self.within(behavior.range());
         let range = DepthRange { min: 0, ..asked };

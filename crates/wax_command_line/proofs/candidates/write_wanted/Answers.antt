@@ -1,7 +1,6 @@
 use Rattle.std.proofs.Common.{map, refl, subst, ◌∙◌}
 use Rattle.std.specs.Prelude.{filter}
 use Rattle.std.specs.Io.KnownBytes.{Appends}
-use Rattle.wax_exclude.specs.Law.{WalkLaw}
 use Rattle.wax_exclude.specs.GlobRequests.{request_excluding, request_pending, walk_for}
 use Rattle.wax_exclude.proofs.Telling.{answered_before, keeps_answered}
 use Rattle.wax_exclude.proofs.Wanting.{all_gave, keeps_wanted, filters_come, took_less}
@@ -17,15 +16,6 @@ returns-clause-done g c =
     let laws = g.met.I.Directory.Directory in
     let contents = g.W.Write.contents in
     let rules = map g.R.Exclude.rule c.args.rules.items in
-    let wanted = c.law_of_walks.ensures in
-    let all_laws : WalkLaw = record {
-      gives = wanted.gives;
-      lists = wanted.lists;
-      nothing = wanted.nothing;
-      gives_least = wanted.gives_least;
-      lists_exactly = wanted.lists_exactly;
-      least_nothing = wanted.least_nothing;
-    } in
     map_ok (λ has_errors wrote. record {
       directory = wrote.directory;
       given = wrote.given;
@@ -37,12 +27,12 @@ returns-clause-done g c =
           let excluding = request_excluding request filters in
           let come = filters_come law d request filters rules _ _ _ are c.new.ensures comes c.excluding-kept.ensures.view in
           let named = well_named law d request.origin.path s (λ p l. laws.inner d p l) (λ p t. laws.distinct d p t) shows in
-          keeps_wanted all_laws tells excluding s listed wrote.given can named
+          keeps_wanted c.law_of_walks.ensures tells excluding s listed wrote.given can named
           (all_gave law d (walk_for excluding) _ tells s listed wrote.given come shows told wrote.took.all);
       answered = λ d request filters comes are can.
           let come = filters_come law d request filters rules _ _ _ are c.new.ensures comes c.excluding-kept.ensures.view in
           answered_before law _ _ wrote.directory _ c.excluding-kept.ensures.view.directory
-          (keeps_answered all_laws (request_excluding request filters) law _ wrote.directory
+          (keeps_answered c.law_of_walks.ensures (request_excluding request filters) law _ wrote.directory
           wrote.given can come.takes wrote.took);
       writes = subst (Appends (contents c.args.output.now.inner) (contents c.write_candidates.new.output.inner)) (lines_kept wrote.given) wrote.writes;
       errors = wrote.errors ∙ errors_kept wrote.given;

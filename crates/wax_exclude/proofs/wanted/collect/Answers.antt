@@ -3,7 +3,6 @@ use Rattle.wax_walk.proofs.Collecting.{map_ok}
 use Rattle.wax_exclude.proofs.Feeding.{feeds_ruled}
 use Rattle.wax_exclude.proofs.Shown.{well_named}
 use Rattle.wax_exclude.proofs.Telling.{keeps_answered, leaves_answered}
-use Rattle.wax_exclude.specs.Law.{WalkLaw}
 use Rattle.wax_exclude.specs.GlobRequests.{KeepsWanted, walk_for}
 use Rattle.wax_exclude.specs.Told.{KeepsAnswered, LeavesAnswered}
 use Rattle.wax_exclude.proofs.Wanting.{all_gave, keeps_wanted}
@@ -13,21 +12,12 @@ pub returns-clause-wanted : goal.returns-clause-wanted
 returns-clause-wanted g c =
     let law = g.I.Directory.Directory.law in
     let laws = g.met.I.Directory.Directory in
-    let wanted = c.law_of_walks.ensures in
-    let all_laws : WalkLaw = record {
-      gives = wanted.gives;
-      lists = wanted.lists;
-      nothing = wanted.nothing;
-      gives_least = wanted.gives_least;
-      lists_exactly = wanted.lists_exactly;
-      least_nothing = wanted.least_nothing;
-    } in
     map_ok (λ r h d request s listed comes can shows told.
     let tells = law.tells r.1 in
     let named = well_named law d request.origin.path s (λ p l. laws.inner d p l) (λ p t. laws.distinct d p t) shows in
     let all = all_gave law d (walk_for request) _ tells s listed h.0 comes shows told h.1.all in
     subst (KeepsWanted tells request s listed) (sym h.3)
-    (keeps_wanted all_laws tells request s listed h.0 can named all))
+    (keeps_wanted c.law_of_walks.ensures tells request s listed h.0 can named all))
     c.collect.result c.collect.ensures.took
 
 pub returns-clause-feed : goal.returns-clause-feed
@@ -44,17 +34,8 @@ returns-clause-feed g c =
 pub returns-clause-answered : goal.returns-clause-answered
 returns-clause-answered g c =
     let law = g.I.Directory.Directory.law in
-    let wanted = c.law_of_walks.ensures in
-    let all_laws : WalkLaw = record {
-      gives = wanted.gives;
-      lists = wanted.lists;
-      nothing = wanted.nothing;
-      gives_least = wanted.gives_least;
-      lists_exactly = wanted.lists_exactly;
-      least_nothing = wanted.least_nothing;
-    } in
     map_ok (λ r h d request comes can. subst (KeepsAnswered law _ r.1 request) (sym h.3)
-    (keeps_answered all_laws request law _ r.1 h.0 can comes.takes h.1))
+    (keeps_answered c.law_of_walks.ensures request law _ r.1 h.0 can comes.takes h.1))
     c.collect.result c.collect.ensures.took
 
 pub returns-clause-leaves : goal.returns-clause-leaves
