@@ -1,19 +1,17 @@
 -- What is to come of a glob's walk.
-use Rattle.std.proofs.Common.{◌≡◌, ◌∙◌, ◌≤◌, ◌<◌, ◌+◌, ◌&&◌, ℕ, Bool, true, false, cond, if◌then◌else◌, List, [], ◌∷◌, length, refl, sym, subst, ap, chars, encode_utf8_all, inl, inr, arith}
-use Rattle.std.specs.Str.{IsUtf8}
+use Rattle.std.proofs.Common.{◌≡◌, ◌∙◌, ◌≤◌, ◌<◌, ◌+◌, ◌&&◌, ℕ, Bool, true, false, cond, if◌then◌else◌, List, [], ◌∷◌, length, refl, sym, subst, ap, inl, inr, arith}
 use Rattle.std.proofs.lemmas.Bool.{ltb-false, ltb-true}
-use Rattle.std.proofs.lemmas.Str.{encodes-chars}
 use Rattle.wax_exclude.specs.GlobRequests.{ComesWanted, GlobRequest, is_beyond, walk_for}
 use Rattle.wax_exclude.specs.RuledWalks.{WalkTakes, lacking}
+use Rattle.wax_exclude.proofs.SplitPrefixes.{same_split}
 use Rattle.wax_exclude.proofs.StackingRequests.{any_alone}
 use Rattle.wax_exclude.proofs.Telling.{ruled_takes}
-use Rattle.wax_directory.specs.Names.{is_rooted, names_in_path}
 use Rattle.wax_glob_walk.specs.Programs.{leading_mark, leads, means_mark}
 use Rattle.wax_components.specs.Depth.{Depth}
 use Rattle.wax_directory.specs.Law.{Law}
 use Rattle.wax_directory.specs.Shown.{Shown}
 use Rattle.wax_facts.specs.Prefix.{Prefix}
-use Rattle.wax_exclude.specs.Prefix.{HasEmptyName, PrefixSplitsInto}
+use Rattle.wax_exclude.specs.Prefix.{HasEmptyName}
 use Rattle.wax_query.specs.Ranges.{Bounds}
 use Rattle.wax_tree.specs.Begins.{BeginsAt, FailsFrom, FailsNowhere, HasEnded, LacksMemory}
 use Rattle.wax_tree.specs.declared.steps.DepthRange.{DepthRange}
@@ -120,17 +118,6 @@ module _ (g : GlobView) (rooted : Bool) where
   same_forest nothing = refl
   same_forest (lists path after) = ap (lists path) (same_forest after)
   same_forest (item x below after) = λ i. item (same_given x i) (same_below x below (same_forest below) i) (same_forest after i)
-
--- ---- where the walk begins
-
-same_text : (x y p : List ℕ) → IsUtf8 x → IsUtf8 y → chars x ≡ p → chars y ≡ p → x ≡ y
-same_text x y p u v e f = sym (encodes-chars x u) ∙ ap encode_utf8_all (e ∙ sym f) ∙ encodes-chars y v
-
--- the names of a prefix are known
-pub same_split : (p : List ℕ) (b c : Bool) (names others : List (List ℕ)) → PrefixSplitsInto p b names → PrefixSplitsInto p c others → (b ≡ c) × (names ≡ others)
-same_split p b c names others h k =
-    let e : h.text ≡ k.text = same_text h.text k.text p h.encoded k.encoded h.characters k.characters in
-    (h.split.root ∙ ap is_rooted e ∙ sym k.split.root, h.split.parts ∙ ap names_in_path e ∙ sym k.split.parts)
 
 -- ---- what is wanted comes
 

@@ -20,7 +20,6 @@ use Rattle.wax_exclude.specs.Premises.{BeginsWith, BoundsNames, CanWalk, IsUnmea
 use Rattle.wax_exclude.specs.Prefix.{HasEmptyName}
 use Rattle.wax.specs.GlobView.{IsKept}
 use Rattle.wax.specs.GlobWalks.{Beginning, up_to, wants, origin_from, within}
-use Rattle.wax.proofs.Parts.{full}
 
 -- ---- literals
 
@@ -86,9 +85,9 @@ can_walk t kept depth bound start asked b filters plain =
       least = refl;
       greatest = greatest_at t b.rooted asked.max depth.1 bound;
       candidate = candidate_is start b.rooted b.names;
-      begins = subst (λ ns. BeginsWith b.rooted t (map chars ns)) same (begins_with t b.taken k.text b.rooted b.names (full t kept) prefix k.split plain);
+      begins = subst (λ ns. BeginsWith b.rooted t (map chars ns)) same (begins_with t b.taken k.text b.rooted b.names k.encoded prefix k.split);
       plain = subst ArePlain same plain;
     }
 
 pub none_match : (t : Tree Span) → IsKept t → (taken : ℕ) (prefix : List ℕ) → Prefix t taken prefix → HasEmptyName prefix → (rooted : Bool) → IsUnmeant rooted t
-none_match t kept taken prefix p empty = beginnings.none_match t taken prefix (full t kept) p empty
+none_match t kept taken prefix p empty = beginnings.none_match t taken prefix p empty

@@ -32,7 +32,8 @@ use Rattle.wax_walk.specs.Given.{Facts, Mark, changed_by, cut_by}
 use Rattle.wax_walk.specs.Pruned.{IsPrunedBy, keep_mark, opens_by as opened_by, pruned, selected_view}
 use Rattle.wax_walk.specs.Ruled.{IsMarkBy, ruled_view}
 use Rattle.wax_walk.specs.View.{IsSeenAs, MayTake, WalkView, is_above}
-use Rattle.wax.proofs.GlobWalks.{comes_so, decides, same_split}
+use Rattle.wax_exclude.proofs.SplitPrefixes.{same_split}
+use Rattle.wax.proofs.GlobWalks.{comes_so, decides}
 use Rattle.wax.proofs.GoingAlong.{names_are}
 use Rattle.wax.specs.GlobView.{GlobView}
 use Rattle.wax.specs.GlobWalks.{Beginning, BeginsBy, LeadsNowhere, has_empty_name, is_too_deep, origin_from, request_by, walked_by}

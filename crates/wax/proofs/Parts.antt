@@ -77,6 +77,6 @@ module _ (e : List ℕ) (t : Tree Span) (p : List ℕ) (kept : IsKept t) where
     taken = k.0;
     prefix = k.1;
     rest_is = ap as_glob (k.2 (flat t kept));
-    front = λ s m. prefix_seam t k.0 p s (full t kept) k.1 m;
+    front = λ s m. prefix_seam t k.0 p s k.1 m;
     means = rest_tells o k;
   }

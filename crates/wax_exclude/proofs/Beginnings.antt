@@ -4,20 +4,19 @@ use Rattle.std.specs.Prelude.{IfOk, MatchOption, None, Option, Some, Result, Ok,
 use Rattle.std.specs.Str.{IsUtf8}
 use Rattle.std.proofs.lemmas.Bool.{cases_Bool, eqb-true}
 use Rattle.wax_facts.specs.Joined.{IsSeam}
-use Rattle.wax_facts.specs.Orderly.{Full}
 use Rattle.wax_facts.specs.Prefix.{Prefix}
 use Rattle.wax_facts.proofs.Seams.{Seam, prefix_seam}
 use Rattle.wax_query.specs.Components.{component_total, last_slash, slash, slashes, BeginsWithSlash, EndsWithSlash}
 use Rattle.wax_token.specs.Meaning.{HasNoSlash, Means}
 use Rattle.wax_token.specs.Syntax.{Tree}
-use Rattle.wax_tree.specs.Prefix.{ArePlain}
 use Rattle.wax_query.specs.Below.{AreNames, joined_names, slashed}
 use Rattle.wax_exclude.specs.Candidates.{base, text_at}
 use Rattle.wax_exclude.specs.Premises.{BeginsWith, BoundsNames, IsUnmeant}
 use Rattle.wax_exclude.specs.Prefix.{HasEmptyName, PrefixSplitsInto, SplitsInto}
 use Rattle.wax_exclude.proofs.Adjacent.{none_adjacent}
-use Rattle.wax_exclude.proofs.Names.{chars_joined, names_chars}
-use Rattle.wax_exclude.proofs.Texts.{chars_ended, empty_bytes, empty_chars}
+use Rattle.wax_exclude.proofs.SplitPrefixes.{are_names_in}
+use Rattle.wax_exclude.proofs.Names.{names_of_texts, texts_joined}
+use Rattle.wax_exclude.proofs.Texts.{chars_ended, empty_bytes, empty_chars, split_texts}
 
 -- ---- names that begin with others
 
@@ -141,28 +140,29 @@ module _ (rooted : Bool) (front names : List (List ℕ)) (are_front : AreNames f
       e ∙ append_assoc (text_at rooted front) (47 ∷ []) q ∙ append_assoc (base rooted) (joined_names front) (47 ∷ q) in
       joined_begin names front (47 ∷ q) are_names are_front (inr (q, refl)) (unbased rooted (joined_names names) (joined_names front ++ 47 ∷ q) f)
 
-pub begins_with : {A : Type 0} (t : Tree A) (n : ℕ) (text : List ℕ) (rooted : Bool) (names : List (List ℕ)) → Full t → Prefix t n (chars text) → SplitsInto text rooted names → ArePlain names → BeginsWith rooted t (map chars names)
-begins_with t n text rooted names full prefix parted plain others are_others meant =
-    let s : Seam (chars text) (text_at rooted others) = prefix_seam t n (chars text) (text_at rooted others) full prefix meant in
-    let are_names = names_chars names plain in
+pub begins_with : {A : Type 0} (t : Tree A) (n : ℕ) (text : List ℕ) (rooted : Bool) (names : List (List ℕ)) → IsUtf8 text → Prefix t n (chars text) → SplitsInto text rooted names → BeginsWith rooted t (map chars names)
+begins_with t n text rooted names utf8 prefix parted others are_others meant =
+    let s : Seam (chars text) (text_at rooted others) = prefix_seam t n (chars text) (text_at rooted others) prefix meant in
+    let texts = split_texts text rooted names utf8 parted in
+    let are_names = names_of_texts names texts (subst AreNames (sym parted.parts) (are_names_in text)) in
     elim parted.whole [
       | inl e ↦ (
-          let w : chars text ≡ text_at rooted (map chars names) = ap chars e ∙ chars_joined rooted names plain in
+          let w : chars text ≡ text_at rooted (map chars names) = ap chars e ∙ texts_joined rooted names texts in
           whole_begin rooted (map chars names) others are_names are_others s.0 (s.1 ∙ ap (λ v. v ++ s.0) w) (subst (λ v. IsSeam v s.0) w s.2))
       | inr e ↦ (
-          let w : chars text ≡ text_at rooted (map chars names) ++ 47 ∷ [] = ap chars e.1 ∙ chars_ended rooted names plain in
+          let w : chars text ≡ text_at rooted (map chars names) ++ 47 ∷ [] = ap chars e.1 ∙ chars_ended rooted names texts in
           ended_begin rooted (map chars names) others are_names are_others s.0 (s.1 ∙ ap (λ v. v ++ s.0) w))
     ]
 
 -- ---- no names hold two `/` side by side
 
-pub none_match : {A : Type 0} (t : Tree A) (n : ℕ) (p : List ℕ) → Full t → Prefix t n p → HasEmptyName p → (rooted : Bool) → IsUnmeant rooted t
-none_match t n p full prefix empty rooted names are_names meant =
-    let s : Seam p (text_at rooted names) = prefix_seam t n p (text_at rooted names) full prefix meant in
+pub none_match : {A : Type 0} (t : Tree A) (n : ℕ) (p : List ℕ) → Prefix t n p → HasEmptyName p → (rooted : Bool) → IsUnmeant rooted t
+none_match t n p prefix empty rooted names are_names meant =
+    let s : Seam p (text_at rooted names) = prefix_seam t n p (text_at rooted names) prefix meant in
     none_adjacent rooted names are_names empty.0 (empty.1 ++ s.0) (s.1 ∙ ap (λ v. v ++ s.0) empty.2 ∙ append_assoc empty.0 (47 ∷ 47 ∷ empty.1) s.0)
 
-pub none_meant : {A : Type 0} (t : Tree A) (n : ℕ) (text : List ℕ) → Full t → IsUtf8 text → Prefix t n (chars text) → HasEmptyName text → (rooted : Bool) → IsUnmeant rooted t
-none_meant t n text full u prefix empty = none_match t n (chars text) full prefix (empty_chars text u empty)
+pub none_meant : {A : Type 0} (t : Tree A) (n : ℕ) (text : List ℕ) → IsUtf8 text → Prefix t n (chars text) → HasEmptyName text → (rooted : Bool) → IsUnmeant rooted t
+none_meant t n text u prefix empty = none_match t n (chars text) prefix (empty_chars text u empty)
 
 -- ---- what is told of a prefix
 

@@ -1,5 +1,5 @@
 -- Candidates as bytes and as characters.
-use Rattle.std.proofs.Common.{◌≡◌, ◌≢◌, ℕ, suc, Bool, true, false, cond, List, [], ◌∷◌, ◌++◌, map, length}
+use Rattle.std.proofs.Common.{◌≡◌, ◌≢◌, ℕ, zero, suc, Bool, true, false, cond, List, [], ◌∷◌, ◌++◌, map, length}
 use Rattle.std.proofs.Common.{refl, sym, ap, subst, ◌∙◌, arith, append_assoc, append-nil, nat_eq}
 use Rattle.std.proofs.Common.{length-append}
 use Rattle.std.proofs.Common.{chars, encode_utf8_all, inl, inr}
@@ -104,20 +104,33 @@ slash_chars = ap chars (sym slash_bytes) ∙ chars-encodes (47 ∷ []) refl
 pub chars_slash : (s : List ℕ) → chars (47 ∷ s) ≡ 47 ∷ chars s
 chars_slash s = chars-append (47 ∷ []) s slash_text ∙ ap (λ v. v ++ chars s) slash_chars
 
-pub chars_slashed : (names : List (List ℕ)) → ArePlain names
+-- names that are valid UTF-8
+abbrev pub AreTexts : List (List ℕ) → Type 0
+AreTexts [] = Unit {0}
+AreTexts (n ∷ names) = IsUtf8 n × AreTexts names
+
+plain_texts : (names : List (List ℕ)) → ArePlain names → AreTexts names
+plain_texts [] h = tt
+plain_texts (n ∷ names) h = (h.0.text, plain_texts names h.1)
+
+texts_slashed : (names : List (List ℕ)) → AreTexts names
     → chars (slashed names) ≡ slashed (map chars names)
-chars_slashed [] h = chars-nil
-chars_slashed (n ∷ names) h = chars_slash (n ++ slashed names)
-    ∙ ap (λ v. 47 ∷ v) (chars-append n (slashed names) h.0.text
-    ∙ ap (λ v. chars n ++ v) (chars_slashed names h.1))
+texts_slashed [] h = chars-nil
+texts_slashed (n ∷ names) h = chars_slash (n ++ slashed names)
+    ∙ ap (λ v. 47 ∷ v) (chars-append n (slashed names) h.0
+    ∙ ap (λ v. chars n ++ v) (texts_slashed names h.1))
+
+pub texts_joined : (rooted : Bool) (names : List (List ℕ)) → AreTexts names
+    → chars (base rooted ++ joined_names names) ≡ base rooted ++ joined_names (map chars names)
+texts_joined false [] h = chars-nil
+texts_joined true [] h = slash_chars
+texts_joined false (n ∷ names) h = chars-append n (slashed names) h.0
+    ∙ ap (λ v. chars n ++ v) (texts_slashed names h.1)
+texts_joined true (n ∷ names) h = texts_slashed (n ∷ names) h
 
 pub chars_joined : (rooted : Bool) (names : List (List ℕ)) → ArePlain names
     → chars (base rooted ++ joined_names names) ≡ base rooted ++ joined_names (map chars names)
-chars_joined false [] h = chars-nil
-chars_joined true [] h = slash_chars
-chars_joined false (n ∷ names) h = chars-append n (slashed names) h.0.text
-    ∙ ap (λ v. chars n ++ v) (chars_slashed names h.1)
-chars_joined true (n ∷ names) h = chars_slashed (n ∷ names) h
+chars_joined rooted names h = texts_joined rooted names (plain_texts names h)
 
 no_slash_spelled : (cs : List ℕ) → ¬ (Contains (encode_utf8_all cs) 47) → HasNoSlash cs
 no_slash_spelled [] h = tt
@@ -131,18 +144,26 @@ no_slash_spelled (c ∷ cs) h = (
 some_chars : (n : List ℕ) → IsUtf8 n → ¬ (n ≡ []) → ¬ (chars n ≡ [])
 some_chars n u h e = h (sym (encodes-chars n u) ∙ ap encode_utf8_all e)
 
--- the names of entries, as characters and as bytes
-pub names_chars : (names : List (List ℕ)) → ArePlain names → AreNames (map chars names)
-names_chars [] h = tt
-names_chars (n ∷ names) h = (
-  some_chars n h.0.text h.0.not_empty,
-  no_slash_spelled (chars n) (λ i. h.0.one_name (subst (λ v. Contains v 47) (encodes-chars n h.0.text) i)),
-  names_chars names h.1,
+slashless : (x : List ℕ) → HasNoSlash x → ¬ (Contains x 47)
+slashless [] h i = omega (arith, i.1)
+slashless (c ∷ x) h (zero, l, e) = h.0 e
+slashless (c ∷ x) h (suc k, l, e) = slashless x h.1 (k, omega (arith, l), e)
+
+pub names_of_texts : (names : List (List ℕ)) → AreTexts names → AreNames names → AreNames (map chars names)
+names_of_texts [] u h = tt
+names_of_texts (n ∷ names) u h = (
+  some_chars n u.0 h.0,
+  no_slash_spelled (chars n) (λ i. slashless n h.1 (subst (λ v. Contains v 47) (encodes-chars n u.0) i)),
+  names_of_texts names u.1 h.2,
 )
 
+-- the names of entries, as characters and as bytes
 pub names_bytes : (names : List (List ℕ)) → ArePlain names → AreNames names
 names_bytes [] h = tt
 names_bytes (n ∷ names) h = (h.0.not_empty, no_slash_in n h.0.one_name, names_bytes names h.1)
+
+pub names_chars : (names : List (List ℕ)) → ArePlain names → AreNames (map chars names)
+names_chars names h = names_of_texts names (plain_texts names h) (names_bytes names h)
 
 plain_last : (names : List (List ℕ)) (x : List ℕ) → ArePlain names → IsPlain x → ArePlain (names ++ x ∷ [])
 plain_last [] x h k = (k, tt)

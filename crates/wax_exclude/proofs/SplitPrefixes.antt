@@ -1,9 +1,11 @@
 -- Prefixes and their names.
-use Rattle.std.proofs.Common.{◌≡◌, ◌≢◌, ◌==◌, ◌∙◌, ℕ, true, false, cond, List, [], ◌∷◌, ◌++◌, ◌⊎◌, map, reverse, inl, inr, refl, sym, subst, ap, append_assoc, append-nil, string_bytes, String}
+use Rattle.std.proofs.Common.{◌≡◌, ◌≢◌, ◌==◌, ◌∙◌, ℕ, Bool, true, false, cond, List, [], ◌∷◌, ◌++◌, ◌⊎◌, map, reverse, inl, inr, refl, sym, subst, ap, append_assoc, append-nil, chars, encode_utf8_all, string_bytes, String}
 use Rattle.std.specs.Prelude.{filter}
-use Rattle.std.specs.List.{All, slice_split}
+use Rattle.std.specs.Str.{IsUtf8}
+use Rattle.std.specs.List.{All, onto_first, slice_split}
 use Rattle.std.specs.declared.alloc.Global.{Global}
 use Rattle.std.proofs.lemmas.Bool.{cases_eq, cases_Bool, eqb-true, false≢true}
+use Rattle.std.proofs.lemmas.Str.{encodes-chars}
 use Rattle.std.proofs.lemmas.List.{reverse-append}
 use Rattle.std.proofs.lemmas.List.Elements.{All-cons, All-nil}
 use Rattle.std.proofs.lemmas.List.Splits.{slice_split_at, slice_split_none}
@@ -13,7 +15,7 @@ use Rattle.wax_tree.specs.Prefix.{from_last}
 use Rattle.wax_tree.proofs.Showing.{from_last_end}
 use Rattle.wax_query.specs.Below.{AreNames, joined_names}
 use Rattle.wax_exclude.specs.Candidates.{text_at}
-use Rattle.wax_exclude.specs.Prefix.{HasEmptyName, SplitsInto}
+use Rattle.wax_exclude.specs.Prefix.{HasEmptyName, PrefixSplitsInto, SplitsInto}
 
 -- ---- names of a text
 
@@ -47,6 +49,33 @@ clean_push (d ∷ x) c h n = (h.0, clean_push x c h.1 n)
 some_push : (x : List ℕ) (c : ℕ) → ¬ (x ++ c ∷ [] ≡ [])
 some_push [] c e = cc
 some_push (d ∷ x) c e = cc
+
+-- ---- what is between two `/` holds none
+
+abbrev AreClean : List (List ℕ) → Type 0
+AreClean [] = Unit {0}
+AreClean (x ∷ parts) = HasNoSlash x × AreClean parts
+
+clean_onto : (c : ℕ) (parts : List (List ℕ)) → c ≢ 47 → AreClean parts → AreClean (onto_first c parts)
+clean_onto c [] n h = ((n, tt), tt)
+clean_onto c (x ∷ parts) n h = ((n, h.0), h.1)
+
+clean_splits : (s : List ℕ) → AreClean (splits s)
+clean_splits [] = (tt, tt)
+clean_splits (c ∷ s) =
+    let by : Bool → List (List ℕ) = λ b. cond b ([] ∷ splits s) (onto_first c (splits s)) in
+    elim (cases_eq c 47) [
+      | inl e ↦ subst (λ b. AreClean (by b)) (sym (ap (λ v. v == 47) e)) (tt, clean_splits s)
+      | inr n ↦ subst (λ b. AreClean (by b)) (sym (differ c n)) (clean_onto c (splits s) n (clean_splits s))
+    ]
+
+some_names : (parts : List (List ℕ)) → AreClean parts → AreNames (filter is_some_name parts)
+some_names [] h = tt
+some_names ([] ∷ parts) h = some_names parts h.1
+some_names ((c ∷ x) ∷ parts) h = ((λ e. (cc)), h.0, some_names parts h.1)
+
+pub are_names_in : (p : List ℕ) → AreNames (names_in_path p)
+are_names_in p = some_names (splits p) (clean_splits p)
 
 -- the names of a text, none of which is empty; the text is these names, joined, perhaps with a `/` at its end
 record Told (p : List ℕ) : Type 0 where
@@ -141,6 +170,16 @@ splits_into (c ∷ d ∷ p) h = elim (cases_eq c 47) [
       (rooted (d ∷ p) (told (d ∷ []) (λ q. (cc)) (not_again [] d p k, tt) p (after_slash [] (d ∷ p) k))))
   | inr n ↦ relative (c ∷ d ∷ p) (differ c n) (told (c ∷ []) (λ q. (cc)) (n, tt) (d ∷ p) h)
 ]
+
+-- ---- the names of a prefix are known
+
+same_text : (x y p : List ℕ) → IsUtf8 x → IsUtf8 y → chars x ≡ p → chars y ≡ p → x ≡ y
+same_text x y p u v e f = sym (encodes-chars x u) ∙ ap encode_utf8_all (e ∙ sym f) ∙ encodes-chars y v
+
+pub same_split : (p : List ℕ) (b c : Bool) (names others : List (List ℕ)) → PrefixSplitsInto p b names → PrefixSplitsInto p c others → (b ≡ c) × (names ≡ others)
+same_split p b c names others h k =
+    let e : h.text ≡ k.text = same_text h.text k.text p h.encoded k.encoded h.characters k.characters in
+    (h.split.root ∙ ap is_rooted e ∙ sym k.split.root, h.split.parts ∙ ap names_in_path e ∙ sym k.split.parts)
 
 -- ---- names that are stored in reverse
 

@@ -1,9 +1,8 @@
 //! Prefixes of globs, split into names.
 ghost use Rattle.std.specs.Prelude.{◌≡◌, ◌↔◌, ℕ, Bool, IfOk, IsTrue, List, MatchOption, chars, map};
 ghost use Rattle.wax_directory.specs.Names.{is_rooted, names_in_path};
-ghost use Rattle.wax_facts.specs.Orderly.{Full};
 ghost use Rattle.wax_facts.specs.Prefix.{Prefix};
-ghost use Rattle.wax_tree.specs.Prefix.{ArePlain, from_last};
+ghost use Rattle.wax_tree.specs.Prefix.{from_last};
 ghost use Rattle.wax_exclude.specs.Premises.{BeginsWith, IsUnmeant};
 ghost use Rattle.wax_exclude.specs.Prefix.{HasEmptyName, PrefixSplitsInto, SplitsInto};
 
@@ -35,9 +34,9 @@ pub fn prefix_names_of<'t>(
     ensures names { IfOk result (λ prefix_names. (n : ℕ) (p : List ℕ) → Prefix token.now n p
         → MatchOption prefix_names (HasEmptyName p)
         (λ w. PrefixSplitsInto p w.is_rooted (from_last w.names.items))) }
-    ensures meant { Full token.now → IfOk result (λ prefix_names. MatchOption prefix_names
-        ((rooted : Bool) → IsUnmeant rooted token.now) (λ w. ArePlain (from_last w.names.items)
-        → BeginsWith w.is_rooted token.now (map chars (from_last w.names.items)))) }
+    ensures meant { IfOk result (λ prefix_names. MatchOption prefix_names
+        ((rooted : Bool) → IsUnmeant rooted token.now)
+        (λ w. BeginsWith w.is_rooted token.now (map chars (from_last w.names.items)))) }
 {
     let (_, prefix) = invariant_text_prefix(alloc, token)?;
     split_prefix(alloc, prefix.as_str())

@@ -1,5 +1,5 @@
 -- The opened list means what the glob means.
-use Rattle.std.proofs.Common.{Bool, List, None, Some, arith, inl, inr, suc, true, zero, ℕ, ◌++◌, ◌≡◌}
+use Rattle.std.proofs.Common.{Bool, List, None, Some, ap, append-nil, arith, inl, inr, subst, suc, sym, true, zero, ℕ, ◌++◌, ◌∙◌, ◌≡◌}
 use Rattle.wax_token.specs.Meaning.{Means, MeansEach}
 use Rattle.wax_token.specs.Syntax.{Tree, Trees, alternation, concatenation, leaf, more, none, repetition}
 use Rattle.wax_facts.specs.Orderly.{Full, FullEach, IsSome}
@@ -94,3 +94,31 @@ mutual
   last_from (more t (more u us)) some w b f s m =
       let k : Parts t (opened_last (more u us)) b f s = get t (opened_last (more u us)) (last_some (more u us) tt w.1) b f s m in
       (k.0, k.1, k.2, k.3, last_from (more u us) tt w.1 true f k.1 k.4)
+
+-- ---- without `Full`: a token before an empty list is the last one, and has something after it all the same
+
+put_before : {A : Type 0} (t : Tree A) (ts : Trees A) (b g : Bool) (s x y : List ℕ) → s ≡ x ++ y → Means t b true x → MeansEach ts true g y → (h : Bool) × MeansEach (more t ts) b h s
+put_before t none b g s x y e m k = (true, subst (Means t b true) (sym (e ∙ ap (λ z. x ++ z) k ∙ append-nil x)) m)
+put_before t (more u us) b g s x y e m k = (g, (x, y, e, m, k))
+
+mutual
+  -- whatever a glob means, its opened list means, perhaps with something after it
+  pub opened_meant : {A : Type 0} (t : Tree A) (b f : Bool) (s : List ℕ) → Means t b f s → (g : Bool) × MeansEach (opened t) b g s
+  opened_meant (leaf a l) b f s m = (f, m)
+  opened_meant (alternation a none) b f s m = (f, m)
+  opened_meant (alternation a (more t none)) b f s m = elim m [ inl k ↦ opened_meant t b f s k | inr k ↦ absurd k ]
+  opened_meant (alternation a (more t (more u us))) b f s m = (f, m)
+  opened_meant (concatenation a ts) b f s m = last_meant ts b f s m
+  opened_meant (repetition a t zero high) b f s m = (f, m)
+  opened_meant (repetition a t (suc zero) None) b f s m = (f, m)
+  opened_meant (repetition a t (suc zero) (Some zero)) b f s m = (f, m)
+  opened_meant (repetition a t (suc zero) (Some (suc zero))) b f s m = opened_meant t b f s (one_copy (Means t) m.0 b f s m.1 m.2 m.3)
+  opened_meant (repetition a t (suc zero) (Some (suc (suc n)))) b f s m = (f, m)
+  opened_meant (repetition a t (suc (suc low)) high) b f s m = (f, m)
+
+  last_meant : {A : Type 0} (ts : Trees A) (b f : Bool) (s : List ℕ) → MeansEach ts b f s → (g : Bool) × MeansEach (opened_last ts) b g s
+  last_meant none b f s m = (f, m)
+  last_meant (more t none) b f s m = opened_meant t b f s m
+  last_meant (more t (more u us)) b f s m =
+      let k : (g : Bool) × MeansEach (opened_last (more u us)) true g m.1 = last_meant (more u us) true f m.1 m.4 in
+      put_before t (opened_last (more u us)) b k.0 s m.0 m.1 m.2 m.3 k.1

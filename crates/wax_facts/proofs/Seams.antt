@@ -5,13 +5,13 @@ use Rattle.wax_query.specs.Components.{BeginsWithSlash, EndsWithSlash}
 use Rattle.wax_token.specs.Meaning.{Means, MeansEach}
 use Rattle.wax_token.specs.Syntax.{Tree, Trees, leaf, more, none, tree}
 use Rattle.wax_facts.specs.Joined.{IsSeam}
-use Rattle.wax_facts.specs.Orderly.{Full, IsSome}
+use Rattle.wax_facts.specs.Orderly.{IsSome}
 use Rattle.wax_facts.specs.Prefix.{Cut, Prefix, PrefixOf, opened, or_nothing}
 use Rattle.wax_facts.specs.Rest.{after, begins_with_tree}
 use Rattle.wax_facts.proofs.CutEnds.{ends_at}
 use Rattle.wax_facts.proofs.Fronts.{FrontText, cut_text, take_to}
 use Rattle.wax_facts.proofs.Lists.{same_nil}
-use Rattle.wax_facts.proofs.OpenedMeans.{opened_to}
+use Rattle.wax_facts.proofs.OpenedMeans.{opened_meant}
 use Rattle.wax_facts.specs.Joined.{Front}
 use Rattle.wax_facts.proofs.PrefixSound.{prefix_sound}
 use Rattle.wax_facts.proofs.TextSound.{text_sound}
@@ -30,23 +30,24 @@ front_all (suc (suc n)) (more t none) p h past b f s m = absurd h.4
 front_all (suc n) (more t (more u us)) p h past b f s m =
     m.2 ∙ ap (λ z. z ++ m.1) (text_sound t h.0 h.3 b true m.0 m.3) ∙ ap (λ z. h.0 ++ z) (front_all n (more u us) h.1 h.4 past true f m.1 m.4) ∙ sym h.2
 
-tree_seam : {A : Type 0} (a : A) (rooted : Bool) (vs : Trees A) (q : List ℕ) → MeansEach (more (leaf a (tree rooted)) vs) true false q → (q ≡ []) ⊎ BeginsWithSlash q
-tree_seam a rooted none q m = m
-tree_seam a rooted (more u us) q m = inr (m.3.0.0 ++ m.1, m.2 ∙ ap (λ z. z ++ m.1) m.3.0.1)
+tree_seam : {A : Type 0} (a : A) (rooted : Bool) (vs : Trees A) (g : Bool) (q : List ℕ) → MeansEach (more (leaf a (tree rooted)) vs) true g q → (q ≡ []) ⊎ BeginsWithSlash q
+tree_seam a rooted none false q m = m
+tree_seam a rooted none true q m = inr m.0
+tree_seam a rooted (more u us) g q m = inr (m.3.0.0 ++ m.1, m.2 ∙ ap (λ z. z ++ m.1) m.3.0.1)
 
 some_or : {A : Type 0} (ts : Trees A) → IsSome ts ⊎ (IsSome ts → ⊥)
 some_or none = inr (λ h. h)
 some_or (more t ts) = inl tt
 
-module _ {A : Type 0} (ts : Trees A) (p q : List ℕ) (m : MeansEach ts false false (p ++ q)) where
+module _ {A : Type 0} (ts : Trees A) (p q : List ℕ) (g : Bool) (m : MeansEach ts false g (p ++ q)) where
   front_seam : (n : ℕ) → FrontText n ts p → (IsSome (after n ts) → begins_with_tree (after n ts) ≡ false → EndsWithSlash p) → IsSeam p q
   front_seam zero h ends = inl (inl h)
   front_seam (suc n) h ends = elim (some_or (after (suc n) ts)) [
-    | inr past ↦ inr (inl (same_nil p q (front_all (suc n) ts p h past false false (p ++ q) m)))
+    | inr past ↦ inr (inl (same_nil p q (front_all (suc n) ts p h past false g (p ++ q) m)))
     | inl some ↦ (elim (begins_with_tree (after (suc n) ts)) as (λ b. begins_with_tree (after (suc n) ts) ≡ b → IsSeam p q) [
       | false ↦ λ e. inl (inr (ends some e))
       | true ↦ λ e. (let v : BeginsWithTree (after (suc n) ts) = begins_so (after (suc n) ts) e in
-          inr (tree_seam v.0 v.1 v.2 q (subst (λ z. MeansEach z true false q) v.3 (take_to (suc n) ts p h some false false q m))))
+          inr (tree_seam v.0 v.1 v.2 g q (subst (λ z. MeansEach z true g q) v.3 (take_to (suc n) ts p h some false g q m))))
     ] refl)
   ]
 
@@ -59,7 +60,8 @@ module _ {A : Type 0} (ts : Trees A) (p q : List ℕ) (m : MeansEach ts false fa
   list_seam n (inl h) = inl (inr ([], h.2))
   list_seam n (inr h) = cut_seam h.1.0 h.1.1 h.1.3
 
-pub prefix_seam : {A : Type 0} (t : Tree A) (n : ℕ) (p s : List ℕ) → Full t → Prefix t n p → Means t false false s → Seam p s
-prefix_seam t n p s full h m =
+pub prefix_seam : {A : Type 0} (t : Tree A) (n : ℕ) (p s : List ℕ) → Prefix t n p → Means t false false s → Seam p s
+prefix_seam t n p s h m =
     let k : Front p s = prefix_sound t n p s h m in
-    (k.0, k.1, list_seam (opened t) p k.0 (subst (MeansEach (opened t) false false) k.1 (opened_to t full false false s m)) n h)
+    let o : (g : Bool) × MeansEach (opened t) false g s = opened_meant t false false s m in
+    (k.0, k.1, list_seam (opened t) p k.0 o.0 (subst (MeansEach (opened t) false o.0) k.1 o.1) n h)

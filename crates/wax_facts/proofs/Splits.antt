@@ -5,7 +5,7 @@ use Rattle.wax_query.specs.Components.{EndsWithSlash}
 use Rattle.wax_token.specs.Meaning.{Means, MeansEach}
 use Rattle.wax_token.specs.Syntax.{Tree}
 use Rattle.wax_facts.specs.Joined.{IsSeam, begins_with_leaf, path}
-use Rattle.wax_facts.specs.Orderly.{Full, IsSome, Orderly}
+use Rattle.wax_facts.specs.Orderly.{IsSome, Orderly}
 use Rattle.wax_facts.specs.Prefix.{IsRooted, Prefix, opened}
 use Rattle.wax_facts.specs.Rest.{after, rest}
 use Rattle.wax_facts.proofs.CutFree.{orderly_free}
@@ -50,7 +50,7 @@ seam_path p q seam = by_kind (kind_of p) seam
     by_kind (inr e) (inr (inl f)) = inl (ap (λ z. p ++ z) f ∙ append-nil p)
     by_kind (inr e) (inr (inr f)) = inr (f.0, ap (λ z. p ++ z) f.1 ∙ sym (path_bare p f.0 e.0 e.1))
 
-module _ {A : Type 0} (t : Tree A) (n : ℕ) (p s : List ℕ) (full : Full t) (h : Prefix t n p) (means : (r : List ℕ) → MeansEach (rest t n) false false r ↔ Means t false false (path p r)) (m : Means t false false s) where
+module _ {A : Type 0} (t : Tree A) (n : ℕ) (p s : List ℕ) (h : Prefix t n p) (means : (r : List ℕ) → MeansEach (rest t n) false false r ↔ Means t false false (path p r)) (m : Means t false false s) where
   abbrev pub Split : Type 0
   Split = (s ≡ p) ⊎ ((r : List ℕ) × (s ≡ path p r) × MeansEach (rest t n) false false r)
 
@@ -62,7 +62,7 @@ module _ {A : Type 0} (t : Tree A) (n : ℕ) (p s : List ℕ) (full : Full t) (h
   ]
 
   split : Split
-  split = parts (prefix_seam t n p s full h m)
+  split = parts (prefix_seam t n p s h m)
 
 pub orderly_rest : {A : Type 0} (t : Tree A) (n : ℕ) (p r : List ℕ) → Orderly t → Prefix t n p → IsSome (after n (opened t)) →
     (IsRooted (opened t) → begins_with_leaf (opened t) ≡ true) → MeansEach (rest t n) false false r ↔ Means t false false (path p r)
@@ -70,4 +70,4 @@ orderly_rest t n p r o x some first = rest_means t n p r o.0 o.1 first x some (o
 
 pub orderly_split : {A : Type 0} (t : Tree A) (n : ℕ) (p s : List ℕ) → Orderly t → Prefix t n p → IsSome (after n (opened t)) →
     (IsRooted (opened t) → begins_with_leaf (opened t) ≡ true) → Means t false false s → (s ≡ p) ⊎ ((r : List ℕ) × (s ≡ path p r) × MeansEach (rest t n) false false r)
-orderly_split t n p s o x some first m = split t n p s o.0 x (λ r. orderly_rest t n p r o x some first) m
+orderly_split t n p s o x some first m = split t n p s x (λ r. orderly_rest t n p r o x some first) m

@@ -22,11 +22,11 @@ returns-clause-names c =
     c.split_prefix.ensures
 
 pub returns-clause-meant : goal.returns-clause-meant
-returns-clause-meant c = λ full.
+returns-clause-meant c =
     let t = c.args.token.now in
     let n = c.in_ok-prefix.field-0-0 in
     let text = c.as_str.result.now in
     let prefix : Prefix t n (chars text) = subst (λ v. Prefix t n (chars v)) (sym c.as_str.ensures.value) c.in_ok-prefix.ensures.prefix in
     if_ok_map c.split_prefix.result
-    (λ prefix_names k. option_map prefix_names (λ e rooted. none_meant t n text full c.as_str.utf8 prefix e rooted) (λ w i plain. begins_with t n text _ _ full prefix i.1 plain) k)
+    (λ prefix_names k. option_map prefix_names (λ e rooted. none_meant t n text c.as_str.utf8 prefix e rooted) (λ w i. begins_with t n text _ _ c.as_str.utf8 prefix i.1) k)
     c.split_prefix.ensures
