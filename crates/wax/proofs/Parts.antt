@@ -23,7 +23,7 @@ pub built_kept : (e : List ℕ) (t : Tree Span) → Reads e t → broken t ≡ [
 built_kept [] t r b = inr r
 built_kept (c ∷ cs) t r b = inl (built_orderly c cs t r b)
 
-pub full : (t : Tree Span) → IsKept t → Full t
+full : (t : Tree Span) → IsKept t → Full t
 full t (inl o) = o.0
 full t (inr e) = subst Full (sym e) tt
 

@@ -36,6 +36,7 @@ pub mod Remembered
 pub mod RootedLeads
 pub mod SelectingWanted
 pub mod Rows
+pub mod SharedPrefixes
 pub mod Shown
 pub mod Stacking
 pub mod StackingRequests

@@ -24,7 +24,7 @@ pub use kept::collect_unignored;
 pub use law::{law_of_closures, law_of_feeds, law_of_ignoring, law_of_plain_walks, law_of_walks};
 pub use leading_law::law_of_rooted_leading;
 pub use lines::{WrittenLine, written_lines};
-pub use prefixes::{PrefixNames, prefix_names_of};
+pub use prefixes::{PrefixNames, common_prefix_of, prefix_names_of};
 pub use rules::{IgnoreLine, IgnoreRule};
 pub use wanted::{collect, collect_excluding, collect_feed};
 pub use wanted_law::law_of_wanted;

@@ -1,10 +1,15 @@
 //! Prefixes of globs, split into names.
-ghost use Rattle.std.specs.Prelude.{◌≡◌, ◌↔◌, ℕ, Bool, IfOk, IsTrue, List, MatchOption, chars, map};
+ghost use Rattle.std.specs.Prelude.{◌≡◌, ◌↔◌, ◌∷◌, [], ℕ, Bool, IfOk, IsTrue, List, MatchOption};
+ghost use Rattle.std.specs.Prelude.{chars, false, map, string_bytes};
 ghost use Rattle.wax_directory.specs.Names.{is_rooted, names_in_path};
 ghost use Rattle.wax_facts.specs.Prefix.{Prefix};
+ghost use Rattle.wax_token.specs.Reads.{Span};
+ghost use Rattle.wax_token.specs.Syntax.{alternation};
+ghost use Rattle.wax_token.specs.Words.{trees};
 ghost use Rattle.wax_tree.specs.Prefix.{from_last};
 ghost use Rattle.wax_exclude.specs.Premises.{BeginsWith, IsUnmeant};
-ghost use Rattle.wax_exclude.specs.Prefix.{HasEmptyName, PrefixSplitsInto, SplitsInto};
+ghost use Rattle.wax_exclude.specs.Prefix.{HasEmptyName, IsCommonPrefix, PrefixSplitsInto, SplitsInto};
+ghost use Rattle.wax_exclude.specs.inner.Shared.{IsCommonBeginning, NarrowsTo, ShareNothing};
 
 use std::alloc::{AllocError, Global};
 use wax_facts::invariant_text_prefix;
@@ -40,6 +45,93 @@ pub fn prefix_names_of<'t>(
 {
     let (_, prefix) = invariant_text_prefix(alloc, token)?;
     split_prefix(alloc, prefix.as_str())
+}
+
+/// Finds where the walk of several globs begins: at the longest list of names with which all their
+/// prefixes begin, if all of them are rooted or none is. Otherwise there are no names, and the walk
+/// isn't rooted. A glob with two `/` side by side in its prefix is passed over: no path of names
+/// matches it. It takes time and memory in proportion to the texts of the tokens.
+///
+/// # Errors
+///
+/// Returns `NoMemory` if allocation fails.
+pub fn common_prefix_of<'t>(
+    alloc: Global,
+    tokens: &[Token<'t, ExpressionMetadata>],
+) -> Result<PrefixNames, NoMemory>
+    ensures common { IfOk result (λ w.
+        IsCommonPrefix tokens.now w.is_rooted (from_last w.names.items)) }
+    ensures meant { IfOk result (λ w. (a : Span) → BeginsWith w.is_rooted
+        (alternation a (trees tokens.now)) (map chars (from_last w.names.items))) }
+{
+    let mut shared = None;
+    for token in tokens {
+        if let Some(own) = prefix_names_of(alloc, token)? {
+            match narrowed(alloc, shared, own)? {
+                Some(narrower) => shared = Some(narrower),
+                None => return Ok(no_names(alloc)),
+            }
+        }
+    }
+    Ok(shared.unwrap_or(no_names(alloc)))
+}
+
+fn no_names(alloc: Global) -> PrefixNames
+    ensures { (result.is_rooted ≡ false) × (from_last result.names.items ≡ []) }
+{
+    PrefixNames {
+        is_rooted: false,
+        names: Vec::new(alloc),
+    }
+}
+
+// Returns what is shared with one prefix more, or `None` if only one of the two is rooted.
+fn narrowed(
+    alloc: Global,
+    shared: Option<PrefixNames>,
+    own: PrefixNames,
+) -> Result<Option<PrefixNames>, AllocError>
+    ensures { IfOk result (λ narrower. NarrowsTo shared own narrower) }
+{
+    let Some(shared) = shared else {
+        return Ok(Some(own));
+    };
+    if shared.is_rooted != own.is_rooted {
+        return Ok(None);
+    }
+    Ok(Some(PrefixNames {
+        is_rooted: shared.is_rooted,
+        names: shared_names(alloc, shared.names, own.names)?,
+    }))
+}
+
+// Returns the longest names with which both begin. The first name is the last in each list.
+fn shared_names(
+    alloc: Global,
+    mut names: Vec<String>,
+    mut others: Vec<String>,
+) -> Result<Vec<String>, AllocError>
+    ensures { IfOk result (λ shared. IsCommonBeginning (from_last names.items)
+        (from_last others.items) (from_last shared.items)) }
+{
+    let mut shared = Vec::new(alloc);
+    while let Some(name) = pop_shared(&mut names, &mut others) {
+        shared.push(name)?;
+    }
+    shared.reverse();
+    Ok(shared)
+}
+
+// Takes the first name from both lists, and returns it if it is the same.
+fn pop_shared(names: &mut Vec<String>, others: &mut Vec<String>) -> Option<String>
+    ensures { MatchOption result
+        (ShareNothing (from_last names.old.items) (from_last others.old.items)) (λ name.
+        (from_last names.old.items ≡ string_bytes name ∷ from_last names.new.items)
+        × (from_last others.old.items ≡ string_bytes name ∷ from_last others.new.items)) }
+{
+    let name = names.pop()?;
+    let other = others.pop()?;
+    if name == other { Some(name) } else { None }
 }
 
 fn split_prefix(alloc: Global, prefix: &str) -> Result<Option<PrefixNames>, NoMemory>

@@ -8,7 +8,7 @@ use Rattle.wax_token.specs.Words.{listed, trees}
 use Rattle.wax_facts.proofs.PrefixUnique.{tree_text}
 use Rattle.wax_facts.proofs.TextUnique.{text_unique}
 use Rattle.wax_facts.proofs.Truths.{true_false}
-use Rattle.wax_facts.specs.Longest.{IsBorder, IsLiteralPrefix, IsLongestPrefix, ends_with_separator}
+use Rattle.wax_facts.specs.Longest.{IsBorder, IsLiteralPrefix, IsLongestPrefix}
 use Rattle.wax_facts.specs.InvariantText.{Text, TextOfEach}
 use Rattle.wax_facts.specs.Joined.{Front}
 use Rattle.wax_facts.specs.Prefix.{Cut, IsRooted, Prefix, PrefixOf, opened, or_nothing, taken}
