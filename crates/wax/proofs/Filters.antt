@@ -1,13 +1,20 @@
 -- Several patterns as one filter.
-use Rattle.std.proofs.Common.{◌≡◌, ◌++◌, ◌∷◌, List, [], inr, map, refl, sym, ap, ◌∙◌}
+use Rattle.std.proofs.Common.{◌≡◌, ◌↔◌, ◌++◌, ◌∷◌, ℕ, Bool, IfOk, IsTrue, List, Result, [], inr, map, refl, sym, ap, true, ◌∙◌}
 use Rattle.std.proofs.lemmas.List.{append_assoc}
 use Rattle.std.specs.List.{AllZip}
 use Rattle.wax_token.specs.Reads.{Span}
 use Rattle.wax_token.specs.Syntax.{Tree}
+use Rattle.wax_exclude.proofs.Covered.{answers_filter, excludes_text}
+use Rattle.wax_exclude.specs.Candidates.{NoSlashAfterNames, folder_at}
+use Rattle.wax_exclude.specs.GlobRequests.{IsRuleOf}
 use Rattle.wax_exclude.specs.Marks.{not_mark}
+use Rattle.wax_exclude.specs.Walked.{ExcludesBelow}
+use Rattle.wax_exclude.specs.Wanted.{Filter, excludes}
 use Rattle.wax_glob_walk.specs.Programs.{any_mark}
 use Rattle.wax_walk.specs.Candidates.{Candidate}
-use Rattle.wax_walk.specs.Given.{Mark}
+use Rattle.wax_query.specs.Below.{IsBelow}
+use Rattle.wax_walk.proofs.Collecting.{map_ok}
+use Rattle.wax_walk.specs.Given.{Mark, with_tree}
 use Rattle.wax_set.specs.Patterns.{SpellEach}
 use Rattle.wax_error.specs.declared.build_error.BuildError.{BuildError}
 use Rattle.wax.specs.Exclusions.{FitsAlone, IsAnyExclusionOf, IsExclusionOf, NoAnyExclusion, NoExclusion}
@@ -62,3 +69,16 @@ module _ {P E : Type 0} (S : P → Tree Span → Type 0) (rule : E → Candidate
         after = after;
         all = sym joined ∙ ap (λ z. before ++ z) taken;
       })
+
+-- what a rule says of a folder, for each filter whose rule it is
+module _ {E : Type 0} (r : Result Bool E) (said rule : Candidate → Mark) (same : said ≡ rule) (folder : List ℕ)
+    (says : IfOk r (λ answer. IsTrue answer ↔ (said (folder_at folder) ≡ with_tree))) where
+  pub filter_covers : IfOk r (λ answer. (x : Filter Span) → IsRuleOf x rule
+      → IsTrue answer ↔ ExcludesBelow x (folder_at folder))
+  filter_covers = map_ok (λ answer asks x is. answers_filter answer said (folder_at folder) asks x
+      (λ c. ap (λ f. f c) same ∙ is c)) r says
+
+  pub filter_below : NoSlashAfterNames folder → IfOk r (λ answer. (x : Filter Span) → IsRuleOf x rule
+      → IsTrue answer → (s : List ℕ) → IsBelow folder s → excludes x s ≡ true)
+  filter_below ends = map_ok (λ answer covers x is yes s below.
+      excludes_text folder s ends below x ((covers x is).0 yes)) r filter_covers

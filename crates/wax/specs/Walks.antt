@@ -21,7 +21,8 @@ pub use Rattle.wax_directory.specs.Trees.{shown_in, tree_law}
 pub use Rattle.wax_directory.specs.Turns.{failing_inside, fails_after, starves_after, starving_inside}
 pub use Rattle.wax_directory.specs.declared.directory.FileType.{FileType}
 pub use Rattle.wax_directory.specs.declared.directory.FileType.TheVariants.{File, Folder, Link}
-pub use Rattle.wax_exclude.specs.Covers.{covers_test}
+pub use Rattle.wax_exclude.specs.Candidates.{NoSlashAfterNames, folder_at}
+pub use Rattle.wax_exclude.specs.Covers.{CoversSome, covers_test}
 pub use Rattle.wax_exclude.specs.Due.{Due, KeepsDue, gives, lacks_memory, over_budget}
 pub use Rattle.wax_exclude.specs.Excluded.{excluded_mark}
 pub use Rattle.wax_exclude.specs.Feeds.{FeedsByRequest, FeedsByRules, FeedsByWalk, FeedsRuled, FeedsWanted}
@@ -40,9 +41,9 @@ pub use Rattle.wax_exclude.specs.GlobRequests.{CanBegin, GlobRequest, goes, is_b
 pub use Rattle.wax_exclude.specs.GlobRequests.{request_excluding, request_pending, request_walk, walk_for}
 pub use Rattle.wax_exclude.specs.Pruned.{ListsBy, MayOpen, MeansLonger, Pruning, by_components, by_matches}
 pub use Rattle.wax_exclude.specs.RuledWalks.{ComesRuled, RuledWalk, WalkTakes, walk_course, with_rule}
-pub use Rattle.wax_exclude.specs.Walked.{glob_walk, wanted_entries, origin_walk}
+pub use Rattle.wax_exclude.specs.Walked.{ExcludesBelow, glob_walk, wanted_entries, origin_walk}
 pub use Rattle.wax_exclude.specs.WantedEntries.{IsExcludedBy, IsWantedEntry, Selects, SelectsWanted}
-pub use Rattle.wax_exclude.specs.Wanted.{Filter, filter_mark, is_kept_entry, not_ignored, not_meant}
+pub use Rattle.wax_exclude.specs.Wanted.{Filter, excludes, filter_mark, is_kept_entry, not_ignored, not_meant}
 pub use Rattle.wax_filter.specs.Feeding.{AtMostCancels, ByEntry, ByItem, Feeds, NextFiltrate, OnlyCancels}
 pub use Rattle.wax_filter.specs.Feeding.{entry_layer}
 pub use Rattle.wax_filter.specs.Leaving.{MapsResidue, residue_item, shows_residue}

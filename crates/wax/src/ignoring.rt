@@ -1,13 +1,16 @@
 //! Ignore lists: texts whose lines select what to exclude from a walk.
-ghost use Rattle.std.specs.Prelude.{◌≡◌, ◌++◌, ◌∷◌, [], ℕ, List, IfOk, MatchResult, map};
+ghost use Rattle.std.specs.Prelude.{◌≡◌, ◌↔◌, ◌++◌, ◌∷◌, [], ℕ, IsTrue, List, IfOk, MatchResult, map, true};
 ghost use Rattle.wax_directory.specs.Shown.{Shown};
+ghost use Rattle.wax_exclude.specs.Candidates.{NoSlashAfterNames, folder_at};
 ghost use Rattle.wax_exclude.specs.Held.{line_of};
 ghost use Rattle.wax_exclude.specs.Kept.{KeepsUnignored};
 ghost use Rattle.wax_exclude.specs.Lines.{written_of};
+ghost use Rattle.wax_query.specs.Below.{IsBelow};
 ghost use Rattle.wax_token.specs.Reads.{Span};
 ghost use Rattle.wax_tree.specs.Begins.{behavior_range};
 ghost use Rattle.wax_walk.specs.Entries.{given_outcome};
-ghost use Rattle.wax_exclude.specs.Ignored.{Line, is_ignored};
+ghost use Rattle.wax_walk.specs.Given.{with_tree};
+ghost use Rattle.wax_exclude.specs.Ignored.{IgnoresBelow, Line, is_ignored};
 ghost use Rattle.wax.specs.Ignoring.{HoldsLines, IsListOf, IsNoList, IsReadAs, IsUnread};
 ghost use Rattle.wax.specs.Ignoring.{refusal_number, refused_at};
 
@@ -145,6 +148,37 @@ impl IgnoreList {
         ensures same { self.new ≡ self.old }
     {
         self.rule.is_ignored_cached(alloc, path)
+    }
+
+    /// Returns whether everything below the folder with this path is ignored: an alternative of a line
+    /// that ignores covers the folder, and no line after it begins with `!`. A walk, a watcher or a sync
+    /// of your own needn't open such a folder.
+    ///
+    /// If it returns false, everything below may still be ignored, each path by itself: by `**/*.o`,
+    /// or by several lines. If a `/` follows the last name of the path, no promise is made of what is
+    /// below. It takes time in proportion to the number of lines.
+    ///
+    /// ```
+    /// let list = IgnoreList::parse(alloc, "target/**\n!keep/**\ndocs/**\n")?;
+    /// for path in vec![in alloc; "docs", "docs/api", "target", "src"]? {
+    ///     let is_ignored = list.ignores_below(alloc, &CandidatePath::from(path))?;
+    ///     println!(rt; "{is_ignored}")?; // true; true; false; false
+    /// }
+    /// ```
+    ///
+    /// # Errors
+    ///
+    /// Returns `NoMemory` if allocation fails.
+    pub fn ignores_below(&self, alloc: Global, path: &CandidatePath<'_>) -> Result<bool, NoMemory>
+        ensures says { IfOk result (λ answer. IsTrue answer
+            ↔ (⟦<IgnoreList as Exclude>⟧.rule self.now (folder_at path.now) ≡ with_tree)) }
+        ensures covers { IfOk result (λ answer. (lines : List (Line Span)) → HoldsLines self.now lines
+            → IsTrue answer ↔ IgnoresBelow lines (folder_at path.now)) }
+        ensures below { NoSlashAfterNames path.now → IfOk result (λ answer. (lines : List (Line Span))
+            → HoldsLines self.now lines → IsTrue answer → (s : List ℕ) → IsBelow path.now s
+            → is_ignored lines s ≡ true) }
+    {
+        self.rule.ignores_below(alloc, path)
     }
 
     /// Collects the plain walk from `start` without what the list ignores: returns what is kept, in

@@ -1,15 +1,19 @@
 //! Filters of walks: patterns and ignore lists.
-ghost use Rattle.std.specs.Prelude.{◌≡◌, List, MatchResult};
+ghost use Rattle.std.specs.Prelude.{◌≡◌, ◌↔◌, ℕ, IfOk, IsTrue, List, MatchResult, true};
+ghost use Rattle.wax_exclude.specs.Candidates.{NoSlashAfterNames, folder_at};
 ghost use Rattle.wax_exclude.specs.GlobRequests.{IsRuleOf};
+ghost use Rattle.wax_query.specs.Below.{IsBelow};
 ghost use Rattle.wax_token.specs.Reads.{Span};
 ghost use Rattle.wax_exclude.specs.Ignored.{Line};
-ghost use Rattle.wax_exclude.specs.Wanted.{not_ignored};
+ghost use Rattle.wax_exclude.specs.Walked.{ExcludesBelow};
+ghost use Rattle.wax_exclude.specs.Wanted.{Filter, excludes, not_ignored};
 ghost use Rattle.wax.specs.Exclusions.{IsNotRule, NoExclusion};
 ghost use Rattle.wax.specs.Ignoring.{HoldsLines};
 
 use crate::exclusions::exclusion_of;
 use crate::ignoring::IgnoreList;
 use std::alloc::Global;
+use wax_candidate::CandidatePath;
 use wax_error::BuildError;
 use wax_exclude::Exclusion;
 use wax_query::diagnostics::NoMemory;
@@ -44,6 +48,36 @@ impl WalkFilter {
             → IsRuleOf (not_ignored lines) (⟦<WalkFilter as Exclude>⟧.rule result) }
     {
         WalkFilter::Ignore(list)
+    }
+
+    /// Returns whether the filter excludes everything below the folder with this path, by an alternative
+    /// that covers the folder: as `Exclusion::excludes_below` and `IgnoreList::ignores_below` do.
+    ///
+    /// If it returns false, everything below may still be excluded, each path by itself. If a `/`
+    /// follows the last name of the path, no promise is made of what is below. It takes time in
+    /// proportion to the alternatives of the pattern that end with `**`, or to the number of lines.
+    ///
+    /// ```
+    /// let filter = WalkFilter::not(alloc, "{target,out}/**")?;
+    /// println!(rt; "{}", filter.excludes_below(alloc, &CandidatePath::from("out"))?)?; // true
+    /// println!(rt; "{}", filter.excludes_below(alloc, &CandidatePath::from("src"))?)?; // false
+    /// ```
+    ///
+    /// # Errors
+    ///
+    /// Returns `NoMemory` if allocation fails.
+    pub fn excludes_below(&self, alloc: Global, path: &CandidatePath<'_>) -> Result<bool, NoMemory>
+        ensures covers { IfOk result (λ answer. (x : Filter Span)
+            → IsRuleOf x (⟦<WalkFilter as Exclude>⟧.rule self.now)
+            → IsTrue answer ↔ ExcludesBelow x (folder_at path.now)) }
+        ensures below { NoSlashAfterNames path.now → IfOk result (λ answer. (x : Filter Span)
+            → IsRuleOf x (⟦<WalkFilter as Exclude>⟧.rule self.now) → IsTrue answer → (s : List ℕ)
+            → IsBelow path.now s → excludes x s ≡ true) }
+    {
+        match self {
+            WalkFilter::Not(exclusion) => exclusion.excludes_below(alloc, path),
+            WalkFilter::Ignore(list) => list.ignores_below(alloc, path),
+        }
     }
 }
 

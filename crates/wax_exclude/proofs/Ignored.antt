@@ -5,11 +5,14 @@ use Rattle.std.proofs.lemmas.Bool.{and_from}
 use Rattle.wax_alternatives.proofs.Means.{means_one_of}
 use Rattle.wax_alternatives.specs.Alternatives.{alternatives}
 use Rattle.wax_token.specs.Decided.{means_test, means_tested}
+use Rattle.wax_token.specs.Meaning.{MeansSome}
+use Rattle.wax_token.specs.Syntax.{Tree}
+use Rattle.wax_token.specs.Words.{trees}
 use Rattle.wax_walk.specs.Candidates.{Candidate}
 use Rattle.wax_exclude.proofs.Descending.{covers_some_below, covered, covers_some_meant, keeps_uncovered}
 use Rattle.wax_exclude.proofs.Tests.{and_true, or_true, or_left, or_right, covers_tested}
 use Rattle.wax_exclude.specs.Candidates.{candidate_at}
-use Rattle.wax_exclude.specs.Covers.{covers_test}
+use Rattle.wax_exclude.specs.Covers.{CoversSome, covers_test}
 use Rattle.wax_exclude.specs.Ignored.{Line, ignored_after, is_ignored, all_ignore, IgnoresBelow, below_test}
 use Rattle.wax_exclude.specs.Ignored.{ignore_mark}
 use Rattle.wax_exclude.specs.inner.Descents.{Descends}
@@ -69,19 +72,25 @@ module _ {A : Type 0} where
       stays_ignored lines (cond d line.ignores was) s
       (ap (λ v. cond d v was) k.0 ∙ ap (λ v. cond d true v) w ∙ chosen_true d) k.1
 
+  -- a text is ignored if all that covers the candidate means it
+  pub below_ignored : (lines : List (Line A)) (was : Bool) (c : Candidate) (s : List ℕ)
+      → ((ts : List (Tree A)) → CoversSome ts c → MeansSome (trees ts) false false s)
+      → IgnoresBelow lines c → ignored_after was lines s ≡ true
+  below_ignored [] was c s f h = absurd h
+  below_ignored (line ∷ lines) was c s f h =
+      let d = means_test line.glob false false s in
+      elim h [
+        | inl k ↦ (let m : d ≡ true = (means_tested line.glob false false s).1
+            ((means_one_of line.glob (alternatives line.glob) refl false false s).1
+            (f (alternatives line.glob) k.2)) in
+            stays_ignored lines (cond d line.ignores was) s
+            (ap (λ v. cond v line.ignores was) m ∙ k.0) k.1)
+        | inr k ↦ below_ignored lines (cond d line.ignores was) c s f k
+      ]
+
   covered_ignored : (lines : List (Line A)) (was : Bool) (c : Candidate) → IgnoresBelow lines c
       → ignored_after was lines c.text ≡ true
-  covered_ignored [] was c h = absurd h
-  covered_ignored (line ∷ lines) was c h =
-      let d = means_test line.glob false false c.text in
-      elim h [
-        | inl k ↦ (let m : d ≡ true = (means_tested line.glob false false c.text).1
-            ((means_one_of line.glob (alternatives line.glob) refl false false c.text).1
-            (covers_some_meant (alternatives line.glob) c k.2)) in
-            stays_ignored lines (cond d line.ignores was) c.text
-            (ap (λ v. cond v line.ignores was) m ∙ k.0) k.1)
-        | inr k ↦ covered_ignored lines (cond d line.ignores was) c k
-      ]
+  covered_ignored lines was c h = below_ignored lines was c c.text (λ ts k. covers_some_meant ts c k) h
 
   -- a list keeps exactly what it doesn't ignore
   pub ignore_keeps : (lines : List (Line A)) (c : Candidate)

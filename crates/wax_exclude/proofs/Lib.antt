@@ -7,6 +7,7 @@ pub mod Closed
 pub mod Closing
 pub mod Components
 pub mod Costs
+pub mod Covered
 pub mod Descending
 pub mod Empty
 pub mod Exactly

@@ -4,17 +4,23 @@ ghost use Rattle.std.specs.List.{All, list_any};
 ghost use Rattle.wax_alternatives.specs.Alternatives.{alternatives};
 ghost use Rattle.wax_query.specs.Outcome.{MatchBuild};
 ghost use Rattle.wax_token.specs.Cost.{cost, program_length};
-ghost use Rattle.wax_token.specs.Meaning.{Means};
-ghost use Rattle.wax_token.specs.Words.{members};
-ghost use Rattle.wax_exclude.specs.Covers.{ends_wild, is_everything, is_unrooted, some_everything};
+ghost use Rattle.wax_query.specs.Below.{IsBelow};
+ghost use Rattle.wax_token.specs.Meaning.{Means, MeansSome};
+ghost use Rattle.wax_token.specs.Words.{members, trees};
+ghost use Rattle.wax_exclude.specs.Candidates.{NoSlashAfterNames, folder_at};
+ghost use Rattle.wax_exclude.specs.Covers.{CoversSome, ends_wild, is_everything, is_unrooted};
+ghost use Rattle.wax_exclude.specs.Covers.{some_everything};
 ghost use Rattle.wax_exclude.specs.Compiled.{CoverAll, SomeAccepts};
 ghost use Rattle.wax_walk.specs.Candidates.{in_characters};
+ghost use Rattle.wax_walk.specs.Given.{with_tree};
 ghost use Rattle.wax_walk.specs.Said.{mark_of};
 
 use crate::fitting::compile_fitting;
+use crate::folders::{folder_candidate, is_tree};
 use std::alloc::Global;
 use std::marker::Model;
 use wax_alternatives::into_alternatives;
+use wax_candidate::CandidatePath;
 use wax_compiled::CompiledTokens;
 use wax_lazy::Matcher;
 use wax_match::encode::CompileError;
@@ -100,6 +106,37 @@ impl Exclusion {
 
 impl Exclusion {
     ghost use Rattle.wax_exclude.specs.Excluded.{excluded_mark, some_test};
+
+    /// Returns whether an alternative of the pattern covers the folder with this path, so that everything
+    /// below it is excluded. For the start of a walk, which has no name, only an unrooted `**` does.
+    ///
+    /// If it returns false, everything below may still be excluded, each entry by itself, as by
+    /// `**/*`. If a `/` follows the last name of the path, no promise is made of what is below. It
+    /// takes the time of a match for the pattern, and for each alternative that ends with `**`.
+    ///
+    /// ```
+    /// use wax::walk::exclusion_of;
+    ///
+    /// let exclusion = exclusion_of(alloc, "target/**")?;
+    /// for path in vec![in alloc; "target", "target/debug", "src", ""]? {
+    ///     let is_excluded = exclusion.excludes_below(alloc, &CandidatePath::from(path))?;
+    ///     println!(rt; "{is_excluded}")?; // true; true; false; false
+    /// }
+    /// ```
+    ///
+    /// # Errors
+    ///
+    /// Returns `NoMemory` if allocation fails.
+    pub fn excludes_below(&self, alloc: Global, path: &CandidatePath<'_>) -> Result<bool, NoMemory>
+        ensures says { IfOk result (λ answer. IsTrue answer
+            ↔ (⟦<Exclusion as Exclude>⟧.rule self.now (folder_at path.now) ≡ with_tree)) }
+        ensures covers { IfOk result (λ answer. IsTrue answer ↔ CoversSome self.now (folder_at path.now)) }
+        ensures below { NoSlashAfterNames path.now → IfOk result (λ answer. IsTrue answer → (s : List ℕ)
+            → IsBelow path.now s → MeansSome (trees self.now) false false s) }
+    {
+        let residue = self.residue_once(alloc, folder_candidate(path))?;
+        Ok(is_tree(residue))
+    }
 
     /// Returns the alternatives of the pattern.
     pub(crate) fn alternatives(&self) -> &[Token<'static, ExpressionMetadata>]

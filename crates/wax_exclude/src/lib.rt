@@ -7,6 +7,7 @@ mod component;
 mod deciding;
 mod exclusions;
 mod fitting;
+mod folders;
 mod kept;
 mod law;
 mod leading_law;

@@ -1,18 +1,22 @@
 //! Ignore lists as rules of walks.
-ghost use Rattle.std.specs.Prelude.{◌≡◌, ◌<◌, ◌≤◌, List, IfOk, chars, false, length};
+ghost use Rattle.std.specs.Prelude.{◌≡◌, ◌↔◌, ◌<◌, ◌≤◌, ℕ, IsTrue, List, IfOk, chars, false, length, true};
 ghost use Rattle.std.specs.List.{All};
+ghost use Rattle.wax_query.specs.Below.{IsBelow};
 ghost use Rattle.wax_query.specs.Outcome.{MatchBuild};
 ghost use Rattle.wax_token.specs.Cost.{program_length};
 ghost use Rattle.wax_token.specs.Reads.{Span};
 ghost use Rattle.wax_walk.specs.Candidates.{in_characters};
+ghost use Rattle.wax_walk.specs.Given.{with_tree};
 ghost use Rattle.wax_walk.specs.Said.{mark_of};
-ghost use Rattle.wax_exclude.specs.Ignored.{Line, ignore_mark, is_ignored};
+ghost use Rattle.wax_exclude.specs.Candidates.{NoSlashAfterNames, folder_at};
+ghost use Rattle.wax_exclude.specs.Ignored.{IgnoresBelow, Line, ignore_mark, is_ignored};
 ghost use Rattle.wax_exclude.specs.Held.{HasLines, line_of};
 ghost use Rattle.wax_exclude.specs.inner.Blocks.{IsBlockOf, left_to_say, mark_passed, marks_after};
 ghost use Rattle.wax_exclude.specs.inner.Listed.{ignored_by, listed_mark, mark_after};
 
 use crate::blocks::{Block, blocks_of};
 use crate::exclusions::Exclusion;
+use crate::folders::{folder_candidate, is_tree};
 use std::alloc::Global;
 use std::marker::Model;
 use wax_candidate::CandidatePath;
@@ -110,6 +114,30 @@ impl IgnoreRule {
             → answer ≡ is_ignored ls path.now) }
     {
         is_ignored_by(alloc, self.lines.as_slice(), path.as_str())
+    }
+
+    /// Returns whether everything below the folder with this path is ignored: an alternative of a line
+    /// that ignores covers the folder, and no line after it begins with `!`.
+    ///
+    /// If it returns false, everything below may still be ignored, each path by itself. If a `/`
+    /// follows the last name of the path, no promise is made of what is below. It takes time in
+    /// proportion to the number of lines.
+    ///
+    /// # Errors
+    ///
+    /// Returns `NoMemory` if allocation fails.
+    pub fn ignores_below(&self, alloc: Global, path: &CandidatePath<'_>) -> Result<bool, NoMemory>
+        ensures says { IfOk result (λ answer. IsTrue answer
+            ↔ (⟦<IgnoreRule as Exclude>⟧.rule self.now (folder_at path.now) ≡ with_tree)) }
+        ensures covers { IfOk result (λ answer. (ls : List (Line Span)) → HasLines self.now ls
+            → IsTrue answer ↔ IgnoresBelow ls (folder_at path.now)) }
+        ensures below { NoSlashAfterNames path.now → IfOk result (λ answer. (ls : List (Line Span))
+            → HasLines self.now ls → IsTrue answer → (s : List ℕ) → IsBelow path.now s
+            → is_ignored ls s ≡ true) }
+    {
+        let candidate = folder_candidate(path);
+        let residue = after_lines(alloc, self.lines.as_slice(), candidate, None)?;
+        Ok(is_tree(residue))
     }
 
     /// Returns what `is_ignored` does, with the help of what is kept of earlier paths.

@@ -12,7 +12,7 @@ mod walks;
 
 pub use captured::picture_stem;
 pub use components::glob_of_component;
-pub use ignored::is_ignored_by;
+pub use ignored::{is_ignored_below, is_ignored_by};
 pub use lines::matching_lines;
 pub use names::{expression_matches, is_picture};
 pub use skipping::{has_no_deeper, means_all_below, means_none_below, means_single_names};

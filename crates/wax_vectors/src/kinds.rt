@@ -1,7 +1,7 @@
 //! Kinds of rows: which fact each shows, and how many inputs it has.
 
 use crate::kinds::GlobFact::{Lines, Memoryless, Part};
-use crate::{globs, lists, parts, sets};
+use crate::{belows, globs, lists, parts, sets};
 use wax::{Glob, NoMemory};
 use wax_test_kit::answer::Answer;
 use wax_test_kit::rows::{DataRow, RowKind, find_in};
@@ -16,6 +16,8 @@ pub enum Kind {
     Set(SetFact),
     Ignored,
     IgnoredTwice,
+    ExcludedBelow,
+    IgnoredBelow,
     Unknown,
 }
 
@@ -156,6 +158,8 @@ static KINDS: &[(&str, usize, Kind)] = &[
     ("ignored", 2, Kind::Ignored),
     ("ignored_twice", 2, Kind::IgnoredTwice),
     ("bad_line", 1, Kind::Ignored),
+    ("excluded_below", 2, Kind::ExcludedBelow),
+    ("ignored_below", 2, Kind::IgnoredBelow),
 ];
 
 impl RowKind for Kind {
@@ -173,6 +177,8 @@ impl RowKind for Kind {
             Kind::Set(fact) => sets::answer(alloc, fact, row, made),
             Kind::Ignored => lists::answer(alloc, false, row, made),
             Kind::IgnoredTwice => lists::answer(alloc, true, row, made),
+            Kind::ExcludedBelow => belows::add_excluded(alloc, text, row.input(1), made),
+            Kind::IgnoredBelow => belows::add_ignored(alloc, text, row.input(1), made),
             Kind::Unknown => {
                 made.add("no such kind");
                 Ok(())

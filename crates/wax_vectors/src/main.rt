@@ -3,6 +3,7 @@
 //! answer, and is printed with it. If the first argument is `time`, the others say what to time.
 #![tactic(auto)]
 
+mod belows;
 mod copies;
 mod globs;
 mod kinds;

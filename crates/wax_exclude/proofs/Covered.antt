@@ -1,0 +1,164 @@
+-- Folders below which everything is excluded.
+use Rattle.std.proofs.Common.{◌≡◌, ◌↔◌, ◌==◌, ◌||◌, ◌&&◌, ℕ, Bool, IsTrue, true, false, not, cond, List, [], ◌∷◌, ◌++◌, length}
+use Rattle.std.proofs.Common.{refl, sym, ap, subst, ◌∙◌, inl, inr, arith, append_assoc, nat_lt}
+use Rattle.std.specs.Prelude.{filter}
+use mir.Val.{bool_byte}
+use Rattle.std.specs.List.{list_any, onto_first, slice_split}
+use Rattle.std.proofs.lemmas.Bool.{lt-ltb}
+use Rattle.wax_alternatives.proofs.Joining.{as_members, of_members}
+use Rattle.wax_alternatives.proofs.Means.{means_one_of}
+use Rattle.wax_alternatives.specs.Alternatives.{alternatives}
+use Rattle.wax_directory.specs.Names.{is_some_name, names_in_path}
+use Rattle.wax_query.specs.Below.{IsBelow, ends_open}
+use Rattle.wax_token.specs.Decided.{means_test, means_tested}
+use Rattle.wax_token.specs.Meaning.{Means, MeansSome}
+use Rattle.wax_token.specs.Reads.{Span}
+use Rattle.wax_token.specs.Syntax.{Tree}
+use Rattle.wax_token.specs.Words.{members, trees}
+use Rattle.wax_walk.specs.Candidates.{Candidate}
+use Rattle.wax_walk.specs.Given.{Mark, kept, with_tree}
+use Rattle.wax_exclude.proofs.Descending.{covered, everything_meant, wild_goes_on}
+use Rattle.wax_exclude.proofs.Ignored.{below_ignored, below_tested}
+use Rattle.wax_exclude.proofs.ListingLines.{says_lines}
+use Rattle.wax_exclude.proofs.Passed.{marks_listed}
+use Rattle.wax_exclude.proofs.Tests.{covers_tested}
+use Rattle.wax_exclude.specs.Candidates.{NoSlashAfterNames, folder_at}
+use Rattle.wax_exclude.specs.Covers.{Covers, CoversSome, covers_test, is_everything, some_everything, wild_test}
+use Rattle.wax_exclude.specs.Excluded.{excluded_mark, some_test}
+use Rattle.wax_exclude.specs.GlobRequests.{IsRuleOf}
+use Rattle.wax_exclude.specs.Held.{HasLines}
+use Rattle.wax_exclude.specs.Ignored.{IgnoresBelow, Line, below_test, ignore_mark, is_ignored}
+use Rattle.wax_exclude.specs.Marks.{covered_mark}
+use Rattle.wax_exclude.specs.Walked.{ExcludesBelow}
+use Rattle.wax_exclude.specs.Wanted.{Filter, excludes, filter_mark, not_ignored, not_meant}
+use Rattle.wax_exclude.specs.declared.rules.IgnoreLine.{IgnoreLine}
+use Rattle.wax_exclude.specs.inner.Blocks.{marks_after}
+use Rattle.wax_exclude.specs.inner.Listed.{below_by, ignored_by, listed_mark, none_reincludes}
+
+-- ---- folders as rules see them
+
+first_named : (c : ℕ) (parts : List (List ℕ)) → nat_lt 0 (length (filter is_some_name (onto_first c parts))) ≡ true
+first_named c [] = refl
+first_named c (part ∷ parts) = lt-ltb 0 (length (filter is_some_name (onto_first c (part ∷ parts)))) (omega arith)
+
+-- a text has a name if one of its characters isn't `/`
+named : (s : List ℕ) → nat_lt 0 (folder_at s).depth ≡ list_any (λ c. not (c == 47)) s
+named [] = refl
+named (c ∷ s) =
+    let parts = slice_split (λ d. d == 47) s in
+    elim (c == 47) as (λ b. nat_lt 0 (length (filter is_some_name (cond b ([] ∷ parts) (onto_first c parts))))
+    ≡ (not b || list_any (λ d. not (d == 47)) s)) [
+      | true ↦ named s
+      | false ↦ first_named c parts
+    ]
+
+count_named : (b : Bool) → nat_lt 0 (bool_byte b) ≡ b
+count_named true = refl
+count_named false = refl
+
+pub depth_named : (depth : ℕ) (b : Bool) (s t : List ℕ) → depth ≡ bool_byte b → b ≡ list_any (λ c. not (c == 47)) s
+    → s ≡ t → nat_lt 0 depth ≡ nat_lt 0 (folder_at t).depth
+depth_named depth b s t d e f =
+    ap (nat_lt 0) d ∙ count_named b ∙ e ∙ ap (list_any (λ c. not (c == 47))) f ∙ sym (named t)
+
+-- rules ask for the text, and whether there is a name
+module _ (c d : Candidate) (text : c.text ≡ d.text) (depth : nat_lt 0 c.depth ≡ nat_lt 0 d.depth) where
+  covers_alike : {A : Type 0} (ts : List (Tree A)) → covers_test ts c ≡ covers_test ts d
+  covers_alike ts = λ i. some_everything ts || (depth i && wild_test ts (text i))
+
+  excluded_alike : {A : Type 0} (ts : List (Tree A)) → excluded_mark ts c ≡ excluded_mark ts d
+  excluded_alike ts = λ i. covered_mark (covers_alike ts i) (some_test ts (text i))
+
+  below_alike : (lines : List IgnoreLine) → below_by lines c ≡ below_by lines d
+  below_alike [] = refl
+  below_alike (line ∷ lines) = λ i.
+      (line.ignores && (none_reincludes lines && covers_alike line.exclusion i)) || below_alike lines i
+
+  listed_alike : (lines : List IgnoreLine) → listed_mark lines c ≡ listed_mark lines d
+  listed_alike lines = λ i. covered_mark (below_alike lines i) (ignored_by false lines (text i))
+
+-- ---- marks
+
+covered_so : (b m : Bool) → (covered_mark b m ≡ with_tree) ↔ IsTrue b
+covered_so b m = (covered b m, (λ e. ap (λ v. covered_mark v m) e))
+
+-- an answer that says whether a mark excludes everything below
+abbrev Asks : Bool → Mark → Type 0
+Asks answer mark = IsTrue answer ↔ (mark ≡ with_tree)
+
+answers_same : (answer : Bool) (mark other : Mark) → mark ≡ other → Asks answer mark → Asks answer other
+answers_same answer mark other e asks = ((λ t. sym e ∙ asks.0 t), (λ t. asks.1 (e ∙ t)))
+
+module _ (answer : Bool) (mark : Mark) (asks : Asks answer mark) (c d : Candidate) (text : c.text ≡ d.text)
+    (depth : nat_lt 0 c.depth ≡ nat_lt 0 d.depth) where
+  pub answers_covers : (ts : List (Tree Span)) → mark ≡ excluded_mark ts c → IsTrue answer ↔ CoversSome ts d
+  answers_covers ts e =
+      let says = answers_same answer mark (excluded_mark ts d) (e ∙ excluded_alike c d text depth ts) asks in
+      let so = covered_so (covers_test ts d) (some_test ts d.text) in
+      let tested = covers_tested ts d in
+      ((λ t. tested.0 (so.0 (says.0 t))), (λ h. says.1 (so.1 (tested.1 h))))
+
+  module _ (slice held : List IgnoreLine) (same : slice ≡ held) (e : mark ≡ marks_after kept slice c) where
+    pub answers_listed : Asks answer (listed_mark held d)
+    answers_listed = answers_same answer mark (listed_mark held d)
+        (e ∙ marks_listed slice c ∙ ap (λ lines. listed_mark lines c) same ∙ listed_alike c d text depth held) asks
+
+    pub answers_lines : (lines : List (Line Span)) → HasLines held lines → IsTrue answer ↔ IgnoresBelow lines d
+    answers_lines lines has =
+        let says : listed_mark held d ≡ ignore_mark lines d = ap (λ rule. rule d) (says_lines held lines has) in
+        let so = covered_so (below_test lines d) (is_ignored lines d.text) in
+        let tested = below_tested lines d in (
+          (λ t. tested.0 (so.0 (sym says ∙ answers_listed.0 t))),
+          (λ h. answers_listed.1 (says ∙ so.1 (tested.1 h))),
+        )
+
+excludes_so : {A : Type 0} (x : Filter A) (c : Candidate) → (filter_mark x c ≡ with_tree) ↔ ExcludesBelow x c
+excludes_so (not_meant t) c =
+    let so = covered_so (covers_test (alternatives t) c) (means_test t false false c.text) in
+    let tested = covers_tested (alternatives t) c in
+    ((λ e. tested.0 (so.0 e)), (λ h. so.1 (tested.1 h)))
+excludes_so (not_ignored lines) c =
+    let so = covered_so (below_test lines c) (is_ignored lines c.text) in
+    let tested = below_tested lines c in
+    ((λ e. tested.0 (so.0 e)), (λ h. so.1 (tested.1 h)))
+
+pub answers_filter : {A : Type 0} (answer : Bool) (rule : Candidate → Mark) (c : Candidate) → Asks answer (rule c)
+    → (x : Filter A) → IsRuleOf x rule → IsTrue answer ↔ ExcludesBelow x c
+answers_filter answer rule c asks x is =
+    let so = excludes_so x c in
+    ((λ t. so.0 (sym (is c) ∙ asks.0 t)), (λ h. asks.1 (is c ∙ so.1 h)))
+
+-- ---- what is below, by texts
+
+text_below : (folder s : List ℕ) → ends_open folder ≡ false → IsBelow folder s
+    → (r : List ℕ) × (s ≡ folder ++ 47 ∷ r)
+text_below folder s closed h = (
+  h.0,
+  h.2 ∙ ap (λ b. cond b folder (folder ++ 47 ∷ []) ++ h.0) closed ∙ append_assoc folder (47 ∷ []) h.0,
+)
+
+module _ (folder s : List ℕ) (ends : NoSlashAfterNames folder) (below : IsBelow folder s) where
+  covers_means : {A : Type 0} (t : Tree A) → Covers t (folder_at folder) → Means t false false s
+  covers_means t (inl e) = everything_meant t (is_everything (members t)) refl e s
+  covers_means t (inr h) = elim ends [
+    | inl none ↦ (let n : length (names_in_path folder) ≡ 0 = ap length none in absurd (omega (arith, n, h.2)))
+    | inr closed ↦ (let more = text_below folder s closed below in
+        subst (λ v. Means t false false v) (sym more.1) (of_members t false false _
+        (wild_goes_on (members t) false folder more.0 h.0 (as_members t false false folder h.1))))
+  ]
+
+  -- an alternative that covers the folder means what is below it
+  pub covers_some_means : {A : Type 0} (ts : List (Tree A)) → CoversSome ts (folder_at folder)
+      → MeansSome (trees ts) false false s
+  covers_some_means [] h = h
+  covers_some_means (t ∷ ts) (inl h) = inl (covers_means t h)
+  covers_some_means (t ∷ ts) (inr h) = inr (covers_some_means ts h)
+
+  pub ignores_text : {A : Type 0} (lines : List (Line A)) → IgnoresBelow lines (folder_at folder)
+      → is_ignored lines s ≡ true
+  ignores_text lines h = below_ignored lines false (folder_at folder) s (λ ts k. covers_some_means ts k) h
+
+  pub excludes_text : {A : Type 0} (x : Filter A) → ExcludesBelow x (folder_at folder) → excludes x s ≡ true
+  excludes_text (not_meant t) h = (means_tested t false false s).1
+      ((means_one_of t (alternatives t) refl false false s).1 (covers_some_means (alternatives t) h))
+  excludes_text (not_ignored lines) h = ignores_text lines h
