@@ -1,8 +1,8 @@
 -- What is to come of a glob's walk.
 use Rattle.std.proofs.Common.{◌≡◌, ◌∙◌, ◌≤◌, ◌<◌, ◌+◌, ◌&&◌, ℕ, Bool, true, false, cond, if◌then◌else◌, List, [], ◌∷◌, length, refl, sym, subst, ap, inl, inr, arith}
-use Rattle.std.proofs.lemmas.Bool.{ltb-false, ltb-true}
-use Rattle.wax_exclude.specs.GlobRequests.{ComesWanted, GlobRequest, is_beyond, walk_for}
+use Rattle.wax_exclude.specs.GlobRequests.{ComesWanted, GlobRequest, walk_for}
 use Rattle.wax_exclude.specs.RuledWalks.{WalkTakes, lacking}
+use Rattle.wax_exclude.proofs.BeginsLeast.{comes_so as comes_in_range}
 use Rattle.wax_exclude.proofs.SplitPrefixes.{same_split}
 use Rattle.wax_exclude.proofs.StackingRequests.{any_alone}
 use Rattle.wax_exclude.proofs.Telling.{ruled_takes}
@@ -33,7 +33,7 @@ use Rattle.wax_walk.specs.Given.{Facts, Given, Mark, alone, changed_by, combined
 use Rattle.wax_exclude.specs.Leading.{component_test, lead_test, leading_of}
 use Rattle.wax_exclude.specs.Marks.{glob_mark, led_mark}
 use Rattle.wax.specs.GlobView.{GlobView}
-use Rattle.wax.proofs.GoingAlong.{names_are}
+use Rattle.wax_exclude.proofs.Origins.{names_are}
 use Rattle.wax_exclude.specs.Pruned.{Pruning, by_components, opening_by, rules_by}
 use Rattle.wax_exclude.specs.Wanted.{stacked}
 use Rattle.wax_walk.specs.Pruned.{opened_forest}
@@ -129,26 +129,20 @@ module _ {D C : Type 0} {t : Tree Span} (law : Law D C) (d : D) (start : List �
   abbrev requested : Shown → Forest Given
   requested s = stacked (rules_by pruning asked.min (wants t b [])) (opened_forest (opening_by pruning t) (origin_walk request.walked request.origin s))
 
-  abbrev ComesShown : Type 0
+  abbrev pub ComesShown : Type 0
   ComesShown = (s : Shown) (listed : List (List ℕ)) → law.shows d request.origin.path s → law.tells d listed → length b.names ≤ request.walked.max →
       view.to_come (pending nothing (requested s) listed (count_shown s))
 
-  abbrev ComesBeyond : Type 0
+  abbrev pub ComesBeyond : Type 0
   ComesBeyond = (s : Shown) (listed : List (List ℕ)) → law.shows d request.origin.path s → law.tells d listed → request.walked.max < length b.names → view.to_come (pending nothing nothing listed 0)
 
   pub comes_so : ComesShown → ComesBeyond → ((c : Course) → MayTake view c → WalkTakes (walk_for request) c)
       → view.listings_left ≡ asked.budget + 1 → ComesWanted law d request view
-  comes_so shown beyond takes listings = record {
-    comes = λ s listed k told.
-        let same : request.origin.names ≡ b.names = sym (names_are start b.rooted b.names) in
-        elim (is_beyond request) as
-        (λ x. is_beyond request ≡ x → view.to_come (pending nothing (if x then nothing else requested s) listed (if x then 0 else count_shown s))) [
-          | true ↦ λ e. beyond s listed k told (subst (λ ns. request.walked.max < length ns) same (ltb-true request.walked.max (length request.origin.names) e))
-          | false ↦ λ e. shown s listed k told (subst (λ ns. length ns ≤ request.walked.max) same (ltb-false request.walked.max (length request.origin.names) e))
-        ] refl;
-    takes = takes;
-    listings = listings;
-  }
+  comes_so shown beyond =
+      let same : request.origin.names ≡ b.names = sym (names_are start b.rooted b.names) in
+      comes_in_range law d (walk_for request) view
+      (λ s listed k told fits. shown s listed k told (subst (λ ns. length ns ≤ request.walked.max) same fits))
+      (λ s listed k told less. beyond s listed k told (subst (λ ns. request.walked.max < length ns) same less))
 
 -- ---- where errors come
 

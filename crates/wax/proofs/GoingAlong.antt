@@ -1,11 +1,12 @@
 -- A glob's walk may go to its prefix, and no deeper than its texts.
-use Rattle.std.proofs.Common.{◌≡◌, ◌≤◌, ◌⊎◌, ◌==◌, ◌||◌, ℕ, Bool, true, false, List, [], ◌∷◌, Option, Some, None, map, min, inl, inr, refl, sym, subst, ap, arith, chars}
+use Rattle.std.proofs.Common.{◌≡◌, ◌==◌, ◌||◌, ℕ, Bool, true, false, List, [], ◌∷◌, map, inl, inr, refl, sym, subst, ap, chars}
 use Rattle.std.specs.List.{list_any}
-use Rattle.std.proofs.lemmas.Bool.{cases_lt, or_parts}
+use Rattle.std.proofs.lemmas.Bool.{or_parts}
 use Rattle.wax_facts.specs.Orderly.{Worded, WordedEach, WordedLeaf}
 use Rattle.wax_facts.specs.Prefix.{Prefix}
 use Rattle.wax_exclude.proofs.Beginnings as beginnings
-use Rattle.wax_exclude.proofs.Beginnings.{begins_with, bounds_names}
+use Rattle.wax_exclude.proofs.Beginnings.{begins_with}
+use Rattle.wax_exclude.proofs.Origins.{candidate_is, greatest_at, names_are}
 use Rattle.wax_query.specs.Components.{component_total}
 use Rattle.wax_query.specs.Ranges.{AtMost, Bounds}
 use Rattle.wax_token.specs.Meaning.{HasNoSlash, Means}
@@ -14,12 +15,11 @@ use Rattle.wax_token.specs.Spelled.{AllHaveNoSlash, LeafHasNoSlash, LiteralsHave
 use Rattle.wax_token.specs.Syntax.{Leaf, literal, class, separator, one, zero_or_more, tree, Tree, Trees, leaf, alternation, concatenation, repetition, none, more}
 use Rattle.wax_tree.specs.Prefix.{ArePlain}
 use Rattle.wax_tree.specs.declared.steps.DepthRange.{DepthRange}
-use Rattle.wax_exclude.specs.Candidates.{base}
 use Rattle.wax_exclude.specs.Wanted.{Filter}
-use Rattle.wax_exclude.specs.Premises.{BeginsWith, BoundsNames, CanWalk, IsUnmeant}
+use Rattle.wax_exclude.specs.Premises.{BeginsWith, CanWalk, IsUnmeant}
 use Rattle.wax_exclude.specs.Prefix.{HasEmptyName}
 use Rattle.wax.specs.GlobView.{IsKept}
-use Rattle.wax.specs.GlobWalks.{Beginning, up_to, wants, origin_from, within}
+use Rattle.wax.specs.GlobWalks.{Beginning, wants, origin_from, within}
 
 -- ---- literals
 
@@ -53,25 +53,7 @@ kept_slashless : (t : Tree Span) → IsKept t → LiteralsHaveNoSlash t
 kept_slashless t (inl o) = worded_slashless t o.2
 kept_slashless t (inr e) = subst LiteralsHaveNoSlash (sym e) tt
 
--- ---- origins
-
-candidate_is : (start : List ℕ) (rooted : Bool) (names : List (List ℕ)) → (origin_from start rooted names).candidate ≡ base rooted
-candidate_is start true names = refl
-candidate_is start false names = refl
-
-pub names_are : (start : List ℕ) (rooted : Bool) (names : List (List ℕ)) → names ≡ (origin_from start rooted names).names
-names_are start true names = refl
-names_are start false names = refl
-
-greatest_at : (t : Tree Span) (rooted : Bool) (most : ℕ) (upper : Option ℕ) → ((s : List ℕ) → Means t false false s → AtMost (component_total s) upper) →
-    (up_to most upper ≡ most) ⊎ ((up_to most upper ≤ most) × BoundsNames rooted t (up_to most upper))
-greatest_at t rooted most None h = inl refl
-greatest_at t rooted most (Some upper) h = elim (cases_lt upper most) [
-  | inl l ↦ (
-      let e : upper ≡ min most upper = omega (arith, l) in
-      inr (omega (arith, l), subst (BoundsNames rooted t) e (bounds_names t upper h rooted)))
-  | inr l ↦ inl (omega (arith, l))
-]
+-- ---- what a walk of a glob may do
 
 pub can_walk : (t : Tree Span) → IsKept t → (depth : Bounds) → ((s : List ℕ) → Means t false false s → AtMost (component_total s) depth.1) →
     (start : List ℕ) (asked : DepthRange) (b : Beginning t) (filters : List (Filter Span)) → ArePlain b.names →

@@ -1,6 +1,6 @@
 -- The walk of a glob.
-use Rattle.std.specs.Prelude.{◌≡◌, ℕ, ◌+◌, ◌<◌, ◌≤◌, Bool, true, false, List, [], ◌∷◌, length, min}
-use Rattle.std.specs.Prelude.{◌⊎◌, ◌&&◌, Option, Some, None}
+use Rattle.std.specs.Prelude.{◌≡◌, ℕ, ◌+◌, ◌<◌, ◌≤◌, Bool, List, [], ◌∷◌, length}
+use Rattle.std.specs.Prelude.{◌⊎◌}
 use Rattle.std.specs.List.{Contains}
 use Rattle.wax_exclude.specs.GlobRequests.{ComesWanted, GlobRequest}
 use Rattle.wax_components.specs.Depth.{Depth}
@@ -12,7 +12,7 @@ use Rattle.wax_exclude.specs.Prefix.{HasEmptyName, PrefixSplitsInto}
 use Rattle.wax_query.specs.Ranges.{Bounds}
 use Rattle.wax_token.specs.Reads.{Span}
 use Rattle.wax_token.specs.Syntax.{Tree}
-use Rattle.wax_tree.specs.Begins.{FailsFrom, IsBegun, IsPassed, OnlyLacks, Origin}
+use Rattle.wax_tree.specs.Begins.{FailsFrom, IsBegun, IsPassed, OnlyLacks}
 use Rattle.wax_tree.specs.declared.steps.DepthRange.{DepthRange}
 use Rattle.wax_tree.specs.Plain.{count_shown}
 use Rattle.wax_tree.specs.Prefix.{ArePlain}
@@ -20,46 +20,17 @@ use Rattle.wax_walk.specs.Collected.{AreOfFolders, EndsThere, NoneLast, NoMemory
 use Rattle.wax_walk.specs.Collected.{all_fault_counts, all_items_lost, count_to_open}
 use Rattle.wax_walk.specs.declared.error.FaultKind.TheVariants.{Budget, NotAFolder}
 use Rattle.wax_walk.specs.Forest.{pending, nothing}
-use Rattle.wax_walk.specs.Given.{Facts, Given, fault, no_memory}
+use Rattle.wax_walk.specs.Given.{Given, fault, no_memory}
 use Rattle.wax_walk.specs.View.{CountsFaults, WalkView, is_above}
 use Rattle.wax_exclude.specs.Leading.{leading_of}
 use Rattle.wax_exclude.specs.Premises.{IsUnmeant}
-use Rattle.wax_exclude.specs.Pruned.{CanWalkBy, Pruning, by_components, by_matches, opening_by, opens_where}
+use Rattle.wax_exclude.specs.Pruned.{CanWalkBy, Pruning, by_components, opening_by}
 use Rattle.wax_exclude.specs.Pruned.{rules_by}
 use Rattle.wax_exclude.specs.Walked.{origin_walk}
 use Rattle.wax_exclude.specs.Wanted.{Filter, Wanted, stacked}
-use Rattle.wax_compiled.specs.Below.{goes_test}
 use Rattle.wax_walk.specs.Pruned.{opened_forest}
-
--- the lesser of a greatest depth and the greatest number of components
-abbrev pub up_to : ℕ → Option ℕ → ℕ
-up_to most None = most
-up_to most (Some upper) = min most upper
-
--- the range, but no deeper than the texts
-abbrev pub within : DepthRange → Bounds → DepthRange
-within range depth = record { min = range.min; max = up_to range.max depth.1; budget = range.budget }
-
--- the least depth that is walked: a walk that opens only folders below which something is matched asks about
--- all of them
-abbrev pub least_by : Pruning → ℕ → ℕ
-least_by by_components least = least
-least_by by_matches least = 0
-
--- the range that is walked
-abbrev pub walked_by : Pruning → DepthRange → Bounds → DepthRange
-walked_by pruning asked depth =
-    record { min = least_by pruning asked.min; max = up_to asked.max depth.1; budget = asked.budget }
-
--- the folders that are opened
-abbrev pub walk_opens : Pruning → Tree Span → ℕ → Facts → Bool
-walk_opens by_components t most = is_above most
-walk_opens by_matches t most = λ f. is_above most f && opens_where (goes_test t) f
-
--- the origin of these names, from a start, or from the root
-abbrev pub origin_from : List ℕ → Bool → List (List ℕ) → Origin
-origin_from start false names = record { root = start; path = start; candidate = []; names = names }
-origin_from start true names = record { root = []; path = 47 ∷ []; candidate = 47 ∷ []; names = names }
+pub use Rattle.wax_exclude.specs.BeginsRequest.{least_by, origin_from, request_from, up_to, walk_opens}
+pub use Rattle.wax_exclude.specs.BeginsRequest.{walked_by, within}
 
 -- the names of the prefix, and the leading components
 abbrev pub IsPlan : Tree Span → List ℕ → Bool → List (List ℕ) → List (List (Tree Span)) → Type 0
@@ -81,13 +52,8 @@ wants t b filters = record { rooted = b.rooted; glob = t; filters = filters }
 -- what is wanted of the walk of a glob, less what these filters leave out
 abbrev pub request_by : {t : Tree Span} → Pruning → List ℕ → DepthRange → Bounds → Beginning t
     → List (Filter Span) → GlobRequest
-request_by {t} pruning start asked depth b filters = record {
-  pruning = pruning;
-  wanted = wants t b filters;
-  asked = asked;
-  walked = walked_by pruning asked depth;
-  origin = origin_from start b.rooted b.names;
-}
+request_by {t} pruning start asked depth b filters =
+    request_from pruning (wants t b filters) start asked depth b.names
 
 -- so it is of the walk with captures
 abbrev pub request_of : {t : Tree Span} → List ℕ → DepthRange → Bounds → Beginning t → List (Filter Span)

@@ -95,3 +95,4 @@ pub use Rattle.wax_walk.specs.declared.entry.TreeEntry.{TreeEntry}
 pub use Rattle.wax_walk.specs.declared.error.FaultKind.TheVariants.{Budget}
 pub use Rattle.wax_walk.specs.declared.error.WalkError.{WalkError}
 pub use Rattle.wax_walk.specs.declared.iterator.EntryResidue.{EntryResidue}
+pub use Rattle.wax_set.specs.Walks.{BeginsSet, SetBeginning, set_wants}

@@ -18,6 +18,7 @@ pub use wax_exclude::{
 };
 pub use wax_folders::Folders;
 pub use wax_glob_walk::{FilterAny, GlobEntry, GlobFeed, Matched, Matching, Uncaptured};
+pub use wax_set::SetWalk;
 pub use wax_tree::{
     DepthBehavior, DepthMax, DepthMin, DepthMinMax, DepthRange, LinkBehavior, PathExt, TreeFeed,
     WalkBehavior, WalkTree, entries,

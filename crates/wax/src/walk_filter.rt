@@ -58,6 +58,8 @@ impl WalkFilter {
     /// proportion to the alternatives of the pattern that end with `**`, or to the number of lines.
     ///
     /// ```
+    /// use wax::walk::WalkFilter;
+    ///
     /// let filter = WalkFilter::not(alloc, "{target,out}/**")?;
     /// println!(rt; "{}", filter.excludes_below(alloc, &CandidatePath::from("out"))?)?; // true
     /// println!(rt; "{}", filter.excludes_below(alloc, &CandidatePath::from("src"))?)?; // false

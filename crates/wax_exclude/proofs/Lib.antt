@@ -2,6 +2,7 @@ pub mod Adjacent
 pub mod Allowing
 pub mod AllBelow
 pub mod Beginnings
+pub mod BeginsLeast
 pub mod Belows
 pub mod Closed
 pub mod Closing
@@ -28,6 +29,7 @@ pub mod Losing
 pub mod Names
 pub mod Opened
 pub mod Opening
+pub mod Origins
 pub mod Passed
 pub mod Passing
 pub mod Pruning

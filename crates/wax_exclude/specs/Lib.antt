@@ -1,3 +1,4 @@
+pub mod BeginsRequest
 pub mod Candidates
 pub mod Compiled
 pub mod Covers

@@ -1,6 +1,7 @@
 //! What walks exclude and what they keep: patterns, ignore lists, and the law of a glob's walk.
 #![tactic(auto)]
 
+mod along;
 mod below;
 mod blocks;
 mod component;
@@ -17,6 +18,7 @@ mod rules;
 mod wanted;
 mod wanted_law;
 
+pub use along::{walk_along, within};
 pub use below::law_of_cancelling;
 pub use component::{LeadingComponent, leading};
 pub use deciding::law_of_last_match;

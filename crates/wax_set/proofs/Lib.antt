@@ -1,3 +1,4 @@
 pub mod Sets
 pub mod Patterns
 pub mod Matchers
+pub mod Walks

@@ -1,12 +1,10 @@
 -- What a set's alternation captures.
-use Rattle.std.proofs.Common.{◌≡◌, ◌↔◌, ℕ, ◌+◌, ◌≤◌, false, List, [], ◌∷◌, ◌++◌, Option, None, Some, ap, ◌∙◌, sym, subst}
-use Rattle.std.proofs.Common.{append-nil, arith, drop, take}
+use Rattle.std.proofs.Common.{◌≡◌, ℕ, false, List, [], ◌∷◌, ◌++◌, Option, None, Some, ap, ◌∙◌, sym, subst}
+use Rattle.std.proofs.Common.{append-nil, drop, take}
 use Rattle.std.proofs.lemmas.List.{take-append-drop}
 use Rattle.wax_candidate.specs.Matched.{IsMatchOf, MatchedView}
 use Rattle.wax_capture.specs.Captures.{Captured}
 use Rattle.wax_capture.specs.Matched.{IsMatched}
-use Rattle.wax_capture.specs.Pieces.{ArePieces}
-use Rattle.wax_capture.specs.declared.piece.Piece.{Piece}
 use Rattle.wax_token.specs.Reads.{Span}
 use Rattle.wax_token.specs.Syntax.{Tree, Trees, alternation, more, none}
 use Rattle.wax_token.specs.Words.{members}

@@ -1,2 +1,3 @@
 pub mod Sets
 pub mod Patterns
+pub mod Walks

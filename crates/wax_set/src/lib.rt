@@ -5,4 +5,4 @@ mod pattern;
 mod set;
 
 pub use pattern::{Pattern, any};
-pub use set::{Any, AnyMatcher};
+pub use set::{Any, AnyMatcher, SetWalk};

@@ -19,6 +19,7 @@ ghost use Rattle.wax_set.specs.Sets.{IsAlternation, IsWhole, MeansText};
 ghost use Rattle.wax_set.specs.Patterns.{LacksMemory};
 
 mod matcher;
+mod walking;
 
 use crate::pattern::Pattern;
 pub use matcher::AnyMatcher;
@@ -26,6 +27,7 @@ use std::alloc::Global;
 use std::borrow::CowStr;
 use std::fmt;
 use std::marker::Model;
+pub use walking::SetWalk;
 use wax_candidate::{CandidatePath, MatchedText, Program};
 use wax_capture::Pieces;
 use wax_compiled::CompiledTokens;

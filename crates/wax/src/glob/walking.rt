@@ -13,14 +13,17 @@ ghost use Rattle.wax_tree.specs.Prefix.{from_last};
 ghost use Rattle.wax_tree.specs.declared.behavior.DepthBehavior.TheVariants.{Unbounded};
 ghost use Rattle.wax_walk.specs.Known.{StaysKnown};
 ghost use Rattle.wax.specs.GlobView.{HasCaptures, IsMeant};
-ghost use Rattle.wax.specs.GlobWalks.{BeginsBy, BeginsGlob, IsPlan, origin_from, within};
+ghost use Rattle.wax.specs.GlobWalks.{BeginsBy, BeginsGlob, IsPlan};
+ghost use Rattle.wax_exclude.specs.BeginsRequest.{origin_from, within};
 ghost use Rattle.wax_exclude.specs.Pruned.{by_matches};
 
 use crate::glob::Glob;
 use std::alloc::Global;
 use wax_candidate::Program;
 use wax_directory::directory::Directory;
-use wax_exclude::{LeadingComponent, PrefixNames, collect_excluding, leading, prefix_names_of};
+use wax_exclude::{
+    LeadingComponent, PrefixNames, collect_excluding, leading, prefix_names_of, walk_along, within,
+};
 use wax_filter::filter::SeparatingFilter;
 use wax_glob_walk::{GlobEntry, Uncaptured, uncaptured_of, walk_of};
 use wax_query::diagnostics::NoMemory;
@@ -164,13 +167,7 @@ impl<'t> Glob<'t> {
             × ((s : List ℕ) → IsMeant self.now s → AtMost (component_total s) depth.1)
             × (result ≡ within range depth) }
     {
-        match self.depth().upper() {
-            Some(upper) => DepthRange {
-                max: range.max.min(upper),
-                ..range
-            },
-            None => range,
-        }
+        within(range, self.depth())
     }
 }
 
@@ -192,27 +189,6 @@ fn needs<'g, 't>(
             Ok(Some((prefix_names, leading)))
         }
         None => Ok(None),
-    }
-}
-
-// Begins a plain walk at the prefix below `start`, or below the root if the prefix is rooted.
-fn walk_along<D: Directory>(
-    alloc: Global,
-    directory: D,
-    start: &str,
-    prefix_names: PrefixNames,
-    range: DepthRange,
-) -> WalkTree<D>
-    ensures begins { BeginsAt D.law directory
-        (origin_from start.now prefix_names.is_rooted (from_last prefix_names.names.items)) range
-        (⟦<WalkTree<D> as FileIterator>⟧.view result) }
-    ensures gives { EndsWithin (2 * range.budget + 3) (⟦<WalkTree<D> as SeparatingFilter>⟧.left result) }
-{
-    let PrefixNames { is_rooted, names } = prefix_names;
-    if is_rooted {
-        WalkTree::to_place(alloc, directory, "", "/", "/", names, range)
-    } else {
-        WalkTree::to_place(alloc, directory, start, start, "", names, range)
     }
 }
 

@@ -1,4 +1,4 @@
-use Rattle.std.proofs.Common.{◌≡◌, ◌<◌, ◌∙◌, ap, inr, rules, subst}
+use Rattle.std.proofs.Common.{◌≡◌, ◌<◌, ◌∙◌, ap, inr, rules}
 use Rattle.std.proofs.lemmas.List.{map-id}
 use Rattle.wax_token.specs.Cost.{program_length}
 use Rattle.wax_token.specs.Syntax.{alternation}

@@ -3,7 +3,6 @@ use Rattle.wax_compiled.specs.Compiled.{IsCompiled}
 use Rattle.wax_compiled.proofs.Deciding.{answers_tree}
 use Rattle.wax_program.specs.Meter.{most_ticks}
 use Rattle.wax_set.specs.Sets.{MeansText}
-use Rattle.wax_token.specs.Cost.{program_length}
 use Rattle.wax_set.proofs.set.Any.is_match_metered.Goals as goal
 
 abbrev compiled_of : (c : goal.After-is_match_metered) → IsCompiled c.args.self.now c.self.inside.compiled

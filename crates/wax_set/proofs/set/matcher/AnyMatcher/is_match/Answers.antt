@@ -1,4 +1,4 @@
-use Rattle.std.proofs.Common.{◌↔◌, IfOk, IsTrue, chars, false, sym, subst, rules}
+use Rattle.std.proofs.Common.{◌↔◌, IfOk, IsTrue, chars, false, sym, subst}
 use Rattle.wax_program.proofs.LastNames.{same_answer}
 use Rattle.wax_token.specs.Decided.{means_tested}
 use Rattle.wax_set.specs.Sets.{MeansText}
