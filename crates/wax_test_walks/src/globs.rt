@@ -32,10 +32,24 @@ fn add_glob(
     made: &mut Answer,
 ) -> Result<(), Unanswered> {
     add_walk(alloc, row, glob, row.directory(alloc)?, made)?;
+    add_then(alloc, row, glob, made)
+}
+
+/// Adds whether the program matches the path of the option `then`.
+///
+/// # Errors
+///
+/// Returns `Unanswered::Memory` if allocation fails.
+pub fn add_then<P: Program>(
+    alloc: Global,
+    row: WalkRow<'_>,
+    program: &P,
+    made: &mut Answer,
+) -> Result<(), Unanswered> {
     let Some(path) = row.option("then") else {
         return Ok(());
     };
-    let is_match = glob.is_match(alloc, &CandidatePath::from(path))?;
+    let is_match = program.is_match(alloc, &CandidatePath::from(path))?;
     made.add(if is_match {
         "\tmatched"
     } else {

@@ -1,7 +1,7 @@
 //! Kinds of rows.
 
 use crate::row::{Unanswered, WalkRow};
-use crate::{depths, directories, globs, lists, plain};
+use crate::{depths, directories, globs, lists, plain, sets};
 use wax::NoMemory;
 use wax_test_kit::answer::Answer;
 use wax_test_kit::rows::{DataRow, RowKind, find_in};
@@ -97,6 +97,7 @@ fn add_answer(rt: &HostRuntime, row: WalkRow<'_>, made: &mut Answer) -> Result<(
         Kind::Ask => directories::add(rt, row, made),
         Kind::Unknown => Err(Unanswered::NotBuilt),
         _ if row.is_plain() => plain::add(alloc, row, made),
+        _ if row.option("as").is_some() => sets::add(alloc, row, made),
         _ => globs::add(alloc, row, made),
     }
 }

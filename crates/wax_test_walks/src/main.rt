@@ -15,6 +15,7 @@ mod lists;
 mod nowhere;
 mod plain;
 mod row;
+mod sets;
 mod stacked;
 mod walked;
 

@@ -11,6 +11,7 @@ pub mod NoneBelow
 pub mod OneComponents
 pub mod Pictures
 pub mod Planted
+pub mod SetMatches
 pub mod SingleNames
 pub mod SourceTree
 pub mod Stems

@@ -1,5 +1,5 @@
 -- A glob that doesn't go on below a folder means no path of names below it.
-use Rattle.std.proofs.Common.{◌≡◌, ◌≢◌, ◌↔◌, ◌++◌, ℕ, Bool, true, false, IsTrue, List, [], not, refl, sym, ◌∙◌, ap, subst, true≢false}
+use Rattle.std.proofs.Common.{◌≢◌, ◌↔◌, ◌++◌, ℕ, Bool, true, false, IsTrue, List, [], not, refl, sym, ◌∙◌, ap, subst, true≢false}
 use Rattle.wax.specs.GlobView.{GlobView, IsMeant}
 use Rattle.wax.specs.Matching.{AreNames, MeansBelow, folder_text, joined_names}
 

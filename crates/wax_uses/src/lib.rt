@@ -6,6 +6,7 @@ mod components;
 mod ignored;
 mod lines;
 mod names;
+mod sets;
 mod skipping;
 mod sources;
 mod walks;
@@ -15,6 +16,7 @@ pub use components::glob_of_component;
 pub use ignored::{is_ignored_below, is_ignored_by};
 pub use lines::matching_lines;
 pub use names::{expression_matches, is_picture};
+pub use sets::collect_matches;
 pub use skipping::{has_no_deeper, means_all_below, means_none_below, means_single_names};
 pub use sources::{list_source_files, list_sources};
 pub use walks::{
