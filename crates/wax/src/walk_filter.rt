@@ -5,6 +5,7 @@ ghost use Rattle.wax_exclude.specs.GlobRequests.{IsRuleOf};
 ghost use Rattle.wax_query.specs.Below.{IsBelow};
 ghost use Rattle.wax_token.specs.Reads.{Span};
 ghost use Rattle.wax_exclude.specs.Ignored.{Line};
+ghost use Rattle.wax_walk.specs.Given.{with_tree};
 ghost use Rattle.wax_exclude.specs.Walked.{ExcludesBelow};
 ghost use Rattle.wax_exclude.specs.Wanted.{Filter, excludes, not_ignored};
 ghost use Rattle.wax.specs.Exclusions.{IsNotRule, NoExclusion};
@@ -69,6 +70,8 @@ impl WalkFilter {
     ///
     /// Returns `NoMemory` if allocation fails.
     pub fn excludes_below(&self, alloc: Global, path: &CandidatePath<'_>) -> Result<bool, NoMemory>
+        ensures says { IfOk result (λ answer. IsTrue answer
+            ↔ (⟦<WalkFilter as Exclude>⟧.rule self.now (folder_at path.now) ≡ with_tree)) }
         ensures covers { IfOk result (λ answer. (x : Filter Span)
             → IsRuleOf x (⟦<WalkFilter as Exclude>⟧.rule self.now)
             → IsTrue answer ↔ ExcludesBelow x (folder_at path.now)) }
