@@ -8,12 +8,8 @@ use Rattle.wax_program.specs.declared.instruction.Instruction.TheVariants.{Check
 use Rattle.wax_program.specs.Machine.{PassesTest, Moves, AcceptsIn, Accepts}
 use Rattle.wax_program.proofs.Steps.{after_test, after_fork, after_jump, after_back, after_last, after_one, after_any, after_slash}
 use Rattle.wax_match.specs.inner.Code.{loop, skip, choose}
+use Rattle.wax_match.specs.inner.Ends.{Stands}
 use Rattle.wax_query.specs.Components.{EndsWithSlash}
-
--- these instructions stand in the code from a place on
-abbrev pub Stands : List Instruction → ℕ → List Instruction → Type 0
-Stands code at [] = Unit {0}
-Stands code at (i ∷ is) = (slice_get code at ≡ Some i) × Stands code (at + 1) is
 
 -- the text has a front of P, and after it is accepted from the end on, in at most n instructions
 pub record Through (P : List ℕ → Type 0) (code : List Instruction) (end n : ℕ) (s : List ℕ) : Type 0 where
@@ -46,7 +42,7 @@ moved code a b n s e h = subst (λ k. AcceptsIn code n k s) e h
 pub moved_to : (code : List Instruction) (a b : ℕ) (s : List ℕ) → a ≡ b → Accepts code a s → Accepts code b s
 moved_to code a b s e h = subst (λ k. Accepts code k s) e h
 
-Stands-append : (code : List Instruction) (at : ℕ) (a b : List Instruction) → Stands code at (a ++ b) → Stands code at a × Stands code (at + length a) b
+pub Stands-append : (code : List Instruction) (at : ℕ) (a b : List Instruction) → Stands code at (a ++ b) → Stands code at a × Stands code (at + length a) b
 Stands-append code at [] b h = (tt, subst (λ k. Stands code k b) (let e : at ≡ at + 0 = omega arith in e) h)
 Stands-append code at (i ∷ a) b h =
     let r : Stands code (at + 1) a × Stands code (at + 1 + length a) b = Stands-append code (at + 1) a b h.1 in

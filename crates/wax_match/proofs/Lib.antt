@@ -1,7 +1,10 @@
 pub mod Below
+pub mod ClosedPieces
 pub mod Compiled
+pub mod EndPieces
 pub mod Folding
 pub mod Fragments
+pub mod Leaving
 pub mod Lengths
 pub mod Rows
 pub mod Sequences

@@ -3,13 +3,14 @@ use Rattle.std.proofs.Common.{◌≡◌, ℕ, zero, suc, ◌+◌, List, [], ◌�
 use Rattle.std.proofs.lemmas.Option.{slice_get_within}
 use Rattle.wax_program.specs.declared.instruction.Instruction.{Instruction}
 use Rattle.wax_program.specs.Machine.{AcceptsIn, Accepts}
-use Rattle.wax_match.proofs.Fragments.{Stands, Through, Spells}
+use Rattle.wax_match.specs.inner.Ends.{Stands}
+use Rattle.wax_match.proofs.Fragments.{Through, Spells}
 
 get_seam : (pre : List Instruction) (i : Instruction) (post : List Instruction) → slice_get (pre ++ i ∷ post) (length pre) ≡ Some i
 get_seam [] i post = refl
 get_seam (j ∷ pre) i post = get_seam pre i post
 
-stands_at : (pre piece : List Instruction) → Stands (pre ++ piece) (length pre) piece
+pub stands_at : (pre piece : List Instruction) → Stands (pre ++ piece) (length pre) piece
 stands_at pre [] = tt
 stands_at pre (i ∷ is) =
     let e : (pre ++ i ∷ []) ++ is ≡ pre ++ i ∷ is = append_assoc pre (i ∷ []) is in

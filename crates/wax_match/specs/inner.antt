@@ -1,2 +1,4 @@
 pub mod Code
+pub mod Ends
+pub mod Left
 pub mod Limits

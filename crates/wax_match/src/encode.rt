@@ -16,10 +16,12 @@ use wax_token::token::{Sides, Token};
 
 mod cost;
 mod emission;
+mod ends;
 mod folding;
 mod leaves;
 mod tail;
 
+pub use ends::compile_numbered;
 pub use folding::case_folded_eq;
 pub use wax_program::{CompiledProgram, Meter, last_name, reads_last, run, run_last};
 

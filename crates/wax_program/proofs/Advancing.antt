@@ -6,7 +6,7 @@ use Rattle.std.proofs.lemmas.Str.{encodes-chars, len_utf8_bounds, length-encode,
 use Rattle.std.proofs.Math.Nat.{mul-le-mul_left, mul-le-mul_right}
 use Rattle.wax_program.specs.declared.instruction.Test.{Test}
 use Rattle.wax_program.specs.declared.instruction.Instruction.{Instruction}
-use Rattle.wax_program.specs.declared.instruction.Instruction.TheVariants.{Check, Repeat, Components, Fork, Jump, Back}
+use Rattle.wax_program.specs.declared.instruction.Instruction.TheVariants.{Check, Repeat, Components, Fork, Jump, Back, End}
 use Rattle.wax_program.specs.Machine.{PassesTest, Moves, AcceptsIn, Accepts}
 use Rattle.wax_bits.specs.Places.{HoldsPlace, IsEmpty, member_count}
 use Rattle.wax_program.specs.Threads.{IsDone, Position, IsReached, Taken, Inserted, InsertedNext, AnyOf, Led, Handled, Followed, Round, Advances, Stays}
@@ -69,6 +69,17 @@ module _ (code : List Instruction) (c k : ℕ) (old new : Position) where
     keeps_next = λ x e. subst (λ z. HoldsPlace z x) (sym g.next) e;
     only = λ x e. elim (g.only x e) [ inl o ↦ inl o | inr same ↦ inr (λ s a. after_back n code k s is (subst (λ z. Accepts code z s) same a)) ];
     only_next = λ x e. inl (subst (λ z. HoldsPlace z x) g.next e);
+  }
+
+  pub followed_end : (i j : ℕ) → slice_get code k ≡ Some (End i j) → c < 1114112 → new ≡ old → Followed code c k old new
+  followed_end i j is lt same = record {
+    size = ap (λ p. p.size) same;
+    read = ap (λ p. p.read) same;
+    handled = handled_as code c k new (End i j) is (λ number e. absurd (omega (arith, e, lt)));
+    keeps = λ x e. subst (λ p. HoldsPlace p.pending x) (sym same) e;
+    keeps_next = λ x e. subst (λ p. HoldsPlace p.next x) (sym same) e;
+    only = λ x e. inl (subst (λ p. HoldsPlace p.pending x) same e);
+    only_next = λ x e. inl (subst (λ p. HoldsPlace p.next x) same e);
   }
 
   pub followed_pass : (t : Test) → slice_get code k ≡ Some (Check t) → PassesTest t c → InsertedNext old new (k + 1) → Followed code c k old new
@@ -153,6 +164,7 @@ led_later Components c k p q e f g h = ((λ lt. g k (h.0 (omega (arith, lt, e)))
 led_later (Fork n) c k p q e f g h = ((λ lt. f (k + 1) (h.0 (omega (arith, lt, e)))), (λ lt. f (k + 1 + n) (h.1 (omega (arith, lt, e)))))
 led_later (Jump n) c k p q e f g h = λ lt. f (k + 1 + n) (h (omega (arith, lt, e)))
 led_later (Back n) c k p q e f g h = λ lt. f (k - n) (h (omega (arith, lt, e)))
+led_later (End i j) c k p q e f g h = h
 
 pub in_range : (code : List Instruction) (n k : ℕ) (s : List ℕ) → AcceptsIn code n k s → k ≤ length code
 in_range code zero k s h = absurd h
@@ -223,6 +235,9 @@ module _ (code : List Instruction) (c : ℕ) (old : List Bool) where
     below : (n k : ℕ) (s : List ℕ) → AcceptsIn code n k s → k ≤ p.size
     below n k s a = omega (arith, in_range code n k s a, sized)
 
+    head_same : {a b : ℕ} {t : List ℕ} → a ∷ t ≡ b ∷ [] → a ≡ b
+    head_same e = cc
+
     goes : (n k : ℕ) (s : List ℕ) (i : Instruction) → Led i c k p → Moves i (AcceptsIn code n) k (c ∷ s) →
         ((x : ℕ) → IsReached p x → AcceptsIn code n x (c ∷ s) → AnyOf code p.next s) → AnyOf code p.next s
     goes n k s (Check t) led m again = (k + 1, led m.0 (below n (k + 1) s m.1), (n, m.1))
@@ -234,6 +249,7 @@ module _ (code : List Instruction) (c : ℕ) (old : List Bool) where
     goes n k s (Fork b) led (inr m) again = again (k + 1 + b) (led.1 (below n (k + 1 + b) (c ∷ s) m)) m
     goes n k s (Jump b) led m again = again (k + 1 + b) (led (below n (k + 1 + b) (c ∷ s) m)) m
     goes n k s (Back b) led m again = again (k - b) (led (below n (k - b) (c ∷ s) m)) m
+    goes n k s (End i j) led m again = absurd (led m.0 (head_same m.3))
 
     cons_nil : {b : ℕ} {t : List ℕ} → b ∷ t ≡ [] → ⊥
     cons_nil e = cc
@@ -252,6 +268,9 @@ module _ (code : List Instruction) (c : ℕ) (old : List Bool) where
     pub round_accepts : HoldsPlace p.pending p.size → AnyOf code old []
     round_accepts h = d.no_more p.size (inl h) [] (1, inl (sized, refl))
 
+    nil_cons : {b : ℕ} {t : List ℕ} → [] ≡ b ∷ t → ⊥
+    nil_cons e = cc
+
     -- where no character is left, only the program's end accepts
     stops : (n k : ℕ) (i : Instruction) → Led i c k p → Moves i (AcceptsIn code n) k [] →
         ((x : ℕ) → IsReached p x → AcceptsIn code n x [] → HoldsPlace p.pending p.size) → HoldsPlace p.pending p.size
@@ -262,6 +281,7 @@ module _ (code : List Instruction) (c : ℕ) (old : List Bool) where
     stops n k (Fork b) led (inr m) again = again (k + 1 + b) (led.1 (below n (k + 1 + b) [] m)) m
     stops n k (Jump b) led m again = again (k + 1 + b) (led (below n (k + 1 + b) [] m)) m
     stops n k (Back b) led m again = again (k - b) (led (below n (k - b) [] m)) m
+    stops n k (End i j) led m again = absurd (nil_cons m.3)
 
     at_end : (k : ℕ) → IsReached p k → k ≡ length code → HoldsPlace p.pending p.size
     at_end k (inl h) e = subst (HoldsPlace p.pending) (e ∙ sym sized) h

@@ -7,10 +7,10 @@ use Rattle.wax_bits.specs.Places.{HoldsPlace, member_count}
 use Rattle.wax_bits.proofs.Members.{added_only, members_set, members_within}
 use Rattle.wax_token.specs.Decided.{Decided, both, either, is_true}
 use Rattle.wax_program.specs.declared.instruction.Instruction.{Instruction}
-use Rattle.wax_program.specs.declared.instruction.Instruction.TheVariants.{Check, Repeat, Components, Fork, Jump, Back}
+use Rattle.wax_program.specs.declared.instruction.Instruction.TheVariants.{Check, Repeat, Components, Fork, Jump, Back, End}
 use Rattle.wax_program.specs.declared.instruction.Test.{Test}
 use Rattle.wax_program.specs.declared.onward.Ahead.{Ahead}
-use Rattle.wax_program.specs.Machine.{PassesTest, Moves, AcceptsIn, Accepts}
+use Rattle.wax_program.specs.Machine.{PassesTest, Moves, AcceptsIn, Accepts, mark}
 use Rattle.wax_program.specs.Onward.{IsAhead, flags_for}
 use Rattle.wax_program.proofs.Finding.{flags_found}
 use Rattle.wax_program.proofs.Steps.{after_test, after_last, after_one, after_any, after_slash, after_fork, after_jump, after_back}
@@ -86,6 +86,9 @@ module _ (size : ℕ) (P : ℕ → Type 0) (Derives : List Bool → ℕ → Type
   closed = let (s, e, none) = none_of size in close size s e (omega arith) (λ k h. absurd (none k h))
 
 -- ---- the places from which texts that begin in a given way are accepted
+le_decided : (m n : ℕ) → Decided (m ≤ n)
+le_decided m n = elim (cases_lt n m) [ inl lt ↦ inr (λ h. omega (arith, lt, h)) | inr le ↦ inl le ]
+
 some_same : {i j : Instruction} → Some i ≡ Some j → i ≡ j
 some_same e = cc
 
@@ -112,6 +115,7 @@ module _ (code : List Instruction) where
     To (Fork n) s k = HoldsPlace s (k + 1) ⊎ HoldsPlace s (k + 1 + n)
     To (Jump n) s k = HoldsPlace s (k + 1 + n)
     To (Back n) s k = HoldsPlace s (k - n)
+    To (End low high) s k = (mark low ≤ d) × ((d ≤ mark high) × HoldsPlace onto (length code))
 
     abbrev Derives : List Bool → ℕ → Type 0
     Derives s k = (i : Instruction) × (slice_get code k ≡ Some i) × To i s k
@@ -126,6 +130,7 @@ module _ (code : List Instruction) where
     to_decided (Fork n) s k = either (held s (k + 1)) (held s (k + 1 + n))
     to_decided (Jump n) s k = held s (k + 1 + n)
     to_decided (Back n) s k = held s (k - n)
+    to_decided (End low high) s k = both (le_decided (mark low) d) (both (le_decided d (mark high)) (held onto (length code)))
 
     at_decided : (s : List Bool) (k : ℕ) (o : Option Instruction) → slice_get code k ≡ o → Decided (Derives s k)
     at_decided s k None e = inr (λ (i, is, h). none_some (sym e ∙ is))
@@ -139,6 +144,15 @@ module _ (code : List Instruction) where
 
     abbrev Goes : ℕ → Type 0
     Goes k = (t : List ℕ) × Then d Q t × Accepts code k t
+
+    -- the program's end accepts nothing but the empty text
+    nothing_left : (n : ℕ) (t : List ℕ) → AcceptsIn code n (length code) t → t ≡ []
+    nothing_left zero t a = absurd a
+    nothing_left (suc n) t (inl (e, none)) = none
+    nothing_left (suc n) t (inr (i, is, a)) = absurd (omega (arith, slice_get_within code (length code) i is))
+
+    as_mark : (low : ℕ) (r : List ℕ) → mark low ≤ d → r ≡ [] → d ∷ r ≡ mark (d - 1114112) ∷ []
+    as_mark low r least none = let e : d ≡ mark (d - 1114112) = omega (arith, least) in cc
 
     module _ (s : List Bool) (all : (k : ℕ) → HoldsPlace s k → Goes k) where
       on_soundly : (k x : ℕ) → ((r : List ℕ) → Accepts code x r → Accepts code k (d ∷ r)) → HoldsPlace onto x → Goes k
@@ -157,11 +171,20 @@ module _ (code : List Instruction) where
       to_soundly (Fork n) k is (inr h) = from_soundly k (k + 1 + n) (λ r a. after_fork n code k r is (inr a)) h
       to_soundly (Jump n) k is h = from_soundly k (k + 1 + n) (λ r a. after_jump n code k r is a) h
       to_soundly (Back n) k is h = from_soundly k (k - n) (λ r a. after_back n code k r is a) h
+      to_soundly (End low high) k is (least, (most, h)) =
+          let (r, q, a) = (are (length code)).0 h in
+          (d ∷ r, (refl, q), (1, inr (End low high, is, (d - 1114112, omega (arith, least), omega (arith, most), as_mark low r least (nothing_left a.0 r a.1)))))
 
       soundly : (k : ℕ) → Derives s k → Goes k
       soundly k (i, is, h) = to_soundly i k is h
 
     module _ (s : List Bool) (full : (k : ℕ) → k < length code → Derives s k → HoldsPlace s k) where
+      heads : {a b : ℕ} {u v : List ℕ} → a ∷ u ≡ b ∷ v → a ≡ b
+      heads e = cc
+
+      tails : {a b : ℕ} {u v : List ℕ} → a ∷ u ≡ b ∷ v → u ≡ v
+      tails e = cc
+
       on_held : (n x : ℕ) (t : List ℕ) → Q t → AcceptsIn code n x t → HoldsPlace onto x
       on_held n x t q a = (are x).1 (t, q, (n, a))
 
@@ -179,6 +202,10 @@ module _ (code : List Instruction) where
       moved n k (Fork b) t again h (inr a) = inr (again (k + 1 + b) t a h)
       moved n k (Jump b) t again h a = again (k + 1 + b) t a h
       moved n k (Back b) t again h a = again (k - b) t a h
+      moved n k (End low high) [] again h a = absurd h
+      moved n k (End low high) (c ∷ t) again (e, q) (number, least, most, same) =
+          let m : c ≡ mark number = heads same in
+          (omega (arith, m, e, least), (omega (arith, m, e, most), (are (length code)).1 ([], subst Q (tails same) q, (1, inl (refl, refl)))))
 
       all_held : (n k : ℕ) (t : List ℕ) → AcceptsIn code n k t → Then d Q t → HoldsPlace s k
       all_held zero k t a h = absurd a

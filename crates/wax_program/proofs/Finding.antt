@@ -1,15 +1,15 @@
 -- Each program has its flags: they are found by adding those that are missing.
 use Rattle.std.proofs.Common.{◌≡◌, ◌⊎◌, ℕ, zero, suc, ◌+◌, ◌-◌, ◌*◌, ◌<◌, ◌≤◌, Bool, true, false, List, [], ◌∷◌, Option, Some, None, length, set, slice_get, slice_index_or, inl, inr, refl, sym, ◌∙◌, ap, subst, true≢false, length-set, arith}
-use Rattle.std.proofs.lemmas.Bool.{cases_eq}
+use Rattle.std.proofs.lemmas.Bool.{cases_eq, cases_lt}
 use Rattle.wax_bits.specs.Places.{HoldsPlace}
 use Rattle.wax_token.specs.Decided.{Decided, both, either, is_true}
 use Rattle.wax_program.specs.declared.instruction.Instruction.{Instruction}
-use Rattle.wax_program.specs.declared.instruction.Instruction.TheVariants.{Check, Repeat, Components, Fork, Jump, Back}
+use Rattle.wax_program.specs.declared.instruction.Instruction.TheVariants.{Check, Repeat, Components, Fork, Jump, Back, End}
 use Rattle.wax_program.specs.declared.instruction.Test.{Test}
 use Rattle.wax_program.specs.declared.onward.Ahead.{Ahead}
 use Rattle.wax_program.specs.declared.onward.Ahead.TheVariants.{Rest, Path, Below}
 use Rattle.wax_program.specs.Onward.{AreFlagsOf, PlaceFlags, flags_for}
-use Rattle.wax_program.specs.inner.Leads.{AreSound, HaveRoom, Holds, HoldsAfter, IsClosedAt, IsClosedFor, LeadsOn, LeadsAt, LeadsBy, Marks, onward_by_other, onward_by_slash, flag_count}
+use Rattle.wax_program.specs.inner.Leads.{AreSound, HaveRoom, Holds, HoldsAfter, IsClosedAt, IsClosedFor, LeadsOn, LeadsAt, LeadsBy, Marks, TakesMark, onward_by_other, onward_by_slash, flag_count}
 use Rattle.wax_program.proofs.Leading.{flags_are}
 use Rattle.wax_program.proofs.Marking.{begins_soundly, few_below, few_path, few_rest, gains_mark, marks_below, marks_path, marks_rest, still_within}
 use Rattle.wax_program.proofs.Tested.{other_decided, passes_decided}
@@ -26,6 +26,14 @@ by_decided : (t : Test) (f : PlaceFlags) (m : Ahead) (k : ℕ) → Decided (Lead
 by_decided t f m k =
     either (both (other_decided t) (after_decided f (onward_by_other m) k)) (both (passes_decided t 47) (after_decided f (onward_by_slash m) k))
 
+le_decided : (m n : ℕ) → Decided (m ≤ n)
+le_decided m n = elim (cases_lt n m) [ inl lt ↦ inr (λ h. omega (arith, lt, h)) | inr le ↦ inl le ]
+
+mark_decided : (m : Ahead) (low high : ℕ) → Decided (TakesMark m low high)
+mark_decided Rest low high = le_decided low high
+mark_decided Path low high = le_decided low high
+mark_decided Below low high = inr (λ h. h)
+
 leads_decided : (i : Instruction) (f : PlaceFlags) (m : Ahead) (k : ℕ) → Decided (LeadsOn i f m k)
 leads_decided (Check t) f m k = by_decided t f m (k + 1)
 leads_decided (Repeat t) f m k = either (holds_decided f m (k + 1)) (by_decided t f m k)
@@ -34,6 +42,7 @@ leads_decided Components f m k =
 leads_decided (Fork n) f m k = either (holds_decided f m (k + 1)) (holds_decided f m (k + 1 + n))
 leads_decided (Jump n) f m k = holds_decided f m (k + 1 + n)
 leads_decided (Back n) f m k = holds_decided f m (k - n)
+leads_decided (End low high) f m k = mark_decided m low high
 
 some_same : {i j : Instruction} → Some i ≡ Some j → i ≡ j
 some_same e = cc

@@ -10,7 +10,7 @@ use Rattle.std.specs.Prelude.{Result, Ok, Err}
 use Rattle.std.proofs.lemmas.Str.Ascii.{IsAscii-cons, IsAscii-nil}
 use Rattle.std.specs.Str.{IsUtf8, chars}
 use Rattle.wax_program.specs.declared.instruction.Instruction.{Instruction}
-use Rattle.wax_program.specs.declared.instruction.Instruction.TheVariants.{Check, Repeat, Components, Fork, Jump, Back}
+use Rattle.wax_program.specs.declared.instruction.Instruction.TheVariants.{Check, Repeat, Components, Fork, Jump, Back, End}
 use Rattle.wax_program.specs.Last.{IsCutBetween, IsLastName, ReadsLast}
 use Rattle.wax_program.specs.Machine.{PassesTest, Moves, AcceptsIn, Accepts}
 use Rattle.wax_program.specs.inner.Names.{StaysInName, StayInName}
@@ -58,6 +58,7 @@ module _ (code : List Instruction) where
   moved n k (Fork j) s le stays again (inr m) = again (k + 1 + j) s (omega (arith, le)) m
   moved n k (Jump j) s le stays again m = again (k + 1 + j) s (omega (arith, le)) m
   moved n k (Back j) s le stays again m = again (k - j) s (omega (arith, stays)) m
+  moved n k (End i j) s le stays again m = subst HasNoSlash (sym m.3) ((λ e. absurd (omega (arith, e))), tt)
 
   module _ (stay : StayInName code (length code)) where
     no_slash : (n k : ℕ) (s : List ℕ) → 2 ≤ k → AcceptsIn code n k s → HasNoSlash s

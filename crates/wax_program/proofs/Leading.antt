@@ -1,16 +1,16 @@
 -- PlaceFlags that no instruction adds to are exactly those of the places that lead on.
-use Rattle.std.proofs.Common.{◌≡◌, ◌≢◌, ◌⊎◌, ℕ, zero, suc, ◌+◌, ◌-◌, ◌<◌, List, [], ◌∷◌, Option, Some, None, length, slice_get, inl, inr, refl, sym, subst, arith}
+use Rattle.std.proofs.Common.{◌≡◌, ◌≢◌, ◌⊎◌, ℕ, zero, suc, ◌+◌, ◌-◌, ◌<◌, ◌≤◌, List, [], ◌∷◌, Option, Some, None, length, slice_get, inl, inr, refl, sym, ◌∙◌, subst, arith}
 use Rattle.std.proofs.lemmas.Option.{slice_get_within}
 use Rattle.wax_query.proofs.Below.{path_begins, path_goes_on}
 use Rattle.wax_query.specs.Below.{IsPlainPath}
 use Rattle.wax_program.specs.declared.instruction.Instruction.{Instruction}
-use Rattle.wax_program.specs.declared.instruction.Instruction.TheVariants.{Check, Repeat, Components, Fork, Jump, Back}
+use Rattle.wax_program.specs.declared.instruction.Instruction.TheVariants.{Check, Repeat, Components, Fork, Jump, Back, End}
 use Rattle.wax_program.specs.declared.instruction.Test.{Test}
 use Rattle.wax_program.specs.declared.onward.Ahead.{Ahead}
 use Rattle.wax_program.specs.declared.onward.Ahead.TheVariants.{Rest, Path, Below}
-use Rattle.wax_program.specs.Machine.{PassesTest, Moves, AcceptsIn, Accepts}
+use Rattle.wax_program.specs.Machine.{PassesTest, Moves, AcceptsIn, Accepts, mark}
 use Rattle.wax_program.specs.Onward.{AreFlagsOf, PlaceFlags, GoesOn, IsAhead}
-use Rattle.wax_program.specs.inner.Leads.{AreSound, Holds, HoldsAfter, IsClosedAt, LeadsOn, LeadsBy, onward_by_other, onward_by_slash}
+use Rattle.wax_program.specs.inner.Leads.{AreSound, Holds, HoldsAfter, IsClosedAt, LeadsOn, LeadsBy, TakesMark, onward_by_other, onward_by_slash}
 use Rattle.wax_program.proofs.Steps.{after_test, after_last, after_one, after_any, after_slash as past_slash, after_fork, after_jump, after_back}
 
 -- ---- how a text goes on
@@ -45,6 +45,28 @@ ahead_slash Below s h = (s, h, refl)
 
 pub rest_ends : IsAhead Rest []
 rest_ends = (path_goes_on []).1 tt
+
+-- ---- marks
+no_slash : (number : ℕ) → mark number ≢ 47
+no_slash number e = omega (arith, e)
+
+mark_ahead : (m : Ahead) (low high number : ℕ) → TakesMark m low high → IsAhead m (mark number ∷ [])
+mark_ahead Rest low high number h = ahead_other Rest (mark number) [] (no_slash number) rest_ends
+mark_ahead Path low high number h = ahead_other Path (mark number) [] (no_slash number) rest_ends
+mark_ahead Below low high number h = absurd h
+
+mark_least : (m : Ahead) (low high : ℕ) → TakesMark m low high → low ≤ high
+mark_least Rest low high h = h
+mark_least Path low high h = h
+mark_least Below low high h = absurd h
+
+takes_mark : (m : Ahead) (low high number : ℕ) (s : List ℕ) → s ≡ mark number ∷ [] → IsAhead m s → low ≤ number → number ≤ high → TakesMark m low high
+takes_mark Rest low high number s e h least most = omega (arith, least, most)
+takes_mark Path low high number s e h least most = omega (arith, least, most)
+takes_mark Below low high number s e h least most = absurd (no_slash number (heads (sym e ∙ h.2)))
+  where
+    heads : {a b : ℕ} {t u : List ℕ} → a ∷ t ≡ b ∷ u → a ≡ b
+    heads e = cc
 
 path_not_empty : IsPlainPath [] → ⊥
 path_not_empty h = (path_begins []).0 h
@@ -86,6 +108,7 @@ module _ (code : List Instruction) (f : PlaceFlags) where
     leads_soundly m k (Fork n) is (inr h) = sound_from m k (k + 1 + n) (λ s a. after_fork n code k s is (inr a)) h
     leads_soundly m k (Jump n) is h = sound_from m k (k + 1 + n) (λ s a. after_jump n code k s is a) h
     leads_soundly m k (Back n) is h = sound_from m k (k - n) (λ s a. after_back n code k s is a) h
+    leads_soundly m k (End low high) is h = (mark low ∷ [], mark_ahead m low high low h, (1, inr (End low high, is, (low, omega arith, mark_least m low high h, refl))))
 
   -- ---- which places have a flag
   module _ (closed : (k : ℕ) → k < length code → IsClosedAt code f k) (end : Holds f Rest (length code)) where
@@ -121,6 +144,7 @@ module _ (code : List Instruction) (f : PlaceFlags) where
     leads_on n m k (Fork b) s again h (inr a) = inr (again m (k + 1 + b) s a h)
     leads_on n m k (Jump b) s again h a = again m (k + 1 + b) s a h
     leads_on n m k (Back b) s again h a = again m (k - b) s a h
+    leads_on n m k (End low high) s again h a = takes_mark m low high a.0 s a.3 h a.1 a.2
 
     at_end : (m : Ahead) (k : ℕ) → k ≡ length code → IsAhead m [] → Holds f m k
     at_end Rest k e h = subst (Holds f Rest) (sym e) end

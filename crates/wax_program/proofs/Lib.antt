@@ -6,6 +6,7 @@ pub mod LastNames
 pub mod Leading
 pub mod Lists
 pub mod Marking
+pub mod Marks
 pub mod Opens
 pub mod Others
 mod Slashes

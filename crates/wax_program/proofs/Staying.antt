@@ -5,7 +5,7 @@ use Rattle.std.proofs.lemmas.Option.{slice_get_within}
 use Rattle.wax_program.specs.declared.instruction.Test.{Test}
 use Rattle.wax_program.specs.declared.instruction.Test.TheVariants.{NotSlash, Any}
 use Rattle.wax_program.specs.declared.instruction.Instruction.{Instruction}
-use Rattle.wax_program.specs.declared.instruction.Instruction.TheVariants.{Check, Repeat, Components, Fork, Jump, Back}
+use Rattle.wax_program.specs.declared.instruction.Instruction.TheVariants.{Check, Repeat, Components, Fork, Jump, Back, End}
 use Rattle.wax_program.specs.declared.steady.Steady.{Steady}
 use Rattle.wax_program.specs.declared.steady.Watched.{Watched}
 use Rattle.wax_program.specs.declared.steady.Watched.TheVariants.{Nothing, CheckAt, Unknown}
@@ -83,6 +83,15 @@ module _ (code : List Instruction) (c : ℕ) (old : List Bool) (p : Position) (s
   below : (n k : ℕ) (s : List ℕ) → AcceptsIn code n k s → k ≤ p.size
   below n k s a = omega (arith, in_range code n k s a, sized)
 
+  head_same : {a b : ℕ} {t u : List ℕ} → a ∷ t ≡ b ∷ u → a ≡ b
+  head_same e = cc
+
+  tail_same : {a b : ℕ} {t u : List ℕ} → a ∷ t ≡ b ∷ u → t ≡ u
+  tail_same e = cc
+
+  same_mark : {a b : ℕ} {t u : List ℕ} → a ≡ b → t ≡ u → a ∷ t ≡ b ∷ u
+  same_mark e f = cc
+
   moves_alike : (a b n k : ℕ) (s : List ℕ) (i : Instruction) → Led i c k p → Alike i a b → Moves i (AcceptsIn code n) k (a ∷ s) →
       ((x : ℕ) → IsReached p x → AcceptsIn code n x (a ∷ s) → AcceptsIn code n x (b ∷ s)) → Moves i (AcceptsIn code n) k (b ∷ s)
   moves_alike a b n k s (Check t) led like m again = (like.0 m.0, m.1)
@@ -94,6 +103,7 @@ module _ (code : List Instruction) (c : ℕ) (old : List Bool) (p : Position) (s
   moves_alike a b n k s (Fork j) led like (inr m) again = inr (again (k + 1 + j) (led.1 (below n (k + 1 + j) (a ∷ s) m)) m)
   moves_alike a b n k s (Jump j) led like m again = again (k + 1 + j) (led (below n (k + 1 + j) (a ∷ s) m)) m
   moves_alike a b n k s (Back j) led like m again = again (k - j) (led (below n (k - j) (a ∷ s) m)) m
+  moves_alike a b n k s (End i j) led like m again = (m.0, m.1, m.2, same_mark ((like m.0).0 (head_same m.3)) (tail_same m.3))
 
   cons_nil : {b : ℕ} {t : List ℕ} → b ∷ t ≡ [] → ⊥
   cons_nil e = cc
@@ -112,6 +122,7 @@ module _ (code : List Instruction) (c : ℕ) (old : List Bool) (p : Position) (s
   flip (Fork n) a b h = tt
   flip (Jump n) a b h = tt
   flip (Back n) a b h = tt
+  flip (End m n) a b h = λ number. ((h number).1, (h number).0)
 
   pub round_steady : (watch : Watched) → ((x : ℕ) → HoldsPlace p.read x → ActsAlike code c watch x) → c ≢ 47 → p.next ≡ old → (d : ℕ) → d ≢ 47 → MissesWatched code watch d → Advances code d old old
   round_steady watch covers cn back d dn lets = record {

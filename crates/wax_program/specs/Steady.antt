@@ -5,12 +5,12 @@ use Rattle.wax_program.specs.declared.instruction.Test.{Test}
 use Rattle.wax_program.specs.declared.instruction.Test.TheVariants.{Char, NotSlash, Any}
 use Rattle.wax_program.specs.declared.instruction.Instruction.{Instruction}
 use Rattle.wax_program.specs.declared.instruction.Instruction.TheVariants.{Check, Repeat, Components, Fork}
-use Rattle.wax_program.specs.declared.instruction.Instruction.TheVariants.{Jump, Back}
+use Rattle.wax_program.specs.declared.instruction.Instruction.TheVariants.{Jump, Back, End}
 use Rattle.wax_program.specs.declared.steady.Steady.{Steady}
 use Rattle.wax_program.specs.declared.steady.Watched.{Watched}
 use Rattle.wax_program.specs.declared.steady.Watched.TheVariants.{Nothing, CheckAt, Unknown}
 use Rattle.wax_bits.specs.Bits.{places_of}
-use Rattle.wax_program.specs.Machine.{PassesTest}
+use Rattle.wax_program.specs.Machine.{PassesTest, mark}
 use Rattle.wax_program.specs.Threads.{Advances}
 
 -- no check that stands at the place takes the character
@@ -40,6 +40,7 @@ Alike Components c d = (c ≡ 47) ↔ (d ≡ 47)
 Alike (Fork n) c d = ⊤
 Alike (Jump n) c d = ⊤
 Alike (Back n) c d = ⊤
+Alike (End low high) c d = (number : ℕ) → (c ≡ mark number) ↔ (d ≡ mark number)
 
 -- the watched check doesn't take the character
 abbrev pub MissesWatched : List Instruction → Watched → ℕ → Type 0

@@ -1,11 +1,11 @@
 -- Sets of places in a program, as flags.
-use Rattle.std.specs.Prelude.{◌≡◌, ℕ, ◌+◌, ◌-◌, ◌<◌, ◌≤◌, ◌*◌, Bool, ◌⊎◌, ◌↔◌, List, [], ◌∷◌}
+use Rattle.std.specs.Prelude.{◌≡◌, ◌≢◌, ℕ, ◌+◌, ◌-◌, ◌<◌, ◌≤◌, ◌*◌, Bool, ◌⊎◌, ◌↔◌, List, [], ◌∷◌}
 use Rattle.std.specs.Prelude.{length, Contains, Some, slice_get}
 use Rattle.wax_bits.specs.Places.{HoldsPlace, Within, member_count}
 use Rattle.wax_program.specs.declared.instruction.Instruction.{Instruction}
 use Rattle.wax_program.specs.declared.instruction.Instruction.TheVariants.{Check, Repeat, Components, Fork}
-use Rattle.wax_program.specs.declared.instruction.Instruction.TheVariants.{Jump, Back}
-use Rattle.wax_program.specs.Machine.{PassesTest, Accepts}
+use Rattle.wax_program.specs.declared.instruction.Instruction.TheVariants.{Jump, Back, End}
+use Rattle.wax_program.specs.Machine.{PassesTest, Accepts, mark}
 
 -- the sets at a position of the text, for a program of `size` instructions: the places that are still to
 -- be read here, those that were read here, and those of the next position. The place `size` is that of the
@@ -96,6 +96,7 @@ Led Components c k p =
 Led (Fork n) c k p = ReachedBelow p (k + 1) × ReachedBelow p (k + 1 + n)
 Led (Jump n) c k p = ReachedBelow p (k + 1 + n)
 Led (Back n) c k p = ReachedBelow p (k - n)
+Led (End low high) c k p = (number : ℕ) → c ≢ mark number
 
 -- the same for whichever instruction stands at k
 abbrev pub Handled : List Instruction → ℕ → Position → ℕ → Type 0

@@ -84,6 +84,9 @@ pub enum Instruction {
     Jump(usize),
     /// Goes back by this many instructions.
     Back(usize),
+    /// The end of a pattern in a program of several: takes the mark of a number from the first to the
+    /// second one, and nothing after it. A mark stands for a number after a text and is no character.
+    End(usize, usize),
 }
 
 impl Test {

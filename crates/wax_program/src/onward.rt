@@ -6,7 +6,7 @@ ghost use Rattle.wax_bits.specs.Places.{HoldsPlace};
 ghost use Rattle.wax_program.specs.declared.instruction.Instruction.TheVariants.{Components};
 ghost use Rattle.wax_program.specs.inner.Leads.{AreSound, Gains, Holds, HoldsAfter, IsClosedAt, IsClosedFor};
 ghost use Rattle.wax_program.specs.inner.Leads.{HaveRoom, LeadsAt, LeadsBy, LeadsOn, Marks, flag_count};
-ghost use Rattle.wax_program.specs.inner.Leads.{onward_by_other, onward_by_slash};
+ghost use Rattle.wax_program.specs.inner.Leads.{TakesMark, onward_by_other, onward_by_slash};
 
 use crate::instruction::{Instruction, Test};
 use crate::last::last_name;
@@ -38,6 +38,16 @@ impl Ahead {
             return Ahead::Path;
         }
         Ahead::Below
+    }
+
+    /// Returns whether the mark of a number in this range is such a text, as a name of its own.
+    fn takes_mark(self, low: usize, high: usize) -> bool
+        ensures { IsTrue result ↔ TakesMark self low high }
+    {
+        match self {
+            Ahead::Rest | Ahead::Path => low <= high,
+            Ahead::Below => false,
+        }
     }
 
     /// Returns what the text is after a character other than `/`, if it can begin with one.
@@ -193,6 +203,7 @@ impl Onward {
             Instruction::Fork(n) => self.holds(m, at + 1) || self.holds_past(m, at + 1, *n),
             Instruction::Jump(n) => self.holds_past(m, at + 1, *n),
             Instruction::Back(n) => self.holds(m, at.saturating_sub(*n)),
+            Instruction::End(low, high) => m.takes_mark(*low, *high),
         }
     }
 

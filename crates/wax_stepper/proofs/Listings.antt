@@ -2,15 +2,27 @@
 use Rattle.std.proofs.Common.{IsPermutation, MatchBool, ◌≡◌, ◌+◌, ◌<◌, ◌≤◌, ◌⊎◌, ◌↔◌, ◌++◌, inl, inr, ℕ, zero, suc, Bool, true, false, not, ◌&&◌, List, [], ◌∷◌, Option, Some, None, MatchOption, is_some, length, get_or, set, slice_get, Contains, true≢false, refl, sym, ◌∙◌, ap, subst, arith, length-append, length-set, get_or-set_same}
 use Rattle.std.proofs.lemmas.Bool.{cases_eq, cases_lt}
 use Rattle.std.proofs.lemmas.List.{get_or_default}
+use Rattle.std.proofs.lemmas.List.Filters.{dedup_is}
+use Rattle.std.proofs.lemmas.List.Kept.{Contains-dedup_nat, Contains-from_dedup}
+use Rattle.std.proofs.lemmas.Map.Keys.{IsStrictlyIncreasing-dedup}
+use Rattle.std.proofs.Math.Dec.{eqb}
+use Rattle.std.specs.List.{dedup}
+use Rattle.std.specs.List.Retain.{DiffersFromLast, IsFiltered}
+use Rattle.std.specs.List.Sorted.{IsSorted, IsStrictlyIncreasing}
+use Rattle.std.specs.Ordering.{nat_cmp}
 use Rattle.std.proofs.lemmas.List.Sorted.{Contains-permutation, IsPermutation-sym}
 use Rattle.std.proofs.lemmas.List.Elements.{Contains-append_left, Contains-get_or, Contains-push, Contains-push_cases}
 use Rattle.std.proofs.lemmas.Option.{get_or_from_slice_get, slice_get-get_or, slice_get_within}
 use Rattle.wax_stepper.specs.inner.Listed.{AreHeld, AreRead, HasLost, Inserts, IsJoined, IsLoaded, IsListing, Listing, Lists, Waits, unread}
-use Rattle.wax_stepper.specs.Reached.{AreReached}
+use Rattle.wax_stepper.specs.Reached.{AreEndsMarked, AreReached}
 use Rattle.wax_program.specs.declared.instruction.Instruction.{Instruction}
 use Rattle.wax_bits.specs.Places.{HoldsPlace, IsEmpty, Within, member_count}
-use Rattle.wax_program.specs.Threads.{Advances, AnyAmong, AnyOf, Inserted, InsertedNext, IsDone, Position, Taken}
+use Rattle.wax_program.specs.Threads.{Advances, AnyAmong, AnyOf, Inserted, InsertedNext, IsDone, Position, Round, Taken}
 use Rattle.wax_program.proofs.Advancing.{in_range}
+use Rattle.wax_program.proofs.Marks.{ends_read}
+use Rattle.wax_program.specs.Closed.{AreEndsAt, IsClosed, IsEndAt, ReadsEnd}
+use Rattle.wax_program.specs.declared.instruction.Instruction.TheVariants.{End}
+use Rattle.wax_program.specs.Machine.{mark}
 use Rattle.wax_bits.proofs.Members.{added_keeps, added_only, has_added, members_none, members_set, members_within, removed_fewer}
 
 -- ---- lists
@@ -420,3 +432,41 @@ joined_nothing set size = record {
   keeps = λ k h. h;
   all = λ k h. absurd (let lt : h.0 < 0 = h.1 in omega (arith, lt));
 }
+
+-- ---- ends
+module _ (code : List Instruction) (size taken : ℕ) (here next : Listing) (read : List Bool) (listed : AreHeld size here taken read next) (sized : size ≡ length code)
+    (done : IsDone (sets_of size here read next)) (places : List ℕ) (lists : Lists places here.flags) where
+  pub list_read : (numbers : List ℕ) → AreEndsAt code places numbers → (number : ℕ) → Contains numbers number ↔ ReadsEnd code (sets_of size here read next) number
+  list_read numbers l = λ number. (
+    (λ h. (let f = (l number).0 h in (f.0, was f.0 number ((lists f.0).0 f.1) f.2, f.2))),
+    (λ h. (l number).1 (h.0, (lists h.0).1 (listed.read_here h.0 h.1), h.2)),
+  )
+    where
+      was : (k number : ℕ) → HoldsPlace here.flags k → IsEndAt code k number → HoldsPlace read k
+      was k number h end = elim (held_or_not read k) [
+        | inl h1 ↦ h1
+        | inr h0 ↦ absurd (let low : size ≤ k = done k ((unread_held here.flags read k).1 (h, h0)) in
+            omega (arith, low, slice_get_within code k (End end.0 end.1) end.2, sized))
+      ]
+
+pub list_marked : (code : List Instruction) (places : List ℕ) (p q : Position) (numbers : List ℕ) → IsClosed code → p.size ≡ length code → q.size ≡ length code
+    → IsLoaded places p.size p.pending → IsDone q → Round code 47 p.pending q → ((number : ℕ) → Contains numbers number ↔ ReadsEnd code q number) → AreEndsMarked code places numbers
+list_marked code places p q numbers closed old_sized sized loaded done round l = λ number.
+    let among = any_loaded code places p.size p.pending old_sized loaded (mark number ∷ []) in
+    let read = ends_read code p q closed sized done round number in (
+      (λ h. among.1 (read.1 ((l number).0 h))),
+      (λ h. (l number).1 (read.0 (among.0 h))),
+    )
+
+-- ---- numbers that were sorted, each once
+pub numbers_ascend : (sorted left : List ℕ) → IsSorted nat_cmp sorted → IsFiltered (DiffersFromLast eqb) [] sorted left → IsStrictlyIncreasing left
+numbers_ascend sorted left s f = subst IsStrictlyIncreasing (sym (dedup_is eqb sorted left f)) (IsStrictlyIncreasing-dedup sorted s)
+
+pub numbers_sorted : (code : List Instruction) (places numbers sorted left : List ℕ) → IsPermutation numbers sorted
+    → IsFiltered (DiffersFromLast eqb) [] sorted left → AreEndsMarked code places numbers → AreEndsMarked code places left
+numbers_sorted code places numbers sorted left p f marked number =
+    let e : left ≡ dedup eqb sorted = dedup_is eqb sorted left f in (
+      (λ h. (marked number).0 (Contains-permutation sorted numbers number (IsPermutation-sym numbers sorted p)
+          (Contains-from_dedup eqb sorted number (subst (λ z. Contains z number) e h)))),
+      (λ h. subst (λ z. Contains z number) (sym e) (Contains-dedup_nat sorted number (Contains-permutation numbers sorted number p ((marked number).1 h)))),
+    )

@@ -1,5 +1,6 @@
 -- The places that a step reaches.
-use Rattle.std.specs.Prelude.{◌↔◌, ◌⊎◌, ℕ, Bool, true, false, List, [], ◌∷◌}
+use Rattle.std.specs.Prelude.{◌↔◌, ◌⊎◌, ℕ, Bool, true, false, List, [], ◌∷◌, Contains}
+use Rattle.wax_program.specs.Machine.{mark}
 use Rattle.wax_program.specs.declared.instruction.Instruction.{Instruction}
 use Rattle.wax_program.specs.Threads.{AnyAmong}
 
@@ -13,3 +14,8 @@ AreReached code c places also reached =
 abbrev pub taken_if : Bool → List ℕ → List ℕ
 taken_if true places = places
 taken_if false places = []
+
+-- these are the numbers whose marks are accepted from one of the places on
+abbrev pub AreEndsMarked : List Instruction → List ℕ → List ℕ → Type 0
+AreEndsMarked code places numbers =
+    (number : ℕ) → Contains numbers number ↔ AnyAmong code places (mark number ∷ [])

@@ -1,7 +1,9 @@
 //! The sets of places of a step, which takes time in proportion to the places that it reaches, and
 //! not to the length of the program.
-ghost use Rattle.std.specs.Prelude.{◌≡◌, ◌<◌, ℕ, [], IfOk, IsTrue, MatchOption, length};
+ghost use Rattle.std.specs.Prelude.{◌≡◌, ◌<◌, ◌↔◌, ℕ, [], Contains, IfOk, IsTrue, MatchOption, length};
 ghost use Rattle.wax_stepper.specs.inner.Listed.{AreRead, IsNextUnread, IsJoined, IsLoaded, Lists};
+ghost use Rattle.wax_program.specs.Closed.{ReadsEnd};
+ghost use Rattle.wax_program.specs.Threads.{IsDone};
 ghost use Rattle.wax_bits.specs.Places.{HoldsPlace, IsEmpty};
 
 use crate::listed::{ListedSet, remove_all};
@@ -9,7 +11,7 @@ use std::alloc::{AllocError, Global};
 use std::marker::Model;
 use std::mem;
 use wax_bits::Set;
-use wax_program::{CompiledProgram, Sets};
+use wax_program::{CompiledProgram, Meter, Sets, list_ends_among};
 
 /// Three sets of places, two of which are listed. They are allocated once for each stepper.
 #[derive(Drop)]
@@ -89,6 +91,25 @@ impl ListedSets {
         for place in places {
             self.insert_next(*place);
         }
+    }
+
+    /// Writes the numbers of the ends that were read here.
+    ///
+    /// # Errors
+    ///
+    /// Returns `AllocError` if the list has too little room and allocation fails.
+    pub fn list_ends(
+        &self,
+        program: &CompiledProgram,
+        numbers: &mut Vec<usize>,
+        meter: &mut Meter,
+    ) -> Result<(), AllocError>
+        requires size { self.now.size ≡ length program.now.0 }
+        requires done { IsDone self.now }
+        ensures { IfOk result (λ _. (number : ℕ) → Contains numbers.new.items number
+            ↔ ReadsEnd program.now.0 self.now number) }
+    {
+        list_ends_among(program, self.here.places(), numbers, meter)
     }
 
     /// Returns whether no place of the next position was reached.

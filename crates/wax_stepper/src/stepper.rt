@@ -1,6 +1,8 @@
 //! Steps of a program by one character, from places that a caller keeps.
 ghost use Rattle.std.specs.Prelude.{◌≡◌, ◌+◌, ◌≤◌, ◌↔◌, IfOk, IsFalse, IsTrue, [], length};
-ghost use Rattle.wax_stepper.specs.Reached.{AreReached, taken_if};
+ghost use Rattle.std.specs.List.Sorted.{IsStrictlyIncreasing};
+ghost use Rattle.wax_stepper.specs.Reached.{AreEndsMarked, AreReached, taken_if};
+ghost use Rattle.wax_program.specs.Closed.{IsClosed};
 ghost use Rattle.wax_program.specs.Threads.{AnyAmong};
 
 use crate::listed_sets::ListedSets;
@@ -103,5 +105,36 @@ impl Stepper {
         let ended = finish(program, &mut self.sets, meter);
         self.sets.clear();
         ended
+    }
+
+    /// Writes the numbers whose marks the program accepts, begun at one of the places, ascending. A
+    /// text that leads to these places may end here, as one of the patterns with these numbers. Takes
+    /// time in proportion to the instructions that it reads, each at most twice, and to sort the
+    /// numbers. The meter counts the instructions.
+    ///
+    /// # Errors
+    ///
+    /// Returns `AllocError` if the list has too little room and allocation fails.
+    pub fn list_ends(
+        &mut self,
+        program: &CompiledProgram,
+        places: &[usize],
+        numbers: &mut Vec<usize>,
+        meter: &mut Meter,
+    ) -> Result<(), AllocError>
+        requires size { self.old ≡ length program.now.0 }
+        requires closed { IsClosed program.now.0 }
+        ensures same { self.new ≡ self.old }
+        ensures ends { IfOk result (λ _. AreEndsMarked program.now.0 places.now numbers.new.items) }
+        ensures ascending { IfOk result (λ _. IsStrictlyIncreasing numbers.new.items) }
+    {
+        self.sets.load(places);
+        advance(program, '/', &mut self.sets, meter);
+        let listed = self.sets.list_ends(program, numbers, meter);
+        self.sets.clear();
+        listed?;
+        numbers.sort_unstable();
+        numbers.dedup();
+        Ok(())
     }
 }

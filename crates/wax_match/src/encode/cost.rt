@@ -27,15 +27,21 @@ pub fn weigh<'t, A>(token: &Token<'t, A>) -> Weight
 {
     match token.topology() {
         Topology::Branch(branch) => match branch {
-            BranchKind::Alternation(a) => {
-                let all = weigh_all(a.tokens.as_slice());
-                with_forks(all, a.tokens.len())
-            }
+            BranchKind::Alternation(a) => weigh_branches(a.tokens.as_slice()),
             BranchKind::Concatenation(c) => weigh_all(c.tokens.as_slice()),
             BranchKind::Repetition(r) => repeated(weigh(&r.token), r.lower, r.upper),
         },
         Topology::Leaf(leaf) => weigh_leaf(leaf),
     }
+}
+
+/// Returns the weight of an alternation of tokens.
+#[cycle(weigh)]
+pub fn weigh_branches<'t, A>(tokens: &[Token<'t, A>]) -> Weight
+    ensures cost { result.cost ≡ min (1 + branches_cost (trees tokens.now)) longest }
+    ensures holds_tree { result.holds_tree ≡ some_holds_tree (trees tokens.now) }
+{
+    with_forks(weigh_all(tokens), tokens.len())
 }
 
 /// Returns the weight of tokens one after another.

@@ -252,7 +252,11 @@ impl Tail {
     }
 
     /// Makes optional what was written since there were `start` instructions.
-    fn put_skip(&mut self, start: usize) -> Result<(), AllocError>
+    ///
+    /// # Errors
+    ///
+    /// Returns `AllocError` if allocation fails.
+    pub fn put_skip(&mut self, start: usize) -> Result<(), AllocError>
         requires { start ≤ length self.old }
         ensures { OnOk result (self.new ≡ Instruction.Fork (length self.old - start) ∷ self.old) }
     {

@@ -4,7 +4,7 @@ use Rattle.std.specs.Prelude.{length}
 use Rattle.wax_bits.specs.Places.{HoldsPlace, Within, member_count}
 use Rattle.wax_program.specs.declared.instruction.Instruction.{Instruction}
 use Rattle.wax_program.specs.declared.instruction.Instruction.TheVariants.{Check, Repeat, Components, Fork}
-use Rattle.wax_program.specs.declared.instruction.Instruction.TheVariants.{Jump, Back}
+use Rattle.wax_program.specs.declared.instruction.Instruction.TheVariants.{Jump, Back, End}
 use Rattle.wax_program.specs.declared.instruction.Test.{Test}
 use Rattle.wax_program.specs.declared.onward.Ahead.{Ahead}
 use Rattle.wax_program.specs.declared.onward.Ahead.TheVariants.{Rest, Path, Below}
@@ -35,7 +35,13 @@ abbrev pub LeadsBy : Test → PlaceFlags → Ahead → ℕ → Type 0
 LeadsBy t f m k = (TakesOther t × HoldsAfter f (onward_by_other m) k)
     ⊎ (PassesTest t 47 × HoldsAfter f (onward_by_slash m) k)
 
--- the instruction at k leads to a place with the flag
+-- a text of this kind is the mark of a number in this range, as a name of its own
+abbrev pub TakesMark : Ahead → ℕ → ℕ → Type 0
+TakesMark Rest low high = low ≤ high
+TakesMark Path low high = low ≤ high
+TakesMark Below low high = ⊥
+
+-- the instruction at k leads to a place with the flag, or takes such a text itself
 abbrev pub LeadsOn : Instruction → PlaceFlags → Ahead → ℕ → Type 0
 LeadsOn (Check t) f m k = LeadsBy t f m (k + 1)
 LeadsOn (Repeat t) f m k = Holds f m (k + 1) ⊎ LeadsBy t f m k
@@ -45,6 +51,7 @@ LeadsOn Components f m k =
 LeadsOn (Fork n) f m k = Holds f m (k + 1) ⊎ Holds f m (k + 1 + n)
 LeadsOn (Jump n) f m k = Holds f m (k + 1 + n)
 LeadsOn (Back n) f m k = Holds f m (k - n)
+LeadsOn (End low high) f m k = TakesMark m low high
 
 -- each flag is that of a place from which some text is accepted that begins so
 abbrev pub AreSound : List Instruction → PlaceFlags → Type 0

@@ -1,6 +1,7 @@
-use Rattle.std.proofs.Common.{Some, IsTrue, ◌∙◌, ap, rules}
+use Rattle.std.proofs.Common.{◌<◌, Some, inl, inr, arith, IsTrue, ◌∙◌, ap, refl, rules}
+use Rattle.std.proofs.Math.Utf8.{scalar_cases}
 use Rattle.wax_program.specs.Machine.{PassesTest}
-use Rattle.wax_program.proofs.Advancing.{followed_any, followed_back, followed_fork, followed_jump, followed_last, followed_more, followed_pass, followed_slash}
+use Rattle.wax_program.proofs.Advancing.{followed_any, followed_back, followed_end, followed_fork, followed_jump, followed_last, followed_more, followed_pass, followed_slash}
 use Rattle.wax_program.proofs.Staying.{noted_back, noted_components, noted_fork, noted_jump, noted_unknown, noted_miss, noted_repeat}
 use Rattle.wax_program.proofs.rounds.follow.Goals as goal
 
@@ -46,6 +47,12 @@ pub returns-in-Back-clause-followed : goal.returns-in-Back-clause-followed
 returns-in-Back-clause-followed g c =
     followed_back c.args.program.now.0 c.args.c c.args.at (g.R.Sets.position c.args.sets.now) (g.R.Sets.position c.insert-in-Back.new.self) c.in-Back.n
     (c.fetch.ensures.instruction ∙ ap (λ i. Some i) c.in-Back.is) (rw c.saturating_sub.ensures at c.insert-in-Back.ensures)
+
+pub returns-in-End-clause-followed : goal.returns-in-End-clause-followed
+returns-in-End-clause-followed g c =
+    let below : c.args.c < 1114112 = elim (scalar_cases c.args.c c.ranges.c.0) [ inl low ↦ omega (arith, low) | inr high ↦ high.1 ] in
+    followed_end c.args.program.now.0 c.args.c c.args.at (g.R.Sets.position c.args.sets.now) (g.R.Sets.position c.args.sets.now) c.in-End.field-0 c.in-End.field-1
+    (c.fetch.ensures.instruction ∙ ap (λ i. Some i) c.in-End.is) below refl
 
 pub returns-then-passes-clause-noted : goal.returns-then-passes-clause-noted
 returns-then-passes-clause-noted g c = noted_unknown c.args.program.now.0 c.args.c c.args.at c.args.watch.now

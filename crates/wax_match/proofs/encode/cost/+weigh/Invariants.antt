@@ -1,4 +1,4 @@
-use Rattle.std.proofs.Common.{◌≡◌, ◌+◌, ◌≤◌, ◌||◌, drop, min}
+use Rattle.std.proofs.Common.{◌≡◌, ◌+◌, ◌*◌, ◌≤◌, ◌||◌, drop, min}
 use Rattle.wax_match.specs.inner.Limits.{longest}
 use Rattle.wax_token.specs.Cost.{costs, some_holds_tree}
 use Rattle.wax_token.specs.Syntax.{tree_size, trees_size}
@@ -6,10 +6,13 @@ use Rattle.wax_token.specs.Words.{trees}
 use Rattle.wax_match.proofs.encode.cost.+weigh.Given as goal
 
 abbrev pub decreases-weigh : goal.decreases-weigh
-decreases-weigh g l = tree_size l.token.now
+decreases-weigh g l = 2 * tree_size l.token.now
 
 abbrev pub decreases-weigh_all : goal.decreases-weigh_all
-decreases-weigh_all g l = trees_size (trees l.tokens.now)
+decreases-weigh_all g l = 2 * trees_size (trees l.tokens.now)
+
+abbrev pub decreases-weigh_branches : goal.decreases-weigh_branches
+decreases-weigh_branches g l = 2 * trees_size (trees l.tokens.now) + 1
 
 abbrev pub invariant-weigh_all-loop-token : goal.invariant-weigh_all-loop-token
 invariant-weigh_all-loop-token g l = record {
