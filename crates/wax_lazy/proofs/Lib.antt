@@ -1,5 +1,7 @@
 pub mod Ahead
 pub mod Caches
 pub mod Lone
+pub mod Numbering
+pub mod RowCells
 pub mod Tables
 pub mod Walking

@@ -3,12 +3,13 @@ use Rattle.std.proofs.Common.{◌≡◌, ℕ, zero, suc, ◌+◌, ◌-◌, ◌*�
 use Rattle.std.proofs.lemmas.Bool.{cases_eq, cases_lt}
 use Rattle.std.proofs.lemmas.List.{get_or_append_left, get_or-append_right, get_or-replicate, length-replicate}
 use Rattle.std.proofs.lemmas.Option.{slice_get_cases, slice_get_within}
+use Rattle.std.specs.Global.{Vec}
 use Rattle.wax_states.specs.declared.table.State.{State}
 use Rattle.wax_states.specs.declared.table.WideCell.{WideCell}
 use Rattle.wax_states.specs.declared.table.Next.{Next}
 use Rattle.wax_states.specs.declared.table.Next.TheVariants.{To, Nothing, Everything}
-use Rattle.wax_lazy.specs.inner.Table.{AreWideCells, BeginsTexts, IsRestState, IsState, IsTable, IsJoinOf, KeepsStates, Leads, own_at, own_in}
-use Rattle.wax_states.specs.States.{AreEmpty, HasWide, IsWrittenWide, cell_of_next, IsDead, IsSettled, IsStatePlace, IsTransition, LeadOn, LeadsNext, LeadsTo, TakesAll, led_of, places_at, places_in, places_led}
+use Rattle.wax_lazy.specs.inner.Table.{AreNumbersOf, AreWideCells, BeginsTexts, IsRestState, IsState, IsTable, IsJoinOf, KeepsStates, Leads, own_at, own_in}
+use Rattle.wax_states.specs.States.{AreEmpty, HasWide, IsWrittenWide, cell_of_next, IsDead, IsSettled, IsStatePlace, IsTransition, LeadOn, LeadsNext, LeadsTo, TakesAll, led_of, places_at, places_in, places_led, with_said}
 use Rattle.wax_program.specs.declared.instruction.Instruction.{Instruction}
 use Rattle.wax_program.specs.Machine.{Accepts}
 use Rattle.wax_stepper.specs.Reached.{AreReached, taken_if}
@@ -87,7 +88,7 @@ module _ (old new : List State) (keeps : KeepsStates old new) where
   rest_keeps code places others None r = tt
 
   pub state_keeps : (code : List Instruction) (s : State) → IsState code old s → IsState code new s
-  state_keeps code s good = record { ends = good.ends; rest = rest_keeps code s.places.items s.own.items s.rest good.rest }
+  state_keeps code s good = record { ends = good.ends; numbers = good.numbers; rest = rest_keeps code s.places.items s.own.items s.rest good.rest }
 
 -- ---- tables
 pub table_empty : (code : List Instruction) → IsTable code [] []
@@ -164,10 +165,10 @@ module _ (code : List Instruction) (states : List State) (cells : List ℕ) (tab
       says = cell_written;
     }
 
--- ---- whether a text may end in a state is known
-module _ (old new : List State) (t : ℕ) (b : Bool) (settled : IsSettled old new t b) where
+-- ---- more is known of the texts that end in a state
+module _ (old new : List State) (t : ℕ) (accepts : State → Option Bool) (numbers : State → Option (Vec ℕ)) (settled : IsSettled old new t accepts numbers) where
   abbrev said : State
-  said = record { places = settled.0.places; own = settled.0.own; rest = settled.0.rest; accepts = Some b }
+  said = with_said settled.0 (accepts settled.0) (numbers settled.0)
 
   here : slice_get new t ≡ Some said
   here = ap (λ z. slice_get z t) settled.2 ∙ slice_get_set_same old t said (slice_get_within old t settled.0 settled.1)
@@ -191,15 +192,18 @@ module _ (old new : List State) (t : ℕ) (b : Bool) (settled : IsSettled old ne
     ],
   )
 
-  pub table_settled : (code : List Instruction) (cells : List ℕ) → IsTable code old cells → (IsTrue b ↔ AnyAmong code (places_at old t) [])
+  pub table_settled : (code : List Instruction) (cells : List ℕ) → IsTable code old cells
+      → IfSome (accepts settled.0) (λ b. IsTrue b ↔ AnyAmong code settled.0.places.items [])
+      → IfSome (numbers settled.0) (λ v. AreNumbersOf code settled.0.places.items v.items)
       → IsTable code new cells
-  table_settled code cells table ends = record {
+  table_settled code cells table ends are = record {
     room = omega (arith, table.room, count);
     rows = λ u r e. elim (cases_eq u t) [
       | inl same ↦ (let is : said ≡ r = some_same (sym here ∙ ap (slice_get new) (sym same) ∙ e) in
           let was : IsState code old settled.0 = table.rows t settled.0 settled.1 in
           subst (IsState code new) is (record {
-            ends = subst (λ z. IsTrue b ↔ AnyAmong code z []) (ap places_in settled.1) ends;
+            ends = ends;
+            numbers = are;
             rest = rest_keeps old new settled_keeps code settled.0.places.items settled.0.own.items settled.0.rest was.rest;
           }))
       | inr other ↦ state_keeps old new settled_keeps code r (table.rows u r (sym (others u other) ∙ e))
@@ -252,7 +256,7 @@ one_place code start s = (
     only k (zero, lt, e) = sym e
     only k (suc i, lt, e) = absurd (omega (arith, lt))
 
-no_place : (code : List Instruction) (s : List ℕ) → AnyAmong code [] s → ⊥
+pub no_place : (code : List Instruction) (s : List ℕ) → AnyAmong code [] s → ⊥
 no_place code s h = absurd (let lt : h.1.0 < 0 = h.1.1 in omega (arith, lt))
 
 -- places that lead to none are dead

@@ -1,2 +1,3 @@
 pub mod Cached
+pub mod Rows
 pub mod Table

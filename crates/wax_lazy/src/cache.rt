@@ -6,13 +6,15 @@ ghost use Rattle.std.specs.Str.{IsAscii};
 ghost use Rattle.wax_lazy.specs.inner.Cached.{AreNext, AreParted, AreSameLists, AreStepped, GrowsBy, IsAdded};
 ghost use Rattle.wax_lazy.specs.inner.Cached.{DecidesLeft, IsCacheOf, IsCleared, IsInterned, IsLone};
 ghost use Rattle.wax_lazy.specs.inner.Cached.{IsRestarted};
-ghost use Rattle.wax_lazy.specs.inner.Table.{BeginsTexts, IsJoinOf, own_at};
+ghost use Rattle.wax_lazy.specs.inner.Table.{AreNumbersOf, BeginsTexts, IsJoinOf, own_at};
+ghost use Rattle.wax_program.specs.Closed.{IsClosed};
 ghost use Rattle.wax_program.specs.Checks.{IsCheckAt};
 ghost use Rattle.wax_program.specs.declared.instruction.Instruction.{Instruction};
 ghost use Rattle.wax_program.specs.Threads.{AnyAmong};
 ghost use Rattle.wax_states.specs.declared.table.State.{State};
 ghost use Rattle.wax_states.specs.States.{IsDead, IsStatePlace, LeadsNext, places_at, places_led};
 
+use crate::rows::Rows;
 use std::alloc::{AllocError, Global};
 use std::mem;
 use wax_program::{CompiledProgram, Meter, check_at, has_loop, part_loops, place_of_all};
@@ -32,6 +34,9 @@ const LEAST_PARTED: usize = 256;
 /// How many states may be followed one after another to find where a character leads from one.
 const MOST_PARTS: usize = 64;
 
+/// The size of the number of a pattern in bytes.
+const NUMBER_BYTES: usize = 8;
+
 /// The number of states that are kept however many bytes they take.
 const LEAST_STATES: usize = 16;
 
@@ -44,6 +49,8 @@ pub struct Cache {
     alloc: Global,
     stepper: Stepper,
     table: Table,
+    /// Rows of the states that texts past ASCII led to often.
+    pub rows: Rows,
     /// The places that the last step reached.
     reached: Vec<usize>,
     /// Those of these places that aren't due to a state that is known.
@@ -96,6 +103,7 @@ impl Cache {
             alloc,
             stepper,
             table,
+            rows: Rows::new(alloc),
             reached: Vec::new(alloc),
             others: Vec::new(alloc),
             loops: Vec::new(alloc),
@@ -158,6 +166,61 @@ impl Cache {
         }
         self.prepare_for(program, c)?;
         self.fill(program, at, c, meter)
+    }
+
+    /// Follows a character as `advance` does, and counts that its state is met. If it is met often,
+    /// fills cells of rows for the character.
+    ///
+    /// # Errors
+    ///
+    /// Returns `AllocError` if allocation fails.
+    #[inline]
+    pub fn advance_counted(
+        &mut self,
+        program: &CompiledProgram,
+        at: usize,
+        c: char,
+        meter: &mut Meter,
+    ) -> Result<Next, AllocError>
+        requires cache { IsCacheOf program.now.0 self.old }
+        requires placed { IsStatePlace self.old.table.states.items at }
+        ensures cache { IsCacheOf program.now.0 self.new }
+        ensures start { self.new.start ≡ self.old.start }
+        ensures leads { let places = places_at self.old.table.states.items (at / 128) in
+            IfOk result (LeadsNext program.now.0 self.new.table.states.items places c) }
+    {
+        if self.rows.is_often_met(at) {
+            return self.advance_and_record(program, at, c, meter);
+        }
+        self.advance(program, at, c, meter)
+    }
+
+    /// Follows a character as `advance` does, and fills cells of rows for it, unless rows take half
+    /// of the bytes that the cache may keep.
+    #[inline(never)]
+    fn advance_and_record(
+        &mut self,
+        program: &CompiledProgram,
+        at: usize,
+        c: char,
+        meter: &mut Meter,
+    ) -> Result<Next, AllocError>
+        requires cache { IsCacheOf program.now.0 self.old }
+        requires placed { IsStatePlace self.old.table.states.items at }
+        ensures cache { IsCacheOf program.now.0 self.new }
+        ensures start { self.new.start ≡ self.old.start }
+        ensures leads { let places = places_at self.old.table.states.items (at / 128) in
+            IfOk result (LeadsNext program.now.0 self.new.table.states.items places c) }
+    {
+        if self.is_full() {
+            return self.advance(program, at, c, meter);
+        }
+        self.prepare_for(program, c)?;
+        let next = self.follow_known(program, at, c, MOST_PARTS, meter)?;
+        if self.rows.size() < self.most_bytes / 2 {
+            self.rows.record(program, &self.table, at, c, next)?;
+        }
+        Ok(next)
     }
 
     /// Makes room for the cell of a character, if it is past ASCII.
@@ -632,6 +695,7 @@ impl Cache {
             own,
             rest,
             accepts: None,
+            numbers: None,
         })
     }
 
@@ -683,6 +747,7 @@ impl Cache {
         ensures { IsCleared self.old self.new }
     {
         self.table.clear();
+        self.rows.clear();
         self.bytes = 0;
         self.first = None;
     }
@@ -693,7 +758,8 @@ impl Cache {
         ensures { IsFalse result → length self.now.table.states.items < 60000 }
     {
         let states = self.table.states.len();
-        states >= MOST_STATES || states >= LEAST_STATES && self.bytes >= self.most_bytes
+        let bytes = self.bytes.saturating_add(self.rows.size());
+        states >= MOST_STATES || states >= LEAST_STATES && bytes >= self.most_bytes
     }
 
     /// Returns the places of the state whose cells begin at `at`.
@@ -723,6 +789,43 @@ impl Cache {
         accepts
     }
 
+    /// Writes the numbers of the patterns that match a text that ends in the state whose cells begin at
+    /// `at`, ascending. Takes a step of the program if nobody has asked for them, and otherwise only
+    /// copies them.
+    ///
+    /// # Errors
+    ///
+    /// Returns `AllocError` if allocation fails.
+    pub fn list_numbers(
+        &mut self,
+        program: &CompiledProgram,
+        at: usize,
+        numbers: &mut Vec<usize>,
+        meter: &mut Meter,
+    ) -> Result<(), AllocError>
+        requires cache { IsCacheOf program.now.0 self.old }
+        requires placed { IsStatePlace self.old.table.states.items at }
+        requires closed { IsClosed program.now.0 }
+        ensures cache { IsCacheOf program.now.0 self.new }
+        ensures start { self.new.start ≡ self.old.start }
+        ensures numbers { let places = places_at self.old.table.states.items (at / 128) in
+            IfOk result (λ _. AreNumbersOf program.now.0 places numbers.new.items) }
+    {
+        numbers.clear();
+        if let Some(known) = &self.table.state(at).numbers {
+            numbers.extend_from_slice(known)?;
+            return Ok(());
+        }
+        self.stepper
+            .list_ends(program, self.table.places(at), numbers, meter)?;
+        let known = Vec::from_slice(self.alloc, numbers)?;
+        self.bytes = self
+            .bytes
+            .saturating_add(known.len().saturating_mul(NUMBER_BYTES));
+        self.table.settle_numbers(at, known);
+        Ok(())
+    }
+
     /// Computes what `accepts` returns: by the own places of the state, and then by its rest.
     fn computed(&mut self, program: &CompiledProgram, at: usize, meter: &mut Meter) -> bool
         requires cache { IsCacheOf program.now.0 self.old }
@@ -730,6 +833,7 @@ impl Cache {
         ensures cache { IsCacheOf program.now.0 self.new }
         ensures start { self.new.start ≡ self.old.start }
         ensures table { self.new.table ≡ self.old.table }
+        ensures rows { self.new.rows ≡ self.old.rows }
         ensures first { self.new.first ≡ self.old.first }
         ensures accepts { let places = places_at self.old.table.states.items (at / 128) in
             IsTrue result ↔ AnyAmong program.now.0 places [] }
@@ -760,6 +864,7 @@ impl Cache {
         ensures cache { IsCacheOf program.now.0 self.new }
         ensures start { self.new.start ≡ self.old.start }
         ensures table { self.new.table ≡ self.old.table }
+        ensures rows { self.new.rows ≡ self.old.rows }
         ensures first { self.new.first ≡ self.old.first }
         ensures accepts { IsTrue result
             ↔ AnyAmong program.now.0 (own_at self.old.table.states.items (at / 128)) [] }
@@ -788,23 +893,26 @@ fn takes_all(program: &CompiledProgram, places: &[usize], meter: &mut Meter) -> 
     false
 }
 
-/// Returns the state without its rest.
+/// Returns the state without its rest and its numbers.
 fn whole(alloc: Global, state: State) -> State
     ensures places { result.places ≡ state.places }
     ensures rest { result.rest ≡ None }
     ensures accepts { result.accepts ≡ state.accepts }
+    ensures numbers { result.numbers ≡ None }
 {
     let State {
         places,
         own: _,
         rest: _,
         accepts,
+        numbers: _,
     } = state;
     State {
         places,
         own: Vec::new(alloc),
         rest: None,
         accepts,
+        numbers: None,
     }
 }
 

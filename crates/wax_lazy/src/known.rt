@@ -1,26 +1,20 @@
 //! Deciding many texts by one program.
-ghost use Rattle.std.specs.Prelude.{◌≡◌, ◌≤◌, ◌↔◌, IfOk, IsFalse, IsTrue, chars, length};
+ghost use Rattle.std.specs.Prelude.{◌≡◌, ◌≤◌, ◌↔◌, IfOk, IsFalse, IsTrue, chars, is_some, length};
+ghost use Rattle.wax_lazy.specs.Numbers.{AreNumbers};
 ghost use Rattle.wax_lazy.specs.Verdict.{IsVerdict};
 ghost use Rattle.wax_lazy.specs.inner.Cached.{IsKeptFor, IsKnownOf};
+ghost use Rattle.wax_program.specs.Closed.{IsClosed};
 ghost use Rattle.wax_program.specs.Last.{ReadsLast};
 ghost use Rattle.wax_program.specs.Machine.{Accepts};
 ghost use Rattle.wax_program.specs.Onward.{AreFlagsOf};
 
 use crate::cache::Cache;
-use crate::lead::{lead, verdict_at};
+use crate::lead::{lead, list_numbers, verdict_at};
 use crate::walk::walk;
 use std::alloc::{AllocError, Global};
 use wax_program::{Ahead, CompiledProgram, Meter, Onward, last_name, reads_last, run, run_last};
 use wax_query::diagnostics::NoMemory;
 use wax_query::query::Verdict;
-
-/// The least number of instructions of a program that isn't run over texts of many characters, as
-/// Chinese ones are. There a smaller program takes less time than filling a cell for each character.
-const LEAST_SIZE: usize = 64;
-
-/// The least first byte of a character of three bytes or more in UTF-8. Alphabets mostly have
-/// characters of one or two bytes; scripts with thousands of characters have longer ones.
-const LONG_CHARACTER: u8 = 0xE0;
 
 /// What is known of a program, and the states that earlier texts led to.
 #[derive(Drop)]
@@ -62,7 +56,8 @@ impl Known {
     #[inline]
     pub fn prepare(&mut self, alloc: Global, program: &CompiledProgram) -> Result<(), AllocError>
         requires { IsKnownOf program.now.0 self.old }
-        ensures { IsKnownOf program.now.0 self.new }
+        ensures known { IsKnownOf program.now.0 self.new }
+        ensures made { IfOk result (λ _. IsTrue (is_some self.new.cache)) }
     {
         if self.cache.is_none() {
             let cache = empty_cache(alloc, program, self.reads_last, self.most_bytes)?;
@@ -117,6 +112,38 @@ impl Known {
         self.cache = Some(cache);
         self.onward = Some(onward);
         Ok(verdict?)
+    }
+
+    /// Writes the numbers of the patterns that match the text, ascending.
+    ///
+    /// # Errors
+    ///
+    /// Returns `NoMemory` if allocation fails. Further texts can be decided even then.
+    pub fn list_numbers(
+        &mut self,
+        alloc: Global,
+        program: &CompiledProgram,
+        text: &str,
+        numbers: &mut Vec<usize>,
+    ) -> Result<(), NoMemory>
+        requires known { IsKnownOf program.now.0 self.old }
+        requires closed { IsClosed program.now.0 }
+        ensures known { IsKnownOf program.now.0 self.new }
+        ensures numbers { IfOk result (λ _. AreNumbers program.now.0 (chars text.now) numbers.new.items) }
+    {
+        self.prepare(alloc, program)?;
+        let text = if self.reads_last {
+            last_name(text)
+        } else {
+            text
+        };
+        match &mut self.cache {
+            Some(cache) => {
+                list_numbers(program, cache, text, numbers, &mut self.meter)?;
+                Ok(())
+            }
+            None => unreachable!(),
+        }
     }
 
     /// Takes out the places that lead on, or finds them.
@@ -174,8 +201,7 @@ fn empty_cache(
     Cache::new(alloc, program, 0, most_bytes)
 }
 
-/// Decides a text by the cache. Runs the program instead if the cache gave up, or if the program
-/// has fewer than [`LEAST_SIZE`] instructions and the text has long characters.
+/// Decides a text by the cache. Runs the program instead if the cache gave up.
 fn decide(
     alloc: Global,
     program: &CompiledProgram,
@@ -190,7 +216,7 @@ fn decide(
     ensures cache { IsKeptFor program.now.0 reads_last cache.new }
     ensures decides { IfOk result (λ b. IsTrue b ↔ Accepts program.now.0 0 (chars text.now)) }
 {
-    if cache.gives_up || program.size() < LEAST_SIZE && is_of_long_characters(text) {
+    if cache.gives_up {
         return decide_once(alloc, program, reads_last, text, meter);
     }
     if reads_last {
@@ -242,17 +268,4 @@ fn decide_once(
         return run_last(alloc, program, text, meter);
     }
     run(alloc, program, text, meter)
-}
-
-/// Returns whether the first character past ASCII, if there is one, has three bytes or more. The
-/// others are taken to be of the same script.
-fn is_of_long_characters(text: &str) -> bool {
-    if text.is_ascii() {
-        return false;
-    }
-    let mut bytes = text.bytes();
-    match bytes.find(|byte| !byte.is_ascii()) {
-        Some(byte) => byte >= LONG_CHARACTER,
-        None => false,
-    }
 }

@@ -2,6 +2,8 @@
 ghost use Rattle.std.specs.Prelude.{◌≡◌, ◌↔◌, ◌/◌, ℕ, List, IfOk, IfSome, IsTrue, chars};
 ghost use Rattle.wax_states.specs.States.{IsStatePlace, led_of};
 ghost use Rattle.wax_lazy.specs.inner.Cached.{AnyAhead, IsAheadVerdict, IsCacheOf, LeadsText};
+ghost use Rattle.wax_lazy.specs.Numbers.{AreNumbersFrom};
+ghost use Rattle.wax_program.specs.Closed.{IsClosed};
 ghost use Rattle.wax_program.specs.Onward.{AreFlagsOf};
 
 use crate::cache::Cache;
@@ -37,6 +39,35 @@ pub fn lead(
         }
     }
     Ok(Next::To(at))
+}
+
+/// Writes the numbers of the patterns that match the text, ascending.
+///
+/// # Errors
+///
+/// Returns `AllocError` if allocation fails.
+pub fn list_numbers(
+    program: &CompiledProgram,
+    cache: &mut Cache,
+    text: &str,
+    numbers: &mut Vec<usize>,
+    meter: &mut Meter,
+) -> Result<(), AllocError>
+    requires cache { IsCacheOf program.now.0 cache.old }
+    requires closed { IsClosed program.now.0 }
+    ensures cache { IsCacheOf program.now.0 cache.new }
+    ensures start { cache.new.start ≡ cache.old.start }
+    ensures numbers { IfOk result
+        (λ _. AreNumbersFrom program.now.0 cache.old.start (chars text.now) numbers.new.items) }
+{
+    match lead(program, cache, text, meter)? {
+        Next::To(at) => cache.list_numbers(program, at, numbers, meter),
+        Next::Nothing => {
+            numbers.clear();
+            Ok(())
+        }
+        Next::Everything => unreachable!(),
+    }
 }
 
 /// Returns both answers for a text that led there and goes on in the given way.

@@ -6,6 +6,9 @@ mod cache;
 mod known;
 mod lead;
 mod matcher;
+mod once;
+mod rows;
 mod walk;
 
 pub use matcher::{HasProgram, Matcher};
+pub use once::list_numbers;

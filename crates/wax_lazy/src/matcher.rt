@@ -1,6 +1,8 @@
 //! Matchers of many texts.
 ghost use Rattle.std.specs.Prelude.{◌≡◌, ◌↔◌, IfOk, IsTrue, List, chars};
+ghost use Rattle.wax_lazy.specs.Numbers.{AreNumbers};
 ghost use Rattle.wax_lazy.specs.Verdict.{IsVerdict};
+ghost use Rattle.wax_program.specs.Closed.{IsClosed};
 ghost use Rattle.wax_program.specs.Machine.{Accepts};
 ghost use Rattle.wax_program.specs.declared.instruction.Instruction.{Instruction};
 
@@ -143,8 +145,8 @@ impl<P: HasProgram> Matcher<P> {
     }
 
     /// Returns whether the program accepts the text. If the text leads only to states that are
-    /// known, this takes one load and one comparison for each ASCII character, and a look into a
-    /// hash table for any other.
+    /// known, this takes one load and one comparison for each byte; in a text past ASCII, a look into
+    /// a hash table for each character until its states were met often.
     ///
     /// # Errors
     ///
@@ -184,6 +186,23 @@ impl<P: HasProgram> Matcher<P> {
         ensures same { self.new ≡ self.old }
     {
         self.known.verdict(self.alloc, self.program.program(), text)
+    }
+
+    /// Writes the numbers of the patterns that match the text, ascending. The program has to be one
+    /// whose patterns have ends of their own. If the text leads only to states that are known, this
+    /// takes what `is_match` does, without its test, and copies the numbers; the list is allocated
+    /// anew only if it has too little room.
+    ///
+    /// # Errors
+    ///
+    /// Returns `NoMemory` if allocation fails. The matcher can be used for further texts even then.
+    pub fn list_numbers(&mut self, text: &str, numbers: &mut Vec<usize>) -> Result<(), NoMemory>
+        requires { IsClosed self.old }
+        ensures numbers { IfOk result (λ _. AreNumbers self.old (chars text.now) numbers.new.items) }
+        ensures same { self.new ≡ self.old }
+    {
+        self.known
+            .list_numbers(self.alloc, self.program.program(), text, numbers)
     }
 
     /// Returns whether the matcher runs its program for each text from now on, since the states

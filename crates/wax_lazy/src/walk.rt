@@ -1,14 +1,16 @@
 //! Following a text from state to state.
-ghost use Rattle.std.specs.Prelude.{◌≡◌, ◌↔◌, ◌/◌, ◌<◌, ◌≤◌, IfOk, IsTrue, chars, drop, length};
-ghost use Rattle.std.specs.Str.{IsAscii};
+ghost use Rattle.std.specs.Prelude.{◌≡◌, ◌↔◌, ◌/◌, ◌<◌, ◌≤◌, [], IfOk, IsTrue, chars, drop, length};
+ghost use Rattle.std.specs.Str.{IsAscii, IsUtf8};
 ghost use Rattle.wax_lazy.specs.inner.Cached.{DecidesLeft, IsCacheOf};
+ghost use Rattle.wax_lazy.specs.inner.Rows.{HasRow};
 ghost use Rattle.wax_program.specs.Machine.{Accepts};
 ghost use Rattle.wax_states.specs.States.{IsStatePlace, places_at};
 
 use crate::cache::Cache;
+use crate::rows::{FIRST_ROW, ROW};
 use std::alloc::AllocError;
 use wax_program::{CompiledProgram, Meter};
-use wax_states::Next;
+use wax_states::{ALL, DEAD, FIRST, Next};
 
 /// Returns whether the program, begun at the cache's place, accepts the text.
 ///
@@ -88,7 +90,7 @@ fn advance_in(
     cache.advance_far(program, at, text, index, meter)
 }
 
-/// Decides any text, character by character.
+/// Decides any text: by rows as far as they lead, and otherwise character by character.
 fn walk_chars(
     program: &CompiledProgram,
     cache: &mut Cache,
@@ -102,13 +104,115 @@ fn walk_chars(
         (λ b. IsTrue b ↔ Accepts program.now.0 cache.old.start (chars text.now)) }
 {
     let mut at = cache.begin(program, text.len())?;
-    let mut left = text.chars();
-    while let Some(c) = left.next() {
-        match cache.advance(program, at, c, meter)? {
+    let mut left = text;
+    while !left.is_empty() {
+        let (next, end) = advance_left(program, cache, at, left, meter)?;
+        match next {
             Next::To(next) => at = next,
             Next::Nothing => return Ok(false),
             Next::Everything => return Ok(true),
         }
+        left = &left[end..];
     }
     Ok(cache.accepts(program, at, meter))
+}
+
+/// Follows characters of a text: those that rows know, or else one. Returns where they lead, and up
+/// to which byte.
+#[inline(always)]
+fn advance_left(
+    program: &CompiledProgram,
+    cache: &mut Cache,
+    at: usize,
+    left: &str,
+    meter: &mut Meter,
+) -> Result<(Next, usize), AllocError>
+    requires cache { IsCacheOf program.now.0 cache.old }
+    requires placed { IsStatePlace cache.old.table.states.items at }
+    requires some { 0 < length left.now }
+    ensures cache { IsCacheOf program.now.0 cache.new }
+    ensures start { cache.new.start ≡ cache.old.start }
+    ensures further { IfOk result (λ r. (0 < r.1) × (r.1 ≤ length left.now)) }
+    ensures utf8 { IfOk result (λ r. IsUtf8 (drop r.1 left.now)) }
+    ensures decides { let places = places_at cache.old.table.states.items (at / 128) in
+        IfOk result (λ r. DecidesLeft program.now.0 cache.new.table.states.items places
+        (chars left.now) (chars (drop r.1 left.now)) r.0) }
+{
+    if let Some(row) = cache.rows.find(at) {
+        let (next, end) = follow_rows(program, cache, at, row, left.as_bytes());
+        if end > 0 {
+            return Ok((next, end));
+        }
+    }
+    advance_first(program, cache, at, left, meter)
+}
+
+/// Follows the first character of a text. Returns where it leads, and its length in bytes.
+#[inline(never)]
+fn advance_first(
+    program: &CompiledProgram,
+    cache: &mut Cache,
+    at: usize,
+    left: &str,
+    meter: &mut Meter,
+) -> Result<(Next, usize), AllocError>
+    requires cache { IsCacheOf program.now.0 cache.old }
+    requires placed { IsStatePlace cache.old.table.states.items at }
+    requires some { 0 < length left.now }
+    ensures cache { IsCacheOf program.now.0 cache.new }
+    ensures start { cache.new.start ≡ cache.old.start }
+    ensures further { IfOk result (λ r. (0 < r.1) × (r.1 ≤ length left.now)) }
+    ensures utf8 { IfOk result (λ r. IsUtf8 (drop r.1 left.now)) }
+    ensures decides { let places = places_at cache.old.table.states.items (at / 128) in
+        IfOk result (λ r. DecidesLeft program.now.0 cache.new.table.states.items places
+        (chars left.now) (chars (drop r.1 left.now)) r.0) }
+{
+    let mut all = left.chars();
+    match all.next() {
+        Some(c) => {
+            let next = cache.advance_counted(program, at, c, meter)?;
+            Ok((next, c.len_utf8()))
+        }
+        None => Ok((Next::To(at), 0)),
+    }
+}
+
+/// Follows a text from a row of the state whose cells begin at `at`, as far as cells are filled.
+/// Returns where that leads, and up to which byte, where a character ends. Takes one load and one
+/// comparison for each byte.
+#[inline(always)]
+fn follow_rows(
+    _program: &CompiledProgram,
+    cache: &Cache,
+    _at: usize,
+    row: usize,
+    text: &[u8],
+) -> (Next, usize)
+    requires cache { IsCacheOf _program.now.0 cache.now }
+    requires row { HasRow cache.now.rows.keys.items row _at [] }
+    requires utf8 { IsUtf8 text.now }
+    ensures within { result.1 ≤ length text.now }
+    ensures utf8 { IsUtf8 (drop result.1 text.now) }
+    ensures decides { let places = places_at cache.now.table.states.items (_at / 128) in
+        DecidesLeft _program.now.0 cache.now.table.states.items places
+        (chars text.now) (chars (drop result.1 text.now)) result.0 }
+{
+    let mut here = row + FIRST_ROW;
+    let mut index = 0;
+    while index < text.len() {
+        let cell = cache.rows.cells[(here - FIRST_ROW) * ROW + usize::from(text[index])];
+        if cell < FIRST {
+            if cell == DEAD {
+                return (Next::Nothing, text.len());
+            }
+            if cell == ALL {
+                return (Next::Everything, text.len());
+            }
+            break;
+        }
+        here = usize::from(cell);
+        index += 1;
+    }
+    let key = cache.rows.keys[here - FIRST_ROW];
+    (Next::To(key.at), index - key.begun.len())
 }

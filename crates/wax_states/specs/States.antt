@@ -1,6 +1,7 @@
 -- States, which are places that were reached, and where characters lead from them.
 use Rattle.std.specs.Prelude.{◌≡◌, ℕ, ◌+◌, ◌/◌, ◌%◌, ◌<◌, ◌⊎◌, ◌↔◌, Bool, List, [], ◌∷◌, Option, Some}
 use Rattle.std.specs.Prelude.{None, length, slice_get, slice_set}
+use Rattle.std.specs.Global.{Vec}
 use Rattle.wax_states.specs.declared.table.Next.{Next}
 use Rattle.wax_states.specs.declared.table.Next.TheVariants.{To, Nothing, Everything}
 use Rattle.wax_states.specs.declared.table.State.{State}
@@ -27,11 +28,15 @@ places_led states None = []
 abbrev pub LeadOn : List Instruction → ℕ → List ℕ → List ℕ → Type 0
 LeadOn code c places others = (s : List ℕ) → AnyAmong code places (c ∷ s) ↔ AnyAmong code others s
 
--- the state with this number says now whether a text that ends there is accepted
-abbrev pub IsSettled : List State → List State → ℕ → Bool → Type 0
-IsSettled old new t b =
-    (s : State) × (slice_get old t ≡ Some s)
-    × (new ≡ slice_set old t (record { places = s.places; own = s.own; rest = s.rest; accepts = Some b }))
+-- the same state, with what is said of the texts that end there
+abbrev pub with_said : State → Option Bool → Option (Vec ℕ) → State
+with_said s accepts numbers =
+    record { places = s.places; own = s.own; rest = s.rest; accepts = accepts; numbers = numbers }
+
+-- the state with this number says now what these functions of it say of the texts that end there
+abbrev pub IsSettled : List State → List State → ℕ → (State → Option Bool) → (State → Option (Vec ℕ)) → Type 0
+IsSettled old new t accepts numbers = (s : State) × (slice_get old t ≡ Some s)
+    × (new ≡ slice_set old t (with_said s (accepts s) (numbers s)))
 
 -- a state's cells begin at the place
 pub record IsStatePlace (states : List State) (at : ℕ) : Type 0 where

@@ -108,6 +108,9 @@ pub struct State {
     pub rest: Option<usize>,
     /// True if a text that ends here is accepted, and `None` if no text has ended here.
     pub accepts: Option<bool>,
+    /// The numbers of the patterns that match a text that ends here, ascending, and `None` if nobody
+    /// has asked for them.
+    pub numbers: Option<Vec<usize>>,
 }
 
 /// All states by their numbers, with their cells.
@@ -177,11 +180,24 @@ impl Table {
     /// Remembers whether a text that ends in the state whose cells begin at `at` is accepted.
     pub fn settle(&mut self, at: usize, accepts: bool)
         requires { at / 128 < length self.old.states.items }
-        ensures states { IsSettled self.old.states.items self.new.states.items (at / 128) accepts }
+        ensures states { IsSettled self.old.states.items self.new.states.items (at / 128)
+            (λ _. Some accepts) (λ s. s.numbers) }
         ensures cells { self.new.cells ≡ self.old.cells }
         ensures wide { self.new.wide_cells ≡ self.old.wide_cells }
     {
         self.states[at / COLUMNS].accepts = Some(accepts);
+    }
+
+    /// Remembers the numbers of the patterns that match a text that ends in the state whose cells begin
+    /// at `at`.
+    pub fn settle_numbers(&mut self, at: usize, numbers: Vec<usize>)
+        requires { at / 128 < length self.old.states.items }
+        ensures states { IsSettled self.old.states.items self.new.states.items (at / 128)
+            (λ s. s.accepts) (λ _. Some numbers) }
+        ensures cells { self.new.cells ≡ self.old.cells }
+        ensures wide { self.new.wide_cells ≡ self.old.wide_cells }
+    {
+        self.states[at / COLUMNS].numbers = Some(numbers);
     }
 
     /// Finds the number of a state by its places. May return `None` for a state that the hash table

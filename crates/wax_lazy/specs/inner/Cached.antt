@@ -4,6 +4,7 @@ use Rattle.std.specs.Prelude.{Contains, IfSome, IsFalse, IsTrue, Option, length,
 use Rattle.wax_lazy.specs.declared.cache.Cache.{Cache}
 use Rattle.wax_lazy.specs.declared.cache.Lone.{Lone}
 use Rattle.wax_lazy.specs.declared.known.Known.{Known}
+use Rattle.wax_lazy.specs.inner.Rows.{AreRows}
 use Rattle.wax_lazy.specs.inner.Table.{AreWideCells, BeginsTexts, IsRestState}
 use Rattle.wax_lazy.specs.inner.Table.{IsJoinOf, IsTable, KeepsStates, own_at}
 use Rattle.wax_program.specs.declared.instruction.Instruction.{Instruction}
@@ -25,6 +26,7 @@ pub record IsCacheOf (code : List Instruction) (c : Cache) : Type 0 where
   pub start : c.start ≤ length code
   pub table : IsTable code c.table.states.items c.table.cells.items
   pub wide : AreWideCells code c.table.states.items c.table.wide_cells.items
+  pub rows : AreRows code c.table.states.items c.rows.keys.items c.rows.cells.items
   pub first : IfSome c.first (BeginsTexts code c.table.states.items c.start)
 
 -- the lists of places that a step wrote are as they were
@@ -45,6 +47,8 @@ pub record IsCleared (old new : Cache) : Type 0 where
   pub states : new.table.states.items ≡ []
   pub cells : new.table.cells.items ≡ []
   pub wide : AreEmpty new.table.wide_cells.items
+  pub row_keys : new.rows.keys.items ≡ []
+  pub row_cells : new.rows.cells.items ≡ []
   pub first : new.first ≡ None
 
 -- one state is left, without its rest and with empty cells
@@ -54,9 +58,12 @@ pub record IsRestarted (old new : Cache) (s : State) : Type 0 where
   pub places : left.places ≡ s.places
   pub rest : left.rest ≡ None
   pub accepts : left.accepts ≡ s.accepts
+  pub numbers : left.numbers ≡ None
   pub states : new.table.states.items ≡ left ∷ []
   pub cells : new.table.cells.items ≡ replicate 128 0
   pub wide : AreEmpty new.table.wide_cells.items
+  pub row_keys : new.rows.keys.items ≡ []
+  pub row_cells : new.rows.cells.items ≡ []
   pub first : new.first ≡ None
 
 -- the state was added behind the others, with empty cells, under this number
@@ -66,6 +73,7 @@ pub record IsAdded (old new : Cache) (s : State) (number : ℕ) : Type 0 where
   pub states : new.table.states.items ≡ old.table.states.items ++ s ∷ []
   pub cells : new.table.cells.items ≡ old.table.cells.items ++ replicate 128 0
   pub wide : new.table.wide_cells ≡ old.table.wide_cells
+  pub rows : new.rows ≡ old.rows
   pub first : new.first ≡ old.first
 
 -- all states are kept, and there are at most so many more

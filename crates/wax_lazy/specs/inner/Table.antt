@@ -4,6 +4,8 @@ use Rattle.std.specs.Prelude.{IsTrue, length, slice_get, slice_index}
 use Rattle.wax_program.specs.declared.instruction.Instruction.{Instruction}
 use Rattle.wax_program.specs.Machine.{Accepts}
 use Rattle.wax_program.specs.Threads.{AnyAmong}
+use Rattle.std.specs.List.Sorted.{IsStrictlyIncreasing}
+use Rattle.wax_stepper.specs.Reached.{AreEndsMarked}
 use Rattle.wax_states.specs.declared.table.State.{State}
 use Rattle.wax_states.specs.declared.table.WideCell.{WideCell}
 use Rattle.wax_states.specs.States.{IsDead, IsStatePlace, IsTransition, LeadsTo, places_at}
@@ -33,10 +35,15 @@ pub record IsRestState (code : List Instruction) (states : List State) (places o
   pub placed : IsStatePlace states at
   pub union : IsJoinOf code places (places_at states (at / 128)) others
 
--- where the state says whether the empty text is accepted, it says so rightly; and if it has a rest, its
--- places are those of the rest and its own
+-- these are the numbers whose marks are accepted from one of the places on, ascending
+abbrev pub AreNumbersOf : List Instruction → List ℕ → List ℕ → Type 0
+AreNumbersOf code places numbers = AreEndsMarked code places numbers × IsStrictlyIncreasing numbers
+
+-- what the state says of texts that end there is right; and if it has a rest, its places are those of the
+-- rest and its own
 pub record IsState (code : List Instruction) (states : List State) (s : State) : Type 0 where
   pub ends : IfSome s.accepts (λ b. IsTrue b ↔ AnyAmong code s.places.items [])
+  pub numbers : IfSome s.numbers (λ v. AreNumbersOf code s.places.items v.items)
   pub rest : IfSome s.rest (IsRestState code states s.places.items s.own.items)
 
 -- where the character leads from the places

@@ -1,9 +1,10 @@
-use Rattle.std.proofs.Common.{◌/◌, ◌≤◌, ℕ, ap, length, refl, sym, ◌∙◌, subst, arith, inl, inr}
+use Rattle.std.proofs.Common.{◌/◌, ◌≤◌, ℕ, ap, length, refl, sym, ◌∙◌, subst, arith, inl, inr, IfOk}
+use Rattle.std.proofs.lemmas.Result.{IfOk-weaker}
 use Rattle.wax_lazy.specs.inner.Cached.{AreStepped}
 use Rattle.wax_lazy.specs.inner.Table.{KeepsStates, Leads, own_at}
 use Rattle.wax_states.specs.States.{IsDead, IsTransition, LeadOn, LeadsNext, TakesAll, cell_of_next, places_at, places_led}
 use Rattle.wax_lazy.proofs.Caches.{cache_filled}
-use Rattle.wax_lazy.proofs.Tables.{cell_says, leads_as_part, leads_known, leads_later, led_leads, led_parted, next_within, part_takes_all, parts_lead, placed_keeps, rest_at, rest_later}
+use Rattle.wax_lazy.proofs.Tables.{cell_says, keeps_more, leads_as_part, leads_known, leads_later, led_leads, led_parted, next_within, part_takes_all, parts_lead, placed_keeps, rest_at, rest_later}
 use Rattle.wax_lazy.proofs.cache.Cache.+follow.Goals as goal
 
 pub follow-follow_known-requires : goal.follow-follow_known-requires
@@ -12,7 +13,7 @@ follow-follow_known-requires t c =
     let held = rest_at c.args.program.now.0 c.args.self.now.table.states.items c.args.self.now.table.cells.items c.args.at c.state.result.now c.in-Some.rest was.table c.state.ensures c.in-Some.is in (
       omega (arith, c.decreases, c.if-depth-eq0.false),
       (
-        record { size = was.size; start = was.start; table = was.table; wide = was.wide; first = was.first },
+        record { size = was.size; start = was.start; table = was.table; wide = was.wide; rows = was.rows; first = was.first },
         (held.placed, omega (arith, c.requires.few)),
       ),
     )
@@ -31,7 +32,7 @@ follow-returns-in-Everything-clause-cache t c =
     let all = part_takes_all code c.args.c (places_at old (c.args.at / 128)) (places_at new (c.in-Some.rest / 128)) (own_at new (c.args.at / 128)) later.union rest in
     let here = subst (λ z. TakesAll code z c.args.c) (sym (keeps (c.args.at / 128) c.requires.placed.kept).1) all in
     cache_filled code c.follow_known.new.self _ c.args.at c.args.c 2 now (placed_keeps old new keeps c.args.at c.requires.placed) (inr (inr (inl (refl, here))))
-    now.size refl refl c.write.ensures.states c.write.ensures.filled c.write.ensures.unfilled c.write.ensures.wide
+    now.size refl refl c.write.ensures.states c.write.ensures.filled c.write.ensures.unfilled c.write.ensures.wide refl
 
 pub follow-returns-in-Everything-clause-leads : goal.follow-returns-in-Everything-clause-leads
 follow-returns-in-Everything-clause-leads t c =
@@ -75,7 +76,7 @@ follow-returns-then-not-leads t c =
     let written = subst (IsTransition code new (places_at new (c.args.at / 128)) c.args.c) (sym c.cell_of.ensures) says in
     record {
       cache = cache_filled code c.step_own.new.self _ c.args.at c.args.c c.cell_of.result now (placed_keeps old new keeps c.args.at c.requires.placed) written
-          now.size refl refl c.write-then-not-leads.ensures.states c.write-then-not-leads.ensures.filled c.write-then-not-leads.ensures.unfilled c.write-then-not-leads.ensures.wide;
+          now.size refl refl c.write-then-not-leads.ensures.states c.write-then-not-leads.ensures.filled c.write-then-not-leads.ensures.unfilled c.write-then-not-leads.ensures.wide refl;
       start = c.step_own.ensures.start ∙ c.follow_known.ensures.start;
       leads = rw c.write-then-not-leads.ensures.states leads;
       grows = record {
@@ -109,4 +110,21 @@ follow-enter-requires t c =
       few = omega (arith, ap length same, c.in_ok-next.ensures.grows.few, c.requires.few, c.if-depth-eq0.false);
       next = subst (λ z. LeadOn code c.args.c z c.step_own.new.self.reached.items) (sym (keeps (c.args.at / 128) c.requires.placed.kept).1) next;
       led = led_parted code new part c.args.c own c.step_own.new.self.reached.items c.step_own.new.self.others.items led by stepped.reached stepped.others;
+    }
+
+pub follow-returns : goal.follow-returns
+follow-returns t c =
+    let code = c.args.program.now.0 in
+    let old = c.args.self.now.table.states.items in
+    let new = c.enter.new.self.table.states.items in
+    let same = ap (λ z. z.states.items) c.step_own.ensures.table in
+    let keeps = subst (KeepsStates old) (sym same) c.in_ok-next.ensures.grows.kept in
+    record {
+      cache = c.enter.ensures.cache;
+      start = c.enter.ensures.start ∙ c.step_own.ensures.start ∙ c.follow_known.ensures.start;
+      leads = subst (λ z. IfOk c.enter.result (LeadsNext code new z c.args.c)) (keeps (c.args.at / 128) c.requires.placed.kept).1 c.enter.ensures.leads;
+      grows = IfOk-weaker c.enter.result _ _ (λ _ more. record {
+        kept = keeps_more old c.step_own.new.self.table.states.items new keeps more.kept;
+        few = omega (arith, ap length same, c.in_ok-next.ensures.grows.few, more.few, c.if-depth-eq0.false);
+      }) c.enter.ensures.grows;
     }

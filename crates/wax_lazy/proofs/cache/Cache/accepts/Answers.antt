@@ -1,6 +1,6 @@
-use Rattle.std.proofs.Common.{◌/◌, ◌↔◌, [], IfSome, IsTrue, sym, ◌∙◌, ap, subst}
+use Rattle.std.proofs.Common.{◌/◌, ◌↔◌, [], IfSome, IsTrue, Some, sym, ◌∙◌, ap, subst}
 use Rattle.wax_states.specs.States.{IsSettled, places_in}
-use Rattle.wax_lazy.proofs.Caches.{cache_settled}
+use Rattle.wax_lazy.proofs.Caches.{cache_accepts}
 use Rattle.wax_program.specs.Threads.{AnyAmong}
 use Rattle.wax_lazy.proofs.cache.Cache.accepts.Goals as goal
 
@@ -15,12 +15,13 @@ pub returns-clause-cache : goal.returns-clause-cache
 returns-clause-cache c =
     let code = c.args.program.now.0 in
     let same = c.computed-accepts.ensures.table in
-    let settled = subst (λ z. IsSettled z.states.items c.settle.new.self.states.items (c.args.at / 128) c.computed-accepts.result) same c.settle.ensures.states in
-    cache_settled code c.args.self.now
+    let settled = subst (λ z. IsSettled z.states.items c.settle.new.self.states.items (c.args.at / 128) (λ _. Some c.computed-accepts.result) (λ s. s.numbers)) same c.settle.ensures.states in
+    cache_accepts code c.args.self.now
     (record {
       alloc = c.computed-accepts.new.self.alloc;
       stepper = c.computed-accepts.new.self.stepper;
       table = c.settle.new.self;
+      rows = c.computed-accepts.new.self.rows;
       reached = c.computed-accepts.new.self.reached;
       others = c.computed-accepts.new.self.others;
       loops = c.computed-accepts.new.self.loops;
@@ -33,4 +34,4 @@ returns-clause-cache c =
       gives_up = c.computed-accepts.new.self.gives_up;
     })
     (c.args.at / 128) c.computed-accepts.result c.requires.cache settled c.computed-accepts.ensures.accepts
-    c.computed-accepts.ensures.cache.size c.computed-accepts.ensures.start c.computed-accepts.ensures.first (c.settle.ensures.cells ∙ ap (λ z. z.cells) same) (c.settle.ensures.wide ∙ ap (λ z. z.wide_cells) same)
+    c.computed-accepts.ensures.cache.size c.computed-accepts.ensures.start c.computed-accepts.ensures.first (c.settle.ensures.cells ∙ ap (λ z. z.cells) same) (c.settle.ensures.wide ∙ ap (λ z. z.wide_cells) same) c.computed-accepts.ensures.rows

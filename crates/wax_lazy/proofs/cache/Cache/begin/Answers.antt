@@ -9,8 +9,8 @@ pub intern-requires-clause-cache : goal.intern-requires-clause-cache
 intern-requires-clause-cache c =
     let code = c.args.program.now.0 in
     let cleared = cache_cleared code _ c.clear.new.self
-    (record { size = c.requires.size; start = c.requires.start; table = c.requires.table; wide = c.requires.wide; first = c.requires.first }) c.clear.ensures in
-    record { size = cleared.size; start = cleared.start; table = cleared.table; wide = cleared.wide; first = cleared.first }
+    (record { size = c.requires.size; start = c.requires.start; table = c.requires.table; wide = c.requires.wide; rows = c.requires.rows; first = c.requires.first }) c.clear.ensures in
+    record { size = cleared.size; start = cleared.start; table = cleared.table; wide = cleared.wide; rows = cleared.rows; first = cleared.first }
 
 pub returns-clause-cache : goal.returns-clause-cache
 returns-clause-cache c =
@@ -25,6 +25,7 @@ returns-clause-cache c =
       start = held.start;
       table = held.table;
       wide = held.wide;
+      rows = held.rows;
       first = subst (λ n. BeginsTexts code states n (c.in_ok-number.number * 128)) (sym made.start) first;
     }
 

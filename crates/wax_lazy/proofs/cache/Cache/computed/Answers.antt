@@ -33,6 +33,7 @@ loop-part-preserved c =
       cache = c.own_accept.ensures.cache;
       start = c.own_accept.ensures.start ∙ held.start;
       table = now ∙ held.table;
+      rows = c.own_accept.ensures.rows ∙ held.rows;
       first = c.own_accept.ensures.first ∙ held.first;
       placed = subst (λ z. IsStatePlace z.states.items rest) (sym now) parted.placed;
       same = (

@@ -9,6 +9,7 @@ invariant-loop-part l = record {
   cache : IsCacheOf l.program.0 l.self;
   start : l.self.start ≡ l.fn.self.start;
   table : l.self.table ≡ l.fn.self.table;
+  rows : l.self.rows ≡ l.fn.self.rows;
   first : l.self.first ≡ l.fn.self.first;
   placed : IsStatePlace l.self.table.states.items l.here;
   same : AnyAmong l.program.0 (places_at l.fn.self.table.states.items (l.at / 128)) [] ↔ AnyAmong l.program.0 (places_at l.self.table.states.items (l.here / 128)) [];

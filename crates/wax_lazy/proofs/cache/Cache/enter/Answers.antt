@@ -14,7 +14,7 @@ returns-then-is_empty-clause-cache c =
     let none : c.args.self.now.reached.items ≡ [] = nil_from_length c.args.self.now.reached.items (omega (arith, zero, c.args.self.now.reached.ok.0)) in
     let dead = dead_of_none code c.args.c _ _ c.requires.next none in
     cache_filled code c.args.self.now _ c.args.at c.args.c 1 held c.requires.placed (inr (inl (refl, dead)))
-    held.size refl refl c.write.ensures.states c.write.ensures.filled c.write.ensures.unfilled c.write.ensures.wide
+    held.size refl refl c.write.ensures.states c.write.ensures.filled c.write.ensures.unfilled c.write.ensures.wide refl
 
 pub returns-then-is_empty-clause-leads : goal.returns-then-is_empty-clause-leads
 returns-then-is_empty-clause-leads c =
@@ -28,7 +28,7 @@ returns-then-takes_all-clause-cache c =
     let held = c.requires.cache in
     let all = takes_all code c.args.c _ _ c.requires.next (subst (λ z. (s : List ℕ) → AnyAmong c.args.program.now.0 z s) c.deref.ensures.value (c.takes_all.ensures.all c.if-takes_all.true)) in
     cache_filled code c.args.self.now _ c.args.at c.args.c 2 held c.requires.placed (inr (inr (inl (refl, all))))
-    held.size refl refl c.write-then-takes_all.ensures.states c.write-then-takes_all.ensures.filled c.write-then-takes_all.ensures.unfilled c.write-then-takes_all.ensures.wide
+    held.size refl refl c.write-then-takes_all.ensures.states c.write-then-takes_all.ensures.filled c.write-then-takes_all.ensures.unfilled c.write-then-takes_all.ensures.wide refl
 
 pub returns-then-takes_all-clause-leads : goal.returns-then-takes_all-clause-leads
 returns-then-takes_all-clause-leads c =
@@ -48,7 +48,7 @@ returns-clause-cache c =
     let whole : number + 3 ≡ number * 128 / 128 + 3 = omega arith in
     let says : IsTransition code new (places_at new (c.args.at / 128)) c.args.c (number + 3) = inr (inr (inr (number * 128, whole, leads))) in
     cache_filled code c.intern_parted.new.self _ c.args.at c.args.c (number + 3) now placed says
-    now.size refl refl c.write-2.ensures.states c.write-2.ensures.filled c.write-2.ensures.unfilled c.write-2.ensures.wide
+    now.size refl refl c.write-2.ensures.states c.write-2.ensures.filled c.write-2.ensures.unfilled c.write-2.ensures.wide refl
 
 pub returns-clause-leads : goal.returns-clause-leads
 returns-clause-leads c =

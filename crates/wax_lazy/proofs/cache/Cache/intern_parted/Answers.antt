@@ -1,6 +1,8 @@
-use Rattle.std.proofs.Common.{◌∙◌, ◌*◌, ◌/◌, ℕ, ap, sym, subst}
+use Rattle.std.proofs.Common.{◌∙◌, ◌*◌, ◌/◌, ℕ, ap, refl, sym, subst}
+use Rattle.std.proofs.lemmas.Result.{IfOk-weaker}
 use Rattle.wax_lazy.specs.inner.Table.{IsJoinOf}
 use Rattle.wax_states.specs.States.{places_at}
+use Rattle.wax_lazy.proofs.Caches.{interned_after}
 use Rattle.wax_lazy.proofs.Tables.{at_number, placed_number, union_of_parts}
 use Rattle.wax_program.specs.Threads.{AreParts}
 use Rattle.wax_lazy.proofs.cache.Cache.intern_parted.Goals as goal
@@ -23,3 +25,12 @@ intern-requires-2-clause-rest c =
           (subst (λ z. IsJoinOf code c.args.self.now.reached.items z c.intern-loops.new.self.others.items) (sym here)
           (subst (λ z. IsJoinOf code c.args.self.now.reached.items c.part_loops.new.loops.items z) (sym others) union));
     }
+
+pub returns-clause-interned : goal.returns-clause-interned
+returns-clause-interned c =
+    let lists = c.intern-loops.ensures.lists in
+    let all = ap (λ z. z.items) (c.swap-2.ensures.x_after ∙ lists.loops ∙ c.swap.ensures.y_after) in
+    let first = c.in_ok-rest.ensures.interned.grows in
+    IfOk-weaker c.intern-2.result _ _
+    (λ t made. interned_after c.args.self.now _ c.intern-loops.new.self _ c.intern-2.new.self c.args.self.now.reached.items t first refl refl made all)
+    c.intern-2.ensures.interned

@@ -4,4 +4,4 @@ use Rattle.wax_lazy.proofs.cache.Cache.prepare_for.Goals as goal
 
 pub returns-clause-cache : goal.returns-clause-cache
 returns-clause-cache c =
-    cache_prepared c.args._program.now.0 c.args.self.now _ c.requires refl refl refl c.prepare_wide.ensures.states c.prepare_wide.ensures.cells c.prepare_wide.ensures.wide
+    cache_prepared c.args._program.now.0 c.args.self.now _ c.requires refl refl refl c.prepare_wide.ensures.states c.prepare_wide.ensures.cells c.prepare_wide.ensures.wide refl
