@@ -1,4 +1,4 @@
-pub mod Sets
 pub mod Patterns
 pub mod Matchers
+pub mod Numbers
 pub mod Walks

@@ -1,14 +1,15 @@
 -- What the alternation of the patterns' trees means, and why there is none.
-use Rattle.std.proofs.Common.{◌≡◌, ◌↔◌, ◌<◌, ◌≤◌, ◌++◌, ◌∷◌, ℕ, false, List, [], inl, inr, sym, ap, ◌∙◌, subst}
+use Rattle.std.proofs.Common.{◌≡◌, ◌↔◌, ◌<◌, ◌≤◌, ◌++◌, ◌∷◌, ℕ, zero, suc, false, List, [], inl, inr, sym, ap, ◌∙◌, subst}
 use Rattle.std.proofs.lemmas.List.{append_assoc}
 use Rattle.wax_token.specs.Cost.{program_length}
+use Rattle.wax_match.specs.Numbered.{MeansNumbered}
 use Rattle.wax_token.specs.Meaning.{Means, MeansSome}
 use Rattle.wax_token.specs.Reads.{Reads, Span}
 use Rattle.wax_token.specs.Syntax.{Tree, alternation}
 use Rattle.wax_token.specs.Words.{trees}
-use Rattle.wax_set.specs.Sets.{MeansText}
+use Rattle.wax_set.specs.Sets.{MeansAt, MeansText}
 use Rattle.wax_error.specs.Expressions.{Spells}
-use Rattle.wax_set.specs.Patterns.{AreOversized, IsAnyOf, IsFirstRefused, IsOnly, NoSet, OneMeans, SpellEach}
+use Rattle.wax_set.specs.Patterns.{AreOversized, IsAnyOf, IsFirstRefused, IsOnly, NoSet, NumberMeans, OneMeans, SpellEach}
 use Rattle.wax_error.specs.declared.build_error.BuildError.{BuildError}
 use Rattle.wax_error.specs.declared.build_error.BuildError.TheVariants.{Parse, Rule, Compile, Memory}
 
@@ -31,6 +32,23 @@ module _ {P : Type 0} (S : P → Tree Span → Type 0) where
     | inr k ↦ inr (from_one ps ts h.1 s k)
   ]
 
+  -- so does the branch with an index
+  to_number : (ps : List P) (ts : List (Tree Span)) → SpellEach S ps ts → (k : ℕ) (s : List ℕ) →
+      MeansNumbered (trees ts) k s → NumberMeans S ps k s
+  to_number [] [] h k s m = m
+  to_number [] (t ∷ ts) h k s m = absurd h
+  to_number (p ∷ ps) [] h k s m = absurd h
+  to_number (p ∷ ps) (t ∷ ts) h zero s m = (t, h.0.0, m)
+  to_number (p ∷ ps) (t ∷ ts) h (suc k) s m = to_number ps ts h.1 k s m
+
+  from_number : (ps : List P) (ts : List (Tree Span)) → SpellEach S ps ts → (k : ℕ) (s : List ℕ) →
+      NumberMeans S ps k s → MeansNumbered (trees ts) k s
+  from_number [] [] h k s m = m
+  from_number [] (t ∷ ts) h k s m = absurd h
+  from_number (p ∷ ps) [] h k s m = absurd h
+  from_number (p ∷ ps) (t ∷ ts) h zero s (u, spells, m) = subst (λ u. Means u false false s) (h.0.1 u spells) m
+  from_number (p ∷ ps) (t ∷ ts) h (suc k) s m = from_number ps ts h.1 k s m
+
   pub is_any_of : (ps : List P) (ts : List (Tree Span)) (t : Tree Span) → SpellEach S ps ts →
       t ≡ alternation (0, 0) (trees ts) → program_length t ≤ 1048576 → IsAnyOf S ps t
   is_any_of ps ts t h e fits = record {
@@ -39,6 +57,7 @@ module _ {P : Type 0} (S : P → Tree Span → Type 0) where
     tree = e;
     fits = fits;
     means = λ s. subst (λ u. MeansText u s ↔ OneMeans S ps s) (sym e) (to_one ps ts h s, from_one ps ts h s);
+    numbers = λ k s. subst (λ u. MeansAt u k s ↔ NumberMeans S ps k s) (sym e) (to_number ps ts h k s, from_number ps ts h k s);
   }
 
   pub are_oversized : (ps : List P) (ts : List (Tree Span)) (t : Tree Span) → SpellEach S ps ts →

@@ -1,11 +1,11 @@
 -- What patterns stand for, and how the building of a set of them ends.
-use Rattle.std.specs.Prelude.{◌≡◌, ◌↔◌, ◌<◌, ◌≤◌, ◌++◌, ◌∷◌, ◌⊎◌, ℕ, List, [], Result, Ok, Err, ⊤}
+use Rattle.std.specs.Prelude.{◌≡◌, ◌↔◌, ◌<◌, ◌≤◌, ◌++◌, ◌∷◌, ◌⊎◌, ℕ, zero, suc, List, [], Result, Ok, Err, ⊤}
 use Rattle.std.specs.List.{AllZip}
 use Rattle.wax_token.specs.Cost.{program_length}
 use Rattle.wax_token.specs.Reads.{Span}
 use Rattle.wax_token.specs.Syntax.{Tree, alternation}
 use Rattle.wax_token.specs.Words.{trees}
-use Rattle.wax_set.specs.Sets.{MeansText}
+use Rattle.wax_set.specs.Sets.{MeansAt, MeansText}
 use Rattle.wax_error.specs.declared.build_error.BuildError.{BuildError}
 use Rattle.wax_error.specs.declared.build_error.BuildError.TheVariants.{Parse, Rule, Compile, Memory}
 
@@ -41,6 +41,12 @@ OneMeans SpellsTree [] s = ⊥
 OneMeans SpellsTree (pattern ∷ patterns) s =
     ((t : Tree Span) × SpellsTree pattern t × MeansText t s) ⊎ OneMeans SpellsTree patterns s
 
+-- the pattern with this index spells a tree that means the text
+abbrev pub NumberMeans : {P : Type 0} → (P → Tree Span → Type 0) → List P → ℕ → List ℕ → Type 0
+NumberMeans SpellsTree [] number s = ⊥
+NumberMeans SpellsTree (pattern ∷ patterns) zero s = (t : Tree Span) × SpellsTree pattern t × MeansText t s
+NumberMeans SpellsTree (pattern ∷ patterns) (suc number) s = NumberMeans SpellsTree patterns number s
+
 -- The set of the patterns: the alternation of their trees, which fits.
 pub record IsAnyOf {P : Type 0} (SpellsTree : P → Tree Span → Type 0) (patterns : List P) (t : Tree Span)
     : Type 0 where
@@ -49,6 +55,7 @@ pub record IsAnyOf {P : Type 0} (SpellsTree : P → Tree Span → Type 0) (patte
   pub tree : t ≡ alternation (0, 0) (trees branches)
   pub fits : program_length t ≤ 1048576
   pub means : (s : List ℕ) → MeansText t s ↔ OneMeans SpellsTree patterns s
+  pub numbers : (number : ℕ) (s : List ℕ) → MeansAt t number s ↔ NumberMeans SpellsTree patterns number s
 
 -- The alternation of their trees costs too much.
 pub record AreOversized {P : Type 0} (SpellsTree : P → Tree Span → Type 0) (patterns : List P) : Type 0 where

@@ -1,16 +1,16 @@
 -- What contracts see of a set of patterns.
-use Rattle.std.specs.Prelude.{◌≡◌, ◌↔◌, ℕ, false, List, [], ◌∷◌}
+use Rattle.std.specs.Prelude.{◌≡◌, ◌↔◌, ◌++◌, ℕ, false, Contains, List, [], ◌∷◌}
+use Rattle.std.specs.List.Sorted.{IsStrictlyIncreasing}
 use Rattle.std.specs.Coded.{Coded, coded×, coded_ℕ}
-use Rattle.wax_capture.specs.Pieces.{ArePieces}
-use Rattle.wax_capture.specs.declared.piece.Piece.{Piece}
 use Rattle.wax_compiled.specs.Compiled.{Instructions, IsCompiled}
-use Rattle.wax_program.specs.Machine.{Accepts}
+use Rattle.wax_match.specs.Numbered.{MeansNumbered}
+use Rattle.wax_program.specs.Closed.{IsClosed}
+use Rattle.wax_program.specs.Machine.{Accepts, mark}
 use Rattle.wax_program.specs.declared.instruction.Instruction.{Instruction}
 use Rattle.wax_token.specs.Meaning.{Means}
 use Rattle.wax_token.specs.Reads.{Span}
-use Rattle.wax_token.specs.Syntax.{Tree, Trees, alternation}
+use Rattle.wax_token.specs.Syntax.{Tree, Trees, leaf, alternation, concatenation, repetition}
 use Rattle.wax_token.specs.TreeCode.{tree_code}
-use Rattle.wax_token.specs.Words.{members}
 
 -- how the alternation is stored
 abbrev pub any_code : Coded (Tree Span)
@@ -20,6 +20,18 @@ any_code = tree_code (coded× coded_ℕ coded_ℕ)
 abbrev pub MeansText : Tree Span → List ℕ → Type 0
 MeansText t text = Means t false false text
 
+-- the pattern of the set with this index means the text
+abbrev pub MeansAt : Tree Span → ℕ → List ℕ → Type 0
+MeansAt (alternation a branches) number text = MeansNumbered branches number text
+MeansAt (leaf a l) number text = ⊥
+MeansAt (concatenation a ts) number text = ⊥
+MeansAt (repetition a t low high) number text = ⊥
+
+-- these are the indexes of the patterns that mean the text, ascending
+pub record AreMatches (t : Tree Span) (text : List ℕ) (indexes : List ℕ) : Type 0 where
+  pub each : (number : ℕ) → Contains indexes number ↔ MeansAt t number text
+  pub ascending : IsStrictlyIncreasing indexes
+
 -- an alternation of no expression of its own
 abbrev pub IsAlternation : Tree Span → Type 0
 IsAlternation t = (branches : Trees Span) × (t ≡ alternation (0, 0) branches)
@@ -28,10 +40,15 @@ IsAlternation t = (branches : Trees Span) × (t ≡ alternation (0, 0) branches)
 abbrev pub IsWhole : List ℕ → List (List ℕ) → Type 0
 IsWhole text captures = captures ≡ text ∷ []
 
--- What a set is compiled to: the alternation of its patterns, with its program and its pieces.
-pub record IsCompiledAny (t : Tree Span) (program : Instructions) (pieces : List Piece) : Type 0 where
+-- the program accepts a text with the mark of a number exactly if the pattern with this index means the text
+pub record IsNumbered (t : Tree Span) (code : List Instruction) : Type 0 where
+  pub means : (number : ℕ) (text : List ℕ) → Accepts code 0 (text ++ mark number ∷ []) ↔ MeansAt t number text
+  pub closed : IsClosed code
+
+-- What a set is compiled to: the program of the alternation of its patterns, and the one that numbers them.
+pub record IsCompiledAny (t : Tree Span) (program : Instructions) (numbered : List Instruction) : Type 0 where
   pub compiled : IsCompiled t program
-  pub split : ArePieces (members t) false false pieces
+  pub numbers : IsNumbered t numbered
   pub alternates : IsAlternation t
 
 -- the program accepts exactly the texts that the tree of a set means

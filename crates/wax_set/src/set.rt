@@ -1,4 +1,4 @@
-//! Sets of patterns: the alternation of their tokens, compiled, with its pieces.
+//! Sets of patterns: the alternation of their tokens, compiled, and a program that says which of them match.
 ghost use Rattle.std.specs.Prelude.{◌≡◌, ◌≤◌, ◌<◌, ◌↔◌, ◌+◌, ◌*◌, ◌++◌, ◌∷◌, ℕ, List, IsTrue, chars, false};
 ghost use Rattle.std.specs.Prelude.{IfOk, IfSome, MatchOption, Some, codes, length, min};
 ghost use Rattle.wax_program.specs.Meter.{most_ticks};
@@ -15,7 +15,9 @@ ghost use Rattle.wax_query.specs.Variances.{text_of};
 ghost use Rattle.wax_query.specs.declared.query.when.When.TheVariants.{Always};
 ghost use Rattle.wax_token.specs.Cost.{program_length};
 ghost use Rattle.wax_token.specs.Decided.{means_test, means_tested};
-ghost use Rattle.wax_set.specs.Sets.{IsAlternation, IsWhole, MeansText};
+ghost use Rattle.wax_set.specs.Sets.{AreMatches, IsAlternation, IsWhole, MeansText};
+ghost use Rattle.wax_token.specs.Syntax.{alternation};
+ghost use Rattle.wax_token.specs.Words.{trees};
 ghost use Rattle.wax_set.specs.Patterns.{LacksMemory};
 
 mod matcher;
@@ -29,23 +31,25 @@ use std::fmt;
 use std::marker::Model;
 pub use walking::SetWalk;
 use wax_candidate::{CandidatePath, MatchedText, Program};
-use wax_capture::Pieces;
 use wax_compiled::CompiledTokens;
 use wax_components::depth;
 use wax_error::BuildError;
 use wax_facts::{has_root, is_exhaustive, text};
-use wax_match::encode::{CompileError, Meter};
+use wax_lazy::list_numbers;
+use wax_match::encode;
+use wax_match::encode::{CompileError, CompiledProgram, Meter};
 use wax_query::diagnostics::{NoMemory, Refusal};
 use wax_query::query::{DepthVariance, TextVariance, Variance, When};
 use wax_rule::rule::Checked;
-use wax_token::token::{ExpressionMetadata, Token};
+use wax_token::token::{BranchKind, ExpressionMetadata, Token};
 
 /// A set of patterns, which matches a path if one of its patterns does. `any` builds it. Contracts
 /// see the alternation of their trees.
 pub struct Any<'t> {
     token: Checked<Token<'t, ExpressionMetadata>>,
     compiled: CompiledTokens,
-    pieces: Pieces,
+    /// The program that says which of the patterns match.
+    numbered: CompiledProgram,
 }
 
 // Written out, so that a crate that drops sets needn't prove again how their tokens are dropped.
@@ -54,7 +58,7 @@ impl Drop for Any<'_> {
         let Any {
             token: _,
             compiled: _,
-            pieces: _,
+            numbered: _,
         } = self;
     }
 }
@@ -70,7 +74,7 @@ impl<'t> Model for Any<'t> {
 
     ghost view = { λ a. a.token };
 
-    ghost invariant = { λ a. IsCompiledAny a.token a.compiled a.pieces };
+    ghost invariant = { λ a. IsCompiledAny a.token a.compiled a.numbered.0 };
 }
 
 /// Compiles an alternation into a set.
@@ -89,12 +93,25 @@ pub(crate) fn compiled<'t>(
         (λ _. 1048576 < program_length token.entry) }
 {
     let compiled = CompiledTokens::of_token(alloc, token.as_ref())?;
-    let pieces = Pieces::new(alloc, token.as_ref().concatenation())?;
+    let numbered = encode::compile_numbered(alloc, branches_of(token.as_ref()))?;
     Ok(Any {
         token,
         compiled,
-        pieces,
+        numbered,
     })
+}
+
+/// Returns the branches of an alternation.
+fn branches_of<'a, 't>(
+    token: &'a Token<'t, ExpressionMetadata>,
+) -> &'a [Token<'t, ExpressionMetadata>]
+    requires { IsAlternation token.now }
+    ensures { token.now ≡ alternation (0, 0) (trees result.now) }
+{
+    match token.as_branch() {
+        Some(BranchKind::Alternation(alternation)) => alternation.tokens(),
+        _ => unreachable!(),
+    }
 }
 
 impl Any<'_> {
@@ -121,6 +138,31 @@ impl Any<'_> {
         self.compiled.is_match_metered(alloc, path.as_str(), meter)
     }
 
+    /// Returns the indexes of all patterns that match the whole path, ascending. The first pattern of
+    /// those of which the set was built has the index 0. Takes time in proportion to the set's program
+    /// for each character. For many paths `AnyMatcher::matches` is faster.
+    ///
+    /// ```
+    /// use wax::any;
+    ///
+    /// let owners = any(alloc, vec![in alloc; "**/*.rs", "docs/**", "**/test*"]?)?;
+    /// let path = CandidatePath::from("src/test.rs");
+    /// println!(rt; "{:?}", owners.matches(alloc, &path)?)?; // [0, 2]
+    /// ```
+    ///
+    /// # Errors
+    ///
+    /// Returns `NoMemory` if allocation fails.
+    pub fn matches(&self, alloc: Global, path: &CandidatePath<'_>) -> Result<Vec<usize>, NoMemory>
+        ensures { IfOk result (λ indexes. AreMatches self.now path.now indexes.items) }
+    {
+        let mut indexes = Vec::new(alloc);
+        if self.may_match(path) {
+            list_numbers(alloc, &self.numbered, path.as_str(), &mut indexes)?;
+        }
+        Ok(indexes)
+    }
+
     /// Returns whether something below the folder with this path can match: whether one of the
     /// patterns matches the path of something below it. Takes time linear in the set's program, and as
     /// much again for each of the loops that lie within one another. For many folders
@@ -133,6 +175,13 @@ impl Any<'_> {
         ensures { IfOk result (λ answer. IsTrue answer ↔ MeansBelow self.now path.now) }
     {
         self.compiled.goes_on(alloc, path.as_str())
+    }
+
+    /// Returns `false` only if no pattern matches the path, by a quick test. It doesn't allocate.
+    fn may_match(&self, path: &CandidatePath<'_>) -> bool
+        ensures { MeansText self.now path.now → IsTrue result }
+    {
+        self.compiled.may_match(path.as_str())
     }
 
     /// Returns how many bytes at the beginning of a text can be passed over in a search for lines
@@ -180,10 +229,12 @@ impl Program for Any<'_> {
         path: &'p CandidatePath<'_>,
     ) -> Result<(Option<MatchedText<'p>>, u128), NoMemory> {
         let text = path.as_str();
-        if !self.compiled.may_match(text) {
-            return Ok((None, 0));
+        let (is_match, visits) = self.compiled.is_match_counted(alloc, text)?;
+        if !is_match {
+            return Ok((None, visits));
         }
-        self.pieces.matched_counted(alloc, text)
+        let captures = vec![in alloc; (0, text.len())]?;
+        Ok((Some(MatchedText::new(text, captures)), visits))
     }
 
     /// Returns the least and the greatest number of components of the texts of all branches, where
@@ -248,7 +299,7 @@ impl<'t> Pattern for Any<'t> {
         let Any {
             token,
             compiled: _,
-            pieces: _,
+            numbered: _,
         } = self;
         Ok(token.into_owned(alloc)?)
     }

@@ -1,7 +1,7 @@
 //! Kinds of rows: which fact each shows, and how many inputs it has.
 
 use crate::kinds::GlobFact::{Lines, Memoryless, Part};
-use crate::{belows, globs, lists, parts, sets};
+use crate::{belows, globs, lines, lists, parts, sets};
 use wax::{Glob, NoMemory};
 use wax_test_kit::answer::Answer;
 use wax_test_kit::rows::{DataRow, RowKind, find_in};
@@ -18,6 +18,7 @@ pub enum Kind {
     IgnoredTwice,
     ExcludedBelow,
     IgnoredBelow,
+    Unignored,
     Unknown,
 }
 
@@ -32,6 +33,7 @@ pub enum SetFact {
     SetsIsMatch,
     Matcher,
     GoesOn,
+    Matches,
     Verdicts,
     Metered,
     Facts,
@@ -147,6 +149,7 @@ static KINDS: &[(&str, usize, Kind)] = &[
     ("set_matcher", 2, Kind::Set(SetFact::Matcher)),
     ("set_metered", 3, Kind::Set(SetFact::Metered)),
     ("set_goes_on", 2, Kind::Set(SetFact::GoesOn)),
+    ("set_matches", 2, Kind::Set(SetFact::Matches)),
     ("set_verdicts", 2, Kind::Set(SetFact::Verdicts)),
     ("set_facts", 1, Kind::Set(SetFact::Facts)),
     ("set_length", 1, Kind::Set(SetFact::Length)),
@@ -160,6 +163,7 @@ static KINDS: &[(&str, usize, Kind)] = &[
     ("bad_line", 1, Kind::Ignored),
     ("excluded_below", 2, Kind::ExcludedBelow),
     ("ignored_below", 2, Kind::IgnoredBelow),
+    ("filter_unignored", 3, Kind::Unignored),
 ];
 
 impl RowKind for Kind {
@@ -179,6 +183,7 @@ impl RowKind for Kind {
             Kind::IgnoredTwice => lists::answer(alloc, true, row, made),
             Kind::ExcludedBelow => belows::add_excluded(alloc, text, row.input(1), made),
             Kind::IgnoredBelow => belows::add_ignored(alloc, text, row.input(1), made),
+            Kind::Unignored => lines::add_unignored(alloc, row, made),
             Kind::Unknown => {
                 made.add("no such kind");
                 Ok(())

@@ -1,10 +1,13 @@
-//! Calls of `filter_lines` and `capture_lines`, over a reader that yields one byte at a time.
+//! Calls of `filter_lines`, `capture_lines` and `filter_unignored`, over a reader that yields one byte
+//! at a time.
 
 use crate::kinds::LinesCall;
 use std::alloc::{AllocError, Global};
 use std::io::{self, Cursor, Read};
+use wax::walk::IgnoreList;
 use wax::{
     CandidatePath, Counted, Glob, LinesError, NoMemory, Program, capture_lines, filter_lines,
+    filter_unignored,
 };
 use wax_test_kit::answer::Answer;
 use wax_test_kit::rows::DataRow;
@@ -53,10 +56,33 @@ pub fn add_lines(
     };
     add_written(&output.into_inner(), made);
     add_end(ended, made);
-    match glob.is_match(alloc, &CandidatePath::from(row.input(2))) {
-        Ok(answer) => made.digit(answer),
-        Err(error) => made.show(&error),
-    }
+    add_after(
+        glob.is_match(alloc, &CandidatePath::from(row.input(2))),
+        made,
+    );
+    Ok(())
+}
+
+/// Adds the lines that a list doesn't ignore. Then adds, each after a `=`, how the call ended and
+/// whether the list ignores the row's path afterwards.
+///
+/// # Errors
+///
+/// Returns `NoMemory` if allocation fails, or if the row has no list.
+pub fn add_unignored(alloc: Global, row: &DataRow, made: &mut Answer) -> Result<(), NoMemory> {
+    let Ok(mut list) = IgnoreList::parse(alloc, row.input(0)) else {
+        return Err(NoMemory);
+    };
+    let bytes = bytes_of(alloc, row.input(1))?;
+    let mut input = Counted::new(Bytes { left: &bytes });
+    let mut output = Counted::new(Cursor::new([0; ROOM]));
+    let ended = filter_unignored(alloc, &mut input, &mut output, &mut list);
+    add_written(&output.into_inner(), made);
+    add_end(ended, made);
+    add_after(
+        list.is_ignored_cached(alloc, &CandidatePath::from(row.input(2))),
+        made,
+    );
     Ok(())
 }
 
@@ -87,4 +113,11 @@ fn add_end(ended: Result<u64, LinesError>, made: &mut Answer) {
         Err(error) => made.show(&error),
     }
     made.add("\n= ");
+}
+
+fn add_after(answer: Result<bool, NoMemory>, made: &mut Answer) {
+    match answer {
+        Ok(answer) => made.digit(answer),
+        Err(error) => made.show(&error),
+    }
 }

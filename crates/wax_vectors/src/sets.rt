@@ -45,6 +45,7 @@ fn built(alloc: Global, fact: SetFact, patterns: &str) -> Result<Set, BuildError
         | SetFact::IsMatch
         | SetFact::Matcher
         | SetFact::GoesOn
+        | SetFact::Matches
         | SetFact::Verdicts
         | SetFact::Metered
         | SetFact::Facts => set_of(alloc, patterns),
@@ -71,6 +72,7 @@ fn of_set(
         SetFact::IsMatch | SetFact::SetsIsMatch => add_is_match(alloc, set, row.input(1), made),
         SetFact::Matcher => add_answers(alloc, set, row.input(1), made),
         SetFact::GoesOn => add_goes_on(alloc, set, row.input(1), made),
+        SetFact::Matches => add_matches(alloc, set, row.input(1), made),
         SetFact::Verdicts => add_verdicts(alloc, set, row.input(1), made),
         SetFact::Metered => {
             let mut meter = Meter::new();
@@ -103,6 +105,26 @@ fn add_goes_on(alloc: Global, set: &Set, paths: &str, made: &mut Answer) -> Resu
         made.digit(matcher.goes_on(&CandidatePath::from(path))?);
     }
     Ok(())
+}
+
+/// Adds which of the patterns match each of the paths, by the set and by one matcher.
+fn add_matches(alloc: Global, set: &Set, paths: &str, made: &mut Answer) -> Result<(), NoMemory> {
+    for path in paths.split(' ') {
+        add_indexes(&set.matches(alloc, &CandidatePath::from(path))?, made);
+    }
+    made.tab();
+    let mut matcher = set.matcher(alloc)?;
+    let mut indexes = Vec::new(alloc);
+    for path in paths.split(' ') {
+        matcher.matches_into(&CandidatePath::from(path), &mut indexes)?;
+        add_indexes(&indexes, made);
+    }
+    Ok(())
+}
+
+/// Adds the indexes in brackets, with commas between.
+fn add_indexes(indexes: &[usize], made: &mut Answer) {
+    made.debug(&indexes);
 }
 
 /// Builds a set of expressions.

@@ -18,12 +18,16 @@
 //! `time ignored -` reads an ignore list from standard input, up to an empty line, and asks it about
 //! each line after that. It prints nanoseconds for each line by `is_ignored` and by
 //! `is_ignored_cached`, and how many lines each of them ignores.
+//!
+//! `time set -` reads the patterns of a set in the same way, and asks which of them match each line.
+//! It prints nanoseconds for each line by `is_match` of a matcher, by its `matches_into` and by
+//! `Any::matches`, and how many lines match by each of them.
 
 use std::alloc::{AllocError, Global};
 use std::time::Instant;
 use std::{env, io};
 use wax::walk::{Folders, IgnoreList, PathExt};
-use wax::{CandidatePath, Glob, NoMemory, Program};
+use wax::{Any, BuildError, CandidatePath, Glob, NoMemory, Program, any};
 
 /// How often `time new` builds each glob.
 const BUILDS: u64 = 1_000;
@@ -71,6 +75,7 @@ fn time_word(rt: HostRuntime, job: &str, word: &str, given: &str) -> io::Result<
         "new" => time_new(rt, word),
         "build" => time_build(rt, given.trim_end()),
         "ignored" => time_list(rt, given),
+        "set" => time_set(rt, given),
         _ => time_walk(rt, word),
     }
 }
@@ -251,6 +256,69 @@ fn count_ignored_cached(
     for line in lines {
         let answer = list.is_ignored_cached(alloc, &CandidatePath::from(*line))?;
         count = count.saturating_add(answer as u64);
+    }
+    Ok(count)
+}
+
+fn time_set(rt: HostRuntime, given: &str) -> io::Result<()> {
+    let alloc = rt.alloc();
+    let Some((text, paths)) = given.split_once("\n\n") else {
+        return println!(rt; "no empty line");
+    };
+    let lines = lines_of(alloc, paths)?;
+    let count = (lines.len() as u128).max(1);
+    let Ok(set) = set_of(alloc, text) else {
+        return println!(rt; "refused");
+    };
+    let start = Instant::now(&rt)?;
+    let matched = count_matched(alloc, &set, &lines);
+    let matcher = start.elapsed(&rt)?.as_nanos() / count;
+    let start = Instant::now(&rt)?;
+    let listed = count_listed(alloc, &set, &lines);
+    let lists = start.elapsed(&rt)?.as_nanos() / count;
+    let start = Instant::now(&rt)?;
+    let listed_once = count_listed_once(alloc, &set, &lines);
+    let once = start.elapsed(&rt)?.as_nanos() / count;
+    println!(rt; "{matcher}\t{lists}\t{once}\t{matched:?}\t{listed:?}\t{listed_once:?}")
+}
+
+/// Builds the set of the patterns, one on each line.
+fn set_of(alloc: Global, patterns: &str) -> Result<Any<'static>, BuildError> {
+    match lines_of(alloc, patterns) {
+        Ok(lines) => any(alloc, lines),
+        Err(_) => Err(BuildError::Memory),
+    }
+}
+
+/// Returns how many lines the set matches, by one matcher.
+fn count_matched(alloc: Global, set: &Any<'_>, lines: &[&str]) -> Result<u64, NoMemory> {
+    let mut count: u64 = 0;
+    let mut matcher = set.matcher(alloc)?;
+    for line in lines {
+        let answer = matcher.is_match(&CandidatePath::from(*line))?;
+        count = count.saturating_add(answer as u64);
+    }
+    Ok(count)
+}
+
+/// Returns how many lines some pattern matches, by the patterns that one matcher lists.
+fn count_listed(alloc: Global, set: &Any<'_>, lines: &[&str]) -> Result<u64, NoMemory> {
+    let mut count: u64 = 0;
+    let mut matcher = set.matcher(alloc)?;
+    let mut indexes = Vec::new(alloc);
+    for line in lines {
+        matcher.matches_into(&CandidatePath::from(*line), &mut indexes)?;
+        count = count.saturating_add(!indexes.is_empty() as u64);
+    }
+    Ok(count)
+}
+
+/// Returns the same without a matcher.
+fn count_listed_once(alloc: Global, set: &Any<'_>, lines: &[&str]) -> Result<u64, NoMemory> {
+    let mut count: u64 = 0;
+    for line in lines {
+        let indexes = set.matches(alloc, &CandidatePath::from(*line))?;
+        count = count.saturating_add(!indexes.is_empty() as u64);
     }
     Ok(count)
 }

@@ -1,6 +1,6 @@
 //! A matcher of one set of patterns for many paths.
 ghost use Rattle.std.specs.Prelude.{◌≡◌, ◌↔◌, IfOk, IsTrue, false};
-ghost use Rattle.wax_set.specs.Sets.{MeansText};
+ghost use Rattle.wax_set.specs.Sets.{AreMatches, MeansText};
 ghost use Rattle.wax_compiled.specs.Below.{MeansBelow, goes_test, goes_tested};
 ghost use Rattle.wax_token.specs.Decided.{means_test, means_tested};
 
@@ -10,25 +10,37 @@ use std::marker::Model;
 use wax_candidate::{BuildMatcher, CandidatePath, PathMatcher};
 use wax_compiled::CompiledTokens;
 use wax_lazy::Matcher;
+use wax_match::encode::CompiledProgram;
 use wax_query::diagnostics::NoMemory;
 use wax_query::query::Verdict;
+
+/// How many bytes of earlier paths are kept at most to say which patterns match, about.
+const MOST_NUMBERED: usize = 16_777_216;
 
 /// A matcher of a set of patterns for many paths, which keeps what it learns from each for the next
 /// ones. Contracts see the view of its set.
 pub struct AnyMatcher<'a, 't> {
+    alloc: Global,
     any: &'a Any<'t>,
     matcher: Matcher<&'a CompiledTokens>,
+    /// The matcher of the program that says which of the patterns match.
+    numbered: Matcher<&'a CompiledProgram>,
 }
 
 impl Drop for AnyMatcher<'_, '_> {
     fn drop(self) {
-        let AnyMatcher { any: _, matcher: _ } = self;
+        let AnyMatcher {
+            alloc: _,
+            any: _,
+            matcher: _,
+            numbered: _,
+        } = self;
     }
 }
 
 impl<'a, 't> Model for AnyMatcher<'a, 't> {
     ghost use Rattle.wax_set.specs.Sets.{any_code};
-    ghost use Rattle.wax_set.specs.Sets.{AcceptsText};
+    ghost use Rattle.wax_set.specs.Sets.{AcceptsText, IsNumbered};
     ghost use Rattle.wax_token.specs.Reads.{Span};
     ghost use Rattle.wax_token.specs.Syntax.{Tree};
 
@@ -38,7 +50,7 @@ impl<'a, 't> Model for AnyMatcher<'a, 't> {
 
     ghost view = { λ m. m.any.now };
 
-    ghost invariant = { λ m. AcceptsText m.matcher m.any.now };
+    ghost invariant = { λ m. AcceptsText m.matcher m.any.now × IsNumbered m.any.now m.numbered };
 }
 
 impl<'t> Any<'t> {
@@ -52,7 +64,12 @@ impl<'t> Any<'t> {
         ensures { IfOk result (λ m. m ≡ self.now) }
     {
         let matcher = Matcher::new(alloc, &self.compiled)?;
-        Ok(AnyMatcher { any: self, matcher })
+        Ok(AnyMatcher {
+            alloc,
+            any: self,
+            matcher,
+            numbered: Matcher::with_most(alloc, &self.numbered, MOST_NUMBERED),
+        })
     }
 }
 
@@ -70,6 +87,46 @@ impl AnyMatcher<'_, '_> {
         ensures same { self.new ≡ self.old }
     {
         self.matcher.is_match(path.as_str())
+    }
+
+    /// Returns the indexes of all patterns that match the whole path, ascending. The first pattern of
+    /// those of which the set was built has the index 0. Allocates the list, and nothing else if the
+    /// path leads only to states that are known. A quick test comes first, which rejects most texts
+    /// that don't match.
+    ///
+    /// # Errors
+    ///
+    /// Returns `NoMemory` if allocation fails. The matcher can be used for further paths after
+    /// that.
+    pub fn matches(&mut self, path: &CandidatePath<'_>) -> Result<Vec<usize>, NoMemory>
+        ensures matches { IfOk result (λ indexes. AreMatches self.old path.now indexes.items) }
+        ensures same { self.new ≡ self.old }
+    {
+        let mut indexes = Vec::new(self.alloc);
+        self.matches_into(path, &mut indexes)?;
+        Ok(indexes)
+    }
+
+    /// Writes what `matches` returns into a list, in place of what was in it. Allocates only if the
+    /// list has too little room or the path leads to new states.
+    ///
+    /// # Errors
+    ///
+    /// Returns `NoMemory` if allocation fails. The matcher can be used for further paths after
+    /// that.
+    pub fn matches_into(
+        &mut self,
+        path: &CandidatePath<'_>,
+        indexes: &mut Vec<usize>,
+    ) -> Result<(), NoMemory>
+        ensures matches { IfOk result (λ _. AreMatches self.old path.now indexes.new.items) }
+        ensures same { self.new ≡ self.old }
+    {
+        indexes.clear();
+        if !self.any.may_match(path) {
+            return Ok(());
+        }
+        self.numbered.list_numbers(path.as_str(), indexes)
     }
 
     /// Returns whether something below the folder with this path can match: whether one of the

@@ -7,7 +7,7 @@ ghost use Rattle.wax_tree.specs.Begins.{EndsWithin, behavior_range};
 ghost use Rattle.wax_tree.specs.Depths.{behavior_at};
 ghost use Rattle.wax_tree.specs.declared.behavior.DepthBehavior.TheVariants.{Unbounded};
 
-use crate::set::Any;
+use crate::set::{Any, branches_of};
 use std::alloc::Global;
 use wax_candidate::Program;
 use wax_directory::directory::Directory;
@@ -15,7 +15,7 @@ use wax_exclude::{common_prefix_of, walk_along, within};
 use wax_filter::filter::SeparatingFilter;
 use wax_glob_walk::{Uncaptured, uncaptured_of};
 use wax_query::diagnostics::NoMemory;
-use wax_token::token::{BranchKind, ExpressionMetadata, Token};
+use wax_token::token::{ExpressionMetadata, Token};
 use wax_tree::{DepthRange, WalkBehavior};
 use wax_walk::FileIterator;
 
@@ -100,10 +100,7 @@ impl<'t> Any<'t> {
     fn branches(&self) -> &[Token<'t, ExpressionMetadata>]
         ensures { self.now ≡ alternation (0, 0) (trees result.now) }
     {
-        match self.token.as_ref().as_branch() {
-            Some(BranchKind::Alternation(alternation)) => alternation.tokens(),
-            _ => unreachable!(),
-        }
+        branches_of(self.token.as_ref())
     }
 }
 

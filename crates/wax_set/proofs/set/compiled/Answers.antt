@@ -1,14 +1,13 @@
-use Rattle.std.proofs.Common.{◌∙◌, ap, false, subst}
-use Rattle.wax_capture.specs.Pieces.{ArePieces}
+use Rattle.std.proofs.Common.{subst}
 use Rattle.wax_compiled.specs.Compiled.{IsCompiled}
-use Rattle.wax_token.specs.Words.{members}
+use Rattle.wax_set.specs.Sets.{IsNumbered}
+use Rattle.wax_set.proofs.Numbers.{numbers_branches}
 use Rattle.wax_set.proofs.set.compiled.Goals as goal
 
 pub invariant_of-result : goal.invariant_of-result
 invariant_of-result c = record {
   compiled = subst (λ t. IsCompiled t c.in_ok-compiled.compiled) c.as_ref.ensures.same c.in_ok-compiled.ensures.compiled;
-  split =
-      let same = c.concatenation.ensures ∙ ap members c.as_ref-2.ensures.same in
-      subst (λ ts. ArePieces ts false false c.in_ok-pieces.pieces) same c.in_ok-pieces.ensures;
+  numbers = subst (λ t. IsNumbered t c.in_ok-numbered.numbered.0) c.as_ref-2.ensures.same
+      (numbers_branches c.branches_of.result.now c.as_ref-2.result.now c.in_ok-numbered.numbered.0 c.branches_of.ensures c.in_ok-numbered.ensures.means c.in_ok-numbered.ensures.closed);
   alternates = c.requires;
 }

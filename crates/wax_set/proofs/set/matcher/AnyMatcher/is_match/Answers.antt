@@ -7,12 +7,12 @@ use Rattle.wax_set.proofs.Matchers.{decided_alike}
 use Rattle.wax_set.proofs.set.matcher.AnyMatcher.is_match.Goals as goal
 
 pub invariant_of-self : goal.invariant_of-self
-invariant_of-self c = subst (λ code. AcceptsText code c.self.inside.any.now) (sym c.is_match.ensures.same) c.self.invariant
+invariant_of-self c = (subst (λ code. AcceptsText code c.self.inside.any.now) (sym c.is_match.ensures.same) c.self.invariant.0, c.self.invariant.1)
 
 pub returns-clause-means : goal.returns-clause-means
 returns-clause-means c =
     let text = chars c.as_str.result.now in
-    let here = same_answer c.is_match.result _ _ (c.self.invariant text) c.is_match.ensures.decides in
+    let here = same_answer c.is_match.result _ _ (c.self.invariant.0 text) c.is_match.ensures.decides in
     let there = subst (λ t. IfOk c.is_match.result (λ b. IsTrue b ↔ MeansText t text)) c.self.view_is here in
     subst (λ z. IfOk c.is_match.result (λ b. IsTrue b ↔ MeansText c.args.self.now z)) c.as_str.ensures there
 

@@ -4,10 +4,10 @@ use Rattle.wax_set.proofs.Matchers.{verdict_below, verdict_decides, verdict_mean
 use Rattle.wax_set.proofs.set.matcher.AnyMatcher.verdict.Goals as goal
 
 abbrev accepts : (c : goal.After-verdict) → AcceptsText c.self.inside.matcher c.args.self.now
-accepts c = subst (AcceptsText c.self.inside.matcher) c.self.view_is c.self.invariant
+accepts c = subst (AcceptsText c.self.inside.matcher) c.self.view_is c.self.invariant.0
 
 pub invariant_of-self : goal.invariant_of-self
-invariant_of-self c = subst (λ code. AcceptsText code c.self.inside.any.now) (sym c.verdict.ensures.same) c.self.invariant
+invariant_of-self c = (subst (λ code. AcceptsText code c.self.inside.any.now) (sym c.verdict.ensures.same) c.self.invariant.0, c.self.invariant.1)
 
 pub returns-clause-means : goal.returns-clause-means
 returns-clause-means c =
