@@ -3,6 +3,7 @@ use Rattle.std.specs.Prelude.{◌≡◌, ℕ, false, ◌++◌, List, ◌∷◌, 
 use Rattle.std.specs.List.{AllZip}
 use Rattle.wax_exclude.specs.Lines.{Written}
 use Rattle.wax_exclude.specs.declared.rules.IgnoreLine.{IgnoreLine}
+use Rattle.wax_lines.specs.Lines.{WritesMeant}
 use Rattle.wax_token.specs.Reads.{Span}
 use Rattle.wax_walk.specs.Ruled.{ruled_view}
 use Rattle.wax_walk.specs.View.{IsSeenAs, WalkView}
@@ -33,6 +34,15 @@ IsUnread written =
 -- the list holds exactly these lines
 abbrev pub HoldsLines : IgnoreList → List (Line Span) → Type 0
 HoldsLines list lines = HasLines list.rule lines
+
+-- these lines don't ignore the text
+abbrev pub IsUnignored : List (Line Span) → List ℕ → Type 0
+IsUnignored lines s = is_ignored lines s ≡ false
+
+-- the text and a line feed if the list doesn't ignore it, else nothing
+abbrev pub WritesUnignored : IgnoreList → List ℕ → List ℕ → Type 0
+WritesUnignored list s out =
+    (lines : List (Line Span)) → HoldsLines list lines → WritesMeant (IsUnignored lines) s out
 
 -- what is held are the lines that are written so, in order
 abbrev pub AreReadAs : List Written → List IgnoreLine → Type 0

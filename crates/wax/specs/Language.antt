@@ -22,7 +22,8 @@ pub use Rattle.wax_rule.specs.FirstBreak.{TellsFirst}
 pub use Rattle.wax_rule.specs.Keeping.{KeepsRules}
 pub use Rattle.wax_token.specs.Compositions.{children_of, composition_copied, composition_of}
 pub use Rattle.wax_token.specs.Compositions.{composition_value, conjunctive, disjunctive, on_inner}
-pub use Rattle.wax_token.specs.Cost.{cost, costs, holds_tree, is_tree, program_length, some_holds_tree}
+pub use Rattle.wax_token.specs.Cost.{branches_cost, cost, costs, holds_tree, is_tree, program_length}
+pub use Rattle.wax_token.specs.Cost.{some_holds_tree}
 pub use Rattle.wax_token.specs.Decided.{means_test, means_tested}
 pub use Rattle.wax_token.specs.Kinds.{alternation_of, boundary_of, class_of, concatenation_of, has_boundary}
 pub use Rattle.wax_token.specs.Kinds.{is_alternation, is_boundary, is_boundary_leaf, is_branch, is_capturing}

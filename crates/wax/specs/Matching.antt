@@ -7,16 +7,20 @@ pub use Rattle.wax_capture.specs.Captures.{Captured, First}
 pub use Rattle.wax_capture.specs.Matched.{AreOnly, IsMatched, square_visits}
 pub use Rattle.wax_capture.specs.Pieces.{ArePieces}
 pub use Rattle.wax_compiled.specs.Below.{MeansBelow, goes_test, goes_tested}
+pub use Rattle.wax_lazy.specs.Numbers.{AreNumbers, AreNumbersFrom}
 pub use Rattle.wax_lazy.specs.Verdict.{AcceptsBelow, IsVerdict}
+pub use Rattle.wax_match.specs.Numbered.{MeansNumbered}
 pub use Rattle.wax_lines.specs.Counts.{greatest_count}
 pub use Rattle.wax_lines.specs.Lines.{Filtered, Filters, Stopped, WritesCaptures, WritesMeant, lines}
 pub use Rattle.wax_lines.specs.Written.{WritesPart}
-pub use Rattle.wax_program.specs.Machine.{Accepts}
+pub use Rattle.wax_program.specs.Closed.{IsClosed, LeadsWithin}
+pub use Rattle.wax_program.specs.Machine.{Accepts, mark}
 pub use Rattle.wax_program.specs.Meter.{most_ticks}
 pub use Rattle.wax_program.specs.declared.instruction.Instruction.{Instruction}
 pub use Rattle.wax_query.specs.Below.{AreNames, IsBelow, IsPlainPath, folder_text, ends_open, joined_names}
 pub use Rattle.wax_query.specs.Below.{slashed}
-pub use Rattle.wax_set.specs.Sets.{IsAlternation, IsCompiledAny, IsWhole, MeansText, any_code, AcceptsText}
+pub use Rattle.wax_set.specs.Sets.{AcceptsText, AreMatches, IsAlternation, IsCompiledAny, IsNumbered, IsWhole}
+pub use Rattle.wax_set.specs.Sets.{MeansAt, MeansText, any_code}
 
 -- the program accepts exactly the texts that the glob means
 abbrev pub AcceptsMeant : List Instruction → GlobView → Type 0

@@ -1,4 +1,6 @@
 //! Programs of tokens, and how they are run.
 
 pub use wax_lazy::{HasProgram, Matcher};
-pub use wax_match::encode::{CompileError, CompiledProgram, Meter, case_folded_eq, compile, run};
+pub use wax_match::encode::{
+    CompileError, CompiledProgram, Meter, case_folded_eq, compile, compile_numbered, run,
+};

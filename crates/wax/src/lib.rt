@@ -33,10 +33,12 @@ pub mod prelude;
 pub mod query;
 pub mod rule;
 pub mod token;
+mod unignored;
 pub mod walk;
 mod walk_filter;
 
 pub use glob::{Glob, GlobMatcher};
+pub use unignored::filter_unignored;
 pub use wax_candidate::{
     BuildMatcher, CandidatePath, MatchedText, PathMatcher, Program, ProgramMatcher,
 };

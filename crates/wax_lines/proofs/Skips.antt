@@ -6,7 +6,7 @@ use Rattle.std.proofs.lemmas.List.{get_or-take, get_or-append-add, length-take, 
 use Rattle.std.proofs.lemmas.List.Elements.{All-nil, All-cons, All-head, All-tail}
 use Rattle.std.proofs.lemmas.Str.{IsCharBoundary-before_ascii, IsCharBoundary-after_ascii, IsUtf8-take, IsUtf8-drop}
 use Rattle.std.specs.Str.{IsCharBoundary}
-use Rattle.wax_lines.specs.inner.Matching.{WritesNothingBefore}
+use Rattle.wax_lines.specs.Lines.{WritesNothingBefore}
 use Rattle.wax_lines.specs.inner.Progress.{GivesNothing, TakesIn}
 use Rattle.wax_lines.specs.inner.Sifted.{EndsLines, HasNoFeed, IsAfterFeed, lines_text}
 use Rattle.wax_lines.proofs.Sifting.{TakesIn-none, TakesIn-then, TakesIn-text}

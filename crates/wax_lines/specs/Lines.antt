@@ -1,5 +1,5 @@
 -- The lines of an input, and what a filter of lines writes.
-use Rattle.std.specs.Prelude.{◌≡◌, ◌≤◌, ℕ, ◌+◌, ◌==◌, Bool, true, false, IsTrue, if◌then◌else◌}
+use Rattle.std.specs.Prelude.{◌≡◌, ◌≤◌, ◌<◌, ℕ, ◌+◌, ◌==◌, Bool, true, false, IsTrue, if◌then◌else◌}
 use Rattle.std.specs.Prelude.{List, [], ◌∷◌, ◌++◌, length, map, Option, IsUtf8, chars, encode_utf8_all}
 use Rattle.std.specs.List.{join_with_byte}
 use Rattle.std.specs.Io.KnownBytes.{Consumes, Appends, IsAtEnd}
@@ -47,6 +47,13 @@ pub data WritesCaptures (Means : List ℕ → Type 0) (Captured : List ℕ → L
   captured : (captures : List (List ℕ)) → Means s → Captured s captures
       → out ≡ tabbed (s ∷ captures) ++ 10 ∷ [] → WritesCaptures Means Captured s out
   not_captured : (Means s → ⊥) → out ≡ [] → WritesCaptures Means Captured s out
+
+-- nothing may be written for a part of the text, before a line feed or at its end, that ends before so many
+-- bytes
+abbrev pub WritesNothingBefore : (List ℕ → List ℕ → Type 0) → List ℕ → ℕ → Type 0
+WritesNothingBefore Writes text n =
+    (x y z : List ℕ) → text ++ 10 ∷ [] ≡ x ++ (y ++ 10 ∷ z) → IsUtf8 y → length (x ++ y) < n
+    → Writes (chars y) []
 
 -- The output of one line, and 1 if it isn't text. For a text, `Writes` says which bytes may be written.
 pub data Gives (Writes : List ℕ → List ℕ → Type 0) (line out : List ℕ) (bad : ℕ) : Type 0 where

@@ -1,4 +1,5 @@
-//! Filters of lines, from any reader to any writer, by what a program matches or captures.
+//! Filters of lines, from any reader to any writer: by what a program matches or captures, or by any
+//! writer of lines.
 #![tactic(auto)]
 
 mod counted;
@@ -6,5 +7,5 @@ mod lines;
 mod writing;
 
 pub use counted::Counted;
-pub use lines::{LinesError, capture_lines, filter_lines};
+pub use lines::{LineWriter, LinesError, capture_lines, filter_lines, filter_lines_by};
 pub use writing::{push_line, write_whole};

@@ -15,7 +15,8 @@ mod feed;
 mod line_writer;
 mod sieve;
 
-use line_writer::{CapturedLines, LineWriter, MatchingLines};
+pub use line_writer::LineWriter;
+use line_writer::{CapturedLines, MatchingLines};
 use sieve::Sieve;
 
 /// How many bytes are read at once. Output is written once that many bytes of it wait.
@@ -91,7 +92,7 @@ pub fn filter_lines<'p, R: Read, W: Write, P: BuildMatcher<'p>>(
         (output.old.failures < output.new.failures) ⊎ (output.new.failures ≡ greatest_count) }
 {
     let matcher = program.build_matcher(alloc)?;
-    sift_lines(alloc, input, output, &mut MatchingLines { matcher })
+    filter_lines_by(alloc, input, output, &mut MatchingLines { matcher })
 }
 
 /// Writes each line of the input that the program matches, with its captures, a tab before each,
@@ -129,11 +130,19 @@ pub fn capture_lines<'p, R: Read, W: Write, P: BuildMatcher<'p>>(
         program,
         matcher,
     };
-    sift_lines(alloc, input, output, &mut line_writer)
+    filter_lines_by(alloc, input, output, &mut line_writer)
 }
 
-// The body of both filters, for any writer of lines.
-fn sift_lines<R: Read, W: Write, L: LineWriter>(
+/// Writes what the writer of lines makes of each line of the input, and returns the number of lines
+/// that aren't UTF-8, at most `u64::MAX`. Nothing is written for these. A line ends at a line feed
+/// or, if it isn't empty, at the end of the input.
+///
+/// It allocates for the longest line with its output, and for a few chunks of 65,536 bytes.
+///
+/// # Errors
+///
+/// Returns the errors of `filter_lines`, after the same part of the output has been written.
+pub fn filter_lines_by<R: Read, W: Write, L: LineWriter>(
     alloc: Global,
     input: &mut Counted<R>,
     output: &mut Counted<W>,
@@ -149,6 +158,7 @@ fn sift_lines<R: Read, W: Write, L: LineWriter>(
         (input.old.failures < input.new.failures) ⊎ (input.new.calls ≡ greatest_count) }
     ensures write_failed { IsErrOf result LinesError.Write →
         (output.old.failures < output.new.failures) ⊎ (output.new.failures ≡ greatest_count) }
+    ensures same { L.view line_writer.new ≡ L.view line_writer.old }
 {
     let mut chunk = vec![in alloc; 0u8; CHUNK]?;
     let mut sieve = Sieve::new(alloc);

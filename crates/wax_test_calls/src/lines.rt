@@ -1,5 +1,5 @@
-//! Calls of `filter_lines` and `capture_lines`, over readers and writers that fail or are
-//! interrupted.
+//! Calls of `filter_lines`, `capture_lines` and `filter_unignored`, over readers and writers that
+//! fail or are interrupted.
 
 use crate::answer::Answer;
 use crate::pictures::Pictures;
@@ -7,7 +7,8 @@ use crate::rows::{bytes_of, field};
 use crate::streams::{Writer, add_counts, reader, writer};
 use std::alloc::Global;
 use std::io::{Read, Write};
-use wax::{Counted, Glob, LinesError, NoMemory, capture_lines, filter_lines};
+use wax::walk::IgnoreList;
+use wax::{Counted, Glob, LinesError, NoMemory, capture_lines, filter_lines, filter_unignored};
 
 /// Adds how a call ends, how often it reads and writes, and what it writes. Another call with these
 /// streams follows (`again`), or a write of nothing and a flush (`flush`), or a call whose input is
@@ -86,6 +87,7 @@ fn call_lines<R: Read, W: Write>(
 ) -> Result<u64, LinesError> {
     match (field(row, 0), field(row, 1)) {
         ("filter", _) => filter_lines(alloc, input, output, &Pictures),
+        ("unignored", list) => unignored_lines(alloc, list, input, output),
         (_, ".png") => capture_lines(alloc, input, output, &Pictures),
         (_, expression) => match Glob::new(alloc, expression) {
             Ok(glob) => capture_lines(alloc, input, output, &glob),
@@ -94,13 +96,31 @@ fn call_lines<R: Read, W: Write>(
     }
 }
 
-/// Filters a line of `count` letters and `.png`, and a short one. Adds how the call ends, and
-/// whether it writes both.
+fn unignored_lines<R: Read, W: Write>(
+    alloc: Global,
+    list: &str,
+    input: &mut Counted<R>,
+    output: &mut Counted<W>,
+) -> Result<u64, LinesError> {
+    let list = bytes_of(alloc, list)?;
+    match IgnoreList::parse(alloc, str::from_utf8(&list).unwrap_or("")) {
+        Ok(mut list) => filter_unignored(alloc, input, output, &mut list),
+        Err(_) => Err(LinesError::Memory),
+    }
+}
+
+/// Filters a line of `count` letters and `.png`, and a short one, by the call with which a row begins.
+/// Adds how the call ends, and whether it writes both.
 ///
 /// # Errors
 ///
 /// Returns `NoMemory` if allocation fails.
-pub fn add_long_line(alloc: Global, count: &str, made: &mut Answer) -> Result<(), NoMemory> {
+pub fn add_long_line(
+    alloc: Global,
+    call: &str,
+    count: &str,
+    made: &mut Answer,
+) -> Result<(), NoMemory> {
     let Ok(mut bytes) = vec![in alloc; b'a'; count.parse().unwrap_or(0)] else {
         return Err(NoMemory);
     };
@@ -109,7 +129,7 @@ pub fn add_long_line(alloc: Global, count: &str, made: &mut Answer) -> Result<()
     }
     let mut input = Counted::new(bytes.as_slice());
     let mut output = writer(alloc, "");
-    add_call(alloc, "filter", &mut input, &mut output, made);
+    add_call(alloc, call, &mut input, &mut output, made);
     let is_whole = output.into_inner().inner.taken.as_slice() == bytes.as_slice();
     made.add(if is_whole { " both" } else { " not both" });
     Ok(())

@@ -54,7 +54,7 @@ pub fn make(alloc: Global, row: &str, given: usize, made: &mut Answer) {
 fn add_answer(alloc: Global, row: &str, made: &mut Answer) -> Result<(), NoMemory> {
     let given = field(row, 1);
     match field(row, 0) {
-        "filter" | "capture" => add_lines(alloc, row, made),
+        "filter" | "capture" | "unignored" => add_lines(alloc, row, made),
         "run" => add_run(alloc, row, made),
         "path" => add_path(alloc, given, made),
         "match" => add_match(alloc, given, made),
@@ -64,7 +64,8 @@ fn add_answer(alloc: Global, row: &str, made: &mut Answer) -> Result<(), NoMemor
             Ok(())
         }
         "words" => add_words(alloc, made),
-        "long line" => add_long_line(alloc, given, made),
+        "long line" => add_long_line(alloc, "filter", given, made),
+        "long unignored line" => add_long_line(alloc, "unignored\t**/*.o", given, made),
         _ => add_tokens(alloc, given, made),
     }
 }

@@ -1,15 +1,16 @@
 //! The output for one line.
 ghost use Rattle.std.specs.Prelude.{◌≡◌, ℕ, Bool, List, [], ◌∷◌, ◌++◌, OnOk, OnErr, chars};
 ghost use Rattle.wax_candidate.specs.Matched.{texts};
-ghost use Rattle.wax_lines.specs.Lines.{WritesMeant, WritesCaptures, tabbed};
-ghost use Rattle.wax_lines.specs.inner.Matching.{IsMatchedBy, IsMatchedByBoth, WritesNothingBefore};
+ghost use Rattle.wax_lines.specs.Lines.{WritesMeant, WritesCaptures, WritesNothingBefore, tabbed};
+ghost use Rattle.wax_lines.specs.inner.Matching.{IsMatchedBy, IsMatchedByBoth};
 
 use crate::writing::push_line;
 use std::alloc::{AllocError, Global};
 use wax_candidate::{CandidatePath, MatchedText, PathMatcher, Program};
 use wax_query::diagnostics::NoMemory;
 
-/// A writer of what a line becomes in the output.
+/// A writer of what each line of a text becomes in the output, called for one line after another. It
+/// may keep what it learns from each for the next ones.
 pub trait LineWriter {
     // The state of the writer, as contracts see it.
     ghost View: { Type 0 };
@@ -19,11 +20,12 @@ pub trait LineWriter {
     // The bytes that may be written for a text, as its characters.
     ghost writes: { View → List ℕ → List ℕ → Type 0 };
 
-    /// Appends the output for the line to `out`.
+    /// Appends the output for the line to `out`. What it writes for a line stays the same from then on.
     ///
     /// # Errors
     ///
-    /// Returns `NoMemory` if allocation fails. `out` is unchanged then.
+    /// Returns `NoMemory` if allocation fails. `out` is unchanged then, and the writer can be used for
+    /// further lines.
     fn write_line(&mut self, line: &str, out: &mut Vec<u8>) -> Result<(), NoMemory>
         ensures ok { OnOk result ((added : List ℕ) × writes (view self.old) (chars line.now) added
             × (out.new.items ≡ out.old.items ++ added)) }
@@ -31,9 +33,12 @@ pub trait LineWriter {
         ensures same { view self.new ≡ view self.old };
 
     /// Returns how many bytes at the beginning of a text can be passed over: nothing is written for
-    /// a line that ends before so many bytes.
+    /// a line that ends before so many bytes. By default, that is 0.
     fn earliest_end(&self, text: &str) -> usize
-        ensures { WritesNothingBefore (writes (view self.now)) text.now result };
+        ensures { WritesNothingBefore (writes (view self.now)) text.now result }
+    {
+        0
+    }
 }
 
 /// A writer of each line that a matcher accepts, with a line feed.

@@ -1,5 +1,5 @@
 use Rattle.std.proofs.Common.{subst}
-use Rattle.wax_lines.specs.inner.Matching.{WritesNothingBefore}
+use Rattle.wax_lines.specs.Lines.{WritesNothingBefore}
 use Rattle.wax_lines.proofs.Skips.{gives_nothing}
 use Rattle.wax_lines.proofs.lines.sieve.pass_over.Goals as goal
 

@@ -3,7 +3,7 @@ use Rattle.wax_lines.specs.Lines.{Stopped}
 use Rattle.wax_lines.proofs.Counting.{grew_after, grew_before}
 use Rattle.wax_lines.proofs.Sifting.{if_err, same_err}
 use Rattle.wax_lines.proofs.Runs.{stopped_at_once, Ended-writing, Halted-written, Finished-written}
-use Rattle.wax_lines.proofs.lines.sift_lines.Goals as goal
+use Rattle.wax_lines.proofs.lines.filter_lines_by.Goals as goal
 
 pub returns-in_err-chunk-clause-stopped : goal.returns-in_err-chunk-clause-stopped
 returns-in_err-chunk-clause-stopped g c =
