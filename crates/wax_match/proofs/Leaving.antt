@@ -1,10 +1,10 @@
 -- What is left of patterns, as lists of tokens.
-use Rattle.std.proofs.Common.{◌≡◌, ◌+◌, ◌++◌, ◌-◌, ◌<◌, ◌≤◌, ◌↔◌, ◌⊎◌, ℕ, zero, suc, false, IsTrue, Contains, List, [], ◌∷◌, None, drop, take, length, get_or, slice_get, refl, sym, ◌∙◌, ap, subst, inl, inr, arith}
+use Rattle.std.proofs.Common.{◌≡◌, ◌+◌, ◌++◌, ◌-◌, ◌<◌, ◌≤◌, ◌↔◌, ◌⊎◌, ℕ, zero, suc, false, IsTrue, Contains, List, [], ◌∷◌, drop, take, length, get_or, refl, sym, ◌∙◌, ap, subst, inl, inr, arith}
 use Rattle.std.proofs.lemmas.Bool.{cases_lt}
 use Rattle.std.proofs.lemmas.List.Elements.{Contains-append_left, Contains-push, Contains-push_cases}
 use Rattle.std.proofs.lemmas.List.{get_or_default, length-drop, take_all}
 use Rattle.wax_match.specs.declared.encode.ends.Head.{Head}
-use Rattle.wax_match.specs.inner.Left.{begins_with, behind, is_head, tokens_left, members_in}
+use Rattle.wax_match.specs.inner.Left.{begins_with, behind, is_head, tokens_left}
 use Rattle.wax_token.specs.Reads.{Span}
 use Rattle.wax_token.specs.Syntax.{Tree, none}
 use Rattle.wax_token.specs.Words.{trees}
@@ -31,18 +31,6 @@ pub few_begin : (head : Head) (ts : List (Tree Span)) → length ts < 2 → fals
 few_begin head [] lt = refl
 few_begin head (u ∷ []) lt = refl
 few_begin head (u ∷ v ∷ ts) lt = absurd (omega (arith, lt))
-
-pub left_none : (ts : List (Tree Span)) (skip k : ℕ) → length ts ≤ k → none ≡ tokens_left ts skip k
-left_none ts skip k le = none_in skip ∙ ap (λ o. behind skip (members_in o)) (sym (past ts k le))
-  where
-    none_in : (n : ℕ) → none ≡ behind n none
-    none_in zero = refl
-    none_in (suc n) = refl
-
-    past : (ts : List (Tree Span)) (k : ℕ) → length ts ≤ k → slice_get ts k ≡ None
-    past [] k le = refl
-    past (t ∷ ts) zero le = absurd (omega (arith, le))
-    past (t ∷ ts) (suc k) le = past ts k (omega (arith, le))
 
 -- ---- the numbers below a limit
 abbrev pub HasBelow : ℕ → List ℕ → Type 0

@@ -55,7 +55,8 @@ impl<'a, 't> Model for AnyMatcher<'a, 't> {
 
 impl<'t> Any<'t> {
     /// Builds a matcher, which is faster than the set for many paths if its patterns have many
-    /// branches. It keeps about 2 MiB at most, or up to 16 MiB if the set is large.
+    /// branches. It keeps about 2 MiB at most, or up to 16 MiB if the set is large; and up to 16 MiB
+    /// more once it was asked which patterns match.
     ///
     /// # Errors
     ///
