@@ -64,56 +64,61 @@ pub next_decides : (code : List Instruction) (states : List State) (places left 
     → LeadsNext code states places c next → DecidesLeft code states places left after next
 next_decides code states places left after c (To at) e l = (
   l.placed,
-  (
-    (λ h. (l.leads after).0 (subst (AnyAmong code places) e h)),
-    (λ h. subst (AnyAmong code places) (sym e) ((l.leads after).1 h)),
-  ),
+  (λ s. (
+    (λ h. (l.leads (after ++ s)).0 (subst (AnyAmong code places) (ap (λ z. z ++ s) e) h)),
+    (λ h. subst (AnyAmong code places) (sym (ap (λ z. z ++ s) e)) ((l.leads (after ++ s)).1 h)),
+  )),
 )
-next_decides code states places left after c Nothing e dead = λ h. dead after (subst (AnyAmong code places) e h)
-next_decides code states places left after c Everything e all = subst (AnyAmong code places) (sym e) (all after)
+next_decides code states places left after c Nothing e dead = λ s h. dead (after ++ s) (subst (AnyAmong code places) (ap (λ z. z ++ s) e) h)
+next_decides code states places left after c Everything e all = λ s. subst (AnyAmong code places) (sym (ap (λ z. z ++ s) e)) (all (after ++ s))
 
-module _ (code : List Instruction) (states : List State) (places part text left after : List ℕ) (place c : ℕ) (stays : AnyAmong code places text ↔ (AnyAmong code part left ⊎ Accepts code place left)) (e : left ≡ c ∷ after) where
+module _ (code : List Instruction) (states : List State) (places part text left after : List ℕ) (place c : ℕ)
+    (stays : (s : List ℕ) → AnyAmong code places (text ++ s) ↔ (AnyAmong code part (left ++ s) ⊎ Accepts code place (left ++ s))) (one : left ≡ c ∷ after) where
+  begins : (s : List ℕ) → left ++ s ≡ c ∷ after ++ s
+  begins s = ap (λ z. z ++ s) one
+
   -- the check takes the character: both lead on
   pub both_on : (next : Next) → IsCheckAt code place c true → LeadsNext code states part c next → (next ≡ Everything → ⊥)
-      → AnyAmong code places text ↔ (AnyAmong code (places_led states (led_of next)) after ⊎ Accepts code (place + 1) after)
-  both_on next check leads apart = (
-    (λ h. elim (stays.0 h) [
-      | inl g ↦ inl ((onward next leads apart).0 (subst (AnyAmong code part) e g))
-      | inr g ↦ inr ((check_on code place c true after check).0 (subst (Accepts code place) e g)).1
+      → (s : List ℕ) → AnyAmong code places (text ++ s) ↔ (AnyAmong code (places_led states (led_of next)) (after ++ s) ⊎ Accepts code (place + 1) (after ++ s))
+  both_on next check leads apart s = (
+    (λ h. elim ((stays s).0 h) [
+      | inl g ↦ inl ((onward next leads apart).0 (subst (AnyAmong code part) (begins s) g))
+      | inr g ↦ inr ((check_on code place c true (after ++ s) check).0 (subst (Accepts code place) (begins s) g)).1
     ]),
     (λ h. elim h [
-      | inl g ↦ stays.1 (inl (subst (AnyAmong code part) (sym e) ((onward next leads apart).1 g)))
-      | inr g ↦ stays.1 (inr (subst (Accepts code place) (sym e) ((check_on code place c true after check).1 (refl, g))))
+      | inl g ↦ (stays s).1 (inl (subst (AnyAmong code part) (sym (begins s)) ((onward next leads apart).1 g)))
+      | inr g ↦ (stays s).1 (inr (subst (Accepts code place) (sym (begins s)) ((check_on code place c true (after ++ s) check).1 (refl, g))))
     ]),
   )
     where
-      nothing_in : AnyAmong code [] after → ⊥
+      nothing_in : AnyAmong code [] (after ++ s) → ⊥
       nothing_in h = absurd (let lt : h.1.0 < 0 = h.1.1 in omega (arith, lt))
 
-      onward : (next : Next) → LeadsNext code states part c next → (next ≡ Everything → ⊥) → AnyAmong code part (c ∷ after) ↔ AnyAmong code (places_led states (led_of next)) after
-      onward (To at) l apart = l.leads after
-      onward Nothing dead apart = ((λ h. absurd (dead after h)), (λ h. absurd (nothing_in h)))
+      onward : (next : Next) → LeadsNext code states part c next → (next ≡ Everything → ⊥)
+          → AnyAmong code part (c ∷ after ++ s) ↔ AnyAmong code (places_led states (led_of next)) (after ++ s)
+      onward (To at) l apart = l.leads (after ++ s)
+      onward Nothing dead apart = ((λ h. absurd (dead (after ++ s) h)), (λ h. absurd (nothing_in h)))
       onward Everything all apart = absurd (apart refl)
 
   -- every text is accepted, whether the check takes the character or not
-  pub all_on : TakesAll code part c → AnyAmong code places text
-  all_on all = stays.1 (inl (subst (AnyAmong code part) (sym e) (all after)))
+  pub all_on : TakesAll code part c → (s : List ℕ) → AnyAmong code places (text ++ s)
+  all_on all s = (stays s).1 (inl (subst (AnyAmong code part) (sym (begins s)) (all (after ++ s))))
 
   -- the check doesn't take the character: the rest decides
   pub rest_on : (next : Next) → IsCheckAt code place c false → LeadsNext code states part c next → DecidesLeft code states places text after next
   rest_on (To at) check l = (
     l.placed,
-    (
-      (λ h. elim (stays.0 h) [
-        | inl g ↦ (l.leads after).0 (subst (AnyAmong code part) e g)
-        | inr g ↦ absurd (true≢false (sym ((check_on code place c false after check).0 (subst (Accepts code place) e g)).0))
+    (λ s. (
+      (λ h. elim ((stays s).0 h) [
+        | inl g ↦ (l.leads (after ++ s)).0 (subst (AnyAmong code part) (begins s) g)
+        | inr g ↦ absurd (true≢false (sym ((check_on code place c false (after ++ s) check).0 (subst (Accepts code place) (begins s) g)).0))
       ]),
-      (λ h. stays.1 (inl (subst (AnyAmong code part) (sym e) ((l.leads after).1 h)))),
-    ),
+      (λ h. (stays s).1 (inl (subst (AnyAmong code part) (sym (begins s)) ((l.leads (after ++ s)).1 h)))),
+    )),
   )
-  rest_on Nothing check dead = λ h. elim (stays.0 h) [
-    | inl g ↦ dead after (subst (AnyAmong code part) e g)
-    | inr g ↦ absurd (true≢false (sym ((check_on code place c false after check).0 (subst (Accepts code place) e g)).0))
+  rest_on Nothing check dead = λ s h. elim ((stays s).0 h) [
+    | inl g ↦ dead (after ++ s) (subst (AnyAmong code part) (begins s) g)
+    | inr g ↦ absurd (true≢false (sym ((check_on code place c false (after ++ s) check).0 (subst (Accepts code place) (begins s) g)).0))
   ]
   rest_on Everything check all = all_on all
 

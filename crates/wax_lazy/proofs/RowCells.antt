@@ -253,7 +253,7 @@ pub record IsAlong (code : List Instruction) (states : List State) (keys : List 
   pub within : index ≤ length text
   pub left : drop start text ≡ begun_bytes key.begun ++ drop index text
   pub utf8 : IsUtf8 (drop start text)
-  pub stays : AnyAmong code places (chars text) ↔ AnyAmong code (places_at states (key.at / 128)) (chars (drop start text))
+  pub stays : (s : List ℕ) → AnyAmong code places (chars text ++ s) ↔ AnyAmong code (places_at states (key.at / 128)) (chars (drop start text) ++ s)
 
 pub along_begins : (code : List Instruction) (states : List State) (keys : List RowKey) (text : List ℕ) (at row : ℕ) → HasRow keys row at [] → IsUtf8 text
     → IsAlong code states keys (places_at states (at / 128)) text 0 row
@@ -265,7 +265,7 @@ along_begins code states keys text at row h utf8 = record {
   within = omega arith;
   left = ap (λ z. z ++ text) (sym h.begun);
   utf8 = utf8;
-  stays = subst (λ z. AnyAmong code (places_at states (at / 128)) (chars text) ↔ AnyAmong code (places_at states (z / 128)) (chars text)) (sym h.state) ((λ x. x), (λ x. x));
+  stays = λ s. subst (λ z. AnyAmong code (places_at states (at / 128)) (chars text ++ s) ↔ AnyAmong code (places_at states (z / 128)) (chars text ++ s)) (sym h.state) ((λ x. x), (λ x. x));
 }
 
 module _ (code : List Instruction) (states : List State) (keys : List RowKey) (places text : List ℕ) (index row : ℕ) (along : IsAlong code states keys places text index row) (lt : index < length text) (b : ℕ) (byte : get_or text index 0 ≡ b) where
@@ -276,8 +276,8 @@ module _ (code : List Instruction) (states : List State) (keys : List RowKey) (p
   whole : (c : ℕ) → EndsChar along.key b c → drop along.start text ≡ encode_utf8 c ++ drop (index + 1) text
   whole c ends = reads ∙ ap (λ z. z ++ drop (index + 1) text) ends
 
-  char_first : (c : ℕ) → EndsChar along.key b c → chars (drop along.start text) ≡ c ∷ chars (drop (index + 1) text)
-  char_first c ends = chars_past_char (drop along.start text) (drop (index + 1) text) c along.utf8 (whole c ends)
+  char_first : (c : ℕ) → EndsChar along.key b c → (s : List ℕ) → chars (drop along.start text) ++ s ≡ c ∷ chars (drop (index + 1) text) ++ s
+  char_first c ends s = ap (λ z. z ++ s) (chars_past_char (drop along.start text) (drop (index + 1) text) c along.utf8 (whole c ends))
 
   along_row : (r : ℕ) → LeadsRow code states keys along.key b r → IsAlong code states keys places text (index + 1) r
   along_row r (inl more) = record {
@@ -288,7 +288,7 @@ module _ (code : List Instruction) (states : List State) (keys : List RowKey) (p
     within = omega (arith, lt);
     left = reads ∙ ap (λ z. z ++ drop (index + 1) text) (sym more.begun);
     utf8 = along.utf8;
-    stays = subst (λ z. AnyAmong code places (chars text) ↔ AnyAmong code (places_at states (z / 128)) (chars (drop along.start text))) (sym more.state) along.stays;
+    stays = λ s. subst (λ z. AnyAmong code places (chars text ++ s) ↔ AnyAmong code (places_at states (z / 128)) (chars (drop along.start text) ++ s)) (sym more.state) (along.stays s);
   }
   along_row r (inr (c, at, ends, first, leads)) = record {
     key = first.key;
@@ -298,9 +298,9 @@ module _ (code : List Instruction) (states : List State) (keys : List RowKey) (p
     within = omega (arith, lt);
     left = ap (λ z. z ++ drop (index + 1) text) (sym first.begun);
     utf8 = IsUtf8-past_char (drop along.start text) (drop (index + 1) text) c along.utf8 (whole c ends);
-    stays = subst (λ z. AnyAmong code places (chars text) ↔ AnyAmong code (places_at states (z / 128)) (chars (drop (index + 1) text))) (sym first.state) (
-      (λ h. (leads.leads (chars (drop (index + 1) text))).0 (subst (AnyAmong code (places_at states (along.key.at / 128))) (char_first c ends) (along.stays.0 h))),
-      (λ h. along.stays.1 (subst (AnyAmong code (places_at states (along.key.at / 128))) (sym (char_first c ends)) ((leads.leads (chars (drop (index + 1) text))).1 h))),
+    stays = λ s. subst (λ z. AnyAmong code places (chars text ++ s) ↔ AnyAmong code (places_at states (z / 128)) (chars (drop (index + 1) text) ++ s)) (sym first.state) (
+      (λ h. (leads.leads (chars (drop (index + 1) text) ++ s)).0 (subst (AnyAmong code (places_at states (along.key.at / 128))) (char_first c ends s) ((along.stays s).0 h))),
+      (λ h. (along.stays s).1 (subst (AnyAmong code (places_at states (along.key.at / 128))) (sym (char_first c ends s)) ((leads.leads (chars (drop (index + 1) text) ++ s)).1 h))),
     );
   }
 
@@ -326,24 +326,24 @@ module _ (code : List Instruction) (states : List State) (keys : List RowKey) (p
     pub along_step : (cell : ℕ) → get_or cells (row * 256 + b) 0 ≡ cell → 3 ≤ cell → IsAlong code states keys places text (index + 1) (cell - 3)
     along_step cell e some = step_of cell (subst (IsRowCell code states keys along.key b) e says) some
 
-    dead_of : (cell : ℕ) → IsRowCell code states keys along.key b cell → cell ≡ 1 → AnyAmong code places (chars text) → ⊥
-    dead_of cell (inl e) one h = absurd (omega (arith, e, one))
-    dead_of cell (inr (inl (e, (c, ends, dead)))) one h =
-        dead (chars (drop (index + 1) text)) (subst (AnyAmong code (places_at states (along.key.at / 128))) (char_first c ends) (along.stays.0 h))
-    dead_of cell (inr (inr (inl (e, all)))) one h = absurd (omega (arith, e, one))
-    dead_of cell (inr (inr (inr (r, e, leads)))) one h = absurd (omega (arith, e, one))
+    dead_of : (cell : ℕ) → IsRowCell code states keys along.key b cell → cell ≡ 1 → (s : List ℕ) → AnyAmong code places (chars text ++ s) → ⊥
+    dead_of cell (inl e) one s h = absurd (omega (arith, e, one))
+    dead_of cell (inr (inl (e, (c, ends, dead)))) one s h =
+        dead (chars (drop (index + 1) text) ++ s) (subst (AnyAmong code (places_at states (along.key.at / 128))) (char_first c ends s) ((along.stays s).0 h))
+    dead_of cell (inr (inr (inl (e, all)))) one s h = absurd (omega (arith, e, one))
+    dead_of cell (inr (inr (inr (r, e, leads)))) one s h = absurd (omega (arith, e, one))
 
-    pub along_dead : (cell : ℕ) → get_or cells (row * 256 + b) 0 ≡ cell → cell ≡ 1 → AnyAmong code places (chars text) → ⊥
+    pub along_dead : (cell : ℕ) → get_or cells (row * 256 + b) 0 ≡ cell → cell ≡ 1 → (s : List ℕ) → AnyAmong code places (chars text ++ s) → ⊥
     along_dead cell e one = dead_of cell (subst (IsRowCell code states keys along.key b) e says) one
 
-    all_of : (cell : ℕ) → IsRowCell code states keys along.key b cell → cell ≡ 2 → AnyAmong code places (chars text)
-    all_of cell (inl e) two = absurd (omega (arith, e, two))
-    all_of cell (inr (inl (e, dead))) two = absurd (omega (arith, e, two))
-    all_of cell (inr (inr (inl (e, (c, ends, all))))) two =
-        along.stays.1 (subst (AnyAmong code (places_at states (along.key.at / 128))) (sym (char_first c ends)) (all (chars (drop (index + 1) text))))
-    all_of cell (inr (inr (inr (r, e, leads)))) two = absurd (omega (arith, e, two))
+    all_of : (cell : ℕ) → IsRowCell code states keys along.key b cell → cell ≡ 2 → (s : List ℕ) → AnyAmong code places (chars text ++ s)
+    all_of cell (inl e) two s = absurd (omega (arith, e, two))
+    all_of cell (inr (inl (e, dead))) two s = absurd (omega (arith, e, two))
+    all_of cell (inr (inr (inl (e, (c, ends, all))))) two s =
+        (along.stays s).1 (subst (AnyAmong code (places_at states (along.key.at / 128))) (sym (char_first c ends s)) (all (chars (drop (index + 1) text) ++ s)))
+    all_of cell (inr (inr (inr (r, e, leads)))) two s = absurd (omega (arith, e, two))
 
-    pub along_all : (cell : ℕ) → get_or cells (row * 256 + b) 0 ≡ cell → cell ≡ 2 → AnyAmong code places (chars text)
+    pub along_all : (cell : ℕ) → get_or cells (row * 256 + b) 0 ≡ cell → cell ≡ 2 → (s : List ℕ) → AnyAmong code places (chars text ++ s)
     along_all cell e two = all_of cell (subst (IsRowCell code states keys along.key b) e says) two
 
 -- where the row's character begins
@@ -365,6 +365,6 @@ module _ (code : List Instruction) (states : List State) (keys : List RowKey) (p
   along_ends n cells e rows =
       let at : along.start ≡ index - n = omega (arith, begins_at, e) in (
         rows.placed row key is,
-        subst (λ z. AnyAmong code places (chars text) ↔ AnyAmong code (places_at states (key.at / 128)) (chars (drop z text))) at
-            (subst (λ k. AnyAmong code places (chars text) ↔ AnyAmong code (places_at states (k.at / 128)) (chars (drop along.start text))) same along.stays),
+        (λ s. subst (λ z. AnyAmong code places (chars text ++ s) ↔ AnyAmong code (places_at states (key.at / 128)) (chars (drop z text) ++ s)) at
+            (subst (λ k. AnyAmong code places (chars text ++ s) ↔ AnyAmong code (places_at states (k.at / 128)) (chars (drop along.start text) ++ s)) same (along.stays s))),
       )

@@ -1,5 +1,5 @@
 -- States that are added, and cells that are filled.
-use Rattle.std.proofs.Common.{◌≡◌, ℕ, zero, suc, ◌+◌, ◌-◌, ◌*◌, ◌/◌, ◌%◌, ◌<◌, ◌≤◌, ◌⊎◌, ◌↔◌, ◌≢◌, inl, inr, Bool, true, false, List, [], ◌∷◌, ◌++◌, Option, Some, None, IfSome, IsTrue, Contains, length, get_or, set, replicate, refl, sym, ◌∙◌, ap, subst, arith, slice_get, length-append, length-set, get_or-set_same, get_or-set_other}
+use Rattle.std.proofs.Common.{◌≡◌, ℕ, zero, suc, ◌+◌, ◌-◌, ◌*◌, ◌/◌, ◌%◌, ◌<◌, ◌≤◌, ◌⊎◌, ◌↔◌, ◌≢◌, inl, inr, Bool, true, false, List, [], ◌∷◌, ◌++◌, Option, Some, None, IfSome, IsTrue, is_some, true≢false, Contains, length, get_or, set, replicate, refl, sym, ◌∙◌, ap, subst, arith, slice_get, length-append, length-set, get_or-set_same, get_or-set_other}
 use Rattle.std.proofs.lemmas.Bool.{cases_eq, cases_lt}
 use Rattle.std.proofs.lemmas.List.{get_or_append_left, get_or-append_right, get_or-replicate, length-replicate}
 use Rattle.std.proofs.lemmas.Option.{slice_get_cases, slice_get_within}
@@ -8,7 +8,7 @@ use Rattle.wax_states.specs.declared.table.State.{State}
 use Rattle.wax_states.specs.declared.table.WideCell.{WideCell}
 use Rattle.wax_states.specs.declared.table.Next.{Next}
 use Rattle.wax_states.specs.declared.table.Next.TheVariants.{To, Nothing, Everything}
-use Rattle.wax_lazy.specs.inner.Table.{AreNumbersOf, AreWideCells, BeginsTexts, IsRestState, IsState, IsTable, IsJoinOf, KeepsStates, Leads, own_at, own_in}
+use Rattle.wax_lazy.specs.inner.Table.{AreNumbersOf, AreWideCells, BeginsTexts, IsRestState, IsState, IsTable, IsJoinOf, KeepsStates, Leads, known_numbers, numbers_in, own_at, own_in}
 use Rattle.wax_states.specs.States.{AreEmpty, HasWide, IsWrittenWide, cell_of_next, IsDead, IsSettled, IsStatePlace, IsTransition, LeadOn, LeadsNext, LeadsTo, TakesAll, led_of, places_at, places_in, places_led, with_said}
 use Rattle.wax_program.specs.declared.instruction.Instruction.{Instruction}
 use Rattle.wax_program.specs.Machine.{Accepts}
@@ -179,6 +179,9 @@ module _ (old new : List State) (t : ℕ) (accepts : State → Option Bool) (num
   count : length new ≡ length old
   count = ap length settled.2 ∙ length-set old t said
 
+  pub settled_numbers : numbers_in (slice_get new t) ≡ known_numbers (numbers settled.0)
+  settled_numbers = ap numbers_in here
+
   pub settled_keeps : KeepsStates old new
   settled_keeps u lt = (
     omega (arith, lt, count),
@@ -212,6 +215,12 @@ module _ (old new : List State) (t : ℕ) (accepts : State → Option Bool) (num
         subst (λ z. IsTransition code new z k (get_or cells (128 * u + k) 0)) (sym (settled_keeps u within).1)
         (cell_keeps old new settled_keeps code (places_at old u) k (get_or cells (128 * u + k) 0) (table.says u k within low)));
   }
+
+-- numbers that are known are right
+pub known_are : (code : List Instruction) (places : List ℕ) (known : Option (Vec ℕ)) → is_some known ≡ true → IfSome known (λ v. AreNumbersOf code places v.items)
+    → AreNumbersOf code places (known_numbers known)
+known_are code places (Some v) is are = are
+known_are code places None is are = absurd (true≢false (sym is))
 
 -- ---- cells, by the place where a state's cells begin
 place_is : (states : List State) (at c : ℕ) → IsStatePlace states at → at + c ≡ 128 * (at / 128) + c

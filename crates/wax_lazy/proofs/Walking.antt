@@ -1,31 +1,40 @@
 -- A text that is followed from state to state.
-use Rattle.std.proofs.Common.{◌≡◌, ℕ, suc, ◌+◌, ◌<◌, ◌↔◌, Bool, true, false, IsTrue, List, [], ◌∷◌, length, get_or, drop, refl, sym, ◌∙◌, ap, subst, true≢false, arith, drop-cons}
-use Rattle.wax_states.specs.States.{IsDead, LeadOn, TakesAll}
+use Rattle.std.proofs.Common.{◌≡◌, ℕ, suc, ◌+◌, ◌/◌, ◌<◌, ◌↔◌, Bool, IsTrue, List, [], ◌∷◌, ◌++◌, length, get_or, drop, refl, sym, ◌∙◌, ap, subst, arith, drop-cons}
+use Rattle.wax_lazy.specs.inner.Cached.{DecidesLeft, LeadsFor}
+use Rattle.wax_states.specs.declared.table.Next.{Next}
+use Rattle.wax_states.specs.declared.table.Next.TheVariants.{To, Nothing, Everything}
+use Rattle.wax_states.specs.declared.table.State.{State}
+use Rattle.wax_states.specs.States.{IsStatePlace, LeadOn, places_at}
 use Rattle.wax_program.specs.declared.instruction.Instruction.{Instruction}
 use Rattle.wax_program.specs.Machine.{Accepts}
 use Rattle.wax_program.specs.Threads.{AnyAmong}
 
-module _ (code : List Instruction) (start : ℕ) (text left : List ℕ) (places : List ℕ) (stays : Accepts code start text ↔ AnyAmong code places left) where
-  -- a character that is left leads on
-  pub stays_on : (rest others : List ℕ) (c : ℕ) → left ≡ c ∷ rest → LeadOn code c places others → Accepts code start text ↔ AnyAmong code others rest
-  stays_on rest others c e leads = (
-    (λ h. (leads rest).0 (subst (AnyAmong code places) e (stays.0 h))),
-    (λ h. stays.1 (subst (AnyAmong code places) (sym e) ((leads rest).1 h))),
-  )
+-- a character that is left leads on
+pub stays_on : (code : List Instruction) (start : ℕ) (text left places rest others : List ℕ) (c : ℕ) → Accepts code start text ↔ AnyAmong code places left
+    → left ≡ c ∷ rest → LeadOn code c places others → Accepts code start text ↔ AnyAmong code others rest
+stays_on code start text left places rest others c stays e leads = (
+  (λ h. (leads rest).0 (subst (AnyAmong code places) e (stays.0 h))),
+  (λ h. stays.1 (subst (AnyAmong code places) (sym e) ((leads rest).1 h))),
+)
 
-  -- dead places accept nothing that is left
-  pub dead_decides : (rest : List ℕ) (c : ℕ) → left ≡ c ∷ rest → IsDead code places c → (IsTrue false ↔ Accepts code start text)
-  dead_decides rest c e dead =
-      ((λ h. absurd (true≢false (sym h))), (λ h. absurd (dead rest (subst (AnyAmong code places) e (stays.0 h)))))
+module _ (code : List Instruction) (Holds : List ℕ → Type 0) (states : List State) where
+  -- a step leads on
+  pub leads_on : (places left after : List ℕ) (next : Next) → ((s : List ℕ) → Holds s ↔ AnyAmong code places (left ++ s))
+      → DecidesLeft code states places left after next → LeadsFor code states Holds after next
+  leads_on places left after (To at) stays d = (d.0, (λ s. ((λ h. (d.1 s).0 ((stays s).0 h)), (λ a. (stays s).1 ((d.1 s).1 a)))))
+  leads_on places left after Nothing stays dead = λ s h. dead s ((stays s).0 h)
+  leads_on places left after Everything stays all = λ s. (stays s).1 (all s)
 
-  -- nor does it matter what is left
-  pub all_decides : (rest : List ℕ) (c : ℕ) → left ≡ c ∷ rest → TakesAll code places c → (IsTrue true ↔ Accepts code start text)
-  all_decides rest c e all = ((λ _. stays.1 (subst (AnyAmong code places) (sym e) (all rest))), (λ _. refl))
+  -- where no state is next, it doesn't matter what is left
+  pub leads_past : (left : List ℕ) (next : Next) → ((at : ℕ) → next ≡ To at → ⊥) → LeadsFor code states Holds left next → LeadsFor code states Holds [] next
+  leads_past left (To at) apart l = absurd (apart at refl)
+  leads_past left Nothing apart l = l
+  leads_past left Everything apart l = l
 
-  -- at the end the state decides
-  pub end_decides : (b : Bool) → left ≡ [] → (IsTrue b ↔ AnyAmong code places []) → (IsTrue b ↔ Accepts code start text)
-  end_decides b e d =
-      ((λ h. stays.1 (subst (AnyAmong code places) (sym e) (d.0 h))), (λ h. d.1 (subst (AnyAmong code places) e (stays.0 h))))
+  -- at the end, the state is where the text leads
+  pub leads_end : (left : List ℕ) (at : ℕ) → left ≡ [] → IsStatePlace states at → ((s : List ℕ) → Holds s ↔ AnyAmong code (places_at states (at / 128)) (left ++ s))
+      → LeadsFor code states Holds [] (To at)
+  leads_end left at none placed stays = subst (λ z. LeadsFor code states Holds z (To at)) none (placed, stays)
 
 pub next_of : (text : List ℕ) (i : ℕ) → i < length text → drop i text ≡ get_or text i 0 ∷ drop (i + 1) text
 next_of text i lt =

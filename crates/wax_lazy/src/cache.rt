@@ -5,8 +5,9 @@ ghost use Rattle.std.specs.Prelude.{slice_index};
 ghost use Rattle.std.specs.Str.{IsAscii};
 ghost use Rattle.wax_lazy.specs.inner.Cached.{AreNext, AreParted, AreSameLists, AreStepped, GrowsBy, IsAdded};
 ghost use Rattle.wax_lazy.specs.inner.Cached.{DecidesLeft, IsCacheOf, IsCleared, IsInterned, IsLone};
-ghost use Rattle.wax_lazy.specs.inner.Cached.{IsRestarted};
-ghost use Rattle.wax_lazy.specs.inner.Table.{AreNumbersOf, BeginsTexts, IsJoinOf, own_at};
+ghost use Rattle.wax_lazy.specs.inner.Cached.{IsRestarted, numbers_at};
+ghost use Rattle.wax_lazy.specs.inner.Table.{AreNumbersOf, BeginsTexts, IsJoinOf};
+ghost use Rattle.wax_lazy.specs.inner.Table.{own_at};
 ghost use Rattle.wax_program.specs.Closed.{IsClosed};
 ghost use Rattle.wax_program.specs.Checks.{IsCheckAt};
 ghost use Rattle.wax_program.specs.declared.instruction.Instruction.{Instruction};
@@ -48,7 +49,7 @@ const MOST_STATES: usize = 60_000;
 pub struct Cache {
     alloc: Global,
     stepper: Stepper,
-    table: Table,
+    pub table: Table,
     /// Rows of the states that texts past ASCII led to often.
     pub rows: Rows,
     /// The places that the last step reached.
@@ -83,11 +84,7 @@ pub struct Lone {
 impl Cache {
     /// Creates an empty cache for texts that begin at the place `start`. It keeps at most about
     /// `most_bytes` bytes.
-    ///
-    /// # Errors
-    ///
-    /// Returns `AllocError` if allocation fails.
-    pub fn new(
+    pub(crate) fn new(
         alloc: Global,
         program: &CompiledProgram,
         start: usize,
@@ -118,11 +115,11 @@ impl Cache {
     }
 
     /// Begins a text of `len` bytes. Returns where the cells of its first state begin.
-    ///
-    /// # Errors
-    ///
-    /// Returns `AllocError` if allocation fails.
-    pub fn begin(&mut self, program: &CompiledProgram, len: usize) -> Result<usize, AllocError>
+    pub(crate) fn begin(
+        &mut self,
+        program: &CompiledProgram,
+        len: usize,
+    ) -> Result<usize, AllocError>
         requires { IsCacheOf program.now.0 self.old }
         ensures cache { IsCacheOf program.now.0 self.new }
         ensures start { self.new.start ≡ self.old.start }
@@ -141,64 +138,10 @@ impl Cache {
         Ok(at)
     }
 
-    /// Follows a character from the state whose cells begin at `at`.
-    ///
-    /// # Errors
-    ///
-    /// Returns `AllocError` if allocation fails.
-    #[inline]
-    pub fn advance(
-        &mut self,
-        program: &CompiledProgram,
-        at: usize,
-        c: char,
-        meter: &mut Meter,
-    ) -> Result<Next, AllocError>
-        requires cache { IsCacheOf program.now.0 self.old }
-        requires placed { IsStatePlace self.old.table.states.items at }
-        ensures cache { IsCacheOf program.now.0 self.new }
-        ensures start { self.new.start ≡ self.old.start }
-        ensures leads { let places = places_at self.old.table.states.items (at / 128) in
-            IfOk result (LeadsNext program.now.0 self.new.table.states.items places c) }
-    {
-        if let Some(next) = self.known_char(at, c) {
-            return Ok(next);
-        }
-        self.prepare_for(program, c)?;
-        self.fill(program, at, c, meter)
-    }
-
-    /// Follows a character as `advance` does, and counts that its state is met. If it is met often,
-    /// fills cells of rows for the character.
-    ///
-    /// # Errors
-    ///
-    /// Returns `AllocError` if allocation fails.
-    #[inline]
-    pub fn advance_counted(
-        &mut self,
-        program: &CompiledProgram,
-        at: usize,
-        c: char,
-        meter: &mut Meter,
-    ) -> Result<Next, AllocError>
-        requires cache { IsCacheOf program.now.0 self.old }
-        requires placed { IsStatePlace self.old.table.states.items at }
-        ensures cache { IsCacheOf program.now.0 self.new }
-        ensures start { self.new.start ≡ self.old.start }
-        ensures leads { let places = places_at self.old.table.states.items (at / 128) in
-            IfOk result (LeadsNext program.now.0 self.new.table.states.items places c) }
-    {
-        if self.rows.is_often_met(at) {
-            return self.advance_and_record(program, at, c, meter);
-        }
-        self.advance(program, at, c, meter)
-    }
-
-    /// Follows a character as `advance` does, and fills cells of rows for it, unless rows take half
-    /// of the bytes that the cache may keep.
+    /// Follows a character from the state whose cells begin at `at`. If the state is met often, fills
+    /// cells of rows for the character, unless rows take half of the bytes that the cache may keep.
     #[inline(never)]
-    fn advance_and_record(
+    pub(crate) fn advance(
         &mut self,
         program: &CompiledProgram,
         at: usize,
@@ -212,12 +155,15 @@ impl Cache {
         ensures leads { let places = places_at self.old.table.states.items (at / 128) in
             IfOk result (LeadsNext program.now.0 self.new.table.states.items places c) }
     {
-        if self.is_full() {
-            return self.advance(program, at, c, meter);
-        }
         self.prepare_for(program, c)?;
+        if self.is_full() {
+            return match self.known_char(at, c) {
+                Some(next) => Ok(next),
+                None => self.fill(program, at, c, meter),
+            };
+        }
         let next = self.follow_known(program, at, c, MOST_PARTS, meter)?;
-        if self.rows.size() < self.most_bytes / 2 {
+        if self.rows.is_often_met(at) && self.rows.size() < self.most_bytes / 2 {
             self.rows.record(program, &self.table, at, c, next)?;
         }
         Ok(next)
@@ -268,12 +214,8 @@ impl Cache {
     /// Follows the ASCII characters of a text from the place `index` on: one of them, or more if the
     /// state has one own place, and checks follow there that take them. Passing over these needs no
     /// states. Returns where that leads, and up to which place.
-    ///
-    /// # Errors
-    ///
-    /// Returns `AllocError` if allocation fails.
     #[inline(never)]
-    pub fn advance_far(
+    pub(crate) fn advance_far(
         &mut self,
         program: &CompiledProgram,
         at: usize,
@@ -762,14 +704,6 @@ impl Cache {
         states >= MOST_STATES || states >= LEAST_STATES && bytes >= self.most_bytes
     }
 
-    /// Returns the places of the state whose cells begin at `at`.
-    pub fn places(&self, at: usize) -> &[usize]
-        requires { IsStatePlace self.now.table.states.items at }
-        ensures { places_at self.now.table.states.items (at / 128) ≡ result.now }
-    {
-        self.table.places(at)
-    }
-
     /// Returns whether a text that ends in the state whose cells begin at `at` is accepted. Takes a
     /// step of the program if no text has ended there.
     #[inline]
@@ -789,18 +723,12 @@ impl Cache {
         accepts
     }
 
-    /// Writes the numbers of the patterns that match a text that ends in the state whose cells begin at
-    /// `at`, ascending. Takes a step of the program if nobody has asked for them, and otherwise only
-    /// copies them.
-    ///
-    /// # Errors
-    ///
-    /// Returns `AllocError` if allocation fails.
-    pub fn list_numbers(
+    /// Finds the numbers of the patterns that match a text that ends in the state whose cells begin at
+    /// `at`, unless they are known.
+    pub(crate) fn find_numbers(
         &mut self,
         program: &CompiledProgram,
         at: usize,
-        numbers: &mut Vec<usize>,
         meter: &mut Meter,
     ) -> Result<(), AllocError>
         requires cache { IsCacheOf program.now.0 self.old }
@@ -809,21 +737,35 @@ impl Cache {
         ensures cache { IsCacheOf program.now.0 self.new }
         ensures start { self.new.start ≡ self.old.start }
         ensures numbers { let places = places_at self.old.table.states.items (at / 128) in
-            IfOk result (λ _. AreNumbersOf program.now.0 places numbers.new.items) }
+            IfOk result (λ _. AreNumbersOf program.now.0 places (numbers_at self.new (Some at))) }
     {
-        numbers.clear();
-        if let Some(known) = &self.table.state(at).numbers {
-            numbers.extend_from_slice(known)?;
+        if self.table.state(at).numbers.is_some() {
             return Ok(());
         }
+        let places = self.table.places(at);
         self.stepper
-            .list_ends(program, self.table.places(at), numbers, meter)?;
-        let known = Vec::from_slice(self.alloc, numbers)?;
-        self.bytes = self
-            .bytes
-            .saturating_add(known.len().saturating_mul(NUMBER_BYTES));
-        self.table.settle_numbers(at, known);
+            .list_ends(program, places, &mut self.loops, meter)?;
+        let numbers = Vec::from_slice(self.alloc, &self.loops)?;
+        let bytes = numbers.len().saturating_mul(NUMBER_BYTES);
+        self.bytes = self.bytes.saturating_add(bytes);
+        self.table.settle_numbers(at, numbers);
         Ok(())
+    }
+
+    /// Returns the numbers that were found for the state whose cells begin at `at`, if there is one.
+    pub(crate) fn numbers(&self, at: Option<usize>) -> &[usize]
+        ensures { numbers_at self.now at ≡ result.now }
+    {
+        let Some(at) = at else {
+            return &[];
+        };
+        match self.table.states.get(at / COLUMNS) {
+            Some(state) => match &state.numbers {
+                Some(numbers) => numbers,
+                None => &[],
+            },
+            None => &[],
+        }
     }
 
     /// Computes what `accepts` returns: by the own places of the state, and then by its rest.

@@ -2,15 +2,15 @@
 ghost use Rattle.std.specs.Prelude.{◌≡◌, ◌≤◌, ◌↔◌, IfOk, IsFalse, IsTrue, chars, is_some, length};
 ghost use Rattle.wax_lazy.specs.Numbers.{AreNumbers};
 ghost use Rattle.wax_lazy.specs.Verdict.{IsVerdict};
-ghost use Rattle.wax_lazy.specs.inner.Cached.{IsKeptFor, IsKnownOf};
+ghost use Rattle.wax_lazy.specs.inner.Cached.{IsFollowed, IsKeptFor, IsKnownOf, numbers_known};
 ghost use Rattle.wax_program.specs.Closed.{IsClosed};
 ghost use Rattle.wax_program.specs.Last.{ReadsLast};
 ghost use Rattle.wax_program.specs.Machine.{Accepts};
 ghost use Rattle.wax_program.specs.Onward.{AreFlagsOf};
 
 use crate::cache::Cache;
-use crate::lead::{lead, list_numbers, verdict_at};
-use crate::walk::walk;
+use crate::ends::{accepts, find_numbers, verdict_at};
+use crate::lead::lead;
 use std::alloc::{AllocError, Global};
 use wax_program::{Ahead, CompiledProgram, Meter, Onward, last_name, reads_last, run, run_last};
 use wax_query::diagnostics::NoMemory;
@@ -49,29 +49,37 @@ impl Known {
     }
 
     /// Creates the cache, unless there is one.
-    ///
-    /// # Errors
-    ///
-    /// Returns `AllocError` if allocation fails.
-    #[inline]
-    pub fn prepare(&mut self, alloc: Global, program: &CompiledProgram) -> Result<(), AllocError>
+    #[inline(always)]
+    pub(crate) fn prepare(
+        &mut self,
+        alloc: Global,
+        program: &CompiledProgram,
+    ) -> Result<(), AllocError>
         requires { IsKnownOf program.now.0 self.old }
         ensures known { IsKnownOf program.now.0 self.new }
         ensures made { IfOk result (λ _. IsTrue (is_some self.new.cache)) }
     {
-        if self.cache.is_none() {
-            let cache = empty_cache(alloc, program, self.reads_last, self.most_bytes)?;
-            self.cache = Some(cache);
+        if self.cache.is_some() {
+            return Ok(());
         }
+        self.create_cache(alloc, program)
+    }
+
+    /// Creates a cache for last components, which begin at the place 2, or for whole texts.
+    #[inline(never)]
+    fn create_cache(&mut self, alloc: Global, program: &CompiledProgram) -> Result<(), AllocError>
+        requires { IsKnownOf program.now.0 self.old }
+        ensures known { IsKnownOf program.now.0 self.new }
+        ensures made { IfOk result (λ _. IsTrue (is_some self.new.cache)) }
+    {
+        let start = if self.reads_last { 2 } else { 0 };
+        let cache = Cache::new(alloc, program, start, self.most_bytes)?;
+        self.cache = Some(cache);
         Ok(())
     }
 
     /// Returns whether the program accepts the text.
-    ///
-    /// # Errors
-    ///
-    /// Returns `NoMemory` if allocation fails. Further texts can be decided even then.
-    pub fn is_match(
+    pub(crate) fn is_match(
         &mut self,
         alloc: Global,
         program: &CompiledProgram,
@@ -81,21 +89,20 @@ impl Known {
         ensures known { IsKnownOf program.now.0 self.new }
         ensures decides { IfOk result (λ b. IsTrue b ↔ Accepts program.now.0 0 (chars text.now)) }
     {
+        if self.gives_up() {
+            return decide_once(alloc, program, self.reads_last, text, &mut self.meter);
+        }
         self.prepare(alloc, program)?;
-        let meter = &mut self.meter;
+        let text = followed(text, self.reads_last);
         match &mut self.cache {
-            Some(cache) => decide(alloc, program, self.reads_last, cache, text, meter),
-            None => decide_once(alloc, program, self.reads_last, text, meter),
+            Some(cache) => Ok(accepts(program, cache, text, &mut self.meter)?),
+            None => unreachable!(),
         }
     }
 
     /// Returns whether the program accepts the text, and whether it accepts one of something below
     /// the folder with this text.
-    ///
-    /// # Errors
-    ///
-    /// Returns `NoMemory` if allocation fails. Further texts can be decided even then.
-    pub fn verdict(
+    pub(crate) fn verdict(
         &mut self,
         alloc: Global,
         program: &CompiledProgram,
@@ -106,7 +113,10 @@ impl Known {
         ensures decides { IfOk result (IsVerdict program.now.0 (chars text.now)) }
     {
         let onward = self.take_onward(alloc, program)?;
-        let mut cache = self.take_cache(alloc, program)?;
+        self.prepare(alloc, program)?;
+        let Some(mut cache) = self.cache.take() else {
+            unreachable!();
+        };
         let meter = &mut self.meter;
         let verdict = judge(program, &onward, self.reads_last, &mut cache, text, meter);
         self.cache = Some(cache);
@@ -114,35 +124,35 @@ impl Known {
         Ok(verdict?)
     }
 
-    /// Writes the numbers of the patterns that match the text, ascending.
-    ///
-    /// # Errors
-    ///
-    /// Returns `NoMemory` if allocation fails. Further texts can be decided even then.
-    pub fn list_numbers(
+    /// Follows the text, and finds the numbers of the patterns that match it. Returns the state that
+    /// keeps them, or `None` if no pattern matches. If allocation fails, further texts can be decided.
+    pub(crate) fn find_numbers(
         &mut self,
         alloc: Global,
         program: &CompiledProgram,
         text: &str,
-        numbers: &mut Vec<usize>,
-    ) -> Result<(), NoMemory>
+    ) -> Result<Option<usize>, NoMemory>
         requires known { IsKnownOf program.now.0 self.old }
         requires closed { IsClosed program.now.0 }
         ensures known { IsKnownOf program.now.0 self.new }
-        ensures numbers { IfOk result (λ _. AreNumbers program.now.0 (chars text.now) numbers.new.items) }
+        ensures numbers { IfOk result
+            (λ at. AreNumbers program.now.0 (chars text.now) (numbers_known self.new.cache at)) }
     {
         self.prepare(alloc, program)?;
-        let text = if self.reads_last {
-            last_name(text)
-        } else {
-            text
-        };
+        let text = followed(text, self.reads_last);
         match &mut self.cache {
-            Some(cache) => {
-                list_numbers(program, cache, text, numbers, &mut self.meter)?;
-                Ok(())
-            }
+            Some(cache) => Ok(find_numbers(program, cache, text, &mut self.meter)?),
             None => unreachable!(),
+        }
+    }
+
+    /// Returns the numbers that were found for a state, if there is one.
+    pub(crate) fn numbers(&self, at: Option<usize>) -> &[usize]
+        ensures { numbers_known self.now.cache at ≡ result.now }
+    {
+        match &self.cache {
+            Some(cache) => cache.numbers(at),
+            None => &[],
         }
     }
 
@@ -162,18 +172,6 @@ impl Known {
         }
     }
 
-    /// Takes out the cache, or creates one.
-    fn take_cache(&mut self, alloc: Global, program: &CompiledProgram) -> Result<Cache, AllocError>
-        requires { IsKnownOf program.now.0 self.old }
-        ensures known { IsKnownOf program.now.0 self.new }
-        ensures cache { IfOk result (IsKeptFor program.now.0 self.new.reads_last) }
-    {
-        match self.cache.take() {
-            Some(cache) => Ok(cache),
-            None => empty_cache(alloc, program, self.reads_last, self.most_bytes),
-        }
-    }
-
     /// Returns whether states were removed before they had served enough text.
     pub fn gives_up(&self) -> bool {
         match &self.cache {
@@ -183,46 +181,16 @@ impl Known {
     }
 }
 
-/// Creates a cache for last components, which begin at the place 2, or for whole texts.
-#[inline(never)]
-fn empty_cache(
-    alloc: Global,
-    program: &CompiledProgram,
-    reads_last: bool,
-    most_bytes: usize,
-) -> Result<Cache, AllocError>
-    requires last { IsTrue reads_last → ReadsLast program.now.0 }
-    requires long { IsTrue reads_last → 2 ≤ length program.now.0 }
-    ensures { IfOk result (IsKeptFor program.now.0 reads_last) }
+/// Returns the part of a text that is followed: its last component if only that matters, and
+/// otherwise all of it.
+#[inline]
+fn followed(text: &str, reads_last: bool) -> &str
+    ensures { IsFollowed reads_last (chars text.now) (chars result.now) }
 {
     if reads_last {
-        return Cache::new(alloc, program, 2, most_bytes);
+        return last_name(text);
     }
-    Cache::new(alloc, program, 0, most_bytes)
-}
-
-/// Decides a text by the cache. Runs the program instead if the cache gave up.
-fn decide(
-    alloc: Global,
-    program: &CompiledProgram,
-    reads_last: bool,
-    cache: &mut Cache,
-    text: &str,
-    meter: &mut Meter,
-) -> Result<bool, NoMemory>
-    requires cache { IsKeptFor program.now.0 reads_last cache.old }
-    requires last { IsTrue reads_last → ReadsLast program.now.0 }
-    requires long { IsTrue reads_last → 2 ≤ length program.now.0 }
-    ensures cache { IsKeptFor program.now.0 reads_last cache.new }
-    ensures decides { IfOk result (λ b. IsTrue b ↔ Accepts program.now.0 0 (chars text.now)) }
-{
-    if cache.gives_up {
-        return decide_once(alloc, program, reads_last, text, meter);
-    }
-    if reads_last {
-        return Ok(walk(program, cache, last_name(text), meter)?);
-    }
-    Ok(walk(program, cache, text, meter)?)
+    text
 }
 
 /// Follows a text, and returns both answers. If only the last component matters, something below is
@@ -242,7 +210,7 @@ fn judge(
     ensures decides { IfOk result (IsVerdict program.now.0 (chars text.now)) }
 {
     if reads_last {
-        let is_match = walk(program, cache, last_name(text), meter)?;
+        let is_match = accepts(program, cache, last_name(text), meter)?;
         return Ok(Verdict {
             is_match,
             goes_on: onward.holds(Ahead::Path, 0),

@@ -1,23 +1,92 @@
-//! Following a text to its end, to see what may follow it.
-ghost use Rattle.std.specs.Prelude.{◌≡◌, ◌↔◌, ◌/◌, ℕ, List, IfOk, IfSome, IsTrue, chars};
-ghost use Rattle.wax_states.specs.States.{IsStatePlace, led_of};
-ghost use Rattle.wax_lazy.specs.inner.Cached.{AnyAhead, IsAheadVerdict, IsCacheOf, LeadsText};
-ghost use Rattle.wax_lazy.specs.Numbers.{AreNumbersFrom};
-ghost use Rattle.wax_program.specs.Closed.{IsClosed};
-ghost use Rattle.wax_program.specs.Onward.{AreFlagsOf};
+//! Following a text from state to state.
+ghost use Rattle.std.specs.Prelude.{◌≡◌, ◌/◌, ◌<◌, ◌≤◌, [], IfOk, chars, drop, length};
+ghost use Rattle.std.specs.Str.{IsAscii, IsUtf8};
+ghost use Rattle.wax_lazy.specs.inner.Cached.{DecidesLeft, IsCacheOf, LeadsText};
+ghost use Rattle.wax_lazy.specs.inner.Rows.{HasRow};
+ghost use Rattle.wax_states.specs.States.{IsStatePlace, places_at};
 
 use crate::cache::Cache;
+use crate::rows::{FIRST_ROW, ROW};
 use std::alloc::AllocError;
-use wax_program::{Ahead, CompiledProgram, Meter, Onward};
-use wax_query::query::Verdict;
-use wax_states::Next;
+use wax_program::{CompiledProgram, Meter};
+use wax_states::{ALL, DEAD, FIRST, Next};
 
 /// Follows a text from state to state. Returns where it leads, to whatever follows it.
-///
-/// # Errors
-///
-/// Returns `AllocError` if allocation fails.
-pub fn lead(
+pub(crate) fn lead(
+    program: &CompiledProgram,
+    cache: &mut Cache,
+    text: &str,
+    meter: &mut Meter,
+) -> Result<Next, AllocError>
+    requires { IsCacheOf program.now.0 cache.old }
+    ensures cache { IsCacheOf program.now.0 cache.new }
+    ensures start { cache.new.start ≡ cache.old.start }
+    ensures leads { IfOk result
+        (LeadsText program.now.0 cache.new.table.states.items cache.old.start (chars text.now)) }
+{
+    if text.is_ascii() {
+        return lead_ascii(program, cache, text.as_bytes(), meter);
+    }
+    lead_chars(program, cache, text, meter)
+}
+
+/// Follows a text of only ASCII characters, by its bytes.
+fn lead_ascii(
+    program: &CompiledProgram,
+    cache: &mut Cache,
+    text: &[u8],
+    meter: &mut Meter,
+) -> Result<Next, AllocError>
+    requires cache { IsCacheOf program.now.0 cache.old }
+    requires ascii { IsAscii text.now }
+    ensures cache { IsCacheOf program.now.0 cache.new }
+    ensures start { cache.new.start ≡ cache.old.start }
+    ensures leads { IfOk result
+        (LeadsText program.now.0 cache.new.table.states.items cache.old.start text.now) }
+{
+    let mut at = cache.begin(program, text.len())?;
+    let mut index = 0;
+    while index < text.len() {
+        let (next, end) = advance_in(program, cache, at, text, index, meter)?;
+        let Next::To(to) = next else {
+            return Ok(next);
+        };
+        at = to;
+        index = end;
+    }
+    Ok(Next::To(at))
+}
+
+/// Follows ASCII characters of a text from the place `index` on: one if its cell is filled, and
+/// otherwise one or more. Returns where they lead, and up to which place.
+#[inline(always)]
+fn advance_in(
+    program: &CompiledProgram,
+    cache: &mut Cache,
+    at: usize,
+    text: &[u8],
+    index: usize,
+    meter: &mut Meter,
+) -> Result<(Next, usize), AllocError>
+    requires cache { IsCacheOf program.now.0 cache.old }
+    requires placed { IsStatePlace cache.old.table.states.items at }
+    requires ascii { IsAscii text.now }
+    requires within { index < length text.now }
+    ensures cache { IsCacheOf program.now.0 cache.new }
+    ensures start { cache.new.start ≡ cache.old.start }
+    ensures further { IfOk result (λ r. (index < r.1) × (r.1 ≤ length text.now)) }
+    ensures decides { let places = places_at cache.old.table.states.items (at / 128) in
+        IfOk result (λ r. DecidesLeft program.now.0 cache.new.table.states.items places
+        (drop index text.now) (drop r.1 text.now) r.0) }
+{
+    if let Some(next) = cache.known(at, text[index]) {
+        return Ok((next, index + 1));
+    }
+    cache.advance_far(program, at, text, index, meter)
+}
+
+/// Follows any text: by rows as far as they lead, and otherwise character by character.
+fn lead_chars(
     program: &CompiledProgram,
     cache: &mut Cache,
     text: &str,
@@ -30,88 +99,91 @@ pub fn lead(
         (LeadsText program.now.0 cache.new.table.states.items cache.old.start (chars text.now)) }
 {
     let mut at = cache.begin(program, text.len())?;
-    let mut left = text.chars();
-    while let Some(c) = left.next() {
-        match cache.advance(program, at, c, meter)? {
-            Next::To(next) => at = next,
-            Next::Nothing => return Ok(Next::Nothing),
-            Next::Everything => return Ok(Next::Everything),
-        }
+    let mut left = text;
+    while !left.is_empty() {
+        let (next, end) = advance_left(program, cache, at, left, meter)?;
+        let Next::To(to) = next else {
+            return Ok(next);
+        };
+        at = to;
+        left = &left[end..];
     }
     Ok(Next::To(at))
 }
 
-/// Writes the numbers of the patterns that match the text, ascending.
-///
-/// # Errors
-///
-/// Returns `AllocError` if allocation fails.
-pub fn list_numbers(
+/// Follows characters of a text: those that rows know, or else one. Returns where they lead, and up
+/// to which byte.
+#[inline(always)]
+fn advance_left(
     program: &CompiledProgram,
     cache: &mut Cache,
-    text: &str,
-    numbers: &mut Vec<usize>,
+    at: usize,
+    left: &str,
     meter: &mut Meter,
-) -> Result<(), AllocError>
+) -> Result<(Next, usize), AllocError>
     requires cache { IsCacheOf program.now.0 cache.old }
-    requires closed { IsClosed program.now.0 }
+    requires placed { IsStatePlace cache.old.table.states.items at }
+    requires some { 0 < length left.now }
     ensures cache { IsCacheOf program.now.0 cache.new }
     ensures start { cache.new.start ≡ cache.old.start }
-    ensures numbers { IfOk result
-        (λ _. AreNumbersFrom program.now.0 cache.old.start (chars text.now) numbers.new.items) }
+    ensures further { IfOk result (λ r. (0 < r.1) × (r.1 ≤ length left.now)) }
+    ensures utf8 { IfOk result (λ r. IsUtf8 (drop r.1 left.now)) }
+    ensures decides { let places = places_at cache.old.table.states.items (at / 128) in
+        IfOk result (λ r. DecidesLeft program.now.0 cache.new.table.states.items places
+        (chars left.now) (chars (drop r.1 left.now)) r.0) }
 {
-    match lead(program, cache, text, meter)? {
-        Next::To(at) => cache.list_numbers(program, at, numbers, meter),
-        Next::Nothing => {
-            numbers.clear();
-            Ok(())
+    if let Some(row) = cache.rows.find(at) {
+        let (next, end) = follow_rows(program, cache, at, row, left.as_bytes());
+        if end > 0 {
+            return Ok((next, end));
         }
-        Next::Everything => unreachable!(),
+    }
+    let mut all = left.chars();
+    match all.next() {
+        Some(c) => {
+            let next = cache.advance(program, at, c, meter)?;
+            Ok((next, c.len_utf8()))
+        }
+        None => Ok((Next::To(at), 0)),
     }
 }
 
-/// Returns both answers for a text that led there and goes on in the given way.
-pub fn verdict_at(
-    program: &CompiledProgram,
-    onward: &Onward,
-    cache: &mut Cache,
-    led: Next,
-    m: Ahead,
-    meter: &mut Meter,
-) -> Verdict
-    requires cache { IsCacheOf program.now.0 cache.old }
-    requires onward { AreFlagsOf program.now.0 onward.now }
-    requires placed { IfSome (led_of led) (IsStatePlace cache.old.table.states.items) }
-    ensures cache { IsCacheOf program.now.0 cache.new }
-    ensures start { cache.new.start ≡ cache.old.start }
-    ensures decides { (text : List ℕ)
-        → LeadsText program.now.0 cache.old.table.states.items cache.old.start text led
-        → IsAheadVerdict program.now.0 cache.old.start text m result }
+/// Follows a text from a row of the state whose cells begin at `at`, as far as cells are filled.
+/// Returns where that leads, and up to which byte, where a character ends. Takes one load and one
+/// comparison for each byte.
+#[inline(always)]
+fn follow_rows(
+    _program: &CompiledProgram,
+    cache: &Cache,
+    _at: usize,
+    row: usize,
+    text: &[u8],
+) -> (Next, usize)
+    requires cache { IsCacheOf _program.now.0 cache.now }
+    requires row { HasRow cache.now.rows.keys.items row _at [] }
+    requires utf8 { IsUtf8 text.now }
+    ensures within { result.1 ≤ length text.now }
+    ensures utf8 { IsUtf8 (drop result.1 text.now) }
+    ensures decides { let places = places_at cache.now.table.states.items (_at / 128) in
+        DecidesLeft _program.now.0 cache.now.table.states.items places
+        (chars text.now) (chars (drop result.1 text.now)) result.0 }
 {
-    match led {
-        Next::To(at) => Verdict {
-            goes_on: any_ahead(onward, m, cache.places(at)),
-            is_match: cache.accepts(program, at, meter),
-        },
-        Next::Nothing => Verdict {
-            is_match: false,
-            goes_on: false,
-        },
-        Next::Everything => Verdict {
-            is_match: true,
-            goes_on: true,
-        },
-    }
-}
-
-/// Returns whether some text of the kind is accepted from one of the places.
-fn any_ahead(onward: &Onward, m: Ahead, places: &[usize]) -> bool
-    ensures { IsTrue result ↔ AnyAhead onward.now m places.now }
-{
-    for place in places {
-        if onward.holds(m, *place) {
-            return true;
+    let mut here = row + FIRST_ROW;
+    let mut index = 0;
+    while index < text.len() {
+        let cell = cache.rows.cells[(here - FIRST_ROW) * ROW + usize::from(text[index])];
+        if cell < FIRST {
+            if cell == DEAD {
+                return (Next::Nothing, text.len());
+            }
+            if cell == ALL {
+                return (Next::Everything, text.len());
+            }
+            break;
         }
+        here = usize::from(cell);
+        index += 1;
     }
-    false
+    let key = cache.rows.keys[here - FIRST_ROW];
+    (Next::To(key.at), index - key.begun.len())
 }

@@ -3,12 +3,12 @@
 #![tactic(auto)]
 
 mod cache;
+mod ends;
 mod known;
 mod lead;
 mod matcher;
 mod once;
 mod rows;
-mod walk;
 
 pub use matcher::{HasProgram, Matcher};
-pub use once::list_numbers;
+pub use once::{last_number, list_numbers};

@@ -1,6 +1,6 @@
 //! Matchers of many texts.
 ghost use Rattle.std.specs.Prelude.{◌≡◌, ◌↔◌, IfOk, IsTrue, List, chars};
-ghost use Rattle.wax_lazy.specs.Numbers.{AreNumbers};
+ghost use Rattle.wax_lazy.specs.Numbers.{AreNumbers, IsLastNumber};
 ghost use Rattle.wax_lazy.specs.Verdict.{IsVerdict};
 ghost use Rattle.wax_program.specs.Closed.{IsClosed};
 ghost use Rattle.wax_program.specs.Machine.{Accepts};
@@ -201,8 +201,29 @@ impl<P: HasProgram> Matcher<P> {
         ensures numbers { IfOk result (λ _. AreNumbers self.old (chars text.now) numbers.new.items) }
         ensures same { self.new ≡ self.old }
     {
-        self.known
-            .list_numbers(self.alloc, self.program.program(), text, numbers)
+        numbers.clear();
+        let program = self.program.program();
+        let found = self.known.find_numbers(self.alloc, program, text)?;
+        numbers.extend_from_slice(self.known.numbers(found))?;
+        Ok(())
+    }
+
+    /// Returns the greatest number of a pattern that matches the text, or `None` if no pattern matches.
+    /// The program has to be one whose patterns have ends of their own. If the text leads only to
+    /// states whose numbers are known, this takes what `is_match` does, without its test, and doesn't
+    /// allocate.
+    ///
+    /// # Errors
+    ///
+    /// Returns `NoMemory` if allocation fails. The matcher can be used for further texts even then.
+    pub fn last_number(&mut self, text: &str) -> Result<Option<usize>, NoMemory>
+        requires { IsClosed self.old }
+        ensures last { IfOk result (IsLastNumber self.old (chars text.now)) }
+        ensures same { self.new ≡ self.old }
+    {
+        let program = self.program.program();
+        let found = self.known.find_numbers(self.alloc, program, text)?;
+        Ok(self.known.numbers(found).last().copied())
     }
 
     /// Returns whether the matcher runs its program for each text from now on, since the states

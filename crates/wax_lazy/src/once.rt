@@ -1,6 +1,6 @@
 //! Following one text without states, which takes no longer than the places that it reaches.
 ghost use Rattle.std.specs.Prelude.{IfOk, chars};
-ghost use Rattle.wax_lazy.specs.Numbers.{AreNumbers};
+ghost use Rattle.wax_lazy.specs.Numbers.{AreNumbers, IsLastNumber};
 ghost use Rattle.wax_program.specs.Closed.{IsClosed};
 
 use std::alloc::{AllocError, Global};
@@ -39,4 +39,23 @@ pub fn list_numbers(
     }
     stepper.list_ends(program, &places, numbers, &mut meter)?;
     Ok(())
+}
+
+/// Returns the greatest number of a pattern that matches the text, or `None` if no pattern matches. The
+/// program has to be one whose patterns have ends of their own. Takes what `list_numbers` does.
+///
+/// # Errors
+///
+/// Returns `AllocError` if allocation fails.
+pub fn last_number(
+    alloc: Global,
+    program: &CompiledProgram,
+    text: &str,
+) -> Result<Option<usize>, AllocError>
+    requires { IsClosed program.now.0 }
+    ensures { IfOk result (IsLastNumber program.now.0 (chars text.now)) }
+{
+    let mut numbers = Vec::new(alloc);
+    list_numbers(alloc, program, text, &mut numbers)?;
+    Ok(numbers.last().copied())
 }

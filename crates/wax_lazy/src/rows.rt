@@ -142,11 +142,7 @@ impl Rows {
 
     /// Fills the cells along the bytes of a character that leads from the state whose cells begin
     /// at `at`, if both states were met often. Allocates at most five rows.
-    ///
-    /// # Errors
-    ///
-    /// Returns `AllocError` if allocation fails.
-    pub fn record(
+    pub(crate) fn record(
         &mut self,
         program: &CompiledProgram,
         table: &Table,
@@ -330,11 +326,7 @@ impl Rows {
         }
     }
 
-    /// Adds a row with empty cells, and returns its number.
-    ///
-    /// # Errors
-    ///
-    /// Returns `AllocError` if allocation fails. All rows are removed then.
+    /// Adds a row with empty cells, and returns its number. If allocation fails, removes all rows.
     fn push(&mut self, key: RowKey) -> Result<usize, AllocError>
         ensures number { IfOk result (λ r. r ≡ length self.old.keys.items) }
         ensures keys { IfOk result (λ _. self.new.keys.items ≡ self.old.keys.items ++ key ∷ []) }
@@ -342,25 +334,15 @@ impl Rows {
         ensures no_keys { OnErr result (self.new.keys.items ≡ []) }
         ensures no_cells { OnErr result (self.new.cells.items ≡ []) }
     {
-        match self.add(key) {
-            Ok(number) => Ok(number),
-            Err(error) => {
+        let number = self.keys.len();
+        let added = self.keys.push(key);
+        match (added, self.cells.extend_from_slice(&[UNKNOWN; ROW])) {
+            (Ok(()), Ok(())) => Ok(number),
+            _ => {
                 self.clear();
-                Err(error)
+                Err(AllocError)
             }
         }
-    }
-
-    /// Adds a row as `push` does. If that fails, the rows have to be removed.
-    fn add(&mut self, key: RowKey) -> Result<usize, AllocError>
-        ensures number { IfOk result (λ r. r ≡ length self.old.keys.items) }
-        ensures keys { IfOk result (λ _. self.new.keys.items ≡ self.old.keys.items ++ key ∷ []) }
-        ensures cells { IfOk result (λ _. self.new.cells.items ≡ self.old.cells.items ++ replicate 256 0) }
-    {
-        let number = self.keys.len();
-        self.keys.push(key)?;
-        self.cells.extend_from_slice(&[UNKNOWN; ROW])?;
-        Ok(number)
     }
 }
 

@@ -1,15 +1,16 @@
 -- What is kept between texts.
 use Rattle.std.specs.Prelude.{◌≡◌, ℕ, ◌+◌, ◌*◌, ◌/◌, ◌<◌, ◌≤◌, ◌⊎◌, ◌↔◌, List, [], ◌∷◌, ◌++◌, Bool, None}
-use Rattle.std.specs.Prelude.{Contains, IfSome, IsFalse, IsTrue, Option, length, replicate}
+use Rattle.std.specs.Prelude.{Contains, IfSome, IsFalse, IsTrue, Option, Some, length, replicate}
+use Rattle.std.specs.Prelude.{false, slice_get, true}
 use Rattle.wax_lazy.specs.declared.cache.Cache.{Cache}
 use Rattle.wax_lazy.specs.declared.cache.Lone.{Lone}
 use Rattle.wax_lazy.specs.declared.known.Known.{Known}
 use Rattle.wax_lazy.specs.inner.Rows.{AreRows}
 use Rattle.wax_lazy.specs.inner.Table.{AreWideCells, BeginsTexts, IsRestState}
-use Rattle.wax_lazy.specs.inner.Table.{IsJoinOf, IsTable, KeepsStates, own_at}
+use Rattle.wax_lazy.specs.inner.Table.{IsJoinOf, IsTable, KeepsStates, numbers_in, own_at}
 use Rattle.wax_program.specs.declared.instruction.Instruction.{Instruction}
 use Rattle.wax_bits.specs.Places.{HoldsPlace}
-use Rattle.wax_program.specs.Last.{ReadsLast}
+use Rattle.wax_program.specs.Last.{IsLastName, ReadsLast}
 use Rattle.wax_program.specs.Machine.{Accepts}
 use Rattle.wax_program.specs.Onward.{AreFlagsOf, PlaceFlags, IsAhead, flags_for}
 use Rattle.wax_query.specs.declared.query.verdict.Verdict.{Verdict}
@@ -110,19 +111,31 @@ pub record IsLone (code : List Instruction) (states : List State) (places : List
   pub placed : IfSome lone.rest (IsStatePlace states)
   pub union : IsJoinOf code places (places_led states lone.rest) (lone.place ∷ [])
 
--- the places accept what is left of a text exactly where the next state accepts what is left after it
+-- the numbers that are known of texts that end in the state whose cells begin there, or none
+abbrev pub numbers_at : Cache → Option ℕ → List ℕ
+numbers_at c (Some at) = numbers_in (slice_get c.table.states.items (at / 128))
+numbers_at c None = []
+
+-- the same, if there is a cache
+abbrev pub numbers_known : Option Cache → Option ℕ → List ℕ
+numbers_known (Some c) at = numbers_at c at
+numbers_known None at = []
+
+-- a fact of what may follow a text holds exactly where the next state accepts what is left, and then that
+abbrev pub LeadsFor : List Instruction → List State → (List ℕ → Type 0) → List ℕ → Next → Type 0
+LeadsFor code states Holds left (To at) = IsStatePlace states at
+    × ((s : List ℕ) → Holds s ↔ AnyAmong code (places_at states (at / 128)) (left ++ s))
+LeadsFor code states Holds left Nothing = (s : List ℕ) → Holds s → ⊥
+LeadsFor code states Holds left Everything = (s : List ℕ) → Holds s
+
+-- the places accept what begins with `left` exactly where the next state accepts what begins with `after`
+-- instead of it
 abbrev pub DecidesLeft : List Instruction → List State → List ℕ → List ℕ → List ℕ → Next → Type 0
-DecidesLeft code states places left after (To at) =
-    IsStatePlace states at × (AnyAmong code places left ↔ AnyAmong code (places_at states (at / 128)) after)
-DecidesLeft code states places left after Nothing = AnyAmong code places left → ⊥
-DecidesLeft code states places left after Everything = AnyAmong code places left
+DecidesLeft code states places left = LeadsFor code states (λ s. AnyAmong code places (left ++ s))
 
 -- the places of the next state accept what may follow the text exactly where the program accepts the whole
 abbrev pub LeadsText : List Instruction → List State → ℕ → List ℕ → Next → Type 0
-LeadsText code states start text (To at) = IsStatePlace states at
-    × ((s : List ℕ) → Accepts code start (text ++ s) ↔ AnyAmong code (places_at states (at / 128)) s)
-LeadsText code states start text Nothing = (s : List ℕ) → Accepts code start (text ++ s) → ⊥
-LeadsText code states start text Everything = (s : List ℕ) → Accepts code start (text ++ s)
+LeadsText code states start text = LeadsFor code states (λ s. Accepts code start (text ++ s)) []
 
 -- some text is accepted that begins with this one and goes on so
 abbrev pub AcceptsAhead : List Instruction → ℕ → List ℕ → Ahead → Type 0
@@ -144,6 +157,11 @@ pub record IsKeptFor (code : List Instruction) (reads_last : Bool) (c : Cache) :
   pub cache : IsCacheOf code c
   pub name : IsTrue reads_last → c.start ≡ 2
   pub whole : IsFalse reads_last → c.start ≡ 0
+
+-- this part of the text is followed: its last component if the flag says so, and otherwise all of it
+abbrev pub IsFollowed : Bool → List ℕ → List ℕ → Type 0
+IsFollowed true text part = IsLastName text part
+IsFollowed false text part = part ≡ text
 
 -- this is known of a program of these instructions
 pub record IsKnownOf (code : List Instruction) (k : Known) : Type 0 where

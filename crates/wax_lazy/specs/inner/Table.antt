@@ -1,6 +1,7 @@
 -- What a table of states says of a program.
 use Rattle.std.specs.Prelude.{◌≡◌, ℕ, ◌+◌, ◌*◌, ◌/◌, ◌<◌, ◌⊎◌, ◌↔◌, List, [], Option, Some, None, IfSome}
 use Rattle.std.specs.Prelude.{IsTrue, length, slice_get, slice_index}
+use Rattle.std.specs.Global.{Vec}
 use Rattle.wax_program.specs.declared.instruction.Instruction.{Instruction}
 use Rattle.wax_program.specs.Machine.{Accepts}
 use Rattle.wax_program.specs.Threads.{AnyAmong}
@@ -9,6 +10,16 @@ use Rattle.wax_stepper.specs.Reached.{AreEndsMarked}
 use Rattle.wax_states.specs.declared.table.State.{State}
 use Rattle.wax_states.specs.declared.table.WideCell.{WideCell}
 use Rattle.wax_states.specs.States.{IsDead, IsStatePlace, IsTransition, LeadsTo, places_at}
+
+-- the numbers if they are known, or none
+abbrev pub known_numbers : Option (Vec ℕ) → List ℕ
+known_numbers (Some v) = v.items
+known_numbers None = []
+
+-- the numbers that a state keeps, or none
+abbrev pub numbers_in : Option State → List ℕ
+numbers_in (Some s) = known_numbers s.numbers
+numbers_in None = []
 
 -- the own places of a state, or none
 abbrev pub own_in : Option State → List ℕ

@@ -3,7 +3,7 @@ use Rattle.std.proofs.lemmas.List.{nil_from_length}
 use Rattle.std.proofs.lemmas.Str.{IsUtf8-past_char, chars-nil, chars_past_char}
 use Rattle.std.specs.Str.{chars}
 use Rattle.std.specs.Str.Iter.{chars_rest}
-use Rattle.wax_lazy.proofs.Numbering.{nowhere_on, numbers_at, numbers_none, reached_on}
+use Rattle.wax_lazy.proofs.Numbering.{nowhere_on, numbers_led, numbers_none, reached_on}
 use Rattle.wax_lazy.proofs.Tables.{one_place}
 use Rattle.wax_lazy.proofs.Walking.{stays_on}
 use Rattle.wax_program.specs.Machine.{Accepts}
@@ -29,7 +29,7 @@ loop-c-preserved c =
       utf8 = IsUtf8-past_char _ _ _ held.utf8 c.in-Some.ensures.steps.0;
       stepper = c.step.ensures.same ∙ held.stepper;
       stays = λ s. rw c.swap.ensures.x_after
-          (stays_on code 0 (cs ++ s) _ c.loop-c.places.items (held.stays s) (left ++ s) _ c.in-Some.c (ap (λ z. z ++ s) one) (rw c.deref.ensures.value at leads));
+          (stays_on code 0 (cs ++ s) _ c.loop-c.places.items (left ++ s) _ c.in-Some.c (held.stays s) (ap (λ z. z ++ s) one) (rw c.deref.ensures.value at leads));
     }
 
 pub returns-then-not-branch : goal.returns-then-not-branch
@@ -49,6 +49,6 @@ returns c =
     let held = c.loop-c.invariant in
     let end : chars (chars_rest c.loop-c.left) ≡ [] = ap chars (nil_from_length _ c.in_default.ensures.steps.0.0) ∙ chars-nil in
     let ends = c.in_ok-list_ends.ensures in
-    numbers_at code 0 (chars c.args.text.now) c.loop-c.places.items c.list_ends.new.numbers.items
+    numbers_led code 0 (chars c.args.text.now) c.loop-c.places.items c.list_ends.new.numbers.items
     (λ s. subst (λ z. Accepts code 0 (chars c.args.text.now ++ s) ↔ AnyAmong code c.loop-c.places.items (z ++ s)) end (held.stays s))
     (rw c.deref-2.ensures.value at ends.ends, ends.ascending)

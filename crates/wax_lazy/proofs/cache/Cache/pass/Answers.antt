@@ -1,4 +1,4 @@
-use Rattle.std.proofs.Common.{◌≡◌, ◌+◌, ◌/◌, ◌↔◌, ◌⊎◌, ◌∷◌, ◌<◌, ℕ, List, IfSome, true, drop, length, refl, sym, ◌∙◌, ap, subst, arith}
+use Rattle.std.proofs.Common.{◌≡◌, ◌+◌, ◌/◌, ◌↔◌, ◌⊎◌, ◌∷◌, ◌++◌, ◌<◌, ℕ, List, IfSome, true, drop, length, refl, sym, ◌∙◌, ap, subst, arith}
 use Rattle.wax_lazy.specs.inner.Cached.{DecidesLeft}
 use Rattle.wax_states.specs.States.{IsStatePlace, places_at, places_led}
 use Rattle.wax_lazy.proofs.Lone.{all_on, both_on, check_within, lone_begins, lone_ends, next_placed, rest_on}
@@ -17,7 +17,7 @@ loop-next-init c = record {
   from = omega arith;
   within = c.requires.within;
   check = c.requires.check;
-  stays = λ places lone. lone_begins c.args.program.now.0 c.args.self.now.table.states.items places c.args.lone (drop c.args.index c.args.text.now) lone;
+  stays = λ places lone s. lone_begins c.args.program.now.0 c.args.self.now.table.states.items places c.args.lone (drop c.args.index c.args.text.now ++ s) lone;
 }
 
 pub returns-in-Everything-clause-decides : goal.returns-in-Everything-clause-decides
@@ -61,7 +61,7 @@ loop-next-preserved c =
       from = omega (arith, held.from);
       within = omega (arith, c.if-end-text.false);
       check = further;
-      stays = λ places lone. subst (λ o. AnyAmong code places (drop c.args.index text) ↔ (AnyAmong code (places_led new o) after ⊎ Accepts code (l.here.place + 1) after)) (sym c.led.ensures)
+      stays = λ places lone. subst (λ o. (s : List ℕ) → AnyAmong code places (drop c.args.index text ++ s) ↔ (AnyAmong code (places_led new o) (after ++ s) ⊎ Accepts code (l.here.place + 1) (after ++ s))) (sym c.led.ensures)
           (both_on code new places part (drop c.args.index text) (drop l.end text) after l.here.place c.from.result (held.stays places lone) one c.in_ok-next.next check leads c.in_default.not-Everything);
     }
 
@@ -87,7 +87,7 @@ returns-in-Some-false c =
       start = c.follow_rest-in-Some-false.ensures.start ∙ c.follow_rest.ensures.start ∙ held.start;
       further = (omega (arith, held.from), omega (arith, within));
       decides = λ places lone.
-          let stays = subst (λ o. AnyAmong code places (drop c.args.index text) ↔ (AnyAmong code (places_led new o) after ⊎ Accepts code (l.here.place + 1) after)) (sym c.led.ensures)
+          let stays = subst (λ o. (s : List ℕ) → AnyAmong code places (drop c.args.index text ++ s) ↔ (AnyAmong code (places_led new o) (after ++ s) ⊎ Accepts code (l.here.place + 1) (after ++ s))) (sym c.led.ensures)
           (both_on code new places part (drop c.args.index text) (drop l.end text) after l.here.place c.from.result (held.stays places lone) one c.in_ok-next.next check leads c.in_default.not-Everything) in
           rest_on code last places (places_led new c.led.result) (drop c.args.index text) after ends (l.here.place + 1) c.from-c.result stays two c.in_ok-next-in-Some-false.next misses c.in_ok-next-in-Some-false.ensures.leads;
     }
@@ -110,7 +110,7 @@ returns c =
       start = c.arrive.ensures.start ∙ c.follow_rest.ensures.start ∙ held.start;
       further = (omega (arith, held.from), omega (arith, held.within));
       decides = λ places lone.
-          let stays = subst (λ o. AnyAmong code places (drop c.args.index text) ↔ (AnyAmong code (places_led new o) after ⊎ Accepts code (l.here.place + 1) after)) (sym c.led.ensures)
+          let stays = subst (λ o. (s : List ℕ) → AnyAmong code places (drop c.args.index text ++ s) ↔ (AnyAmong code (places_led new o) (after ++ s) ⊎ Accepts code (l.here.place + 1) (after ++ s))) (sym c.led.ensures)
           (both_on code new places part (drop c.args.index text) (drop l.end text) after l.here.place c.from.result (held.stays places lone) one c.in_ok-next.next check leads c.in_default.not-Everything) in
-          (c.in_ok-at.ensures.placed, lone_ends code places (places_at last (c.in_ok-at.at / 128)) (places_led new c.led.result) (drop c.args.index text) after (l.here.place + 1) stays c.in_ok-at.ensures.union);
+          (c.in_ok-at.ensures.placed, (λ s. lone_ends code places (places_at last (c.in_ok-at.at / 128)) (places_led new c.led.result) (drop c.args.index text ++ s) (after ++ s) (l.here.place + 1) (stays s) c.in_ok-at.ensures.union));
     }

@@ -1,4 +1,4 @@
-use Rattle.std.proofs.Common.{◌≡◌, ◌↔◌, ◌⊎◌, ◌<◌, ◌≤◌, ◌-◌, ℕ, List, IfSome, drop, get_or, length, true}
+use Rattle.std.proofs.Common.{◌≡◌, ◌↔◌, ◌⊎◌, ◌<◌, ◌≤◌, ◌-◌, ◌++◌, ℕ, List, IfSome, drop, get_or, length, true}
 use Rattle.wax_lazy.specs.inner.Cached.{IsCacheOf, IsLone}
 use Rattle.wax_states.specs.States.{IsStatePlace, places_led}
 use Rattle.wax_program.specs.Checks.{IsCheckAt}
@@ -16,8 +16,8 @@ invariant-loop-next l = record {
   within : l.end < length l.text;
   check : IsCheckAt l.program.0 l.here.place (get_or l.text l.end 0) true;
   stays : (places : List ℕ) → IsLone l.program.0 l.fn.self.table.states.items places l.fn.lone
-      → AnyAmong l.program.0 places (drop l.fn.index l.text)
-      ↔ (AnyAmong l.program.0 (places_led l.self.table.states.items l.here.rest) (drop l.end l.text) ⊎ Accepts l.program.0 l.here.place (drop l.end l.text));
+      → (s : List ℕ) → AnyAmong l.program.0 places (drop l.fn.index l.text ++ s)
+      ↔ (AnyAmong l.program.0 (places_led l.self.table.states.items l.here.rest) (drop l.end l.text ++ s) ⊎ Accepts l.program.0 l.here.place (drop l.end l.text ++ s));
 }
 
 abbrev pub decreases-loop-next : goal.decreases-loop-next
