@@ -61,7 +61,7 @@ inside_choose : (a b : List Instruction) → IsInside a → IsInside b → IsIns
 inside_choose a b h k =
     (omega (arith, length-append a (Jump (length b) ∷ b)), inside_append a (Jump (length b) ∷ b) h (omega arith, k))
 
-inside_literal : (b : Bool) (t : List ℕ) → IsInside (literal_code b t)
+pub inside_literal : (b : Bool) (t : List ℕ) → IsInside (literal_code b t)
 inside_literal b [] = tt
 inside_literal false (c ∷ t) = (tt, inside_literal false t)
 inside_literal true (c ∷ t) = (tt, inside_literal true t)
@@ -74,7 +74,7 @@ inside_wildcard false true true = (tt, (omega arith, (tt, tt)))
 inside_wildcard true true rooted = (tt, (omega arith, (tt, tt)))
 inside_wildcard true false rooted = (omega arith, (tt, (tt, tt)))
 
-inside_leaf : (l : Leaf) (before after : Bool) → IsInside (leaf_instructions l before after)
+pub inside_leaf : (l : Leaf) (before after : Bool) → IsInside (leaf_instructions l before after)
 inside_leaf (literal b t) before after = inside_literal b t
 inside_leaf (class n xs) before after = (tt, tt)
 inside_leaf separator before after = (tt, tt)

@@ -30,11 +30,11 @@ spells_star = spells_repeat NotSlash HasNoSlash tt (λ c s h k. (h, k)) (λ c s 
 slash_then_any : Spells (slash_code ++ Repeat Any ∷ []) BeginsWithSlash
 slash_then_any = spells_same (λ s h. (h.1, h.2 ∙ ap (λ z. z ++ h.1) h.3)) (λ s h. (47 ∷ [], h.0, h.1, refl, tt)) (spells_append spells_slash spells_any)
 
-both_from : (s x y : List ℕ) → s ≡ x ++ y → x ≡ 47 ∷ [] → (y ≡ []) ⊎ EndsWithSlash y → BeginsWithSlash s × EndsWithSlash s
+pub both_from : (s x y : List ℕ) → s ≡ x ++ y → x ≡ 47 ∷ [] → (y ≡ []) ⊎ EndsWithSlash y → BeginsWithSlash s × EndsWithSlash s
 both_from s x y e f (inl h) = let g : s ≡ 47 ∷ [] = cc in (([], g), ([], g))
 both_from s x y e f (inr h) = ((h.0 ++ 47 ∷ [], e ∙ ap (λ z. z ++ y) f ∙ ap (λ z. 47 ∷ z) h.1), (47 ∷ h.0, e ∙ ap (λ z. z ++ y) f ∙ ap (λ z. 47 ∷ z) h.1))
 
-both_to : (s t u : List ℕ) → s ≡ 47 ∷ t → s ≡ u ++ 47 ∷ [] → OneThen (λ s. s ≡ 47 ∷ []) (λ s. (s ≡ []) ⊎ EndsWithSlash s) s
+pub both_to : (s t u : List ℕ) → s ≡ 47 ∷ t → s ≡ u ++ 47 ∷ [] → OneThen (λ s. s ≡ 47 ∷ []) (λ s. (s ≡ []) ⊎ EndsWithSlash s) s
 both_to s t [] e f = (47 ∷ [], t, e, refl, inl (let g : t ≡ [] = cc in g))
 both_to s t (c ∷ u) e f = (47 ∷ [], t, e, refl, inr (u, (let g : t ≡ u ++ 47 ∷ [] = cc in g)))
 

@@ -4,9 +4,12 @@ pub mod Compiled
 pub mod EndPieces
 pub mod Folding
 pub mod Fragments
-pub mod Leaving
+pub mod Joining
+pub mod Lefts
 pub mod Lengths
+pub mod Numbered
 pub mod Rows
 pub mod Sequences
+pub mod SharedEnds
 pub mod Tails
 pub mod Whole

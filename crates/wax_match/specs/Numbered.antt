@@ -1,10 +1,10 @@
--- Patterns, numbered by their indexes.
-use Rattle.std.specs.Prelude.{ℕ, zero, suc, false, List}
+-- Patterns that have numbers, several of them perhaps the same one.
+use Rattle.std.specs.Prelude.{◌≡◌, ℕ, ◌⊎◌, false, List, [], ◌∷◌}
+use Rattle.wax_match.specs.declared.encode.ends.Numbered.{Numbered}
 use Rattle.wax_token.specs.Meaning.{Means}
-use Rattle.wax_token.specs.Syntax.{Trees, none, more}
 
--- the pattern with this index means the text
-abbrev pub MeansNumbered : {A : Type 0} → Trees A → ℕ → List ℕ → Type 0
-MeansNumbered none number s = ⊥
-MeansNumbered (more t ts) zero s = Means t false false s
-MeansNumbered (more t ts) (suc number) s = MeansNumbered ts number s
+-- one of the patterns with this number means the text
+abbrev pub MeansNumbered : List Numbered → ℕ → List ℕ → Type 0
+MeansNumbered [] number s = ⊥
+MeansNumbered (p ∷ ps) number s =
+    ((p.number ≡ number) × Means p.pattern.now false false s) ⊎ MeansNumbered ps number s

@@ -1,4 +1,5 @@
 pub mod Code
 pub mod Ends
+pub mod LeadCode
 pub mod Left
 pub mod Limits

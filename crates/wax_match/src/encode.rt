@@ -2,7 +2,7 @@
 ghost use Rattle.std.specs.Prelude.{◌≡◌, ◌+◌, ◌*◌, ◌<◌, ◌≤◌, ◌↔◌, ℕ, [], List, IsTrue, IfOk, chars, length};
 ghost use Rattle.std.specs.Prelude.{min};
 ghost use Rattle.wax_query.specs.Outcome.{MatchBuild};
-ghost use Rattle.wax_token.specs.Cost.{cost, costs};
+ghost use Rattle.wax_token.specs.Cost.{cost, costs, program_length};
 ghost use Rattle.wax_token.specs.Meaning.{Means, MeansEach};
 ghost use Rattle.wax_token.specs.Words.{trees};
 ghost use Rattle.wax_program.specs.Machine.{Accepts};
@@ -18,10 +18,13 @@ mod cost;
 mod emission;
 mod ends;
 mod folding;
+mod joining;
 mod leaves;
+mod left;
+mod shared;
 mod tail;
 
-pub use ends::compile_numbered;
+pub use ends::{Numbered, compile_numbered};
 pub use folding::case_folded_eq;
 pub use wax_program::{CompiledProgram, Meter, last_name, reads_last, run, run_last};
 
@@ -82,6 +85,14 @@ pub fn compile_token<'t, A>(
     let mut tail = tail_for(alloc, cost)?;
     tail.put_token(token, sides)?;
     Ok(CompiledProgram::new(tail.into_instructions(), cost + 1))
+}
+
+/// Returns whether a token's program has at most 1,048,576 instructions, so that `compile_token` doesn't
+/// refuse it. Takes time linear in the token, and doesn't allocate.
+pub fn fits<'t, A>(token: &Token<'t, A>) -> bool
+    ensures { IsTrue result ↔ program_length token.now ≤ 1048576 }
+{
+    weigh(token).cost < LONGEST
 }
 
 /// Creates an empty program with room for some instructions, if a program may cost so much.

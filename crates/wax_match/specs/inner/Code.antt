@@ -6,7 +6,7 @@ use Rattle.unicode.specs.CaseFolding.{simple_fold}
 use Rattle.wax_program.specs.declared.instruction.Test.TheVariants.{Char, Folded, Class, NotSlash, Any, Never}
 use Rattle.wax_program.specs.declared.instruction.Instruction.{Instruction}
 use Rattle.wax_program.specs.declared.instruction.Instruction.TheVariants.{Check, Repeat, Components, Fork}
-use Rattle.wax_program.specs.declared.instruction.Instruction.TheVariants.{Jump, Back, End}
+use Rattle.wax_program.specs.declared.instruction.Instruction.TheVariants.{Jump, Back}
 use Rattle.wax_token.specs.Syntax.{Leaf, literal, class, separator, one, zero_or_more, tree, Tree, leaf}
 use Rattle.wax_token.specs.Syntax.{alternation, concatenation, repetition, Trees, none, more}
 use Rattle.wax_token.specs.Cost.{holds_tree}
@@ -122,8 +122,3 @@ abbrev pub repeated_code : {A : Type 0} → ℕ → Option ℕ → Tree A → Bo
 repeated_code low high t before after =
     if holds_tree t then copied_code low high (instructions_of t) before after
     else counted_code low high (instructions_of t before after)
-
--- a piece with an end of this number, beside other instructions
-abbrev pub ended_code : ℕ → List Instruction → List Instruction → List Instruction
-ended_code number piece others =
-    Fork (length (piece ++ End number number ∷ [])) ∷ ((piece ++ End number number ∷ []) ++ others)

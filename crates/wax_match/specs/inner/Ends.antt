@@ -1,5 +1,7 @@
 -- Pieces of a program after which nothing follows: each way through them ends at the end of a pattern.
 use Rattle.std.specs.Prelude.{◌≡◌, ℕ, ◌+◌, ◌≤◌, List, [], ◌∷◌, ◌++◌, Some, length, slice_get}
+use Rattle.wax_match.specs.declared.encode.shared.WrittenEnd.{WrittenEnd}
+use Rattle.wax_match.specs.inner.Left.{EndMeans}
 use Rattle.wax_program.specs.Closed.{IsClosed}
 use Rattle.wax_program.specs.declared.instruction.Instruction.{Instruction}
 use Rattle.wax_program.specs.Machine.{Accepts, AcceptsIn, mark}
@@ -19,6 +21,18 @@ pub record IsEnded (piece : List Instruction) (Q : ℕ → List ℕ → Type 0) 
       → Marked Q s
   pub complete : (code : List Instruction) (at number : ℕ) (x : List ℕ) → Stands code at piece → Q number x
       → Accepts code at (x ++ mark number ∷ [])
+
+-- the last instructions of the code, so many
+pub record IsTail (code : List Instruction) (len : ℕ) (Q : ℕ → List ℕ → Type 0) : Type 0 where
+  pub front : List Instruction
+  pub back : List Instruction
+  pub splits : code ≡ front ++ back
+  pub size : length back ≡ len
+  pub ends : IsEnded back Q
+
+-- the end is where it was written
+abbrev pub IsIn : List Instruction → WrittenEnd → Type 0
+IsIn code e = 1 ≤ e.len → IsTail code e.len (EndMeans e.number e.gap)
 
 -- a piece for these texts was written before the others
 pub record AreWritten (old new : List Instruction) (Q : ℕ → List ℕ → Type 0) : Type 0 where

@@ -37,7 +37,7 @@ pub fn weigh<'t, A>(token: &Token<'t, A>) -> Weight
 
 /// Returns the weight of an alternation of tokens.
 #[cycle(weigh)]
-pub fn weigh_branches<'t, A>(tokens: &[Token<'t, A>]) -> Weight
+fn weigh_branches<'t, A>(tokens: &[Token<'t, A>]) -> Weight
     ensures cost { result.cost ≡ min (1 + branches_cost (trees tokens.now)) longest }
     ensures holds_tree { result.holds_tree ≡ some_holds_tree (trees tokens.now) }
 {

@@ -8,7 +8,7 @@ use crate::encode::tail::Tail;
 use std::alloc::{AllocError, Global};
 use unicode::case::simple_fold;
 use wax_program::instruction::{BoxedClass, Instruction, Test};
-use wax_token::token::{LeafKind, Literal, Sides, Wildcard};
+use wax_token::token::{LeafKind, Sides, Wildcard};
 
 impl Tail {
     /// Writes a leaf, by what is before and after it.
@@ -25,7 +25,9 @@ impl Tail {
                 let class = BoxedClass::copied(self.allocator(), class)?;
                 self.put(Instruction::Check(Test::Class(class)))
             }
-            LeafKind::Literal(literal) => self.put_literal(literal),
+            LeafKind::Literal(literal) => {
+                self.put_text(literal.text(), literal.is_case_insensitive())
+            }
             LeafKind::Separator(_) => self.put_slash(),
             LeafKind::Wildcard(wildcard) => match wildcard {
                 Wildcard::One => self.put(Instruction::Check(Test::NotSlash)),
@@ -35,14 +37,20 @@ impl Tail {
         }
     }
 
-    fn put_literal(&mut self, literal: &Literal<'_>) -> Result<(), AllocError>
-        ensures { OnOk result (self.new ≡ literal_code literal.now.0 literal.now.1 ++ self.old) }
+    /// Writes the characters of a text.
+    ///
+    /// # Errors
+    ///
+    /// Returns `AllocError` if allocation fails.
+    pub fn put_text(&mut self, text: &str, is_case_insensitive: bool) -> Result<(), AllocError>
+        ensures { OnOk result
+            (self.new ≡ literal_code is_case_insensitive (chars text.now) ++ self.old) }
     {
-        let characters = characters(self.allocator(), literal.text())?;
+        let characters = characters(self.allocator(), text)?;
         let mut index = characters.len();
         while index > 0 {
             index -= 1;
-            let test = test_of(literal.is_case_insensitive(), characters[index]);
+            let test = test_of(is_case_insensitive, characters[index]);
             self.put(Instruction::Check(test))?;
         }
         Ok(())
@@ -76,7 +84,11 @@ impl Tail {
     }
 
     /// Writes zero or more components, each with the `/` after it.
-    fn put_components(&mut self) -> Result<(), AllocError>
+    ///
+    /// # Errors
+    ///
+    /// Returns `AllocError` if allocation fails.
+    pub fn put_components(&mut self) -> Result<(), AllocError>
         ensures { OnOk result (self.new ≡ skip (Instruction.Components ∷ []) ++ self.old) }
     {
         self.put(Instruction::Components)?;
@@ -84,7 +96,11 @@ impl Tail {
     }
 
     /// Writes a `/` and any text after it.
-    fn put_rest(&mut self) -> Result<(), AllocError>
+    ///
+    /// # Errors
+    ///
+    /// Returns `AllocError` if allocation fails.
+    pub fn put_rest(&mut self) -> Result<(), AllocError>
         ensures { OnOk result (self.new ≡ slash_code ++ Instruction.Repeat Test.Any ∷ self.old) }
     {
         self.put(Instruction::Repeat(Test::Any))?;
