@@ -2,5 +2,5 @@
 
 pub use wax_lazy::{HasProgram, Matcher};
 pub use wax_match::encode::{
-    CompileError, CompiledProgram, Meter, case_folded_eq, compile, compile_numbered, run,
+    CompileError, CompiledProgram, Meter, Numbered, case_folded_eq, compile, compile_numbered, run,
 };

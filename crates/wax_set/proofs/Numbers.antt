@@ -1,11 +1,14 @@
 -- Which of a set's patterns match a text.
-use Rattle.std.proofs.Common.{◌≡◌, ◌<◌, ◌↔◌, ◌++◌, ℕ, zero, suc, false, List, [], ◌∷◌, length, inl, inr, arith, ap, sym, subst}
+use Rattle.std.proofs.Common.{◌≡◌, ◌<◌, ◌↔◌, ◌++◌, ℕ, zero, suc, false, List, [], ◌∷◌, length, inl, inr, ◌≤◌, arith, ap, sym, subst, refl, ◌∙◌, ◌⊎◌, ◌+◌, get_or, take}
+use Rattle.std.proofs.lemmas.List.{length-take-le, take_all, take_more}
 use Rattle.wax_lazy.specs.Numbers.{AreNumbers}
+use Rattle.wax_match.proofs.Numbered.{numbered_push}
 use Rattle.wax_match.specs.Numbered.{MeansNumbered}
+use Rattle.wax_match.specs.declared.encode.ends.Numbered.{Numbered}
 use Rattle.wax_program.specs.Closed.{IsClosed}
 use Rattle.wax_program.specs.Machine.{Accepts, mark}
 use Rattle.wax_program.specs.declared.instruction.Instruction.{Instruction}
-use Rattle.wax_set.specs.Sets.{AreMatches, IsNumbered, MeansAt, MeansText}
+use Rattle.wax_set.specs.Sets.{AreMatches, BranchMeans, IsNumbered, MeansAt, MeansText}
 use Rattle.wax_token.specs.Meaning.{MeansSome}
 use Rattle.wax_token.specs.Reads.{Span}
 use Rattle.wax_token.specs.Syntax.{Tree, Trees, leaf, alternation, concatenation, repetition, none, more}
@@ -21,7 +24,7 @@ are_matches t code text numbers n are = record {
   ascending = are.1;
 }
 
-branch_means : (ts : Trees Span) (number : ℕ) (s : List ℕ) → MeansNumbered ts number s → MeansSome ts false false s
+branch_means : (ts : Trees Span) (number : ℕ) (s : List ℕ) → BranchMeans ts number s → MeansSome ts false false s
 branch_means none number s m = absurd m
 branch_means (more t ts) zero s m = inl m
 branch_means (more t ts) (suc number) s m = inr (branch_means ts number s m)
@@ -42,9 +45,55 @@ no_matches t s indexes empty never = record {
   ascending = λ k lt. absurd (omega (arith, lt, ap length empty));
 }
 
+-- ---- branches with their indexes
+-- one more
+branch_push : (ts : List (Tree Span)) (t : Tree Span) (k : ℕ) (s : List ℕ)
+    → BranchMeans (trees (ts ++ t ∷ [])) k s ↔ (((k ≡ length ts) × MeansText t s) ⊎ BranchMeans (trees ts) k s)
+branch_push [] t zero s = ((λ m. inl (refl, m)), (λ h. elim h [ inl g ↦ g.1 | inr g ↦ absurd g ]))
+branch_push [] t (suc k) s = ((λ m. absurd m), (λ h. elim h [ inl g ↦ absurd (omega (arith, g.0)) | inr g ↦ absurd g ]))
+branch_push (u ∷ ts) t zero s = ((λ m. inr m), (λ h. elim h [ inl g ↦ absurd (omega (arith, g.0)) | inr g ↦ g ]))
+branch_push (u ∷ ts) t (suc k) s =
+    let r = branch_push ts t k s in (
+      (λ m. elim (r.0 m) [ inl g ↦ inl (ap suc g.0, g.1) | inr g ↦ inr g ]),
+      (λ h. elim h [ inl g ↦ r.1 (inl (omega (arith, g.0), g.1)) | inr g ↦ r.1 (inr g) ]),
+    )
+
+-- the patterns numbered so far are the first branches
+abbrev pub AreIndexed : List Numbered → List (Tree Span) → Type 0
+AreIndexed patterns ts = (k : ℕ) (s : List ℕ) → MeansNumbered patterns k s ↔ BranchMeans (trees ts) k s
+
+pub branch_added : (ts : List (Tree Span)) (i : ℕ) (t : Tree Span) (old new : List Numbered) (p : Numbered) → i < length ts → t ≡ get_or ts i t
+    → new ≡ old ++ p ∷ [] → p.number ≡ i → p.pattern.now ≡ t → AreIndexed old (take i ts) → AreIndexed new (take (i + 1) ts)
+branch_added ts i t old new p lt is grown number pattern all k s =
+    let more : take (i + 1) ts ≡ take i ts ++ t ∷ [] = take_more ts i t lt ∙ ap (λ u. take i ts ++ u ∷ []) (sym is) in
+    let size : length (take i ts) ≡ i = length-take-le i ts (omega (arith, lt)) in
+    let push = numbered_push old p k s in
+    let branch = branch_push (take i ts) t k s in (
+      (λ m. subst (λ us. BranchMeans (trees us) k s) (sym more) (elim (push.0 (subst (λ ps. MeansNumbered ps k s) grown m)) [
+        | inl one ↦ branch.1 (inl (one.0 ∙ number ∙ sym size, subst (λ u. MeansText u s) pattern one.1))
+        | inr was ↦ branch.1 (inr ((all k s).0 was))
+      ])),
+      (λ m. subst (λ ps. MeansNumbered ps k s) (sym grown) (elim (branch.0 (subst (λ us. BranchMeans (trees us) k s) more m)) [
+        | inl one ↦ push.1 (inl (one.0 ∙ size ∙ sym number, subst (λ u. MeansText u s) (sym pattern) one.1))
+        | inr was ↦ push.1 (inr ((all k s).1 was))
+      ])),
+    )
+
+-- the program of all branches
+pub indexed_program : (ts : List (Tree Span)) (i : ℕ) (patterns given : List Numbered) (code : List Instruction) → length ts ≤ i → given ≡ patterns
+    → AreIndexed patterns (take i ts) → ((number : ℕ) (s : List ℕ) → Accepts code 0 (s ++ mark number ∷ []) ↔ MeansNumbered given number s)
+    → (number : ℕ) (s : List ℕ) → Accepts code 0 (s ++ mark number ∷ []) ↔ BranchMeans (trees ts) number s
+indexed_program ts i patterns given code past same all means number s =
+    let whole : take i ts ≡ ts = take_all i ts past in
+    let is = all number s in
+    let ends = means number s in (
+      (λ a. subst (λ us. BranchMeans (trees us) number s) whole (is.0 (subst (λ ps. MeansNumbered ps number s) same (ends.0 a)))),
+      (λ m. ends.1 (subst (λ ps. MeansNumbered ps number s) (sym same) (is.1 (subst (λ us. BranchMeans (trees us) number s) (sym whole) m)))),
+    )
+
 -- the program of the branches of an alternation
 pub numbers_branches : (ts : List (Tree Span)) (t : Tree Span) (code : List Instruction) → t ≡ alternation (0, 0) (trees ts)
-    → ((number : ℕ) (s : List ℕ) → Accepts code 0 (s ++ mark number ∷ []) ↔ MeansNumbered (trees ts) number s) → IsClosed code → IsNumbered t code
+    → ((number : ℕ) (s : List ℕ) → Accepts code 0 (s ++ mark number ∷ []) ↔ BranchMeans (trees ts) number s) → IsClosed code → IsNumbered t code
 numbers_branches ts t code e means closed = record {
   means = λ number s. subst (λ u. Accepts code 0 (s ++ mark number ∷ []) ↔ MeansAt u number s) (sym e) (means number s);
   closed = closed;

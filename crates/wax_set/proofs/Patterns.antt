@@ -2,12 +2,11 @@
 use Rattle.std.proofs.Common.{◌≡◌, ◌↔◌, ◌<◌, ◌≤◌, ◌++◌, ◌∷◌, ℕ, zero, suc, false, List, [], inl, inr, sym, ap, ◌∙◌, subst}
 use Rattle.std.proofs.lemmas.List.{append_assoc}
 use Rattle.wax_token.specs.Cost.{program_length}
-use Rattle.wax_match.specs.Numbered.{MeansNumbered}
 use Rattle.wax_token.specs.Meaning.{Means, MeansSome}
 use Rattle.wax_token.specs.Reads.{Reads, Span}
 use Rattle.wax_token.specs.Syntax.{Tree, alternation}
 use Rattle.wax_token.specs.Words.{trees}
-use Rattle.wax_set.specs.Sets.{MeansAt, MeansText}
+use Rattle.wax_set.specs.Sets.{BranchMeans, MeansAt, MeansText}
 use Rattle.wax_error.specs.Expressions.{Spells}
 use Rattle.wax_set.specs.Patterns.{AreOversized, IsAnyOf, IsFirstRefused, IsOnly, NoSet, NumberMeans, OneMeans, SpellEach}
 use Rattle.wax_error.specs.declared.build_error.BuildError.{BuildError}
@@ -34,7 +33,7 @@ module _ {P : Type 0} (S : P → Tree Span → Type 0) where
 
   -- so does the branch with an index
   to_number : (ps : List P) (ts : List (Tree Span)) → SpellEach S ps ts → (k : ℕ) (s : List ℕ) →
-      MeansNumbered (trees ts) k s → NumberMeans S ps k s
+      BranchMeans (trees ts) k s → NumberMeans S ps k s
   to_number [] [] h k s m = m
   to_number [] (t ∷ ts) h k s m = absurd h
   to_number (p ∷ ps) [] h k s m = absurd h
@@ -42,7 +41,7 @@ module _ {P : Type 0} (S : P → Tree Span → Type 0) where
   to_number (p ∷ ps) (t ∷ ts) h (suc k) s m = to_number ps ts h.1 k s m
 
   from_number : (ps : List P) (ts : List (Tree Span)) → SpellEach S ps ts → (k : ℕ) (s : List ℕ) →
-      NumberMeans S ps k s → MeansNumbered (trees ts) k s
+      NumberMeans S ps k s → BranchMeans (trees ts) k s
   from_number [] [] h k s m = m
   from_number [] (t ∷ ts) h k s m = absurd h
   from_number (p ∷ ps) [] h k s m = absurd h

@@ -1,15 +1,14 @@
 -- What contracts see of a set of patterns.
-use Rattle.std.specs.Prelude.{◌≡◌, ◌↔◌, ◌++◌, ℕ, false, Contains, List, [], ◌∷◌}
+use Rattle.std.specs.Prelude.{◌≡◌, ◌↔◌, ◌++◌, ℕ, zero, suc, false, Contains, List, [], ◌∷◌}
 use Rattle.std.specs.List.Sorted.{IsStrictlyIncreasing}
 use Rattle.std.specs.Coded.{Coded, coded×, coded_ℕ}
 use Rattle.wax_compiled.specs.Compiled.{Instructions, IsCompiled}
-use Rattle.wax_match.specs.Numbered.{MeansNumbered}
 use Rattle.wax_program.specs.Closed.{IsClosed}
 use Rattle.wax_program.specs.Machine.{Accepts, mark}
 use Rattle.wax_program.specs.declared.instruction.Instruction.{Instruction}
 use Rattle.wax_token.specs.Meaning.{Means}
 use Rattle.wax_token.specs.Reads.{Span}
-use Rattle.wax_token.specs.Syntax.{Tree, Trees, leaf, alternation, concatenation, repetition}
+use Rattle.wax_token.specs.Syntax.{Tree, Trees, leaf, alternation, concatenation, repetition, none, more}
 use Rattle.wax_token.specs.TreeCode.{tree_code}
 
 -- how the alternation is stored
@@ -20,9 +19,15 @@ any_code = tree_code (coded× coded_ℕ coded_ℕ)
 abbrev pub MeansText : Tree Span → List ℕ → Type 0
 MeansText t text = Means t false false text
 
+-- the branch with this index means the text
+abbrev pub BranchMeans : Trees Span → ℕ → List ℕ → Type 0
+BranchMeans none number text = ⊥
+BranchMeans (more t ts) zero text = MeansText t text
+BranchMeans (more t ts) (suc number) text = BranchMeans ts number text
+
 -- the pattern of the set with this index means the text
 abbrev pub MeansAt : Tree Span → ℕ → List ℕ → Type 0
-MeansAt (alternation a branches) number text = MeansNumbered branches number text
+MeansAt (alternation a branches) number text = BranchMeans branches number text
 MeansAt (leaf a l) number text = ⊥
 MeansAt (concatenation a ts) number text = ⊥
 MeansAt (repetition a t low high) number text = ⊥

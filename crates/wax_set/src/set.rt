@@ -1,6 +1,8 @@
 //! Sets of patterns: the alternation of their tokens, compiled, and a program that says which of them match.
 ghost use Rattle.std.specs.Prelude.{◌≡◌, ◌≤◌, ◌<◌, ◌↔◌, ◌+◌, ◌*◌, ◌++◌, ◌∷◌, ℕ, List, IsTrue, chars, false};
-ghost use Rattle.std.specs.Prelude.{IfOk, IfSome, MatchOption, Some, codes, length, min};
+ghost use Rattle.std.specs.Prelude.{[], IfOk, IfSome, MatchOption, Some, codes, length, min};
+ghost use Rattle.wax_program.specs.Closed.{IsClosed};
+ghost use Rattle.wax_program.specs.Machine.{Accepts, mark};
 ghost use Rattle.wax_program.specs.Meter.{most_ticks};
 ghost use Rattle.wax_candidate.specs.Parts.{NoLineEndsBefore};
 ghost use Rattle.wax_compiled.specs.Below.{MeansBelow, goes_test};
@@ -15,7 +17,7 @@ ghost use Rattle.wax_query.specs.Variances.{text_of};
 ghost use Rattle.wax_query.specs.declared.query.when.When.TheVariants.{Always};
 ghost use Rattle.wax_token.specs.Cost.{program_length};
 ghost use Rattle.wax_token.specs.Decided.{means_test, means_tested};
-ghost use Rattle.wax_set.specs.Sets.{AreMatches, IsAlternation, IsWhole, MeansText};
+ghost use Rattle.wax_set.specs.Sets.{AreMatches, BranchMeans, IsAlternation, IsWhole, MeansText};
 ghost use Rattle.wax_token.specs.Syntax.{alternation};
 ghost use Rattle.wax_token.specs.Words.{trees};
 ghost use Rattle.wax_set.specs.Patterns.{LacksMemory};
@@ -37,7 +39,7 @@ use wax_error::BuildError;
 use wax_facts::{has_root, is_exhaustive, text};
 use wax_lazy::list_numbers;
 use wax_match::encode;
-use wax_match::encode::{CompileError, CompiledProgram, Meter};
+use wax_match::encode::{CompileError, CompiledProgram, Meter, Numbered};
 use wax_query::diagnostics::{NoMemory, Refusal};
 use wax_query::query::{DepthVariance, TextVariance, Variance, When};
 use wax_rule::rule::Checked;
@@ -93,12 +95,28 @@ pub(crate) fn compiled<'t>(
         (λ _. 1048576 < program_length token.entry) }
 {
     let compiled = CompiledTokens::of_token(alloc, token.as_ref())?;
-    let numbered = encode::compile_numbered(alloc, branches_of(token.as_ref()))?;
+    let numbered = numbered_of(alloc, branches_of(token.as_ref()))?;
     Ok(Any {
         token,
         compiled,
         numbered,
     })
+}
+
+/// Compiles branches to a program that says which of them match, by their indexes.
+fn numbered_of<'t>(
+    alloc: Global,
+    branches: &[Token<'t, ExpressionMetadata>],
+) -> Result<CompiledProgram, NoMemory>
+    ensures means { IfOk result (λ p. (number : ℕ) → (s : List ℕ)
+        → Accepts p.0 0 (s ++ mark number ∷ []) ↔ BranchMeans (trees branches.now) number s) }
+    ensures closed { IfOk result (λ p. IsClosed p.0) }
+{
+    let mut patterns = Vec::new(alloc);
+    for (number, pattern) in branches.iter().enumerate() {
+        patterns.push(Numbered { number, pattern })?;
+    }
+    encode::compile_numbered(alloc, &patterns)
 }
 
 /// Returns the branches of an alternation.
