@@ -1,5 +1,3 @@
-pub mod Joining
-pub mod FirstLetters
 pub mod Levels
 pub mod Means
 pub mod Opens

@@ -3,12 +3,26 @@ use Rattle.std.proofs.Common.{◌≡◌, ℕ, ◌≤◌, ◌==◌, ◌⊎◌, Bo
 use Rattle.std.proofs.Common.{Option, Some, None, if◌then◌else◌, refl, sym, subst, inl, inr, arith, eqb-true}
 use Rattle.std.proofs.lemmas.Bool.{and_parts}
 use Rattle.wax_query.specs.Ranges.{AtMost}
-use Rattle.wax_token.specs.Meaning.{Copies, Means, MeansSome}
+use Rattle.wax_token.specs.Meaning.{Copies, Means, MeansEach, MeansSome}
 use Rattle.wax_token.specs.Syntax.{Tree, leaf, alternation, concatenation, repetition, Trees, none, more}
-use Rattle.wax_token.specs.Words.{trees}
+use Rattle.wax_token.specs.Words.{members, trees}
 use Rattle.wax_alternatives.specs.Alternatives.{MeansOneOf, alternatives, beside, is_exactly_one, joined}
 use Rattle.wax_alternatives.specs.Alternatives.{levels, levels_each}
 
+-- ---- what is within a token
+pub as_members : {A : Type 0} (t : Tree A) (b a : Bool) (s : List ℕ) → Means t b a s → MeansEach (members t) b a s
+as_members (leaf x l) b a s h = h
+as_members (alternation x ts) b a s h = h
+as_members (concatenation x ts) b a s h = h
+as_members (repetition x t low high) b a s h = h
+
+pub of_members : {A : Type 0} (t : Tree A) (b a : Bool) (s : List ℕ) → MeansEach (members t) b a s → Means t b a s
+of_members (leaf x l) b a s h = h
+of_members (alternation x ts) b a s h = h
+of_members (concatenation x ts) b a s h = h
+of_members (repetition x t low high) b a s h = h
+
+-- ---- alternatives
 both_one : (low n : ℕ) → is_exactly_one low (Some n) ≡ true → (low ≡ 1) × (n ≡ 1)
 both_one low n e =
     let p : ((low == 1) ≡ true) × ((n == 1) ≡ true) = and_parts (low == 1) (n == 1) e in

@@ -5,8 +5,7 @@ use Rattle.std.specs.Prelude.{filter}
 use mir.Val.{bool_byte}
 use Rattle.std.specs.List.{list_any, onto_first, slice_split}
 use Rattle.std.proofs.lemmas.Bool.{lt-ltb}
-use Rattle.wax_alternatives.proofs.Joining.{as_members, of_members}
-use Rattle.wax_alternatives.proofs.Means.{means_one_of}
+use Rattle.wax_alternatives.proofs.Means.{as_members, means_one_of, of_members}
 use Rattle.wax_alternatives.specs.Alternatives.{alternatives}
 use Rattle.wax_directory.specs.Names.{is_some_name, names_in_path}
 use Rattle.wax_query.specs.Below.{IsBelow, ends_open}
@@ -16,11 +15,10 @@ use Rattle.wax_token.specs.Reads.{Span}
 use Rattle.wax_token.specs.Syntax.{Tree}
 use Rattle.wax_token.specs.Words.{members, trees}
 use Rattle.wax_walk.specs.Candidates.{Candidate}
-use Rattle.wax_walk.specs.Given.{Mark, kept, with_tree}
+use Rattle.wax_walk.specs.Given.{Mark, with_tree}
 use Rattle.wax_exclude.proofs.Descending.{covered, everything_meant, wild_goes_on}
 use Rattle.wax_exclude.proofs.Ignored.{below_ignored, below_tested}
 use Rattle.wax_exclude.proofs.ListingLines.{says_lines}
-use Rattle.wax_exclude.proofs.Passed.{marks_listed}
 use Rattle.wax_exclude.proofs.Tests.{covers_tested}
 use Rattle.wax_exclude.specs.Candidates.{NoSlashAfterNames, folder_at}
 use Rattle.wax_exclude.specs.Covers.{Covers, CoversSome, covers_test, is_everything, some_everything, wild_test}
@@ -32,7 +30,6 @@ use Rattle.wax_exclude.specs.Marks.{covered_mark}
 use Rattle.wax_exclude.specs.Walked.{ExcludesBelow}
 use Rattle.wax_exclude.specs.Wanted.{Filter, excludes, filter_mark, not_ignored, not_meant}
 use Rattle.wax_exclude.specs.declared.rules.IgnoreLine.{IgnoreLine}
-use Rattle.wax_exclude.specs.inner.Blocks.{marks_after}
 use Rattle.wax_exclude.specs.inner.Listed.{below_by, ignored_by, listed_mark, none_reincludes}
 
 -- ---- folders as rules see them
@@ -72,7 +69,7 @@ module _ (c d : Candidate) (text : c.text ≡ d.text) (depth : nat_lt 0 c.depth 
   below_alike : (lines : List IgnoreLine) → below_by lines c ≡ below_by lines d
   below_alike [] = refl
   below_alike (line ∷ lines) = λ i.
-      (line.ignores && (none_reincludes lines && covers_alike line.exclusion i)) || below_alike lines i
+      (line.ignores && (none_reincludes lines && covers_alike line.alternatives i)) || below_alike lines i
 
   listed_alike : (lines : List IgnoreLine) → listed_mark lines c ≡ listed_mark lines d
   listed_alike lines = λ i. covered_mark (below_alike lines i) (ignored_by false lines (text i))
@@ -98,10 +95,9 @@ module _ (answer : Bool) (mark : Mark) (asks : Asks answer mark) (c d : Candidat
       let tested = covers_tested ts d in
       ((λ t. tested.0 (so.0 (says.0 t))), (λ h. says.1 (so.1 (tested.1 h))))
 
-  module _ (slice held : List IgnoreLine) (same : slice ≡ held) (e : mark ≡ marks_after kept slice c) where
+  module _ (held : List IgnoreLine) (e : mark ≡ listed_mark held c) where
     pub answers_listed : Asks answer (listed_mark held d)
-    answers_listed = answers_same answer mark (listed_mark held d)
-        (e ∙ marks_listed slice c ∙ ap (λ lines. listed_mark lines c) same ∙ listed_alike c d text depth held) asks
+    answers_listed = answers_same answer mark (listed_mark held d) (e ∙ listed_alike c d text depth held) asks
 
     pub answers_lines : (lines : List (Line Span)) → HasLines held lines → IsTrue answer ↔ IgnoresBelow lines d
     answers_lines lines has =

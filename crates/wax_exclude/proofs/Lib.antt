@@ -27,10 +27,11 @@ pub mod Listing
 pub mod ListingLines
 pub mod Losing
 pub mod Names
+pub mod NumberedLines
+pub mod Numbering
 pub mod Opened
 pub mod Opening
 pub mod Origins
-pub mod Passed
 pub mod Passing
 pub mod Pruning
 pub mod TreeRequests

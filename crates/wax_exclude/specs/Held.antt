@@ -7,7 +7,7 @@ use Rattle.wax_exclude.specs.declared.rules.IgnoreLine.{IgnoreLine}
 
 -- a line as it is stored: with the alternatives of its glob
 abbrev pub line_of : Line Span → IgnoreLine
-line_of line = record { ignores = line.ignores; exclusion = alternatives line.glob }
+line_of line = record { ignores = line.ignores; alternatives = alternatives line.glob }
 
 -- the stored lines are exactly these lines
 abbrev pub HasLines : List IgnoreLine → List (Line Span) → Type 0

@@ -1,5 +1,5 @@
-pub mod Blocks
 pub mod Descents
 pub mod Listed
+pub mod Numbers
 pub mod Shared
 pub mod Stacks

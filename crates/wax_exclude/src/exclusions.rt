@@ -138,13 +138,6 @@ impl Exclusion {
         Ok(is_tree(residue))
     }
 
-    /// Returns the alternatives of the pattern.
-    pub(crate) fn alternatives(&self) -> &[Token<'static, ExpressionMetadata>]
-        ensures { result.now ≡ self.now }
-    {
-        self.alternatives.as_slice()
-    }
-
     /// Returns whether an alternative matches the text.
     ///
     /// # Errors
@@ -188,8 +181,7 @@ impl Exclusion {
         Ok(Some(EntryResidue::File))
     }
 
-    /// Returns what to exclude of an entry, and keeps nothing for later ones: for the lines of an
-    /// ignore list, whose blocks keep enough.
+    /// Returns what to exclude of an entry, and keeps nothing for later ones.
     ///
     /// # Errors
     ///

@@ -3,7 +3,6 @@
 
 mod along;
 mod below;
-mod blocks;
 mod component;
 mod deciding;
 mod exclusions;
@@ -13,6 +12,7 @@ mod kept;
 mod law;
 mod leading_law;
 mod lines;
+mod numbers;
 mod prefixes;
 mod rules;
 mod wanted;

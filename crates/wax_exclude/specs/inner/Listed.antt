@@ -2,7 +2,7 @@
 use Rattle.std.specs.Prelude.{ℕ, Bool, true, false, ◌&&◌, ◌||◌, if◌then◌else◌, List, [], ◌∷◌}
 use Rattle.wax_exclude.specs.Excluded.{some_test}
 use Rattle.wax_walk.specs.Candidates.{Candidate}
-use Rattle.wax_walk.specs.Given.{Mark, kept, alone, combined_mark}
+use Rattle.wax_walk.specs.Given.{Mark}
 use Rattle.wax_exclude.specs.Covers.{covers_test}
 use Rattle.wax_exclude.specs.Marks.{covered_mark}
 use Rattle.wax_exclude.specs.declared.rules.IgnoreLine.{IgnoreLine}
@@ -11,7 +11,7 @@ use Rattle.wax_exclude.specs.declared.rules.IgnoreLine.{IgnoreLine}
 abbrev pub ignored_by : Bool → List IgnoreLine → List ℕ → Bool
 ignored_by was [] s = was
 ignored_by was (line ∷ lines) s =
-    ignored_by (if some_test line.exclusion s then line.ignores else was) lines s
+    ignored_by (if some_test line.alternatives s then line.ignores else was) lines s
 
 -- no line re-includes
 abbrev pub none_reincludes : List IgnoreLine → Bool
@@ -22,16 +22,8 @@ none_reincludes (line ∷ lines) = line.ignores && none_reincludes lines
 abbrev pub below_by : List IgnoreLine → Candidate → Bool
 below_by [] c = false
 below_by (line ∷ lines) c =
-    (line.ignores && (none_reincludes lines && covers_test line.exclusion c)) || below_by lines c
+    (line.ignores && (none_reincludes lines && covers_test line.alternatives c)) || below_by lines c
 
 -- the mark by the lines
 abbrev pub listed_mark : List IgnoreLine → Candidate → Mark
 listed_mark lines c = covered_mark (below_by lines c) (ignored_by false lines c.text)
-
--- the mark after one more line, from whether it ignores, the mark before it, and the mark by its glob as an
--- excluded pattern
-abbrev pub mark_after : Bool → Mark → Mark → Mark
-mark_after true before said = combined_mark before said
-mark_after false kept said = kept
-mark_after false before kept = alone
-mark_after false before said = kept

@@ -1,12 +1,16 @@
-use Rattle.std.proofs.Common.{◌≡◌, ◌∙◌, chars, false}
-use Rattle.wax_walk.proofs.Collecting.{map_ok}
-use Rattle.wax_exclude.proofs.ListingLines.{ignores_lines}
-use Rattle.wax_exclude.specs.inner.Listed.{ignored_by}
+use Rattle.std.proofs.Common.{◌∙◌, ap, subst}
+use Rattle.wax_walk.specs.Candidates.{in_characters}
+use Rattle.wax_exclude.proofs.Remembered.{excluded_if_ignored}
+use Rattle.wax_exclude.specs.Ignored.{is_ignored}
+use Rattle.wax_exclude.specs.inner.Numbers.{KnowsLines}
 use Rattle.wax_exclude.proofs.rules.IgnoreRule.is_ignored.Goals as goal
 
+pub residue_once-requires : goal.residue_once-requires
+residue_once-requires c = c.self.invariant.closed
+
 pub returns : goal.returns
-returns c =
-    let held : c.as_slice.result.now ≡ c.args.self.now = c.as_slice.ensures.value ∙ c.self.view_is in
-    let text : chars c.as_str.result.now ≡ c.args.path.now = c.as_str.ensures in
-    map_ok (λ r h lines has. h ∙ (λ i. ignored_by false (held i) (text i)) ∙ ignores_lines c.args.self.now lines c.args.path.now has)
-    c.is_ignored_by.result c.is_ignored_by.ensures
+returns c = λ lines has.
+    let knows = subst (λ ls. KnowsLines ls c.self.inside.numbered) c.self.view_is c.self.invariant in
+    c.is_some.ensures
+    ∙ excluded_if_ignored c.args.self.now lines (in_characters c.path_candidate.result) c.in_ok-residue.residue has (c.in_ok-residue.ensures c.args.self.now knows)
+    ∙ ap (λ s. is_ignored lines s) c.path_candidate.ensures

@@ -1,0 +1,72 @@
+-- Numbers of lines: the greatest number of an alternative that matches decides what a list does.
+use Rattle.std.specs.Prelude.{◌≡◌, ◌↔◌, ◌⊎◌, ℕ, suc, ◌%◌, ◌==◌, ◌≤◌, nat_le, Bool, true, false, ◌&&◌, ◌||◌}
+use Rattle.std.specs.Prelude.{if◌then◌else◌, List, [], ◌∷◌, ◌++◌, Option, Some, None, drop, length}
+use Rattle.wax_program.specs.Closed.{IsClosed}
+use Rattle.wax_program.specs.Machine.{Accepts, mark}
+use Rattle.wax_token.specs.Meaning.{Means}
+use Rattle.wax_token.specs.Reads.{Span}
+use Rattle.wax_token.specs.Syntax.{Tree}
+use Rattle.wax_token.specs.Words.{members}
+use Rattle.wax_walk.specs.Given.{Mark, kept, alone, with_tree}
+use Rattle.wax_exclude.specs.Covers.{ends_wild, some_everything}
+use Rattle.wax_exclude.specs.declared.numbers.NumberedLines.{NumberedLines}
+use Rattle.wax_exclude.specs.declared.rules.IgnoreLine.{IgnoreLine}
+use Rattle.wax_exclude.specs.inner.Listed.{none_reincludes}
+
+-- ---- numbers
+
+-- whether lines with this number ignore
+abbrev pub is_odd : ℕ → Bool
+is_odd n = n % 2 == 1
+
+-- the number of a line after one with the number n: the same if both do the same, or else the next one
+abbrev pub number_after : ℕ → Bool → ℕ
+number_after n true = if is_odd n then n else suc n
+number_after n false = if is_odd n then suc n else n
+
+-- an alternative with the number k matches the text: those that end with `**` have the number `above`, and
+-- others the number `own`
+abbrev pub MatchesBy : ℕ → ℕ → List (Tree Span) → ℕ → List ℕ → Type 0
+MatchesBy own above [] k s = ⊥
+MatchesBy own above (t ∷ ts) k s =
+    ((k ≡ (if ends_wild (members t) then above else own)) × Means t false false s)
+    ⊎ MatchesBy own above ts k s
+
+-- the number of what a line's alternatives cover: `top` if no line after it re-includes
+abbrev pub covering_number : ℕ → ℕ → List IgnoreLine → ℕ
+covering_number top own lines = if none_reincludes lines then top else own
+
+-- an alternative with the number k matches the text, if the line before these has the number n
+abbrev pub HasMatch : ℕ → ℕ → List IgnoreLine → ℕ → List ℕ → Type 0
+HasMatch top n [] k s = ⊥
+HasMatch top n (line ∷ lines) k s =
+    MatchesBy (number_after n line.ignores) (covering_number top (number_after n line.ignores) (line ∷ lines))
+    line.alternatives k s ⊎ HasMatch top (number_after n line.ignores) lines k s
+
+-- a line that ignores, and after which none re-includes, has an alternative that is only an unrooted `**`
+abbrev pub covers_everything : List IgnoreLine → Bool
+covers_everything [] = false
+covers_everything (line ∷ lines) =
+    (none_reincludes (line ∷ lines) && some_everything line.alternatives) || covers_everything lines
+
+-- none of the lines from this index on re-includes, and the line before it does
+pub record IsSettledFrom (lines : List IgnoreLine) (settled : ℕ) : Type 0 where
+  pub within : settled ≤ length lines
+  pub marks : (i : ℕ) → none_reincludes (drop i lines) ≡ nat_le settled i
+
+-- ---- what they decide
+
+-- the program accepts each text with the numbers of the alternatives that match it; `top` is above all others
+pub record KnowsLines (lines : List IgnoreLine) (numbered : NumberedLines) : Type 0 where
+  pub top : numbered.top ≡ suc (length lines)
+  pub all : numbered.covers_all ≡ covers_everything lines
+  pub closed : IsClosed numbered.matcher
+  pub means : (k : ℕ) (s : List ℕ)
+      → Accepts numbered.matcher 0 (s ++ mark k ∷ []) ↔ HasMatch numbered.top 0 lines k s
+
+-- the mark of an entry, with a name or not, by the greatest number that matches it
+abbrev pub numbered_mark : Bool → ℕ → Bool → Option ℕ → Mark
+numbered_mark true top named last = with_tree
+numbered_mark false top named None = kept
+numbered_mark false top named (Some k) =
+    if k == top then (if named then with_tree else alone) else (if is_odd k then alone else kept)

@@ -1,0 +1,211 @@
+//! What the lines of an ignore list decide, by one program over all of them.
+ghost use Rattle.std.specs.Prelude.{◌≡◌, ◌↔◌, ◌⊎◌, ◌<◌, ◌+◌, ◌^◌, ◌++◌, ◌∷◌, [], ℕ, List, IfOk};
+ghost use Rattle.std.specs.Prelude.{Some, if◌then◌else◌, nat_lt};
+ghost use Rattle.std.specs.List.{list_any};
+ghost use Rattle.wax_exclude.specs.Covers.{some_everything};
+ghost use Rattle.wax_exclude.specs.declared.rules.IgnoreLine.{IgnoreLine};
+ghost use Rattle.wax_exclude.specs.inner.Listed.{listed_mark};
+ghost use Rattle.wax_exclude.specs.inner.Numbers.{HasMatch, IsSettledFrom, KnowsLines, MatchesBy};
+ghost use Rattle.wax_exclude.specs.inner.Numbers.{covers_everything, is_odd, number_after, numbered_mark};
+ghost use Rattle.wax_match.specs.Numbered.{MeansNumbered};
+ghost use Rattle.wax_program.specs.Closed.{IsClosed};
+ghost use Rattle.wax_program.specs.Machine.{Accepts, mark};
+ghost use Rattle.wax_walk.specs.Candidates.{in_characters};
+ghost use Rattle.wax_walk.specs.Given.{alone, with_tree};
+ghost use Rattle.wax_walk.specs.Said.{mark_of};
+
+use crate::exclusions::{ends_wild, some_everything};
+use crate::rules::IgnoreLine;
+use std::alloc::{AllocError, Global};
+use wax_lazy::{Matcher, last_number};
+use wax_match::encode::{CompiledProgram, Numbered, compile_numbered};
+use wax_query::diagnostics::NoMemory;
+use wax_token::token::{ExpressionMetadata, Token};
+use wax_walk::{Candidate, EntryResidue};
+
+/// How many bytes may be kept of earlier entries, for each line.
+const BYTES_PER_LINE: usize = 65_536;
+
+/// How many bytes may be kept of earlier entries at most.
+const MOST_BYTES: usize = 14_680_064;
+
+/// The alternatives of all lines as one program, which says the numbers of those that match a text:
+/// the greatest one decides. Lines that follow one another and all ignore have the same odd number,
+/// and those that all begin with `!` the same even one. An alternative that covers what it matches,
+/// in a line after which none begins with `!`, has a number above all of these.
+#[derive(Drop)]
+pub struct NumberedLines {
+    /// Accepts a text with the numbers of the alternatives that match it.
+    matcher: Matcher<CompiledProgram>,
+    /// The number of alternatives that cover what they match.
+    top: usize,
+    /// True if such an alternative is only an unrooted `**`.
+    covers_all: bool,
+}
+
+impl NumberedLines {
+    /// Compiles the alternatives of the lines.
+    ///
+    /// # Errors
+    ///
+    /// Returns `NoMemory` if allocation fails.
+    pub fn new(alloc: Global, lines: &[IgnoreLine]) -> Result<NumberedLines, NoMemory>
+        ensures { IfOk result (KnowsLines lines.now) }
+    {
+        let top = lines.len() + 1;
+        let settled = settled_from(lines);
+        let program = program_of(alloc, lines, settled, top)?;
+        let most_bytes = MOST_BYTES.min(top.saturating_mul(BYTES_PER_LINE));
+        Ok(NumberedLines {
+            matcher: Matcher::with_most(alloc, program, most_bytes),
+            top,
+            covers_all: covers_everything(lines, settled),
+        })
+    }
+
+    /// Returns what the lines exclude of an entry, with the help of what is kept of earlier ones.
+    ///
+    /// # Errors
+    ///
+    /// Returns `NoMemory` if allocation fails.
+    pub fn residue(&mut self, candidate: Candidate<'_>) -> Result<Option<EntryResidue>, NoMemory>
+        requires { IsClosed self.old.matcher }
+        ensures same { (lines : List IgnoreLine) → KnowsLines lines self.old → KnowsLines lines self.new }
+        ensures says { (lines : List IgnoreLine) → KnowsLines lines self.old
+            → IfOk result (λ r. mark_of r ≡ listed_mark lines (in_characters candidate.entry)) }
+    {
+        let last = self.matcher.last_number(candidate.path)?;
+        Ok(self.residue_by(last, candidate.depth))
+    }
+
+    /// Returns what `residue` does, and keeps nothing for later entries.
+    ///
+    /// # Errors
+    ///
+    /// Returns `NoMemory` if allocation fails.
+    pub fn residue_once(
+        &self,
+        alloc: Global,
+        candidate: Candidate<'_>,
+    ) -> Result<Option<EntryResidue>, NoMemory>
+        requires { IsClosed self.now.matcher }
+        ensures { (lines : List IgnoreLine) → KnowsLines lines self.now
+            → IfOk result (λ r. mark_of r ≡ listed_mark lines (in_characters candidate.entry)) }
+    {
+        let last = last_number(alloc, self.matcher.holder(), candidate.path)?;
+        Ok(self.residue_by(last, candidate.depth))
+    }
+
+    // Returns what the greatest number that matches an entry excludes of it.
+    fn residue_by(&self, last: Option<usize>, depth: usize) -> Option<EntryResidue>
+        ensures { mark_of result ≡ numbered_mark self.now.covers_all self.now.top (nat_lt 0 depth) last }
+    {
+        if self.covers_all {
+            return Some(EntryResidue::Tree);
+        }
+        match last {
+            None => None,
+            Some(number) if number == self.top => Some(covered(depth)),
+            Some(number) if is_odd(number) => Some(EntryResidue::File),
+            Some(_) => None,
+        }
+    }
+}
+
+// Returns what is excluded of an entry that an alternative covers if the entry has a name.
+fn covered(depth: usize) -> EntryResidue
+    ensures { mark_of (Some result) ≡ (if nat_lt 0 depth then with_tree else alone) }
+{
+    if depth > 0 {
+        EntryResidue::Tree
+    } else {
+        EntryResidue::File
+    }
+}
+
+// Compiles the alternatives of all lines, of which those from `settled` on are the last that ignore.
+fn program_of(
+    alloc: Global,
+    lines: &[IgnoreLine],
+    settled: usize,
+    top: usize,
+) -> Result<CompiledProgram, NoMemory>
+    requires { IsSettledFrom lines.now settled }
+    ensures closed { IfOk result (λ p. IsClosed p.0) }
+    ensures means { IfOk result (λ p. (k : ℕ) (s : List ℕ)
+        → Accepts p.0 0 (s ++ mark k ∷ []) ↔ HasMatch top 0 lines.now k s) }
+{
+    let mut patterns = Vec::new(alloc);
+    let mut number = 0;
+    for (index, line) in lines.iter().enumerate() {
+        number = number_after(number, line.ignores);
+        let covering = if index >= settled { top } else { number };
+        add_alternatives(&mut patterns, line.alternatives(), number, covering)?;
+    }
+    Ok(compile_numbered(alloc, &patterns)?)
+}
+
+// Adds the alternatives of a line: those that end with `**` with the number `above`, and others with
+// the number `own`.
+fn add_alternatives<'a>(
+    patterns: &mut Vec<Numbered<'a, 'static>>,
+    alternatives: &'a [Token<'static, ExpressionMetadata>],
+    own: usize,
+    above: usize,
+) -> Result<(), AllocError>
+    ensures { IfOk result (λ _. (k : ℕ) (s : List ℕ) → MeansNumbered patterns.new.items k s
+        ↔ (MeansNumbered patterns.old.items k s ⊎ MatchesBy own above alternatives.now k s)) }
+{
+    for pattern in alternatives {
+        let number = if ends_wild(pattern) { above } else { own };
+        patterns.push(Numbered { number, pattern })?;
+    }
+    Ok(())
+}
+
+// Returns the index after the last line that begins with `!`.
+fn settled_from(lines: &[IgnoreLine]) -> usize
+    ensures { IsSettledFrom lines.now result }
+{
+    let mut settled = lines.len();
+    while settled > 0 {
+        if !lines[settled - 1].ignores {
+            return settled;
+        }
+        settled -= 1;
+    }
+    settled
+}
+
+// Returns whether one of the lines from `settled` on has an alternative that is only an unrooted `**`.
+fn covers_everything(lines: &[IgnoreLine], settled: usize) -> bool
+    requires { IsSettledFrom lines.now settled }
+    ensures { result ≡ covers_everything lines.now }
+{
+    some_covers(&lines[settled..])
+}
+
+fn some_covers(lines: &[IgnoreLine]) -> bool
+    ensures { result ≡ list_any (λ line. some_everything line.alternatives) lines.now }
+{
+    lines
+        .iter()
+        .any(|line| some_everything(line.alternatives()))
+}
+
+// Returns the number of a line after one with this number.
+fn number_after(number: usize, ignores: bool) -> usize
+    requires { number + 1 < 2 ^ 64 }
+    ensures { result ≡ number_after number ignores }
+{
+    match (is_odd(number), ignores) {
+        (true, true) | (false, false) => number,
+        _ => number + 1,
+    }
+}
+
+fn is_odd(number: usize) -> bool
+    ensures { result ≡ is_odd number }
+{
+    number % 2 == 1
+}
