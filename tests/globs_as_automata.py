@@ -1,5 +1,5 @@
 """Globs as automata: which paths a glob matches, and below which folders it can match something. Nothing here is taken from
-the library: it is written from the pages LANGUAGE and QUERIES, so that tests/least can compare the two.
+the library: it is written from the pages LANGUAGE and QUERIES, so that the tests can compare the two.
 
 A glob is a list of tokens. It becomes an automaton over a small alphabet: the characters of the tests, and one character for
 each gap between them. What is below a folder is a plain path: one or more names that aren't empty, with `/` between."""
@@ -448,3 +448,24 @@ class Pattern:
     def covers(self, candidate, depth):
         """Returns whether everything below the entry is excluded, too."""
         return self.has_all or depth > 0 and any(it.matches(candidate) for it in self.covering)
+
+
+@lru_cache(maxsize=None)
+def pattern_of(expression):
+    return Pattern(glob_of(expression))
+
+
+def rule_of_list(lines):
+    """Returns the rule of an ignore list with these lines: whether it excludes an entry, and whether everything below it, too."""
+    patterns = [(pattern_of(it.removeprefix("!")), it.startswith("!")) for it in lines]
+
+    def rule(candidate, depth):
+        matching = [has_mark for pattern, has_mark in patterns if pattern.matches(candidate)]
+        all_below = False
+        for pattern, has_mark in reversed(patterns):
+            if has_mark:
+                break
+            all_below = all_below or pattern.covers(candidate, depth)
+        return all_below or matching[-1:] == [False], all_below
+
+    return rule

@@ -11,6 +11,7 @@ import textwrap
 
 TOP = os.path.dirname(os.path.dirname(os.path.realpath(__file__)))
 FOLDER = os.path.abspath(os.environ.get("BUILT") or f"{TOP}/target/unproved")
+MOST_SHOWN = 20
 LAST_LINE = re.compile(r"^[\w-]+: (\d+) passed, (\d+) failed, (\d+) skipped$", re.M)
 
 
@@ -27,6 +28,22 @@ def built(name):
     if not os.access(f"{FOLDER}/{name}", os.X_OK):
         sys.exit(f"there is no program {FOLDER}/{name}")
     return f"{FOLDER}/{name}"
+
+
+def answers(program, rows, seconds=300):
+    """Returns what a program that answers rows says of each of these."""
+    given = "".join(f"{it}\n" for it in rows)
+    ran = subprocess.run([built(program)], input=given.encode(), capture_output=True, timeout=seconds, check=False)
+    text, found, start = ran.stdout.decode(), [], 0
+    for row, after in zip(rows, [*(f"\n{it}\t" for it in rows[1:]), None]):
+        end = text.find(after, start) if after else len(text) - 1
+        if not text.startswith(f"{row}\t", start) or end < start:
+            break
+        found.append(text[start + len(row) + 1 : end])
+        start = end + 1
+    if ran.returncode or len(found) != len(rows):
+        sys.exit(f"{program} ended with {ran.returncode} after {len(found)} of {len(rows)} rows")
+    return found
 
 
 def library():
@@ -79,3 +96,18 @@ class Report:
         """Prints the last line. Returns the exit status."""
         print(f"{self.script}: {self.passed} passed, {self.failed} failed, {self.skipped} skipped", flush=True)
         return 1 if self.failed or not self.passed + self.skipped else 0
+
+
+class Cases(Report):
+    """Shows only the first cases that differ."""
+
+    def fail(self, case, got, wanted, row=None):
+        if self.failed < MOST_SHOWN:
+            super().fail(case, got, wanted, row)
+        else:
+            self.failed += 1
+
+    def end(self):
+        if self.failed > MOST_SHOWN:
+            print(f"{self.script}: {self.failed - MOST_SHOWN} more differ")
+        return super().end()
