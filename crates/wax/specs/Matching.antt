@@ -8,6 +8,7 @@ pub use Rattle.wax_capture.specs.Matched.{AreOnly, IsMatched, square_visits}
 pub use Rattle.wax_capture.specs.Pieces.{ArePieces}
 pub use Rattle.wax_compiled.specs.Below.{MeansBelow, goes_test, goes_tested}
 pub use Rattle.wax_lazy.specs.Numbers.{AreNumbers, AreNumbersFrom}
+pub use Rattle.wax_lazy.specs.Numbers.{IsLastNumber, IsLastNumberFrom, IsLastWhere}
 pub use Rattle.wax_lazy.specs.Verdict.{AcceptsBelow, IsVerdict}
 pub use Rattle.wax_match.specs.Numbered.{MeansNumbered}
 pub use Rattle.wax_lines.specs.Counts.{greatest_count}
