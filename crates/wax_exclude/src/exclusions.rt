@@ -143,7 +143,7 @@ impl Exclusion {
     /// # Errors
     ///
     /// Returns `NoMemory` if allocation fails.
-    pub(crate) fn is_match(&self, alloc: Global, text: &str) -> Result<bool, NoMemory>
+    fn is_match(&self, alloc: Global, text: &str) -> Result<bool, NoMemory>
         ensures { IfOk result (λ answer. answer ≡ some_test self.now (chars text.now)) }
     {
         self.whole.holder().is_match(alloc, text)
@@ -186,7 +186,7 @@ impl Exclusion {
     /// # Errors
     ///
     /// Returns `NoMemory` if allocation fails.
-    pub(crate) fn residue_once(
+    fn residue_once(
         &self,
         alloc: Global,
         candidate: Candidate<'_>,

@@ -142,7 +142,7 @@ fn program_of(
         let covering = if index >= settled { top } else { number };
         add_alternatives(&mut patterns, line.alternatives(), number, covering)?;
     }
-    Ok(compile_numbered(alloc, &patterns)?)
+    compile_numbered(alloc, &patterns)
 }
 
 // Adds the alternatives of a line: those that end with `**` with the number `above`, and others with
