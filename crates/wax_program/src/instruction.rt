@@ -60,6 +60,13 @@ impl BoxedClass {
         })
     }
 
+    /// Returns the class.
+    pub fn class(&self) -> &Class
+        ensures { result.now ≡ self.now }
+    {
+        &self.class
+    }
+
     /// Returns whether the class matches `c`.
     fn contains(&self, c: char) -> bool
         ensures { result ≡ in_class self.now.0 self.now.1 c }

@@ -1,8 +1,10 @@
-//! Instructions that lead to themselves, and those that take one character.
+//! Instructions that lead to themselves, those that take one character, and their tests.
 ghost use Rattle.std.specs.Prelude.{◌≡◌, ◌+◌, ◌^◌, ◌<◌, ◌≤◌, ℕ, IfOk, IfSome, IsTrue, List, length, min};
+ghost use Rattle.std.specs.Prelude.{option_copied};
 ghost use Rattle.wax_program.specs.Machine.{Accepts};
 ghost use Rattle.wax_program.specs.Meter.{most_ticks};
 ghost use Rattle.wax_program.specs.Checks.{IsCheckAt, IsCheckOf};
+ghost use Rattle.wax_program.specs.Tests.{IsTestAt, test_of};
 ghost use Rattle.wax_program.specs.Threads.{AreParts};
 ghost use Rattle.wax_program.specs.declared.instruction.Instruction.TheVariants.{Repeat};
 ghost use Rattle.wax_program.specs.declared.instruction.Test.TheVariants.{Any};
@@ -88,6 +90,28 @@ fn passes_check(instruction: &Instruction, c: char) -> Option<bool>
 {
     match instruction {
         Instruction::Check(test) => Some(test.passes(c)),
+        _ => None,
+    }
+}
+
+/// Returns the test of the instruction at a place. Returns `None` if there is no instruction, or one
+/// without a test. Reads at most that instruction.
+pub fn test_at<'a>(program: &'a CompiledProgram, at: usize, meter: &mut Meter) -> Option<&'a Test>
+    ensures test { IsTestAt program.now.0 at (option_copied result) }
+    ensures above { meter.new ≤ meter.old + 1 }
+    ensures steady { meter.old ≤ meter.new }
+{
+    if at >= program.size() {
+        return None;
+    }
+    test_of(program.read(at, meter))
+}
+
+fn test_of(instruction: &Instruction) -> Option<&Test>
+    ensures { option_copied result ≡ test_of instruction.now }
+{
+    match instruction {
+        Instruction::Check(test) | Instruction::Repeat(test) => Some(test),
         _ => None,
     }
 }
