@@ -1,0 +1,17 @@
+pub mod Answering
+pub mod Beginning
+pub mod Blocks
+pub mod Closed
+pub mod Following
+pub mod Kept
+pub mod Letters
+pub mod Merging
+pub mod PlainPaths
+pub mod Pushing
+pub mod Reaching
+pub mod Automata
+pub mod ReadingBack
+pub mod Replaced
+pub mod Searching
+pub mod Steps
+pub mod Visiting

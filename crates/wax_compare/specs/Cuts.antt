@@ -1,0 +1,31 @@
+-- Characters by which each instruction of a program does the same.
+use Rattle.std.specs.Prelude.{◌≡◌, ◌↔◌, ◌<◌, ◌≤◌, ℕ, List, Some, Contains, slice_get}
+use Rattle.std.specs.Char.{IsScalar}
+use Rattle.wax_program.specs.declared.instruction.Instruction.{Instruction}
+use Rattle.wax_program.specs.Steady.{Alike}
+
+-- each instruction does the same by both characters
+abbrev pub AreAlike : List Instruction → ℕ → ℕ → Type 0
+AreAlike code c d = (k : ℕ) (i : Instruction) → slice_get code k ≡ Some i → Alike i c d
+
+-- no cut is between the two characters
+abbrev pub SameBlock : List ℕ → ℕ → ℕ → Type 0
+SameBlock cuts c d = (p : ℕ) → Contains cuts p → (p ≤ c) ↔ (p ≤ d)
+
+-- each instruction does the same by two characters between which no cut is
+abbrev pub CutApart : List Instruction → List ℕ → Type 0
+CutApart code cuts = (c d : ℕ) → c < 1114112 → d < 1114112 → SameBlock cuts c d → AreAlike code c d
+
+-- neither program tells the two characters apart, and both are `/` or neither is
+pub record StandsFor (code other : List Instruction) (letter c : ℕ) : Type 0 where
+  pub first : AreAlike code c letter
+  pub second : AreAlike other c letter
+  pub slash : (c ≡ 47) ↔ (letter ≡ 47)
+
+-- one of the letters stands for the character
+abbrev pub HasStandIn : List Instruction → List Instruction → List ℕ → ℕ → Type 0
+HasStandIn code other letters c = (d : ℕ) × Contains letters d × StandsFor code other d c
+
+-- the same of every character
+abbrev pub AreLetters : List Instruction → List Instruction → List ℕ → Type 0
+AreLetters code other letters = (c : ℕ) → IsScalar c → HasStandIn code other letters c

@@ -1,0 +1,4 @@
+pub mod Comparison
+pub mod Cuts
+pub mod Texts
+pub mod inner

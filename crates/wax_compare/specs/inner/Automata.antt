@@ -1,0 +1,55 @@
+-- The states of a program that letters lead to.
+use Rattle.std.specs.Prelude.{◌≡◌, ◌+◌, ◌<◌, ◌↔◌, ℕ, List, [], Option, Some, None, IsTrue, ◌⊎◌, length}
+use Rattle.std.specs.Prelude.{slice_get, slice_index, slice_set}
+use Rattle.wax_program.specs.declared.instruction.Instruction.{Instruction}
+use Rattle.wax_program.specs.Machine.{Accepts}
+use Rattle.wax_program.specs.Threads.{AnyAmong}
+use Rattle.wax_stepper.specs.Reached.{AreReached}
+use Rattle.wax_compare.specs.declared.automaton.Automaton.{Automaton}
+use Rattle.wax_compare.specs.declared.automaton.ProgramState.{ProgramState}
+
+abbrev pub option_places : Option ProgramState → List ℕ
+option_places (Some s) = s.places.items
+option_places None = []
+
+-- the places of the state with this number
+abbrev pub state_places : List ProgramState → ℕ → List ℕ
+state_places states t = option_places (slice_get states t)
+
+-- the states keep their numbers and their places
+abbrev pub KeepsPlaces : List ProgramState → List ProgramState → Type 0
+KeepsPlaces old new = (t : ℕ) → t < length old → (t < length new) × (state_places new t ≡ state_places old t)
+
+-- the character leads from the places to a state
+abbrev pub LeadsToState : List Instruction → List ProgramState → List ℕ → ℕ → ℕ → Type 0
+LeadsToState code states places c n =
+    (n < length states) × AreReached code c places [] (state_places states n)
+
+-- a state says rightly whether a text may end in it, and where letters lead, as far as it is known
+pub record IsStateOf (code : List Instruction) (letters : List ℕ) (states : List ProgramState)
+    (s : ProgramState) : Type 0 where
+  pub ends : IsTrue s.accepts ↔ AnyAmong code s.places.items []
+  pub room : length s.next.items ≡ length letters
+  pub says : (k n : ℕ) → k < length letters → slice_index s.next.items k ≡ n + 1
+      → LeadsToState code states s.places.items (slice_index letters k) n
+
+-- the automaton is one of a program of these instructions
+pub record IsAutomatonOf (code : List Instruction) (letters : List ℕ) (r : Automaton) : Type 0 where
+  pub size : r.stepper ≡ length code
+  pub rows : (t : ℕ) (s : ProgramState) → slice_get r.states.items t ≡ Some s
+      → IsStateOf code letters r.states.items s
+
+-- the first state accepts what the program does
+pub record BeginsAsProgram (code : List Instruction) (states : List ProgramState) : Type 0 where
+  pub some : 0 < length states
+  pub accepts : (s : List ℕ) → Accepts code 0 s ↔ AnyAmong code (state_places states 0) s
+
+-- a state may have learned where the letter with a number leads, and nothing else changed
+pub record HasLearned (old new : List ProgramState) (state number next : ℕ) : Type 0 where
+  pub was : ProgramState
+  pub is : ProgramState
+  pub at : slice_get old state ≡ Some was
+  pub set : new ≡ slice_set old state is
+  pub places : is.places ≡ was.places
+  pub accepts : is.accepts ≡ was.accepts
+  pub row : (is.next.items ≡ was.next.items) ⊎ (is.next.items ≡ slice_set was.next.items number (next + 1))

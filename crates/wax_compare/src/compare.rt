@@ -1,0 +1,243 @@
+//! Finding a text by which two programs are compared.
+ghost use Rattle.std.specs.Prelude.{◌≡◌, ◌<◌, IfOk, IsFalse, IsTrue, ℕ, length, slice_index};
+ghost use Rattle.wax_program.specs.Machine.{Accepts};
+ghost use Rattle.wax_compare.specs.Cuts.{AreLetters};
+ghost use Rattle.wax_compare.specs.Comparison.{IsAnswer, IsWanted};
+ghost use Rattle.wax_compare.specs.inner.Going.{starts};
+ghost use Rattle.wax_compare.specs.inner.Reaching.{BeginAsPrograms};
+ghost use Rattle.wax_compare.specs.inner.Searching.{AreAutomataOf, readings};
+ghost use Rattle.wax_compare.specs.inner.Visiting.{EndsAt, Grow, HasFollowed, IsHeld, IsSameSearch};
+ghost use Rattle.wax_compare.specs.inner.Visiting.{IsVisited};
+
+use crate::alphabet::alphabet;
+use crate::automaton::Automaton;
+use crate::pairs::{Pairs, Reached, StatePair};
+use crate::search::Search;
+use crate::wanted::{Comparison, Texts, Wanted};
+use crate::witness::text_to;
+use std::alloc::{AllocError, Global};
+use wax_program::CompiledProgram;
+
+/// The usual budget. States and pairs then take at most 64 MiB.
+pub const MOST_STATES: usize = 100_000;
+
+/// How many bytes of places and rows the budget allows for each state or pair.
+const BYTES_OF_STATE: usize = 384;
+
+/// What came of following every letter from a pair.
+#[derive(Drop)]
+pub enum Followed {
+    /// No text that ends after one of the letters is wanted.
+    All,
+    /// A text that ends after the letter with this number is wanted.
+    Ends(usize),
+    /// The budget ran out.
+    OverBudget,
+}
+
+/// Finds a shortest text among `texts` that the two programs decide as `wanted`. A text leads to a
+/// state of each program; each pair of states that texts lead to is followed once by each letter of an
+/// alphabet. Returns `Unknown` if letters are left to follow when the pairs and the states of both
+/// programs are more than `most_states`, or take more than 384 bytes for each of so many.
+///
+/// # Errors
+///
+/// Returns `AllocError` if allocation fails.
+pub fn find_text(
+    alloc: Global,
+    first: &CompiledProgram,
+    second: &CompiledProgram,
+    wanted: Wanted,
+    texts: Texts,
+    most_states: usize,
+) -> Result<Comparison, AllocError>
+    ensures { IfOk result (IsAnswer
+        (IsWanted wanted texts (Accepts first.now.0 0) (Accepts second.now.0 0))) }
+{
+    let letters = alphabet(alloc, first, second)?;
+    let first_automaton = Automaton::new(alloc, first, &letters)?;
+    let second_automaton = Automaton::new(alloc, second, &letters)?;
+    let mut search = Search {
+        wanted,
+        texts,
+        letters,
+        first: first_automaton,
+        second: second_automaton,
+    };
+    begin(alloc, first, second, &mut search, most_states)
+}
+
+/// Tests the empty text, and then searches.
+fn begin(
+    alloc: Global,
+    first: &CompiledProgram,
+    second: &CompiledProgram,
+    search: &mut Search,
+    most_states: usize,
+) -> Result<Comparison, AllocError>
+    requires automata { AreAutomataOf first.now.0 second.now.0 search.old }
+    requires letters { AreLetters first.now.0 second.now.0 search.old.letters.items }
+    requires begin { BeginAsPrograms (readings first.now.0 second.now.0 search.old) }
+    ensures { IfOk result (IsAnswer (IsWanted search.old.wanted search.old.texts
+        (Accepts first.now.0 0) (Accepts second.now.0 0))) }
+{
+    let beginning = StatePair {
+        first: 0,
+        second: 0,
+        may_end: begins_all(search.texts),
+    };
+    if search.is_wanted(first, second, beginning) {
+        return Ok(Comparison::Text(String::new(alloc)));
+    }
+    let mut pairs = Pairs::new(alloc)?;
+    pairs.push(Reached {
+        pair: beginning,
+        before: 0,
+        letter: '/',
+        depth: 0,
+    })?;
+    run(alloc, first, second, search, &mut pairs, most_states)
+}
+
+/// Returns whether the empty text is of the kind.
+fn begins_all(texts: Texts) -> bool
+    ensures { result ≡ starts texts }
+{
+    matches!(texts, Texts::All)
+}
+
+/// Follows pair after pair.
+fn run(
+    alloc: Global,
+    first: &CompiledProgram,
+    second: &CompiledProgram,
+    search: &mut Search,
+    pairs: &mut Pairs,
+    most_states: usize,
+) -> Result<Comparison, AllocError>
+    requires { IsHeld first.now.0 second.now.0 search.old pairs.old.reached.items 0 }
+    ensures { IfOk result (IsAnswer (IsWanted search.old.wanted search.old.texts
+        (Accepts first.now.0 0) (Accepts second.now.0 0))) }
+{
+    for at in 0..most_states {
+        if at >= pairs.reached.len() {
+            return Ok(Comparison::Nothing);
+        }
+        match follow(first, second, search, pairs, at, most_states)? {
+            Followed::All => {}
+            Followed::Ends(number) => {
+                return text_at(alloc, first, second, search, pairs, at, number);
+            }
+            Followed::OverBudget => return Ok(Comparison::Unknown),
+        }
+    }
+    Ok(Comparison::Unknown)
+}
+
+/// Returns the text that led to a pair, followed by a letter after which it is wanted.
+fn text_at(
+    alloc: Global,
+    first: &CompiledProgram,
+    second: &CompiledProgram,
+    search: &Search,
+    pairs: &Pairs,
+    at: usize,
+    number: usize,
+) -> Result<Comparison, AllocError>
+    requires held { IsHeld first.now.0 second.now.0 search.now pairs.now.reached.items at }
+    requires at { at < length pairs.now.reached.items }
+    requires number { number < length search.now.letters.items }
+    requires ends { EndsAt (readings first.now.0 second.now.0 search.now) pairs.now.reached.items at
+        (slice_index search.now.letters.items number) }
+    ensures { IfOk result (IsAnswer (IsWanted search.now.wanted search.now.texts
+        (Accepts first.now.0 0) (Accepts second.now.0 0))) }
+{
+    let text = text_to(alloc, &pairs.reached, at, search.letters[number])?;
+    Ok(Comparison::Text(text))
+}
+
+/// Follows every letter from the pair with this number, until the text that ends after one is wanted
+/// or the budget runs out.
+fn follow(
+    first: &CompiledProgram,
+    second: &CompiledProgram,
+    search: &mut Search,
+    pairs: &mut Pairs,
+    at: usize,
+    most_states: usize,
+) -> Result<Followed, AllocError>
+    requires held { IsHeld first.now.0 second.now.0 search.old pairs.old.reached.items at }
+    requires at { at < length pairs.old.reached.items }
+    ensures same { IfOk result (λ _. IsSameSearch search.old search.new) }
+    ensures followed { IfOk result
+        (HasFollowed first.now.0 second.now.0 search.new pairs.new.reached.items at) }
+{
+    for number in 0..search.letters.len() {
+        if exceeds_budget(search, pairs, most_states) {
+            return Ok(Followed::OverBudget);
+        }
+        let letter = search.letters[number];
+        if visit(first, second, search, pairs, at, number, letter)? {
+            return Ok(Followed::Ends(number));
+        }
+    }
+    Ok(Followed::All)
+}
+
+/// Returns whether states and pairs are more than the budget allows.
+fn exceeds_budget(search: &Search, pairs: &Pairs, most_states: usize) -> bool {
+    let states = search
+        .first
+        .states
+        .len()
+        .saturating_add(search.second.states.len());
+    let bytes = search.first.bytes.saturating_add(search.second.bytes);
+    states.saturating_add(pairs.reached.len()) > most_states || bytes / BYTES_OF_STATE > most_states
+}
+
+/// Follows a letter from the pair with this number. Returns whether the text is wanted then, and if
+/// not, adds the pair to which the letter leads, unless it was reached.
+fn visit(
+    first: &CompiledProgram,
+    second: &CompiledProgram,
+    search: &mut Search,
+    pairs: &mut Pairs,
+    at: usize,
+    number: usize,
+    letter: char,
+) -> Result<bool, AllocError>
+    requires held { IsHeld first.now.0 second.now.0 search.old pairs.old.reached.items at }
+    requires at { at < length pairs.old.reached.items }
+    requires number { number < length search.old.letters.items }
+    requires letter { letter ≡ slice_index search.old.letters.items number }
+    ensures held { IfOk result (λ _. IsHeld first.now.0 second.now.0 search.new pairs.new.reached.items at) }
+    ensures same { IfOk result (λ _. IsSameSearch search.old search.new) }
+    ensures grows { IfOk result (λ _. Grow pairs.old.reached.items pairs.new.reached.items) }
+    ensures keeps { IfOk result (λ _. (l : ℕ)
+        → IsVisited (readings first.now.0 second.now.0 search.old) pairs.old.reached.items at l
+        → IsVisited (readings first.now.0 second.now.0 search.new) pairs.new.reached.items at l) }
+    ensures ends { IfOk result (λ found. IsTrue found
+        → EndsAt (readings first.now.0 second.now.0 search.new) pairs.new.reached.items at
+        (slice_index search.old.letters.items number)) }
+    ensures visited { IfOk result (λ found. IsFalse found
+        → IsVisited (readings first.now.0 second.now.0 search.new) pairs.new.reached.items at
+        (slice_index search.old.letters.items number)) }
+{
+    let from = pairs.reached[at];
+    let Some(pair) = search.step(first, second, from.pair, number)? else {
+        return Ok(false);
+    };
+    if search.is_wanted(first, second, pair) {
+        return Ok(true);
+    }
+    if pairs.contains(pair) {
+        return Ok(false);
+    }
+    pairs.push(Reached {
+        pair,
+        before: at,
+        letter,
+        depth: from.depth.saturating_add(1),
+    })?;
+    Ok(false)
+}
