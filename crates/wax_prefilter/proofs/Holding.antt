@@ -15,8 +15,8 @@ use Rattle.wax_prefilter.specs.declared.needle.Place.TheVariants.{Beginning, End
 use Rattle.wax_query.specs.Components.{BeginsWithSlash}
 use Rattle.wax_token.specs.Meaning.{Means, MeansEach, SameText, TreeMeans}
 use Rattle.wax_token.specs.Reads.{Span}
-use Rattle.wax_token.specs.Syntax.{Tree, Trees}
-use Rattle.wax_token.specs.Words.{trees}
+use Rattle.wax_token.specs.Syntax.{Tree, Trees, leaf, alternation, concatenation, repetition}
+use Rattle.wax_token.specs.Words.{members, trees}
 
 -- ---- one of some
 
@@ -113,6 +113,18 @@ one_holds ts i t needles lt e known before after text alone h =
     let r : (b : Bool) × (a : Bool) × (x : List ℕ) × (y : List ℕ) × (z : List ℕ) × (text ≡ x ++ (y ++ z)) × Means t b a y =
     each_meant ts i t lt e before after text h in
     holds_anywhere needles text r.2 r.3 r.4 r.5 (known r.0 r.1 r.3 tt r.6)
+
+-- the members of a tree, one after another
+members_meant : (t : Tree Span) (text : List ℕ) → Means t false false text → MeansEach (members t) false false text
+members_meant (leaf a l) text h = h
+members_meant (alternation a ts) text h = h
+members_meant (concatenation a ts) text h = h
+members_meant (repetition a t low high) text h = h
+
+pub members_hold : (t : Tree Span) (ts : Trees Span) (needles : List (Bool × List ℕ)) → ts ≡ members t
+    → AllHold Anywhere needles (MeansEach ts) → (text : List ℕ) → Means t false false text → HoldsOne Anywhere needles text
+members_hold t ts needles e known text h =
+    known false false text tt (subst (λ us. MeansEach us false false text) (sym e) (members_meant t text h))
 
 -- ---- facts
 

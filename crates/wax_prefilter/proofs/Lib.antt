@@ -1,6 +1,7 @@
 mod AsciiForms
 mod Ends
 mod Marks
+mod NeighborNumbers
 pub mod AnyCase
 pub mod Holding
 pub mod Lengths

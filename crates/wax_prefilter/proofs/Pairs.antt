@@ -20,11 +20,11 @@ stands_somewhere Anywhere held text h = h
 
 -- ---- parts
 
-byte_within : (text x y z : List ℕ) (i : ℕ) → text ≡ x ++ (y ++ z) → i < length y → get_or text (length x + i) 0 ≡ get_or y i 0
+pub byte_within : (text x y z : List ℕ) (i : ℕ) → text ≡ x ++ (y ++ z) → i < length y → get_or text (length x + i) 0 ≡ get_or y i 0
 byte_within text x y z i e lt =
     ap (λ t. get_or t (length x + i) 0) e ∙ get_or-append-add x (y ++ z) i 0 ∙ get_or_append_left y z 0 i lt
 
-long_within : (text x y z : List ℕ) → text ≡ x ++ (y ++ z) → length x + length y ≤ length text
+pub long_within : (text x y z : List ℕ) → text ≡ x ++ (y ++ z) → length x + length y ≤ length text
 long_within text x y z e = omega (arith, ap length e, length-append x (y ++ z), length-append y z)
 
 -- where the pair stands in a part, it stands in the whole

@@ -1,4 +1,5 @@
 pub mod Facts
 pub mod Known
+pub mod Literals
 pub mod Within
 pub mod inner

@@ -15,7 +15,7 @@ use wax_token::token::{BranchKind, ExpressionMetadata, LeafKind, Token, Topology
 const MOST_FACTS: usize = 16;
 
 /// The greatest number of texts of a fact.
-const MOST_NEEDLES: usize = 64;
+pub const MOST_NEEDLES: usize = 256;
 
 /// Returns facts about every text that the tokens match: how it ends, how it begins, and what it
 /// contains.
@@ -76,9 +76,13 @@ fn add_edge<'t>(
     Ok(true)
 }
 
-// Returns needles of which every matching text has at least one at the place, if any are known.
+/// Returns needles of which every matching text has at least one at the place, if any are known.
+///
+/// # Errors
+///
+/// Returns `NoMemory` if allocation fails.
 #[cycle(needles_of)]
-fn needles_of<'t>(
+pub fn needles_of<'t>(
     alloc: Global,
     place: Place,
     token: &Token<'t, ExpressionMetadata>,

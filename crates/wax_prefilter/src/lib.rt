@@ -7,9 +7,12 @@ mod facts;
 mod folder;
 mod least;
 mod line_end;
+mod literals;
 mod needle;
+mod neighbors;
 mod pair;
 mod prefilter;
 
 pub use folder::{folder_of, is_within};
+pub use literals::Literals;
 pub use prefilter::Prefilter;

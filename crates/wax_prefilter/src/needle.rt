@@ -5,10 +5,12 @@ ghost use Rattle.wax_token.specs.Meaning.{SameText};
 ghost use Rattle.wax_prefilter.specs.Facts.{StandsAt};
 ghost use Rattle.wax_prefilter.specs.declared.needle.Place.{Place};
 ghost use Rattle.wax_prefilter.specs.inner.Ends.{ComesBefore, EndsWith};
+ghost use Rattle.wax_prefilter.specs.inner.Neighbors.{AreNeighbors};
 ghost use Rattle.wax_prefilter.specs.inner.Pairs.{AddsPairs};
 
 use crate::any_case::{add_forms, ascii_forms_len, begins_in_any_case, holds_in_any_case};
 use crate::line_end::{EndPair, is_end};
+use crate::neighbors::{Neighbors, may_hold};
 use crate::pair::Pair;
 use std::alloc::{AllocError, Global};
 use std::marker::Model;
@@ -50,6 +52,21 @@ impl Needle {
     /// Returns whether the needle is searched for in any case.
     pub fn is_case_insensitive(&self) -> bool {
         self.is_case_insensitive
+    }
+
+    /// Returns `false` only if a text with these neighbors doesn't contain the needle. Always returns
+    /// `true` for a needle in any case.
+    #[inline]
+    pub fn may_be_among(&self, neighbors: &Neighbors) -> bool
+        ensures { (text : List ℕ) → IsUtf8 text → AreNeighbors text neighbors.now
+            → StandsAt Place.Anywhere self.now (chars text) → IsTrue result }
+    {
+        self.is_case_insensitive || may_hold(neighbors, self.text.as_str().as_bytes())
+    }
+
+    /// Returns the number of bytes.
+    pub fn len(&self) -> usize {
+        self.text.len()
     }
 
     /// Returns whether the needle has at most two bytes.
@@ -145,4 +162,14 @@ impl Needle {
         }
         text.contains(held)
     }
+}
+
+/// Returns the number of bytes of the shortest of the needles, or the greatest number if there is
+/// none.
+pub fn least_len(needles: &[Needle]) -> usize {
+    let mut least = usize::MAX;
+    for needle in needles {
+        least = least.min(needle.len());
+    }
+    least
 }

@@ -11,6 +11,7 @@ ghost use Rattle.wax_prefilter.specs.inner.Pairs.{ArePairsOf, LineHasOne};
 use crate::facts::all_facts;
 use crate::least::least_of_each;
 use crate::line_end::{EndPair, FEED, find_line_end};
+use crate::literals::holds_one;
 use crate::needle::{Needle, Place};
 use crate::pair::{Pair, find_first};
 use std::alloc::{AllocError, Global};
@@ -114,13 +115,23 @@ impl Fact {
         if at_once && self.takes_long() {
             return true;
         }
-        for needle in &self.needles {
-            if needle.can_stand_at(self.place, text) {
-                return true;
-            }
+        match self.place {
+            Place::Anywhere if self.needles.len() > FEW_NEEDLES => holds_one(&self.needles, text),
+            place => one_stands(&self.needles, place, text),
         }
-        false
     }
+}
+
+/// Returns whether one of the needles is at the place.
+fn one_stands(needles: &[Needle], place: Place, text: &str) -> bool
+    ensures { HoldsOne place needles.now (chars text.now) → IsTrue result }
+{
+    for needle in needles {
+        if needle.can_stand_at(place, text) {
+            return true;
+        }
+    }
+    false
 }
 
 /// Returns pairs of which each text has one that the facts hold of: those of the fact with the
@@ -154,7 +165,7 @@ fn end_of(facts: &[Fact], pairs: &Option<Vec<Pair>>) -> Option<EndPair>
 }
 
 /// Facts about all texts that some tokens match: their least length, and how they begin, how they
-/// end and what they contain. Keeps at most 16 facts, each of at most 64 texts, and no tokens.
+/// end and what they contain. Keeps at most 16 facts, each of at most 256 texts, and no tokens.
 /// Contracts see the least length in characters, and the facts.
 #[derive(Drop)]
 pub struct Prefilter {
