@@ -17,6 +17,8 @@ pub mod Feeding
 pub mod Filters
 pub mod Goes
 pub mod Headline
+pub mod IdleLaw
+pub mod IdleLines
 pub mod Ignored
 pub mod Ignores
 pub mod Keeping
@@ -33,6 +35,7 @@ pub mod Opened
 pub mod Opening
 pub mod Origins
 pub mod Passing
+pub mod PassingLines
 pub mod Pruning
 pub mod TreeRequests
 pub mod Reaching

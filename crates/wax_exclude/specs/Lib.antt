@@ -5,6 +5,7 @@ pub mod Covers
 pub mod Deciding
 pub mod Excluded
 pub mod Held
+pub mod Idle
 pub mod Ignored
 pub mod Kept
 pub mod Law

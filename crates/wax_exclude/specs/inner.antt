@@ -1,4 +1,5 @@
 pub mod Descents
+pub mod Idle
 pub mod Listed
 pub mod Numbers
 pub mod Shared

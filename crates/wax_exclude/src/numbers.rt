@@ -1,13 +1,16 @@
 //! What the lines of an ignore list decide, by one program over all of them.
 ghost use Rattle.std.specs.Prelude.{◌≡◌, ◌↔◌, ◌⊎◌, ◌<◌, ◌+◌, ◌^◌, ◌++◌, ◌∷◌, [], ℕ, List, IfOk};
-ghost use Rattle.std.specs.Prelude.{Some, if◌then◌else◌, nat_lt};
+ghost use Rattle.std.specs.Prelude.{OnOk, Some, chars, if◌then◌else◌, nat_lt};
 ghost use Rattle.std.specs.List.{list_any};
 ghost use Rattle.wax_exclude.specs.Covers.{some_everything};
 ghost use Rattle.wax_exclude.specs.declared.rules.IgnoreLine.{IgnoreLine};
 ghost use Rattle.wax_exclude.specs.inner.Listed.{listed_mark};
-ghost use Rattle.wax_exclude.specs.inner.Numbers.{HasMatch, IsSettledFrom, KnowsLines, MatchesBy};
+ghost use Rattle.wax_exclude.specs.inner.Numbers.{AlternativesPass, HasMatch, IsSettledFrom, KnowsLines};
+ghost use Rattle.wax_exclude.specs.inner.Numbers.{LinesPass, MatchesBy};
 ghost use Rattle.wax_exclude.specs.inner.Numbers.{covers_everything, is_odd, number_after, numbered_mark};
+ghost use Rattle.wax_lazy.specs.Numbers.{IsLastNumber};
 ghost use Rattle.wax_match.specs.Numbered.{MeansNumbered};
+ghost use Rattle.wax_prefilter.specs.Literals.{MayPass};
 ghost use Rattle.wax_program.specs.Closed.{IsClosed};
 ghost use Rattle.wax_program.specs.Machine.{Accepts, mark};
 ghost use Rattle.wax_walk.specs.Candidates.{in_characters};
@@ -19,6 +22,7 @@ use crate::rules::IgnoreLine;
 use std::alloc::{AllocError, Global};
 use wax_lazy::{Matcher, last_number};
 use wax_match::encode::{CompiledProgram, Numbered, compile_numbered};
+use wax_prefilter::Literals;
 use wax_query::diagnostics::NoMemory;
 use wax_token::token::{ExpressionMetadata, Token};
 use wax_walk::{Candidate, EntryResidue};
@@ -41,6 +45,8 @@ pub struct NumberedLines {
     top: usize,
     /// True if such an alternative is only an unrooted `**`.
     covers_all: bool,
+    /// Each path that an alternative matches contains one of these, if they are known.
+    literals: Literals,
 }
 
 impl NumberedLines {
@@ -60,6 +66,7 @@ impl NumberedLines {
             matcher: Matcher::with_most(alloc, program, most_bytes),
             top,
             covers_all: covers_everything(lines, settled),
+            literals: literals_of(alloc, lines)?,
         })
     }
 
@@ -92,8 +99,21 @@ impl NumberedLines {
         ensures { (lines : List IgnoreLine) → KnowsLines lines self.now
             → IfOk result (λ r. mark_of r ≡ listed_mark lines (in_characters candidate.entry)) }
     {
-        let last = last_number(alloc, self.matcher.holder(), candidate.path)?;
+        let last = self.last_once(alloc, candidate.path)?;
         Ok(self.residue_by(last, candidate.depth))
+    }
+
+    // Returns the greatest number that matches a path. Runs the program unless the path contains no
+    // literal of an alternative.
+    fn last_once(&self, alloc: Global, path: &str) -> Result<Option<usize>, AllocError>
+        requires { IsClosed self.now.matcher }
+        ensures { (lines : List IgnoreLine) → KnowsLines lines self.now
+            → IfOk result (IsLastNumber self.now.matcher (chars path.now)) }
+    {
+        if !self.literals.may_match(path) {
+            return Ok(None);
+        }
+        last_number(alloc, self.matcher.holder(), path)
     }
 
     // Returns what the greatest number that matches an entry excludes of it.
@@ -147,7 +167,7 @@ fn program_of(
 
 // Adds the alternatives of a line: those that end with `**` with the number `above`, and others with
 // the number `own`.
-fn add_alternatives<'a>(
+pub fn add_alternatives<'a>(
     patterns: &mut Vec<Numbered<'a, 'static>>,
     alternatives: &'a [Token<'static, ExpressionMetadata>],
     own: usize,
@@ -159,6 +179,32 @@ fn add_alternatives<'a>(
     for pattern in alternatives {
         let number = if ends_wild(pattern) { above } else { own };
         patterns.push(Numbered { number, pattern })?;
+    }
+    Ok(())
+}
+
+// Returns the literals of all alternatives.
+fn literals_of(alloc: Global, lines: &[IgnoreLine]) -> Result<Literals, NoMemory>
+    ensures { IfOk result (LinesPass lines.now) }
+{
+    let mut literals = Literals::new(alloc);
+    for line in lines {
+        add_literals(alloc, line.alternatives(), &mut literals)?;
+    }
+    Ok(literals)
+}
+
+// Adds the literals of the alternatives of a line.
+fn add_literals(
+    alloc: Global,
+    alternatives: &[Token<'static, ExpressionMetadata>],
+    literals: &mut Literals,
+) -> Result<(), NoMemory>
+    ensures keeps { OnOk result ((s : List ℕ) → MayPass literals.old s → MayPass literals.new s) }
+    ensures adds { OnOk result (AlternativesPass alternatives.now literals.new) }
+{
+    for alternative in alternatives {
+        literals.add(alloc, alternative)?;
     }
     Ok(())
 }

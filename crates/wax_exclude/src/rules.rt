@@ -8,8 +8,11 @@ ghost use Rattle.wax_walk.specs.Given.{with_tree};
 ghost use Rattle.wax_exclude.specs.Candidates.{NoSlashAfterNames, folder_at};
 ghost use Rattle.wax_exclude.specs.Ignored.{IgnoresBelow, Line, ignore_mark, is_ignored};
 ghost use Rattle.wax_exclude.specs.Held.{HasLines, line_of};
+ghost use Rattle.wax_exclude.specs.Idle.{AreIdle};
 
 use crate::folders::{folder_candidate, is_tree};
+use crate::idle;
+use crate::idle::IdleLine;
 use crate::numbers::NumberedLines;
 use std::alloc::Global;
 use std::marker::Model;
@@ -187,6 +190,19 @@ impl IgnoreRule {
     {
         let residue = self.numbered.residue(path_candidate(path))?;
         Ok(residue.is_some())
+    }
+
+    /// Returns the lines that decide nothing about plain paths, in order, each with the reason. A line
+    /// is compared with few others, mostly; each comparison reaches at most `most_states` states.
+    ///
+    /// # Errors
+    ///
+    /// Returns `NoMemory` if allocation fails.
+    pub fn idle_lines(&self, alloc: Global, most_states: usize) -> Result<Vec<IdleLine>, NoMemory>
+        ensures { IfOk result (λ idle. (ls : List (Line Span)) → HasLines self.now ls
+            → AreIdle ls idle.items) }
+    {
+        idle::idle_lines(alloc, self.lines.as_slice(), most_states)
     }
 }
 

@@ -1,6 +1,7 @@
 -- Numbers of lines: the greatest number of an alternative that matches decides what a list does.
 use Rattle.std.specs.Prelude.{◌≡◌, ◌↔◌, ◌⊎◌, ℕ, suc, ◌%◌, ◌==◌, ◌≤◌, nat_le, Bool, true, false, ◌&&◌, ◌||◌}
-use Rattle.std.specs.Prelude.{if◌then◌else◌, List, [], ◌∷◌, ◌++◌, Option, Some, None, drop, length}
+use Rattle.std.specs.Prelude.{All, if◌then◌else◌, List, [], ◌∷◌, ◌++◌, Option, Some, None, drop, length}
+use Rattle.wax_prefilter.specs.Literals.{LiteralsView, MayPass}
 use Rattle.wax_program.specs.Closed.{IsClosed}
 use Rattle.wax_program.specs.Machine.{Accepts, mark}
 use Rattle.wax_token.specs.Meaning.{Means}
@@ -56,11 +57,21 @@ pub record IsSettledFrom (lines : List IgnoreLine) (settled : ℕ) : Type 0 wher
 
 -- ---- what they decide
 
+-- each text that one of the alternatives matches passes
+abbrev pub AlternativesPass : List (Tree Span) → LiteralsView → Type 0
+AlternativesPass alternatives literals =
+    All (λ t. (s : List ℕ) → Means t false false s → MayPass literals s) alternatives
+
+-- each text that a line matches passes
+abbrev pub LinesPass : List IgnoreLine → LiteralsView → Type 0
+LinesPass lines literals = All (λ line. AlternativesPass line.alternatives literals) lines
+
 -- the program accepts each text with the numbers of the alternatives that match it; `top` is above all others
 pub record KnowsLines (lines : List IgnoreLine) (numbered : NumberedLines) : Type 0 where
   pub top : numbered.top ≡ suc (length lines)
   pub all : numbered.covers_all ≡ covers_everything lines
   pub closed : IsClosed numbered.matcher
+  pub literals : LinesPass lines numbered.literals
   pub means : (k : ℕ) (s : List ℕ)
       → Accepts numbered.matcher 0 (s ++ mark k ∷ []) ↔ HasMatch numbered.top 0 lines k s
 

@@ -1,10 +1,8 @@
-use Rattle.std.proofs.Common.{◌∙◌, chars, subst}
-use Rattle.wax_lazy.specs.Numbers.{IsLastNumber}
+use Rattle.std.proofs.Common.{◌∙◌}
 use Rattle.wax_walk.specs.Candidates.{in_characters}
 use Rattle.wax_exclude.proofs.Numbering.{numbers_decide}
 use Rattle.wax_exclude.proofs.numbers.NumberedLines.residue_once.Goals as goal
 
 pub returns : goal.returns
 returns c = λ lines knows.
-    let last = subst (λ code. IsLastNumber code (chars c.args.candidate.path.now) c.in_ok-last.last) c.holder.ensures c.in_ok-last.ensures in
-    c.residue_by.ensures ∙ numbers_decide lines c.args.self.now (in_characters c.args.candidate) c.in_ok-last.last knows last
+    c.residue_by.ensures ∙ numbers_decide lines c.args.self.now (in_characters c.args.candidate) c.in_ok-last.last knows (c.in_ok-last.ensures lines knows)

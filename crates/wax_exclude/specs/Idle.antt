@@ -1,0 +1,85 @@
+-- Lines of ignore lists that decide nothing about plain paths. Lines are known by their indexes: which of
+-- them ignore, and which texts they mean.
+use Rattle.std.specs.Prelude.{◌≡◌, ◌≢◌, ◌⊎◌, ◌<◌, ◌++◌, ◌∷◌, ℕ, true, false, List, Some, Contains, length}
+use Rattle.std.specs.Prelude.{slice_get, ⊤}
+use Rattle.std.specs.Str.{all_scalars}
+use Rattle.wax_query.specs.Below.{IsPlainPath}
+use Rattle.wax_exclude.specs.Ignored.{Line, is_ignored}
+use Rattle.wax_exclude.specs.declared.idle.IdleLine.{IdleLine}
+use Rattle.wax_exclude.specs.declared.idle.IdleReason.{IdleReason}
+use Rattle.wax_exclude.specs.declared.idle.IdleReason.TheVariants.{Covered, TakesNothingBack, Unknown}
+use Rattle.wax_token.specs.Meaning.{Means}
+use Rattle.wax_token.specs.Reads.{Span}
+
+-- the line with this index ignores
+pub record LineIgnores {A : Type 0} (lines : List (Line A)) (index : ℕ) : Type 0 where
+  pub line : Line A
+  pub is : slice_get lines index ≡ Some line
+  pub ignores : line.ignores ≡ true
+
+-- the glob of the line with this index means the text
+pub record LineMeans {A : Type 0} (lines : List (Line A)) (index : ℕ) (s : List ℕ) : Type 0 where
+  pub line : Line A
+  pub is : slice_get lines index ≡ Some line
+  pub means : Means line.glob false false s
+
+-- a text of one or more names, with a `/` between each two
+abbrev pub IsPath : List ℕ → Type 0
+IsPath s = (all_scalars s ≡ true) × IsPlainPath s
+
+-- each plain path that the line means is meant by one of these lines after it
+abbrev pub IsCoveredBy : (ℕ → List ℕ → Type 0) → ℕ → List ℕ → Type 0
+IsCoveredBy Matches index covers = (s : List ℕ) → IsPath s → Matches index s
+    → (later : ℕ) × Contains covers later × (index < later) × Matches later s
+
+-- an earlier line that ignores means the text, too
+abbrev pub IsTakenBack : (ℕ → Type 0) → (ℕ → List ℕ → Type 0) → ℕ → List ℕ → Type 0
+IsTakenBack Ignores Matches index s =
+    Matches index s × ((earlier : ℕ) × (earlier < index) × Ignores earlier × Matches earlier s)
+
+-- the line doesn't ignore, and no earlier line that ignores means a plain path that it means
+pub record TakesNothing (Ignores : ℕ → Type 0) (Matches : ℕ → List ℕ → Type 0) (index : ℕ) : Type 0 where
+  pub re_includes : Ignores index → ⊥
+  pub none : (s : List ℕ) → IsPath s → IsTakenBack Ignores Matches index s → ⊥
+
+-- the line ignores, or an earlier line that ignores means a plain path that it means
+abbrev pub HasEffect : (ℕ → Type 0) → (ℕ → List ℕ → Type 0) → ℕ → Type 0
+HasEffect Ignores Matches index =
+    Ignores index ⊎ ((s : List ℕ) × IsPath s × IsTakenBack Ignores Matches index s)
+
+-- the line is the last one that means some plain path
+pub record IsLastOfSome (Matches : ℕ → List ℕ → Type 0) (index : ℕ) : Type 0 where
+  pub path : List ℕ
+  pub is_path : IsPath path
+  pub means : Matches index path
+  pub is_last : (later : ℕ) → index < later → Matches later path → ⊥
+
+-- the line decides some plain path, and has an effect
+abbrev pub DecidesSome : (ℕ → Type 0) → (ℕ → List ℕ → Type 0) → ℕ → Type 0
+DecidesSome Ignores Matches index = IsLastOfSome Matches index × HasEffect Ignores Matches index
+
+-- this is why the line decides nothing
+abbrev pub IsReason : (ℕ → Type 0) → (ℕ → List ℕ → Type 0) → ℕ → IdleReason → Type 0
+IsReason Ignores Matches index (Covered covers) = IsCoveredBy Matches index covers.items
+IsReason Ignores Matches index TakesNothingBack = TakesNothing Ignores Matches index
+IsReason Ignores Matches index Unknown = ⊤
+
+-- Of lines, so many, these decide nothing, each for its reason, or it isn't known; and all others decide.
+pub record AreIdleAmong (Ignores : ℕ → Type 0) (Matches : ℕ → List ℕ → Type 0) (count : ℕ)
+    (idle : List IdleLine) : Type 0 where
+  pub each : (k : ℕ) (x : IdleLine) → slice_get idle k ≡ Some x → IsReason Ignores Matches x.index x.reason
+  pub others : (index : ℕ) → index < count
+      → ((k : ℕ) (x : IdleLine) → slice_get idle k ≡ Some x → x.index ≢ index)
+      → DecidesSome Ignores Matches index
+
+-- the same of the lines of a list
+abbrev pub AreIdle : {A : Type 0} → List (Line A) → List IdleLine → Type 0
+AreIdle lines idle = AreIdleAmong (LineIgnores lines) (LineMeans lines) (length lines) idle
+
+-- without a line that decides nothing, a list ignores the same plain paths
+abbrev pub IdleLinesCanGo : Type 0
+IdleLinesCanGo = (before after : List (Line Span)) (line : Line Span) (reason : IdleReason) (s : List ℕ)
+    → reason ≢ Unknown → IsPath s
+    → IsReason (LineIgnores (before ++ line ∷ after)) (LineMeans (before ++ line ∷ after)) (length before)
+    reason
+    → is_ignored (before ++ after) s ≡ is_ignored (before ++ line ∷ after) s

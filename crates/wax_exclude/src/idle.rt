@@ -1,0 +1,248 @@
+//! Lines of an ignore list that decide nothing.
+ghost use Rattle.std.specs.Prelude.{◌≡◌, ◌↔◌, ◌++◌, ◌<◌, ℕ, List, IfOk, IfSome, MatchOption, OnOk, length};
+ghost use Rattle.std.specs.Bool.{MatchBool};
+ghost use Rattle.wax_compare.specs.Comparison.{IsAnswer, IsWanted};
+ghost use Rattle.wax_compare.specs.declared.wanted.Texts.TheVariants.{Paths};
+ghost use Rattle.wax_exclude.specs.Idle.{AreIdleAmong, DecidesSome, HasEffect, IdleLinesCanGo};
+ghost use Rattle.wax_exclude.specs.Idle.{IsReason, TakesNothing};
+ghost use Rattle.wax_exclude.specs.inner.Idle.{AreMatchedBy, HeldIgnores, HeldMeans, IsCovering};
+ghost use Rattle.wax_exclude.specs.inner.Idle.{SomeHeldMeans};
+ghost use Rattle.wax_program.specs.Machine.{Accepts};
+
+use crate::numbers::add_alternatives;
+use crate::rules::IgnoreLine;
+use std::alloc::{AllocError, Global};
+use wax_compare::{Comparison, Texts, Wanted, find_text};
+use wax_lazy::Matcher;
+use wax_match::encode::{CompiledProgram, compile_numbered, compile_token};
+use wax_query::diagnostics::{NoMemory, Refusal};
+use wax_token::token::{Alternation, BranchKind, ExpressionMetadata, Sides, Token, new_branch};
+
+/// A line of an ignore list that decides nothing about plain paths: without it, the list ignores the
+/// same ones.
+#[derive(Debug, Drop)]
+pub struct IdleLine {
+    /// The index of the line, from 0. Lines that are skipped don't count.
+    pub index: usize,
+    pub reason: IdleReason,
+}
+
+/// Why a line decides nothing about plain paths.
+#[derive(Debug, Drop)]
+pub enum IdleReason {
+    /// Each plain path that the line matches is matched by one of these lines after it, by their indexes,
+    /// ascending. They are none if the line matches no plain path.
+    Covered(Vec<usize>),
+    /// The line begins with `!`, and no line before it that ignores matches a plain path that it matches.
+    TakesNothingBack,
+    /// It isn't known whether the line decides, since that takes more states than the limit.
+    Unknown,
+}
+
+/// What is known of the lines after a line.
+#[derive(Drop)]
+enum Covering {
+    /// One of these matches each plain path that the line matches.
+    By(Vec<usize>),
+    /// The line is the last one that matches some plain path.
+    Missing,
+    Unknown,
+}
+
+/// The lines of a list, to be compared.
+#[derive(Drop)]
+struct Lines<'a> {
+    alloc: Global,
+    lines: &'a [IgnoreLine],
+    /// Accepts a text with the indexes of the lines that match it.
+    numbered: Matcher<CompiledProgram>,
+    most_states: usize,
+}
+
+/// Returns the lines that decide nothing about plain paths, in order.
+///
+/// # Errors
+///
+/// Returns `NoMemory` if allocation fails.
+pub(crate) fn idle_lines(
+    alloc: Global,
+    lines: &[IgnoreLine],
+    most_states: usize,
+) -> Result<Vec<IdleLine>, NoMemory>
+    ensures { let all = lines.now in IfOk result
+        (λ idle. AreIdleAmong (HeldIgnores all) (HeldMeans all) (length all) idle.items) }
+{
+    let numbered = Matcher::new(alloc, numbered_by_index(alloc, lines)?)?;
+    let mut compared = Lines {
+        alloc,
+        lines,
+        numbered,
+        most_states,
+    };
+    let mut idle = Vec::new(alloc);
+    for index in 0..lines.len() {
+        if let Some(reason) = compared.reason(index)? {
+            idle.push(IdleLine { index, reason })?;
+        }
+    }
+    Ok(idle)
+}
+
+impl Lines<'_> {
+    /// Returns why a line decides nothing, or `None` if it decides.
+    fn reason(&mut self, index: usize) -> Result<Option<IdleReason>, NoMemory>
+        requires index { index < length self.old.lines.now }
+        requires numbered { AreMatchedBy self.old.lines.now self.old.numbered }
+        ensures lines { self.new.lines ≡ self.old.lines }
+        ensures numbered { self.new.numbered ≡ self.old.numbered }
+        ensures reason { let lines = self.old.lines.now in IfOk result (λ reason. MatchOption reason
+            (DecidesSome (HeldIgnores lines) (HeldMeans lines) index)
+            (IsReason (HeldIgnores lines) (HeldMeans lines) index)) }
+    {
+        let covering = self.covering(index)?;
+        if let Covering::By(covers) = covering {
+            return Ok(Some(IdleReason::Covered(covers)));
+        }
+        let Some(has_effect) = self.has_effect(index)? else {
+            return Ok(Some(IdleReason::Unknown));
+        };
+        if !has_effect {
+            return Ok(Some(IdleReason::TakesNothingBack));
+        }
+        match covering {
+            Covering::Missing => Ok(None),
+            _ => Ok(Some(IdleReason::Unknown)),
+        }
+    }
+
+    /// Finds later lines of which each plain path that a line matches has one that matches it. Begins
+    /// without any, and adds the last line that matches a path that is left, as long as there is one.
+    fn covering(&mut self, index: usize) -> Result<Covering, NoMemory>
+        requires index { index < length self.old.lines.now }
+        requires numbered { AreMatchedBy self.old.lines.now self.old.numbered }
+        ensures lines { self.new.lines ≡ self.old.lines }
+        ensures numbered { self.new.numbered ≡ self.old.numbered }
+        ensures covering { IfOk result (IsCovering self.old.lines.now index) }
+    {
+        let mut covers = Vec::new(self.alloc);
+        // Each round adds another one of the later lines, so there are enough.
+        for _round in index..self.lines.len() {
+            let path = match self.compare(index, &covers, Wanted::FirstOnly)? {
+                Comparison::Nothing => {
+                    covers.sort_unstable();
+                    return Ok(Covering::By(covers));
+                }
+                Comparison::Unknown => return Ok(Covering::Unknown),
+                Comparison::Text(path) => path,
+            };
+            let last = self.numbered.last_number(&path)?.unwrap_or(index);
+            if last <= index {
+                return Ok(Covering::Missing);
+            }
+            covers.push(last)?;
+        }
+        Ok(Covering::Unknown)
+    }
+
+    /// Returns whether a line ignores, or an earlier line that ignores matches a plain path that it
+    /// matches. Returns `None` if that isn't known.
+    fn has_effect(&self, index: usize) -> Result<Option<bool>, NoMemory>
+        requires { index < length self.now.lines.now }
+        ensures { let lines = self.now.lines.now in IfOk result (λ known. IfSome known (λ answer.
+            MatchBool answer (HasEffect (HeldIgnores lines) (HeldMeans lines) index)
+            (TakesNothing (HeldIgnores lines) (HeldMeans lines) index))) }
+    {
+        if self.lines[index].ignores {
+            return Ok(Some(true));
+        }
+        for earlier in 0..index {
+            if !self.lines[earlier].ignores {
+                continue;
+            }
+            match self.compare(index, &[earlier], Wanted::Both)? {
+                Comparison::Nothing => {}
+                Comparison::Text(_) => return Ok(Some(true)),
+                Comparison::Unknown => return Ok(None),
+            }
+        }
+        Ok(Some(false))
+    }
+
+    /// Finds a plain path that a line matches, and one of the others, too, or none of them.
+    fn compare(
+        &self,
+        index: usize,
+        others: &[usize],
+        wanted: Wanted,
+    ) -> Result<Comparison, NoMemory>
+        ensures { let lines = self.now.lines.now in IfOk result (IsAnswer
+            (IsWanted wanted Paths (HeldMeans lines index) (SomeHeldMeans lines others.now))) }
+    {
+        let first = union_of(self.alloc, self.lines, &[index])?;
+        let second = union_of(self.alloc, self.lines, others)?;
+        match (first, second) {
+            (Some(first), Some(second)) => {
+                let most = self.most_states;
+                let found = find_text(self.alloc, &first, &second, wanted, Texts::Paths, most)?;
+                Ok(found)
+            }
+            _ => Ok(Comparison::Unknown),
+        }
+    }
+}
+
+/// Compiles lines to a program that says which of them match a text, by their indexes.
+fn numbered_by_index(alloc: Global, lines: &[IgnoreLine]) -> Result<CompiledProgram, NoMemory>
+    ensures { IfOk result (λ p. AreMatchedBy lines.now p.0) }
+{
+    let mut patterns = Vec::new(alloc);
+    for (index, line) in lines.iter().enumerate() {
+        add_alternatives(&mut patterns, line.alternatives(), index, index)?;
+    }
+    compile_numbered(alloc, &patterns)
+}
+
+/// Compiles what at least one of the lines with these indexes matches. Returns `None` if the program
+/// would be too long.
+fn union_of(
+    alloc: Global,
+    lines: &[IgnoreLine],
+    indexes: &[usize],
+) -> Result<Option<CompiledProgram>, NoMemory>
+    ensures { IfOk result (λ known. IfSome known (λ p. (s : List ℕ)
+        → Accepts p.0 0 s ↔ SomeHeldMeans lines.now indexes.now s)) }
+{
+    let mut tokens = Vec::new(alloc);
+    for index in indexes {
+        if let Some(line) = lines.get(*index) {
+            copy_to(alloc, line.alternatives(), &mut tokens)?;
+        }
+    }
+    let branch = BranchKind::Alternation(Alternation { tokens });
+    let union = new_branch(branch, ExpressionMetadata::new((0, 0)));
+    match compile_token(alloc, &union, Sides::NONE) {
+        Ok(program) => Ok(Some(program)),
+        Err(Refusal::Refused(_)) => Ok(None),
+        Err(Refusal::Memory) => Err(NoMemory),
+    }
+}
+
+/// Adds copies of tokens.
+fn copy_to(
+    alloc: Global,
+    tokens: &[Token<'static, ExpressionMetadata>],
+    copies: &mut Vec<Token<'static, ExpressionMetadata>>,
+) -> Result<(), NoMemory>
+    ensures { OnOk result (copies.new.items ≡ copies.old.items ++ tokens.now) }
+{
+    for token in tokens {
+        let copy = token.to_owned(alloc)?;
+        copies.push(copy)?;
+    }
+    Ok(())
+}
+
+/// States that without a line that decides nothing, an ignore list ignores the same plain paths.
+pub fn law_of_idle_lines()
+    ensures { IdleLinesCanGo }
+{}
