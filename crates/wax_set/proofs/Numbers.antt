@@ -1,14 +1,15 @@
 -- Which of a set's patterns match a text.
-use Rattle.std.proofs.Common.{◌≡◌, ◌<◌, ◌↔◌, ◌++◌, ℕ, zero, suc, false, List, [], ◌∷◌, length, inl, inr, ◌≤◌, arith, ap, sym, subst, refl, ◌∙◌, ◌⊎◌, ◌+◌, get_or, take}
+use Rattle.std.proofs.Common.{◌≡◌, ◌<◌, ◌↔◌, ◌++◌, ℕ, zero, suc, false, IsTrue, Option, Some, None, is_some, List, [], ◌∷◌, length, inl, inr, ◌≤◌, arith, ap, sym, subst, refl, ◌∙◌, ◌⊎◌, ◌+◌, get_or, take}
+use Rattle.std.proofs.lemmas.Bool.{false≢true}
 use Rattle.std.proofs.lemmas.List.{length-take-le, take_all, take_more}
-use Rattle.wax_lazy.specs.Numbers.{AreNumbers}
+use Rattle.wax_lazy.specs.Numbers.{AreNumbers, IsLastNumber}
 use Rattle.wax_match.proofs.Numbered.{numbered_push}
 use Rattle.wax_match.specs.Numbered.{MeansNumbered}
 use Rattle.wax_match.specs.declared.encode.ends.Numbered.{Numbered}
 use Rattle.wax_program.specs.Closed.{IsClosed}
 use Rattle.wax_program.specs.Machine.{Accepts, mark}
 use Rattle.wax_program.specs.declared.instruction.Instruction.{Instruction}
-use Rattle.wax_set.specs.Sets.{AreMatches, BranchMeans, IsNumbered, MeansAt, MeansText}
+use Rattle.wax_set.specs.Sets.{AreMatches, BranchMeans, IsAlternation, IsNumbered, MeansAt, MeansText}
 use Rattle.wax_token.specs.Meaning.{MeansSome}
 use Rattle.wax_token.specs.Reads.{Span}
 use Rattle.wax_token.specs.Syntax.{Tree, Trees, leaf, alternation, concatenation, repetition, none, more}
@@ -44,6 +45,29 @@ no_matches t s indexes empty never = record {
   );
   ascending = λ k lt. absurd (omega (arith, lt, ap length empty));
 }
+
+branch_of_some : (ts : Trees Span) (s : List ℕ) → MeansSome ts false false s → (number : ℕ) × BranchMeans ts number s
+branch_of_some none s m = absurd m
+branch_of_some (more t ts) s (inl m) = (zero, m)
+branch_of_some (more t ts) s (inr m) = let r = branch_of_some ts s m in (suc r.0, r.1)
+
+-- where the set matches, one of the patterns does
+pattern_of_match : (t : Tree Span) (s : List ℕ) → IsAlternation t → MeansText t s → (number : ℕ) × MeansAt t number s
+pattern_of_match t s alternates m =
+    let r = branch_of_some alternates.0 s (subst (λ u. MeansText u s) alternates.1 m) in
+    (r.0, subst (λ u. MeansAt u r.0 s) (sym alternates.1) r.1)
+
+-- there is a last pattern that matches exactly if the set does
+pub last_decides : (t : Tree Span) (code : List Instruction) (s : List ℕ) (last : Option ℕ) → IsAlternation t → IsNumbered t code
+    → IsLastNumber code s last → IsTrue (is_some last) ↔ MeansText t s
+last_decides t code s None alternates n never = (
+  (λ yes. absurd (false≢true yes)),
+  (λ m. let r = pattern_of_match t s alternates m in absurd (never r.0 ((n.means r.0 s).1 r.1))),
+)
+last_decides t code s (Some number) alternates n is = (
+  (λ yes. matches_some t number s ((n.means number s).0 is.0)),
+  (λ m. refl),
+)
 
 -- ---- branches with their indexes
 -- one more

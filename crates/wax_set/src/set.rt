@@ -33,11 +33,12 @@ use std::fmt;
 use std::marker::Model;
 pub use walking::SetWalk;
 use wax_candidate::{CandidatePath, MatchedText, Program};
+use wax_compare::Compared;
 use wax_compiled::CompiledTokens;
 use wax_components::depth;
 use wax_error::BuildError;
 use wax_facts::{has_root, is_exhaustive, text};
-use wax_lazy::list_numbers;
+use wax_lazy::{HasProgram, list_numbers};
 use wax_match::encode;
 use wax_match::encode::{CompileError, CompiledProgram, Meter, Numbered};
 use wax_query::diagnostics::{NoMemory, Refusal};
@@ -202,6 +203,14 @@ impl Any<'_> {
         self.compiled.may_match(path.as_str())
     }
 
+    /// Returns `false` only if no pattern matches the path, by a test that takes less time than a
+    /// matcher. It doesn't allocate.
+    fn may_match_at_once(&self, path: &CandidatePath<'_>) -> bool
+        ensures { MeansText self.now path.now → IsTrue result }
+    {
+        self.compiled.may_accept(path.as_str())
+    }
+
     /// Returns how many bytes at the beginning of a text can be passed over in a search for lines
     /// that a pattern matches: none of them ends before so many bytes.
     fn earliest_end(&self, text: &str) -> usize
@@ -302,6 +311,12 @@ impl Program for Any<'_> {
             → MeansText self.now s → MeansText self.now (s ++ 47 ∷ r) }
     {
         is_exhaustive(self.token.as_ref())
+    }
+}
+
+impl Compared for Any<'_> {
+    fn compiled(&self) -> &CompiledProgram {
+        self.compiled.program()
     }
 }
 

@@ -4,7 +4,7 @@ ghost use Rattle.wax_set.specs.Sets.{AreMatches, MeansText};
 ghost use Rattle.wax_compiled.specs.Below.{MeansBelow, goes_test, goes_tested};
 ghost use Rattle.wax_token.specs.Decided.{means_test, means_tested};
 
-use crate::set::Any;
+use crate::set::{Any, branches_of};
 use std::alloc::Global;
 use std::marker::Model;
 use wax_candidate::{BuildMatcher, CandidatePath, PathMatcher};
@@ -17,6 +17,11 @@ use wax_query::query::Verdict;
 /// How many bytes of earlier paths are kept at most to say which patterns match, about.
 const MOST_NUMBERED: usize = 16_777_216;
 
+/// The greatest number of patterns with which the program of their alternation decides whether one of
+/// them matches. With more, its states are large and many, so the other program decides it, whose
+/// patterns share their beginnings and their ends.
+const MOST_ALTERNATED: usize = 32;
+
 /// A matcher of a set of patterns for many paths, which keeps what it learns from each for the next
 /// ones. Contracts see the view of its set.
 pub struct AnyMatcher<'a, 't> {
@@ -25,6 +30,8 @@ pub struct AnyMatcher<'a, 't> {
     matcher: Matcher<&'a CompiledTokens>,
     /// The matcher of the program that says which of the patterns match.
     numbered: Matcher<&'a CompiledProgram>,
+    /// True if that program decides whether one of the patterns matches, too.
+    has_many: bool,
 }
 
 impl Drop for AnyMatcher<'_, '_> {
@@ -34,13 +41,14 @@ impl Drop for AnyMatcher<'_, '_> {
             any: _,
             matcher: _,
             numbered: _,
+            has_many: _,
         } = self;
     }
 }
 
 impl<'a, 't> Model for AnyMatcher<'a, 't> {
     ghost use Rattle.wax_set.specs.Sets.{any_code};
-    ghost use Rattle.wax_set.specs.Sets.{AcceptsText, IsNumbered};
+    ghost use Rattle.wax_set.specs.Sets.{AcceptsText, IsAlternation, IsNumbered};
     ghost use Rattle.wax_token.specs.Reads.{Span};
     ghost use Rattle.wax_token.specs.Syntax.{Tree};
 
@@ -50,13 +58,14 @@ impl<'a, 't> Model for AnyMatcher<'a, 't> {
 
     ghost view = { λ m. m.any.now };
 
-    ghost invariant = { λ m. AcceptsText m.matcher m.any.now × IsNumbered m.any.now m.numbered };
+    ghost invariant = { λ m. AcceptsText m.matcher m.any.now × IsNumbered m.any.now m.numbered
+        × IsAlternation m.any.now };
 }
 
 impl<'t> Any<'t> {
     /// Builds a matcher, which is faster than the set for many paths if its patterns have many
     /// branches. It keeps about 2 MiB at most, or up to 16 MiB if the set is large; and up to 16 MiB
-    /// more once it was asked which patterns match.
+    /// more once it was asked which patterns match, or whether one of more than 32 does.
     ///
     /// # Errors
     ///
@@ -70,6 +79,7 @@ impl<'t> Any<'t> {
             any: self,
             matcher,
             numbered: Matcher::with_most(alloc, &self.numbered, MOST_NUMBERED),
+            has_many: branches_of(self.token.as_ref()).len() > MOST_ALTERNATED,
         })
     }
 }
@@ -87,7 +97,22 @@ impl AnyMatcher<'_, '_> {
         ensures decides { IfOk result (λ answer. answer ≡ means_test self.old false false path.now) }
         ensures same { self.new ≡ self.old }
     {
+        if self.has_many {
+            return self.is_match_by_numbers(path);
+        }
         self.matcher.is_match(path.as_str())
+    }
+
+    // Returns what `is_match` does, by the program that says which of the patterns match.
+    fn is_match_by_numbers(&mut self, path: &CandidatePath<'_>) -> Result<bool, NoMemory>
+        ensures means { IfOk result (λ answer. IsTrue answer ↔ MeansText self.old path.now) }
+        ensures same { self.new ≡ self.old }
+    {
+        if !self.any.may_match_at_once(path) {
+            return Ok(false);
+        }
+        let last = self.numbered.last_number(path.as_str())?;
+        Ok(last.is_some())
     }
 
     /// Returns the indexes of all patterns that match the whole path, ascending. The first pattern of
@@ -124,7 +149,7 @@ impl AnyMatcher<'_, '_> {
         ensures same { self.new ≡ self.old }
     {
         indexes.clear();
-        if !self.any.may_match(path) {
+        if !self.any.may_match_at_once(path) {
             return Ok(());
         }
         self.numbered.list_numbers(path.as_str(), indexes)

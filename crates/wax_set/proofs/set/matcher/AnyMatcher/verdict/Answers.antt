@@ -7,7 +7,7 @@ abbrev accepts : (c : goal.After-verdict) → AcceptsText c.self.inside.matcher 
 accepts c = subst (AcceptsText c.self.inside.matcher) c.self.view_is c.self.invariant.0
 
 pub invariant_of-self : goal.invariant_of-self
-invariant_of-self c = (subst (λ code. AcceptsText code c.self.inside.any.now) (sym c.verdict.ensures.same) c.self.invariant.0, c.self.invariant.1)
+invariant_of-self c = (subst (λ code. AcceptsText code c.self.inside.any.now) (sym c.verdict.ensures.same) c.self.invariant.0, c.self.invariant.1, c.self.invariant.2)
 
 pub returns-clause-means : goal.returns-clause-means
 returns-clause-means c =
