@@ -1,4 +1,5 @@
 pub mod Build
+pub mod Comparing
 pub mod Ends
 pub mod Exclusions
 pub mod GlobView

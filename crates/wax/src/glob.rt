@@ -35,11 +35,13 @@ use std::marker::Model;
 pub use walking::{GlobWalk, UncapturedWalk};
 use wax_candidate::{CandidatePath, MatchedText, Program};
 use wax_capture::Pieces;
+use wax_compare::Compared;
 use wax_compiled::CompiledTokens;
 use wax_components::{Warning, captures, depth, diagnose, has_semantic_literals};
 use wax_error::{BuildError, parse_and_check};
 use wax_facts::{has_root, is_exhaustive, text};
-use wax_match::encode::{CompileError, Meter};
+use wax_lazy::HasProgram;
+use wax_match::encode::{CompileError, CompiledProgram, Meter};
 use wax_query::diagnostics::{NoMemory, Refusal};
 use wax_query::query::{CapturingToken, DepthVariance, TextVariance, Variance, When};
 use wax_rule::rule::Checked;
@@ -392,5 +394,11 @@ impl Program for Glob<'_> {
             → IsMeant self.now s → IsMeant self.now (s ++ 47 ∷ r) }
     {
         is_exhaustive(self.token())
+    }
+}
+
+impl Compared for Glob<'_> {
+    fn compiled(&self) -> &CompiledProgram {
+        self.compiled.program()
     }
 }

@@ -3,6 +3,7 @@ ghost use Rattle.std.specs.Prelude.{◌≡◌, ◌↔◌, ◌++◌, ◌∷◌, [
 ghost use Rattle.wax_directory.specs.Shown.{Shown};
 ghost use Rattle.wax_exclude.specs.Candidates.{NoSlashAfterNames, folder_at};
 ghost use Rattle.wax_exclude.specs.Held.{line_of};
+ghost use Rattle.wax_exclude.specs.Idle.{AreIdle};
 ghost use Rattle.wax_exclude.specs.Kept.{KeepsUnignored};
 ghost use Rattle.wax_exclude.specs.Lines.{written_of};
 ghost use Rattle.wax_query.specs.Below.{IsBelow};
@@ -19,7 +20,9 @@ use thiserror::Error;
 use wax_candidate::CandidatePath;
 use wax_directory::directory::Directory;
 use wax_error::BuildError;
-use wax_exclude::{IgnoreLine, IgnoreRule, WrittenLine, collect_unignored, written_lines};
+use wax_exclude::{
+    IdleLine, IgnoreLine, IgnoreRule, WrittenLine, collect_unignored, written_lines,
+};
 use wax_query::diagnostics::NoMemory;
 use wax_set::Pattern;
 use wax_tree::{PathExt, WalkBehavior};
@@ -112,7 +115,9 @@ impl IgnoreList {
     }
 
     /// Returns whether the last line that matches the path ignores it; false if no line matches.
-    /// It takes time in proportion to the number of lines: for many paths, use `is_ignored_cached`.
+    /// A quick test for the literals of all lines comes first, if they are at most 256 and no line is
+    /// without one: it rejects most paths that no line matches. Otherwise the call takes time in
+    /// proportion to the number of lines. For many paths, use `is_ignored_cached`.
     ///
     /// # Errors
     ///
@@ -179,6 +184,33 @@ impl IgnoreList {
             → is_ignored lines s ≡ true) }
     {
         self.rule.ignores_below(alloc, path)
+    }
+
+    /// Returns the lines that decide nothing about plain paths, in order, each with the reason: without
+    /// one of them, the list ignores the same plain paths. All other lines decide: each is the last one
+    /// that matches some plain path, and if it begins with `!`, it takes back a path that a line before
+    /// it ignores. A plain path is one or more names, with a `/` between each two.
+    ///
+    /// A line is compared with few others, mostly. Each comparison reaches at most `most_states` states;
+    /// a line for which that isn't enough is returned as `Unknown`.
+    ///
+    /// ```
+    /// use wax::MOST_STATES;
+    ///
+    /// let list = IgnoreList::parse(alloc, "docs/*.o\n!keep.c\n**/*.o\n")?;
+    /// for line in list.idle_lines(alloc, MOST_STATES)? {
+    ///     println!(rt; "{}: {:?}", line.index, line.reason)?; // 0: Covered([2]); 1: TakesNothingBack
+    /// }
+    /// ```
+    ///
+    /// # Errors
+    ///
+    /// Returns `NoMemory` if allocation fails.
+    pub fn idle_lines(&self, alloc: Global, most_states: usize) -> Result<Vec<IdleLine>, NoMemory>
+        ensures { IfOk result (λ idle. (lines : List (Line Span)) → HoldsLines self.now lines
+            → AreIdle lines idle.items) }
+    {
+        self.rule.idle_lines(alloc, most_states)
     }
 
     /// Collects the plain walk from `start` without what the list ignores: returns what is kept, in

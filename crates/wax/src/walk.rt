@@ -13,8 +13,9 @@ pub use wax_directory::starving::Starving;
 pub use wax_directory::tally::Tally;
 pub use wax_directory::tree::{DuplicateName, Node, Tree, TreeItem};
 pub use wax_exclude::{
-    Exclusion, LeadingComponent, collect, collect_feed, law_of_closures, law_of_feeds,
-    law_of_ignoring, law_of_last_match, law_of_plain_walks, law_of_walks, law_of_wanted,
+    Exclusion, IdleLine, IdleReason, LeadingComponent, WrittenLine, collect, collect_feed,
+    law_of_closures, law_of_feeds, law_of_idle_lines, law_of_ignoring, law_of_last_match,
+    law_of_plain_walks, law_of_walks, law_of_wanted, written_lines,
 };
 pub use wax_folders::Folders;
 pub use wax_glob_walk::{FilterAny, GlobEntry, GlobFeed, Matched, Matching, Uncaptured};

@@ -2,6 +2,7 @@
 #![tactic(auto)]
 
 mod captured;
+mod collisions;
 mod components;
 mod ignored;
 mod lines;
@@ -12,6 +13,7 @@ mod sources;
 mod walks;
 
 pub use captured::picture_stem;
+pub use collisions::never_collide;
 pub use components::glob_of_component;
 pub use ignored::{is_ignored_below, is_ignored_by};
 pub use lines::matching_lines;
