@@ -1,0 +1,19 @@
+# Completion of globs_explain for fish. To try it: source packaging/globs_explain.fish
+
+# Succeeds if an option may come next.
+function __globs_explain_takes_option
+    test (count (commandline -opc)) -eq 1
+end
+
+# Succeeds if a path or the file of an ignore list comes next.
+function __globs_explain_takes_file
+    set -l words (commandline -opc)
+    test (count $words) -eq 2; and not contains -- "$words[2]" --dot --overlap --difference
+end
+
+complete -c globs_explain -f
+complete -c globs_explain -n __globs_explain_takes_option -l dot -d 'Write the tokens of an expression for Graphviz'
+complete -c globs_explain -n __globs_explain_takes_option -l overlap -d 'Find a path that two expressions match'
+complete -c globs_explain -n __globs_explain_takes_option -l difference -d 'Find a path that only the first one matches'
+complete -c globs_explain -n __globs_explain_takes_option -l idle -d 'List the lines of an ignore file that decide nothing'
+complete -c globs_explain -n __globs_explain_takes_file -F
