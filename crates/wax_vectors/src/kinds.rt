@@ -1,7 +1,7 @@
 //! Kinds of rows: which fact each shows, and how many inputs it has.
 
 use crate::kinds::GlobFact::{Lines, Memoryless, Part};
-use crate::{belows, globs, lines, lists, parts, sets};
+use crate::{belows, comparisons, globs, lines, lists, parts, sets};
 use wax::{Glob, NoMemory};
 use wax_test_kit::answer::Answer;
 use wax_test_kit::rows::{DataRow, RowKind, find_in};
@@ -14,8 +14,10 @@ pub enum Kind {
     Tree,
     Diagnosed,
     Set(SetFact),
+    Compared(Question),
     Ignored,
     IgnoredTwice,
+    Idle,
     ExcludedBelow,
     IgnoredBelow,
     Unignored,
@@ -40,6 +42,13 @@ pub enum SetFact {
     Length,
     Empty,
     EmptyLength,
+}
+
+/// A question about two globs or sets.
+#[derive(Clone, Copy)]
+pub enum Question {
+    Overlap,
+    Difference,
 }
 
 /// A fact of a glob, or of the error why it can't be built.
@@ -158,9 +167,12 @@ static KINDS: &[(&str, usize, Kind)] = &[
     ("empty_length", 1, Kind::Set(SetFact::EmptyLength)),
     ("empty_glob", 1, Kind::Empty),
     ("tree_glob", 1, Kind::Tree),
+    ("overlap", 4, Kind::Compared(Question::Overlap)),
+    ("difference", 4, Kind::Compared(Question::Difference)),
     ("ignored", 2, Kind::Ignored),
     ("ignored_twice", 2, Kind::IgnoredTwice),
     ("bad_line", 1, Kind::Ignored),
+    ("idle", 2, Kind::Idle),
     ("excluded_below", 2, Kind::ExcludedBelow),
     ("ignored_below", 2, Kind::IgnoredBelow),
     ("filter_unignored", 3, Kind::Unignored),
@@ -179,8 +191,10 @@ impl RowKind for Kind {
             Kind::Tree => parts::add_plain(alloc, Glob::tree(alloc), text, made),
             Kind::Diagnosed => parts::add_diagnosed(alloc, row, made),
             Kind::Set(fact) => sets::answer(alloc, fact, row, made),
+            Kind::Compared(question) => comparisons::answer(alloc, question, row, made),
             Kind::Ignored => lists::answer(alloc, false, row, made),
             Kind::IgnoredTwice => lists::answer(alloc, true, row, made),
+            Kind::Idle => comparisons::add_idle(alloc, row, made),
             Kind::ExcludedBelow => belows::add_excluded(alloc, text, row.input(1), made),
             Kind::IgnoredBelow => belows::add_ignored(alloc, text, row.input(1), made),
             Kind::Unignored => lines::add_unignored(alloc, row, made),

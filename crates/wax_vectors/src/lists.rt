@@ -51,7 +51,12 @@ fn add_ignored(
     Ok(())
 }
 
-fn add_error(error: &IgnoreError, made: &mut Answer) -> Result<(), NoMemory> {
+/// Adds the number of the error, the line, and the message.
+///
+/// # Errors
+///
+/// Returns `NoMemory` if allocation failed.
+pub fn add_error(error: &IgnoreError, made: &mut Answer) -> Result<(), NoMemory> {
     let IgnoreError::BadLine { line, error: why } = error else {
         return Err(NoMemory);
     };

@@ -4,6 +4,7 @@
 #![tactic(auto)]
 
 mod belows;
+mod comparisons;
 mod copies;
 mod globs;
 mod kinds;

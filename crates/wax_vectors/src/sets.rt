@@ -52,7 +52,12 @@ fn built(alloc: Global, fact: SetFact, patterns: &str) -> Result<Set, BuildError
     }
 }
 
-fn add_error(error: &BuildError, made: &mut Answer) -> Result<(), NoMemory> {
+/// Adds the number of an error.
+///
+/// # Errors
+///
+/// Returns `NoMemory` if allocation failed.
+pub fn add_error(error: &BuildError, made: &mut Answer) -> Result<(), NoMemory> {
     if let BuildError::Memory = error {
         return Err(NoMemory);
     }
@@ -128,7 +133,11 @@ fn add_indexes(indexes: &[usize], made: &mut Answer) {
 }
 
 /// Builds a set of expressions.
-fn set_of(alloc: Global, patterns: &str) -> Result<Set, BuildError> {
+///
+/// # Errors
+///
+/// Returns the first error of an expression, or `BuildError::Memory` if allocation fails.
+pub fn set_of(alloc: Global, patterns: &str) -> Result<Set, BuildError> {
     match words(alloc, patterns) {
         Ok(words) => any(alloc, words),
         Err(_) => Err(BuildError::Memory),
